@@ -1,0 +1,24 @@
+//! What a run of the program is to answer: the exit status and the text, for every list of words and every input.
+//! The definitions stand in `specs/`, for the contract of the run.
+#![tactic(auto)]
+
+/// How a run ends. The number is the exit status of the program.
+#[derive(Clone, Copy, Debug, PartialEq, Eq)]
+pub enum Status {
+    /// 0: the whole answer was written.
+    Done,
+    /// 2: the words are no command with its options.
+    Usage,
+    /// 3: the input is too long, or no document of the command.
+    Input,
+    /// 4: a check of the command refused the document.
+    Refused,
+    /// 5: a number passed the limit.
+    Large,
+    /// 6: the source failed.
+    ReadFault,
+    /// 7: the sink failed, after a prefix of what was to be written.
+    WriteFault,
+    /// 8: memory ran out, and nothing was written.
+    NoMemory,
+}

@@ -1,0 +1,58 @@
+-- What a run answers, over what is read and what is written.
+use Rattle.std.specs.Prelude.{◌≡◌, ℕ, ◌-◌, ◌^◌, ◌<◌, ◌≤◌, ◌+◌, List, length, take, Option, Some, None, Result, Ok, Err, ◌⊎◌, ⊤, IfSome}
+use Rattle.bench_io.specs.Causes.{Grows, Rose, IsEnded}
+use Rattle.outcome_definitions.specs.declared.Status.{Status}
+use Rattle.outcome_definitions.specs.declared.Status.TheVariants.{Done, Usage, Input, Refused, Large, ReadFault, WriteFault, NoMemory}
+use Rattle.outcome_definitions.specs.Outcomes.{Outcome, Request, IsOutcome, IsRequestOutcome, IsOwnStatus, most_bytes, read_outcome, usage_outcome}
+
+-- the status, unless the sink failed or memory ran out
+abbrev pub Answers : Status → Status → Type 0
+Answers result status = (result ≡ status) ⊎ (result ≡ WriteFault) ⊎ (result ≡ NoMemory)
+
+-- neither the source nor the sink failed, and memory was there
+abbrev pub IsAnswered : Status → Type 0
+IsAnswered ReadFault = ⊥
+IsAnswered WriteFault = ⊥
+IsAnswered NoMemory = ⊥
+IsAnswered Done = ⊤
+IsAnswered Usage = ⊤
+IsAnswered Input = ⊤
+IsAnswered Refused = ⊤
+IsAnswered Large = ⊤
+
+-- a count stands still, if it didn't stand at its type's end
+abbrev pub IsCalm : ℕ → ℕ → Type 0
+IsCalm before now = before < 2 ^ 64 - 1 → now ≡ before
+
+-- the source gave no more bytes than an input may have
+abbrev pub IsWithin : Option (List ℕ) → Option (List ℕ) → Type 0
+IsWithin before now = IfSome before (λ bytes. IfSome now (λ rest. length bytes ≤ length rest + most_bytes))
+
+-- the source failed, and that is told
+pub record IsReadFault (before now : ℕ) (o : Outcome) : Type 0 where
+  pub rose : Rose before now
+  pub outcome : o ≡ read_outcome
+
+-- the source gave the input, whose outcome it is
+pub record IsReadWell (request : Request) (left rest : Option (List ℕ)) (before now : ℕ) (o : Outcome) : Type 0 where
+  pub outcome : IfSome left (λ bytes. IsRequestOutcome request bytes o)
+  pub own_status : IsOwnStatus o.status
+  pub end : o.status ≡ Done → IsEnded rest
+  pub calm : IsCalm before now
+
+-- the outcome of a request over a source
+abbrev pub IsResponse : Request → Option (List ℕ) → Option (List ℕ) → ℕ → ℕ → Outcome → Type 0
+IsResponse request left rest before now o = IsReadFault before now o ⊎ IsReadWell request left rest before now o
+
+-- memory ran out before the source failed or gave too much
+pub record IsWithoutMemory (left rest : Option (List ℕ)) (before now : ℕ) : Type 0 where
+  pub calm : IsCalm before now
+  pub within : IsWithin left rest
+
+-- a prefix of a text was appended, and not all of it
+abbrev pub IsCutOff : Option (List ℕ) → Option (List ℕ) → List ℕ → Type 0
+IsCutOff before now text = (n : ℕ) × (n < length text) × Grows before now (take n text)
+
+-- what is to be written: that the source failed, or the outcome of the words and of the input
+abbrev pub IsDue : List (List ℕ) → List ℕ → ℕ → ℕ → Outcome → Type 0
+IsDue words bytes before now o = IsReadFault before now o ⊎ IsOutcome words bytes o

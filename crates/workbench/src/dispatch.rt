@@ -1,0 +1,86 @@
+// The one call that does all that the program does.
+ghost use Rattle.std.specs.Prelude.{◌≡◌, ◌↔◌, ◌⊎◌, ◌-◌, ◌^◌, ◌<◌, ◌≤◌, ℕ, None, Some, Ok, length, IfOk, IfSome, OnErr};
+ghost use Rattle.bench_io.specs.Causes.{Grows, Rose, IsEnded};
+ghost use Rattle.outcome_definitions.specs.Lines.{read_line};
+ghost use Rattle.outcome_definitions.specs.Outcomes as outcomes;
+ghost use Rattle.outcome_definitions.specs.Outcomes.{IsOutcome, IsAnswerTo, IsOwnStatus, request_of, usage_outcome, most_bytes};
+ghost use Rattle.workbench.specs.Requests as requests;
+ghost use Rattle.workbench.specs.Runs.{Answers, IsAnswered, IsCalm, IsWithin, IsResponse, IsWithoutMemory, IsCutOff, IsDue};
+
+use crate::outcome::Outcome;
+use crate::request::{Request, read_request};
+use bench_io::{ReadEnd, Sink, Source, Words, read_all, write_all};
+use no_memory::NoMemory;
+use outcome_definitions::Status;
+use std::alloc::Global;
+
+/// An input has at most so many bytes.
+const MOST_BYTES: u64 = 1_048_576;
+
+// The answer of a command to an input that isn't too long.
+fn answer(_alloc: Global, _request: Request, _bytes: &[u8]) -> Result<Outcome, NoMemory>
+    ensures answer { IfOk result (λ o. IsAnswerTo (requests.request _request) _bytes.now o) }
+    ensures own_status { IfOk result (λ o. IsOwnStatus o.status) }
+{
+    Err(NoMemory)
+}
+
+// The outcome of a command over a source.
+fn respond<S: Source>(alloc: Global, request: Request, source: &mut S) -> Result<Outcome, NoMemory>
+    ensures response { IfOk result (IsResponse (requests.request request) (S.left source.old) (S.left source.new) (S.faults source.old) (S.faults source.new)) }
+    ensures no_memory { OnErr result (IsWithoutMemory (S.left source.old) (S.left source.new) (S.faults source.old) (S.faults source.new)) }
+{
+    match read_all(alloc, source, MOST_BYTES) {
+        Ok(bytes) => answer(alloc, request, &bytes),
+        Err(ReadEnd::Failed) => Ok(Outcome::read_fault()),
+        Err(ReadEnd::TooLong) => Ok(Outcome::too_long()),
+        Err(ReadEnd::NoMemory) => Err(NoMemory),
+    }
+}
+
+// Writes an outcome.
+fn deliver<K: Sink>(outcome: &Outcome, sink: &mut K) -> Status
+    ensures { ((result ≡ outcome.now.status) × Grows (K.held sink.old) (K.held sink.new) outcome.now.text × IsCalm (K.faults sink.old) (K.faults sink.new))
+        ⊎ ((result ≡ Status.WriteFault) × IsCutOff (K.held sink.old) (K.held sink.new) outcome.now.text × Rose (K.faults sink.old) (K.faults sink.new)) }
+{
+    match write_all(sink, outcome.text()) {
+        Ok(()) => outcome.status(),
+        Err(_) => Status::WriteFault,
+    }
+}
+
+/// Does all that the program does: reads the words, then the input, and writes the answer or the one line of a refusal.
+/// The whole answer is built before the first write.
+pub fn run<S: Source, K: Sink>(alloc: Global, words: &Words, source: &mut S, sink: &mut K) -> Status
+    // Usage comes exactly where the words are not accepted. Then nothing is read.
+    ensures usage { request_of words.now ≡ None → Answers result Status.Usage × (source.new ≡ source.old) }
+    ensures usage_alone { result ≡ Status.Usage → request_of words.now ≡ None }
+
+    // A read fault comes exactly where the source's count rose.
+    ensures read_fault { S.faults source.old < 2 ^ 64 - 1 → S.faults source.old < S.faults source.new → (result ≡ Status.ReadFault) ⊎ (result ≡ Status.WriteFault) }
+    ensures read_fault_alone { result ≡ Status.ReadFault → Rose (S.faults source.old) (S.faults source.new) }
+    ensures read_fault_line { result ≡ Status.ReadFault → Grows (K.held sink.old) (K.held sink.new) read_line }
+
+    // A write fault comes exactly where the sink's count rose. Then a prefix of what was to be written was appended.
+    ensures write_fault { K.faults sink.old < 2 ^ 64 - 1 → ((result ≡ Status.WriteFault) ↔ (K.faults sink.old < K.faults sink.new)) }
+    ensures prefix { result ≡ Status.WriteFault → IfSome (S.left source.old) (λ bytes. (o : outcomes.Outcome)
+        × IsDue words.now bytes (S.faults source.old) (S.faults source.new) o × IsCutOff (K.held sink.old) (K.held sink.new) o.text) }
+
+    // Without memory nothing was written, the source didn't fail, and it didn't give too much.
+    ensures no_memory { result ≡ Status.NoMemory → sink.new ≡ sink.old }
+    ensures no_memory_calm { result ≡ Status.NoMemory → IsCalm (S.faults source.old) (S.faults source.new) }
+    ensures no_memory_within { result ≡ Status.NoMemory → IsWithin (S.left source.old) (S.left source.new) }
+
+    // Every other status is that of the outcome of the words and of the input, whose text was appended.
+    ensures outcome { IsAnswered result → IfSome (S.left source.old) (λ bytes. (o : outcomes.Outcome)
+        × IsOutcome words.now bytes o × (result ≡ o.status) × Grows (K.held sink.old) (K.held sink.new) o.text) }
+    ensures end { result ≡ Status.Done → IsEnded (S.left source.new) }
+{
+    let Some(request) = read_request(words) else {
+        return deliver(&Outcome::usage(), sink);
+    };
+    match respond(alloc, request, source) {
+        Ok(outcome) => deliver(&outcome, sink),
+        Err(NoMemory) => Status::NoMemory,
+    }
+}
