@@ -1,0 +1,171 @@
+//! Tables from text.
+
+ghost use Rattle.std.specs.Prelude.{◌≡◌, ◌==◌, ◌<◌, ◌≤◌, length, Some, if◌then◌else◌, nat_lt};
+ghost use Rattle.std.specs.List.{position_or_len, before_first, after_first};
+ghost use Rattle.text_definitions.specs.Reading.{Gives};
+ghost use Rattle.triangulation_definitions.specs.TableText.{gluing_of, gluing_entry, entry_at, row_at, rows_at, counted_rows_at, table_at};
+ghost use Rattle.gluing_table.specs.declared.reader.TextFault.TheVariants as TheVariants;
+ghost use Rattle.gluing_table.specs.TextFaults.{as_text_fault, GivesRows, GivesTable};
+
+use crate::digits::{is_decimal_word, number_of_digits};
+use crate::{Glue, MAX_TETS, Row, Table, TableFault};
+use bench_io::{LexFault, LexKind, Lexer};
+use perm_four::Perm4;
+use std::alloc::{AllocError, AllocFailed, Global};
+
+/// Why a text is no table.
+#[derive(Clone, Copy, Debug, PartialEq, Eq)]
+pub enum TextFault {
+    NoMemory,
+    /// A line or a word hasn't the form that is wanted.
+    Lex(LexFault),
+    /// The rows are no table. It is never want of memory.
+    Table(TableFault),
+}
+
+impl From<LexFault> for TextFault {
+    ghost from_gives = { λ f e. e ≡ TheVariants.Lex f };
+
+    fn from(fault: LexFault) -> TextFault {
+        TextFault::Lex(fault)
+    }
+}
+
+impl From<TableFault> for TextFault {
+    ghost from_gives = { λ f e. e ≡ as_text_fault f };
+
+    fn from(fault: TableFault) -> TextFault {
+        match fault {
+            TableFault::NoMemory => TextFault::NoMemory,
+            other => TextFault::Table(other),
+        }
+    }
+}
+
+impl From<AllocError> for TextFault {
+    ghost from_gives = { λ _ e. e ≡ TheVariants.NoMemory };
+
+    fn from(_error: AllocError) -> TextFault {
+        TextFault::NoMemory
+    }
+}
+
+impl<T: Drop> From<AllocFailed<T>> for TextFault {
+    ghost from_gives = { λ _ e. e ≡ TheVariants.NoMemory };
+
+    fn from(_failed: AllocFailed<T>) -> TextFault {
+        TextFault::NoMemory
+    }
+}
+
+/// The position of the first colon, or the length.
+fn colon_in(word: &[u8]) -> usize
+    ensures value { result ≡ position_or_len (λ b. b == 58) word.now }
+    ensures in_range { result ≤ length word.now }
+{
+    word.iter().take_while(|b| **b != b':').count()
+}
+
+/// What stands before the first colon.
+fn before_colon(word: &[u8]) -> &[u8]
+    ensures { result.now ≡ before_first (λ b. b == 58) word.now }
+{
+    &word[..colon_in(word)]
+}
+
+/// What stands after the first colon.
+fn after_colon(word: &[u8]) -> &[u8]
+    ensures { result.now ≡ after_first (λ b. b == 58) word.now }
+{
+    let colon = colon_in(word);
+    if colon < word.len() {
+        &word[colon + 1..]
+    } else {
+        &[]
+    }
+}
+
+/// What a word `t:p` of the lexer names.
+fn glue_of(lexer: &Lexer<'_>, word: &[u8]) -> Result<Glue, LexFault>
+    ensures { Gives (λ g. Some g) result lexer.now (gluing_entry (gluing_of word.now) lexer.now) }
+{
+    let digits = before_colon(word);
+    if !is_decimal_word(digits) {
+        return Err(lexer.bad_word());
+    }
+    let Some(perm) = Perm4::from_word(after_colon(word)) else {
+        return Err(lexer.bad_word());
+    };
+    let Some(tet) = number_of_digits(digits) else {
+        let place = lexer.bad_word().place;
+        let kind = LexKind::NumberTooWide;
+        return Err(LexFault { place, kind });
+    };
+    Ok(Glue { tet, perm })
+}
+
+/// What a face is glued to: `-` or `t:p`.
+#[tactic(auto, unfolding(triangulation_definitions::specs::TableText::entry_at))]
+fn read_entry(lexer: &mut Lexer<'_>) -> Result<Option<Glue>, LexFault>
+    ensures { Gives (λ g. g) result lexer.new (entry_at lexer.old) }
+{
+    let word = lexer.word()?;
+    if word == b"-".as_slice() {
+        return Ok(None);
+    }
+    let glue = glue_of(lexer, word)?;
+    Ok(Some(glue))
+}
+
+/// A line of four entries.
+#[tactic(auto, unfolding(triangulation_definitions::specs::TableText::row_at))]
+fn read_row(lexer: &mut Lexer<'_>) -> Result<Row, LexFault>
+    ensures { Gives (λ row. row) result lexer.new (row_at lexer.old) }
+{
+    lexer.need_line()?;
+    let first = read_entry(lexer)?;
+    let second = read_entry(lexer)?;
+    let third = read_entry(lexer)?;
+    let fourth = read_entry(lexer)?;
+    lexer.end_line()?;
+    Ok([first, second, third, fourth])
+}
+
+/// The rows of so many lines.
+fn read_lines(alloc: Global, lexer: &mut Lexer<'_>, count: u32) -> Result<Vec<Row>, TextFault>
+    ensures { GivesRows (λ rows. rows.items) result lexer.new (rows_at count lexer.old) }
+{
+    let mut rows = Vec::with_capacity(alloc, count as usize)?;
+    for _line in 0..count {
+        let row = read_row(lexer)?;
+        rows.push(row)?;
+    }
+    Ok(rows)
+}
+
+/// The table of so many rows, from the end of this line on.
+#[tactic(auto, unfolding(triangulation_definitions::specs::TableText::counted_rows_at))]
+fn read_counted(alloc: Global, lexer: &mut Lexer<'_>, count: u32) -> Result<Table, TextFault>
+    ensures { GivesTable result lexer.new (counted_rows_at count lexer.old) }
+{
+    lexer.end_line()?;
+    let rows = read_lines(alloc, lexer, count)?;
+    let table = Table::from_rows(alloc, &rows)?;
+    Ok(table)
+}
+
+/// The greatest number that a document may name.
+const LIMIT: u128 = 170141183460469231731687303715884105727;
+
+/// The table that follows the word `tri`: its number of rows, and a line for each. The first fault is answered, and
+/// more than 1,000 rows are one before the rest of the line is read.
+#[tactic(auto, unfolding(triangulation_definitions::specs::TableText::table_at))]
+pub fn read_rows(alloc: Global, lexer: &mut Lexer<'_>) -> Result<Table, TextFault>
+    ensures { GivesTable result lexer.new (table_at lexer.old) }
+{
+    let count = lexer.number(LIMIT)?;
+    if count > u128::from(MAX_TETS) {
+        return Err(TextFault::Table(TableFault::TooMany));
+    }
+    read_counted(alloc, lexer, count as u32)
+}
