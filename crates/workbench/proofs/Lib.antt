@@ -1,1 +1,3 @@
 pub mod Naming
+pub mod EachLine
+pub mod RefusalLines

@@ -1,3 +1,6 @@
 pub mod Texts
 pub mod Requests
 pub mod Runs
+pub mod Reads
+pub mod Refusals
+pub mod Codes

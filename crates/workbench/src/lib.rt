@@ -2,8 +2,30 @@
 #![tactic(auto)]
 
 mod dispatch;
+mod document;
 mod outcome;
+mod refusals;
 mod request;
+mod vectors;
 
 pub use dispatch::run;
 pub use outcome_definitions::Status;
+
+ghost use Rattle.std.specs.Prelude.{◌≡◌};
+ghost use Rattle.workbench.specs.Codes.{code_of};
+
+/// The exit status of the program for the status of a run.
+pub fn exit_code(status: Status) -> u8
+    ensures { result ≡ code_of status }
+{
+    match status {
+        Status::Done => 0,
+        Status::Usage => 2,
+        Status::Input => 3,
+        Status::Refused => 4,
+        Status::Large => 5,
+        Status::ReadFault => 6,
+        Status::WriteFault => 7,
+        Status::NoMemory => 8,
+    }
+}

@@ -1,0 +1,43 @@
+//! The program: its words, its standard input and output, and its exit status.
+#![tactic(auto)]
+
+use bench_io::{StdSink, StdSource, Words};
+use std::env;
+use std::io;
+use std::process::ExitCode;
+use workbench::{exit_code, run};
+
+/// The exit status where memory ran out before the run.
+const NO_MEMORY: u8 = 8;
+
+/// The exit status where the system doesn't give the program's words.
+const NO_WORDS: u8 = 9;
+
+// The words after the program's name, or the exit status where they can't be had.
+fn words_of(rt: &HostRuntime) -> Result<Words, u8> {
+    let arguments = env::args(rt).map_err(|fault| fault_code(&fault))?;
+    let mut words = Words::new(rt.alloc());
+    for word in arguments.skip(1) {
+        words.push(word.as_str()).map_err(|_| NO_MEMORY)?;
+    }
+    Ok(words)
+}
+
+fn fault_code(fault: &io::Error) -> u8 {
+    if fault.kind() == io::ErrorKind::OutOfMemory {
+        NO_MEMORY
+    } else {
+        NO_WORDS
+    }
+}
+
+fn main(rt: HostRuntime) -> ExitCode {
+    let words = match words_of(&rt) {
+        Ok(words) => words,
+        Err(code) => return ExitCode::from(code),
+    };
+    let mut source = StdSource::new(rt.stdin());
+    let mut sink = StdSink::new(rt.stdout());
+    let status = run(rt.alloc(), &words, &mut source, &mut sink);
+    ExitCode::from(exit_code(status))
+}
