@@ -2,9 +2,9 @@
 use Rattle.std.proofs.Common.{◌≡◌, ℕ, zero, suc, ◌+◌, ◌-◌, ◌<◌, ◌≤◌, List, [], ◌∷◌, ◌++◌, Option, Some, None, Result, Ok, Err, refl, sym, ap, subst, ◌∙◌, arith, append_assoc, append-nil}
 use Rattle.text_definitions.specs.declared.LexFault.{LexFault}
 use Rattle.text_definitions.specs.Reading.{Reading, ◌>>=◌, end_line_at}
-use Rattle.triangulation_definitions.specs.Table.{Row, IsTable, TableFault, table_fault}
-use Rattle.triangulation_definitions.specs.TableText.{row_at, rows_at, lexed, checked, counted_rows_at}
-use Rattle.triangulation_definitions.proofs.TableLaws.{table_fault-IsTable}
+use Rattle.table_definitions.specs.Table.{Row, IsTable, TableFault, table_fault}
+use Rattle.table_definitions.specs.TableText.{row_at, rows_at, lexed, checked, counted_rows_at}
+use Rattle.table_definitions.proofs.TableLaws.{table_fault-IsTable}
 
 -- the rows so far, before those that a reading gives
 abbrev pub with_rows : List Row → Result (List Row × Reading) LexFault → Result (List Row × Reading) LexFault

@@ -2,8 +2,8 @@
 use Rattle.std.specs.Prelude.{◌≡◌, List, Result, Ok, Err}
 use Rattle.text_definitions.specs.declared.LexFault.{LexFault}
 use Rattle.text_definitions.specs.Reading.{Reading}
-use Rattle.triangulation_definitions.specs.Table as gluings
-use Rattle.triangulation_definitions.specs.TableText as texts
+use Rattle.table_definitions.specs.Table as gluings
+use Rattle.table_definitions.specs.TableText as texts
 use Rattle.gluing_table.specs.declared.table.TableFault.{TableFault}
 use Rattle.gluing_table.specs.declared.table.TableFault.TheVariants as table_faults
 use Rattle.gluing_table.specs.declared.reader.TextFault.{TextFault}

@@ -3,7 +3,7 @@
 ghost use Rattle.std.specs.Prelude.{◌≡◌, ◌==◌, ◌<◌, ◌≤◌, length, Some, if◌then◌else◌, nat_lt};
 ghost use Rattle.std.specs.List.{position_or_len, before_first, after_first};
 ghost use Rattle.text_definitions.specs.Reading.{Gives};
-ghost use Rattle.triangulation_definitions.specs.TableText.{gluing_of, gluing_entry, entry_at, row_at, rows_at, counted_rows_at, table_at};
+ghost use Rattle.table_definitions.specs.TableText.{gluing_of, gluing_entry, entry_at, row_at, rows_at, counted_rows_at, table_at};
 ghost use Rattle.gluing_table.specs.declared.reader.TextFault.TheVariants as TheVariants;
 ghost use Rattle.gluing_table.specs.TextFaults.{as_text_fault, GivesRows, GivesTable};
 
@@ -105,7 +105,7 @@ fn glue_of(lexer: &Lexer<'_>, word: &[u8]) -> Result<Glue, LexFault>
 }
 
 /// What a face is glued to: `-` or `t:p`.
-#[tactic(auto, unfolding(triangulation_definitions::specs::TableText::entry_at))]
+#[tactic(auto, unfolding(table_definitions::specs::TableText::entry_at))]
 fn read_entry(lexer: &mut Lexer<'_>) -> Result<Option<Glue>, LexFault>
     ensures { Gives (λ g. g) result lexer.new (entry_at lexer.old) }
 {
@@ -118,7 +118,7 @@ fn read_entry(lexer: &mut Lexer<'_>) -> Result<Option<Glue>, LexFault>
 }
 
 /// A line of four entries.
-#[tactic(auto, unfolding(triangulation_definitions::specs::TableText::row_at))]
+#[tactic(auto, unfolding(table_definitions::specs::TableText::row_at))]
 fn read_row(lexer: &mut Lexer<'_>) -> Result<Row, LexFault>
     ensures { Gives (λ row. row) result lexer.new (row_at lexer.old) }
 {
@@ -144,7 +144,7 @@ fn read_lines(alloc: Global, lexer: &mut Lexer<'_>, count: u32) -> Result<Vec<Ro
 }
 
 /// The table of so many rows, from the end of this line on.
-#[tactic(auto, unfolding(triangulation_definitions::specs::TableText::counted_rows_at))]
+#[tactic(auto, unfolding(table_definitions::specs::TableText::counted_rows_at))]
 fn read_counted(alloc: Global, lexer: &mut Lexer<'_>, count: u32) -> Result<Table, TextFault>
     ensures { GivesTable result lexer.new (counted_rows_at count lexer.old) }
 {
@@ -159,7 +159,7 @@ const LIMIT: u128 = 170141183460469231731687303715884105727;
 
 /// The table that follows the word `tri`: its number of rows, and a line for each. The first fault is answered, and
 /// more than 1,000 rows are one before the rest of the line is read.
-#[tactic(auto, unfolding(triangulation_definitions::specs::TableText::table_at))]
+#[tactic(auto, unfolding(table_definitions::specs::TableText::table_at))]
 pub fn read_rows(alloc: Global, lexer: &mut Lexer<'_>) -> Result<Table, TextFault>
     ensures { GivesTable result lexer.new (table_at lexer.old) }
 {

@@ -3,8 +3,8 @@ use Rattle.std.specs.Prelude.{List, ℕ, [], ◌∷◌, ◌++◌, codes, decimal
 use Rattle.text_definitions.specs.declared.LexKind.{LexKind}
 use Rattle.text_definitions.specs.declared.LexKind.TheVariants.{BadByte, MissingWord, NumberTooWide, ExtraWord, BadWord}
 use Rattle.text_definitions.specs.declared.LexFault.{LexFault}
-use Rattle.triangulation_definitions.specs.Table.{Face, TableFault, too_many, no_such_tet, self_glued, not_mutual}
-use Rattle.triangulation_definitions.specs.TableText.{TextFault, lexical, no_table}
+use Rattle.table_definitions.specs.Table.{Face, TableFault, too_many, no_such_tet, self_glued, not_mutual}
+use Rattle.table_definitions.specs.TableText.{TextFault, lexical, no_table}
 
 -- a text as a line
 abbrev pub line : List ℕ → List ℕ

@@ -5,12 +5,13 @@ use Rattle.outcome_definitions.specs.declared.Status.{Status}
 use Rattle.outcome_definitions.specs.declared.Status.TheVariants.{Done, Usage, Input, Refused, Large, ReadFault, WriteFault, NoMemory}
 use Rattle.outcome_definitions.specs.Lines.{usage_line, read_line, too_long_line, text_line}
 use Rattle.text_definitions.specs.Reading.{same_word}
-use Rattle.triangulation_definitions.specs.Table.{Row}
-use Rattle.triangulation_definitions.specs.TableText.{TextFault, limit}
-use Rattle.triangulation_definitions.specs.Documents.{tri_and_vectors, verdicts_text}
-use Rattle.triangulation_definitions.specs.Coordinates.{standard, columns, clash_list}
-use Rattle.triangulation_definitions.specs.Equations.{matching_rows}
-use Rattle.triangulation_definitions.specs.Verdict.{Verdict, verdict}
+use Rattle.table_definitions.specs.Table.{Row}
+use Rattle.table_definitions.specs.TableText.{TextFault}
+use Rattle.text_definitions.specs.Written.{limit}
+use Rattle.document_definitions.specs.Documents.{tri_and_vectors, verdicts_text}
+use Rattle.surface_definitions.specs.Coordinates.{standard, columns, clash_list}
+use Rattle.surface_definitions.specs.Equations.{matching_rows}
+use Rattle.surface_definitions.specs.Verdict.{Verdict, verdict}
 
 -- the exit status and the text that is to be written
 pub record Outcome : Type 0 where

@@ -1,12 +1,12 @@
 -- Reading lines of one form to the end of the input, line by line.
 use Rattle.std.proofs.Common.{◌≡◌, ℕ, ◌+◌, ◌<◌, List, [], ◌∷◌, ◌++◌, Result, Ok, Err, length, refl, sym, ap, ◌∙◌, subst, arith, append_assoc, append-nil, Vec, map}
 use Rattle.std.specs.declared.alloc.Global.{Global}
-use Rattle.triangulation_definitions.specs.VectorText.{vector_at}
+use Rattle.cone_text_definitions.specs.VectorText.{vector_at}
 use Rattle.std.proofs.lemmas.List.{map-append}
 use Rattle.text_definitions.specs.Text.{Line}
 use Rattle.text_definitions.specs.declared.LexFault.{LexFault}
 use Rattle.text_definitions.specs.Reading.{Reading, ◌>>=◌, begun, line_from, need_line_at}
-use Rattle.triangulation_definitions.specs.Documents.{each_line_from}
+use Rattle.document_definitions.specs.Documents.{each_line_from}
 use Rattle.gluing_table.specs.declared.reader.TextFault.{TextFault}
 use Rattle.gluing_table.specs.declared.reader.TextFault.TheVariants.{NoMemory, Lex, Table}
 use Rattle.workbench.specs.Reads.{FailsLine}

@@ -1,7 +1,7 @@
 -- The line of a fault that a call answered is that of the fault that was found.
 use Rattle.std.proofs.Common.{◌≡◌, ℕ, List, refl, sym, ◌∙◌, ap, subst}
-use Rattle.triangulation_definitions.specs.Table as gluings
-use Rattle.triangulation_definitions.specs.TableText as texts
+use Rattle.table_definitions.specs.Table as gluings
+use Rattle.table_definitions.specs.TableText as texts
 use Rattle.gluing_table.specs.declared.table.TableFault.{TableFault}
 use Rattle.gluing_table.specs.declared.reader.TextFault.TheVariants.{Table}
 use Rattle.gluing_table.specs.Faults.{answer}

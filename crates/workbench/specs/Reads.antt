@@ -3,8 +3,8 @@ use Rattle.std.specs.Prelude.{◌≡◌, ℕ, List, map, Result, Ok, Err, Vec}
 use Rattle.std.specs.declared.alloc.Global.{Global}
 use Rattle.text_definitions.specs.declared.LexFault.{LexFault}
 use Rattle.text_definitions.specs.Reading.{Reading}
-use Rattle.triangulation_definitions.specs.Table as gluings
-use Rattle.triangulation_definitions.specs.TableText as texts
+use Rattle.table_definitions.specs.Table as gluings
+use Rattle.table_definitions.specs.TableText as texts
 use Rattle.gluing_table.specs.declared.reader.TextFault.{TextFault}
 use Rattle.gluing_table.specs.declared.reader.TextFault.TheVariants.{NoMemory, Lex, Table}
 use Rattle.gluing_table.specs.TextFaults.{FailsTable}

@@ -1,7 +1,7 @@
 -- The lines of refusals, by the faults of the code's calls.
 use Rattle.std.specs.Prelude.{◌≡◌, ℕ, List, [], codes}
-use Rattle.triangulation_definitions.specs.Table as gluings
-use Rattle.triangulation_definitions.specs.TableText as texts
+use Rattle.table_definitions.specs.Table as gluings
+use Rattle.table_definitions.specs.TableText as texts
 use Rattle.gluing_table.specs.declared.table.TableFault.{TableFault}
 use Rattle.gluing_table.specs.declared.table.TableFault.TheVariants as table_faults
 use Rattle.gluing_table.specs.declared.reader.TextFault.{TextFault}

@@ -1,8 +1,8 @@
 // The documents of the commands.
 ghost use Rattle.std.specs.Prelude.{◌≡◌, ◌≤◌, ◌^◌, length};
 ghost use Rattle.gluing_table.specs.TextFaults.{GivesTable};
-ghost use Rattle.triangulation_definitions.specs.TableText.{tri_table_at};
-ghost use Rattle.triangulation_definitions.specs.Documents.{tri_and_vectors};
+ghost use Rattle.table_definitions.specs.TableText.{tri_table_at};
+ghost use Rattle.document_definitions.specs.Documents.{tri_and_vectors};
 ghost use Rattle.workbench.specs.Reads.{GivesDocument, entries_of};
 
 use crate::vectors::read_vectors;
@@ -18,7 +18,7 @@ pub struct TableAndVectors {
 }
 
 // A table in the form `tri` on the next lines.
-#[tactic(auto, unfolding(triangulation_definitions::specs::TableText::tri_table_at, text_definitions::specs::Reading::exactly_at))]
+#[tactic(auto, unfolding(table_definitions::specs::TableText::tri_table_at, text_definitions::specs::Reading::exactly_at))]
 fn read_table(alloc: Global, lexer: &mut Lexer<'_>) -> Result<Table, TextFault>
     ensures { GivesTable result lexer.new (tri_table_at lexer.old) }
 {
@@ -31,7 +31,7 @@ fn read_table(alloc: Global, lexer: &mut Lexer<'_>) -> Result<Table, TextFault>
 }
 
 /// The document of a table and vectors.
-#[tactic(auto, unfolding(triangulation_definitions::specs::Documents::tri_and_vectors))]
+#[tactic(auto, unfolding(document_definitions::specs::Documents::tri_and_vectors))]
 pub fn read_table_and_vectors(alloc: Global, bytes: &[u8]) -> Result<TableAndVectors, TextFault>
     requires { length bytes.now ≤ 2 ^ 31 }
     ensures { GivesDocument (λ d. (d.table, entries_of d.vectors)) result (tri_and_vectors bytes.now) }

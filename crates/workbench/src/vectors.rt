@@ -1,8 +1,8 @@
 // Vectors from text.
 ghost use Rattle.std.specs.Prelude.{◌≡◌, map};
-ghost use Rattle.triangulation_definitions.specs.TableText.{limit};
-ghost use Rattle.triangulation_definitions.specs.VectorText.{vector_at};
-ghost use Rattle.triangulation_definitions.specs.Documents.{each_line_from};
+ghost use Rattle.text_definitions.specs.Written.{limit};
+ghost use Rattle.cone_text_definitions.specs.VectorText.{vector_at};
+ghost use Rattle.document_definitions.specs.Documents.{each_line_from};
 ghost use Rattle.text_definitions.specs.Reading.{numbers_at};
 ghost use Rattle.workbench.specs.Reads.{GivesLine, entries_of};
 
@@ -26,7 +26,7 @@ fn read_numbers(alloc: Global, lexer: &mut Lexer<'_>) -> Result<Vec<u128>, TextF
 }
 
 // The vector of the current line, of which no word was taken yet.
-#[tactic(auto, unfolding(triangulation_definitions::specs::VectorText::vector_at, text_definitions::specs::Reading::exactly_at))]
+#[tactic(auto, unfolding(cone_text_definitions::specs::VectorText::vector_at, text_definitions::specs::Reading::exactly_at))]
 fn read_vector(alloc: Global, lexer: &mut Lexer<'_>) -> Result<Vec<u128>, TextFault>
     ensures { GivesLine (λ v. v.items) result lexer.new (vector_at lexer.old) }
 {

@@ -1,6 +1,6 @@
 use Rattle.std.proofs.Common.{◌≡◌, ◌-◌, suc, sym, ap, List, ◌∙◌, arith}
-use Rattle.triangulation_definitions.specs.Table.{Row}
-use Rattle.triangulation_definitions.specs.TableText.{rows_at}
+use Rattle.table_definitions.specs.Table.{Row}
+use Rattle.table_definitions.specs.TableText.{rows_at}
 use Rattle.std.proofs.lemmas.Result.{err_from_is_err_and}
 use Rattle.gluing_table.proofs.RowsRead.{with_rows-start, with_rows-more, with_rows-fault, with_rows-end}
 use Rattle.gluing_table.proofs.reader.read_lines.Goals as goal

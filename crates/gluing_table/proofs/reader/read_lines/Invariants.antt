@@ -1,6 +1,6 @@
 -- The rows so far, before those that are left to read.
 use Rattle.std.proofs.Common.{◌≡◌, ◌-◌}
-use Rattle.triangulation_definitions.specs.TableText.{rows_at}
+use Rattle.table_definitions.specs.TableText.{rows_at}
 use Rattle.gluing_table.proofs.RowsRead.{with_rows}
 use Rattle.gluing_table.proofs.reader.read_lines.Given as goal
 

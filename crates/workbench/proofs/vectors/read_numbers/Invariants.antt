@@ -2,7 +2,7 @@
 use Rattle.std.proofs.Common.{◌≡◌, length}
 use Rattle.text_definitions.specs.Reading.{numbers_at}
 use Rattle.text_definitions.proofs.Readers.{with_front}
-use Rattle.triangulation_definitions.specs.TableText.{limit}
+use Rattle.text_definitions.specs.Written.{limit}
 use Rattle.workbench.proofs.vectors.read_numbers.Given as goal
 
 abbrev pub invariant-loop-lexer : goal.invariant-loop-lexer

@@ -1,8 +1,8 @@
 -- Each turn takes one line.
 use Rattle.std.proofs.Common.{sym, ◌∙◌, ap, map, Vec, ℕ, List}
 use Rattle.std.proofs.lemmas.Result.{err_from_is_err_and}
-use Rattle.triangulation_definitions.specs.VectorText.{vector_at}
-use Rattle.triangulation_definitions.proofs.ReadingLaws.{vector_read}
+use Rattle.cone_text_definitions.specs.VectorText.{vector_at}
+use Rattle.surface_definitions.proofs.VectorLaws.{vector_read}
 use Rattle.workbench.specs.Reads.{entries_of}
 use Rattle.workbench.proofs.EachLine.{line_taken, line_fails, lines_ended, lines_fewer, entries_push}
 use Rattle.workbench.proofs.vectors.read_vectors.Goals as goal

@@ -1,7 +1,7 @@
 -- The vectors so far with those that are left are those of the input.
 use Rattle.std.proofs.Common.{◌≡◌, ℕ, List, length, map}
-use Rattle.triangulation_definitions.specs.VectorText.{vector_at}
-use Rattle.triangulation_definitions.specs.Documents.{each_line_from}
+use Rattle.cone_text_definitions.specs.VectorText.{vector_at}
+use Rattle.document_definitions.specs.Documents.{each_line_from}
 use Rattle.workbench.proofs.EachLine.{with_fronts}
 use Rattle.workbench.specs.Reads.{entries_of}
 use Rattle.workbench.proofs.vectors.read_vectors.Given as goal

@@ -1,0 +1,2 @@
+pub mod VectorText
+pub mod ConeText

@@ -1,0 +1,10 @@
+-- The form of a document: a table and then lines of one form.
+use Rattle.std.specs.Prelude.{◌≡◌, List, ◌++◌}
+use Rattle.std.specs.List.{AllZip}
+use Rattle.table_definitions.specs.Table.{Row}
+use Rattle.text_definitions.specs.Text.{Line}
+use Rattle.signature_definitions.specs.Grammar.{AreTableLines}
+
+-- a table and then lines of one form, each with its value
+abbrev pub AreTableAndLines : {A : Type 0} → (Line → A → Type 0) → List Line → List Row → List A → Type 0
+AreTableAndLines form lines rows values = (table : List Line) × (rest : List Line) × (lines ≡ table ++ rest) × AreTableLines table rows × AllZip form rest values

@@ -1,0 +1,4 @@
+pub mod Moves
+pub mod MoveText
+pub mod Grammar
+pub mod Certificates

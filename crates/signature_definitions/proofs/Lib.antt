@@ -1,0 +1,4 @@
+pub mod Computed
+pub mod SignatureExamples
+pub mod RelationExamples
+pub mod LongSignatureExample

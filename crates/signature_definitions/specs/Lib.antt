@@ -1,0 +1,4 @@
+pub mod WalkOrder
+pub mod Spelling
+pub mod SignatureText
+pub mod Grammar

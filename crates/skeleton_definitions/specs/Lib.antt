@@ -1,0 +1,4 @@
+pub mod Orientation
+pub mod Links
+pub mod Corners
+pub mod Skeleton

@@ -1,0 +1,10 @@
+pub mod Coordinates
+pub mod Equations
+pub mod Verdict
+pub mod Grammar
+pub mod Laws
+pub mod Pieces
+pub mod Characteristic
+pub mod Crushing
+pub mod Lift
+pub mod QuadEquations

@@ -1,0 +1,26 @@
+-- The equations in quad coordinates: a row for each inner edge.
+use Rattle.std.specs.Prelude.{◌≡◌, ℕ, List, length, map}
+use Rattle.std.specs.List.{AllZip}
+use Rattle.table_definitions.specs.Table.{Row}
+use Rattle.surface_definitions.specs.Coordinates.{quads, columns, quad_column, keeping}
+use Rattle.surface_definitions.specs.Equations.{Equation, row_of}
+use Rattle.table_definitions.specs.Classes.{least}
+use Rattle.skeleton_definitions.specs.Corners.{Corner, first_corner, AreCorners, inner_edges}
+use Rattle.cone_definitions.specs.Rows.{Row as EquationRow}
+
+-- the sum over corners of the quad [ac] less the quad [ad]
+abbrev pub quad_equation : List Corner → Equation
+quad_equation corners = record {
+  left = map (λ (k : Corner). quad_column quads k.tet (keeping k.a k.c)) corners;
+  right = map (λ (k : Corner). quad_column quads k.tet (keeping k.a k.d)) corners;
+}
+
+-- the row of an edge class
+abbrev pub IsQuadRow : List Row → List ℕ → ℕ → EquationRow → Type 0
+IsQuadRow rows classes c row =
+    (corners : List Corner) × AreCorners rows (first_corner (least classes c)) corners
+    × (row ≡ row_of (columns quads (length rows)) (quad_equation corners))
+
+-- one row for each inner edge class, ascending, by the numbering of the edges
+abbrev pub AreQuadRows : List Row → List ℕ → ℕ → List EquationRow → Type 0
+AreQuadRows rows classes count quad_rows = AllZip (IsQuadRow rows classes) (inner_edges rows classes count) quad_rows

@@ -1,0 +1,21 @@
+//! Normal surfaces: coordinates, equations, the verdict on a vector, pieces, Euler characteristic, crushing and lifts.
+//! The definitions stand in `specs/`. The functions here have no code: their contracts are laws over the definitions.
+//! `proofs/` has worked examples of the definitions too.
+#![tactic(auto)]
+
+ghost use Rattle.surface_definitions.specs.Laws.{VectorLinesAreRead, VerdictsAreRight, RowsMeanEquations};
+
+/// A line is read as a vector exactly where it is one.
+pub fn vector_lines_are_read()
+    ensures { VectorLinesAreRead }
+{}
+
+/// A vector is accepted exactly where it is an admissible solution of which no part is large.
+pub fn verdicts_are_right()
+    ensures { VerdictsAreRight }
+{}
+
+/// The row of an equation is 0 exactly where both of its sides add up to the same.
+pub fn rows_mean_equations()
+    ensures { RowsMeanEquations }
+{}

@@ -1,0 +1,56 @@
+-- Classes are numbered in one way alone, and by their least members.
+use Rattle.std.proofs.Common.{◌≡◌, ℕ, zero, suc, ◌<◌, ◌≤◌, false, List, ◌⊎◌, refl, sym, ap, ◌∙◌, subst, arith, ⊎_elim}
+use Rattle.std.specs.Prelude.{◌==◌, slice_index}
+use Rattle.std.proofs.lemmas.Bool.{eq-eqb, false≢true, cases_order, cases_lt}
+use Rattle.std.proofs.lemmas.List.Sums.{fails_before_first}
+use Rattle.table_definitions.specs.Classes.{IsNumbering, least}
+
+module _ (n : ℕ) (Same : ℕ → ℕ → Type 0) where
+  -- a lesser class of i in the one numbering than in the other can't be, where the numberings agree below i
+  no_lesser : (one other : List ℕ) (k m : ℕ) → IsNumbering n Same one k → IsNumbering n Same other m → (i : ℕ) → i < n → ((j : ℕ) → j < i → slice_index one j ≡ slice_index other j)
+      → slice_index one i < slice_index other i → ⊥
+  no_lesser one other k m a b i hi below h =
+      let before : (j : ℕ) × (j < i) × (slice_index other j ≡ slice_index one i) = b.ascending i (slice_index one i) hi h in
+      let hj : before.0 < n = omega (arith, before.1) in
+      let same : slice_index one before.0 ≡ slice_index one i = below before.0 before.1 ∙ before.2 in
+      let joined : Same before.0 i = (a.together before.0 i hj hi).0 same in
+      let too : slice_index other before.0 ≡ slice_index other i = (b.together before.0 i hj hi).1 joined in
+      omega (arith, before.2)
+
+  agree_below : (one other : List ℕ) (k m : ℕ) → IsNumbering n Same one k → IsNumbering n Same other m → (bound : ℕ) → bound ≤ n → (i : ℕ) → i < bound → slice_index one i ≡ slice_index other i
+  agree_below one other k m a b zero hb i hi = absurd (omega arith)
+  agree_below one other k m a b (suc bound) hb i hi =
+      let lesser : bound ≤ n = omega arith in
+      let inside : bound < n = omega arith in
+      let earlier : (j : ℕ) → j < bound → slice_index one j ≡ slice_index other j = agree_below one other k m a b bound lesser in
+      ⊎_elim (λ (h : i < bound). earlier i h)
+      (λ (h : bound ≤ i).
+      let last : i ≡ bound = omega arith in
+      subst (λ j. slice_index one j ≡ slice_index other j) (sym last)
+      (⊎_elim (λ (e : slice_index one bound ≡ slice_index other bound). e)
+      (λ (apart : (slice_index one bound < slice_index other bound) ⊎ (slice_index other bound < slice_index one bound)).
+      absurd (⊎_elim (no_lesser one other k m a b bound inside earlier) (no_lesser other one m k b a bound inside (λ j h. sym (earlier j h))) apart))
+      (cases_order (slice_index one bound) (slice_index other bound))))
+      (cases_lt i bound)
+
+  -- two numberings of the same classes agree at each thing
+  pub numberings_agree : (one other : List ℕ) (k m : ℕ) → IsNumbering n Same one k → IsNumbering n Same other m → (i : ℕ) → i < n → slice_index one i ≡ slice_index other i
+  numberings_agree one other k m a b i hi = agree_below one other k m a b n (omega arith) i hi
+
+  -- the least member of a class is a member, and no member is less
+  pub least_is_least : (classes : List ℕ) (k : ℕ) → IsNumbering n Same classes k → (i : ℕ) → i < n → least classes (slice_index classes i) ≤ i
+  least_is_least classes k a i hi =
+      ⊎_elim (λ (h : i < least classes (slice_index classes i)).
+      let fails : (slice_index classes i == slice_index classes i) ≡ false = fails_before_first (λ d. d == slice_index classes i) classes i 0 h in
+      absurd (false≢true (sym fails ∙ eq-eqb (slice_index classes i) (slice_index classes i) refl)))
+      (λ (h : least classes (slice_index classes i) ≤ i). h)
+      (cases_lt i (least classes (slice_index classes i)))
+
+  -- lesser classes have lesser least members
+  pub least_ascend : (classes : List ℕ) (k : ℕ) → IsNumbering n Same classes k → (i c : ℕ) → i < n → c < slice_index classes i → least classes c < i
+  least_ascend classes k a i c hi h =
+      let before : (j : ℕ) × (j < i) × (slice_index classes j ≡ c) = a.ascending i c hi h in
+      let hj : before.0 < n = omega (arith, before.1) in
+      let up : least classes (slice_index classes before.0) ≤ before.0 = least_is_least classes k a before.0 hj in
+      let same : least classes (slice_index classes before.0) ≡ least classes c = ap (least classes) before.2 in
+      omega (arith, before.1)

@@ -1,0 +1,16 @@
+pub mod Computed
+pub mod Tables
+pub mod PermutationExamples
+pub mod TextExamples
+pub mod ListLaws
+pub mod PermutationLaws
+pub mod TableLaws
+pub mod ReadingLaws
+pub mod Tests
+pub mod RelationExamples
+pub mod EntryLaws
+pub mod TableReadingLaws
+pub mod TableFoundLaws
+pub mod ChainLaws
+pub mod ClassLaws
+pub mod TableExamples

@@ -1,0 +1,25 @@
+-- Classes of things that are numbered from 0: a list names the class of each, and classes are numbered by their least member.
+use Rattle.std.specs.Prelude.{◌≡◌, ℕ, ◌<◌, Bool, ◌==◌, ◌↔◌, List, length, slice_index}
+use Rattle.std.specs.List.{position_or_len}
+use Rattle.table_definitions.specs.Lists.{times_in}
+
+-- classes names the class of each of n things; Same says that two are in one class; there are count classes
+pub record IsNumbering (n : ℕ) (Same : ℕ → ℕ → Type 0) (classes : List ℕ) (count : ℕ) : Type 0 where
+  pub one_each : length classes ≡ n
+  pub in_range : (i : ℕ) → i < n → slice_index classes i < count
+  pub together : (i j : ℕ) → i < n → j < n → (slice_index classes i ≡ slice_index classes j) ↔ Same i j
+  -- each lesser number is the class of something before
+  pub ascending : (i c : ℕ) → i < n → c < slice_index classes i → (j : ℕ) × (j < i) × (slice_index classes j ≡ c)
+  pub none_empty : (c : ℕ) → c < count → (i : ℕ) × (i < n) × (slice_index classes i ≡ c)
+
+-- the least member of a class
+abbrev pub least : List ℕ → ℕ → ℕ
+least classes c = position_or_len (λ d. d == c) classes
+
+-- whether something is the least member of its class
+abbrev pub is_least : List ℕ → ℕ → Bool
+is_least classes i = least classes (slice_index classes i) == i
+
+-- the number of members of a class
+abbrev pub degree : List ℕ → ℕ → ℕ
+degree classes c = times_in classes c

@@ -1,0 +1,10 @@
+pub mod Lists
+pub mod Permutation
+pub mod Table
+pub mod TableText
+pub mod Classes
+pub mod Places
+pub mod Relabelling
+pub mod Replacing
+pub mod Grammar
+pub mod Laws

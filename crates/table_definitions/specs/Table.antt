@@ -1,0 +1,80 @@
+-- Gluing tables: a row for each tetrahedron, with what each of its faces 0 to 3 is glued by.
+use Rattle.std.specs.Prelude.{◌≡◌, ℕ, ◌<◌, ◌≤◌, Bool, false, ◌&&◌, ◌||◌, not, List, [], length, map, ◌==◌, nat_lt, Option, Some, None, IsTrue, All, if◌then◌else◌}
+use Rattle.std.specs.List.{slice_index_or}
+use Rattle.table_definitions.specs.Lists.{below, same_list, first_some, pairs_of}
+use Rattle.table_definitions.specs.Permutation.{four, IsPermutationOfFour, image, inverse}
+
+-- a table has at most so many tetrahedra
+abbrev pub max_tets : ℕ
+max_tets = 1000
+
+-- the tetrahedron behind a face, and where each vertex goes: the vertex opposite the face goes to the vertex
+-- opposite the face that is reached
+pub record Gluing : Type 0 where
+  pub tet : ℕ
+  pub perm : List ℕ
+
+-- what the four faces of a tetrahedron are glued by; nothing at a boundary face
+abbrev pub Row : Type 0
+Row = List (Option Gluing)
+
+-- a face of a tetrahedron, which lies opposite the vertex of its number
+pub record Face : Type 0 where
+  pub tet : ℕ
+  pub face : ℕ
+
+-- what a face is glued by
+abbrev pub glue : List Row → Face → Option Gluing
+glue rows x = slice_index_or (slice_index_or rows x.tet []) x.face None
+
+-- the face to which the gluing g of the face x leads
+abbrev pub other_side : Face → Gluing → Face
+other_side x g = record { tet = g.tet; face = image g.perm x.face }
+
+-- the gluing that leads back to x
+abbrev pub way_back : Face → Gluing → Gluing
+way_back x g = record { tet = x.tet; perm = inverse g.perm }
+
+-- all faces of n tetrahedra, ascending
+abbrev pub faces : ℕ → List Face
+faces n = map (λ p. record { tet = p.0; face = p.1 }) (pairs_of (below n) four)
+
+abbrev pub same_face : Face → Face → Bool
+same_face x y = (x.tet == y.tet) && (x.face == y.face)
+
+abbrev pub is_face_before : Face → Face → Bool
+is_face_before x y = nat_lt x.tet y.tet || ((x.tet == y.tet) && nat_lt x.face y.face)
+
+-- each face that is glued leads to a face in range other than itself, which leads back
+pub record IsTable (rows : List Row) : Type 0 where
+  pub few : length rows ≤ max_tets
+  pub four_faces : All (λ (row : Row). length row ≡ 4) rows
+  pub permutes : (x : Face) (g : Gluing) → glue rows x ≡ Some g → IsPermutationOfFour g.perm
+  pub in_range : (x : Face) (g : Gluing) → glue rows x ≡ Some g → g.tet < length rows
+  pub apart : (x : Face) (g : Gluing) → glue rows x ≡ Some g → IsTrue (not (same_face (other_side x g) x))
+  pub leads_back : (x : Face) (g : Gluing) → glue rows x ≡ Some g → glue rows (other_side x g) ≡ Some (way_back x g)
+
+-- why rows of permutations are no table
+pub data TableFault : Type 0 where
+  too_many : TableFault
+  no_such_tet : Face → TableFault
+  self_glued : Face → TableFault
+  not_mutual : Face → TableFault
+
+-- whether a face is glued so
+abbrev pub is_glued_by : Option Gluing → Gluing → Bool
+is_glued_by None g = false
+is_glued_by (Some h) g = (h.tet == g.tet) && same_list h.perm g.perm
+
+-- what is wrong with the gluing of a face
+abbrev pub gluing_fault : List Row → Face → Option Gluing → Option TableFault
+gluing_fault rows x None = None
+gluing_fault rows x (Some g) =
+    if not (nat_lt g.tet (length rows)) then Some (no_such_tet x)
+    else (if same_face (other_side x g) x then Some (self_glued x)
+    else (if is_glued_by (glue rows (other_side x g)) (way_back x g) then None else Some (not_mutual x)))
+
+-- too many rows, or else the first face at which something is wrong
+unfoldable pub table_fault : List Row → Option TableFault
+table_fault rows =
+    if nat_lt max_tets (length rows) then Some too_many else first_some (λ x. gluing_fault rows x (glue rows x)) (faces (length rows))
