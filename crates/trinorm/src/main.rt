@@ -2,9 +2,8 @@
 #![tactic(auto)]
 
 use bench_io::{StdSink, StdSource, Words};
-use std::env;
-use std::io;
 use std::process::ExitCode;
+use std::{env, io};
 use workbench::{exit_code, run};
 
 /// The exit status where memory ran out before the run.

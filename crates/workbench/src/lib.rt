@@ -8,11 +8,11 @@ mod refusals;
 mod request;
 mod vectors;
 
-pub use dispatch::run;
-pub use outcome_definitions::Status;
-
 ghost use Rattle.std.specs.Prelude.{◌≡◌};
 ghost use Rattle.workbench.specs.Codes.{code_of};
+
+pub use dispatch::run;
+pub use outcome_definitions::Status;
 
 /// The exit status of the program for the status of a run.
 pub fn exit_code(status: Status) -> u8
