@@ -1,0 +1,11 @@
+//! Worked rows of the commands, run over memory. There is no product code here.
+#![tactic(auto)]
+
+#[cfg(test)]
+mod running;
+
+#[cfg(test)]
+mod verify_rows;
+
+#[cfg(test)]
+mod hostile_rows;

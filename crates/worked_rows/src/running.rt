@@ -1,0 +1,51 @@
+// A run over memory.
+ghost use Rattle.std.specs.Prelude.{◌<◌};
+
+use bench_io::{MemorySink, MemorySource, Words};
+use std::alloc::Global;
+use std::test::Fail;
+use workbench::{Status, run};
+
+/// Words and an input, with the status and the text that are wanted.
+#[derive(Clone, Copy)]
+pub struct Row {
+    pub words: &'static [&'static str],
+    pub input: &'static [u8],
+    pub status: Status,
+    pub text: &'static [u8],
+}
+
+/// How a run ended, and what its sink holds.
+#[derive(Drop)]
+pub struct Ended {
+    pub status: Status,
+    pub text: Vec<u8>,
+}
+
+// No call fails, and each takes what it can.
+pub const STEADY: u64 = 0;
+
+/// Runs words over an input, with room for the answer. The source fails at one call and the sink at another, from 1,
+/// or at none; a call gives or takes so many bytes.
+pub fn answered(
+    alloc: Global,
+    words: &[&str],
+    input: &[u8],
+    failing_read: u64,
+    failing_write: u64,
+    most: usize,
+) -> Result<Ended, Fail>
+    requires { 0 < most }
+{
+    let mut named = Words::new(alloc);
+    for word in words {
+        named.push(word)?;
+    }
+    let mut source = MemorySource::new(input.to_vec(alloc)?, vec![in alloc; failing_read]?, most);
+    let mut sink = MemorySink::new(alloc, 1 << 16, vec![in alloc; failing_write]?, most)?;
+    let status = run(alloc, &named, &mut source, &mut sink);
+    Ok(Ended {
+        status,
+        text: sink.bytes().to_vec(alloc)?,
+    })
+}
