@@ -1,0 +1,145 @@
+//! The matching equations of a table.
+
+ghost use Rattle.std.specs.Prelude.{◌≡◌, ◌≢◌, ◌+◌, ◌*◌, ◌<◌, ◌≤◌, ◌^◌, [], ◌∷◌, ◌++◌, length, IfOk, OnOk};
+ghost use Rattle.surface_definitions.specs.Coordinates as coordinates;
+ghost use Rattle.surface_definitions.specs.Equations.{matching, matching_rows};
+ghost use Rattle.surface_definitions.specs.Equations as equations;
+ghost use Rattle.table_definitions.specs.Permutation.{IsPermutationOfFour};
+ghost use Rattle.table_definitions.specs.Table as gluings;
+ghost use Rattle.table_definitions.specs.Table.{IsTable, is_face_before};
+ghost use Rattle.matching_equations.specs.Columns.{coordinates_of};
+ghost use Rattle.matching_equations.specs.Matching.{glued_rows, face_rows, tet_rows};
+
+use crate::coords::{Coords, columns};
+use crate::equation::{arc_columns, row_of};
+use cone_core::System;
+use gluing_table::{Face, Glue, Table};
+use no_memory::NoMemory;
+use std::alloc::Global;
+
+/// Whether one face comes before another.
+fn is_before(face: Face, other: Face) -> bool
+    ensures { result ≡ is_face_before face other }
+{
+    face.tet < other.tet || (face.tet == other.tet && face.face < other.face)
+}
+
+/// Appends the equation of the arcs round a vertex of a glued face.
+fn push_equation(
+    alloc: Global,
+    coords: Coords,
+    face: Face,
+    glue: Glue,
+    vertex: u8,
+    system: &mut System,
+) -> Result<(), NoMemory>
+    requires coords { coords ≢ Coords.Quad }
+    requires tet { face.tet < 1000 }
+    requires other_tet { glue.tet < 1000 }
+    requires a_face { face.face < 4 }
+    requires a_vertex { vertex < 4 }
+    requires apart { vertex ≢ face.face }
+    requires permutes { IsPermutationOfFour glue.perm }
+    requires room { length system.old.rows + 1 < 2 ^ 32 }
+    ensures columns { OnOk result (system.new.columns ≡ system.old.columns) }
+    ensures rows { OnOk result (system.new.rows ≡ system.old.rows ++ equations.row_of system.old.columns (matching (coordinates_of coords) face glue vertex) ∷ []) }
+    ensures one_more { OnOk result (length system.new.rows ≡ length system.old.rows + 1) }
+{
+    let left = arc_columns(coords, face.tet, face.face, vertex);
+    let other_face = glue.perm.image(face.face);
+    let other_vertex = glue.perm.image(vertex);
+    let right = arc_columns(coords, glue.tet, other_face, other_vertex);
+    let row = row_of(alloc, system.columns(), left.as_slice(), right.as_slice())?;
+    system.push_row(row)?;
+    Ok(())
+}
+
+/// Appends the equations of a glued face.
+fn push_glued(
+    alloc: Global,
+    coords: Coords,
+    face: Face,
+    glue: Glue,
+    system: &mut System,
+) -> Result<(), NoMemory>
+    requires coords { coords ≢ Coords.Quad }
+    requires tet { face.tet < 1000 }
+    requires other_tet { glue.tet < 1000 }
+    requires a_face { face.face < 4 }
+    requires permutes { IsPermutationOfFour glue.perm }
+    requires room { length system.old.rows + 4 < 2 ^ 32 }
+    ensures columns { OnOk result (system.new.columns ≡ system.old.columns) }
+    ensures rows { OnOk result (system.new.rows ≡ system.old.rows ++ glued_rows (coordinates_of coords) system.old.columns face glue) }
+    ensures few { OnOk result (length system.new.rows ≤ length system.old.rows + 4) }
+{
+    let opposite = face.face;
+    for vertex in 0..4 {
+        if vertex != opposite {
+            push_equation(alloc, coords, face, glue, vertex, system)?;
+        }
+    }
+    Ok(())
+}
+
+/// Appends the equations of a face, where it is glued and the lesser side.
+fn push_face(
+    alloc: Global,
+    coords: Coords,
+    table: &Table,
+    face: Face,
+    system: &mut System,
+) -> Result<(), NoMemory>
+    requires coords { coords ≢ Coords.Quad }
+    requires table { IsTable table.now }
+    requires in_range { face.tet < length table.now }
+    requires a_face { face.face < 4 }
+    requires room { length system.old.rows + 4 < 2 ^ 32 }
+    ensures columns { OnOk result (system.new.columns ≡ system.old.columns) }
+    ensures rows { OnOk result (system.new.rows ≡ system.old.rows ++ face_rows (coordinates_of coords) table.now system.old.columns face) }
+    ensures few { OnOk result (length system.new.rows ≤ length system.old.rows + 4) }
+{
+    if let Some(glue) = table.glue(face) {
+        if is_before(face, glue.other_side(face)) {
+            push_glued(alloc, coords, face, glue, system)?;
+        }
+    }
+    Ok(())
+}
+
+/// Appends the equations of the faces of a tetrahedron.
+fn push_tet(
+    alloc: Global,
+    coords: Coords,
+    table: &Table,
+    tet: u32,
+    system: &mut System,
+) -> Result<(), NoMemory>
+    requires coords { coords ≢ Coords.Quad }
+    requires table { IsTable table.now }
+    requires in_range { tet < length table.now }
+    requires room { length system.old.rows + 16 < 2 ^ 32 }
+    ensures columns { OnOk result (system.new.columns ≡ system.old.columns) }
+    ensures rows { OnOk result (system.new.rows ≡ system.old.rows ++ tet_rows (coordinates_of coords) table.now system.old.columns tet) }
+    ensures few { OnOk result (length system.new.rows ≤ length system.old.rows + 16) }
+{
+    for face in 0..4 {
+        push_face(alloc, coords, table, Face { tet, face }, system)?;
+    }
+    Ok(())
+}
+
+/// The matching equations of a table in standard or octagon coordinates: one for each glued pair of faces and each
+/// vertex of the lesser side, as many arcs round the vertex on the one side as on the other (Haken 1961).
+pub fn matching_system(alloc: Global, coords: Coords, table: &Table) -> Result<System, NoMemory>
+    requires { coords ≢ Coords.Quad }
+    ensures columns { IfOk result (λ s. s.columns ≡ coordinates.columns (coordinates_of coords) (length table.now)) }
+    ensures rows { IfOk result (λ s. s.rows ≡ matching_rows (coordinates_of coords) table.now) }
+    ensures few { IfOk result (λ s. length s.rows ≤ 16000) }
+{
+    let tets = table.rows().len() as u32;
+    let mut system = System::new(alloc, columns(coords, tets));
+    for tet in 0..tets {
+        push_tet(alloc, coords, table, tet, &mut system)?;
+    }
+    Ok(system)
+}

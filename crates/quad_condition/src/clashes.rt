@@ -1,0 +1,119 @@
+//! Which columns clash.
+
+ghost use Rattle.std.specs.Prelude.{◌≡◌, ℕ, ◌+◌, ◌<◌, ◌≤◌, ◌++◌, false, find, length, OnOk, IfOk, option_map};
+ghost use Rattle.surface_definitions.specs.Coordinates as coordinates;
+ghost use Rattle.surface_definitions.specs.Verdict.{both_nonzero};
+ghost use Rattle.matching_equations.specs.Columns.{coordinates_of};
+ghost use Rattle.quad_condition.specs.Partners.{partners};
+
+use matching_equations::{Coords, columns, columns_each, triangles_each};
+use no_memory::NoMemory;
+use std::alloc::Global;
+
+/// Whether a column counts a quad or an octagon.
+fn is_quad_or_octagon(coords: Coords, column: u32) -> bool
+    ensures { result ≡ coordinates.is_quad_or_octagon (coordinates_of coords) column }
+{
+    column % columns_each(coords) >= triangles_each(coords)
+}
+
+/// Whether a column counts an octagon.
+fn is_octagon(coords: Coords, column: u32) -> bool
+    ensures { result ≡ coordinates.is_octagon (coordinates_of coords) column }
+{
+    column % columns_each(coords) >= 7
+}
+
+/// Whether two columns clash.
+fn do_clash(coords: Coords, first: u32, second: u32) -> bool
+    ensures { result ≡ coordinates.clash_test (coordinates_of coords) first second }
+{
+    if is_octagon(coords, first) && is_octagon(coords, second) {
+        return true;
+    }
+    let each = columns_each(coords);
+    first / each == second / each
+        && is_quad_or_octagon(coords, first)
+        && is_quad_or_octagon(coords, second)
+}
+
+/// The end of the columns that a column may clash with: of its tetrahedron for a triangle or a quad, and of all for
+/// an octagon.
+fn partners_end(coords: Coords, tets: u32, first: u32) -> u32
+    requires tets { tets ≤ 1000 }
+    requires in_range { first < coordinates.columns (coordinates_of coords) tets }
+    ensures above { first + 1 ≤ result }
+    ensures within { result ≤ coordinates.columns (coordinates_of coords) tets }
+    ensures beyond { (k : ℕ) → result ≤ k → k < coordinates.columns (coordinates_of coords) tets → coordinates.clash_test (coordinates_of coords) first k ≡ false }
+{
+    if is_octagon(coords, first) {
+        columns(coords, tets)
+    } else {
+        let each = columns_each(coords);
+        (first / each + 1) * each
+    }
+}
+
+/// Appends the pairs of a column with the later ones that it clashes with.
+fn push_partners(
+    coords: Coords,
+    tets: u32,
+    first: u32,
+    clashes: &mut Vec<(u32, u32)>,
+) -> Result<(), NoMemory>
+    requires tets { tets ≤ 1000 }
+    requires in_range { first < coordinates.columns (coordinates_of coords) tets }
+    ensures { OnOk result (clashes.new.items ≡ clashes.old.items ++ partners (coordinates_of coords) tets first) }
+{
+    for second in first + 1..partners_end(coords, tets, first) {
+        if do_clash(coords, first, second) {
+            clashes.push((first, second))?;
+        }
+    }
+    Ok(())
+}
+
+/// All clashing pairs of columns, the lesser column first, ascending.
+pub fn clash_list(alloc: Global, coords: Coords, tets: u32) -> Result<Vec<(u32, u32)>, NoMemory>
+    requires { tets ≤ 1000 }
+    ensures { IfOk result (λ clashes. clashes.items ≡ coordinates.clash_list (coordinates_of coords) tets) }
+{
+    let mut clashes = Vec::new(alloc);
+    for first in 0..columns(coords, tets) {
+        push_partners(coords, tets, first, &mut clashes)?;
+    }
+    Ok(clashes)
+}
+
+/// The least later column that isn't 0 and clashes with a column that isn't 0.
+fn first_partner(coords: Coords, tets: u32, x: &[u128], first: u32) -> Option<u32>
+    requires tets { tets ≤ 1000 }
+    requires width { length x.now ≡ coordinates.columns (coordinates_of coords) tets }
+    requires in_range { first < length x.now }
+    ensures { option_map (λ second. (first, second)) result ≡ find (both_nonzero x.now) (partners (coordinates_of coords) tets first) }
+{
+    if x[first as usize] == 0 {
+        return None;
+    }
+    for second in first + 1..partners_end(coords, tets, first) {
+        if x[second as usize] != 0 && do_clash(coords, first, second) {
+            return Some(second);
+        }
+    }
+    None
+}
+
+/// The least clashing pair that is nonzero in both places. Only the first octagon that isn't 0 is compared with the
+/// octagons of other tetrahedra: where it has no partner, there is no later octagon.
+pub fn first_clash(coords: Coords, tets: u32, x: &[u128]) -> Option<(u32, u32)>
+    requires tets { tets ≤ 1000 }
+    requires width { length x.now ≡ coordinates.columns (coordinates_of coords) tets }
+    ensures { result ≡ find (both_nonzero x.now) (coordinates.clash_list (coordinates_of coords) tets) }
+{
+    for first in 0..columns(coords, tets) {
+        if let Some(second) = first_partner(coords, tets, x, first) {
+            return Some((first, second));
+        }
+    }
+    None
+}

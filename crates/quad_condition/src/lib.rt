@@ -1,0 +1,11 @@
+//! The quadrilateral condition: quads and octagons of one tetrahedron clash, and so do any two octagons.
+#![tactic(auto)]
+
+mod check;
+mod clashes;
+
+pub use check::{VectorFault, check_vector};
+pub use clashes::{clash_list, first_clash};
+
+#[cfg(test)]
+mod tests;
