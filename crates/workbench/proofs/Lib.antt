@@ -1,3 +1,4 @@
 pub mod Naming
 pub mod EachLine
 pub mod RefusalLines
+pub mod VerdictLines

@@ -4,3 +4,4 @@ pub mod Runs
 pub mod Reads
 pub mod Refusals
 pub mod Codes
+pub mod Verdicts

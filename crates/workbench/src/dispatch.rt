@@ -9,6 +9,7 @@ ghost use Rattle.workbench.specs.Runs.{Answers, IsAnswered, IsCalm, IsWithin, Is
 
 use crate::outcome::Outcome;
 use crate::request::{Request, read_request};
+use crate::verify_command::verify;
 use bench_io::{ReadEnd, Sink, Source, Words, read_all, write_all};
 use no_memory::NoMemory;
 use outcome_definitions::Status;
@@ -18,11 +19,14 @@ use std::alloc::Global;
 const MOST_BYTES: u64 = 1_048_576;
 
 // The answer of a command to an input that isn't too long.
-fn answer(_alloc: Global, _request: Request, _bytes: &[u8]) -> Result<Outcome, NoMemory>
-    ensures answer { IfOk result (λ o. IsAnswerTo (requests.request _request) _bytes.now o) }
+fn answer(alloc: Global, request: Request, bytes: &[u8]) -> Result<Outcome, NoMemory>
+    requires { length bytes.now ≤ most_bytes }
+    ensures answer { IfOk result (λ o. IsAnswerTo (requests.request request) bytes.now o) }
     ensures own_status { IfOk result (λ o. IsOwnStatus o.status) }
 {
-    Err(NoMemory)
+    match request {
+        Request::Verify => verify(alloc, bytes),
+    }
 }
 
 // The outcome of a command over a source.

@@ -7,6 +7,7 @@ mod outcome;
 mod refusals;
 mod request;
 mod vectors;
+mod verify_command;
 
 ghost use Rattle.std.specs.Prelude.{◌≡◌};
 ghost use Rattle.workbench.specs.Codes.{code_of};

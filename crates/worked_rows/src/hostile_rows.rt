@@ -52,10 +52,23 @@ fn long_inputs_are_refused(rt: HostRuntime) -> Result<(), Fail> {
     let input = vec![in rt.alloc(); b'\n'; 1_048_577]?;
     let answer = answered(rt.alloc(), &["verify"], &input, STEADY, STEADY, 1 << 20)?;
     assert_eq!(rt; answer.status, Status::Input);
-    assert_eq!(rt; answer.text.as_slice(), b"refused: input too-long\n".as_slice());
-    let answer = answered(rt.alloc(), &["verify"], &input[1..], STEADY, STEADY, 1 << 20)?;
+    assert_eq!(rt;
+        answer.text.as_slice(),
+        b"refused: input too-long\n".as_slice()
+    );
+    let answer = answered(
+        rt.alloc(),
+        &["verify"],
+        &input[1..],
+        STEADY,
+        STEADY,
+        1 << 20,
+    )?;
     assert_eq!(rt; answer.status, Status::Input);
-    assert_eq!(rt; answer.text.as_slice(), b"refused: input 1048577 1 missing-word\n".as_slice());
+    assert_eq!(rt;
+        answer.text.as_slice(),
+        b"refused: input 1048577 1 missing-word\n".as_slice()
+    );
     Ok(())
 }
 

@@ -2,10 +2,8 @@
 #![tactic(auto)]
 
 #[cfg(test)]
+mod hostile_rows;
+#[cfg(test)]
 mod running;
-
 #[cfg(test)]
 mod verify_rows;
-
-#[cfg(test)]
-mod hostile_rows;

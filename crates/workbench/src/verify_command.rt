@@ -1,0 +1,121 @@
+// The command `verify`: a verdict for each vector.
+ghost use Rattle.std.specs.Prelude.{◌≡◌, ◌≤◌, ◌++◌, ◌^◌, length, map, codes, decimal, IfOk, OnOk};
+ghost use Rattle.surface_definitions.specs.Coordinates as coordinates;
+ghost use Rattle.surface_definitions.specs.Equations.{matching_rows};
+ghost use Rattle.document_definitions.specs.Documents.{tri_and_vectors, verdicts_text};
+ghost use Rattle.outcome_definitions.specs.Lines.{line};
+ghost use Rattle.surface_definitions.specs.Verdict.{verdict_text};
+ghost use Rattle.outcome_definitions.specs.Outcomes.{IsReadOutcome, IsOwnStatus, verify_outcome, verdict_on};
+ghost use Rattle.workbench.specs.Verdicts.{check_line, all_entries};
+
+use crate::document::read_table_and_vectors;
+use crate::outcome::Outcome;
+use crate::refusals::fault_outcome;
+use cone_core::System;
+use gluing_table::Table;
+use matching_equations::{Coords, matching_system};
+use no_memory::NoMemory;
+use outcome_definitions::Status;
+use quad_condition::{VectorFault, check_vector};
+use std::alloc::Global;
+use text_writing::{append, append_decimal};
+
+// A line of a word and a number.
+fn append_numbered(
+    alloc: Global,
+    out: &mut Vec<u8>,
+    word: &[u8],
+    number: u128,
+) -> Result<(), NoMemory>
+    ensures { OnOk result (out.new.items ≡ out.old.items ++ line (word.now ++ decimal number)) }
+{
+    append(out, word)?;
+    append_decimal(alloc, out, number)?;
+    append(out, b"\n")?;
+    Ok(())
+}
+
+// A line of a clash.
+fn append_clash(alloc: Global, out: &mut Vec<u8>, first: u32, second: u32) -> Result<(), NoMemory>
+    ensures { OnOk result (out.new.items ≡ out.old.items ++ line (codes "clash " ++ decimal first ++ codes " " ++ decimal second)) }
+{
+    append(out, b"clash ")?;
+    append_decimal(alloc, out, u128::from(first))?;
+    append(out, b" ")?;
+    append_decimal(alloc, out, u128::from(second))?;
+    append(out, b"\n")?;
+    Ok(())
+}
+
+fn append_solution(out: &mut Vec<u8>) -> Result<(), NoMemory>
+    ensures { OnOk result (out.new.items ≡ out.old.items ++ line (codes "solution")) }
+{
+    append(out, b"solution\n")?;
+    Ok(())
+}
+
+// The line of what the check of a vector answered.
+#[tactic(auto, unfolding(crate::specs::Verdicts::check_line))]
+fn append_checked(
+    alloc: Global,
+    out: &mut Vec<u8>,
+    checked: Result<(), VectorFault>,
+) -> Result<(), NoMemory>
+    ensures { OnOk result (out.new.items ≡ out.old.items ++ check_line checked) }
+{
+    match checked {
+        Ok(()) => append_solution(out),
+        Err(VectorFault::Length { got }) => append_numbered(alloc, out, b"length ", got as u128),
+        Err(VectorFault::Large { row }) => append_numbered(alloc, out, b"large ", u128::from(row)),
+        Err(VectorFault::NotSolution { row }) => append_numbered(
+            alloc,
+            out,
+            b"fails ",
+            u128::from(row),
+        ),
+        Err(VectorFault::Clash { first, second }) => append_clash(alloc, out, first, second),
+    }
+}
+
+// The line of the verdict on a vector.
+fn append_verdict(
+    alloc: Global,
+    out: &mut Vec<u8>,
+    table: &Table,
+    system: &System,
+    vector: &[u128],
+) -> Result<(), NoMemory>
+    requires columns { system.now.columns ≡ coordinates.columns coordinates.standard (length table.now) }
+    requires rows { system.now.rows ≡ matching_rows coordinates.standard table.now }
+    ensures { OnOk result (out.new.items ≡ out.old.items ++ verdict_text (verdict_on table.now vector.now)) }
+{
+    let checked = check_vector(Coords::Standard, table.len(), system, vector);
+    append_checked(alloc, out, checked)
+}
+
+// The lines of the verdicts on vectors.
+fn verdicts(alloc: Global, table: &Table, vectors: &[Vec<u128>]) -> Result<Vec<u8>, NoMemory>
+    ensures { IfOk result (λ text. text.items ≡ verdicts_text (map (verdict_on table.now) (all_entries vectors.now))) }
+{
+    let system = matching_system(alloc, Coords::Standard, table)?;
+    let mut text = Vec::new(alloc);
+    for vector in vectors {
+        append_verdict(alloc, &mut text, table, &system, vector)?;
+    }
+    Ok(text)
+}
+
+/// The outcome of `verify` on an input that isn't too long.
+pub fn verify(alloc: Global, bytes: &[u8]) -> Result<Outcome, NoMemory>
+    requires { length bytes.now ≤ 2 ^ 31 }
+    ensures answer { IfOk result (IsReadOutcome (tri_and_vectors bytes.now) (λ d p. p ≡ verify_outcome d)) }
+    ensures own_status { IfOk result (λ o. IsOwnStatus o.status) }
+{
+    match read_table_and_vectors(alloc, bytes) {
+        Ok(document) => {
+            let text = verdicts(alloc, &document.table, &document.vectors)?;
+            Ok(Outcome::built(Status::Done, text))
+        }
+        Err(fault) => fault_outcome(alloc, fault),
+    }
+}
