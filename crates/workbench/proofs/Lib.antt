@@ -2,3 +2,4 @@ pub mod Naming
 pub mod EachLine
 pub mod RefusalLines
 pub mod VerdictLines
+pub mod LastLine

@@ -5,3 +5,4 @@ pub mod Reads
 pub mod Refusals
 pub mod Codes
 pub mod Verdicts
+pub mod Cones

@@ -2,11 +2,12 @@
 ghost use Rattle.std.specs.Prelude.{◌≡◌, ◌≤◌, ◌^◌, length};
 ghost use Rattle.gluing_table.specs.TextFaults.{GivesTable};
 ghost use Rattle.table_definitions.specs.TableText.{tri_table_at};
-ghost use Rattle.document_definitions.specs.Documents.{tri_and_vectors};
+ghost use Rattle.document_definitions.specs.Documents.{tri_and_vectors, no_line_at};
+ghost use Rattle.text_definitions.specs.Reading.{Moves};
 ghost use Rattle.workbench.specs.Reads.{GivesDocument, entries_of};
 
 use crate::vectors::read_vectors;
-use bench_io::Lexer;
+use bench_io::{LexFault, Lexer};
 use gluing_table::{Table, TextFault, read_rows};
 use std::alloc::Global;
 
@@ -15,6 +16,16 @@ use std::alloc::Global;
 pub struct TableAndVectors {
     pub table: Table,
     pub vectors: Vec<Vec<u128>>,
+}
+
+/// No further line may stand: its first word is one too many.
+pub fn end_document(lexer: &mut Lexer<'_>) -> Result<(), LexFault>
+    ensures { Moves result lexer.new (no_line_at lexer.old) }
+{
+    if !lexer.next_line() {
+        return Ok(());
+    }
+    lexer.end_line()
 }
 
 // A table in the form `tri` on the next lines.

@@ -3,7 +3,9 @@
 
 mod dispatch;
 mod document;
+mod enumerations;
 mod outcome;
+mod rays_command;
 mod refusals;
 mod request;
 mod vectors;
