@@ -49,7 +49,7 @@ not_true : (b : Bool) → not b ≡ true → b ≡ false
 not_true true h = sym h
 not_true false h = refl
 
-kept_by : (rows : List Row) (r : Replacement) → CanReplace rows r → (t u : ℕ) → t < length rows → has r.removed t ≡ false → u < replaced_length rows r → has (fresh_numbers r) u ≡ false
+pub kept_by : (rows : List Row) (r : Replacement) → CanReplace rows r → (t u : ℕ) → t < length rows → has r.removed t ≡ false → u < replaced_length rows r → has (fresh_numbers r) u ≡ false
     → rank (stays r.removed) t ≡ rank (stays (fresh_numbers r)) u → IsKeptAs rows r t u
 kept_by rows r can t u lt st lu fu e = record {
   old_in_range = lt;

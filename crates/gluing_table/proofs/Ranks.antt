@@ -11,6 +11,7 @@ use Rattle.std.proofs.lemmas.List.Sums.{length-filter, sum_by-append, sum_by-con
 use Rattle.std.proofs.lemmas.Bool.{eqb-true, eq-eqb, lt-ltb, le-ltb, cases_lt, cases_eq}
 use Rattle.triangulation_definitions.specs.Lists.{below, has}
 use Rattle.triangulation_definitions.specs.Moves.{closed_up}
+use Rattle.gluing_table.specs.Replaceable.{gone_before}
 use Rattle.gluing_table.proofs.Bijections.{below-push}
 
 -- the numbers below n that pass, and how many
@@ -20,7 +21,7 @@ picked p n = filter p (below n)
 abbrev pub rank : (ℕ → Bool) → ℕ → ℕ
 rank p n = count_by p (below n)
 
-abbrev one_if : Bool → ℕ
+abbrev pub one_if : Bool → ℕ
 one_if b = cond b 1 0
 
 abbrev only_if : Bool → ℕ → List ℕ
@@ -117,10 +118,6 @@ position_is_rank p n u l h =
 
 -- numbers that are taken out
 
--- how many of them come before t
-abbrev pub gone_before : List ℕ → ℕ → ℕ
-gone_before gone t = count_by (λ u. nat_lt u t) gone
-
 abbrev pub stays : List ℕ → ℕ → Bool
 stays gone t = not (has gone t)
 
@@ -144,7 +141,7 @@ count_none p (x ∷ xs) none =
     let b : one_if (p x) ≡ 0 = ap one_if (none 0 (omega arith)) in
     omega (arith, count_none p xs (λ k l. none (suc k) (omega arith)))
 
-count_whole : (p : ℕ → Bool) (xs : List ℕ) → ((k : ℕ) → k < length xs → p (get_or xs k 0) ≡ true) → count_by p xs ≡ length xs
+pub count_whole : (p : ℕ → Bool) (xs : List ℕ) → ((k : ℕ) → k < length xs → p (get_or xs k 0) ≡ true) → count_by p xs ≡ length xs
 count_whole p [] all = refl
 count_whole p (x ∷ xs) all =
     let a : count_by p (x ∷ xs) ≡ one_if (p x) + count_by p xs = sum_by-cons (λ u. one_if (p u)) x xs in

@@ -115,9 +115,9 @@ good_kept rows r table can t u f g k lf e h = record {
   in_range = to.in_range;
   apart = not_from _ apart;
   leads_back = glue-kept rows r g.tet to_number (image g.perm f) to (image_below g.perm hp f lf)
-    ∙ ap (kept_gluing rows r (mk to_number (image g.perm f))) (table.leads_back x g e)
-    ∙ kept_stays rows r (mk to_number (image g.perm f)) (way_back x g) k.stays
-    ∙ ap (λ n. Some (record { tet = n; perm = inverse g.perm })) k.number;
+      ∙ ap (kept_gluing rows r (mk to_number (image g.perm f))) (table.leads_back x g e)
+      ∙ kept_stays rows r (mk to_number (image g.perm f)) (way_back x g) k.stays
+      ∙ ap (λ n. Some (record { tet = n; perm = inverse g.perm })) k.number;
 }
   where
     x : Face

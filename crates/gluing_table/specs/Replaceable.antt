@@ -1,11 +1,23 @@
 -- When rows of a table can be taken out and fresh rows put in.
-use Rattle.std.specs.Prelude.{◌≡◌, ℕ, ◌<◌, ◌≤◌, Bool, true, false, not, List, length, map, Option, Some, None, All, IsTrue}
+use Rattle.std.specs.Prelude.{count_by, nat_lt, option_and_then, ◌≡◌, ℕ, ◌<◌, ◌≤◌, Bool, true, false, not, List, length, map, Option, Some, None, All, IsTrue}
 use Rattle.std.specs.List.{slice_index_or}
 use Rattle.std.specs.List.Sorted.{IsStrictlyIncreasing}
-use Rattle.triangulation_definitions.specs.Lists.{has}
-use Rattle.triangulation_definitions.specs.Permutation.{IsPermutationOfFour}
+use Rattle.triangulation_definitions.specs.Lists.{has, first_some}
+use Rattle.triangulation_definitions.specs.Permutation.{four, IsPermutationOfFour}
 use Rattle.triangulation_definitions.specs.Table.{max_tets, Gluing, Row, Face, glue, other_side, way_back, same_face}
-use Rattle.triangulation_definitions.specs.Replacing.{Replacement, replaced_length, number_of_kept, fresh_row}
+use Rattle.triangulation_definitions.specs.Replacing.{Replacement, replaced_length, number_of_kept, fresh_row, leads_to}
+
+-- the numbers of rows that have numbers
+abbrev pub numbers_of : List (ℕ × Row) → List ℕ
+numbers_of rows = map (λ (x : ℕ × Row). x.0) rows
+
+-- how many numbers of the list come before t
+abbrev pub gone_before : List ℕ → ℕ → ℕ
+gone_before gone t = count_by (λ u. nat_lt u t) gone
+
+-- the gluing back from face y that the first gluing of a numbered row gives that leads to y
+abbrev pub row_back : Face → ℕ × Row → Option Gluing
+row_back y x = first_some (λ f. option_and_then (leads_to y (record { tet = x.0; face = f })) (slice_index_or x.1 f None)) four
 
 -- the numbers of the fresh rows
 abbrev pub fresh_numbers : Replacement → List ℕ
