@@ -7,10 +7,10 @@ use Rattle.std.proofs.lemmas.List.{get_or-map}
 use Rattle.std.proofs.lemmas.List.Folds.{list_any_at}
 use Rattle.std.proofs.lemmas.List.Sums.{position_or_len_is}
 use Rattle.std.proofs.lemmas.Bool.{eq-eqb}
-use Rattle.triangulation_definitions.specs.Lists.{has, first_some, below}
-use Rattle.triangulation_definitions.specs.Permutation.{four}
-use Rattle.triangulation_definitions.specs.Table.{Gluing, Row, Face}
-use Rattle.triangulation_definitions.specs.Replacing.{Replacement, leads_to, fresh_faces, fresh_row, back_to_fresh}
+use Rattle.table_definitions.specs.Lists.{has, first_some, below}
+use Rattle.table_definitions.specs.Permutation.{four}
+use Rattle.table_definitions.specs.Table.{Gluing, Row, Face}
+use Rattle.table_definitions.specs.Replacing.{Replacement, leads_to, fresh_faces, fresh_row, back_to_fresh}
 use Rattle.perm_four.proofs.ListFacts.{first_some-append, first_some-map, first_some-below, first_some-none_below}
 use Rattle.gluing_table.specs.Replaceable.{numbers_of, fresh_numbers, row_back}
 use Rattle.gluing_table.proofs.FreshRows.{gives_back}

@@ -6,11 +6,11 @@ use Rattle.std.specs.Option.{option_or}
 use Rattle.std.proofs.lemmas.List.{get_or-map, get_or_past}
 use Rattle.std.proofs.lemmas.List.Elements.{All-get_or}
 use Rattle.std.proofs.lemmas.Bool.{eqb-true, eq-eqb, cases_lt}
-use Rattle.triangulation_definitions.specs.Lists.{has, first_some}
-use Rattle.triangulation_definitions.specs.Permutation.{four}
-use Rattle.triangulation_definitions.specs.Table.{Gluing, Row, Face, glue, other_side, way_back, same_face}
-use Rattle.triangulation_definitions.specs.Replacing.{Replacement, leads_to, fresh_faces, fresh_row, back_to_fresh}
-use Rattle.triangulation_definitions.proofs.TableLaws.{Among, Among-left, Among-right, Among-map, Among-four}
+use Rattle.table_definitions.specs.Lists.{has, first_some}
+use Rattle.table_definitions.specs.Permutation.{four}
+use Rattle.table_definitions.specs.Table.{Gluing, Row, Face, glue, other_side, way_back, same_face}
+use Rattle.table_definitions.specs.Replacing.{Replacement, leads_to, fresh_faces, fresh_row, back_to_fresh}
+use Rattle.table_definitions.proofs.TableLaws.{Among, Among-left, Among-right, Among-map, Among-four}
 use Rattle.gluing_table.specs.Replaceable.{fresh_numbers, fresh_glue, CanReplace}
 use Rattle.gluing_table.proofs.Carried.{same_from, same_to}
 

@@ -6,11 +6,10 @@ use Rattle.std.proofs.lemmas.List.{get_or-map, length-map, get_or_past}
 use Rattle.std.proofs.lemmas.List.FromFn.{get_or-map-range_with_len, length-map-range_with_len}
 use Rattle.std.proofs.lemmas.List.Elements.{All-get_or, All-from_get_or}
 use Rattle.std.proofs.lemmas.List.Kept.{AllPairs-from_increasing}
-use Rattle.triangulation_definitions.specs.Lists.{below, has}
-use Rattle.triangulation_definitions.specs.Permutation.{four}
-use Rattle.triangulation_definitions.specs.Table.{Gluing, Row, Face, glue, IsTable}
-use Rattle.triangulation_definitions.specs.Moves.{closed_up}
-use Rattle.triangulation_definitions.specs.Replacing.{Replacement, replaced_length, kept_numbers, free_numbers, number_of_kept, fresh_row, kept_gluing, kept_row, replaced_row, replaced}
+use Rattle.table_definitions.specs.Lists.{below, has, closed_up}
+use Rattle.table_definitions.specs.Permutation.{four}
+use Rattle.table_definitions.specs.Table.{Gluing, Row, Face, glue, IsTable}
+use Rattle.table_definitions.specs.Replacing.{Replacement, replaced_length, kept_numbers, free_numbers, number_of_kept, fresh_row, kept_gluing, kept_row, replaced_row, replaced}
 use Rattle.gluing_table.specs.Replaceable.{fresh_numbers, fresh_glue, CanReplace}
 use Rattle.gluing_table.proofs.Ranks.{picked, rank, length-picked, at_rank, of_rank, ranks_apart, position_is_rank, Ascends, stays, closed_up-rank, stays-count}
 

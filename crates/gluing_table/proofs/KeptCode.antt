@@ -2,10 +2,9 @@
 use Rattle.std.proofs.Common.{◌≡◌, ℕ, zero, suc, ◌+◌, ◌^◌, ◌<◌, ◌≤◌, Bool, true, false, cond, List, [], ◌∷◌, ◌++◌, map, length, get_or, Option, Some, None, refl, sym, ap, ◌∙◌, subst, arith, inl, inr}
 use Rattle.std.specs.Prelude.{◌⊎◌, not, if◌then◌else◌}
 use Rattle.std.proofs.lemmas.Bool.{cases_lt}
-use Rattle.triangulation_definitions.specs.Lists.{has, first_some, below}
-use Rattle.triangulation_definitions.specs.Table.{Gluing, Row, Face, glue, IsTable}
-use Rattle.triangulation_definitions.specs.Moves.{closed_up}
-use Rattle.triangulation_definitions.specs.Replacing.{Replacement, replaced_length, number_of_kept, kept_gluing, kept_row, replaced_row, fresh_row, back_to_fresh, replaced}
+use Rattle.table_definitions.specs.Lists.{has, first_some, below, closed_up}
+use Rattle.table_definitions.specs.Table.{Gluing, Row, Face, glue, IsTable}
+use Rattle.table_definitions.specs.Replacing.{Replacement, replaced_length, number_of_kept, kept_gluing, kept_row, replaced_row, fresh_row, back_to_fresh, replaced}
 use Rattle.gluing_table.specs.Replaceable.{numbers_of, fresh_numbers, gone_before, row_back, CanReplace}
 use Rattle.std.proofs.lemmas.List.{map-append}
 use Rattle.std.proofs.lemmas.List.FromFn.{length-map-range_with_len}

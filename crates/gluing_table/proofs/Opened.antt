@@ -2,13 +2,13 @@
 use Rattle.std.proofs.Common.{◌≡◌, ℕ, zero, suc, ◌+◌, ◌-◌, ◌<◌, ◌≤◌, Bool, true, false, cond, List, [], ◌∷◌, ◌++◌, length, get_or, take, map, refl, sym, ap, ◌∙◌, subst, arith, inl, inr, length-take-le, get_or-take}
 use Rattle.std.specs.Prelude.{◌⊎◌, ◌==◌, ◌||◌, nat_lt, not, count_by, ◌≢◌}
 use Rattle.std.proofs.lemmas.List.{take_more, take_all, get_or-map, length-map}
-use Rattle.std.proofs.lemmas.List.Folds.{list_any-append}
 use Rattle.std.proofs.lemmas.List.Sums.{sum_by-append, count_by-le-length}
 use Rattle.std.proofs.lemmas.Bool.{lt-ltb, le-ltb, cases_lt}
-use Rattle.triangulation_definitions.specs.Lists.{has}
-use Rattle.triangulation_definitions.specs.Table.{Row}
+use Rattle.table_definitions.specs.Lists.{has}
+use Rattle.table_definitions.specs.Table.{Row}
 use Rattle.gluing_table.specs.Replaceable.{numbers_of, gone_before}
 use Rattle.gluing_table.proofs.Bijections.{there}
+use Rattle.gluing_table.proofs.Marked.{has_push}
 use Rattle.gluing_table.proofs.Ranks.{Ascends, count_whole, unequal, one_if}
 
 -- the number is opened up over the first i that are gone
@@ -33,13 +33,6 @@ gone_before-push xs x t =
     let e : gone_before (xs ++ x ∷ []) t ≡ gone_before xs t + gone_before (x ∷ []) t = sum_by-append (λ u. cond (nat_lt u t) 1 0) xs (x ∷ []) in
     let f : gone_before (x ∷ []) t ≡ 0 + cond (nat_lt x t) 1 0 = refl in
     omega arith
-
-has-push : (xs : List ℕ) (x v : ℕ) → has (xs ++ x ∷ []) v ≡ (has xs v || (x == v))
-has-push xs x v = list_any-append (λ m. m == v) xs (x ∷ []) ∙ ap (λ b. has xs v || b) (or_false (x == v))
-  where
-    or_false : (b : Bool) → (b || false) ≡ b
-    or_false true = refl
-    or_false false = refl
 
 pub opened_none : (gone : List ℕ) (place : ℕ) → IsOpened gone 0 place place
 opened_none gone place = record { value = (let z : gone_before (take 0 gone) place ≡ 0 = refl in omega arith); free = refl }
@@ -83,7 +76,7 @@ opened_more gone i place number taken up l is h le = record {
 pub opened_same : (gone : List ℕ) (i place number taken : ℕ) → i < length gone → taken ≡ get_or gone i 0 → IsOpened gone i place number → number < taken → IsOpened gone (i + 1) place number
 opened_same gone i place number taken l is h lt = record {
   value = omega (arith, h.value, ap (λ (xs : List ℕ). gone_before xs number) pushed, gone_before-push (take i gone) (get_or gone i 0) number, none);
-  free = ap (λ (xs : List ℕ). has xs number) pushed ∙ has-push (take i gone) (get_or gone i 0) number ∙ ap (λ b. b || (get_or gone i 0 == number)) h.free ∙ unequal (get_or gone i 0) number (λ e. absurd (omega arith));
+  free = ap (λ (xs : List ℕ). has xs number) pushed ∙ has_push (take i gone) (get_or gone i 0) number ∙ ap (λ b. b || (get_or gone i 0 == number)) h.free ∙ unequal (get_or gone i 0) number (λ e. absurd (omega arith));
 }
   where
     pushed : take (i + 1) gone ≡ take i gone ++ get_or gone i 0 ∷ []

@@ -9,8 +9,7 @@ use Rattle.std.proofs.lemmas.List.Elements.{filter-append, All-get_or}
 use Rattle.std.proofs.lemmas.List.Kept.{AllPairs-from_increasing}
 use Rattle.std.proofs.lemmas.List.Sums.{length-filter, sum_by-append, sum_by-cons, position_or_len_is}
 use Rattle.std.proofs.lemmas.Bool.{eqb-true, eq-eqb, lt-ltb, le-ltb, cases_lt, cases_eq}
-use Rattle.triangulation_definitions.specs.Lists.{below, has}
-use Rattle.triangulation_definitions.specs.Moves.{closed_up}
+use Rattle.table_definitions.specs.Lists.{below, has, closed_up}
 use Rattle.gluing_table.specs.Replaceable.{gone_before}
 use Rattle.gluing_table.proofs.Bijections.{below-push}
 

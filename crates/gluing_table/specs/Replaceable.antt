@@ -2,10 +2,10 @@
 use Rattle.std.specs.Prelude.{count_by, nat_lt, option_and_then, ◌≡◌, ℕ, ◌<◌, ◌≤◌, Bool, true, false, not, List, length, map, Option, Some, None, All, IsTrue}
 use Rattle.std.specs.List.{slice_index_or}
 use Rattle.std.specs.List.Sorted.{IsStrictlyIncreasing}
-use Rattle.triangulation_definitions.specs.Lists.{has, first_some}
-use Rattle.triangulation_definitions.specs.Permutation.{four, IsPermutationOfFour}
-use Rattle.triangulation_definitions.specs.Table.{max_tets, Gluing, Row, Face, glue, other_side, way_back, same_face}
-use Rattle.triangulation_definitions.specs.Replacing.{Replacement, replaced_length, number_of_kept, fresh_row, leads_to}
+use Rattle.table_definitions.specs.Lists.{has, first_some}
+use Rattle.table_definitions.specs.Permutation.{four, IsPermutationOfFour}
+use Rattle.table_definitions.specs.Table.{max_tets, Gluing, Row, Face, glue, other_side, way_back, same_face}
+use Rattle.table_definitions.specs.Replacing.{Replacement, replaced_length, number_of_kept, fresh_row, leads_to}
 
 -- the numbers of rows that have numbers
 abbrev pub numbers_of : List (ℕ × Row) → List ℕ

@@ -2,12 +2,11 @@
 
 ghost use Rattle.std.specs.Prelude.{◌≡◌, false, ◌==◌, ◌+◌, ◌<◌, ◌≤◌, ◌^◌, [], length, vec_capacity, slice_index_or, if◌then◌else◌, Some, None, option_and_then};
 ghost use Rattle.std.specs.List.Sorted.{IsStrictlyIncreasing};
-ghost use Rattle.triangulation_definitions.specs.Lists.{has, first_some};
-ghost use Rattle.triangulation_definitions.specs.Table as gluings;
-ghost use Rattle.triangulation_definitions.specs.Table.{IsTable};
-ghost use Rattle.triangulation_definitions.specs.Moves.{closed_up};
-ghost use Rattle.triangulation_definitions.specs.Replacing as exchange;
-ghost use Rattle.triangulation_definitions.specs.Replacing.{replaced, replaced_length};
+ghost use Rattle.table_definitions.specs.Lists.{has, first_some, closed_up};
+ghost use Rattle.table_definitions.specs.Table as gluings;
+ghost use Rattle.table_definitions.specs.Table.{IsTable};
+ghost use Rattle.table_definitions.specs.Replacing as exchange;
+ghost use Rattle.table_definitions.specs.Replacing.{replaced, replaced_length};
 ghost use Rattle.gluing_table.specs.Replaceable.{CanReplace, numbers_of, gone_before, row_back};
 
 use crate::table::{copy_row, glue_at};

@@ -1,7 +1,7 @@
 use Rattle.std.proofs.Common.{◌≡◌, Option, None, arith, below_more, ap, ◌∙◌}
 use Rattle.std.specs.Prelude.{option_and_then}
-use Rattle.triangulation_definitions.specs.Table.{Gluing}
-use Rattle.triangulation_definitions.specs.Replacing.{leads_to}
+use Rattle.table_definitions.specs.Table.{Gluing}
+use Rattle.table_definitions.specs.Replacing.{leads_to}
 use Rattle.gluing_table.proofs.FirstBack.{face_back, row_entry, still_nothing, first_at, first_nowhere}
 use Rattle.gluing_table.proofs.replacing.back_to_row.Goals as goal
 

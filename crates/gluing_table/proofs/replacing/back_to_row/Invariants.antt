@@ -2,7 +2,7 @@
 use Rattle.std.proofs.Common.{◌≡◌, ℕ, ◌<◌, None}
 use Rattle.std.specs.Prelude.{option_and_then}
 use Rattle.std.specs.List.{slice_index_or}
-use Rattle.triangulation_definitions.specs.Replacing.{leads_to}
+use Rattle.table_definitions.specs.Replacing.{leads_to}
 use Rattle.gluing_table.proofs.replacing.back_to_row.Given as goal
 
 abbrev pub invariant-loop-face : goal.invariant-loop-face

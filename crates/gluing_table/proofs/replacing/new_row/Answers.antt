@@ -1,6 +1,6 @@
 use Rattle.std.proofs.Common.{◌≡◌, false}
-use Rattle.triangulation_definitions.specs.Lists.{has}
-use Rattle.triangulation_definitions.specs.Replacing.{Replacement}
+use Rattle.table_definitions.specs.Lists.{has}
+use Rattle.table_definitions.specs.Replacing.{Replacement}
 use Rattle.gluing_table.specs.Replaceable.{fresh_numbers}
 use Rattle.gluing_table.proofs.Kept.{IsKeptAs}
 use Rattle.gluing_table.proofs.KeptCode.{place_opened, place_fits, new_fresh, new_kept, none_fresh}

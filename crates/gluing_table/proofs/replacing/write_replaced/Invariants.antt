@@ -1,7 +1,7 @@
 -- The rows of the new table so far.
 use Rattle.std.proofs.Common.{◌≡◌, ◌≤◌, map, vec_capacity, length}
-use Rattle.triangulation_definitions.specs.Lists.{below}
-use Rattle.triangulation_definitions.specs.Replacing.{replaced_row}
+use Rattle.table_definitions.specs.Lists.{below}
+use Rattle.table_definitions.specs.Replacing.{replaced_row}
 use Rattle.gluing_table.proofs.replacing.write_replaced.Given as goal
 
 abbrev pub invariant-loop-number : goal.invariant-loop-number
