@@ -1,0 +1,41 @@
+-- Rows that are only taken out.
+use Rattle.std.proofs.Common.{◌≡◌, ℕ, zero, suc, ◌+◌, ◌-◌, ◌<◌, ◌≤◌, List, [], ◌∷◌, length, Option, Some, None, refl, arith}
+use Rattle.std.specs.Prelude.{All}
+use Rattle.std.specs.List.{slice_index_or}
+use Rattle.std.specs.List.Sorted.{IsStrictlyIncreasing}
+use Rattle.table_definitions.specs.Table.{Gluing, Row, Face, IsTable}
+use Rattle.table_definitions.specs.Replacing.{Replacement}
+use Rattle.gluing_table.specs.Replaceable.{fresh_glue, CanReplace}
+
+nothing : (k : ℕ) → (let none : Row = [] in slice_index_or none k None) ≡ None
+nothing zero = refl
+nothing (suc k) = refl
+
+abbrev taking : List ℕ → Replacement
+taking removed = record { removed = removed; fresh = [] }
+
+never : (removed : List ℕ) (x : Face) (g : Gluing) → fresh_glue (taking removed) x ≡ Some g → ⊥
+never removed x g e = let n : fresh_glue (taking removed) x ≡ None = nothing x.face in cc
+
+pub can_remove : (rows : List Row) (removed : List ℕ) → length rows ≤ 1000 → IsStrictlyIncreasing removed → All (λ t. t < length rows) removed → CanReplace rows (record { removed = removed; fresh = [] })
+can_remove rows removed few up within = record {
+  removed_ascend = up;
+  removed_in_range = within;
+  fresh_ascend = λ k l. absurd (omega arith);
+  fresh_in_range = λ k d l. absurd (omega arith);
+  few = omega arith;
+  four_faces = λ k d l. absurd (omega arith);
+  permutes = λ x g e. absurd (never removed x g e);
+  in_range = λ x g e. absurd (never removed x g e);
+  apart = λ x g e. absurd (never removed x g e);
+  leads_back = λ x g e h. absurd (never removed x g e);
+  freed = λ x g e h. absurd (never removed x g e);
+  one_each = λ x z g h e f k s. absurd (never removed x g e);
+}
+
+pub can_remove_second : (rows : List Row) → length rows ≡ 3 → CanReplace rows (record { removed = 1 ∷ []; fresh = [] })
+can_remove_second rows three = can_remove rows (1 ∷ []) (omega arith) (λ k l. absurd (omega arith)) within
+  where
+    within : All (λ t. t < length rows) (1 ∷ [])
+    within zero d l = omega arith
+    within (suc k) d l = absurd (omega arith)

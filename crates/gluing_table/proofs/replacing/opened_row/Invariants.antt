@@ -1,0 +1,7 @@
+-- The number is opened up over those that were looked at.
+use Rattle.gluing_table.specs.Replaceable.{numbers_of}
+use Rattle.gluing_table.proofs.Opened.{IsOpened}
+use Rattle.gluing_table.proofs.replacing.opened_row.Given as goal
+
+abbrev pub invariant-loop-taken : goal.invariant-loop-taken
+invariant-loop-taken l = IsOpened (numbers_of l.gone) l.taken-index l.place l.number
