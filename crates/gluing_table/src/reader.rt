@@ -7,9 +7,9 @@ ghost use Rattle.table_definitions.specs.TableText.{gluing_of, gluing_entry, ent
 ghost use Rattle.gluing_table.specs.declared.reader.TextFault.TheVariants as TheVariants;
 ghost use Rattle.gluing_table.specs.TextFaults.{as_text_fault, GivesRows, GivesTable};
 
-use crate::digits::{is_decimal_word, number_of_digits};
+use crate::digits::number_of_digits;
 use crate::{Glue, MAX_TETS, Row, Table, TableFault};
-use bench_io::{LexFault, LexKind, Lexer};
+use bench_io::{LexFault, LexKind, Lexer, is_decimal_word};
 use perm_four::Perm4;
 use std::alloc::{AllocError, AllocFailed, Global};
 
