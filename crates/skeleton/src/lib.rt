@@ -1,0 +1,8 @@
+//! The skeleton of a gluing table: its vertex, edge and face classes, and its orientation.
+#![tactic(auto)]
+
+mod kinds;
+mod neighbours;
+mod numbering;
+
+pub use numbering::classes_of;
