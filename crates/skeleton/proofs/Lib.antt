@@ -1,3 +1,4 @@
+pub mod Cases
 pub mod ClassTies
 pub mod CrossingLemmas
 pub mod NeighbourLemmas
@@ -6,3 +7,5 @@ pub mod PlaceLemmas
 pub mod StepsBack
 pub mod VertexTies
 pub mod FaceTies
+pub mod DirectionTies
+pub mod EdgeTies

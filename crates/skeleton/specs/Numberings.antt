@@ -2,23 +2,30 @@
 use Rattle.std.specs.Prelude.{◌≡◌, ℕ, ◌*◌, ◌<◌, List, length, Option, slice_index}
 use Rattle.triangulation_definitions.specs.Table.{Row}
 use Rattle.triangulation_definitions.specs.Classes.{IsNumbering, least}
-use Rattle.triangulation_definitions.specs.Places.{SameVertex, SameFace}
-use Rattle.skeleton.specs.Crossings.{crossed_vertex, crossed_face}
+use Rattle.triangulation_definitions.specs.Places.{SameVertex, SameEdge, SameFace}
+use Rattle.triangulation_definitions.specs.Links.{SameDirected}
+use Rattle.skeleton.specs.Crossings.{crossed_vertex, crossed_face, crossed_edge, crossed_direction}
 use Rattle.skeleton.specs.declared.kinds.Kind.{Kind}
-use Rattle.skeleton.specs.declared.kinds.Kind.TheVariants.{Vertices, Faces}
+use Rattle.skeleton.specs.declared.kinds.Kind.TheVariants.{Vertices, Edges, Directions, Faces}
 
 -- how many of them a tetrahedron has
 abbrev pub per_tet : Kind → ℕ
 per_tet Vertices = 4
+per_tet Edges = 6
+per_tet Directions = 12
 per_tet Faces = 4
 
 abbrev pub crossing : Kind → List Row → ℕ → ℕ → Option ℕ
 crossing Vertices rows = crossed_vertex rows
+crossing Edges rows = crossed_edge rows
+crossing Directions rows = crossed_direction rows
 crossing Faces rows = crossed_face rows
 
 -- which of them are the same
 abbrev pub same : Kind → List Row → ℕ → ℕ → Type 0
 same Vertices rows = SameVertex rows
+same Edges rows = SameEdge rows
+same Directions rows = SameDirected rows
 same Faces rows = SameFace rows
 
 -- each lesser class than that of x is the class of something before

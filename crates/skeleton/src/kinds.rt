@@ -11,6 +11,9 @@ use gluing_table::{Face, Glue, Table};
 #[derive(Clone, Copy)]
 pub enum Kind {
     Vertices,
+    Edges,
+    /// Edges with a direction.
+    Directions,
     Faces,
 }
 

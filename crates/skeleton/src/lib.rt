@@ -1,6 +1,7 @@
 //! The skeleton of a gluing table: its vertex, edge and face classes, and its orientation.
 #![tactic(auto)]
 
+mod edges;
 mod kinds;
 mod neighbours;
 mod numbering;

@@ -5,6 +5,7 @@ ghost use Rattle.triangulation_definitions.specs.Table.{IsTable};
 ghost use Rattle.skeleton.specs.Neighbours.{AreNeighbours, row_at};
 ghost use Rattle.skeleton.specs.Numberings.{per_tet, crossing};
 
+use crate::edges::{direction_across, edge_across};
 use crate::kinds::{Kind, face_across, vertex_across};
 use gluing_table::Table;
 use no_memory::NoMemory;
@@ -15,6 +16,8 @@ fn per_tet(kind: Kind) -> u32
 {
     match kind {
         Kind::Vertices => 4,
+        Kind::Edges => 6,
+        Kind::Directions => 12,
         Kind::Faces => 4,
     }
 }
@@ -28,6 +31,8 @@ fn across(table: &Table, kind: Kind, place: u32, face: u8) -> Option<u32>
 {
     match kind {
         Kind::Vertices => vertex_across(table, place, face),
+        Kind::Edges => edge_across(table, place, face),
+        Kind::Directions => direction_across(table, place, face),
         Kind::Faces => face_across(table, place, face),
     }
 }
