@@ -3,7 +3,7 @@ use Rattle.std.proofs.Common.{◌≡◌, ◌↔◌, ℕ, ◌*◌, ◌<◌, List,
 use Rattle.finite_walks.specs.Joined.{IsJoined, neighbours_of}
 use Rattle.triangulation_definitions.specs.Table.{Row, IsTable}
 use Rattle.skeleton.specs.declared.kinds.Kind.{Kind}
-use Rattle.skeleton.specs.declared.kinds.Kind.TheVariants.{Vertices, Edges, Directions, Faces}
+use Rattle.skeleton.specs.declared.kinds.Kind.TheVariants.{Vertices, Edges, Directions, Faces, Signs}
 use Rattle.triangulation_definitions.specs.Places.{vertex}
 use Rattle.triangulation_definitions.specs.Links.{directed}
 use Rattle.skeleton.specs.Crossings.{vertex_at, crossed_vertex, direction_at, crossed_direction}
@@ -14,6 +14,7 @@ use Rattle.skeleton.proofs.PlaceLemmas.{led_is_joined, reversible, few_faces}
 use Rattle.skeleton.proofs.VertexTies.{vertices_counted}
 use Rattle.skeleton.proofs.DirectionTies.{directions_counted}
 use Rattle.skeleton.proofs.EdgeTies.{edges_reversible, few_edge_faces, led_is_same_edge}
+use Rattle.skeleton.proofs.SignTies.{signs_reversible, few_sign_faces}
 use Rattle.skeleton.proofs.FaceTies.{faces_reversible, few_choices, led_is_same_face}
 
 pub each_reversible : (kind : Kind) (rows : List Row) → IsTable rows → IsReversible (per_tet kind * length rows) (crossing kind rows)
@@ -21,18 +22,21 @@ each_reversible Vertices rows table = reversible rows _ vertex vertex_at (crosse
 each_reversible Edges rows table = edges_reversible rows table
 each_reversible Directions rows table = reversible rows _ directed direction_at (crossed_direction rows) (directions_counted rows table) table
 each_reversible Faces rows table = faces_reversible rows table
+each_reversible Signs rows table = signs_reversible rows table
 
 each_few : (kind : Kind) (rows : List Row) → IsTable rows → (i f j : ℕ) → i < per_tet kind * length rows → crossing kind rows i f ≡ Some j → f < 4
 each_few Vertices rows table = few_faces rows _ vertex vertex_at (crossed_vertex rows) (vertices_counted rows table) table
 each_few Edges rows table = few_edge_faces rows table
 each_few Directions rows table = few_faces rows _ directed direction_at (crossed_direction rows) (directions_counted rows table) table
 each_few Faces rows table = few_choices rows table
+each_few Signs rows table = few_sign_faces rows table
 
 led_is_same : (kind : Kind) (rows : List Row) → IsTable rows → (i j : ℕ) → i < per_tet kind * length rows → j < per_tet kind * length rows → IsLed (crossing kind rows) i j ↔ same kind rows i j
 led_is_same Vertices rows table i j l m = led_is_joined rows _ vertex vertex_at (crossed_vertex rows) (vertices_counted rows table) i j l m
 led_is_same Edges rows table i j l m = led_is_same_edge rows table i j
 led_is_same Directions rows table i j l m = led_is_joined rows _ directed direction_at (crossed_direction rows) (directions_counted rows table) i j l m
 led_is_same Faces rows table i j l m = led_is_same_face rows table i j
+led_is_same Signs rows table i j l m = (λ h. h, λ h. h)
 
 pub joined_is_same : (kind : Kind) (rows : List Row) (table : List (List (Option ℕ))) → IsTable rows → AreNeighbours (per_tet kind * length rows) (crossing kind rows) table
     → (i j : ℕ) → i < per_tet kind * length rows → j < per_tet kind * length rows → IsJoined (neighbours_of table) i j ↔ same kind rows i j

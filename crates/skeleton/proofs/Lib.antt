@@ -1,9 +1,12 @@
 pub mod Cases
 pub mod ClassTies
 pub mod CrossingLemmas
+pub mod MarkLemmas
 pub mod NeighbourLemmas
 pub mod NumberingLemmas
 pub mod PlaceLemmas
+pub mod SignTies
+pub mod SignLemmas
 pub mod StepsBack
 pub mod VertexTies
 pub mod FaceTies

@@ -68,8 +68,9 @@ first_grows i classes firsts a l e = record {
         (λ k m. let n : slice_index classes k < length firsts = a.below k m in ne_eqb (slice_index classes k) (length firsts) (λ f. omega arith))
         (λ m. eq-eqb (slice_index classes i) (length firsts) e)
 
-pub firsts_end : (classes firsts : List ℕ) (i : ℕ) → length classes ≤ i → i ≤ length classes → AreFirstsUpTo i classes firsts → AreFirsts classes firsts
-firsts_end classes firsts i l m a = record {
+pub firsts_end : (classes firsts : List ℕ) (i : ℕ) → length classes ≤ i → i ≤ length classes → AreFirstsUpTo i classes firsts → length firsts ≤ i → AreFirsts classes firsts
+firsts_end classes firsts i l m a f = record {
+  few = omega arith;
   below = λ j n. a.below j (omega arith);
   least_member = a.least_member;
   in_range = λ c n. let o : slice_index firsts c < i = a.in_range c n in omega arith;

@@ -5,6 +5,7 @@ ghost use Rattle.triangulation_definitions.specs.Table.{IsTable};
 ghost use Rattle.triangulation_definitions.specs.Places as places;
 ghost use Rattle.triangulation_definitions.specs.Coordinates.{others};
 ghost use Rattle.skeleton.specs.Crossings.{crossed_edge, crossed_direction, pair_number};
+ghost use Rattle.skeleton.specs.Directions.{forward, backward, runs_against};
 
 use crate::kinds::behind;
 use gluing_table::{Face, Table};
@@ -107,4 +108,33 @@ pub fn direction_across(table: &Table, place: u32, face: u8) -> Option<u32>
     };
     let number = direction_number(glue.perm.image(from), glue.perm.image(to));
     Some(12 * glue.tet + number as u32)
+}
+
+/// The edge as a directed edge, from its lesser end.
+fn forward(edge: u32) -> u32
+    requires { edge < 6000 }
+    ensures { result ≡ forward edge }
+{
+    let (lower, higher) = edge_ends((edge % 6) as u8);
+    12 * (edge / 6) + direction_number(lower, higher) as u32
+}
+
+/// The edge as a directed edge, from its greater end.
+fn backward(edge: u32) -> u32
+    requires { edge < 6000 }
+    ensures { result ≡ backward edge }
+{
+    let (lower, higher) = edge_ends((edge % 6) as u8);
+    12 * (edge / 6) + direction_number(higher, lower) as u32
+}
+
+/// Whether one edge is joined to another with its direction turned round.
+pub fn runs_against(directions: &[u32], one: u32, other: u32) -> bool
+    requires one_each { 2 * one < length directions.now }
+    requires other_each { 2 * other < length directions.now }
+    requires few { length directions.now ≤ 12000 }
+    requires whole { length directions.now % 12 ≡ 0 }
+    ensures { result ≡ runs_against directions.now one other }
+{
+    directions[forward(one) as usize] == directions[backward(other) as usize]
 }

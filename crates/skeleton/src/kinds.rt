@@ -15,6 +15,8 @@ pub enum Kind {
     /// Edges with a direction.
     Directions,
     Faces,
+    /// Tetrahedra with a sign.
+    Signs,
 }
 
 /// What a face is glued to.

@@ -28,4 +28,4 @@ loop-place-preserved c = elim c.if-classes-place.branch [
 ]
 
 pub returns : goal.returns
-returns c = firsts_end _ _ c.loop-place.place c.loop-place-test.false c.loop-place.auto.place-end c.loop-place.invariant.up_to
+returns c = firsts_end _ _ c.loop-place.place c.loop-place-test.false c.loop-place.auto.place-end c.loop-place.invariant.up_to c.loop-place.invariant.few
