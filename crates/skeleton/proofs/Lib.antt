@@ -5,10 +5,13 @@ pub mod MarkLemmas
 pub mod NeighbourLemmas
 pub mod NumberingLemmas
 pub mod PlaceLemmas
+pub mod RoundLemmas
 pub mod SignTies
 pub mod SignLemmas
 pub mod StepsBack
 pub mod VertexTies
+pub mod WalkLemmas
 pub mod FaceTies
 pub mod DirectionTies
+pub mod DirectionLemmas
 pub mod EdgeTies

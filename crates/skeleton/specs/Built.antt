@@ -1,10 +1,13 @@
 -- All that is kept of a skeleton.
-use Rattle.std.specs.Prelude.{◌≡◌, ℕ, Bool, List, length, Option}
+use Rattle.std.specs.Prelude.{◌≡◌, ℕ, Bool, List, length, Option, Vec}
+use Rattle.std.specs.declared.alloc.Global.{Global}
+use Rattle.triangulation_definitions.specs.Corners.{Corner}
 use Rattle.triangulation_definitions.specs.Table.{Row, IsTable}
 use Rattle.triangulation_definitions.specs.Places.{is_closed}
 use Rattle.triangulation_definitions.specs.Skeleton.{IsOrientation}
 use Rattle.skeleton.specs.declared.kinds.Kind.TheVariants.{Vertices, Edges, Directions, Faces}
 use Rattle.skeleton.specs.Numberings.{AreClassesOf}
+use Rattle.skeleton.specs.Rounds.{AreRounds}
 use Rattle.skeleton.specs.Parts.{AreDegrees, AreBoundaryMarks}
 
 pub record Built : Type 0 where
@@ -22,6 +25,7 @@ pub record Built : Type 0 where
   pub boundary : List Bool
   pub closed : Bool
   pub signs : Option (List Bool)
+  pub walks : List (Vec Corner Global)
 
 pub record IsBuilt (b : Built) : Type 0 where
   pub table : IsTable b.rows
@@ -34,3 +38,4 @@ pub record IsBuilt (b : Built) : Type 0 where
   pub boundary : AreBoundaryMarks b.rows b.edges (length b.edge_firsts) b.boundary
   pub closed : b.closed ≡ is_closed b.rows
   pub orientation : IsOrientation b.rows b.signs
+  pub walks : AreRounds b.rows b.edge_firsts b.boundary (length b.edge_firsts) b.walks

@@ -5,3 +5,4 @@ pub mod Parts
 pub mod Signs
 pub mod Directions
 pub mod Built
+pub mod Rounds

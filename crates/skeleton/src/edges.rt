@@ -130,10 +130,10 @@ fn backward(edge: u32) -> u32
 
 /// Whether one edge is joined to another with its direction turned round.
 pub fn runs_against(directions: &[u32], one: u32, other: u32) -> bool
-    requires one_each { 2 * one < length directions.now }
-    requires other_each { 2 * other < length directions.now }
-    requires few { length directions.now ≤ 12000 }
-    requires whole { length directions.now % 12 ≡ 0 }
+    requires one_small { one < 6000 }
+    requires other_small { other < 6000 }
+    requires one_in_range { forward one < length directions.now }
+    requires other_in_range { backward other < length directions.now }
     ensures { result ≡ runs_against directions.now one other }
 {
     directions[forward(one) as usize] == directions[backward(other) as usize]

@@ -2,14 +2,14 @@
 #![tactic(auto)]
 
 mod boundary;
+mod corners;
 mod degrees;
 mod edges;
 mod kinds;
 mod neighbours;
 mod numbering;
 mod signs;
+mod skeleton;
 
-pub use boundary::{boundary_marks, is_closed};
-pub use degrees::degrees_of;
-pub use numbering::classes_of;
-pub use signs::orientation_of;
+pub use corners::Corner;
+pub use skeleton::Skeleton;

@@ -36,5 +36,5 @@ loop-class-preserved c = record {
 pub returns : goal.returns
 returns c = record {
   one_each = c.loop-class.invariant.one_each;
-  counted = λ k l. c.loop-class.invariant.counted k l ∙ ap (λ (xs : List ℕ). times_in xs k) (take_all c.args.classes.now c.loop-class.class-index c.loop-class-test.false);
+  counted = λ k l. c.loop-class.invariant.counted k l ∙ ap (λ (xs : List ℕ). times_in xs k) (take_all c.loop-class.class-index c.args.classes.now c.loop-class-test.false);
 }
