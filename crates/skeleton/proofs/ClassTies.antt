@@ -3,7 +3,7 @@ use Rattle.std.proofs.Common.{◌≡◌, ◌↔◌, ℕ, ◌*◌, ◌<◌, List,
 use Rattle.finite_walks.specs.Joined.{IsJoined, neighbours_of}
 use Rattle.triangulation_definitions.specs.Table.{Row, IsTable}
 use Rattle.skeleton.specs.declared.kinds.Kind.{Kind}
-use Rattle.skeleton.specs.declared.kinds.Kind.TheVariants.{Vertices, Edges, Directions, Faces, Signs}
+use Rattle.skeleton.specs.declared.kinds.Kind.TheVariants.{Vertices, Edges, Directions, Faces, Signs, VertexSigns}
 use Rattle.triangulation_definitions.specs.Places.{vertex}
 use Rattle.triangulation_definitions.specs.Links.{directed}
 use Rattle.skeleton.specs.Crossings.{vertex_at, crossed_vertex, direction_at, crossed_direction}
@@ -15,6 +15,7 @@ use Rattle.skeleton.proofs.VertexTies.{vertices_counted}
 use Rattle.skeleton.proofs.DirectionTies.{directions_counted}
 use Rattle.skeleton.proofs.EdgeTies.{edges_reversible, few_edge_faces, led_is_same_edge}
 use Rattle.skeleton.proofs.SignTies.{signs_reversible, few_sign_faces}
+use Rattle.skeleton.proofs.VertexSignTies.{vertex_signs_reversible, few_vertex_sign_faces}
 use Rattle.skeleton.proofs.FaceTies.{faces_reversible, few_choices, led_is_same_face}
 
 pub each_reversible : (kind : Kind) (rows : List Row) → IsTable rows → IsReversible (per_tet kind * length rows) (crossing kind rows)
@@ -23,6 +24,7 @@ each_reversible Edges rows table = edges_reversible rows table
 each_reversible Directions rows table = reversible rows _ directed direction_at (crossed_direction rows) (directions_counted rows table) table
 each_reversible Faces rows table = faces_reversible rows table
 each_reversible Signs rows table = signs_reversible rows table
+each_reversible VertexSigns rows table = vertex_signs_reversible rows table
 
 each_few : (kind : Kind) (rows : List Row) → IsTable rows → (i f j : ℕ) → i < per_tet kind * length rows → crossing kind rows i f ≡ Some j → f < 4
 each_few Vertices rows table = few_faces rows _ vertex vertex_at (crossed_vertex rows) (vertices_counted rows table) table
@@ -30,6 +32,7 @@ each_few Edges rows table = few_edge_faces rows table
 each_few Directions rows table = few_faces rows _ directed direction_at (crossed_direction rows) (directions_counted rows table) table
 each_few Faces rows table = few_choices rows table
 each_few Signs rows table = few_sign_faces rows table
+each_few VertexSigns rows table = few_vertex_sign_faces rows table
 
 led_is_same : (kind : Kind) (rows : List Row) → IsTable rows → (i j : ℕ) → i < per_tet kind * length rows → j < per_tet kind * length rows → IsLed (crossing kind rows) i j ↔ same kind rows i j
 led_is_same Vertices rows table i j l m = led_is_joined rows _ vertex vertex_at (crossed_vertex rows) (vertices_counted rows table) i j l m
@@ -37,6 +40,7 @@ led_is_same Edges rows table i j l m = led_is_same_edge rows table i j
 led_is_same Directions rows table i j l m = led_is_joined rows _ directed direction_at (crossed_direction rows) (directions_counted rows table) i j l m
 led_is_same Faces rows table i j l m = led_is_same_face rows table i j
 led_is_same Signs rows table i j l m = (λ h. h, λ h. h)
+led_is_same VertexSigns rows table i j l m = (λ h. h, λ h. h)
 
 pub joined_is_same : (kind : Kind) (rows : List Row) (table : List (List (Option ℕ))) → IsTable rows → AreNeighbours (per_tet kind * length rows) (crossing kind rows) table
     → (i j : ℕ) → i < per_tet kind * length rows → j < per_tet kind * length rows → IsJoined (neighbours_of table) i j ↔ same kind rows i j

@@ -9,6 +9,7 @@ pub mod RoundLemmas
 pub mod SignTies
 pub mod SignLemmas
 pub mod StepsBack
+pub mod VertexSignTies
 pub mod VertexTies
 pub mod WalkLemmas
 pub mod FaceTies

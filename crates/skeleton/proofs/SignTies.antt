@@ -37,7 +37,7 @@ sign_small : (b : Bool) (s : ℕ) → s < 2 → (if b then s else 1 - s) < 2
 sign_small true s l = l
 sign_small false s l = omega arith
 
-sign_twice : (b : Bool) (s : ℕ) → s < 2 → (if b then (if b then s else 1 - s) else 1 - (if b then s else 1 - s)) ≡ s
+pub sign_twice : (b : Bool) (s : ℕ) → s < 2 → (if b then (if b then s else 1 - s) else 1 - (if b then s else 1 - s)) ≡ s
 sign_twice true s l = refl
 sign_twice false s l = omega arith
 

@@ -6,9 +6,9 @@ use Rattle.triangulation_definitions.specs.Places.{SameVertex, SameEdge, SameFac
 use Rattle.triangulation_definitions.specs.Links.{SameDirected}
 use Rattle.skeleton.specs.Crossings.{crossed_vertex, crossed_face, crossed_edge, crossed_direction}
 use Rattle.skeleton.specs.Neighbours.{IsLed}
-use Rattle.skeleton.specs.Signs.{crossed_sign}
+use Rattle.skeleton.specs.Signs.{crossed_sign, crossed_vertex_sign}
 use Rattle.skeleton.specs.declared.kinds.Kind.{Kind}
-use Rattle.skeleton.specs.declared.kinds.Kind.TheVariants.{Vertices, Edges, Directions, Faces, Signs}
+use Rattle.skeleton.specs.declared.kinds.Kind.TheVariants.{Vertices, Edges, Directions, Faces, Signs, VertexSigns}
 
 -- how many of them a tetrahedron has
 abbrev pub per_tet : Kind → ℕ
@@ -17,6 +17,7 @@ per_tet Edges = 6
 per_tet Directions = 12
 per_tet Faces = 4
 per_tet Signs = 2
+per_tet VertexSigns = 8
 
 abbrev pub crossing : Kind → List Row → ℕ → ℕ → Option ℕ
 crossing Vertices rows = crossed_vertex rows
@@ -24,6 +25,7 @@ crossing Edges rows = crossed_edge rows
 crossing Directions rows = crossed_direction rows
 crossing Faces rows = crossed_face rows
 crossing Signs rows = crossed_sign rows
+crossing VertexSigns rows = crossed_vertex_sign rows
 
 -- which of them are the same
 abbrev pub same : Kind → List Row → ℕ → ℕ → Type 0
@@ -32,6 +34,7 @@ same Edges rows = SameEdge rows
 same Directions rows = SameDirected rows
 same Faces rows = SameFace rows
 same Signs rows = IsLed (crossed_sign rows)
+same VertexSigns rows = IsLed (crossed_vertex_sign rows)
 
 -- each lesser class than that of x is the class of something before
 abbrev pub IsOrdered : List ℕ → Type 0

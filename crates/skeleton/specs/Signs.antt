@@ -1,7 +1,7 @@
 -- Signed tetrahedra: tetrahedron t with the sign true is 2 t, and with the sign false 2 t + 1.
-use Rattle.std.specs.Prelude.{ℕ, ◌+◌, ◌-◌, ◌*◌, ◌/◌, ◌%◌, List, ◌≡◌, ◌<◌, Bool, Option, option_map, nat_lt, length, slice_index, false, if◌then◌else◌}
+use Rattle.std.specs.Prelude.{ℕ, ◌+◌, ◌-◌, ◌*◌, ◌/◌, ◌%◌, List, ◌≡◌, ◌<◌, Bool, Option, None, option_map, ◌==◌, nat_lt, length, slice_index, false, if◌then◌else◌}
 use Rattle.std.specs.List.{slice_index_or}
-use Rattle.triangulation_definitions.specs.Permutation.{is_odd}
+use Rattle.triangulation_definitions.specs.Permutation.{image, is_odd}
 use Rattle.triangulation_definitions.specs.Table.{Gluing, Row, glue}
 
 -- the other of 0 and 1 behind an even gluing
@@ -16,3 +16,8 @@ crossed_sign rows i f = option_map (λ g. 2 * g.tet + sign_behind g (i % 2)) (gl
 pub record AreSignsBy (classes : List ℕ) (n : ℕ) (signs : List Bool) : Type 0 where
   pub one_each : length signs ≡ n
   pub told : (t : ℕ) → t < n → slice_index_or signs t false ≡ nat_lt (slice_index classes (2 * t)) (slice_index classes (2 * t + 1))
+
+-- vertex i with the sign true is 2 i, and with the sign false 2 i + 1; the signed vertex behind face f
+unfoldable pub crossed_vertex_sign : List Row → ℕ → ℕ → Option ℕ
+crossed_vertex_sign rows k f =
+    if (k / 2 % 4) == f then None else option_map (λ (g : Gluing). 2 * (4 * g.tet + image g.perm (k / 2 % 4)) + sign_behind g (k % 2)) (glue rows (record { tet = k / 8; face = f }))

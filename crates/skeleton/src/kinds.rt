@@ -17,6 +17,8 @@ pub enum Kind {
     Faces,
     /// Tetrahedra with a sign.
     Signs,
+    /// Vertices with a sign.
+    VertexSigns,
 }
 
 /// What a face is glued to.

@@ -12,4 +12,6 @@ mod signs;
 mod skeleton;
 
 pub use corners::Corner;
+pub use kinds::Kind;
+pub use numbering::{Numbering, classes_of};
 pub use skeleton::Skeleton;

@@ -7,7 +7,7 @@ ghost use Rattle.skeleton.specs.Numberings.{per_tet, crossing};
 
 use crate::edges::{direction_across, edge_across};
 use crate::kinds::{Kind, face_across, vertex_across};
-use crate::signs::sign_across;
+use crate::signs::{sign_across, vertex_sign_across};
 use gluing_table::Table;
 use no_memory::NoMemory;
 use std::alloc::Global;
@@ -21,6 +21,7 @@ fn per_tet(kind: Kind) -> u32
         Kind::Directions => 12,
         Kind::Faces => 4,
         Kind::Signs => 2,
+        Kind::VertexSigns => 8,
     }
 }
 
@@ -37,6 +38,7 @@ fn across(table: &Table, kind: Kind, place: u32, face: u8) -> Option<u32>
         Kind::Directions => direction_across(table, place, face),
         Kind::Faces => face_across(table, place, face),
         Kind::Signs => sign_across(table, place, face),
+        Kind::VertexSigns => vertex_sign_across(table, place, face),
     }
 }
 

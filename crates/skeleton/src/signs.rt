@@ -4,7 +4,7 @@ ghost use Rattle.std.specs.Prelude.{◌≡◌, ◌*◌, ◌+◌, ◌<◌, ◌≤
 ghost use Rattle.std.specs.Option.{option_map};
 ghost use Rattle.triangulation_definitions.specs.Table.{IsTable};
 ghost use Rattle.triangulation_definitions.specs.Skeleton.{IsOrientation};
-ghost use Rattle.skeleton.specs.Signs.{crossed_sign, AreSignsBy};
+ghost use Rattle.skeleton.specs.Signs.{crossed_sign, crossed_vertex_sign, AreSignsBy};
 ghost use Rattle.skeleton.specs.Parts.{items_of};
 
 use crate::kinds::{Kind, behind};
@@ -29,6 +29,30 @@ pub fn sign_across(table: &Table, place: u32, face: u8) -> Option<u32>
         Some(2 * glue.tet + sign)
     } else {
         Some(2 * glue.tet + (1 - sign))
+    }
+}
+
+/// The signed vertex behind a face.
+pub fn vertex_sign_across(table: &Table, place: u32, face: u8) -> Option<u32>
+    requires table { IsTable table.now }
+    requires in_range { place < 8 * length table.now }
+    requires a_face { face < 4 }
+    ensures { result ≡ crossed_vertex_sign table.now place face }
+{
+    let v = (place / 2 % 4) as u8;
+    if v == face {
+        return None;
+    }
+    let tet = place / 8;
+    let Some(glue) = behind(table, Face { tet, face }) else {
+        return None;
+    };
+    let vertex = 4 * glue.tet + glue.perm.image(v) as u32;
+    let sign = place % 2;
+    if glue.perm.is_odd() {
+        Some(2 * vertex + sign)
+    } else {
+        Some(2 * vertex + (1 - sign))
     }
 }
 
