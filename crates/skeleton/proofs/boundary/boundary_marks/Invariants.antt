@@ -1,0 +1,5 @@
+use Rattle.skeleton.specs.Parts.{AreBoundaryMarksUpTo}
+use Rattle.skeleton.proofs.boundary.boundary_marks.Given as goal
+
+abbrev pub invariant-loop-edge : goal.invariant-loop-edge
+invariant-loop-edge l = AreBoundaryMarksUpTo l.edge l.table l.classes l.count l.marks.items

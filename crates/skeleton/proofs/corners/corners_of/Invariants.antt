@@ -1,0 +1,6 @@
+use Rattle.std.proofs.Common.{◌≡◌, map, take}
+use Rattle.skeleton.specs.Rounds.{corner_at}
+use Rattle.skeleton.proofs.corners.corners_of.Given as goal
+
+abbrev pub invariant-loop-place : goal.invariant-loop-place
+invariant-loop-place l = l.corners.items ≡ map corner_at (take l.place-index l.places)

@@ -1,0 +1,9 @@
+use Rattle.std.proofs.Common.{◌≡◌, ◌<◌, ℕ, length, slice_index, take}
+use Rattle.table_definitions.specs.Lists.{times_in}
+use Rattle.skeleton.proofs.degrees.degrees_of.Given as goal
+
+abbrev pub invariant-loop-class : goal.invariant-loop-class
+invariant-loop-class l = record {
+  one_each : length l.degrees.items ≡ l.count;
+  counted : (c : ℕ) → c < l.count → slice_index l.degrees.items c ≡ times_in (take l.class-index l.classes) c;
+}

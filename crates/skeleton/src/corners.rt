@@ -1,0 +1,171 @@
+//! Corners, and walks round edges.
+
+ghost use Rattle.std.specs.Prelude.{◌≡◌, ◌*◌, ◌<◌, ◌≤◌, ℕ, length, slice_index, IfOk, map, []};
+ghost use Rattle.std.specs.List.{slice_index_or};
+ghost use Rattle.table_definitions.specs.Permutation.{IsPermutationOfFour};
+ghost use Rattle.table_definitions.specs.Table.{IsTable};
+ghost use Rattle.finite_walks.specs.Walks.{IsInjectiveBelow, step_of};
+ghost use Rattle.skeleton.specs.Rounds.{corner_at, next_corner, start_of, swap, word_at, IsRound, IsRoundUnless, AreRounds};
+
+use crate::kinds::behind;
+use finite_walks::orbit;
+use gluing_table::{Face, Table};
+use no_memory::NoMemory;
+use perm_four::Perm4;
+use std::alloc::Global;
+use std::marker::Model;
+
+/// The edge ab of a tetrahedron, and the faces c and d that meet in it: the walk comes through face d and leaves
+/// through face c.
+#[derive(Clone, Copy, Debug, PartialEq, Eq)]
+pub struct Corner {
+    pub tet: u32,
+    pub a: u8,
+    pub b: u8,
+    pub c: u8,
+    pub d: u8,
+}
+
+impl Model for Corner {
+    ghost use Rattle.skeleton_definitions.specs.Corners as definition;
+
+    ghost Value = { definition.Corner };
+
+    ghost view = { λ k. record { tet = k.tet; a = k.a; b = k.b; c = k.c; d = k.d } };
+
+    ghost inverse = { λ k. record { tet = k.tet; a = k.a; b = k.b; c = k.c; d = k.d } };
+}
+
+/// The orders of the vertices of a tetrahedron.
+const ORDERS: u32 = 24;
+
+/// Of each edge, the order in which the walk round it starts: its ends, and then the others, both ascending.
+const STARTS: [u8; 6] = [0, 2, 4, 8, 10, 16];
+
+/// The order of the vertices at a corner.
+fn order(place: u32) -> Perm4
+    ensures value { result ≡ word_at place }
+    ensures permutes { IsPermutationOfFour result }
+{
+    match Perm4::of_index((place % ORDERS) as u8) {
+        Some(order) => order,
+        None => unreachable!(),
+    }
+}
+
+/// The exchange of the last two.
+fn swap() -> Perm4
+    ensures { result ≡ swap }
+{
+    match Perm4::new(0, 1, 3, 2) {
+        Some(swap) => swap,
+        None => unreachable!(),
+    }
+}
+
+/// The corner of this number.
+fn corner_of(place: u32) -> Corner
+    ensures { result ≡ corner_at place }
+{
+    let order = order(place);
+    Corner {
+        tet: place / ORDERS,
+        a: order.image(0),
+        b: order.image(1),
+        c: order.image(2),
+        d: order.image(3),
+    }
+}
+
+/// The number of the next corner, where there is one.
+fn next_place(table: &Table, place: u32) -> Option<u32>
+    requires table { IsTable table.now }
+    requires in_range { place < 24 * length table.now }
+    ensures { result ≡ next_corner table.now place }
+{
+    let order = order(place);
+    let face = Face {
+        tet: place / ORDERS,
+        face: order.image(2),
+    };
+    let Some(glue) = behind(table, face) else {
+        return None;
+    };
+    let behind = glue.perm.compose(order).compose(swap());
+    Some(ORDERS * glue.tet + behind.index() as u32)
+}
+
+/// The numbers of the next corners.
+pub fn next_places(alloc: Global, table: &Table) -> Result<Vec<Option<u32>>, NoMemory>
+    requires { IsTable table.now }
+    ensures size { IfOk result (λ next. length next.items ≡ 24 * length table.now) }
+    ensures steps { IfOk result (λ next. (k : ℕ) → step_of next.items k ≡ next_corner table.now k) }
+{
+    let count = ORDERS * table.len();
+    let mut next = Vec::with_capacity(alloc, count as usize)?;
+    for place in 0..count {
+        next.push(next_place(table, place))?;
+    }
+    Ok(next)
+}
+
+/// The corners of these numbers.
+fn corners_of(alloc: Global, places: &[u32]) -> Result<Vec<Corner>, NoMemory>
+    ensures { IfOk result (λ corners. corners.items ≡ map corner_at places.now) }
+{
+    let mut corners = Vec::with_capacity(alloc, places.len())?;
+    for place in places {
+        corners.push(corner_of(*place))?;
+    }
+    Ok(corners)
+}
+
+/// The corners that the walk from an edge comes to.
+pub fn walk(alloc: Global, next: &[Option<u32>], edge: u32) -> Result<Vec<Corner>, NoMemory>
+    requires injective { IsInjectiveBelow (length next.now) (step_of next.now) }
+    requires few { edge < 6000 }
+    requires start { start_of edge < length next.now }
+    ensures { IfOk result (λ corners. IsRound (step_of next.now) (start_of edge) corners.items) }
+{
+    let start = ORDERS * (edge / 6) + STARTS[(edge % 6) as usize] as u32;
+    let places = orbit(alloc, next, start)?;
+    corners_of(alloc, &places)
+}
+
+/// The walk from an edge, or no corner where the edge's class is on the boundary.
+fn walk_unless(
+    alloc: Global,
+    next: &[Option<u32>],
+    on_boundary: bool,
+    edge: u32,
+) -> Result<Vec<Corner>, NoMemory>
+    requires injective { IsInjectiveBelow (length next.now) (step_of next.now) }
+    requires few { edge < 6000 }
+    requires start { start_of edge < length next.now }
+    ensures { IfOk result (λ corners. IsRoundUnless (step_of next.now) on_boundary edge corners.items) }
+{
+    if on_boundary {
+        return Ok(Vec::new(alloc));
+    }
+    walk(alloc, next, edge)
+}
+
+/// The walk round each inner edge class from its first member, and no corner for a boundary class.
+pub fn walks(
+    alloc: Global,
+    table: &Table,
+    firsts: &[u32],
+    boundary: &[bool],
+) -> Result<Vec<Vec<Corner>>, NoMemory>
+    requires table { IsTable table.now }
+    requires in_range { (c : ℕ) → c < length firsts.now → slice_index firsts.now c < 6 * length table.now }
+    requires one_each { length boundary.now ≡ length firsts.now }
+    ensures { IfOk result (λ walks. AreRounds table.now firsts.now boundary.now (length firsts.now) walks.items) }
+{
+    let next = next_places(alloc, table)?;
+    let mut walks = Vec::with_capacity(alloc, firsts.len())?;
+    for class in 0..firsts.len() {
+        walks.push(walk_unless(alloc, &next, boundary[class], firsts[class])?)?;
+    }
+    Ok(walks)
+}

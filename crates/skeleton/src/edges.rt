@@ -1,0 +1,140 @@
+//! Edges across the faces of a tetrahedron, with and without a direction.
+
+ghost use Rattle.std.specs.Prelude.{◌≡◌, ◌≢◌, ◌*◌, ◌/◌, ◌%◌, ◌<◌, ◌≤◌, length, IfSome, ℕ, slice_index, [], ◌∷◌};
+ghost use Rattle.table_definitions.specs.Table.{IsTable};
+ghost use Rattle.table_definitions.specs.Places as places;
+ghost use Rattle.table_definitions.specs.Permutation.{others};
+ghost use Rattle.skeleton.specs.Crossings.{crossed_edge, crossed_direction, pair_number};
+ghost use Rattle.skeleton.specs.Directions.{forward, backward, runs_against};
+
+use crate::kinds::behind;
+use gluing_table::{Face, Table};
+
+const LOWER_ENDS: [u8; 6] = [0, 0, 0, 1, 1, 2];
+
+const HIGHER_ENDS: [u8; 6] = [1, 2, 3, 2, 3, 3];
+
+/// The number of the edge with the ends a and b, at 4 a + b.
+const NUMBERS: [u8; 16] = [6, 0, 1, 2, 0, 6, 3, 4, 1, 3, 6, 5, 2, 4, 5, 6];
+
+/// The ends of an edge of a tetrahedron, ascending.
+pub fn edge_ends(edge: u8) -> (u8, u8)
+    requires { edge < 6 }
+    ensures ends { places.ends edge ≡ result.0 ∷ result.1 ∷ [] }
+    ensures ascending { result.0 < result.1 }
+    ensures in_range { result.1 < 4 }
+{
+    (LOWER_ENDS[edge as usize], HIGHER_ENDS[edge as usize])
+}
+
+fn number_of_edge(a: u8, b: u8) -> u8
+    requires first { a < 4 }
+    requires second { b < 4 }
+    ensures { result ≡ places.edge_number a b }
+{
+    NUMBERS[(4 * a + b) as usize]
+}
+
+/// Where the i-th of the twelve directed edges of a tetrahedron begins, and where it leads.
+pub fn direction_ends(direction: u8) -> (u8, u8)
+    requires { direction < 12 }
+    ensures from { result.0 ≡ direction / 3 }
+    ensures to { result.1 ≡ slice_index (others (direction / 3)) (direction % 3) }
+    ensures from_in_range { result.0 < 4 }
+    ensures to_in_range { result.1 < 4 }
+{
+    let from = direction / 3;
+    let rank = direction % 3;
+    if rank < from {
+        (from, rank)
+    } else {
+        (from, rank + 1)
+    }
+}
+
+/// The place of a directed edge among the twelve of its tetrahedron.
+pub fn direction_number(from: u8, to: u8) -> u8
+    requires from_in_range { from < 4 }
+    requires to_in_range { to < 4 }
+    ensures value { result ≡ pair_number from to }
+    ensures small { result ≤ 12 }
+{
+    if from < to {
+        3 * from + (to - 1)
+    } else {
+        3 * from + to
+    }
+}
+
+/// The edge behind a face that this edge meets there.
+pub fn edge_across(table: &Table, edge: u32, face: u8) -> Option<u32>
+    requires table { IsTable table.now }
+    requires in_range { edge < 6 * length table.now }
+    requires a_face { face < 4 }
+    ensures { result ≡ crossed_edge table.now edge face }
+{
+    let (lower, higher) = edge_ends((edge % 6) as u8);
+    if lower == face {
+        return None;
+    }
+    if higher == face {
+        return None;
+    }
+    let tet = edge / 6;
+    let Some(glue) = behind(table, Face { tet, face }) else {
+        return None;
+    };
+    let number = number_of_edge(glue.perm.image(lower), glue.perm.image(higher));
+    Some(6 * glue.tet + number as u32)
+}
+
+/// The directed edge behind a face that this directed edge meets there.
+pub fn direction_across(table: &Table, place: u32, face: u8) -> Option<u32>
+    requires table { IsTable table.now }
+    requires in_range { place < 12 * length table.now }
+    requires a_face { face < 4 }
+    ensures { result ≡ crossed_direction table.now place face }
+{
+    let (from, to) = direction_ends((place % 12) as u8);
+    if from == face {
+        return None;
+    }
+    if to == face {
+        return None;
+    }
+    let tet = place / 12;
+    let Some(glue) = behind(table, Face { tet, face }) else {
+        return None;
+    };
+    let number = direction_number(glue.perm.image(from), glue.perm.image(to));
+    Some(12 * glue.tet + number as u32)
+}
+
+/// The edge as a directed edge, from its lesser end.
+fn forward(edge: u32) -> u32
+    requires { edge < 6000 }
+    ensures { result ≡ forward edge }
+{
+    let (lower, higher) = edge_ends((edge % 6) as u8);
+    12 * (edge / 6) + direction_number(lower, higher) as u32
+}
+
+/// The edge as a directed edge, from its greater end.
+fn backward(edge: u32) -> u32
+    requires { edge < 6000 }
+    ensures { result ≡ backward edge }
+{
+    let (lower, higher) = edge_ends((edge % 6) as u8);
+    12 * (edge / 6) + direction_number(higher, lower) as u32
+}
+
+/// Whether one edge is joined to another with its direction turned round.
+pub fn runs_against(directions: &[u32], one: u32, other: u32) -> bool
+    requires one_small { one < 6000 }
+    requires other_small { other < 6000 }
+    requires one_in_range { forward one < length directions.now }
+    requires other_in_range { backward other < length directions.now }
+    ensures { result ≡ runs_against directions.now one other }
+{
+    directions[forward(one) as usize] == directions[backward(other) as usize]
+}

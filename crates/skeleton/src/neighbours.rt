@@ -1,0 +1,82 @@
+//! Tables of neighbours.
+
+ghost use Rattle.std.specs.Prelude.{◌≡◌, ◌*◌, ◌<◌, ◌≤◌, length, IfOk, ℕ};
+ghost use Rattle.table_definitions.specs.Table.{IsTable};
+ghost use Rattle.skeleton.specs.Neighbours.{AreNeighbours, row_at};
+ghost use Rattle.skeleton.specs.Numberings.{per_tet, crossing};
+
+use crate::edges::{direction_across, edge_across};
+use crate::kinds::{Kind, face_across, vertex_across};
+use crate::signs::{sign_across, vertex_sign_across};
+use gluing_table::Table;
+use no_memory::NoMemory;
+use std::alloc::Global;
+
+fn per_tet(kind: Kind) -> u32
+    ensures { result ≡ per_tet kind }
+{
+    match kind {
+        Kind::Vertices => 4,
+        Kind::Edges => 6,
+        Kind::Directions => 12,
+        Kind::Faces => 4,
+        Kind::Signs => 2,
+        Kind::VertexSigns => 8,
+    }
+}
+
+/// What lies across one face.
+fn across(table: &Table, kind: Kind, place: u32, face: u8) -> Option<u32>
+    requires table { IsTable table.now }
+    requires in_range { place < per_tet kind * length table.now }
+    requires a_face { face < 4 }
+    ensures { result ≡ crossing kind table.now place face }
+{
+    match kind {
+        Kind::Vertices => vertex_across(table, place, face),
+        Kind::Edges => edge_across(table, place, face),
+        Kind::Directions => direction_across(table, place, face),
+        Kind::Faces => face_across(table, place, face),
+        Kind::Signs => sign_across(table, place, face),
+        Kind::VertexSigns => vertex_sign_across(table, place, face),
+    }
+}
+
+fn row_of(table: &Table, kind: Kind, place: u32) -> [Option<u32>; 4]
+    requires table { IsTable table.now }
+    requires in_range { place < per_tet kind * length table.now }
+    ensures { result ≡ row_at (crossing kind table.now) place }
+{
+    [
+        across(table, kind, place, 0),
+        across(table, kind, place, 1),
+        across(table, kind, place, 2),
+        across(table, kind, place, 3),
+    ]
+}
+
+/// What lies across the faces of each of these things.
+pub fn neighbours(
+    alloc: Global,
+    table: &Table,
+    kind: Kind,
+) -> Result<Vec<[Option<u32>; 4]>, NoMemory>
+    requires { IsTable table.now }
+    ensures { IfOk result (λ rows. AreNeighbours (per_tet kind * length table.now) (crossing kind table.now) rows.items) }
+{
+    let count = count_of(table, kind);
+    let mut rows = Vec::with_capacity(alloc, count as usize)?;
+    for place in 0..count {
+        rows.push(row_of(table, kind, place))?;
+    }
+    Ok(rows)
+}
+
+/// How many of these things there are.
+fn count_of(table: &Table, kind: Kind) -> u32
+    requires { IsTable table.now }
+    ensures value { result ≡ per_tet kind * length table.now }
+    ensures few { result ≤ 24000 }
+{
+    per_tet(kind) * table.len()
+}

@@ -1,0 +1,97 @@
+//! Signs of tetrahedra, and the orientation that they are.
+
+ghost use Rattle.std.specs.Prelude.{◌≡◌, ◌*◌, ◌+◌, ◌<◌, ◌≤◌, ℕ, length, slice_index, IfOk, IsTrue, ◌≢◌, false};
+ghost use Rattle.std.specs.Option.{option_map};
+ghost use Rattle.table_definitions.specs.Table.{IsTable};
+ghost use Rattle.skeleton_definitions.specs.Skeleton.{IsOrientation};
+ghost use Rattle.skeleton.specs.Signs.{crossed_sign, crossed_vertex_sign, AreSignsBy};
+ghost use Rattle.skeleton.specs.Parts.{items_of};
+
+use crate::kinds::{Kind, behind};
+use crate::numbering::classes_of;
+use gluing_table::{Face, Table};
+use no_memory::NoMemory;
+use std::alloc::Global;
+
+/// The signed tetrahedron behind a face.
+pub fn sign_across(table: &Table, place: u32, face: u8) -> Option<u32>
+    requires table { IsTable table.now }
+    requires in_range { place < 2 * length table.now }
+    requires a_face { face < 4 }
+    ensures { result ≡ crossed_sign table.now place face }
+{
+    let tet = place / 2;
+    let Some(glue) = behind(table, Face { tet, face }) else {
+        return None;
+    };
+    let sign = place % 2;
+    if glue.perm.is_odd() {
+        Some(2 * glue.tet + sign)
+    } else {
+        Some(2 * glue.tet + (1 - sign))
+    }
+}
+
+/// The signed vertex behind a face.
+pub fn vertex_sign_across(table: &Table, place: u32, face: u8) -> Option<u32>
+    requires table { IsTable table.now }
+    requires in_range { place < 8 * length table.now }
+    requires a_face { face < 4 }
+    ensures { result ≡ crossed_vertex_sign table.now place face }
+{
+    let v = (place / 2 % 4) as u8;
+    if v == face {
+        return None;
+    }
+    let tet = place / 8;
+    let Some(glue) = behind(table, Face { tet, face }) else {
+        return None;
+    };
+    let vertex = 4 * glue.tet + glue.perm.image(v) as u32;
+    let sign = place % 2;
+    if glue.perm.is_odd() {
+        Some(2 * vertex + sign)
+    } else {
+        Some(2 * vertex + (1 - sign))
+    }
+}
+
+/// Whether no tetrahedron with one sign is joined to itself with the other.
+fn tells_apart(classes: &[u32], count: u32) -> bool
+    requires { 2 * count ≤ length classes.now }
+    ensures apart { IsTrue result → (t : ℕ) → t < count → slice_index classes.now (2 * t) ≢ slice_index classes.now (2 * t + 1) }
+    ensures joined { result ≡ false → (t : ℕ) × (t < count) × (slice_index classes.now (2 * t) ≡ slice_index classes.now (2 * t + 1)) }
+{
+    for tet in 0..count {
+        if classes[2 * tet as usize] == classes[2 * tet as usize + 1] {
+            return false;
+        }
+    }
+    true
+}
+
+fn signs_by(alloc: Global, classes: &[u32], count: u32) -> Result<Vec<bool>, NoMemory>
+    requires { 2 * count ≤ length classes.now }
+    ensures { IfOk result (λ signs. AreSignsBy classes.now count signs.items) }
+{
+    let mut signs = Vec::with_capacity(alloc, count as usize)?;
+    for tet in 0..count {
+        signs.push(classes[2 * tet as usize] < classes[2 * tet as usize + 1])?;
+    }
+    Ok(signs)
+}
+
+/// Signs that stay across odd gluings and change across even ones, true at the least tetrahedron of each
+/// component; nothing where there are none.
+pub fn orientation_of(alloc: Global, table: &Table) -> Result<Option<Vec<bool>>, NoMemory>
+    requires { IsTable table.now }
+    ensures { IfOk result (λ r. IsOrientation table.now (option_map items_of r)) }
+{
+    let classes = classes_of(alloc, table, Kind::Signs)?.classes;
+    if tells_apart(&classes, table.len()) {
+        let signs = signs_by(alloc, &classes, table.len())?;
+        Ok(Some(signs))
+    } else {
+        Ok(None)
+    }
+}
