@@ -1,3 +1,4 @@
 pub mod Lines
 pub mod Outcomes
 pub mod Enumerations
+pub mod Information
