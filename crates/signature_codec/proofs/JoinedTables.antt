@@ -7,11 +7,11 @@ use Rattle.std.proofs.lemmas.List.{get_or_past}
 use Rattle.std.proofs.lemmas.List.FromFn.{get_or-map-range_with_len, length-map-range_with_len}
 use Rattle.std.proofs.lemmas.List.Elements.{All-from_get_or}
 use Rattle.text_definitions.specs.Reading.{◌>>=◌}
-use Rattle.triangulation_definitions.specs.Lists.{below}
-use Rattle.triangulation_definitions.specs.Permutation.{four}
-use Rattle.triangulation_definitions.specs.Table.{Gluing, Face, Row, IsTable, glue, other_side, way_back, same_face, faces}
-use Rattle.triangulation_definitions.specs.SignatureText as signatures
-use Rattle.triangulation_definitions.specs.SignatureText.{join_faces, Joining}
+use Rattle.table_definitions.specs.Lists.{below}
+use Rattle.table_definitions.specs.Permutation.{four}
+use Rattle.table_definitions.specs.Table.{Gluing, Face, Row, IsTable, glue, other_side, way_back, same_face, faces}
+use Rattle.signature_definitions.specs.SignatureText as signatures
+use Rattle.signature_definitions.specs.SignatureText.{join_faces, Joining}
 use Rattle.signature_codec.specs.Slots.{Slots, face_at, slot_face, slots_begun, IsSlots}
 use Rattle.signature_codec.proofs.SlotLaws.{ok_same, face_kept}
 use Rattle.signature_codec.proofs.TypeLaws.{bind_ok}

@@ -4,3 +4,6 @@ pub mod Simulation
 pub mod TypeLaws
 pub mod SoundJoins
 pub mod JoinedTables
+pub mod SeenLaws
+pub mod WalkLaws
+pub mod TextLaws

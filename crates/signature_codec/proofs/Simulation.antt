@@ -6,11 +6,11 @@ use Rattle.std.proofs.lemmas.Bool.{eqb-true, eq-eqb, and_parts, and_from, false�
 use Rattle.std.proofs.lemmas.Grind.{get_or-set_at, common_steps}
 use Rattle.std.proofs.lemmas.List.{length-set, get_or-set_other, get_or-replicate}
 use Rattle.text_definitions.specs.Reading.{◌>>=◌}
-use Rattle.triangulation_definitions.specs.Lists.{below, pairs_of, times_in}
-use Rattle.triangulation_definitions.specs.Permutation.{four, identity, words, image}
-use Rattle.triangulation_definitions.specs.Table.{Gluing, Face, Row, other_side, way_back, same_face, faces}
-use Rattle.triangulation_definitions.specs.SignatureText as signatures
-use Rattle.triangulation_definitions.specs.SignatureText.{join_faces}
+use Rattle.table_definitions.specs.Lists.{below, pairs_of, times_in}
+use Rattle.table_definitions.specs.Permutation.{four, identity, words, image}
+use Rattle.table_definitions.specs.Table.{Gluing, Face, Row, other_side, way_back, same_face, faces}
+use Rattle.signature_definitions.specs.SignatureText as signatures
+use Rattle.signature_definitions.specs.SignatureText.{join_faces}
 use Rattle.perm_four.proofs.Permutations.{image_below, words_permute}
 use Rattle.signature_codec.specs.Slots.{Slots, place_of, face_at, slot, meet_at, slot_boundary, slot_new, slot_glued, slot_seen, slot_type, with_types, slot_next, slot_face, slot_faces, slots_begun, slot_row, slot_rows, IsSlots, IsTaking}
 use Rattle.signature_codec.proofs.SlotLaws.{face_kept, times-same}
@@ -146,7 +146,7 @@ type_agrees n x (suc zero) slots met seen rest shown taking ht hf seen_x =
       seen = refl;
       parts = refl;
       met = meet_shown n slots met x (record { tet = seen; perm = identity }) hf (place_inside n x slots taking.size ht hf) (image_below identity (words_permute 0 (omega arith)) x.face hf)
-      (place_inside n (record { tet = seen; face = image identity x.face }) slots taking.size lt (image_below identity (words_permute 0 (omega arith)) x.face hf)) shown;
+          (place_inside n (record { tet = seen; face = image identity x.face }) slots taking.size lt (image_below identity (words_permute 0 (omega arith)) x.face hf)) shown;
     }
 type_agrees n x (suc (suc zero)) slots met seen rest shown taking ht hf seen_x =
     let room = taking.room in

@@ -8,10 +8,10 @@ use Rattle.std.proofs.lemmas.Grind.{get_or_after_one, common_steps}
 use Rattle.std.proofs.lemmas.List.{length-set, get_or-drop, length-drop}
 use Rattle.std.proofs.lemmas.List.FromFn.{map-range_with_len_more}
 use Rattle.text_definitions.specs.Reading.{◌>>=◌}
-use Rattle.triangulation_definitions.specs.Lists.{below, times_in}
-use Rattle.triangulation_definitions.specs.Permutation.{identity, words}
-use Rattle.triangulation_definitions.specs.Table.{Gluing, Face, Row, other_side, same_face}
-use Rattle.triangulation_definitions.specs.SignatureText as signatures
+use Rattle.table_definitions.specs.Lists.{below, times_in}
+use Rattle.table_definitions.specs.Permutation.{identity, words}
+use Rattle.table_definitions.specs.Table.{Gluing, Face, Row, other_side, same_face}
+use Rattle.signature_definitions.specs.SignatureText as signatures
 use Rattle.signature_codec.specs.declared.faults.SigFault.{SigFault}
 use Rattle.signature_codec.specs.Faults.{FailsAs, Leaves}
 use Rattle.signature_codec.specs.Slots.{Slots, place_of, face_at, slot, meet_at, slot_boundary, slot_new, slot_glued, slot_seen, slot_type, with_types, slot_next, slot_face, slot_faces, slots_begun, slot_row, slot_rows, IsSlots, IsTaking}

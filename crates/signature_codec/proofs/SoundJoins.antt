@@ -7,11 +7,11 @@ use Rattle.std.proofs.lemmas.List.{get_or_past, length-map}
 use Rattle.std.proofs.lemmas.List.FromFn.{get_or-map-range_with_len, length-map-range_with_len}
 use Rattle.std.proofs.lemmas.List.Elements.{All-from_get_or}
 use Rattle.text_definitions.specs.Reading.{◌>>=◌}
-use Rattle.triangulation_definitions.specs.Lists.{below, times_in}
-use Rattle.triangulation_definitions.specs.Permutation.{four, identity, words, image, inverse, IsPermutationOfFour}
-use Rattle.triangulation_definitions.specs.Table.{Gluing, Face, Row, IsTable, glue, other_side, way_back, same_face, faces}
-use Rattle.triangulation_definitions.specs.SignatureText as signatures
-use Rattle.triangulation_definitions.specs.SignatureText.{join_faces, Joining}
+use Rattle.table_definitions.specs.Lists.{below, times_in}
+use Rattle.table_definitions.specs.Permutation.{four, identity, words, image, inverse, IsPermutationOfFour}
+use Rattle.table_definitions.specs.Table.{Gluing, Face, Row, IsTable, glue, other_side, way_back, same_face, faces}
+use Rattle.signature_definitions.specs.SignatureText as signatures
+use Rattle.signature_definitions.specs.SignatureText.{join_faces, Joining}
 use Rattle.perm_four.proofs.Permutations.{image_below, words_permute, inverse_permutes, image-inverse, preimage-image, inverse-inverse}
 use Rattle.signature_codec.specs.Slots.{Slots, face_at, slot_face, slot_faces, slots_begun, IsSlots}
 use Rattle.signature_codec.proofs.SlotLaws.{unless_ok, unless_same, ok_of, ok_same, face_kept, times-same}
@@ -105,29 +105,29 @@ pub both_sound : (met : List (Face × Option Gluing)) (seen next : ℕ) (x : Fac
     → x.tet < next → g.tet < next → seen ≤ next → x.face < 4 → IsPermutationOfFour g.perm → IsSound met seen → IsSound (met_both x g met) next
 both_sound met seen next x g free free' apart hx hg more hf p h = record {
   range = λ y o e. ⊎_elim
-    (λ (c : (x ≡ y) × (o ≡ Some g)). let P : Face → Type 0 = λ z. (z.tet < next) × (z.face < 4) in subst P c.0 (hx, hf))
-    (λ (c : ((other_side x g ≡ y) × (o ≡ Some (way_back x g))) ⊎ (known_in met y ≡ Some o)). ⊎_elim
-    (λ (d : (other_side x g ≡ y) × (o ≡ Some (way_back x g))). let P : Face → Type 0 = λ z. (z.tet < next) × (z.face < 4) in subst P d.0 (hg, ho))
-    (λ (d : known_in met y ≡ Some o). let r = h.range y o d in (omega (arith, r.0), r.1)) c)
-    (both_cases met x g y o e);
+      (λ (c : (x ≡ y) × (o ≡ Some g)). let P : Face → Type 0 = λ z. (z.tet < next) × (z.face < 4) in subst P c.0 (hx, hf))
+      (λ (c : ((other_side x g ≡ y) × (o ≡ Some (way_back x g))) ⊎ (known_in met y ≡ Some o)). ⊎_elim
+      (λ (d : (other_side x g ≡ y) × (o ≡ Some (way_back x g))). let P : Face → Type 0 = λ z. (z.tet < next) × (z.face < 4) in subst P d.0 (hg, ho))
+      (λ (d : known_in met y ≡ Some o). let r = h.range y o d in (omega (arith, r.0), r.1)) c)
+      (both_cases met x g y o e);
   permutes = λ y k e. ⊎_elim
-    (λ (c : (x ≡ y) × (Some k ≡ Some g)). subst Permutes (sym (some_same k g c.1)) p)
-    (λ (c : ((other_side x g ≡ y) × (Some k ≡ Some (way_back x g))) ⊎ (known_in met y ≡ Some (Some k))). ⊎_elim
-    (λ (d : (other_side x g ≡ y) × (Some k ≡ Some (way_back x g))). subst Permutes (sym (some_same k (way_back x g) d.1)) (inverse_permutes g.perm p))
-    (λ (d : known_in met y ≡ Some (Some k)). h.permutes y k d) c)
-    (both_cases met x g y (Some k) e);
+      (λ (c : (x ≡ y) × (Some k ≡ Some g)). subst Permutes (sym (some_same k g c.1)) p)
+      (λ (c : ((other_side x g ≡ y) × (Some k ≡ Some (way_back x g))) ⊎ (known_in met y ≡ Some (Some k))). ⊎_elim
+      (λ (d : (other_side x g ≡ y) × (Some k ≡ Some (way_back x g))). subst Permutes (sym (some_same k (way_back x g) d.1)) (inverse_permutes g.perm p))
+      (λ (d : known_in met y ≡ Some (Some k)). h.permutes y k d) c)
+      (both_cases met x g y (Some k) e);
   apart = λ y k e. ⊎_elim
-    (λ (c : (x ≡ y) × (Some k ≡ Some g)). at_both y k c.0 (some_same k g c.1))
-    (λ (c : ((other_side x g ≡ y) × (Some k ≡ Some (way_back x g))) ⊎ (known_in met y ≡ Some (Some k))). ⊎_elim
-    (λ (d : (other_side x g ≡ y) × (Some k ≡ Some (way_back x g))). at_other y k d.0 (some_same k (way_back x g) d.1))
-    (λ (d : known_in met y ≡ Some (Some k)). h.apart y k d) c)
-    (both_cases met x g y (Some k) e);
+      (λ (c : (x ≡ y) × (Some k ≡ Some g)). at_both y k c.0 (some_same k g c.1))
+      (λ (c : ((other_side x g ≡ y) × (Some k ≡ Some (way_back x g))) ⊎ (known_in met y ≡ Some (Some k))). ⊎_elim
+      (λ (d : (other_side x g ≡ y) × (Some k ≡ Some (way_back x g))). at_other y k d.0 (some_same k (way_back x g) d.1))
+      (λ (d : known_in met y ≡ Some (Some k)). h.apart y k d) c)
+      (both_cases met x g y (Some k) e);
   back = λ y k e. ⊎_elim
-    (λ (c : (x ≡ y) × (Some k ≡ Some g)). back_both y k c.0 (some_same k g c.1))
-    (λ (c : ((other_side x g ≡ y) × (Some k ≡ Some (way_back x g))) ⊎ (known_in met y ≡ Some (Some k))). ⊎_elim
-    (λ (d : (other_side x g ≡ y) × (Some k ≡ Some (way_back x g))). back_other y k d.0 (some_same k (way_back x g) d.1))
-    (λ (d : known_in met y ≡ Some (Some k)). known_both-earlier met x g (other_side y k) (Some (way_back y k)) free free' (h.back y k d)) c)
-    (both_cases met x g y (Some k) e);
+      (λ (c : (x ≡ y) × (Some k ≡ Some g)). back_both y k c.0 (some_same k g c.1))
+      (λ (c : ((other_side x g ≡ y) × (Some k ≡ Some (way_back x g))) ⊎ (known_in met y ≡ Some (Some k))). ⊎_elim
+      (λ (d : (other_side x g ≡ y) × (Some k ≡ Some (way_back x g))). back_other y k d.0 (some_same k (way_back x g) d.1))
+      (λ (d : known_in met y ≡ Some (Some k)). known_both-earlier met x g (other_side y k) (Some (way_back y k)) free free' (h.back y k d)) c)
+      (both_cases met x g y (Some k) e);
 }
   where
     Permutes : Gluing → Type 0

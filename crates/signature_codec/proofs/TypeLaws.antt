@@ -6,11 +6,11 @@ use borrow.Author.Tests.{ltb-true}
 use Rattle.std.proofs.lemmas.Grind.{common_steps}
 use Rattle.std.proofs.lemmas.List.{length-replicate}
 use Rattle.text_definitions.specs.Reading.{◌>>=◌}
-use Rattle.triangulation_definitions.specs.Lists.{times_in}
-use Rattle.triangulation_definitions.specs.Table.{Row}
-use Rattle.triangulation_definitions.specs.Spelling.{value_of, alphabet}
-use Rattle.triangulation_definitions.specs.SignatureText as signatures
-use Rattle.triangulation_definitions.specs.SignatureText.{numbers_in, types_from, Types, signature_table}
+use Rattle.table_definitions.specs.Lists.{times_in}
+use Rattle.table_definitions.specs.Table.{Row}
+use Rattle.signature_definitions.specs.Spelling.{value_of, alphabet}
+use Rattle.signature_definitions.specs.SignatureText as signatures
+use Rattle.signature_definitions.specs.SignatureText.{numbers_in, types_from, Types, signature_table}
 use Rattle.signature_codec.specs.Parts.{parts_of, types_begun}
 use Rattle.signature_codec.specs.Slots.{IsSlots, slots_begun}
 use Rattle.signature_codec.proofs.ReadLaws.{behind_character, next_ok}

@@ -1,6 +1,6 @@
 -- The faults of signatures, as the calls answer them.
 use Rattle.std.specs.Prelude.{◌≡◌, ℕ, Result, Ok, Err}
-use Rattle.triangulation_definitions.specs.SignatureText as signatures
+use Rattle.signature_definitions.specs.SignatureText as signatures
 use Rattle.signature_codec.specs.declared.faults.SigFault.{SigFault}
 use Rattle.signature_codec.specs.declared.faults.SigFault.TheVariants.{NoMemory, BadChar, Short, BadType, Leftover, Destination, Gluing, FaceTaken, Trailing, TooMany, Unreached, Width}
 use Rattle.signature_codec.specs.declared.numbers.Part.{Part}

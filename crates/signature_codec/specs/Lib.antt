@@ -1,3 +1,5 @@
 pub mod Faults
 pub mod Parts
 pub mod Slots
+pub mod Walks
+pub mod Texts

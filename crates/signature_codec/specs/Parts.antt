@@ -1,8 +1,8 @@
 -- The phases of reading, as the definitions see what the calls answer.
 use Rattle.std.specs.Prelude.{ℕ, ◌+◌, ◌*◌, List, [], length, nat_lt, Result, Ok}
 use Rattle.text_definitions.specs.Reading.{◌>>=◌}
-use Rattle.triangulation_definitions.specs.Lists.{times_in}
-use Rattle.triangulation_definitions.specs.SignatureText as signatures
+use Rattle.table_definitions.specs.Lists.{times_in}
+use Rattle.signature_definitions.specs.SignatureText as signatures
 use Rattle.signature_codec.specs.declared.heads.Head.{Head}
 use Rattle.signature_codec.specs.declared.types.Types.{Types}
 use Rattle.signature_codec.specs.declared.parts.Parts.{Parts}

@@ -2,10 +2,10 @@
 use Rattle.std.specs.Prelude.{◌≡◌, ℕ, zero, suc, ◌+◌, ◌*◌, ◌/◌, ◌%◌, ◌<◌, ◌≤◌, ◌||◌, List, [], ◌∷◌, length, map, drop, replicate, slice_set, ◌==◌, nat_le, Option, Some, None, is_some, unwrap_or, Result, Ok, if◌then◌else◌, All}
 use Rattle.std.specs.List.{slice_index_or}
 use Rattle.text_definitions.specs.Reading.{◌>>=◌}
-use Rattle.triangulation_definitions.specs.Lists.{below, times_in}
-use Rattle.triangulation_definitions.specs.Permutation.{four, identity, words}
-use Rattle.triangulation_definitions.specs.Table.{Gluing, Row, Face, other_side, way_back, same_face}
-use Rattle.triangulation_definitions.specs.SignatureText as signatures
+use Rattle.table_definitions.specs.Lists.{below, times_in}
+use Rattle.table_definitions.specs.Permutation.{four, identity, words}
+use Rattle.table_definitions.specs.Table.{Gluing, Row, Face, other_side, way_back, same_face}
+use Rattle.signature_definitions.specs.SignatureText as signatures
 use Rattle.signature_codec.specs.declared.parts.Parts.{Parts}
 use Rattle.signature_codec.specs.declared.joining.Joining.{Joining}
 

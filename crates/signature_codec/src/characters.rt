@@ -1,7 +1,7 @@
 //! The 64 characters of signatures.
 
 ghost use Rattle.std.specs.Prelude.{◌≡◌, ◌<◌, IfSome};
-ghost use Rattle.triangulation_definitions.specs.Spelling as spellings;
+ghost use Rattle.signature_definitions.specs.Spelling as spellings;
 
 /// The characters of the values 0 to 63.
 const ALPHABET: [u8; 64] = [

@@ -1,8 +1,8 @@
 //! The count of tetrahedra, with which a text begins.
 
 ghost use Rattle.std.specs.Prelude.{◌≡◌, ◌<◌, ◌≤◌, ◌^◌, length, IfOk};
-ghost use Rattle.triangulation_definitions.specs.SignatureText as signatures;
-ghost use Rattle.triangulation_definitions.specs.Spelling as spellings;
+ghost use Rattle.signature_definitions.specs.SignatureText as signatures;
+ghost use Rattle.signature_definitions.specs.Spelling as spellings;
 ghost use Rattle.signature_codec.specs.Faults.{Reads};
 ghost use Rattle.signature_codec.specs.Parts.{head_shown};
 
@@ -78,7 +78,7 @@ fn long_head(text: &[u8]) -> Result<Head, SigFault>
 }
 
 /// The head of a text.
-#[tactic(auto, unfolding(triangulation_definitions::specs::SignatureText::head_of))]
+#[tactic(auto, unfolding(signature_definitions::specs::SignatureText::head_of))]
 pub fn head_of(text: &[u8]) -> Result<Head, SigFault>
     requires { length text.now ≤ 2 ^ 31 }
     ensures reads { Reads head_shown result (signatures.head_of text.now) }

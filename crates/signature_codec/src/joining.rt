@@ -2,9 +2,9 @@
 
 ghost use Rattle.std.specs.Prelude.{◌≡◌, ◌<◌, ◌≤◌, ◌+◌, ◌*◌, ℕ, [], length, drop, slice_set, is_some, Some, None, unwrap_or, OnOk, IfOk};
 ghost use Rattle.std.specs.List.{slice_index_or};
-ghost use Rattle.triangulation_definitions.specs.Permutation as permutations;
-ghost use Rattle.triangulation_definitions.specs.Table as gluings;
-ghost use Rattle.triangulation_definitions.specs.SignatureText as signatures;
+ghost use Rattle.table_definitions.specs.Permutation as permutations;
+ghost use Rattle.table_definitions.specs.Table as gluings;
+ghost use Rattle.signature_definitions.specs.SignatureText as signatures;
 ghost use Rattle.signature_codec.specs.Faults.{Reads, Leaves};
 ghost use Rattle.signature_codec.specs.Slots as slots;
 ghost use Rattle.signature_codec.specs.Slots.{IsSlots, IsTaking, place_of, face_at, meet_at, slots_shown, slots_begun};
@@ -78,7 +78,7 @@ fn pair_at(pairs: &[(u32, u32)], i: usize) -> (u32, u32)
 }
 
 /// The permutation at this place.
-fn perm_at(index: u32) -> Perm4
+pub fn perm_at(index: u32) -> Perm4
     requires { index < 24 }
     ensures { result ≡ slice_index_or permutations.words index [] }
 {

@@ -1,7 +1,7 @@
 //! Values and numbers in a text.
 
 ghost use Rattle.std.specs.Prelude.{◌≡◌, ◌<◌, ◌≤◌, ◌+◌, ◌*◌, ◌^◌, length, IfOk, OnOk};
-ghost use Rattle.triangulation_definitions.specs.SignatureText as signatures;
+ghost use Rattle.signature_definitions.specs.SignatureText as signatures;
 ghost use Rattle.signature_codec.specs.Faults.{Reads, fault_of_part};
 
 use crate::SigFault;

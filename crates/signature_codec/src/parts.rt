@@ -1,7 +1,7 @@
 //! What is read of a text before its faces are joined.
 
 ghost use Rattle.std.specs.Prelude.{◌≡◌, ◌<◌, ◌≤◌, ◌^◌, length, IfOk};
-ghost use Rattle.triangulation_definitions.specs.Lists.{times_in};
+ghost use Rattle.table_definitions.specs.Lists.{times_in};
 ghost use Rattle.signature_codec.specs.Faults.{Reads};
 ghost use Rattle.signature_codec.specs.Parts.{head_shown, types_shown, parts_shown, parts_of};
 

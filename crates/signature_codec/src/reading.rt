@@ -1,8 +1,8 @@
 //! The table of a text.
 
 ghost use Rattle.std.specs.Prelude.{◌≡◌, ◌≤◌, ◌^◌, length};
-ghost use Rattle.triangulation_definitions.specs.Table.{IsTable};
-ghost use Rattle.triangulation_definitions.specs.SignatureText.{signature_table};
+ghost use Rattle.table_definitions.specs.Table.{IsTable};
+ghost use Rattle.signature_definitions.specs.SignatureText.{signature_table};
 ghost use Rattle.signature_codec.specs.Faults.{Reads};
 
 use crate::SigFault;

@@ -1,7 +1,7 @@
 //! The types of faces: boundary, glued to a tetrahedron not yet seen, glued to one already seen.
 
 ghost use Rattle.std.specs.Prelude.{◌≡◌, ◌<◌, ◌≤◌, ◌^◌, ◌*◌, ◌-◌, ◌+◌, [], length, IfOk, OnOk};
-ghost use Rattle.triangulation_definitions.specs.SignatureText as signatures;
+ghost use Rattle.signature_definitions.specs.SignatureText as signatures;
 ghost use Rattle.signature_codec.specs.Faults.{Reads, Leaves};
 ghost use Rattle.signature_codec.specs.Parts.{types_shown, types_begun, read_behind};
 

@@ -1,6 +1,15 @@
 //! The walk through the faces of a table in order.
 
+ghost use Rattle.std.specs.Prelude.{◌≡◌, ◌<◌, ◌≤◌, ◌*◌, length, IfOk, IfErr};
+ghost use Rattle.table_definitions.specs.Lists.{same_list};
+ghost use Rattle.table_definitions.specs.Permutation.{identity};
+ghost use Rattle.table_definitions.specs.Table as gluings;
+ghost use Rattle.table_definitions.specs.Table.{IsTable};
+ghost use Rattle.signature_codec.specs.Walks as walks;
+ghost use Rattle.signature_codec.specs.Walks.{walk_shown, Takes, IsWholeWalk, StopsAt};
+
 use crate::SpellFault;
+use crate::joining::perm_at;
 use gluing_table::{Face, Glue, Table};
 use perm_four::Perm4;
 use std::alloc::Global;
@@ -13,20 +22,24 @@ pub struct Walk {
     pub gluings: Vec<Glue>,
 }
 
-fn is_before(first: Face, second: Face) -> bool {
+fn is_before(first: Face, second: Face) -> bool
+    ensures { result ≡ gluings.is_face_before first second }
+{
     first.tet < second.tet || (first.tet == second.tet && first.face < second.face)
 }
 
-fn is_identity(perm: Perm4) -> bool {
-    perm.image(0) == 0 && perm.image(1) == 1 && perm.image(2) == 2 && perm.image(3) == 3
+fn is_identity(perm: Perm4) -> bool
+    ensures { result ≡ same_list perm identity }
+{
+    perm == perm_at(0)
 }
 
-/// Takes a face of a tetrahedron that is seen.
-fn take_face(walk: &mut Walk, table: &Table, face: Face) -> Result<(), SpellFault> {
-    let Some(glue) = table.glue(face) else {
-        walk.types.push(0)?;
-        return Ok(());
-    };
+/// Takes a face that is glued, if it is in order.
+fn take_glued(walk: &mut Walk, face: Face, glue: Glue) -> Result<(), SpellFault>
+    requires a_face { face.face < 4 }
+    requires few { walk.old.seen ≤ 1000 }
+    ensures takes { Takes (walk_shown walk.new) face result (walks.take_glued face glue (walk_shown walk.old)) }
+{
     if is_before(glue.other_side(face), face) {
         return Ok(());
     }
@@ -35,37 +48,54 @@ fn take_face(walk: &mut Walk, table: &Table, face: Face) -> Result<(), SpellFaul
         walk.gluings.push(glue)?;
         return Ok(());
     }
-    if glue.tet > walk.seen || !is_identity(glue.perm) {
+    if glue.tet == walk.seen && is_identity(glue.perm) {
+        walk.types.push(1)?;
+        walk.seen += 1;
+        return Ok(());
+    }
+    Err(SpellFault::NotOrdered {
+        tet: face.tet,
+        face: face.face,
+    })
+}
+
+/// Takes a face, if it is in order.
+fn take_face(walk: &mut Walk, table: &Table, face: Face) -> Result<(), SpellFault>
+    requires a_face { face.face < 4 }
+    requires in_range { face.tet < length table.now }
+    requires few { walk.old.seen ≤ 1000 }
+    ensures takes { Takes (walk_shown walk.new) face result (walks.take_face table.now face (walk_shown walk.old)) }
+{
+    if face.tet >= walk.seen {
         return Err(SpellFault::NotOrdered {
             tet: face.tet,
             face: face.face,
         });
     }
-    walk.types.push(1)?;
-    walk.seen += 1;
-    Ok(())
-}
-
-/// Takes the faces of a tetrahedron.
-fn take_row(walk: &mut Walk, table: &Table, tet: u32) -> Result<(), SpellFault> {
-    if tet >= walk.seen {
-        return Err(SpellFault::NotOrdered { tet, face: 0 });
-    }
-    for face in 0..4 {
-        take_face(walk, table, Face { tet, face })?;
-    }
-    Ok(())
+    let Some(glue) = table.glue(face) else {
+        walk.types.push(0)?;
+        return Ok(());
+    };
+    take_glued(walk, face, glue)
 }
 
 /// The walk through all faces.
-pub fn walk_of(alloc: Global, table: &Table) -> Result<Walk, SpellFault> {
+pub fn walk_of(alloc: Global, table: &Table) -> Result<Walk, SpellFault>
+    requires { IsTable table.now }
+    ensures whole { IfOk result (IsWholeWalk table.now) }
+    ensures stops { IfErr result (StopsAt table.now) }
+{
     let mut walk = Walk {
         seen: 1,
         types: Vec::new(alloc),
         gluings: Vec::new(alloc),
     };
-    for tet in 0..table.len() {
-        take_row(&mut walk, table, tet)?;
+    for place in 0..4 * table.len() {
+        let face = Face {
+            tet: place / 4,
+            face: (place % 4) as u8,
+        };
+        take_face(&mut walk, table, face)?;
     }
     Ok(walk)
 }

@@ -1,7 +1,7 @@
 use Rattle.std.proofs.Common.{◌≡◌, ◌+◌, ◌*◌, ◌-◌, ◌<◌, suc, arith, sym, ◌∙◌, subst}
 use Rattle.std.specs.Prelude.{Result}
 use Rattle.std.proofs.lemmas.Result.{err_from_is_err_and}
-use Rattle.triangulation_definitions.specs.SignatureText as signatures
+use Rattle.signature_definitions.specs.SignatureText as signatures
 use Rattle.signature_codec.specs.Faults.{FailsAs}
 use Rattle.signature_codec.specs.Slots.{Slots}
 use Rattle.signature_codec.proofs.SlotLaws.{slot_faces-more, slot_faces-end, slot_faces-wrong}

@@ -1,7 +1,7 @@
 use Rattle.std.proofs.Common.{◌≡◌, Some, sym, [], ℕ, List}
 use Rattle.std.specs.List.{slice_index_or}
 use Rattle.perm_four.proofs.Permutations.{index-words, words_permute}
-use Rattle.triangulation_definitions.specs.Permutation.{words}
+use Rattle.table_definitions.specs.Permutation.{words}
 use Rattle.signature_codec.proofs.joining.perm_at.Goals as goal
 
 pub returns : goal.returns

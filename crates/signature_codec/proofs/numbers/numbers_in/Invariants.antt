@@ -1,5 +1,5 @@
 use Rattle.std.proofs.Common.{◌≡◌, ◌≤◌, ◌+◌, ◌*◌, ◌-◌, length}
-use Rattle.triangulation_definitions.specs.SignatureText as signatures
+use Rattle.signature_definitions.specs.SignatureText as signatures
 use Rattle.signature_codec.specs.Faults.{fault_of_part}
 use Rattle.signature_codec.proofs.ReadLaws.{fronted}
 use Rattle.signature_codec.proofs.numbers.numbers_in.Given as goal

@@ -1,8 +1,8 @@
 use Rattle.std.proofs.Common.{◌≡◌, ◌<◌, ◌≤◌, List, ◌∙◌, subst, sym, ap}
 use Rattle.std.specs.Prelude.{Result, Ok, Err}
 use Rattle.std.proofs.lemmas.Result.{err_from_is_err_and}
-use Rattle.triangulation_definitions.specs.Table.{Row, IsTable}
-use Rattle.triangulation_definitions.specs.SignatureText as signatures
+use Rattle.table_definitions.specs.Table.{Row, IsTable}
+use Rattle.signature_definitions.specs.SignatureText as signatures
 use Rattle.signature_codec.specs.Faults.{FailsAs, Reads}
 use Rattle.signature_codec.specs.Parts.{head_shown, types_shown, parts_shown, parts_of, types_begun}
 use Rattle.signature_codec.specs.Slots.{IsSlots, slots_begun}

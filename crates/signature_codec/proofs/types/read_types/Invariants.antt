@@ -1,5 +1,5 @@
 use Rattle.std.proofs.Common.{◌≤◌, ◌+◌, ◌*◌, length}
-use Rattle.triangulation_definitions.specs.SignatureText as signatures
+use Rattle.signature_definitions.specs.SignatureText as signatures
 use Rattle.signature_codec.specs.Parts.{types_shown, types_begun}
 use Rattle.signature_codec.proofs.ReadLaws.{ReadsOn}
 use Rattle.signature_codec.proofs.types.read_types.Given as goal
