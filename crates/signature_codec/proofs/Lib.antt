@@ -7,3 +7,4 @@ pub mod JoinedTables
 pub mod SeenLaws
 pub mod WalkLaws
 pub mod TextLaws
+pub mod InputLaws

@@ -12,27 +12,27 @@ use std::alloc::{AllocError, AllocFailed};
 pub enum SigFault {
     NoMemory,
     /// A character that is not of the alphabet.
-    BadChar { at: u32 },
+    BadChar { at: usize },
     /// The text ends where a character is wanted.
-    Short { at: u32 },
+    Short { at: usize },
     /// A face type that can't stand there.
-    BadType { at: u32 },
+    BadType { at: usize },
     /// A face type behind the last face.
-    Leftover { at: u32 },
+    Leftover { at: usize },
     /// A tetrahedron that is out of range or not yet seen.
-    Destination { at: u32 },
+    Destination { at: usize },
     /// No index of a permutation.
-    Gluing { at: u32 },
+    Gluing { at: usize },
     /// A gluing to the face itself or to one that was met before.
-    FaceTaken { at: u32 },
+    FaceTaken { at: usize },
     /// Characters behind the signature.
-    Trailing { at: u32 },
+    Trailing { at: usize },
     /// More tetrahedra than a table may have.
     TooMany,
     /// A tetrahedron that no gluing reaches before its faces are taken.
     Unreached,
     /// A number of characters per number other than the least.
-    Width { at: u32 },
+    Width { at: usize },
 }
 
 impl From<AllocError> for SigFault {

@@ -1,6 +1,6 @@
 //! The count of tetrahedra, with which a text begins.
 
-ghost use Rattle.std.specs.Prelude.{◌≡◌, ◌<◌, ◌≤◌, ◌^◌, length, IfOk};
+ghost use Rattle.std.specs.Prelude.{◌≡◌, ◌<◌, ◌≤◌, length, IfOk};
 ghost use Rattle.signature_definitions.specs.SignatureText as signatures;
 ghost use Rattle.signature_definitions.specs.Spelling as spellings;
 ghost use Rattle.signature_codec.specs.Faults.{Reads};
@@ -15,7 +15,7 @@ use gluing_table::MAX_TETS;
 pub struct Head {
     pub count: u32,
     pub width: u32,
-    pub next: u32,
+    pub next: usize,
 }
 
 /// The count of so many tetrahedra takes one character.
@@ -37,7 +37,6 @@ pub fn width(count: u32) -> u32
 
 /// The head of a text behind `-` and this width.
 fn wide_head(text: &[u8], width_read: u32) -> Result<Head, SigFault>
-    requires short { length text.now ≤ 2 ^ 31 }
     requires in_text { 2 ≤ length text.now }
     requires narrow { width_read < 3 }
     ensures reads { Reads head_shown result (signatures.wide_head text.now width_read) }
@@ -55,13 +54,12 @@ fn wide_head(text: &[u8], width_read: u32) -> Result<Head, SigFault>
     Ok(Head {
         count,
         width: width_read,
-        next: width_read + 2,
+        next: width_read as usize + 2,
     })
 }
 
 /// The head of a text that begins with `-`.
 fn long_head(text: &[u8]) -> Result<Head, SigFault>
-    requires { length text.now ≤ 2 ^ 31 }
     ensures reads { Reads head_shown result (signatures.long_head text.now) }
     ensures few { IfOk result (λ h. h.count ≤ 1000) }
     ensures narrow { IfOk result (λ h. h.width ≤ 2) }
@@ -80,7 +78,6 @@ fn long_head(text: &[u8]) -> Result<Head, SigFault>
 /// The head of a text.
 #[tactic(auto, unfolding(signature_definitions::specs::SignatureText::head_of))]
 pub fn head_of(text: &[u8]) -> Result<Head, SigFault>
-    requires { length text.now ≤ 2 ^ 31 }
     ensures reads { Reads head_shown result (signatures.head_of text.now) }
     ensures few { IfOk result (λ h. h.count ≤ 1000) }
     ensures narrow { IfOk result (λ h. h.width ≤ 2) }

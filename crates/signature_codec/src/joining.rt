@@ -70,7 +70,7 @@ fn meet(met: &mut [Option<Option<Glue>>], face: Face, glue: Glue)
 }
 
 /// A number with its place.
-fn pair_at(pairs: &[(u32, u32)], i: usize) -> (u32, u32)
+fn pair_at(pairs: &[(u32, usize)], i: usize) -> (u32, usize)
     requires { i < length pairs.now }
     ensures { result ≡ signatures.first_pair (drop i pairs.now) }
 {

@@ -1,6 +1,7 @@
 //! Signatures: the text of a walk-ordered table, both ways.
 #![tactic(auto)]
 
+mod any;
 mod characters;
 mod faults;
 mod heads;
@@ -12,6 +13,7 @@ mod spelling;
 mod types;
 mod walk;
 
+pub use any::{InputFault, read_any};
 pub use faults::{SigFault, SpellFault};
 pub use reading::read_signature;
 pub use spelling::spell;

@@ -19,7 +19,7 @@ impl Part {
     ghost use Rattle.signature_codec.specs.Faults.{answer_of_part};
 
     /// The fault of a number that is out of range.
-    fn fault(self, at: u32) -> SigFault
+    fn fault(self, at: usize) -> SigFault
         ensures { result ≡ answer_of_part self at }
     {
         match self {
@@ -30,26 +30,22 @@ impl Part {
 }
 
 /// The value of the character at a place.
-pub fn value_at(text: &[u8], at: u32) -> Result<u32, SigFault>
-    requires { length text.now ≤ 2 ^ 31 }
+pub fn value_at(text: &[u8], at: usize) -> Result<u32, SigFault>
     ensures reads { Reads (λ v. v) result (signatures.value_at text.now at) }
     ensures in_range { IfOk result (λ v. v < 64) }
     ensures in_text { OnOk result (at < length text.now) }
 {
-    if at as usize >= text.len() {
-        return Err(SigFault::Short {
-            at: text.len() as u32,
-        });
+    if at >= text.len() {
+        return Err(SigFault::Short { at: text.len() });
     }
-    match value_of(text[at as usize]) {
+    match value_of(text[at]) {
         Some(value) => Ok(value as u32),
         None => Err(SigFault::BadChar { at }),
     }
 }
 
 /// The number in `width` characters, the lowest six bits first.
-pub fn number_in(text: &[u8], width: u32, at: u32) -> Result<u32, SigFault>
-    requires short { length text.now ≤ 2 ^ 31 }
+pub fn number_in(text: &[u8], width: u32, at: usize) -> Result<u32, SigFault>
     requires in_text { at ≤ length text.now }
     requires narrow { width ≤ 3 }
     ensures reads { Reads (λ v. v) result (signatures.number_in text.now width at) }
@@ -72,17 +68,17 @@ pub fn numbers_in(
     many: u32,
     width: u32,
     bound: u32,
-    at: u32,
-) -> Result<Vec<(u32, u32)>, SigFault>
-    requires short { length text.now ≤ 2 ^ 31 }
+    at: usize,
+) -> Result<Vec<(u32, usize)>, SigFault>
     requires in_text { at ≤ length text.now }
     requires narrow { width ≤ 3 }
+    requires few { many ≤ 4000 }
     ensures reads { Reads (λ v. v.items) result (signatures.numbers_in many text.now width bound (fault_of_part part) at) }
     ensures in_text { OnOk result (at + width * many ≤ length text.now) }
 {
     let mut numbers = Vec::new(alloc);
     for i in 0..many {
-        let next = at + width * i;
+        let next = at + (width * i) as usize;
         let value = number_in(text, width, next)?;
         if value >= bound {
             return Err(part.fault(next));

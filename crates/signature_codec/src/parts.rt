@@ -1,6 +1,6 @@
 //! What is read of a text before its faces are joined.
 
-ghost use Rattle.std.specs.Prelude.{◌≡◌, ◌<◌, ◌≤◌, ◌^◌, length, IfOk};
+ghost use Rattle.std.specs.Prelude.{◌≡◌, ◌<◌, ◌≤◌, length, IfOk};
 ghost use Rattle.table_definitions.specs.Lists.{times_in};
 ghost use Rattle.signature_codec.specs.Faults.{Reads};
 ghost use Rattle.signature_codec.specs.Parts.{head_shown, types_shown, parts_shown, parts_of};
@@ -16,8 +16,8 @@ use std::alloc::Global;
 pub struct Parts {
     pub count: u32,
     pub types: Vec<u8>,
-    pub destinations: Vec<(u32, u32)>,
-    pub gluings: Vec<(u32, u32)>,
+    pub destinations: Vec<(u32, usize)>,
+    pub gluings: Vec<(u32, usize)>,
 }
 
 /// How many types are 2.
@@ -30,7 +30,6 @@ fn twos_of(types: &[u8]) -> usize
 
 /// The parts behind the types.
 pub fn read_parts(alloc: Global, text: &[u8], head: Head, types: Types) -> Result<Parts, SigFault>
-    requires short { length text.now ≤ 2 ^ 31 }
     requires in_text { types.next ≤ length text.now }
     requires narrow { head.width ≤ 2 }
     requires few { head.count ≤ 1000 }
@@ -45,10 +44,10 @@ pub fn read_parts(alloc: Global, text: &[u8], head: Head, types: Types) -> Resul
     }
     let (width, at) = (head.width, types.next);
     let destinations = numbers_in(alloc, text, Part::Destinations, twos, width, head.count, at)?;
-    let gluings_at = at + width * twos;
+    let gluings_at = at + (width * twos) as usize;
     let gluings = numbers_in(alloc, text, Part::Gluings, twos, 1, 24, gluings_at)?;
-    let end = gluings_at + twos;
-    if (end as usize) < text.len() {
+    let end = gluings_at + twos as usize;
+    if end < text.len() {
         return Err(SigFault::Trailing { at: end });
     }
     Ok(Parts {

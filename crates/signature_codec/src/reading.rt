@@ -1,6 +1,6 @@
 //! The table of a text.
 
-ghost use Rattle.std.specs.Prelude.{◌≡◌, ◌≤◌, ◌^◌, length};
+ghost use Rattle.std.specs.Prelude.{◌≡◌};
 ghost use Rattle.table_definitions.specs.Table.{IsTable};
 ghost use Rattle.signature_definitions.specs.SignatureText.{signature_table};
 ghost use Rattle.signature_codec.specs.Faults.{Reads};
@@ -27,7 +27,6 @@ fn table_of(alloc: Global, rows: &[Row]) -> Result<Table, SigFault>
 
 /// The table that a text spells, or the first fault of the text.
 pub fn read_signature(alloc: Global, text: &[u8]) -> Result<Table, SigFault>
-    requires { length text.now ≤ 2 ^ 31 }
     ensures { Reads (λ t. t) result (signature_table text.now) }
 {
     let head = head_of(text)?;

@@ -1,6 +1,6 @@
 //! The types of faces: boundary, glued to a tetrahedron not yet seen, glued to one already seen.
 
-ghost use Rattle.std.specs.Prelude.{◌≡◌, ◌<◌, ◌≤◌, ◌^◌, ◌*◌, ◌-◌, ◌+◌, [], length, IfOk, OnOk};
+ghost use Rattle.std.specs.Prelude.{◌≡◌, ◌<◌, ◌≤◌, ◌*◌, ◌-◌, ◌+◌, [], length, IfOk, OnOk};
 ghost use Rattle.signature_definitions.specs.SignatureText as signatures;
 ghost use Rattle.signature_codec.specs.Faults.{Reads, Leaves};
 ghost use Rattle.signature_codec.specs.Parts.{types_shown, types_begun, read_behind};
@@ -16,7 +16,7 @@ pub struct Types {
     pub read: Vec<u8>,
     pub left: u32,
     pub ones: u32,
-    pub next: u32,
+    pub next: usize,
 }
 
 /// How many faces a type counts.
@@ -79,7 +79,6 @@ fn take_character(types: &mut Types, count: u32, value: u8) -> Result<(), SigFau
 
 /// The types of a text.
 pub fn read_types(alloc: Global, text: &[u8], head: Head) -> Result<Types, SigFault>
-    requires short { length text.now ≤ 2 ^ 31 }
     requires few { head.count ≤ 1000 }
     requires in_text { head.next ≤ length text.now }
     ensures reads { Reads read_behind result (signatures.types_from (4 * head.count) text.now head.count head.next (types_begun head.count)) }
