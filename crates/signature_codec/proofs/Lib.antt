@@ -1,0 +1,10 @@
+pub mod ReadLaws
+pub mod SlotLaws
+pub mod Simulation
+pub mod TypeLaws
+pub mod SoundJoins
+pub mod JoinedTables
+pub mod SeenLaws
+pub mod WalkLaws
+pub mod TextLaws
+pub mod InputLaws

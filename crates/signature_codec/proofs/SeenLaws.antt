@@ -1,0 +1,124 @@
+-- Which tetrahedra are seen before a face is taken.
+use Rattle.std.proofs.Common.{◌≡◌, ℕ, zero, suc, ◌+◌, ◌-◌, ◌*◌, ◌/◌, ◌%◌, ◌<◌, ◌≤◌, Bool, true, false, List, [], ◌∷◌, ◌++◌, length, map, Option, Some, None, refl, sym, ap, ◌∙◌, subst, arith, ◌⊎◌, inl, inr, ⊎_elim}
+use Rattle.std.specs.Prelude.{nat_lt, nat_le, not, find, filter_map, ◌||◌, ◌&&◌, ◌==◌, if◌then◌else◌, cond}
+use Rattle.std.specs.List.{list_any, list_all, range_with_len}
+use Rattle.std.proofs.lemmas.Bool.{eqb-true, eq-eqb, lt-ltb, le-ltb, cases_lt, cases_eq, false≢true}
+use Rattle.std.proofs.lemmas.List.Elements.{filter_map-append}
+use Rattle.std.proofs.lemmas.List.FromFn.{map-range_with_len_more}
+use borrow.Author.Tests.{ltb-true}
+use Rattle.table_definitions.specs.Lists.{below, same_list}
+use Rattle.table_definitions.specs.Permutation.{identity}
+use Rattle.table_definitions.specs.Table.{Gluing, Row, Face, glue, other_side, way_back, faces, is_face_before}
+use Rattle.signature_definitions.specs.WalkOrder.{is_glued_to, is_seen, is_ordered_gluing, is_ordered_at}
+use Rattle.signature_codec.specs.Slots.{face_at}
+use Rattle.signature_codec.proofs.Simulation.{faces-places, by_bool}
+
+-- a truth value that is neither of two
+
+or_false : (b : Bool) → (b || false) ≡ b
+or_false true = refl
+or_false false = refl
+
+or_assoc : (a b c : Bool) → ((a || b) || c) ≡ (a || (b || c))
+or_assoc true b c = refl
+or_assoc false b c = refl
+
+pub or_left : (a b : Bool) → a ≡ true → (a || b) ≡ true
+or_left a b h = rw h refl
+
+-- whether one of the numbers before k does, among those from a on
+list_any-none : {A : Type 0} (p : A → Bool) (xs : List A) → ((x : A) → p x ≡ false) → list_any p xs ≡ false
+list_any-none p [] h = refl
+list_any-none p (x ∷ xs) h = rw (h x) (list_any-none p xs h)
+
+list_any-map : {A B : Type 0} (p : B → Bool) (f : A → B) (xs : List A) → list_any p (map f xs) ≡ list_any (λ x. p (f x)) xs
+list_any-map p f [] = refl
+list_any-map p f (x ∷ xs) = ap (λ b. p (f x) || b) (list_any-map p f xs)
+
+list_any-same : {A : Type 0} (p q : A → Bool) (xs : List A) → ((x : A) → p x ≡ q x) → list_any p xs ≡ list_any q xs
+list_any-same p q [] h = refl
+list_any-same p q (x ∷ xs) h = let e = h x in let f = list_any-same p q xs h in cc
+
+not_below : (q : ℕ → Bool) (k a c : ℕ) → k ≤ a → list_any (λ m. nat_lt m k && q m) (range_with_len a c) ≡ false
+not_below q k a zero l = refl
+not_below q k a (suc c) l = rw (le-ltb a k l) (not_below q k (a + 1) c (omega arith))
+
+any_below : (q : ℕ → Bool) (k a c d : ℕ) → k ≡ a + d → d ≤ c → list_any (λ m. nat_lt m k && q m) (range_with_len a c) ≡ list_any q (range_with_len a d)
+any_below q k a c zero e l = not_below q k a c (omega arith)
+any_below q k a zero (suc d) e l = absurd (omega arith)
+any_below q k a (suc c) (suc d) e l =
+    let lt : a < k = omega arith in
+    rw (lt-ltb a k lt) (ap (λ b. q a || b) (any_below q k (a + 1) c d (omega arith) (omega arith)))
+
+list_any-append : {A : Type 0} (p : A → Bool) (xs ys : List A) → list_any p (xs ++ ys) ≡ (list_any p xs || list_any p ys)
+list_any-append p [] ys = refl
+list_any-append p (x ∷ xs) ys = ap (λ b. p x || b) (list_any-append p xs ys) ∙ sym (or_assoc (p x) (list_any p xs) (list_any p ys))
+
+range-more : (a n : ℕ) → range_with_len a (n + 1) ≡ range_with_len a n ++ (a + n) ∷ []
+range-more a zero = ap (λ k. k ∷ []) (omega arith)
+range-more a (suc n) = let e : suc n + 1 ≡ suc (n + 1) = omega arith in let f : a + 1 + n ≡ a + suc n = omega arith in rw e (ap (λ xs. a ∷ xs) (range-more (a + 1) n ∙ ap (λ k. range_with_len (a + 1) n ++ k ∷ []) f))
+
+pub below-more : (n : ℕ) → below (n + 1) ≡ below n ++ n ∷ []
+below-more n = range-more 0 n ∙ ap (λ k. below n ++ k ∷ []) (omega arith)
+
+-- the order of faces is that of their places
+before_places : (m k : ℕ) → is_face_before (face_at m) (face_at k) ≡ nat_lt m k
+before_places m k =
+    ⊎_elim
+    (λ (l : m < k). sym (lt-ltb m k l ∙ sym (here l)))
+    (λ (l : k ≤ m). sym (le-ltb m k l ∙ sym (there l)))
+    (cases_lt m k)
+  where
+    here : m < k → is_face_before (face_at m) (face_at k) ≡ true
+    here l = ⊎_elim
+        (λ (t : m / 4 < k / 4). or_left (nat_lt (m / 4) (k / 4)) ((m / 4 == k / 4) && nat_lt (m % 4) (k % 4)) (lt-ltb (m / 4) (k / 4) t))
+        (λ (t : k / 4 ≤ m / 4). let same : m / 4 ≡ k / 4 = omega arith in let f : m % 4 < k % 4 = omega arith in
+        rw (le-ltb (m / 4) (k / 4) t, eq-eqb (m / 4) (k / 4) same, lt-ltb (m % 4) (k % 4) f) refl)
+        (cases_lt (m / 4) (k / 4))
+
+    there : k ≤ m → is_face_before (face_at m) (face_at k) ≡ false
+    there l =
+        let t : k / 4 ≤ m / 4 = omega arith in
+        rw (le-ltb (m / 4) (k / 4) t) (by_bool (m / 4 == k / 4)
+        (λ e. let same = eqb-true (m / 4) (k / 4) e in let f : k % 4 ≤ m % 4 = omega arith in rw (e, le-ltb (m % 4) (k % 4) f) refl)
+        (λ e. rw e refl))
+
+-- whether a tetrahedron is 0, or one of the first k faces leads to it
+pub seen_upto : List Row → ℕ → ℕ → Bool
+seen_upto rows k u = (u == 0) || list_any (λ m. is_glued_to u (glue rows (face_at m))) (below k)
+
+pub is_seen-places : (rows : List Row) (k u : ℕ) → k ≤ 4 * length rows → is_seen rows (face_at k) u ≡ seen_upto rows k u
+unfolding seen_upto
+is_seen-places rows k u l =
+    ap (λ b. (u == 0) || b)
+    (ap (list_any (λ y. is_face_before y (face_at k) && is_glued_to u (glue rows y))) (faces-places (length rows))
+    ∙ list_any-map (λ y. is_face_before y (face_at k) && is_glued_to u (glue rows y)) face_at (below (4 * length rows))
+    ∙ list_any-same (λ m. is_face_before (face_at m) (face_at k) && is_glued_to u (glue rows (face_at m))) (λ m. nat_lt m k && is_glued_to u (glue rows (face_at m))) (below (4 * length rows))
+    (λ m. ap (λ b. b && is_glued_to u (glue rows (face_at m))) (before_places m k))
+    ∙ any_below (λ m. is_glued_to u (glue rows (face_at m))) k 0 (4 * length rows) k (omega arith) l)
+
+seen_upto-more : (rows : List Row) (k u : ℕ) → seen_upto rows (k + 1) u ≡ (seen_upto rows k u || is_glued_to u (glue rows (face_at k)))
+unfolding seen_upto
+seen_upto-more rows k u =
+    ap (λ ks. (u == 0) || list_any (λ m. is_glued_to u (glue rows (face_at m))) ks) (below-more k)
+    ∙ ap (λ b. (u == 0) || b) (list_any-append (λ m. is_glued_to u (glue rows (face_at m))) (below k) (k ∷ [])
+    ∙ ap (λ b. list_any (λ m. is_glued_to u (glue rows (face_at m))) (below k) || b) (or_false (is_glued_to u (glue rows (face_at k)))))
+    ∙ sym (or_assoc (u == 0) (list_any (λ m. is_glued_to u (glue rows (face_at m))) (below k)) (is_glued_to u (glue rows (face_at k))))
+
+-- one more face
+pub is_seen-more : (rows : List Row) (k u : ℕ) → k + 1 ≤ 4 * length rows → is_seen rows (face_at (k + 1)) u ≡ (is_seen rows (face_at k) u || is_glued_to u (glue rows (face_at k)))
+is_seen-more rows k u l =
+    is_seen-places rows (k + 1) u l ∙ seen_upto-more rows k u ∙ ap (λ b. b || is_glued_to u (glue rows (face_at k))) (sym (is_seen-places rows k u (omega arith)))
+
+pub is_seen-begun : (rows : List Row) (u : ℕ) → is_seen rows (face_at 0) u ≡ (u == 0)
+is_seen-begun rows u = is_seen-places rows 0 u (omega arith) ∙ begun
+  where
+    begun : seen_upto rows 0 u ≡ (u == 0)
+    begun = unfold seen_upto in or_false (u == 0)
+
+-- what is seen stays seen
+pub is_seen-later : (rows : List Row) (k d u : ℕ) → k + d ≤ 4 * length rows → is_seen rows (face_at k) u ≡ true → is_seen rows (face_at (k + d)) u ≡ true
+is_seen-later rows k zero u l h = let e : k + 0 ≡ k = omega arith in rw e h
+is_seen-later rows k (suc d) u l h =
+    let e : k + suc d ≡ k + d + 1 = omega arith in
+    rw e (is_seen-more rows (k + d) u (omega arith) ∙ or_left (is_seen rows (face_at (k + d)) u) (is_glued_to u (glue rows (face_at (k + d)))) (is_seen-later rows k d u (omega arith) h))

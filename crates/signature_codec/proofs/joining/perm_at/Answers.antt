@@ -1,0 +1,10 @@
+use Rattle.std.proofs.Common.{◌≡◌, Some, sym, [], ℕ, List}
+use Rattle.std.specs.List.{slice_index_or}
+use Rattle.perm_four.proofs.Permutations.{index-words, words_permute}
+use Rattle.table_definitions.specs.Permutation.{words}
+use Rattle.signature_codec.proofs.joining.perm_at.Goals as goal
+
+pub returns : goal.returns
+returns c =
+    let found : Some c.in-Some.perm ≡ Some (slice_index_or words c.args.index []) = c.in-Some.ensures.found (slice_index_or words c.args.index []) (words_permute c.args.index c.requires) (index-words c.args.index c.requires) in
+    cc

@@ -1,0 +1,34 @@
+-- The phases of reading, as the definitions see what the calls answer.
+use Rattle.std.specs.Prelude.{ℕ, ◌+◌, ◌*◌, List, [], length, nat_lt, Result, Ok}
+use Rattle.text_definitions.specs.Reading.{◌>>=◌}
+use Rattle.table_definitions.specs.Lists.{times_in}
+use Rattle.signature_definitions.specs.SignatureText as signatures
+use Rattle.signature_codec.specs.declared.heads.Head.{Head}
+use Rattle.signature_codec.specs.declared.types.Types.{Types}
+use Rattle.signature_codec.specs.declared.parts.Parts.{Parts}
+
+abbrev pub head_shown : Head → signatures.Head
+head_shown h = record { count = h.count; width = h.width; next = h.next }
+
+abbrev pub types_shown : Types → signatures.Types
+types_shown t = record { read = t.read.items; left = t.left; ones = t.ones }
+
+-- no type is read yet
+abbrev pub types_begun : ℕ → signatures.Types
+types_begun n = record { read = []; left = 4 * n; ones = 0 }
+
+-- the types, and the place behind them
+abbrev pub read_behind : Types → signatures.Types × ℕ
+read_behind t = (types_shown t, t.next)
+
+abbrev pub parts_shown : Parts → signatures.Parts
+parts_shown p = record { types = p.types.items; destinations = p.destinations.items; gluings = p.gluings.items }
+
+-- what is read behind the types
+abbrev pub parts_of : List ℕ → signatures.Head → signatures.Types → ℕ → Result signatures.Parts signatures.SigFault
+parts_of text h s at =
+    let twos : ℕ = times_in s.read 2 in
+    let gluings_at : ℕ = at + h.width * twos in do
+      d ← signatures.unless (nat_lt (s.ones + 1) h.count) signatures.unreached (signatures.numbers_in twos text h.width h.count signatures.destination at)
+      g ← signatures.numbers_in twos text 1 24 signatures.gluing gluings_at
+      signatures.unless (nat_lt (gluings_at + twos) (length text)) (signatures.trailing (gluings_at + twos)) (Ok (record { types = s.read; destinations = d; gluings = g }))

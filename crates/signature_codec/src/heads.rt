@@ -1,0 +1,95 @@
+//! The count of tetrahedra, with which a text begins.
+
+ghost use Rattle.std.specs.Prelude.{◌≡◌, ◌<◌, ◌≤◌, length, IfOk};
+ghost use Rattle.signature_definitions.specs.SignatureText as signatures;
+ghost use Rattle.signature_definitions.specs.Spelling as spellings;
+ghost use Rattle.signature_codec.specs.Faults.{Reads};
+ghost use Rattle.signature_codec.specs.Parts.{head_shown};
+
+use crate::SigFault;
+use crate::numbers::{number_in, value_at};
+use gluing_table::MAX_TETS;
+
+/// The count of tetrahedra, the number of characters for a number, and the place of the types.
+#[derive(Clone, Copy)]
+pub struct Head {
+    pub count: u32,
+    pub width: u32,
+    pub next: usize,
+}
+
+/// The count of so many tetrahedra takes one character.
+const FIRST_LONG: u32 = 63;
+
+/// The number of characters for a number in a text of so many tetrahedra.
+pub fn width(count: u32) -> u32
+    ensures value { result ≡ spellings.width count }
+    ensures in_range { result ≤ 3 }
+{
+    if count < 64 {
+        1
+    } else if count < 4096 {
+        2
+    } else {
+        3
+    }
+}
+
+/// The head of a text behind `-` and this width.
+fn wide_head(text: &[u8], width_read: u32) -> Result<Head, SigFault>
+    requires in_text { 2 ≤ length text.now }
+    requires narrow { width_read < 3 }
+    ensures reads { Reads head_shown result (signatures.wide_head text.now width_read) }
+    ensures few { IfOk result (λ h. h.count ≤ 1000) }
+    ensures narrow { IfOk result (λ h. h.width ≤ 2) }
+    ensures in_text { IfOk result (λ h. h.next ≤ length text.now) }
+{
+    let count = number_in(text, width_read, 2)?;
+    if count > MAX_TETS {
+        return Err(SigFault::TooMany);
+    }
+    if count < FIRST_LONG || width_read != width(count) {
+        return Err(SigFault::Width { at: 1 });
+    }
+    Ok(Head {
+        count,
+        width: width_read,
+        next: width_read as usize + 2,
+    })
+}
+
+/// The head of a text that begins with `-`.
+fn long_head(text: &[u8]) -> Result<Head, SigFault>
+    ensures reads { Reads head_shown result (signatures.long_head text.now) }
+    ensures few { IfOk result (λ h. h.count ≤ 1000) }
+    ensures narrow { IfOk result (λ h. h.width ≤ 2) }
+    ensures in_text { IfOk result (λ h. h.next ≤ length text.now) }
+{
+    let width_read = value_at(text, 1)?;
+    if width_read == 0 {
+        return Err(SigFault::Width { at: 1 });
+    }
+    if width_read >= 3 {
+        return Err(SigFault::TooMany);
+    }
+    wide_head(text, width_read)
+}
+
+/// The head of a text.
+#[tactic(auto, unfolding(signature_definitions::specs::SignatureText::head_of))]
+pub fn head_of(text: &[u8]) -> Result<Head, SigFault>
+    ensures reads { Reads head_shown result (signatures.head_of text.now) }
+    ensures few { IfOk result (λ h. h.count ≤ 1000) }
+    ensures narrow { IfOk result (λ h. h.width ≤ 2) }
+    ensures in_text { IfOk result (λ h. h.next ≤ length text.now) }
+{
+    let count = value_at(text, 0)?;
+    if count == FIRST_LONG {
+        return long_head(text);
+    }
+    Ok(Head {
+        count,
+        width: 1,
+        next: 1,
+    })
+}

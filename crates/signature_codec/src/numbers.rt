@@ -1,0 +1,89 @@
+//! Values and numbers in a text.
+
+ghost use Rattle.std.specs.Prelude.{◌≡◌, ◌<◌, ◌≤◌, ◌+◌, ◌*◌, ◌^◌, length, IfOk, OnOk};
+ghost use Rattle.signature_definitions.specs.SignatureText as signatures;
+ghost use Rattle.signature_codec.specs.Faults.{Reads, fault_of_part};
+
+use crate::SigFault;
+use crate::characters::value_of;
+use std::alloc::Global;
+
+/// The two parts of a text that are numbers one after the other.
+#[derive(Clone, Copy)]
+pub enum Part {
+    Destinations,
+    Gluings,
+}
+
+impl Part {
+    ghost use Rattle.signature_codec.specs.Faults.{answer_of_part};
+
+    /// The fault of a number that is out of range.
+    fn fault(self, at: usize) -> SigFault
+        ensures { result ≡ answer_of_part self at }
+    {
+        match self {
+            Part::Destinations => SigFault::Destination { at },
+            Part::Gluings => SigFault::Gluing { at },
+        }
+    }
+}
+
+/// The value of the character at a place.
+pub fn value_at(text: &[u8], at: usize) -> Result<u32, SigFault>
+    ensures reads { Reads (λ v. v) result (signatures.value_at text.now at) }
+    ensures in_range { IfOk result (λ v. v < 64) }
+    ensures in_text { OnOk result (at < length text.now) }
+{
+    if at >= text.len() {
+        return Err(SigFault::Short { at: text.len() });
+    }
+    match value_of(text[at]) {
+        Some(value) => Ok(value as u32),
+        None => Err(SigFault::BadChar { at }),
+    }
+}
+
+/// The number in `width` characters, the lowest six bits first.
+pub fn number_in(text: &[u8], width: u32, at: usize) -> Result<u32, SigFault>
+    requires in_text { at ≤ length text.now }
+    requires narrow { width ≤ 3 }
+    ensures reads { Reads (λ v. v) result (signatures.number_in text.now width at) }
+    ensures in_range { IfOk result (λ v. v < 64 ^ width) }
+    ensures in_text { OnOk result (at + width ≤ length text.now) }
+{
+    if width == 0 {
+        return Ok(0);
+    }
+    let low = value_at(text, at)?;
+    let high = number_in(text, width - 1, at + 1)?;
+    Ok(low + 64 * high)
+}
+
+/// So many numbers below `bound`, each with its place.
+pub fn numbers_in(
+    alloc: Global,
+    text: &[u8],
+    part: Part,
+    many: u32,
+    width: u32,
+    bound: u32,
+    at: usize,
+) -> Result<Vec<(u32, usize)>, SigFault>
+    requires in_text { at ≤ length text.now }
+    requires narrow { width ≤ 3 }
+    requires few { many ≤ 4000 }
+    ensures reads { Reads (λ v. v.items) result (signatures.numbers_in many text.now width bound (fault_of_part part) at) }
+    ensures in_text { OnOk result (at + width * many ≤ length text.now) }
+{
+    let mut numbers = Vec::new(alloc);
+    for i in 0..many {
+        let next = at + (width * i) as usize;
+        let value = number_in(text, width, next)?;
+        if value >= bound {
+            return Err(part.fault(next));
+        }
+        numbers.push((value, next))?;
+    }
+    Ok(numbers)
+}

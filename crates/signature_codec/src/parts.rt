@@ -1,0 +1,59 @@
+//! What is read of a text before its faces are joined.
+
+ghost use Rattle.std.specs.Prelude.{◌≡◌, ◌<◌, ◌≤◌, length, IfOk};
+ghost use Rattle.table_definitions.specs.Lists.{times_in};
+ghost use Rattle.signature_codec.specs.Faults.{Reads};
+ghost use Rattle.signature_codec.specs.Parts.{head_shown, types_shown, parts_shown, parts_of};
+
+use crate::SigFault;
+use crate::heads::Head;
+use crate::numbers::{Part, numbers_in};
+use crate::types::Types;
+use std::alloc::Global;
+
+/// The count of tetrahedra, the types, and the destination and the gluing of each type 2, with their places.
+#[derive(Drop)]
+pub struct Parts {
+    pub count: u32,
+    pub types: Vec<u8>,
+    pub destinations: Vec<(u32, usize)>,
+    pub gluings: Vec<(u32, usize)>,
+}
+
+/// How many types are 2.
+fn twos_of(types: &[u8]) -> usize
+    ensures value { result ≡ times_in types.now 2 }
+    ensures in_range { result ≤ length types.now }
+{
+    types.iter().filter(|kind| **kind == 2).count()
+}
+
+/// The parts behind the types.
+pub fn read_parts(alloc: Global, text: &[u8], head: Head, types: Types) -> Result<Parts, SigFault>
+    requires in_text { types.next ≤ length text.now }
+    requires narrow { head.width ≤ 2 }
+    requires few { head.count ≤ 1000 }
+    requires few_types { length types.read.items ≤ 4000 }
+    requires few_ones { types.ones ≤ 1000 }
+    ensures reads { Reads parts_shown result (parts_of text.now (head_shown head) (types_shown types) types.next) }
+    ensures count { IfOk result (λ p. p.count ≡ head.count) }
+{
+    let twos = twos_of(&types.read) as u32;
+    if types.ones + 1 < head.count {
+        return Err(SigFault::Unreached);
+    }
+    let (width, at) = (head.width, types.next);
+    let destinations = numbers_in(alloc, text, Part::Destinations, twos, width, head.count, at)?;
+    let gluings_at = at + (width * twos) as usize;
+    let gluings = numbers_in(alloc, text, Part::Gluings, twos, 1, 24, gluings_at)?;
+    let end = gluings_at + twos as usize;
+    if end < text.len() {
+        return Err(SigFault::Trailing { at: end });
+    }
+    Ok(Parts {
+        count: head.count,
+        types: types.read,
+        destinations,
+        gluings,
+    })
+}

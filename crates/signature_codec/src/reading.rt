@@ -1,0 +1,37 @@
+//! The table of a text.
+
+ghost use Rattle.std.specs.Prelude.{◌≡◌};
+ghost use Rattle.table_definitions.specs.Table.{IsTable};
+ghost use Rattle.signature_definitions.specs.SignatureText.{signature_table};
+ghost use Rattle.signature_codec.specs.Faults.{Reads};
+
+use crate::SigFault;
+use crate::heads::head_of;
+use crate::joining::join;
+use crate::parts::read_parts;
+use crate::types::read_types;
+use gluing_table::{Row, Table, TableFault};
+use std::alloc::Global;
+
+/// The table of rows that are one.
+fn table_of(alloc: Global, rows: &[Row]) -> Result<Table, SigFault>
+    requires { IsTable rows.now }
+    ensures { Reads (λ t. t) result (Ok rows.now) }
+{
+    match Table::from_rows(alloc, rows) {
+        Ok(table) => Ok(table),
+        Err(TableFault::NoMemory) => Err(SigFault::NoMemory),
+        Err(_) => unreachable!(),
+    }
+}
+
+/// The table that a text spells, or the first fault of the text.
+pub fn read_signature(alloc: Global, text: &[u8]) -> Result<Table, SigFault>
+    ensures { Reads (λ t. t) result (signature_table text.now) }
+{
+    let head = head_of(text)?;
+    let types = read_types(alloc, text, head)?;
+    let parts = read_parts(alloc, text, head, types)?;
+    let rows = join(alloc, &parts)?;
+    table_of(alloc, &rows)
+}

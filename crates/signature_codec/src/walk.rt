@@ -1,0 +1,101 @@
+//! The walk through the faces of a table in order.
+
+ghost use Rattle.std.specs.Prelude.{◌≡◌, ◌<◌, ◌≤◌, ◌*◌, length, IfOk, IfErr};
+ghost use Rattle.table_definitions.specs.Lists.{same_list};
+ghost use Rattle.table_definitions.specs.Permutation.{identity};
+ghost use Rattle.table_definitions.specs.Table as gluings;
+ghost use Rattle.table_definitions.specs.Table.{IsTable};
+ghost use Rattle.signature_codec.specs.Walks as walks;
+ghost use Rattle.signature_codec.specs.Walks.{walk_shown, Takes, IsWholeWalk, StopsAt};
+
+use crate::SpellFault;
+use crate::joining::perm_at;
+use gluing_table::{Face, Glue, Table};
+use perm_four::Perm4;
+use std::alloc::Global;
+
+/// The number of tetrahedra that are seen, the types of the faces, and the gluings of those of type 2.
+#[derive(Drop)]
+pub struct Walk {
+    pub seen: u32,
+    pub types: Vec<u8>,
+    pub gluings: Vec<Glue>,
+}
+
+fn is_before(first: Face, second: Face) -> bool
+    ensures { result ≡ gluings.is_face_before first second }
+{
+    first.tet < second.tet || (first.tet == second.tet && first.face < second.face)
+}
+
+fn is_identity(perm: Perm4) -> bool
+    ensures { result ≡ same_list perm identity }
+{
+    perm == perm_at(0)
+}
+
+/// Takes a face that is glued, if it is in order.
+fn take_glued(walk: &mut Walk, face: Face, glue: Glue) -> Result<(), SpellFault>
+    requires a_face { face.face < 4 }
+    requires few { walk.old.seen ≤ 1000 }
+    ensures takes { Takes (walk_shown walk.new) face result (walks.take_glued face glue (walk_shown walk.old)) }
+{
+    if is_before(glue.other_side(face), face) {
+        return Ok(());
+    }
+    if glue.tet < walk.seen {
+        walk.types.push(2)?;
+        walk.gluings.push(glue)?;
+        return Ok(());
+    }
+    if glue.tet == walk.seen && is_identity(glue.perm) {
+        walk.types.push(1)?;
+        walk.seen += 1;
+        return Ok(());
+    }
+    Err(SpellFault::NotOrdered {
+        tet: face.tet,
+        face: face.face,
+    })
+}
+
+/// Takes a face, if it is in order.
+fn take_face(walk: &mut Walk, table: &Table, face: Face) -> Result<(), SpellFault>
+    requires a_face { face.face < 4 }
+    requires in_range { face.tet < length table.now }
+    requires few { walk.old.seen ≤ 1000 }
+    ensures takes { Takes (walk_shown walk.new) face result (walks.take_face table.now face (walk_shown walk.old)) }
+{
+    if face.tet >= walk.seen {
+        return Err(SpellFault::NotOrdered {
+            tet: face.tet,
+            face: face.face,
+        });
+    }
+    let Some(glue) = table.glue(face) else {
+        walk.types.push(0)?;
+        return Ok(());
+    };
+    take_glued(walk, face, glue)
+}
+
+/// The walk through all faces.
+pub fn walk_of(alloc: Global, table: &Table) -> Result<Walk, SpellFault>
+    requires { IsTable table.now }
+    ensures whole { IfOk result (IsWholeWalk table.now) }
+    ensures stops { IfErr result (StopsAt table.now) }
+{
+    let mut walk = Walk {
+        seen: 1,
+        types: Vec::new(alloc),
+        gluings: Vec::new(alloc),
+    };
+    for place in 0..4 * table.len() {
+        let face = Face {
+            tet: place / 4,
+            face: (place % 4) as u8,
+        };
+        take_face(&mut walk, table, face)?;
+    }
+    Ok(walk)
+}
