@@ -11,7 +11,7 @@ use Rattle.std.proofs.lemmas.List.FromFn.{get_or-range_with_len, length-range_wi
 use Rattle.support_bits.specs.Words.{bit_of, AreWordsOf}
 use Rattle.table_definitions.specs.Lists.{below, pairs_of}
 use Rattle.surface_definitions.specs.Coordinates.{Coordinates, standard, quads, octagons, columns, columns_each, triangles_each, is_octagon, is_quad_or_octagon, clash_test, clash_list}
-use Rattle.double_description.specs.Clashes.{IsInUnion, IsClashFree}
+use Rattle.double_description.specs.Clashes.{AreClashes, IsInUnion, IsClashFree}
 use Rattle.quad_condition.specs.Partners.{is_clash, partners}
 use Rattle.quad_condition.specs.Bits.{IsOfEither, IsMarkedIn, HasTwo}
 use Rattle.quad_condition.specs.Marks.{is_marked, AreMarks, AreNear, AreMasks, HasNear}
@@ -289,3 +289,9 @@ decides_near coords n near mask sa sb a b r marks p q is close = (
   (λ t. absurd (false≢true (sym (ap not is) ∙ t))),
   (λ free. absurd (near_is_clash coords n near sa sb a b marks.near_marks p q (close.0 is) free)),
 )
+
+-- the listed pairs are of two different columns
+pub are_clashes : (coords : Coordinates) (n : ℕ) → AreClashes (columns coords n) (clash_list coords n)
+are_clashes coords n =
+    all_of_pairs (λ pair. (pair.0 < columns coords n) × (pair.1 < columns coords n) × (pair.0 ≢ pair.1)) coords n
+      (λ c e less within clashes. let low : c < columns coords n = omega arith in let apart : c ≢ e = λ same. omega arith in (low, within, apart))
