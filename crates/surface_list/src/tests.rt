@@ -41,22 +41,35 @@ fn are_surfaces(
 
 #[test]
 fn surfaces_of_small_tables(rt: HostRuntime) {
-    let sphere = [
+    let sphere = [[
         by(0, b"1023"),
         by(0, b"1023"),
         by(0, b"1230"),
         by(0, b"3012"),
-    ];
+    ]];
     let alloc = rt.alloc();
-    let two: [&[u128]; 2] = [&[1, 1, 0, 0, 1, 0, 0], &[1, 1, 1, 1, 0, 0, 0]];
-    are_surfaces(&rt, alloc, &[sphere], Coords::Standard, MAX_ENTRY, &two);
-    are_surfaces(&rt, alloc, &[sphere], Coords::Standard, 1, &two);
-    let free = [None, None, None, None];
+    are_surfaces(
+        &rt,
+        alloc,
+        &sphere,
+        Coords::Standard,
+        MAX_ENTRY,
+        &[&[1, 1, 0, 0, 1, 0, 0], &[1, 1, 1, 1, 0, 0, 0]],
+    );
+    are_surfaces(
+        &rt,
+        alloc,
+        &sphere,
+        Coords::Standard,
+        1,
+        &[&[1, 1, 0, 0, 1, 0, 0], &[1, 1, 1, 1, 0, 0, 0]],
+    );
+    let free = [[None, None, None, None]];
     are_surfaces(&rt, alloc, &[], Coords::Standard, MAX_ENTRY, &[]);
     are_surfaces(
         &rt,
         alloc,
-        &[free],
+        &free,
         Coords::Standard,
         MAX_ENTRY,
         &[
