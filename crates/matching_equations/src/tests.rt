@@ -11,6 +11,14 @@ fn by(tet: u32, word: &[u8]) -> Option<Glue> {
     }
 }
 
+fn entries(system: &System, i: u32) -> &[(u32, i32)] {
+    if i < system.len() {
+        system.row(i).entries()
+    } else {
+        &[]
+    }
+}
+
 #[test]
 fn a_sphere_has_six_rows(rt: HostRuntime) -> Result<(), NoMemory> {
     let row = [
@@ -20,7 +28,35 @@ fn a_sphere_has_six_rows(rt: HostRuntime) -> Result<(), NoMemory> {
         by(0, b"3012"),
     ];
     let table = Table::from_rows(rt.alloc(), &[row]).expect(&rt, "a table");
-    let system = matching_system(rt.alloc(), Coords::Standard, &table)?;
-    assert_eq!(rt; system.len(), 6);
+    let standard = matching_system(rt.alloc(), Coords::Standard, &table)?;
+    assert_eq!(rt; standard.columns(), 7);
+    assert_eq!(rt; standard.len(), 6);
+    assert_eq!(rt; entries(&standard, 0), &[(0u32, -1), (1, 1)][..]);
+    assert_eq!(rt; entries(&standard, 1), &[(5u32, 1), (6, -1)][..]);
+    assert_eq!(rt; entries(&standard, 2), &[(5u32, -1), (6, 1)][..]);
+    assert_eq!(rt; entries(&standard, 3), &[(0u32, 1), (1, -1)][..]);
+    assert_eq!(rt;
+        entries(&standard, 4),
+        &[(1u32, 1), (2, -1), (4, -1), (6, 1)][..]
+    );
+    assert_eq!(rt;
+        entries(&standard, 5),
+        &[(0u32, -1), (3, 1), (4, 1), (6, -1)][..]
+    );
+    let octagon = matching_system(rt.alloc(), Coords::Octagon, &table)?;
+    assert_eq!(rt; octagon.len(), 6);
+    assert_eq!(rt;
+        entries(&octagon, 4),
+        &[(1u32, 1), (2, -1), (4, -1), (6, 1), (7, 1), (9, -1)][..]
+    );
     Ok(())
+}
+
+#[test]
+fn pieces_have_columns(rt: HostRuntime) {
+    assert_eq!(rt; columns(Coords::Quad, 2), 6);
+    assert_eq!(rt; column(Coords::Standard, 1, Piece::Quad(2)), Some(13));
+    assert_eq!(rt; column(Coords::Octagon, 1, Piece::Oct(0)), Some(17));
+    assert_eq!(rt; column(Coords::Quad, 1, Piece::Tri(0)), None);
+    assert_eq!(rt; column(Coords::Standard, 0, Piece::Tri(4)), None);
 }

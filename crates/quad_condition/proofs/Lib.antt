@@ -1,2 +1,4 @@
 pub mod Pairs
 pub mod Verdicts
+pub mod BitLemmas
+pub mod MarkLemmas

@@ -50,11 +50,11 @@ partners_whole coords n first last within none =
     ∙ quiet coords first last (columns coords n - last) (λ k low high. and_right (nat_lt first k) (clash_test coords first k) (none k low (omega arith))))
 
 -- a list that is followed by more
-record IsPrefix (xs ys : Pairs) : Type 0 where
-  rest : Pairs
-  is : ys ≡ xs ++ rest
+pub record IsPrefix (xs ys : Pairs) : Type 0 where
+  pub rest : Pairs
+  pub is : ys ≡ xs ++ rest
 
-prefix_by : (coords : Coordinates) (first a d : ℕ) → IsPrefix (partners_before coords first a) (partners_before coords first (a + d))
+pub prefix_by : (coords : Coordinates) (first a d : ℕ) → IsPrefix (partners_before coords first a) (partners_before coords first (a + d))
 prefix_by coords first a zero = record { rest = []; is = ap (partners_before coords first) (add-zero a) ∙ sym (append-nil (partners_before coords first a)) }
 prefix_by coords first a (suc d) =
     let e : a + suc d ≡ (a + d) + 1 = omega arith in
@@ -146,7 +146,7 @@ pub passed_column : (x : List ℕ) (coords : Coordinates) (n first : ℕ) → fi
     → find (both_nonzero x) (pairs_before coords n (first + 1)) ≡ None
 passed_column x coords n first none here = find_more (both_nonzero x) coords n first none ∙ sym here
 
-pairs_prefix : (coords : Coordinates) (n a d : ℕ) → IsPrefix (pairs_before coords n a) (pairs_before coords n (a + d))
+pub pairs_prefix : (coords : Coordinates) (n a d : ℕ) → IsPrefix (pairs_before coords n a) (pairs_before coords n (a + d))
 pairs_prefix coords n a zero = record { rest = []; is = ap (pairs_before coords n) (add-zero a) ∙ sym (append-nil (pairs_before coords n a)) }
 pairs_prefix coords n a (suc d) =
     let e : a + suc d ≡ (a + d) + 1 = omega arith in

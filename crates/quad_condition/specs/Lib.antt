@@ -1,2 +1,4 @@
 pub mod Partners
 pub mod Faults
+pub mod Bits
+pub mod Marks

@@ -4,6 +4,7 @@ ghost use Rattle.std.specs.Prelude.{◌≡◌, ℕ, ◌+◌, ◌<◌, ◌≤◌,
 ghost use Rattle.surface_definitions.specs.Coordinates as coordinates;
 ghost use Rattle.surface_definitions.specs.Verdict.{both_nonzero};
 ghost use Rattle.matching_equations.specs.Columns.{coordinates_of};
+ghost use Rattle.double_description.specs.Clashes.{AreClashes};
 ghost use Rattle.quad_condition.specs.Partners.{partners};
 
 use matching_equations::{Coords, columns, columns_each, triangles_each};
@@ -76,7 +77,8 @@ fn push_partners(
 /// All clashing pairs of columns, the lesser column first, ascending.
 pub fn clash_list(alloc: Global, coords: Coords, tets: u32) -> Result<Vec<(u32, u32)>, NoMemory>
     requires { tets ≤ 1000 }
-    ensures { IfOk result (λ clashes. clashes.items ≡ coordinates.clash_list (coordinates_of coords) tets) }
+    ensures pairs { IfOk result (λ clashes. clashes.items ≡ coordinates.clash_list (coordinates_of coords) tets) }
+    ensures apart { IfOk result (λ clashes. AreClashes (coordinates.columns (coordinates_of coords) tets) clashes.items) }
 {
     let mut clashes = Vec::new(alloc);
     for first in 0..columns(coords, tets) {

@@ -3,9 +3,12 @@
 
 mod check;
 mod clashes;
+mod masks;
+mod words;
 
 pub use check::{VectorFault, check_vector};
 pub use clashes::{clash_list, first_clash};
+pub use masks::Masks;
 
 #[cfg(test)]
 mod tests;

@@ -1,10 +1,62 @@
 use super::*;
-use matching_equations::Coords;
+use cone_core::MAX_ENTRY;
+use gluing_table::{Glue, Table};
+use matching_equations::{Coords, matching_system};
+use no_memory::NoMemory;
+use perm_four::Perm4;
+
+fn by(tet: u32, word: &[u8]) -> Option<Glue> {
+    match Perm4::from_word(word) {
+        Some(perm) => Some(Glue { tet, perm }),
+        None => None,
+    }
+}
 
 #[test]
-fn octagons_of_two_tetrahedra_clash(rt: HostRuntime) {
+fn vectors_of_a_sphere_are_checked(rt: HostRuntime) -> Result<(), NoMemory> {
+    let row = [
+        by(0, b"1023"),
+        by(0, b"1023"),
+        by(0, b"1230"),
+        by(0, b"3012"),
+    ];
+    let table = Table::from_rows(rt.alloc(), &[row]).expect(&rt, "a table");
+    let system = matching_system(rt.alloc(), Coords::Standard, &table)?;
+    let big = MAX_ENTRY;
+    let check = |x: &[u128]| check_vector(Coords::Standard, 1, &system, x).err();
+    assert_eq!(rt; check(&[1, 1, 0, 0, 1, 0, 0]), None);
+    assert_eq!(rt;
+        check(&[1, 0, 0, 0, 0, 0, 0]),
+        Some(VectorFault::NotSolution { row: 0 })
+    );
+    let clash = VectorFault::Clash {
+        first: 5,
+        second: 6,
+    };
+    assert_eq!(rt; check(&[0, 0, 1, 1, 0, 1, 1]), Some(clash));
+    assert_eq!(rt;
+        check(&[1, 1, 0, 0, 1, 0]),
+        Some(VectorFault::Length { got: 6 })
+    );
+    assert_eq!(rt; check(&[0, 0, 0, 0, 0, 0, 0]), None);
+    assert_eq!(rt;
+        check(&[big, big, 0, 0, 0, big, big]),
+        Some(VectorFault::Large { row: 4 })
+    );
+    Ok(())
+}
+
+#[test]
+fn octagons_of_two_tetrahedra_clash(rt: HostRuntime) -> Result<(), NoMemory> {
     let mut x = [0u128; 20];
     x[7] = 1;
     x[17] = 1;
     assert_eq!(rt; first_clash(Coords::Octagon, 2, &x), Some((7, 17)));
+    let pairs = clash_list(rt.alloc(), Coords::Quad, 2)?;
+    assert_eq!(rt;
+        pairs.as_slice(),
+        &[(0u32, 1u32), (0, 2), (1, 2), (3, 4), (3, 5), (4, 5)][..]
+    );
+    assert_eq!(rt; clash_list(rt.alloc(), Coords::Octagon, 2)?.len(), 39);
+    Ok(())
 }

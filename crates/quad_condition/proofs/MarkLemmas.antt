@@ -1,0 +1,297 @@
+-- Masks of columns, and the clashing pairs that they find.
+use Rattle.std.proofs.Common.{◌≡◌, ◌≢◌, ℕ, zero, suc, ◌+◌, ◌-◌, ◌*◌, ◌/◌, ◌%◌, ◌<◌, ◌≤◌, Bool, true, false, cond, eqb, List, [], ◌∷◌, ◌++◌, length, map, filter, replicate, get_or, Vec, ⊎_elim, sym, ◌∙◌, ap, refl, subst, ◌⊎◌, inl, inr, arith}
+use Rattle.std.specs.Prelude.{◌==◌, ◌&&◌, ◌||◌, not, nat_lt, nat_le, IsTrue, ◌↔◌}
+use Rattle.std.specs.List.{All, flat_map}
+use Rattle.std.specs.Int.{bit_at}
+use Rattle.std.specs.declared.alloc.Global.{Global}
+use Rattle.std.proofs.lemmas.Bool.{eqb-true, eq-eqb, ltb-true, lt-ltb, le-ltb, leb-true, le-leb, and_parts, and_from, and_left, or_left, or_right, cases_eq, cases_order, false≢true, false_from_ne_true}
+use Rattle.std.proofs.lemmas.Nat.Bits.{bit_at-zero}
+use Rattle.std.proofs.lemmas.List.Elements.{All-map, All-append, All-cons}
+use Rattle.std.proofs.lemmas.List.FromFn.{get_or-range_with_len, length-range_with_len}
+use Rattle.support_bits.specs.Words.{bit_of, AreWordsOf}
+use Rattle.table_definitions.specs.Lists.{below, pairs_of}
+use Rattle.surface_definitions.specs.Coordinates.{Coordinates, standard, quads, octagons, columns, columns_each, triangles_each, is_octagon, is_quad_or_octagon, clash_test, clash_list}
+use Rattle.double_description.specs.Clashes.{AreClashes, IsInUnion, IsClashFree}
+use Rattle.quad_condition.specs.Partners.{is_clash, partners}
+use Rattle.quad_condition.specs.Bits.{IsOfEither, IsMarkedIn, HasTwo}
+use Rattle.quad_condition.specs.Marks.{is_marked, AreMarks, AreNear, AreMasks, HasNear}
+use Rattle.quad_condition.proofs.Pairs.{Pairs, IsPrefix, prefix_by, pairs_prefix, partners_before, partners_more, pairs_before, all_pairs}
+use Rattle.matching_equations.proofs.Ranges.{flat_map-more}
+
+-- words of no column
+zeros_at : (m j : ℕ) → get_or {A = ℕ} (replicate m 0) j 0 ≡ 0
+zeros_at zero j = refl
+zeros_at (suc m) zero = refl
+zeros_at (suc m) (suc j) = zeros_at m j
+
+pub no_marks : (m k : ℕ) (marked : Bool) → bit_of (replicate m 0) k ≡ (nat_lt k 0 && marked)
+no_marks m k marked =
+    ap (λ n. eqb (bit_at n (k % 64)) 1) (zeros_at m (k / 64)) ∙ ap (λ n. eqb n 1) (bit_at-zero (k % 64)) ∙ sym (and_left (nat_lt k 0) marked (le-ltb k 0 (omega arith)))
+
+-- one column more
+below_other : (k column : ℕ) → k ≢ column → nat_lt k (column + 1) ≡ nat_lt k column
+below_other k column other = go (cases_order k column)
+  where
+    go : (k ≡ column) ⊎ ((k < column) ⊎ (column < k)) → nat_lt k (column + 1) ≡ nat_lt k column
+    go (inl same) = absurd (other same)
+    go (inr (inl less)) = lt-ltb k (column + 1) (omega arith) ∙ sym (lt-ltb k column less)
+    go (inr (inr more)) = le-ltb k (column + 1) (omega arith) ∙ sym (le-ltb k column (omega arith))
+
+abbrev pub MarkedBelow : (ℕ → Bool) → ℕ → List ℕ → Type 0
+MarkedBelow marked column words = (k : ℕ) → bit_of words k ≡ (nat_lt k column && marked k)
+
+pub marks_set : (marked : ℕ → Bool) (column : ℕ) (old new : List ℕ) → MarkedBelow marked column old → marked column ≡ true → bit_of new column ≡ true → ((k : ℕ) → k ≢ column → bit_of new k ≡ bit_of old k)
+    → MarkedBelow marked (column + 1) new
+marks_set marked column old new before is set others k =
+    ⊎_elim
+    (λ same. ap (bit_of new) same ∙ set ∙ sym (and_from (nat_lt k (column + 1)) (marked k) (lt-ltb k (column + 1) (omega arith)) (ap marked same ∙ is)))
+    (λ other. others k other ∙ before k ∙ ap (λ b. b && marked k) (sym (below_other k column other)))
+    (cases_eq k column)
+
+pub marks_skip : (marked : ℕ → Bool) (column : ℕ) (old : List ℕ) → MarkedBelow marked column old → marked column ≡ false → MarkedBelow marked (column + 1) old
+marks_skip marked column old before is_not k =
+    ⊎_elim
+    (λ same. before k ∙ and_left (nat_lt k column) (marked k) (le-ltb k column (omega arith)) ∙ sym (and_false (nat_lt k (column + 1)) (marked k) (ap marked same ∙ is_not)))
+    (λ other. before k ∙ ap (λ b. b && marked k) (sym (below_other k column other)))
+    (cases_eq k column)
+  where
+    and_false : (x y : Bool) → y ≡ false → (x && y) ≡ false
+    and_false true y e = e
+    and_false false y e = refl
+
+-- a fact of all pairs of a list
+all_prefix : {X : Type 0} (P : X → Type 0) (xs ys : List X) → All P (xs ++ ys) → All P xs
+all_prefix P [] ys h k d l = absurd (omega arith)
+all_prefix P (x ∷ xs) ys h zero d l = h 0 d (omega arith)
+all_prefix P (x ∷ xs) ys h (suc k) d l = all_prefix P xs ys (λ j e m. h (suc j) e (omega arith)) k d (omega arith)
+
+all_suffix : {X : Type 0} (P : X → Type 0) (xs ys : List X) → All P (xs ++ ys) → All P ys
+all_suffix P [] ys h = h
+all_suffix P (x ∷ xs) ys h = all_suffix P xs ys (λ j e m. h (suc j) e (omega arith))
+
+all_of_prefix : (P : ℕ × ℕ → Type 0) (xs ys : Pairs) → IsPrefix xs ys → All P ys → All P xs
+all_of_prefix P xs ys p h = all_prefix P xs p.rest (subst (All P) p.is h)
+
+pub pair_of_all : (P : ℕ × ℕ → Type 0) (coords : Coordinates) (n : ℕ) → All P (clash_list coords n) → (c e : ℕ) → c < e → e < columns coords n → clash_test coords c e ≡ true → P (c, e)
+unfolding partners
+pair_of_all P coords n h c e less within clashes =
+    let all : (c + 1) + (columns coords n - (c + 1)) ≡ columns coords n = omega arith in
+    let rows : All P (pairs_before coords n ((c + 1) + (columns coords n - (c + 1)))) = subst (All P) (sym (all_pairs coords n) ∙ ap (pairs_before coords n) (sym all)) h in
+    let upto : All P (pairs_before coords n (c + 1)) = all_of_prefix P _ _ (pairs_prefix coords n (c + 1) (columns coords n - (c + 1))) rows in
+    let row : All P (partners coords n c) = all_suffix P (pairs_before coords n c) (partners coords n c) (subst (All P) (flat_map-more (partners coords n) c) upto) in
+    let whole : (e + 1) + (columns coords n - (e + 1)) ≡ columns coords n = omega arith in
+    let cut : All P (partners_before coords c (e + 1)) = all_of_prefix P _ _ (prefix_by coords c (e + 1) (columns coords n - (e + 1))) (subst (λ k. All P (partners_before coords c k)) (sym whole) row) in
+    let is : is_clash coords (c, e) ≡ true = and_from (nat_lt c e) (clash_test coords c e) (lt-ltb c e less) clashes in
+    let last : All P (partners_before coords c e ++ (c, e) ∷ []) = subst (All P) (partners_more coords c e ∙ ap (λ b. partners_before coords c e ++ cond b ((c, e) ∷ []) []) is) cut in
+    all_suffix P (partners_before coords c e) ((c, e) ∷ []) last 0 (c, e) (omega arith)
+
+filter_all : (P : ℕ × ℕ → Type 0) (q : ℕ × ℕ → Bool) (xs : Pairs) → All (λ x. q x ≡ true → P x) xs → All P (filter q xs)
+filter_all P q [] h = λ k d l. absurd (omega arith)
+filter_all P q (x ∷ xs) h = go (q x) refl (filter_all P q xs (λ k d l. h (suc k) d (omega arith)))
+  where
+    go : (b : Bool) → q x ≡ b → All P (filter q xs) → All P (cond b (x ∷ filter q xs) (filter q xs))
+    go true e rest = All-cons P x (filter q xs) (h 0 x (omega arith) e) rest
+    go false e rest = rest
+
+flat_map_all : (P : ℕ × ℕ → Type 0) (f : ℕ → Pairs) (ks : List ℕ) → All (λ k. All P (f k)) ks → All P (flat_map f ks)
+flat_map_all P f [] h = λ k d l. absurd (omega arith)
+flat_map_all P f (k ∷ ks) h = All-append P (f k) (flat_map f ks) (h 0 k (omega arith)) (flat_map_all P f ks (λ j d l. h (suc j) d (omega arith)))
+
+all_below : (P : ℕ → Type 0) (n : ℕ) → ((k : ℕ) → k < n → P k) → All P (below n)
+all_below P n h k d l =
+    let in_range : k < n = subst (λ m. k < m) (length-range_with_len 0 n) l in
+    let e : 0 + k ≡ k = omega arith in
+    subst P (sym (get_or-range_with_len 0 n k d in_range ∙ e)) (h k in_range)
+
+pub all_of_pairs : (P : ℕ × ℕ → Type 0) (coords : Coordinates) (n : ℕ) → ((c e : ℕ) → c < e → e < columns coords n → clash_test coords c e ≡ true → P (c, e)) → All P (clash_list coords n)
+unfolding clash_list
+all_of_pairs P coords n h =
+    filter_all P (is_clash coords) (pairs_of (below (columns coords n)) (below (columns coords n)))
+    (flat_map_all (λ x. is_clash coords x ≡ true → P x) (λ c. map (λ e. (c, e)) (below (columns coords n))) (below (columns coords n))
+    (all_below (λ c. All (λ x. is_clash coords x ≡ true → P x) (map (λ e. (c, e)) (below (columns coords n)))) (columns coords n)
+    (λ c lc. All-map (λ x. is_clash coords x ≡ true → P x) (λ e. (c, e)) (below (columns coords n))
+    (all_below (λ e. is_clash coords (c, e) ≡ true → P (c, e)) (columns coords n)
+    (λ e le is. let parts : (nat_lt c e ≡ true) × (clash_test coords c e ≡ true) = and_parts (nat_lt c e) (clash_test coords c e) is in
+    h c e (ltb-true c e parts.0) le parts.1)))))
+
+-- what a mark says of a column
+record IsAt (coords : Coordinates) (n least distance column : ℕ) : Type 0 where
+  within : column < columns coords n
+  low : least ≤ column % columns_each coords
+  room : column % columns_each coords + distance < columns_each coords
+
+marked_is_at : (coords : Coordinates) (n least distance column : ℕ) (words : List ℕ) → AreMarks coords n least distance words → bit_of words column ≡ true → IsAt coords n least distance column
+marked_is_at coords n least distance column words marks set =
+    let place : ℕ = column % columns_each coords in
+    let p : (nat_lt column (columns coords n) ≡ true) × (is_marked coords least distance column ≡ true) = and_parts (nat_lt column (columns coords n)) (is_marked coords least distance column) (sym (marks.bits column) ∙ set) in
+    let q : (nat_le least place ≡ true) × (nat_lt (place + distance) (columns_each coords) ≡ true) = and_parts (nat_le least place) (nat_lt (place + distance) (columns_each coords)) p.1 in
+    record { within = ltb-true column (columns coords n) p.0; low = leb-true least place q.0; room = ltb-true (place + distance) (columns_each coords) q.1 }
+
+at_is_marked : (coords : Coordinates) (n least distance column : ℕ) (words : List ℕ) → AreMarks coords n least distance words → IsAt coords n least distance column → bit_of words column ≡ true
+at_is_marked coords n least distance column words marks h =
+    let place : ℕ = column % columns_each coords in
+    marks.bits column ∙ and_from (nat_lt column (columns coords n)) (is_marked coords least distance column) (lt-ltb column (columns coords n) h.within)
+    (and_from (nat_le least place) (nat_lt (place + distance) (columns_each coords)) (le-leb least place h.low) (lt-ltb (place + distance) (columns_each coords) h.room))
+
+-- two places of one tetrahedron
+record IsPairOfOne (coords : Coordinates) (n c e : ℕ) : Type 0 where
+  within : e < columns coords n
+  same : c / columns_each coords ≡ e / columns_each coords
+  low : triangles_each coords ≤ e % columns_each coords
+
+pair_ahead : (coords : Coordinates) (n c d : ℕ) → IsAt coords n (triangles_each coords) d c → IsPairOfOne coords n c (c + d)
+pair_ahead standard n c d h =
+    let w : c < 7 * n = h.within in let l : 4 ≤ c % 7 = h.low in let r : c % 7 + d < 7 = h.room in
+    let same : c / 7 ≡ (c + d) / 7 = omega arith in let place : (c + d) % 7 ≡ c % 7 + d = omega arith in
+    record { within = omega arith; same = same; low = omega arith }
+pair_ahead quads n c d h =
+    let w : c < 3 * n = h.within in let r : c % 3 + d < 3 = h.room in
+    let same : c / 3 ≡ (c + d) / 3 = omega arith in let place : (c + d) % 3 ≡ c % 3 + d = omega arith in
+    record { within = omega arith; same = same; low = omega arith }
+pair_ahead octagons n c d h =
+    let w : c < 10 * n = h.within in let l : 4 ≤ c % 10 = h.low in let r : c % 10 + d < 10 = h.room in
+    let same : c / 10 ≡ (c + d) / 10 = omega arith in let place : (c + d) % 10 ≡ c % 10 + d = omega arith in
+    record { within = omega arith; same = same; low = omega arith }
+
+ahead_of_pair : (coords : Coordinates) (n c e k : ℕ) → c < e → e < columns coords n → c / columns_each coords ≡ e / columns_each coords → triangles_each coords ≤ c % columns_each coords → e ≡ c + (k + 1)
+    → IsAt coords n (triangles_each coords) (k + 1) c × (k + 2 ≤ columns_each coords - triangles_each coords)
+ahead_of_pair standard n c e k less w same low is = (record { within = omega arith; low = low; room = omega arith }, omega arith)
+ahead_of_pair quads n c e k less w same low is = (record { within = omega arith; low = low; room = omega arith }, omega arith)
+ahead_of_pair octagons n c e k less w same low is = (record { within = omega arith; low = low; room = omega arith }, omega arith)
+
+-- clashes
+near_clash : (coords : Coordinates) (c e : ℕ) → c / columns_each coords ≡ e / columns_each coords → triangles_each coords ≤ c % columns_each coords → triangles_each coords ≤ e % columns_each coords → clash_test coords c e ≡ true
+near_clash coords c e same low_c low_e =
+    or_right (is_octagon coords c && is_octagon coords e) (((c / columns_each coords == e / columns_each coords) && is_quad_or_octagon coords c) && is_quad_or_octagon coords e)
+    (and_from ((c / columns_each coords == e / columns_each coords) && is_quad_or_octagon coords c) (is_quad_or_octagon coords e)
+    (and_from (c / columns_each coords == e / columns_each coords) (is_quad_or_octagon coords c) (eq-eqb (c / columns_each coords) (e / columns_each coords) same) (le-leb (triangles_each coords) (c % columns_each coords) low_c))
+    (le-leb (triangles_each coords) (e % columns_each coords) low_e))
+
+octagon_clash : (coords : Coordinates) (c e : ℕ) → 7 ≤ c % columns_each coords → 7 ≤ e % columns_each coords → clash_test coords c e ≡ true
+octagon_clash coords c e low_c low_e =
+    or_left (is_octagon coords c && is_octagon coords e) (((c / columns_each coords == e / columns_each coords) && is_quad_or_octagon coords c) && is_quad_or_octagon coords e)
+    (and_from (is_octagon coords c) (is_octagon coords e) (le-leb 7 (c % columns_each coords) low_c) (le-leb 7 (e % columns_each coords) low_e))
+
+or_parts_true : (x y : Bool) → (x || y) ≡ true → (x ≡ true) ⊎ (y ≡ true)
+or_parts_true true y e = inl refl
+or_parts_true false y e = inr e
+
+-- supports and their words
+in_union : (sa sb : List Bool) (a b : List ℕ) (column : ℕ) → AreWordsOf sa a → AreWordsOf sb b → IsOfEither a b column → IsInUnion sa sb column
+in_union sa sb a b column p q (inl h) = inl (sym (p.bits column) ∙ h)
+in_union sa sb a b column p q (inr h) = inr (sym (q.bits column) ∙ h)
+
+of_either : (sa sb : List Bool) (a b : List ℕ) (column : ℕ) → AreWordsOf sa a → AreWordsOf sb b → IsInUnion sa sb column → IsOfEither a b column
+of_either sa sb a b column p q (inl h) = inl (p.bits column ∙ h)
+of_either sa sb a b column p q (inr h) = inr (q.bits column ∙ h)
+
+pub near_is_clash : (coords : Coordinates) (n : ℕ) (near : List (Vec ℕ Global)) (sa sb : List Bool) (a b : List ℕ) → AreNear coords n near → AreWordsOf sa a → AreWordsOf sb b → HasNear near a b
+    → IsClashFree (clash_list coords n) sa sb → ⊥
+near_is_clash coords n near sa sb a b marks p q h free =
+    let c : ℕ = h.pair.column in
+    let d : ℕ = h.place + 1 in
+    let words : AreMarks coords n (triangles_each coords) d h.mask.items = subst (λ (v : Vec ℕ Global). AreMarks coords n (triangles_each coords) d v.items) (sym (h.is_mask h.mask)) (marks.each h.place h.mask h.in_range) in
+    let at : IsAt coords n (triangles_each coords) d c = marked_is_at coords n (triangles_each coords) d c h.mask.items words h.pair.marked in
+    let pair : IsPairOfOne coords n c (c + d) = pair_ahead coords n c d at in
+    pair_of_all (λ x. ¬ (IsInUnion sa sb x.0 × IsInUnion sa sb x.1)) coords n free c (c + d) (omega arith) pair.within (near_clash coords c (c + d) pair.same at.low pair.low)
+    (in_union sa sb a b c p q h.pair.here, in_union sa sb a b (c + d) p q h.pair.ahead)
+
+pub two_is_clash : (coords : Coordinates) (n : ℕ) (mask : List ℕ) (sa sb : List Bool) (a b : List ℕ) → AreMarks coords n 7 0 mask → AreWordsOf sa a → AreWordsOf sb b → HasTwo mask a b
+    → IsClashFree (clash_list coords n) sa sb → ⊥
+two_is_clash coords n mask sa sb a b marks p q h free = go (cases_order h.first h.second)
+  where
+    at : (column : ℕ) → IsMarkedIn mask a b column → IsAt coords n 7 0 column
+    at column m = marked_is_at coords n 7 0 column mask marks m.marked
+
+    pair : (c e : ℕ) → c < e → IsMarkedIn mask a b c → IsMarkedIn mask a b e → ⊥
+    pair c e less one other =
+        pair_of_all (λ x. ¬ (IsInUnion sa sb x.0 × IsInUnion sa sb x.1)) coords n free c e less (at e other).within (octagon_clash coords c e (at c one).low (at e other).low)
+        (in_union sa sb a b c p q one.here, in_union sa sb a b e p q other.here)
+
+    go : (h.first ≡ h.second) ⊎ ((h.first < h.second) ⊎ (h.second < h.first)) → ⊥
+    go (inl same) = h.apart same
+    go (inr (inl less)) = pair h.first h.second less h.first_in h.second_in
+    go (inr (inr more)) = pair h.second h.first more h.second_in h.first_in
+
+element_at : {X : Type 0} (xs : List X) (k : ℕ) → k < length xs → (x : X) × ((d : X) → x ≡ get_or xs k d)
+element_at [] k l = absurd (omega arith)
+element_at (x ∷ xs) zero l = (x, λ d. refl)
+element_at (x ∷ xs) (suc k) l = element_at xs k (omega arith)
+
+pub free_of_clashes : (coords : Coordinates) (n : ℕ) (near : List (Vec ℕ Global)) (mask : List ℕ) (sa sb : List Bool) (a b : List ℕ) → AreMasks coords n near mask → AreWordsOf sa a → AreWordsOf sb b
+    → (HasNear near a b → ⊥) → (HasTwo mask a b → ⊥) → IsClashFree (clash_list coords n) sa sb
+free_of_clashes coords n near mask sa sb a b marks p q no_near no_two =
+    all_of_pairs (λ x. ¬ (IsInUnion sa sb x.0 × IsInUnion sa sb x.1)) coords n (λ c e less within clashes both.
+    ⊎_elim (octagon c e less within both) (one_tet c e less within both)
+    (or_parts_true (is_octagon coords c && is_octagon coords e) (((c / columns_each coords == e / columns_each coords) && is_quad_or_octagon coords c) && is_quad_or_octagon coords e) clashes))
+  where
+    place_below : (coords : Coordinates) (c : ℕ) → c % columns_each coords + 0 < columns_each coords
+    place_below standard c = omega arith
+    place_below quads c = omega arith
+    place_below octagons c = omega arith
+
+    octagon : (c e : ℕ) → c < e → e < columns coords n → IsInUnion sa sb c × IsInUnion sa sb e → (is_octagon coords c && is_octagon coords e) ≡ true → ⊥
+    octagon c e less within both h =
+        let parts : (is_octagon coords c ≡ true) × (is_octagon coords e ≡ true) = and_parts (is_octagon coords c) (is_octagon coords e) h in
+        let at : (column : ℕ) → column < columns coords n → is_octagon coords column ≡ true → bit_of mask column ≡ true =
+        λ column l t. at_is_marked coords n 7 0 column mask marks.octagon_marks (record { within = l; low = leb-true 7 (column % columns_each coords) t; room = place_below coords column }) in
+        no_two (record {
+          first = c;
+          second = e;
+          apart = λ same. omega arith;
+          first_in = record { marked = at c (omega arith) parts.0; here = of_either sa sb a b c p q both.0 };
+          second_in = record { marked = at e within parts.1; here = of_either sa sb a b e p q both.1 };
+        })
+
+    one_tet : (c e : ℕ) → c < e → e < columns coords n → IsInUnion sa sb c × IsInUnion sa sb e
+        → (((c / columns_each coords == e / columns_each coords) && is_quad_or_octagon coords c) && is_quad_or_octagon coords e) ≡ true → ⊥
+    one_tet c e less within both h =
+        let outer = and_parts ((c / columns_each coords == e / columns_each coords) && is_quad_or_octagon coords c) (is_quad_or_octagon coords e) h in
+        let inner = and_parts (c / columns_each coords == e / columns_each coords) (is_quad_or_octagon coords c) outer.0 in
+        let same : c / columns_each coords ≡ e / columns_each coords = eqb-true (c / columns_each coords) (e / columns_each coords) inner.0 in
+        let low : triangles_each coords ≤ c % columns_each coords = leb-true (triangles_each coords) (c % columns_each coords) inner.1 in
+        let k : ℕ = e - (c + 1) in
+        let is : e ≡ c + (k + 1) = omega arith in
+        let at : IsAt coords n (triangles_each coords) (k + 1) c × (k + 2 ≤ columns_each coords - triangles_each coords) = ahead_of_pair coords n c e k less within same low is in
+        let in_range : k < length near = omega (arith, marks.near_marks.reach, at.1) in
+        let found : (v : Vec ℕ Global) × ((d : Vec ℕ Global) → v ≡ get_or near k d) = element_at near k in_range in
+        let words : AreMarks coords n (triangles_each coords) (k + 1) (found.0).items =
+        subst (λ (v : Vec ℕ Global). AreMarks coords n (triangles_each coords) (k + 1) v.items) (sym (found.1 found.0)) (marks.near_marks.each k found.0 in_range) in
+        no_near (record {
+          place = k;
+          in_range = in_range;
+          mask = found.0;
+          is_mask = found.1;
+          pair = record {
+            column = c;
+            marked = at_is_marked coords n (triangles_each coords) (k + 1) c (found.0).items words at.0;
+            here = of_either sa sb a b c p q both.0;
+            ahead = subst (IsOfEither a b) is (of_either sa sb a b e p q both.1);
+          };
+        })
+
+-- an element is the same under each default
+pub any_default : {X : Type 0} (xs : List X) (k : ℕ) (x : X) → k < length xs → x ≡ get_or xs k x → (d : X) → x ≡ get_or xs k d
+any_default [] k x l e d = absurd (omega arith)
+any_default (y ∷ ys) zero x l e d = e
+any_default (y ∷ ys) (suc k) x l e d = any_default ys k x (omega arith) e d
+
+pub decides_two : (coords : Coordinates) (n : ℕ) (near : List (Vec ℕ Global)) (mask : List ℕ) (sa sb : List Bool) (a b : List ℕ) (r : Bool) → AreMasks coords n near mask → AreWordsOf sa a → AreWordsOf sb b
+    → (HasNear near a b → ⊥) → (IsTrue r ↔ HasTwo mask a b) → IsTrue (not r) ↔ IsClashFree (clash_list coords n) sa sb
+decides_two coords n near mask sa sb a b r marks p q no_near two = (
+  (λ t. free_of_clashes coords n near mask sa sb a b marks p q no_near (λ h. false≢true (sym (ap not (two.1 h)) ∙ t))),
+  (λ free. ap not (false_from_ne_true r (λ t. two_is_clash coords n mask sa sb a b marks.octagon_marks p q (two.0 t) free))),
+)
+
+pub decides_near : (coords : Coordinates) (n : ℕ) (near : List (Vec ℕ Global)) (mask : List ℕ) (sa sb : List Bool) (a b : List ℕ) (r : Bool) → AreMasks coords n near mask → AreWordsOf sa a → AreWordsOf sb b
+    → r ≡ true → (IsTrue r ↔ HasNear near a b) → IsTrue (not r) ↔ IsClashFree (clash_list coords n) sa sb
+decides_near coords n near mask sa sb a b r marks p q is close = (
+  (λ t. absurd (false≢true (sym (ap not is) ∙ t))),
+  (λ free. absurd (near_is_clash coords n near sa sb a b marks.near_marks p q (close.0 is) free)),
+)
+
+-- the listed pairs are of two different columns
+pub are_clashes : (coords : Coordinates) (n : ℕ) → AreClashes (columns coords n) (clash_list coords n)
+are_clashes coords n =
+    all_of_pairs (λ pair. (pair.0 < columns coords n) × (pair.1 < columns coords n) × (pair.0 ≢ pair.1)) coords n
+      (λ c e less within clashes. let low : c < columns coords n = omega arith in let apart : c ≢ e = λ same. omega arith in (low, within, apart))

@@ -1,0 +1,127 @@
+//! A test whether a union of supports holds a clashing pair, by words.
+
+ghost use Rattle.std.specs.Prelude.{◌≡◌, ℕ, ◌+◌, ◌<◌, ◌≤◌, ◌↔◌, Vec, length, IsTrue, IfOk, slice_index_or};
+ghost use Rattle.std.specs.declared.alloc.Global.{Global};
+ghost use Rattle.surface_definitions.specs.Coordinates as coordinates;
+ghost use Rattle.double_description.specs.Clashes.{IsClashFree};
+ghost use Rattle.matching_equations.specs.Columns.{coordinates_of};
+ghost use Rattle.quad_condition.specs.Marks as marks;
+ghost use Rattle.quad_condition.specs.Marks.{AreMarks, AreNear, HasNear};
+
+use crate::words::{has_pair_ahead, has_two, set_bit};
+use matching_equations::{Coords, columns, columns_each, triangles_each};
+use no_memory::NoMemory;
+use std::alloc::Global;
+use std::marker::Model;
+use support_bits::Support;
+
+/// The clashing pairs of so many tetrahedra as masks of columns: for each distance from 1 on the columns whose quad or
+/// octagon has another one so far ahead in its tetrahedron, and the columns of octagons.
+#[derive(Drop)]
+pub struct Masks {
+    coords: Coords,
+    tets: u32,
+    near: Vec<Vec<u64>>,
+    octagons: Vec<u64>,
+}
+
+impl Model for Masks {
+    ghost use Rattle.quad_condition.specs.Marks.{Masked};
+
+    ghost Value = { Masked };
+
+    ghost use Rattle.matching_equations.specs.Columns.{coordinates_of};
+    ghost use Rattle.quad_condition.specs.Marks.{AreMasks};
+
+    ghost view = { λ m. record { coords = m.coords; tets = m.tets } };
+
+    ghost invariant = { λ m. AreMasks (coordinates_of m.coords) m.tets m.near.items m.octagons.items };
+}
+
+/// Whether the place of a column in its tetrahedron is `least` or later and has so many places behind it.
+fn is_marked(coords: Coords, least: u32, distance: u32, column: u32) -> bool
+    requires { distance ≤ 10 }
+    ensures { result ≡ marks.is_marked (coordinates_of coords) least distance column }
+{
+    let each = columns_each(coords);
+    let place = column % each;
+    least <= place && place + distance < each
+}
+
+/// The words of the columns whose place in their tetrahedron is `least` or later and has so many places behind it.
+fn mask(
+    alloc: Global,
+    coords: Coords,
+    tets: u32,
+    least: u32,
+    distance: u32,
+) -> Result<Vec<u64>, NoMemory>
+    requires tets { tets ≤ 1000 }
+    requires distance { distance ≤ 10 }
+    ensures { IfOk result (λ words. AreMarks (coordinates_of coords) tets least distance words.items) }
+{
+    let count = columns(coords, tets);
+    let mut words = vec![in alloc; 0u64; (count as usize).div_ceil(64)]?;
+    for column in 0..count {
+        if is_marked(coords, least, distance, column) {
+            set_bit(&mut words, column);
+        }
+    }
+    Ok(words)
+}
+
+/// The masks of the distances within a tetrahedron, from 1 on.
+fn near_masks(alloc: Global, coords: Coords, tets: u32) -> Result<Vec<Vec<u64>>, NoMemory>
+    requires { tets ≤ 1000 }
+    ensures { IfOk result (λ near. AreNear (coordinates_of coords) tets near.items) }
+{
+    let least = triangles_each(coords);
+    let mut near = Vec::new(alloc);
+    for distance in 1..columns_each(coords) - least {
+        near.push(mask(alloc, coords, tets, least, distance)?)?;
+    }
+    Ok(near)
+}
+
+/// Whether a column of a mask and the one at its distance ahead are both of `a` or of `b`.
+fn has_near(near: &[Vec<u64>], a: &[u64], b: &[u64]) -> bool
+    requires few { length near.now ≤ 10 }
+    requires first { (k : ℕ) (d : Vec ℕ Global) → k < length near.now → length (slice_index_or near.now k d).items ≡ length a.now }
+    requires second { length b.now ≡ length a.now }
+    ensures { IsTrue result ↔ HasNear near.now a.now b.now }
+{
+    for (k, mask) in near.iter().enumerate() {
+        if has_pair_ahead(mask, a, b, k as u32 + 1) {
+            return true;
+        }
+    }
+    false
+}
+
+impl Masks {
+    /// The masks of the columns of so many tetrahedra.
+    pub fn new(alloc: Global, coords: Coords, tets: u32) -> Result<Masks, NoMemory>
+        requires { tets ≤ 1000 }
+        ensures { IfOk result (λ masks. masks ≡ record { coords = coords; tets = tets }) }
+    {
+        let near = near_masks(alloc, coords, tets)?;
+        let octagons = mask(alloc, coords, tets, 7, 0)?;
+        Ok(Masks {
+            coords,
+            tets,
+            near,
+            octagons,
+        })
+    }
+
+    /// Whether no clashing pair has both columns in the union of two supports.
+    pub fn allows(&self, a: &Support, b: &Support) -> bool
+        requires first { length a.now ≡ coordinates.columns (coordinates_of self.now.coords) self.now.tets }
+        requires second { length b.now ≡ coordinates.columns (coordinates_of self.now.coords) self.now.tets }
+        ensures { IsTrue result ↔ IsClashFree (coordinates.clash_list (coordinates_of self.now.coords) self.now.tets) a.now b.now }
+    {
+        let first = a.words();
+        let second = b.words();
+        !has_near(&self.near, first, second) && !has_two(&self.octagons, first, second)
+    }
+}

@@ -1,0 +1,63 @@
+//! All admissible vertex surfaces, by elimination of the equations.
+
+ghost use Rattle.std.specs.Prelude.{◌≡◌, ◌≢◌, ◌≤◌, length, IfOk, IfErr};
+ghost use Rattle.surface_definitions.specs.Coordinates as coordinates;
+ghost use Rattle.matching_equations.specs.Columns.{coordinates_of};
+ghost use Rattle.surface_list.specs.Surfaces.{AreSurfaces, AreSurfacesIn, AreRefused, matching_cone};
+
+use cone_core::{MAX_ENTRY, Ray, System};
+use double_description::{EnumFault, Order, Permit, Picker, Rays, choice, enumerate};
+use gluing_table::Table;
+use matching_equations::{Coords, matching_system};
+use quad_condition::{Masks, clash_list};
+use std::alloc::Global;
+use support_bits::Support;
+
+/// The vertex surfaces of a system in these coordinates, and the order in which its rows were taken.
+fn enumerated(
+    alloc: Global,
+    coords: Coords,
+    tets: u32,
+    system: &System,
+    order: Order,
+    limit: u128,
+) -> Result<Rays, EnumFault>
+    requires tets { tets ≤ 1000 }
+    requires columns { system.now.columns ≡ coordinates.columns (coordinates_of coords) tets }
+    requires named { order ≢ Order.Free }
+    requires some_limit { 1 ≤ limit }
+    requires most_limit { limit ≤ MAX_ENTRY }
+    ensures ok { IfOk result (AreSurfacesIn limit system.now (coordinates.clash_list (coordinates_of coords) tets) order) }
+    ensures err { IfErr result (AreRefused limit system.now (coordinates.clash_list (coordinates_of coords) tets) order) }
+{
+    let clashes = clash_list(alloc, coords, tets)?;
+    let masks = Masks::new(alloc, coords, tets)?;
+    let permit = Permit::new(clashes, system.columns(), |a: &Support, b: &Support| {
+        masks.allows(a, b)
+    });
+    let picker = Picker::new(order, |s: &System, rows: &[u32]| choice(order, s, rows));
+    enumerate(alloc, system, &permit, &picker, limit)
+}
+
+/// The vertex surfaces of a table in standard or octagon coordinates, strictly ascending, its equations taken in a
+/// named order; refused exactly where a number of a step passes the limit (Haken 1961; Burton 2010).
+pub fn surfaces_of(
+    alloc: Global,
+    table: &Table,
+    coords: Coords,
+    order: Order,
+    limit: u128,
+) -> Result<Vec<Ray>, EnumFault>
+    requires coords { coords ≢ Coords.Quad }
+    requires named { order ≢ Order.Free }
+    requires some_limit { 1 ≤ limit }
+    requires most_limit { limit ≤ MAX_ENTRY }
+    ensures ok { IfOk result (λ rays. AreSurfaces limit (matching_cone (coordinates_of coords) table.now) (coordinates.clash_list (coordinates_of coords) (length table.now)) order rays.items) }
+    ensures err { IfErr result (AreRefused limit (matching_cone (coordinates_of coords) table.now) (coordinates.clash_list (coordinates_of coords) (length table.now)) order) }
+{
+    let system = matching_system(alloc, coords, table)?;
+    let tets = table.rows().len() as u32;
+    let rays = enumerated(alloc, coords, tets, &system, order, limit)?;
+    let Rays { list, order: _ } = rays;
+    Ok(list)
+}

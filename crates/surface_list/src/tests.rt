@@ -1,0 +1,85 @@
+ghost use Rattle.std.specs.Prelude.{◌≢◌, ◌≤◌};
+
+use super::*;
+use cone_core::MAX_ENTRY;
+use double_description::Order;
+use gluing_table::{Glue, Row, Table};
+use matching_equations::Coords;
+use perm_four::Perm4;
+use std::alloc::Global;
+
+fn by(tet: u32, word: &[u8]) -> Option<Glue> {
+    match Perm4::from_word(word) {
+        Some(perm) => Some(Glue { tet, perm }),
+        None => None,
+    }
+}
+
+fn are_surfaces(
+    rt: &impl std::process::Abort,
+    alloc: Global,
+    rows: &[Row],
+    coords: Coords,
+    limit: u128,
+    vectors: &[&[u128]],
+)
+    requires coords { coords ≢ Coords.Quad }
+    requires some_limit { 1 ≤ limit }
+    requires most_limit { limit ≤ MAX_ENTRY }
+{
+    let table = Table::from_rows(alloc, rows).expect(rt, "a table");
+    match surfaces_of(alloc, &table, coords, Order::Given, limit) {
+        Ok(rays) => {
+            assert_eq!(rt; rays.len(), vectors.len());
+            for (ray, vector) in rays.iter().zip(vectors) {
+                assert_eq!(rt; ray.entries(), *vector);
+            }
+        }
+        Err(_) => assert!(rt; false),
+    }
+}
+
+#[test]
+fn surfaces_of_small_tables(rt: HostRuntime) {
+    let sphere = [[
+        by(0, b"1023"),
+        by(0, b"1023"),
+        by(0, b"1230"),
+        by(0, b"3012"),
+    ]];
+    let alloc = rt.alloc();
+    are_surfaces(
+        &rt,
+        alloc,
+        &sphere,
+        Coords::Standard,
+        MAX_ENTRY,
+        &[&[1, 1, 0, 0, 1, 0, 0], &[1, 1, 1, 1, 0, 0, 0]],
+    );
+    are_surfaces(
+        &rt,
+        alloc,
+        &sphere,
+        Coords::Standard,
+        1,
+        &[&[1, 1, 0, 0, 1, 0, 0], &[1, 1, 1, 1, 0, 0, 0]],
+    );
+    let free = [[None, None, None, None]];
+    are_surfaces(&rt, alloc, &[], Coords::Standard, MAX_ENTRY, &[]);
+    are_surfaces(
+        &rt,
+        alloc,
+        &free,
+        Coords::Standard,
+        MAX_ENTRY,
+        &[
+            &[0, 0, 0, 0, 0, 0, 1],
+            &[0, 0, 0, 0, 0, 1, 0],
+            &[0, 0, 0, 0, 1, 0, 0],
+            &[0, 0, 0, 1, 0, 0, 0],
+            &[0, 0, 1, 0, 0, 0, 0],
+            &[0, 1, 0, 0, 0, 0, 0],
+            &[1, 0, 0, 0, 0, 0, 0],
+        ],
+    );
+}
