@@ -1,0 +1,4 @@
+pub mod Requests
+pub mod Options
+pub mod Values
+pub mod Words

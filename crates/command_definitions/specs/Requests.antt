@@ -1,0 +1,32 @@
+-- The commands with the values of their options.
+use Rattle.std.specs.Prelude.{ℕ, Bool, true, false}
+use Rattle.surface_definitions.specs.Coordinates.{Coordinates, standard, quads, octagons}
+
+-- in which order the rows are taken: as they are given, those with fewest entries first, or by their leading zeros
+pub data Order : Type 0 where
+  given : Order
+  short : Order
+  zeros : Order
+
+-- A command with the values of its options: coordinates, an order, the greatest entry, a seed, a number of moves.
+pub data Request : Type 0 where
+  verify : Coordinates → Request
+  info : Request
+  surfaces : Coordinates → Order → ℕ → Request
+  rays : Order → ℕ → Request
+  describe : Coordinates → Request
+  lift : Request
+  crush : Request
+  play : Request
+  sig : Request
+  same : Request
+  group : Request
+  check : Request
+  descend : Request
+  make : ℕ → ℕ → Request
+  bulk : ℕ → ℕ → Request
+
+-- whether the program answers the request yet
+abbrev pub is_built : Request → Bool
+is_built (verify standard) = true
+is_built _ = false

@@ -1,0 +1,254 @@
+// The values of options, and the request of a command with such values.
+ghost use Rattle.std.specs.Prelude.{◌≡◌, ◌≤◌, ◌^◌, ◌<◌};
+ghost use Rattle.std.specs.Option.{option_map};
+ghost use Rattle.command_definitions.specs.Requests as requests;
+ghost use Rattle.command_definitions.specs.Values as spec;
+ghost use Rattle.matching_equations.specs.Columns.{coordinates_of};
+ghost use Rattle.command_words.specs.Requests.{order_of, request, texts_of};
+
+use crate::request::{Order, Request};
+use bench_io::{is_decimal_word, value_up_to};
+use matching_equations::Coords;
+
+/// The greatest number that an option may name.
+const LIMIT: u128 = 170_141_183_460_469_231_731_687_303_715_884_105_727;
+
+/// What stands for each option, where it is named.
+#[derive(Clone, Copy)]
+pub struct Values<'a> {
+    pub coords: Option<&'a str>,
+    pub order: Option<&'a str>,
+    pub max_entry: Option<&'a str>,
+    pub seed: Option<&'a str>,
+    pub moves: Option<&'a str>,
+}
+
+fn coords_named(word: &str) -> Option<Coords>
+    ensures { option_map coordinates_of result ≡ spec.coordinates_named word.now }
+{
+    if word == "standard" {
+        return Some(Coords::Standard);
+    }
+    if word == "quad" {
+        return Some(Coords::Quad);
+    }
+    if word == "octagon" {
+        return Some(Coords::Octagon);
+    }
+    None
+}
+
+fn piece_coords_named(word: &str) -> Option<Coords>
+    ensures { option_map coordinates_of result ≡ spec.piece_coordinates_named word.now }
+{
+    match coords_named(word) {
+        Some(Coords::Standard) => Some(Coords::Standard),
+        Some(Coords::Quad) => None,
+        Some(Coords::Octagon) => Some(Coords::Octagon),
+        None => None,
+    }
+}
+
+fn order_named(word: &str) -> Option<Order>
+    ensures { option_map order_of result ≡ spec.order_named word.now }
+{
+    if word == "given" {
+        return Some(Order::Given);
+    }
+    if word == "short" {
+        return Some(Order::Short);
+    }
+    if word == "zeros" {
+        return Some(Order::Zeros);
+    }
+    None
+}
+
+// A decimal of one to 45 digits, up to max.
+fn decimal_up_to(word: &str, max: u128) -> Option<u128>
+    ensures { result ≡ spec.decimal_up_to max word.now }
+{
+    let word = word.as_bytes();
+    if !is_decimal_word(word) {
+        return None;
+    }
+    if word.len() > 45 {
+        return None;
+    }
+    value_up_to(word, max)
+}
+
+fn limit_named(word: &str) -> Option<u128>
+    ensures { result ≡ spec.limit_named word.now }
+{
+    match decimal_up_to(word, LIMIT) {
+        Some(limit) => (0 < limit).then_some(limit),
+        None => None,
+    }
+}
+
+fn coords_in(values: &Values<'_>) -> Option<Coords>
+    ensures { option_map coordinates_of result ≡ spec.coordinates_in (texts_of values.now) }
+{
+    match values.coords {
+        Some(word) => coords_named(word),
+        None => Some(Coords::Standard),
+    }
+}
+
+fn piece_coords_in(values: &Values<'_>) -> Option<Coords>
+    ensures { option_map coordinates_of result ≡ spec.piece_coordinates_in (texts_of values.now) }
+{
+    match values.coords {
+        Some(word) => piece_coords_named(word),
+        None => Some(Coords::Standard),
+    }
+}
+
+fn order_in(values: &Values<'_>) -> Option<Order>
+    ensures { option_map order_of result ≡ spec.order_in (texts_of values.now) }
+{
+    match values.order {
+        Some(word) => order_named(word),
+        None => Some(Order::Given),
+    }
+}
+
+fn limit_in(values: &Values<'_>) -> Option<u128>
+    ensures { result ≡ spec.limit_in (texts_of values.now) }
+{
+    match values.max_entry {
+        Some(word) => limit_named(word),
+        None => Some(LIMIT),
+    }
+}
+
+fn seed_in(values: &Values<'_>) -> Option<u64>
+    ensures { result ≡ spec.seed_in (texts_of values.now) }
+{
+    match values.seed {
+        Some(word) => match decimal_up_to(word, u128::from(u64::MAX)) {
+            Some(seed) => Some(seed as u64),
+            None => None,
+        },
+        None => None,
+    }
+}
+
+fn moves_in(values: &Values<'_>, most: u32) -> Option<u32>
+    ensures { result ≡ spec.moves_in most (texts_of values.now) }
+{
+    match values.moves {
+        Some(word) => match decimal_up_to(word, u128::from(most)) {
+            Some(moves) => Some(moves as u32),
+            None => None,
+        },
+        None => None,
+    }
+}
+
+fn surfaces_with(values: &Values<'_>) -> Option<Request>
+    ensures { option_map request result ≡ spec.surfaces_with (texts_of values.now) }
+{
+    let coords = coords_in(values)?;
+    let order = order_in(values)?;
+    let limit = limit_in(values)?;
+    Some(Request::Surfaces(coords, order, limit))
+}
+
+fn rays_with(values: &Values<'_>) -> Option<Request>
+    ensures { option_map request result ≡ spec.rays_with (texts_of values.now) }
+{
+    let order = order_in(values)?;
+    let limit = limit_in(values)?;
+    Some(Request::Rays(order, limit))
+}
+
+fn make_with(values: &Values<'_>) -> Option<Request>
+    ensures { option_map request result ≡ spec.made_with requests.make spec.most_moves (texts_of values.now) }
+{
+    let seed = seed_in(values)?;
+    let moves = moves_in(values, 1_000)?;
+    Some(Request::Make(seed, moves))
+}
+
+fn bulk_with(values: &Values<'_>) -> Option<Request>
+    ensures { option_map request result ≡ spec.made_with requests.bulk spec.most_bulk_moves (texts_of values.now) }
+{
+    let seed = seed_in(values)?;
+    let moves = moves_in(values, 5)?;
+    Some(Request::Bulk(seed, moves))
+}
+
+fn verify_with(values: &Values<'_>) -> Option<Request>
+    ensures { option_map request result ≡ option_map requests.verify (spec.coordinates_in (texts_of values.now)) }
+{
+    let coords = coords_in(values)?;
+    Some(Request::Verify(coords))
+}
+
+fn describe_with(values: &Values<'_>) -> Option<Request>
+    ensures { option_map request result ≡ option_map requests.describe (spec.piece_coordinates_in (texts_of values.now)) }
+{
+    let coords = piece_coords_in(values)?;
+    Some(Request::Describe(coords))
+}
+
+// The request of a command without options.
+fn plain_request(name: &str) -> Option<Request>
+    ensures { option_map request result ≡ spec.plain_request name.now }
+{
+    if name == "info" {
+        return Some(Request::Info);
+    }
+    if name == "lift" {
+        return Some(Request::Lift);
+    }
+    if name == "crush" {
+        return Some(Request::Crush);
+    }
+    if name == "play" {
+        return Some(Request::Play);
+    }
+    if name == "sig" {
+        return Some(Request::Sig);
+    }
+    if name == "same" {
+        return Some(Request::Same);
+    }
+    if name == "group" {
+        return Some(Request::Group);
+    }
+    if name == "check" {
+        return Some(Request::Check);
+    }
+    if name == "descend" {
+        return Some(Request::Descend);
+    }
+    None
+}
+
+/// The request of a command with these values, where each value is one that its option takes.
+pub fn request_with(name: &str, values: &Values<'_>) -> Option<Request>
+    ensures { option_map request result ≡ spec.request_with name.now (texts_of values.now) }
+{
+    if name == "verify" {
+        return verify_with(values);
+    }
+    if name == "surfaces" {
+        return surfaces_with(values);
+    }
+    if name == "rays" {
+        return rays_with(values);
+    }
+    if name == "describe" {
+        return describe_with(values);
+    }
+    if name == "make" {
+        return make_with(values);
+    }
+    if name == "bulk" {
+        return bulk_with(values);
+    }
+    plain_request(name)
+}
