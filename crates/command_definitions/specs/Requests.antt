@@ -29,4 +29,21 @@ pub data Request : Type 0 where
 -- whether the program answers the request yet
 abbrev pub is_built : Request → Bool
 is_built (verify standard) = true
-is_built _ = false
+is_built (verify octagons) = true
+is_built (verify quads) = false
+is_built info = true
+is_built (surfaces standard order most) = true
+is_built (surfaces octagons order most) = true
+is_built (surfaces quads order most) = false
+is_built (rays order most) = true
+is_built (describe coords) = false
+is_built lift = false
+is_built crush = false
+is_built play = false
+is_built sig = false
+is_built same = false
+is_built group = false
+is_built check = false
+is_built descend = false
+is_built (make seed moves) = false
+is_built (bulk seed moves) = false

@@ -8,6 +8,11 @@ use Rattle.cone_core.specs.Systems.{Cone}
 use Rattle.cone_core.specs.ConeReads.{system_of}
 use Rattle.cone_text_definitions.specs.ConeText.{Cone as ConeText}
 use Rattle.double_description.specs.declared.picker.Order.{Order}
+use Rattle.double_description.specs.declared.picker.Order.TheVariants.{Given, Short, Zeros}
+use Rattle.table_definitions.specs.Table.{Row}
+use Rattle.surface_definitions.specs.Coordinates.{Coordinates, columns, clash_list}
+use Rattle.surface_definitions.specs.Equations.{matching_rows}
+use Rattle.command_definitions.specs.Requests.{Order as OrderName, given, short, zeros}
 use Rattle.double_description.specs.Enumerated.{AreWithin}
 use Rattle.ray_answers.specs.Answers.{AreNamed}
 use Rattle.ray_answers.specs.Lists.{entries_text, list_text}
@@ -57,6 +62,21 @@ abbrev pub IsEnumerationAnswer : List ℕ → Enumeration → Outcome → Type 0
 IsEnumerationAnswer name e o = ((taken : List ℕ) × (list : List (List ℕ)) × IsListed e taken list × (o ≡ list_outcome name list))
     ⊎ ((taken : List ℕ) × (kind : Named) × IsPastLimit e taken kind × (o ≡ large_outcome taken kind))
 
+-- the order of the rows that a word names
+abbrev pub order_of : OrderName → Order
+order_of given = Given
+order_of short = Short
+order_of zeros = Zeros
+
 -- the rays of a cone in text, with no clashing pairs
-abbrev pub ray_enumeration : Order → ℕ → ConeText → Enumeration
-ray_enumeration order limit cone = record { system = system_of cone; pairs = []; order = order; limit = limit }
+abbrev pub ray_enumeration : OrderName → ℕ → ConeText → Enumeration
+ray_enumeration order limit cone = record { system = system_of cone; pairs = []; order = order_of order; limit = limit }
+
+-- the vertex surfaces of a table in standard or octagon coordinates
+abbrev pub surface_enumeration : Coordinates → OrderName → ℕ → List Row → Enumeration
+surface_enumeration coords order limit rows = record {
+  system = record { columns = columns coords (length rows); rows = matching_rows coords rows };
+  pairs = clash_list coords (length rows);
+  order = order_of order;
+  limit = limit;
+}

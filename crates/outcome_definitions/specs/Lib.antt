@@ -2,3 +2,4 @@ pub mod Lines
 pub mod Outcomes
 pub mod Enumerations
 pub mod Information
+pub mod Answers

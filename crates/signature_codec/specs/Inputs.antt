@@ -33,12 +33,12 @@ of_signature sig_faults.Unreached = Signature sig_faults.Unreached
 of_signature (sig_faults.Width at) = Signature (sig_faults.Width at)
 
 -- the fault of a text, and of a signature, is the one that was found; it holds no want of memory
-abbrev pub FailsText : TextFault → Result (List gluings.Row × Reading) signatures.InputFault → Type 0
+abbrev pub FailsText : {A : Type 0} → TextFault → Result A signatures.InputFault → Type 0
 FailsText text_faults.NoMemory read = ⊥
 FailsText (text_faults.Lex f) read = read ≡ Err (signatures.bad_text (texts.lexical f))
 FailsText (text_faults.Table f) read = (fault : gluings.TableFault) × (read ≡ Err (signatures.bad_text (texts.no_table fault))) × (answer fault ≡ f)
 
-abbrev pub FailsSignature : SigFault → Result (List gluings.Row × Reading) signatures.InputFault → Type 0
+abbrev pub FailsSignature : {A : Type 0} → SigFault → Result A signatures.InputFault → Type 0
 FailsSignature sig_faults.NoMemory read = ⊥
 FailsSignature (sig_faults.BadChar at) read = read ≡ Err (signatures.bad_signature (signatures.bad_char at))
 FailsSignature (sig_faults.Short at) read = read ≡ Err (signatures.bad_signature (signatures.short at))
@@ -52,10 +52,15 @@ FailsSignature sig_faults.TooMany read = read ≡ Err (signatures.bad_signature 
 FailsSignature sig_faults.Unreached read = read ≡ Err (signatures.bad_signature signatures.unreached)
 FailsSignature (sig_faults.Width at) read = read ≡ Err (signatures.bad_signature (signatures.bad_width at))
 
-abbrev pub FailsInput : InputFault → Result (List gluings.Row × Reading) signatures.InputFault → Type 0
+abbrev pub FailsInput : {A : Type 0} → InputFault → Result A signatures.InputFault → Type 0
 FailsInput NoMemory read = Unit {0}
 FailsInput (Text f) read = FailsText f read
 FailsInput (Signature f) read = FailsSignature f read
+
+-- the value of a document, as view sees it, is what the definition gives
+abbrev pub GivesDocument : {X A : Type 0} → (X → A) → Result X InputFault → Result A signatures.InputFault → Type 0
+GivesDocument view (Ok x) read = read ≡ Ok (view x)
+GivesDocument view (Err e) read = FailsInput e read
 
 -- the table that is answered, and what is left, is what the definition gives; of want of memory nothing is said
 abbrev pub GivesInput : Result (List gluings.Row) InputFault → Reading → Result (List gluings.Row × Reading) signatures.InputFault → Type 0

@@ -14,7 +14,8 @@ use Rattle.double_description.specs.declared.engine.EnumFault.{EnumFault}
 use Rattle.double_description.specs.declared.engine.EnumFault.TheVariants.{Large, NoMemory}
 use Rattle.double_description.specs.Turns.{AreTaken}
 use Rattle.double_description.specs.Enumerated.{IsEnumerated, IsRefused}
-use Rattle.surface_list.specs.Surfaces.{matching_cone, AreNamed, AreSurfacesIn, AreSurfaces, AreRefused}
+use Rattle.ray_answers.specs.Answers.{AreNamed}
+use Rattle.surface_list.specs.Surfaces.{matching_cone, AreSurfacesIn, AreSurfaces, AreRefused}
 use denote.Ref.{Bor}
 
 named_turns : (order : Order) (post : Bor Cone → Bor (List ℕ) → ℕ → Type 0) (system : Cone) (taken : List ℕ) → AreTaken order post system taken → AreNamed order system taken

@@ -1,5 +1,5 @@
 -- What an enumeration of surfaces gives, the rows taken in a named order.
-use Rattle.std.specs.Prelude.{◌≡◌, ℕ, ◌+◌, ◌<◌, List, length, take, slice_index}
+use Rattle.std.specs.Prelude.{◌≡◌, ℕ, ◌+◌, List, length}
 use Rattle.std.specs.List.{range_with_len}
 use Rattle.std.specs.List.Sorted.{IsPermutation}
 use Rattle.table_definitions.specs.Table.{Row}
@@ -13,26 +13,12 @@ use Rattle.double_description.specs.declared.engine.Rays.{Rays}
 use Rattle.double_description.specs.declared.engine.EnumFault.{EnumFault}
 use Rattle.double_description.specs.declared.engine.EnumFault.TheVariants.{Large, NoMemory}
 use Rattle.double_description.specs.Faults.{named_of}
-use Rattle.double_description.specs.Orders.{IsNamed}
-use Rattle.double_description.specs.Turns.{AreLeft}
+use Rattle.ray_answers.specs.Answers.{AreNamed}
 use Rattle.double_description.specs.Enumerated.{AreWithin}
 
 -- the columns and the matching equations of rows
 abbrev pub matching_cone : Coordinates → List Row → Cone
 matching_cone coords rows = record { columns = columns coords (length rows); rows = matching_rows coords rows }
-
--- the row is the one that the order names among those that aren't taken
-pub record IsNamedTurn (order : Order) (system : Cone) (taken : List ℕ) (number : ℕ) : Type 0 where
-  pub left : List ℕ
-  pub left_of : AreLeft (length system.rows) taken left
-  pub position : ℕ
-  pub in_range : position < length left
-  pub is : slice_index left position ≡ number
-  pub named : IsNamed order system left position
-
--- each row in turn is the one that the order names
-abbrev pub AreNamed : Order → Cone → List ℕ → Type 0
-AreNamed order system taken = (k : ℕ) → k < length taken → IsNamedTurn order system (take k taken) (slice_index taken k)
 
 -- the surface list of the rows and pairs, and the rows in the order's own order, in which no number of a step passes the limit
 pub record AreSurfacesIn (limit : ℕ) (system : Cone) (pairs : List Clash) (order : Order) (rays : Rays) : Type 0 where

@@ -3,12 +3,8 @@ use Rattle.std.specs.Prelude.{◌≡◌, ℕ, List, map, Result, Ok, Err, Vec}
 use Rattle.std.specs.declared.alloc.Global.{Global}
 use Rattle.text_definitions.specs.declared.LexFault.{LexFault}
 use Rattle.text_definitions.specs.Reading.{Reading}
-use Rattle.table_definitions.specs.Table as gluings
-use Rattle.table_definitions.specs.TableText as texts
 use Rattle.gluing_table.specs.declared.reader.TextFault.{TextFault}
 use Rattle.gluing_table.specs.declared.reader.TextFault.TheVariants.{NoMemory, Lex, Table}
-use Rattle.gluing_table.specs.TextFaults.{FailsTable}
-use Rattle.gluing_table.specs.Faults.{answer}
 
 -- a fault that is answered is the one that was read; of want of memory nothing is said
 abbrev pub FailsLine : {A : Type 0} → TextFault → Result (A × Reading) LexFault → Type 0
@@ -20,17 +16,6 @@ FailsLine (Table f) read = ⊥
 abbrev pub GivesLine : {X A : Type 0} → (X → A) → Result X TextFault → Reading → Result (A × Reading) LexFault → Type 0
 GivesLine view (Ok x) left read = read ≡ Ok (view x, left)
 GivesLine view (Err e) left read = FailsLine e read
-
--- the fault of a document is the one that was found; of want of memory nothing is said
-abbrev pub FailsDocument : {A : Type 0} → TextFault → Result A texts.TextFault → Type 0
-FailsDocument NoMemory read = Unit {0}
-FailsDocument (Lex f) read = read ≡ Err (texts.lexical f)
-FailsDocument (Table f) read = (fault : gluings.TableFault) × (read ≡ Err (texts.no_table fault)) × (answer fault ≡ f)
-
--- what reading a document answers
-abbrev pub GivesDocument : {X A : Type 0} → (X → A) → Result X TextFault → Result A texts.TextFault → Type 0
-GivesDocument view (Ok x) read = read ≡ Ok (view x)
-GivesDocument view (Err e) read = FailsDocument e read
 
 -- the entries of each vector
 abbrev pub entries_of : Vec (Vec ℕ Global) Global → List (List ℕ)

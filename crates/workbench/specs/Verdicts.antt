@@ -1,6 +1,5 @@
 -- The lines of `verify`.
-use Rattle.std.specs.Prelude.{ℕ, List, ◌++◌, map, Result, Ok, Err, codes, decimal, Vec}
-use Rattle.std.specs.declared.alloc.Global.{Global}
+use Rattle.std.specs.Prelude.{ℕ, List, ◌++◌, Result, Ok, Err, codes, decimal}
 use Rattle.quad_condition.specs.declared.check.VectorFault.{VectorFault}
 use Rattle.quad_condition.specs.declared.check.VectorFault.TheVariants.{Length, Large, NotSolution, Clash}
 use Rattle.outcome_definitions.specs.Lines.{line}
@@ -12,7 +11,3 @@ check_line (Err (Length n)) = line (codes "length " ++ decimal n)
 check_line (Err (Large i)) = line (codes "large " ++ decimal i)
 check_line (Err (NotSolution i)) = line (codes "fails " ++ decimal i)
 check_line (Err (Clash a b)) = line (codes "clash " ++ decimal a ++ codes " " ++ decimal b)
-
--- the entries of each vector
-abbrev pub all_entries : List (Vec ℕ Global) → List (List ℕ)
-all_entries vectors = map (λ (v : Vec ℕ Global). v.items) vectors

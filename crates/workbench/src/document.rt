@@ -1,14 +1,14 @@
 // The documents of the commands.
 ghost use Rattle.std.specs.Prelude.{◌≡◌, ◌≤◌, ◌^◌, length};
-ghost use Rattle.gluing_table.specs.TextFaults.{GivesTable};
-ghost use Rattle.table_definitions.specs.TableText.{tri_table_at};
-ghost use Rattle.document_definitions.specs.Documents.{tri_and_vectors, no_line_at};
 ghost use Rattle.text_definitions.specs.Reading.{Moves};
-ghost use Rattle.workbench.specs.Reads.{GivesDocument, entries_of};
+ghost use Rattle.document_definitions.specs.Documents.{next_table_at, no_line_at, table_document, vectors_document};
+ghost use Rattle.signature_codec.specs.Inputs.{GivesInput, GivesDocument};
+ghost use Rattle.workbench.specs.Reads.{entries_of};
 
 use crate::vectors::read_vectors;
 use bench_io::{LexFault, Lexer};
-use gluing_table::{Table, TextFault, read_rows};
+use gluing_table::Table;
+use signature_codec::{InputFault, read_any};
 use std::alloc::Global;
 
 /// A table, and vectors.
@@ -28,24 +28,32 @@ pub fn end_document(lexer: &mut Lexer<'_>) -> Result<(), LexFault>
     lexer.end_line()
 }
 
-// A table in the form `tri` on the next lines.
-#[tactic(auto, unfolding(table_definitions::specs::TableText::tri_table_at, text_definitions::specs::Reading::exactly_at))]
-fn read_table(alloc: Global, lexer: &mut Lexer<'_>) -> Result<Table, TextFault>
-    ensures { GivesTable result lexer.new (tri_table_at lexer.old) }
+// A table on the next lines.
+#[tactic(auto, unfolding(document_definitions::specs::Documents::next_table_at))]
+fn read_table(alloc: Global, lexer: &mut Lexer<'_>) -> Result<Table, InputFault>
+    ensures { GivesInput result lexer.new (next_table_at lexer.old) }
 {
     lexer.need_line()?;
-    let word = lexer.word()?;
-    if word != b"tri".as_slice() {
-        return Err(TextFault::Lex(lexer.bad_word()));
-    }
-    read_rows(alloc, lexer)
+    read_any(alloc, lexer)
+}
+
+/// The document of one table.
+#[tactic(auto, unfolding(document_definitions::specs::Documents::table_document))]
+pub fn read_table_document(alloc: Global, bytes: &[u8]) -> Result<Table, InputFault>
+    requires { length bytes.now ≤ 2 ^ 31 }
+    ensures { GivesDocument (λ table. table) result (table_document bytes.now) }
+{
+    let mut lexer = Lexer::new(bytes);
+    let table = read_table(alloc, &mut lexer)?;
+    end_document(&mut lexer)?;
+    Ok(table)
 }
 
 /// The document of a table and vectors.
-#[tactic(auto, unfolding(document_definitions::specs::Documents::tri_and_vectors))]
-pub fn read_table_and_vectors(alloc: Global, bytes: &[u8]) -> Result<TableAndVectors, TextFault>
+#[tactic(auto, unfolding(document_definitions::specs::Documents::table_and_lines))]
+pub fn read_table_and_vectors(alloc: Global, bytes: &[u8]) -> Result<TableAndVectors, InputFault>
     requires { length bytes.now ≤ 2 ^ 31 }
-    ensures { GivesDocument (λ d. (d.table, entries_of d.vectors)) result (tri_and_vectors bytes.now) }
+    ensures { GivesDocument (λ d. (d.table, entries_of d.vectors)) result (vectors_document bytes.now) }
 {
     let mut lexer = Lexer::new(bytes);
     let table = read_table(alloc, &mut lexer)?;

@@ -1,14 +1,15 @@
 // The one line of each refusal.
 ghost use Rattle.std.specs.Prelude.{◌≡◌, ◌++◌, codes, decimal, IfOk, OnOk};
-ghost use Rattle.outcome_definitions.specs.Lines.{kind_text, lex_line, face_line};
+ghost use Rattle.outcome_definitions.specs.Lines.{kind_text, lex_line, face_line, place_line};
 ghost use Rattle.outcome_definitions.specs.Outcomes.{IsOwnStatus};
-ghost use Rattle.workbench.specs.Refusals.{table_fault_line, IsFaultOutcome};
+ghost use Rattle.workbench.specs.Refusals.{table_fault_line, signature_fault_line, IsTextOutcome, IsFaultOutcome};
 
 use crate::outcome::Outcome;
 use bench_io::{LexFault, LexKind};
 use gluing_table::{TableFault, TextFault};
 use no_memory::NoMemory;
 use outcome_definitions::Status;
+use signature_codec::{InputFault, SigFault};
 use std::alloc::Global;
 use text_writing::{append, append_decimal};
 
@@ -55,14 +56,6 @@ fn face_fault_line(alloc: Global, kind: &[u8], tet: u32, face: u8) -> Result<Vec
     Ok(text)
 }
 
-fn too_many_line(alloc: Global) -> Result<Vec<u8>, NoMemory>
-    ensures { IfOk result (λ text. text.items ≡ codes "refused: table too-many\n") }
-{
-    let mut text = Vec::new(alloc);
-    append(&mut text, b"refused: table too-many\n")?;
-    Ok(text)
-}
-
 // Why rows are no table.
 #[tactic(auto, unfolding(crate::specs::Refusals::table_fault_line))]
 fn table_line(alloc: Global, fault: TableFault) -> Result<Vec<u8>, NoMemory>
@@ -70,27 +63,81 @@ fn table_line(alloc: Global, fault: TableFault) -> Result<Vec<u8>, NoMemory>
 {
     match fault {
         TableFault::NoMemory => Err(NoMemory),
-        TableFault::TooMany => too_many_line(alloc),
+        TableFault::TooMany => fixed_line(alloc, b"refused: table too-many\n"),
         TableFault::NoSuchTet { tet, face } => face_fault_line(alloc, b"no-such-tet", tet, face),
         TableFault::SelfGlued { tet, face } => face_fault_line(alloc, b"self-glued", tet, face),
         TableFault::NotMutual { tet, face } => face_fault_line(alloc, b"not-mutual", tet, face),
     }
 }
 
-/// The outcome of a document's fault.
-pub fn fault_outcome(alloc: Global, fault: TextFault) -> Result<Outcome, NoMemory>
-    ensures fault { IfOk result (IsFaultOutcome fault) }
-    ensures own_status { IfOk result (λ o. IsOwnStatus o.status) }
+// A kind and a place in a signature.
+fn place_fault_line(alloc: Global, kind: &[u8], at: u32) -> Result<Vec<u8>, NoMemory>
+    ensures { IfOk result (λ text. text.items ≡ place_line kind.now at) }
+{
+    let mut text = Vec::new(alloc);
+    append(&mut text, b"refused: signature ")?;
+    append(&mut text, kind)?;
+    append(&mut text, b" ")?;
+    append_decimal(alloc, &mut text, u128::from(at))?;
+    append(&mut text, b"\n")?;
+    Ok(text)
+}
+
+fn fixed_line(alloc: Global, line: &[u8]) -> Result<Vec<u8>, NoMemory>
+    ensures { IfOk result (λ text. text.items ≡ line.now) }
+{
+    let mut text = Vec::new(alloc);
+    append(&mut text, line)?;
+    Ok(text)
+}
+
+// Why a text is no signature.
+#[tactic(auto, unfolding(crate::specs::Refusals::signature_fault_line))]
+fn signature_line(alloc: Global, fault: SigFault) -> Result<Vec<u8>, NoMemory>
+    ensures { IfOk result (λ text. text.items ≡ signature_fault_line fault) }
+{
+    match fault {
+        SigFault::NoMemory => Err(NoMemory),
+        SigFault::BadChar { at } => place_fault_line(alloc, b"bad-char", at),
+        SigFault::Short { at } => place_fault_line(alloc, b"short", at),
+        SigFault::BadType { at } => place_fault_line(alloc, b"bad-type", at),
+        SigFault::Leftover { at } => place_fault_line(alloc, b"leftover", at),
+        SigFault::Destination { at } => place_fault_line(alloc, b"destination", at),
+        SigFault::Gluing { at } => place_fault_line(alloc, b"gluing", at),
+        SigFault::FaceTaken { at } => place_fault_line(alloc, b"face-taken", at),
+        SigFault::Trailing { at } => place_fault_line(alloc, b"trailing", at),
+        SigFault::TooMany => fixed_line(alloc, b"refused: signature too-many\n"),
+        SigFault::Unreached => fixed_line(alloc, b"refused: signature unreached\n"),
+        SigFault::Width { at } => place_fault_line(alloc, b"width", at),
+    }
+}
+
+// Why a text has no table in the form `tri`.
+fn text_line(alloc: Global, fault: TextFault) -> Result<Vec<u8>, NoMemory>
+    ensures { IfOk result (λ text. IsTextOutcome fault (record { status = Status.Input; text = text.items })) }
 {
     match fault {
         TextFault::NoMemory => Err(NoMemory),
-        TextFault::Lex(fault) => {
-            let text = lex_fault_line(alloc, fault)?;
-            Ok(Outcome::built(Status::Input, text))
-        }
-        TextFault::Table(fault) => {
-            let text = table_line(alloc, fault)?;
-            Ok(Outcome::built(Status::Input, text))
-        }
+        TextFault::Lex(fault) => lex_fault_line(alloc, fault),
+        TextFault::Table(fault) => table_line(alloc, fault),
     }
+}
+
+fn input_line(alloc: Global, fault: InputFault) -> Result<Vec<u8>, NoMemory>
+    ensures { IfOk result (λ text. IsFaultOutcome fault (record { status = Status.Input; text = text.items })) }
+{
+    match fault {
+        InputFault::NoMemory => Err(NoMemory),
+        InputFault::Text(fault) => text_line(alloc, fault),
+        InputFault::Signature(fault) => signature_line(alloc, fault),
+    }
+}
+
+/// The outcome of an input's fault.
+pub fn fault_outcome(alloc: Global, fault: InputFault) -> Result<Outcome, NoMemory>
+    ensures fault { IfOk result (IsFaultOutcome fault) }
+    ensures own_status { IfOk result (λ o. IsOwnStatus o.status) }
+{
+    let text = input_line(alloc, fault)?;
+    Ok(Outcome::built(Status::Input, text))
 }
