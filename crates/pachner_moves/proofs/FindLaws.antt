@@ -321,10 +321,10 @@ pair_fault_found rows m fs slice e l low high none is shown h =
 pub is_legal : (rows : List Row) (m : Move) (fs slice all : List Facet) (own : Facet) (x : Unit {0}) → m.tet < length rows → 0 < length m.core → length m.core < 5 → first_facet_fault rows m ≡ None → fs ≡ found_facets rows m → slice ≡ fs
     → Ok x ≡ verdict (pairs_fault rows slice) → own ≡ own_facet m → all ≡ fs ++ own ∷ [] → IsPattern rows m all
 is_legal rows m fs slice all own x l low high none is shown h mine e = (
-    e ∙ ap (λ (xs : List Facet). xs ++ own ∷ []) is ∙ ap (λ (f : Facet). found_facets rows m ++ f ∷ []) mine
-    ∙ sym (filter_map-append (facet rows m) (drop (length m.core) four) (4 ∷ []))
-    ∙ ap (filter_map (facet rows m)) (sym (to_five (length m.core) high)),
-    pairs_decide rows m fs slice l low high none is shown ∙ ok_none x (pairs_fault rows slice) h,
+  e ∙ ap (λ (xs : List Facet). xs ++ own ∷ []) is ∙ ap (λ (f : Facet). found_facets rows m ++ f ∷ []) mine
+      ∙ sym (filter_map-append (facet rows m) (drop (length m.core) four) (4 ∷ []))
+      ∙ ap (filter_map (facet rows m)) (sym (to_five (length m.core) high)),
+  pairs_decide rows m fs slice l low high none is shown ∙ ok_none x (pairs_fault rows slice) h,
 )
 
 -- the whole of a move

@@ -5,11 +5,9 @@ mod cores;
 mod facet;
 mod legality;
 
-
 pub use cores::{Core, Move};
 pub use facet::Facet;
 pub use legality::{MoveFault, Pattern, legal};
 
-
-
-
+#[cfg(test)]
+mod tests;
