@@ -1,0 +1,45 @@
+-- What holds of cores, mask by mask.
+use Rattle.std.proofs.Common.{◌≡◌, ℕ, ◌<◌, ◌≤◌, ◌/◌, ◌^◌, Bool, true, false, List, [], ◌∷◌, length, refl, sym, ap, ◌∙◌, Option, Some}
+use Rattle.std.specs.Prelude.{◌==◌, ◌&&◌, nat_lt, slice_index, bit_and, if◌then◌else◌, not}
+use Rattle.std.proofs.lemmas.Bool.{eqb-true}
+use Rattle.table_definitions.specs.Lists.{has, below}
+use Rattle.std.specs.List.{list_all}
+use Rattle.table_definitions.specs.Permutation.{four, is_permutation, IsPermutationOfFour, inverse, preimage, index}
+use Rattle.move_definitions.specs.Moves.{vertices_by_label}
+use Rattle.perm_four.proofs.ListFacts.{list_all-below}
+use Rattle.pachner_moves.specs.Cores.{core_of, has_bit}
+
+abbrev same_test : Bool → Bool → Bool
+same_test a b = if a then b else not b
+
+same_test-true : (a b : Bool) → same_test a b ≡ true → a ≡ b
+same_test-true true true h = refl
+same_test-true true false h = cc
+same_test-true false true h = cc
+same_test-true false false h = refl
+
+abbrev bit : ℕ → ℕ → Bool
+bit m v = bit_and (m / (2 ^ v)) 1 == 1
+
+pub has_is : (m v : ℕ) → m < 16 → v < 4 → bit m v ≡ has (core_of m) v
+has_is m v lm lv =
+    same_test-true (bit m v) (has (core_of m) v)
+    (list_all-below (λ w. same_test (bit m w) (has (core_of m) w)) 4 (list_all-below (λ k. list_all (λ w. same_test (bit k w) (has (core_of k) w)) (below 4)) 16 refl m lm) v lv)
+
+pub size_is : (m : ℕ) → m < 16 → slice_index (0 ∷ 1 ∷ 1 ∷ 2 ∷ 1 ∷ 2 ∷ 2 ∷ 3 ∷ 1 ∷ 2 ∷ 2 ∷ 3 ∷ 2 ∷ 3 ∷ 3 ∷ 4 ∷ []) m ≡ length (core_of m)
+size_is m l =
+    eqb-true (slice_index (0 ∷ 1 ∷ 1 ∷ 2 ∷ 1 ∷ 2 ∷ 2 ∷ 3 ∷ 1 ∷ 2 ∷ 2 ∷ 3 ∷ 2 ∷ 3 ∷ 3 ∷ 4 ∷ []) m) (length (core_of m))
+    (list_all-below (λ k. slice_index (0 ∷ 1 ∷ 1 ∷ 2 ∷ 1 ∷ 2 ∷ 2 ∷ 3 ∷ 1 ∷ 2 ∷ 2 ∷ 3 ∷ 2 ∷ 3 ∷ 3 ∷ 4 ∷ []) k == length (core_of k)) 16 refl m l)
+
+pub labels_permute : (m : ℕ) → m < 16 → IsPermutationOfFour (inverse (vertices_by_label (core_of m)))
+unfolding is_permutation inverse preimage
+labels_permute m l = list_all-below (λ k. is_permutation (inverse (vertices_by_label (core_of k)))) 16 refl m l
+
+pub labels_index : (m : ℕ) → m < 16 → index (inverse (vertices_by_label (core_of m))) ≡ slice_index (0 ∷ 0 ∷ 6 ∷ 0 ∷ 8 ∷ 2 ∷ 12 ∷ 0 ∷ 9 ∷ 3 ∷ 13 ∷ 1 ∷ 16 ∷ 4 ∷ 18 ∷ 0 ∷ []) m
+unfolding index inverse preimage
+labels_index m l =
+    eqb-true (index (inverse (vertices_by_label (core_of m)))) (slice_index (0 ∷ 0 ∷ 6 ∷ 0 ∷ 8 ∷ 2 ∷ 12 ∷ 0 ∷ 9 ∷ 3 ∷ 13 ∷ 1 ∷ 16 ∷ 4 ∷ 18 ∷ 0 ∷ []) m)
+    (list_all-below (λ k. index (inverse (vertices_by_label (core_of k))) == slice_index (0 ∷ 0 ∷ 6 ∷ 0 ∷ 8 ∷ 2 ∷ 12 ∷ 0 ∷ 9 ∷ 3 ∷ 13 ∷ 1 ∷ 16 ∷ 4 ∷ 18 ∷ 0 ∷ []) k) 16 refl m l)
+
+pub some_same : (o : Option (List ℕ)) (p q : List ℕ) → o ≡ Some p → o ≡ Some q → p ≡ q
+some_same o p q e f = cc

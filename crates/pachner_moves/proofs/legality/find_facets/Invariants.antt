@@ -1,0 +1,11 @@
+-- The facets so far, and that nothing was wrong with them.
+use Rattle.std.proofs.Common.{◌≡◌, ◌<◌, ◌≤◌, ℕ, None, length}
+use Rattle.move_definitions.specs.Moves as moves
+use Rattle.pachner_moves.specs.Faults.{facets_below}
+use Rattle.pachner_moves.proofs.legality.find_facets.Given as goal
+
+abbrev pub invariant-loop-label : goal.invariant-loop-label
+invariant-loop-label l = record {
+  facets : l.facets.items ≡ facets_below l.table l.m l.label;
+  none : (k : ℕ) → length l.m.core ≤ k → k < l.label → moves.facet_fault l.table l.m k (moves.facet l.table l.m k) ≡ None;
+}

@@ -1,0 +1,98 @@
+//! Cores: the vertices of a tetrahedron that a move keeps together.
+
+ghost use Rattle.std.specs.Prelude.{◌≡◌, ◌<◌, ◌≤◌, ◌↔◌, length, IsSome, IfSome};
+ghost use Rattle.table_definitions.specs.Lists.{has};
+ghost use Rattle.table_definitions.specs.Permutation.{IsPermutationOfFour, inverse};
+ghost use Rattle.move_definitions.specs.Moves.{vertices_by_label};
+ghost use Rattle.pachner_moves.specs.Cores.{core_of};
+
+use perm_four::Perm4;
+use std::marker::Model;
+
+/// For each mask the index of the permutation that takes each vertex to its label.
+const LABELS: [u8; 16] = [0, 0, 6, 0, 8, 2, 12, 0, 9, 3, 13, 1, 16, 4, 18, 0];
+
+/// For each mask the number of vertices of the core.
+const SIZES: [u8; 16] = [0, 1, 1, 2, 1, 2, 2, 3, 1, 2, 2, 3, 2, 3, 3, 4];
+
+/// Some of the vertices of a tetrahedron, at least one. Contracts see it as the list of its vertices, ascending.
+#[derive(Clone, Copy, Debug, PartialEq, Eq)]
+pub struct Core {
+    // bit v stands for vertex v
+    mask: u8,
+}
+
+impl Model for Core {
+    ghost use Rattle.std.specs.Prelude.{ℕ, List, ◌<◌};
+    ghost use Rattle.pachner_moves.specs.Cores.{core_of, mask_of};
+
+    ghost Value = { List ℕ };
+
+    ghost view = { λ c. core_of c.mask };
+
+    ghost invariant = { λ c. (0 < c.mask) × (c.mask < 16) };
+
+    ghost inverse = { λ vertices. record { mask = mask_of vertices } };
+
+    ghost use Rattle.pachner_moves.specs.Masks.{mask_again};
+
+    ghost inverse_ok = { λ c h i. record { mask = mask_again c.mask h.1 i } };
+}
+
+impl Core {
+    /// The core whose vertices are the bits of the mask; nothing where the mask is 0 or above 15.
+    pub fn new(mask: u8) -> Option<Core>
+        ensures found { IsSome result ↔ ((0 < mask) × (mask < 16)) }
+        ensures core { IfSome result (λ c. c ≡ core_of mask) }
+    {
+        if mask == 0 || mask > 15 {
+            return None;
+        }
+        Some(Core { mask })
+    }
+
+    /// Whether a vertex is one of the core.
+    pub fn has(self, v: u8) -> bool
+        requires { v < 4 }
+        ensures { result ≡ has self v }
+    {
+        self.mask >> v & 1 == 1
+    }
+
+    /// The number of its vertices.
+    pub fn size(self) -> u8
+        ensures value { result ≡ length self }
+        ensures some { 0 < result }
+        ensures most { result ≤ 4 }
+    {
+        SIZES[self.mask as usize]
+    }
+
+    /// The label of each vertex: those of the core come first, and then the others.
+    pub fn labels(self) -> Perm4
+        ensures value { result ≡ inverse (vertices_by_label self) }
+        ensures permutes { IsPermutationOfFour result }
+    {
+        match Perm4::of_index(LABELS[self.mask as usize]) {
+            Some(labels) => labels,
+            None => unreachable!(),
+        }
+    }
+}
+
+/// A move, by a tetrahedron and a core of it.
+#[derive(Clone, Copy, Debug, PartialEq, Eq)]
+pub struct Move {
+    pub tet: u32,
+    pub core: Core,
+}
+
+impl Model for Move {
+    ghost use Rattle.move_definitions.specs.Moves as moves;
+
+    ghost Value = { moves.Move };
+
+    ghost view = { λ m. record { tet = m.tet; core = m.core } };
+
+    ghost inverse = { λ m. record { tet = m.tet; core = m.core } };
+}

@@ -1,0 +1,157 @@
+//! Facets of a 4-simplex, as tetrahedra of a table.
+
+ghost use Rattle.std.specs.Prelude.{◌≡◌, ◌<◌, ◌≤◌, length, map, slice_index_or, None};
+ghost use Rattle.table_definitions.specs.Lists.{in_place_of};
+ghost use Rattle.table_definitions.specs.Permutation.{image, preimage, compose};
+ghost use Rattle.table_definitions.specs.Table as gluings;
+ghost use Rattle.move_definitions.specs.Moves as moves;
+
+use crate::Move;
+use gluing_table::{Glue, Row, Table};
+use perm_four::Perm4;
+use std::marker::Model;
+
+/// A tetrahedron that stands for the facet of a 4-simplex that lacks one label, with the label of each vertex.
+#[derive(Clone, Copy, Debug, Default, PartialEq, Eq)]
+pub struct Facet {
+    pub tet: u32,
+    pub missing: u8,
+    pub labels: [u8; 4],
+}
+
+impl Model for Facet {
+    ghost use Rattle.move_definitions.specs.Moves as moves;
+
+    ghost Value = { moves.Facet };
+
+    ghost view = { λ f. record { tet = f.tet; missing = f.missing; labels = f.labels } };
+
+    ghost inverse = { λ f. record { tet = f.tet; missing = f.missing; labels = f.labels } };
+}
+
+/// The images of a permutation.
+fn images_of(perm: Perm4) -> [u8; 4]
+    ensures { result ≡ perm }
+{
+    [perm.image(0), perm.image(1), perm.image(2), perm.image(3)]
+}
+
+/// The tetrahedron of a move, which lacks label 4.
+pub fn own_facet(m: Move) -> Facet
+    ensures { result ≡ moves.own_facet m }
+{
+    Facet {
+        tet: m.tet,
+        missing: 4,
+        labels: images_of(m.core.labels()),
+    }
+}
+
+/// The vertex with a label, or 4.
+#[tactic(auto, unfolding(table_definitions::specs::Permutation::preimage))]
+fn vertex_of(labels: &[u8; 4], label: u8) -> u8
+    ensures value { result ≡ preimage labels.now label }
+    ensures in_range { result ≤ 4 }
+{
+    labels.iter().take_while(|l| **l != label).count() as u8
+}
+
+/// What the face opposite a label is glued to; nothing where no vertex has the label.
+pub fn glue_opposite(table: &Table, facet: Facet, label: u8) -> Option<Glue>
+    requires { facet.tet < length table.now }
+    ensures { result ≡ gluings.glue table.now (moves.opposite facet label) }
+{
+    let row = &table.rows()[facet.tet as usize];
+    glue_in(row, vertex_of(&facet.labels, label))
+}
+
+/// What a face of a row is glued to; nothing past its four faces.
+fn glue_in(row: &Row, face: u8) -> Option<Glue>
+    ensures { result ≡ slice_index_or row.now face None }
+{
+    if face < 4 { row[face as usize] } else { None }
+}
+
+/// The label of a vertex behind the face opposite `label`.
+fn label_behind(labels: &[u8; 4], label: u8, perm: Perm4, v: u8) -> u8
+    requires { v < 4 }
+    ensures { result ≡ in_place_of label 4 (image labels.now (preimage perm v)) }
+{
+    let before = labels[perm.preimage(v) as usize];
+    if before == label { 4 } else { before }
+}
+
+/// The facet behind the face opposite `label`, glued so.
+pub fn facet_behind(own: Facet, label: u8, glue: Glue) -> Facet
+    ensures { result ≡ moves.facet_behind own label glue }
+{
+    Facet {
+        tet: glue.tet,
+        missing: label,
+        labels: [
+            label_behind(&own.labels, label, glue.perm, 0),
+            label_behind(&own.labels, label, glue.perm, 1),
+            label_behind(&own.labels, label, glue.perm, 2),
+            label_behind(&own.labels, label, glue.perm, 3),
+        ],
+    }
+}
+
+/// The facet that is found behind the face of the move's tetrahedron opposite `label`.
+pub fn facet_at(table: &Table, m: Move, label: u8) -> Option<Facet>
+    requires in_range { m.tet < length table.now }
+    requires a_label { label < 4 }
+    ensures { result ≡ moves.facet table.now m label }
+{
+    let own = own_facet(m);
+    match glue_opposite(table, own, label) {
+        Some(glue) => Some(facet_behind(own, label, glue)),
+        None => None,
+    }
+}
+
+/// The labels of the vertices to which a gluing leads.
+#[tactic(auto, unfolding(table_definitions::specs::Permutation::compose))]
+fn labels_reached(labels: &[u8; 4], perm: Perm4) -> [u8; 4]
+    ensures { result ≡ compose labels.now perm }
+{
+    [
+        labels[perm.image(0) as usize],
+        labels[perm.image(1) as usize],
+        labels[perm.image(2) as usize],
+        labels[perm.image(3) as usize],
+    ]
+}
+
+/// The same label, or another in its place.
+fn replace_label(label: u8, old: u8, new: u8) -> u8
+    ensures { result ≡ in_place_of old new label }
+{
+    if label == old { new } else { label }
+}
+
+/// The labels that the gluing between two facets should reach.
+fn labels_wanted(f: Facet, g: Facet) -> [u8; 4]
+    ensures { result ≡ map (in_place_of g.missing f.missing) f.labels }
+{
+    let [a, b, c, d] = f.labels;
+    [
+        replace_label(a, g.missing, f.missing),
+        replace_label(b, g.missing, f.missing),
+        replace_label(c, g.missing, f.missing),
+        replace_label(d, g.missing, f.missing),
+    ]
+}
+
+/// Whether two facets are glued to each other label by label.
+pub fn is_matched(table: &Table, f: Facet, g: Facet) -> bool
+    requires { f.tet < length table.now }
+    ensures { result ≡ moves.is_matched f g (gluings.glue table.now (moves.opposite f g.missing)) }
+{
+    match glue_opposite(table, f, g.missing) {
+        Some(glue) => {
+            glue.tet == g.tet && labels_reached(&g.labels, glue.perm) == labels_wanted(f, g)
+        }
+        None => false,
+    }
+}

@@ -1,0 +1,136 @@
+//! Which moves are legal.
+
+ghost use Rattle.std.specs.Prelude.{◌≡◌, ◌<◌, ◌≤◌, ◌∷◌, length, map, Some, None, All, IfOk, IfErr, OnOk};
+ghost use Rattle.table_definitions.specs.Lists.{has};
+ghost use Rattle.table_definitions.specs.Table.{IsTable};
+ghost use Rattle.move_definitions.specs.Moves as moves;
+ghost use Rattle.pachner_moves.specs.Faults.{verdict, IsAnswer, first_facet_fault, found_facets, pairs_fault, IsPattern, facets_below};
+
+use crate::facet::{facet_at, is_matched, own_facet};
+use crate::{Facet, Move};
+use arrayvec::ArrayVec;
+use gluing_table::Table;
+
+/// Why a move can't be made.
+#[derive(Clone, Copy, Debug, PartialEq, Eq)]
+pub enum MoveFault {
+    /// The table has no such tetrahedron.
+    NoSuchTet,
+    /// The face of the tetrahedron opposite this label is a boundary face.
+    Boundary { label: u8 },
+    /// The facet that lacks this label is a tetrahedron that stands for another facet already.
+    Repeated { label: u8 },
+    /// The facets that lack these labels aren't glued to each other label by label.
+    NotMatched { first: u8, second: u8 },
+    /// The new table would have more than 1,000 tetrahedra.
+    TooMany,
+}
+
+/// The facets that a move takes out, by ascending missing label.
+#[derive(Drop)]
+pub struct Pattern {
+    pub facets: ArrayVec<Facet, 4>,
+}
+
+/// Whether a tetrahedron is that of a facet.
+fn is_of_facet(facets: &[Facet], tet: u32) -> bool
+    ensures { result ≡ has (map (λ f. f.tet) facets.now) tet }
+{
+    for facet in facets {
+        if facet.tet == tet {
+            return true;
+        }
+    }
+    false
+}
+
+/// Whether a tetrahedron is that of the move or of a facet.
+fn is_taken(own: u32, facets: &[Facet], tet: u32) -> bool
+    ensures { result ≡ has (own ∷ map (λ f. f.tet) facets.now) tet }
+{
+    own == tet || is_of_facet(facets, tet)
+}
+
+/// The facet behind the face of the move's tetrahedron opposite a label, where that is a tetrahedron of its own.
+fn find_facet(table: &Table, m: &Move, label: u8, found: &[Facet]) -> Result<Facet, MoveFault>
+    requires in_range { m.now.tet < length table.now }
+    requires a_label { label < 4 }
+    requires from_core { length m.now.core ≤ label }
+    requires found { found.now ≡ facets_below table.now m.now label }
+    ensures facet { IfOk result (λ f. Some f ≡ moves.facet table.now m.now label) }
+    ensures none { OnOk result (moves.facet_fault table.now m.now label (moves.facet table.now m.now label) ≡ None) }
+    ensures fault { IfErr result (λ e. IsAnswer e (moves.facet_fault table.now m.now label (moves.facet table.now m.now label))) }
+{
+    let Some(facet) = facet_at(table, *m, label) else {
+        return Err(MoveFault::Boundary { label });
+    };
+    if is_taken(m.tet, found, facet.tet) {
+        return Err(MoveFault::Repeated { label });
+    }
+    Ok(facet)
+}
+
+/// The facets behind the faces of the move's tetrahedron.
+fn find_facets(table: &Table, m: &Move, size: u8) -> Result<ArrayVec<Facet, 4>, MoveFault>
+    requires in_range { m.now.tet < length table.now }
+    requires size { size ≡ length m.now.core }
+    requires some { 0 < size }
+    requires most { size ≤ 4 }
+    ensures facets { IfOk result (λ facets. facets.items ≡ found_facets table.now m.now) }
+    ensures none { OnOk result (first_facet_fault table.now m.now ≡ None) }
+    ensures fault { IfErr result (λ e. IsAnswer e (first_facet_fault table.now m.now)) }
+{
+    let mut facets = ArrayVec::new();
+    for label in size..4 {
+        let facet = find_facet(table, m, label, &facets)?;
+        facets.push(facet);
+    }
+    Ok(facets)
+}
+
+/// Whether two facets are glued to each other.
+fn check_pair(table: &Table, f: Facet, g: Facet) -> Result<(), MoveFault>
+    requires { f.tet < length table.now }
+    ensures { result ≡ verdict (moves.pair_fault table.now (Some f) (Some g)) }
+{
+    if is_matched(table, f, g) {
+        Ok(())
+    } else {
+        Err(MoveFault::NotMatched {
+            first: f.missing,
+            second: g.missing,
+        })
+    }
+}
+
+/// Whether each two of the facets are glued to each other.
+fn check_pairs(table: &Table, facets: &[Facet]) -> Result<(), MoveFault>
+    requires in_range { All (λ f. f.tet < length table.now) facets.now }
+    ensures { result ≡ verdict (pairs_fault table.now facets.now) }
+{
+    if facets.len() == 2 {
+        return check_pair(table, facets[0], facets[1]);
+    }
+    if facets.len() == 3 {
+        check_pair(table, facets[0], facets[1])?;
+        check_pair(table, facets[0], facets[2])?;
+        return check_pair(table, facets[1], facets[2]);
+    }
+    Ok(())
+}
+
+/// The facets that a move takes out, where it is legal. The refusals, in their order, are `NoSuchTet`, then for the
+/// first label `Boundary` or `Repeated`, then for the first pair `NotMatched`.
+pub fn legal(table: &Table, m: Move) -> Result<Pattern, MoveFault>
+    ensures pattern { IfOk result (λ p. IsPattern table.now m p.facets.items) }
+    ensures fault { IfErr result (λ e. IsAnswer e (moves.move_fault table.now m)) }
+{
+    if m.tet as usize >= table.rows().len() {
+        return Err(MoveFault::NoSuchTet);
+    }
+    let size = m.core.size();
+    let mut facets = find_facets(table, &m, size)?;
+    check_pairs(table, &facets)?;
+    facets.push(own_facet(m));
+    Ok(Pattern { facets })
+}
