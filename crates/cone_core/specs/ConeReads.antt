@@ -1,0 +1,43 @@
+-- A cone in text as a system: each row by its nonzero coefficients.
+use Rattle.std.specs.Prelude.{◌≡◌, ℕ, ℤ, List, [], ◌∷◌, map, if◌then◌else◌, Result, Ok, Err}
+use Rattle.text_definitions.specs.declared.LexFault.{LexFault}
+use Rattle.text_definitions.specs.Reading.{Reading, ◌>>=◌}
+use Rattle.triangulation_definitions.specs.ConeText.{Cone as ConeText, coefficients_at, cone_row_at, cone_rows_at, is_zero, sparse}
+use Rattle.cone_definitions.specs.Rows.{Row}
+use Rattle.cone_core.specs.Systems.{Cone}
+use Rattle.cone_core.specs.declared.reader.ConeFault.{ConeFault}
+use Rattle.cone_core.specs.declared.reader.ConeFault.TheVariants.{Lex, NoMemory}
+
+-- a cone in text as a system
+abbrev pub system_of : ConeText → Cone
+system_of cone = record { columns = cone.columns; rows = map sparse cone.rows }
+
+-- What a call answered and what it left is the cone that a reader gives, or its fault. At a fault nothing is said of what is left.
+abbrev pub GivesCone : Result Cone ConeFault → Reading → Result (ConeText × Reading) LexFault → Type 0
+GivesCone (Ok system) left read = (cone : ConeText) × (read ≡ Ok (cone, left)) × (system ≡ system_of cone)
+GivesCone (Err (Lex fault)) left read = read ≡ Err fault
+GivesCone (Err NoMemory) left read = Unit {0}
+
+-- why nothing is read
+abbrev pub FailsHere : {A : Type 0} → ConeFault → Result A LexFault → Type 0
+FailsHere (Lex fault) read = read ≡ Err fault
+FailsHere NoMemory read = Unit {0}
+
+-- the same of a value, as view sees it
+abbrev pub GivesHere : {X A : Type 0} → (X → A) → Result X ConeFault → Reading → Result (A × Reading) LexFault → Type 0
+GivesHere view (Ok x) left read = read ≡ Ok (view x, left)
+GivesHere view (Err fault) left read = FailsHere fault read
+
+-- the entries of one coefficient: one, or none where it is 0
+abbrev pub entries_of : ℕ → ℤ → Row
+entries_of column z = if is_zero z then [] else (column, z) ∷ []
+
+-- coefficients, a line of them, and lines of them, as rows
+abbrev pub sparse_entries_at : ℕ → Reading → Result (Row × Reading) LexFault
+sparse_entries_at columns c = coefficients_at columns c >>= λ r. Ok (sparse r.0, r.1)
+
+abbrev pub sparse_row_at : ℕ → Reading → Result (Row × Reading) LexFault
+sparse_row_at columns c = cone_row_at columns c >>= λ r. Ok (sparse r.0, r.1)
+
+abbrev pub sparse_rows_at : ℕ → ℕ → Reading → Result (List Row × Reading) LexFault
+sparse_rows_at count columns c = cone_rows_at count columns c >>= λ r. Ok (map sparse r.0, r.1)

@@ -1,0 +1,144 @@
+// Cones in text: `cone C R`, and R lines of C coefficients, or no line where C is 0.
+
+ghost use Rattle.std.specs.Prelude.{◌≡◌, ◌≤◌, ◌<◌, ◌^◌, IfOk, OnOk, ◌++◌, replicate, []};
+ghost use Rattle.cone_core.specs.Sparse.{IsInRange};
+ghost use Rattle.cone_core.specs.ConeReads.{GivesHere, GivesCone, sparse_row_at, entries_of, sparse_entries_at, sparse_rows_at};
+ghost use Rattle.triangulation_definitions.specs.ConeText.{cone_at};
+
+use crate::row::{MAX_COEFFICIENT, SparseRow};
+use crate::system::System;
+use bench_io::{LexFault, Lexer};
+use no_memory::NoMemory;
+use smallvec::SmallVec;
+use std::alloc::{AllocFailed, Global};
+
+/// The most columns and the most rows of a cone in text.
+const MAX_COUNT: u128 = 10000;
+
+/// Why no cone is read: the lexer's first fault, or want of memory.
+#[derive(Clone, Copy, Debug, PartialEq, Eq)]
+pub enum ConeFault {
+    Lex(LexFault),
+    NoMemory,
+}
+
+impl From<LexFault> for ConeFault {
+    ghost use Rattle.std.specs.Prelude.{◌≡◌};
+    ghost use Rattle.cone_core.specs.declared.reader.ConeFault.TheVariants.{Lex};
+
+    ghost from_gives = { λ lex fault. fault ≡ Lex lex };
+
+    fn from(lex: LexFault) -> ConeFault {
+        ConeFault::Lex(lex)
+    }
+}
+
+impl From<NoMemory> for ConeFault {
+    ghost use Rattle.std.specs.Prelude.{◌≡◌};
+    ghost use Rattle.cone_core.specs.declared.reader.ConeFault.TheVariants.{NoMemory};
+
+    ghost from_gives = { λ _ fault. fault ≡ NoMemory };
+
+    fn from(_error: NoMemory) -> ConeFault {
+        ConeFault::NoMemory
+    }
+}
+
+impl<T: Drop> From<AllocFailed<T>> for ConeFault {
+    ghost use Rattle.std.specs.Prelude.{◌≡◌};
+    ghost use Rattle.cone_core.specs.declared.reader.ConeFault.TheVariants.{NoMemory};
+
+    ghost from_gives = { λ _ fault. fault ≡ NoMemory };
+
+    fn from(_failed: AllocFailed<T>) -> ConeFault {
+        ConeFault::NoMemory
+    }
+}
+
+/// Appends a coefficient, if it isn't 0.
+fn push_coefficient(
+    entries: &mut SmallVec<(u32, i32), 8>,
+    column: u32,
+    coefficient: i32,
+) -> Result<(), AllocFailed<(u32, i32)>>
+    ensures { OnOk result (entries.new.items ≡ entries.old.items ++ entries_of column coefficient) }
+{
+    if coefficient != 0 {
+        entries.push((column, coefficient))?;
+    }
+    Ok(())
+}
+
+/// So many coefficients of the current line, as a row.
+fn read_entries(alloc: Global, lexer: &mut Lexer<'_>, columns: u32) -> Result<SparseRow, ConeFault>
+    ensures gives { GivesHere (λ row. row) result lexer.new (sparse_entries_at columns lexer.old) }
+    ensures in_range { IfOk result (IsInRange columns) }
+{
+    let mut entries = SmallVec::new(alloc);
+    for column in 0..columns {
+        let coefficient = lexer.signed(MAX_COEFFICIENT)?;
+        push_coefficient(&mut entries, column, coefficient)?;
+    }
+    Ok(SparseRow { entries })
+}
+
+/// A line of so many coefficients.
+#[tactic(auto, unfolding(triangulation_definitions::specs::ConeText::cone_row_at))]
+fn read_row(alloc: Global, lexer: &mut Lexer<'_>, columns: u32) -> Result<SparseRow, ConeFault>
+    ensures gives { GivesHere (λ row. row) result lexer.new (sparse_row_at columns lexer.old) }
+    ensures in_range { IfOk result (IsInRange columns) }
+{
+    lexer.need_line()?;
+    let row = read_entries(alloc, lexer, columns)?;
+    lexer.end_line()?;
+    Ok(row)
+}
+
+/// So many lines of a row each.
+fn read_rows(
+    alloc: Global,
+    lexer: &mut Lexer<'_>,
+    columns: u32,
+    count: u32,
+) -> Result<System, ConeFault>
+    ensures gives { GivesHere (λ system. system.rows) result lexer.new (sparse_rows_at count columns lexer.old) }
+    ensures columns { IfOk result (λ system. system.columns ≡ columns) }
+{
+    let mut system = System::new(alloc, columns);
+    for _number in 0..count {
+        let row = read_row(alloc, lexer, columns)?;
+        system.push_row(row)?;
+    }
+    Ok(system)
+}
+
+/// So many rows without columns, of which no line stands in the text.
+fn rows_of_no_columns(alloc: Global, count: u32) -> Result<System, NoMemory>
+    ensures rows { IfOk result (λ system. system.rows ≡ replicate count []) }
+    ensures columns { IfOk result (λ system. system.columns ≡ 0) }
+{
+    let mut system = System::new(alloc, 0);
+    for _number in 0..count {
+        system.push_row(SparseRow::new(alloc, &[])?)?;
+    }
+    Ok(system)
+}
+
+/// A cone, from the current line on, of which no word was taken yet.
+#[tactic(auto, unfolding(triangulation_definitions::specs::ConeText::cone_at, text_definitions::specs::Reading::exactly_at))]
+pub fn read_cone(alloc: Global, lexer: &mut Lexer<'_>) -> Result<System, ConeFault>
+    ensures { GivesCone result lexer.new (cone_at lexer.old) }
+{
+    let word = lexer.word()?;
+    if word != b"cone".as_slice() {
+        return Err(ConeFault::Lex(lexer.bad_word()));
+    }
+    let columns = lexer.number(MAX_COUNT)? as u32;
+    let count = lexer.number(MAX_COUNT)? as u32;
+    lexer.end_line()?;
+    if columns == 0 {
+        let system = rows_of_no_columns(alloc, count)?;
+        return Ok(system);
+    }
+    read_rows(alloc, lexer, columns, count)
+}
