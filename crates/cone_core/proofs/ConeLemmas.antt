@@ -14,7 +14,7 @@ use Rattle.cone_core.specs.declared.reader.ConeFault.{ConeFault}
 use Rattle.cone_core.specs.declared.reader.ConeFault.TheVariants.{Lex, NoMemory}
 use Rattle.text_definitions.specs.Reading.{end_line_at, exactly_at, same_word, Reading, ◌>>=◌, word_at, word_fault, number_up_to, number_at, signed_at, magnitude, is_negative, with_sign}
 use Rattle.text_definitions.proofs.Readers.{bind_ok}
-use Rattle.triangulation_definitions.specs.ConeText.{Cone as ConeText, is_zero, sparse, coefficients_at, cone_row_at, cone_rows_at, rows_of_cone_at, cone_at}
+use Rattle.cone_text_definitions.specs.ConeText.{Cone as ConeText, is_zero, sparse, coefficients_at, cone_row_at, cone_rows_at, rows_of_cone_at, cone_at}
 use Rattle.cone_definitions.specs.Rows.{Row}
 use Rattle.cone_core.specs.Sparse.{IsSparse, IsInRange}
 use Rattle.cone_core.specs.ConeReads.{FailsHere, GivesHere, GivesCone, entries_of, sparse_row_at, sparse_rows_at}

@@ -2,7 +2,7 @@
 use Rattle.std.specs.Prelude.{◌≡◌, ℕ, ℤ, List, [], ◌∷◌, map, if◌then◌else◌, Result, Ok, Err}
 use Rattle.text_definitions.specs.declared.LexFault.{LexFault}
 use Rattle.text_definitions.specs.Reading.{Reading, ◌>>=◌}
-use Rattle.triangulation_definitions.specs.ConeText.{Cone as ConeText, coefficients_at, cone_row_at, cone_rows_at, is_zero, sparse}
+use Rattle.cone_text_definitions.specs.ConeText.{Cone as ConeText, coefficients_at, cone_row_at, cone_rows_at, is_zero, sparse}
 use Rattle.cone_definitions.specs.Rows.{Row}
 use Rattle.cone_core.specs.Systems.{Cone}
 use Rattle.cone_core.specs.declared.reader.ConeFault.{ConeFault}

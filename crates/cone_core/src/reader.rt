@@ -3,7 +3,7 @@
 ghost use Rattle.std.specs.Prelude.{◌≡◌, ◌≤◌, ◌<◌, ◌^◌, IfOk, OnOk, ◌++◌, replicate, []};
 ghost use Rattle.cone_core.specs.Sparse.{IsInRange};
 ghost use Rattle.cone_core.specs.ConeReads.{GivesHere, GivesCone, sparse_row_at, entries_of, sparse_entries_at, sparse_rows_at};
-ghost use Rattle.triangulation_definitions.specs.ConeText.{cone_at};
+ghost use Rattle.cone_text_definitions.specs.ConeText.{cone_at};
 
 use crate::row::{MAX_COEFFICIENT, SparseRow};
 use crate::system::System;
@@ -83,7 +83,7 @@ fn read_entries(alloc: Global, lexer: &mut Lexer<'_>, columns: u32) -> Result<Sp
 }
 
 /// A line of so many coefficients.
-#[tactic(auto, unfolding(triangulation_definitions::specs::ConeText::cone_row_at))]
+#[tactic(auto, unfolding(cone_text_definitions::specs::ConeText::cone_row_at))]
 fn read_row(alloc: Global, lexer: &mut Lexer<'_>, columns: u32) -> Result<SparseRow, ConeFault>
     ensures gives { GivesHere (λ row. row) result lexer.new (sparse_row_at columns lexer.old) }
     ensures in_range { IfOk result (IsInRange columns) }
@@ -125,7 +125,7 @@ fn rows_of_no_columns(alloc: Global, count: u32) -> Result<System, NoMemory>
 }
 
 /// A cone, from the current line on, of which no word was taken yet.
-#[tactic(auto, unfolding(triangulation_definitions::specs::ConeText::cone_at, text_definitions::specs::Reading::exactly_at))]
+#[tactic(auto, unfolding(cone_text_definitions::specs::ConeText::cone_at, text_definitions::specs::Reading::exactly_at))]
 pub fn read_cone(alloc: Global, lexer: &mut Lexer<'_>) -> Result<System, ConeFault>
     ensures { GivesCone result lexer.new (cone_at lexer.old) }
 {

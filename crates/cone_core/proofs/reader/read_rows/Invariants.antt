@@ -1,6 +1,6 @@
 -- the rows so far, before those of the lines that are left, are what all lines give
 use Rattle.std.proofs.Common.{◌≡◌, ◌-◌, length}
-use Rattle.triangulation_definitions.specs.ConeText.{cone_rows_at}
+use Rattle.cone_text_definitions.specs.ConeText.{cone_rows_at}
 use Rattle.cone_core.specs.ConeReads.{sparse_rows_at}
 use Rattle.cone_core.proofs.ConeLemmas.{with_rows}
 use Rattle.cone_core.proofs.reader.read_rows.Given as goal
