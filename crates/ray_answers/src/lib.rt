@@ -1,0 +1,11 @@
+//! The rays of a cone, and lists of rays as text.
+#![tactic(auto)]
+
+mod enumeration;
+mod text;
+
+pub use enumeration::rays;
+pub use text::{write_entries, write_list};
+
+#[cfg(test)]
+mod tests;

@@ -1,0 +1,23 @@
+use super::*;
+use bench_io::Lexer;
+use cone_core::{MAX_ENTRY, read_cone};
+use double_description::Order;
+use std::test::Fail;
+
+#[test]
+fn writes_the_rays_of_a_cone(rt: HostRuntime) -> Result<(), Fail> {
+    let alloc = rt.alloc();
+    let mut lexer = Lexer::new(b"cone 3 1\n1 1 -2");
+    assert!(rt; lexer.next_line());
+    let system = read_cone(alloc, &mut lexer)?;
+    let mut out = Vec::from_slice(alloc, b"# rays 2\n")?;
+    match rays(alloc, &system, Order::Given, MAX_ENTRY) {
+        Ok(found) => write_list(alloc, &found.list, &mut out)?,
+        Err(_) => panic!(rt; "a list was expected"),
+    }
+    assert_eq!(rt;
+        out.as_slice(),
+        b"# rays 2\nvec 0 2 1\nvec 2 0 1\n".as_slice()
+    );
+    Ok(())
+}
