@@ -1,5 +1,5 @@
 -- How a loop reads the rows of a cone: what is read so far, before what a reader gives of the rest.
-use Rattle.std.proofs.Common.{ap₂, IfOk, ◌≡◌, ◌≢◌, ℕ, zero, suc, ℤ, pos, negsuc, ◌+◌, ◌-◌, ◌<◌, ◌≤◌, true, false, cond, Bool, not, filter, List, [], ◌∷◌, ◌++◌, map, refl, sym, ap, ◌∙◌, subst, append_assoc, append-nil, arith, Option, Some, None, Result, Ok, Err, replicate}
+use Rattle.std.proofs.Common.{ap₂, ◌≡◌, ℕ, zero, suc, ℤ, pos, negsuc, ◌+◌, ◌-◌, ◌<◌, ◌≤◌, true, false, cond, Bool, not, filter, List, [], ◌∷◌, ◌++◌, map, refl, sym, ap, ◌∙◌, subst, append_assoc, append-nil, arith, Option, Some, None, Result, Ok, Err, replicate}
 use Rattle.std.specs.Prelude.{◌==◌, nat_lt, unsigned_abs}
 use Rattle.std.proofs.lemmas.Bool.Decides.{nat_tests}
 use Rattle.std.specs.List.{enumerate_from}
@@ -17,7 +17,7 @@ use Rattle.text_definitions.proofs.Readers.{bind_ok}
 use Rattle.cone_text_definitions.specs.ConeText.{Cone as ConeText, is_zero, sparse, coefficients_at, cone_row_at, cone_rows_at, rows_of_cone_at, cone_at}
 use Rattle.cone_definitions.specs.Rows.{Row}
 use Rattle.cone_core.specs.Sparse.{IsSparse, IsInRange}
-use Rattle.cone_core.specs.ConeReads.{FailsHere, GivesHere, GivesCone, entries_of, sparse_row_at, sparse_rows_at}
+use Rattle.cone_core.specs.ConeReads.{FailsHere, GivesCone, entries_of, sparse_row_at}
 
 ok_value : {A E : Type 0} (x y : A) → ◌≡◌ {A = Result A E} (Ok x) (Ok y) → y ≡ x
 ok_value x y e = cc
