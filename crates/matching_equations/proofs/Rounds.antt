@@ -1,19 +1,22 @@
 -- A walk round an edge lists each corner that its steps reach once.
-use Rattle.std.proofs.Common.{◌≡◌, ◌≢◌, ℕ, zero, suc, ◌+◌, ◌-◌, ◌<◌, ◌≤◌, List, [], ◌∷◌, length, get_or, Option, Some, None, ◌⊎◌, inl, inr, ⊎_elim, refl, sym, ap, ◌∙◌, subst, arith, add-one}
-use Rattle.std.specs.Prelude.{option_map, option_and_then, Contains, ◌↔◌}
+use Rattle.std.proofs.Common.{◌≡◌, ◌≢◌, ℕ, zero, suc, ◌<◌, ◌≤◌, List, [], ◌∷◌, length, get_or, Option, Some, None, ⊎_elim, refl, sym, ap, ◌∙◌, subst, arith}
+use Rattle.std.specs.Prelude.{option_map, option_and_then, Contains}
 use Rattle.std.proofs.lemmas.Bool.{cases_lt}
-use Rattle.table_definitions.specs.Permutation.{image, inverse, IsPermutationOfFour}
-use Rattle.table_definitions.specs.Table.{Gluing, Row, Face, glue, other_side, way_back, IsTable}
+use Rattle.table_definitions.specs.Permutation.{image, IsPermutationOfFour}
+use Rattle.table_definitions.specs.Table.{Gluing, Row, glue, IsTable}
 use Rattle.table_definitions.proofs.PermutationLaws.{image_below, image-of_inverse}
+use Rattle.matching_equations.proofs.Images.{images_apart}
 use Rattle.skeleton_definitions.specs.Corners.{Corner, corner_behind, step, steps, Reaches, GoesRound, IsWalk, AreCorners}
 
--- the vertices of a corner are vertices
-pub record IsFour (k : Corner) : Type 0 where
+-- a corner of one of the tetrahedra: its vertices are vertices, and a is neither c nor d
+pub record IsCornerIn (n : ℕ) (k : Corner) : Type 0 where
+  pub tet : k.tet < n
   pub a : k.a < 4
   pub b : k.b < 4
   pub c : k.c < 4
   pub d : k.d < 4
-
+  pub ac : k.a ≢ k.c
+  pub ad : k.a ≢ k.d
 
 -- the corner before, by what leads back
 abbrev pub undone : Corner → Option Gluing → Corner
@@ -24,34 +27,37 @@ abbrev pub before : List Row → Corner → Corner
 before rows l = undone l (glue rows (record { tet = l.tet; face = l.d }))
 
 pub record IsStep (rows : List Row) (k l : Corner) : Type 0 where
-  pub four : IsFour l
+  pub four : IsCornerIn (length rows) l
   pub back : k ≡ before rows l
 
-behind_is : (rows : List Row) → IsTable rows → (k l : Corner) → IsFour k → (g : Gluing) → glue rows (record { tet = k.tet; face = k.c }) ≡ Some g → corner_behind k g ≡ l → IsStep rows k l
+behind_is : (rows : List Row) → IsTable rows → (k l : Corner) → IsCornerIn (length rows) k → (g : Gluing) → glue rows (record { tet = k.tet; face = k.c }) ≡ Some g → corner_behind k g ≡ l → IsStep rows k l
 behind_is rows table k l four g e is = subst (IsStep rows k) is (record {
-    four = record {
-      a = image_below g.perm k.a p four.a;
-      b = image_below g.perm k.b p four.b;
-      c = image_below g.perm k.d p four.d;
-      d = image_below g.perm k.c p four.c;
-    };
-    back = (λ i. record {
-      tet = k.tet;
-      a = sym (image-of_inverse g.perm k.a p four.a) i;
-      b = sym (image-of_inverse g.perm k.b p four.b) i;
-      c = sym (image-of_inverse g.perm k.c p four.c) i;
-      d = sym (image-of_inverse g.perm k.d p four.d) i;
-    }) ∙ ap (undone (corner_behind k g)) (sym (table.leads_back (record { tet = k.tet; face = k.c }) g e));
-  })
+  four = record {
+    tet = table.in_range (record { tet = k.tet; face = k.c }) g e;
+    a = image_below g.perm k.a p four.a;
+    b = image_below g.perm k.b p four.b;
+    c = image_below g.perm k.d p four.d;
+    d = image_below g.perm k.c p four.c;
+    ac = images_apart g.perm k.a k.d p four.a four.d four.ad;
+    ad = images_apart g.perm k.a k.c p four.a four.c four.ac;
+  };
+  back = (λ i. record {
+    tet = k.tet;
+    a = sym (image-of_inverse g.perm k.a p four.a) i;
+    b = sym (image-of_inverse g.perm k.b p four.b) i;
+    c = sym (image-of_inverse g.perm k.c p four.c) i;
+    d = sym (image-of_inverse g.perm k.d p four.d) i;
+  }) ∙ ap (undone (corner_behind k g)) (sym (table.leads_back (record { tet = k.tet; face = k.c }) g e));
+})
   where
     p : IsPermutationOfFour g.perm
     p = table.permutes (record { tet = k.tet; face = k.c }) g e
 
-step_is : (rows : List Row) → IsTable rows → (k l : Corner) → IsFour k → (o : Option Gluing) → glue rows (record { tet = k.tet; face = k.c }) ≡ o → option_map (corner_behind k) o ≡ Some l → IsStep rows k l
+step_is : (rows : List Row) → IsTable rows → (k l : Corner) → IsCornerIn (length rows) k → (o : Option Gluing) → glue rows (record { tet = k.tet; face = k.c }) ≡ o → option_map (corner_behind k) o ≡ Some l → IsStep rows k l
 step_is rows table k l four None e h = absurd cc
 step_is rows table k l four (Some g) e h = behind_is rows table k l four g e (cc)
 
-pub is_step : (rows : List Row) → IsTable rows → (k l : Corner) → IsFour k → step rows k ≡ Some l → IsStep rows k l
+pub is_step : (rows : List Row) → IsTable rows → (k l : Corner) → IsCornerIn (length rows) k → step rows k ≡ Some l → IsStep rows k l
 is_step rows table k l four h = step_is rows table k l four (glue rows (record { tet = k.tet; face = k.c })) refl h
 
 -- the corners of a round, by their places
@@ -70,13 +76,13 @@ module _ (rows : List Row) (first : Corner) where
   not_first k (m ∷ ms) h zero l = h.1
   not_first k (m ∷ ms) h (suc i) l = not_first m ms h.2 i (omega arith)
 
-  four_at : IsTable rows → (k : Corner) (ks : List Corner) → GoesRound rows first k ks → IsFour k → (i : ℕ) → i ≤ length ks → IsFour (get_or (k ∷ ks) i first)
+  four_at : IsTable rows → (k : Corner) (ks : List Corner) → GoesRound rows first k ks → IsCornerIn (length rows) k → (i : ℕ) → i ≤ length ks → IsCornerIn (length rows) (get_or (k ∷ ks) i first)
   four_at table k ks h four zero l = four
   four_at table k [] h four (suc i) l = absurd (omega arith)
   four_at table k (m ∷ ms) h four (suc i) l = four_at table m ms h.2 (is_step rows table k m four h.0).four i (omega arith)
 
   -- no corner stands at two places
-  once_at : IsTable rows → (k : Corner) (ks : List Corner) → k ≡ first → GoesRound rows first k ks → IsFour k → (i j : ℕ) → i < j → j ≤ length ks → get_or (k ∷ ks) i first ≢ get_or (k ∷ ks) j first
+  once_at : IsTable rows → (k : Corner) (ks : List Corner) → k ≡ first → GoesRound rows first k ks → IsCornerIn (length rows) k → (i j : ℕ) → i < j → j ≤ length ks → get_or (k ∷ ks) i first ≢ get_or (k ∷ ks) j first
   once_at table k ks e h four i zero less l same = absurd (omega arith)
   once_at table k ks e h four zero (suc j) less l same = not_first k ks h j (omega arith) (sym same ∙ e)
   once_at table k ks e h four (suc i) (suc j) less l same =
@@ -106,8 +112,8 @@ module _ (rows : List Row) (first : Corner) where
   closed k ks e h i l m f = ⊎_elim
       (λ low. let n : step rows (get_or (k ∷ ks) i first) ≡ Some (get_or (k ∷ ks) (suc i) first) = next_at k ks h i low in (suc i, omega arith, same_some (sym n ∙ f)))
       (λ high. let at : i ≡ length ks = omega arith in
-        let n : step rows (get_or (k ∷ ks) i first) ≡ Some first = ap (λ j. step rows (get_or (k ∷ ks) j first)) at ∙ last_at k ks h in
-        (0, omega arith, e ∙ same_some (sym n ∙ f)))
+      let n : step rows (get_or (k ∷ ks) i first) ≡ Some first = ap (λ j. step rows (get_or (k ∷ ks) j first)) at ∙ last_at k ks h in
+      (0, omega arith, e ∙ same_some (sym n ∙ f)))
       (cases_lt i (length ks))
     where
       same_some : {a b : Corner} → Some a ≡ Some b → a ≡ b
@@ -133,13 +139,20 @@ contained rows first k ks e h m (suc n) i l c at f = go (step rows c) refl f (λ
         again next.0 next.1 d next.2 g
 
 -- the law: the walk until it is back lists all corners that steps reach, each once
-pub walk_has_corners : (rows : List Row) → IsTable rows → (first : Corner) → IsFour first → (corners : List Corner) → IsWalk rows first corners → AreCorners rows first corners
+pub walk_has_corners : (rows : List Row) → IsTable rows → (first : Corner) → IsCornerIn (length rows) first → (corners : List Corner) → IsWalk rows first corners → AreCorners rows first corners
 walk_has_corners rows table first four [] h = absurd h
 walk_has_corners rows table first four (k ∷ ks) h =
-    let start : IsFour k = subst IsFour (sym h.0) four in
+    let start : IsCornerIn (length rows) k = subst (IsCornerIn (length rows)) (sym h.0) four in
     record {
       reached = λ m. (
         (λ c. let low : c.0 < suc (length ks) = c.1 in subst (Reaches rows first) (default_free (k ∷ ks) c.0 first m c.1 ∙ c.2) (reached_at rows first k ks h.0 h.1 c.0 (omega arith))),
-        (λ r. contained rows first k ks h.0 h.1 m r.0 0 (omega arith) first h.0 r.1));
+        (λ r. contained rows first k ks h.0 h.1 m r.0 0 (omega arith) first h.0 r.1),
+      );
       once = λ i j less l. once_at rows first table k ks h.0 h.1 start i j less (omega arith);
     }
+
+-- each of them is a corner of one of the tetrahedra
+pub walk_in_range : (rows : List Row) → IsTable rows → (first : Corner) → IsCornerIn (length rows) first → (corners : List Corner) → IsWalk rows first corners
+    → (i : ℕ) → i < length corners → IsCornerIn (length rows) (get_or corners i first)
+walk_in_range rows table first four [] h i l = absurd h
+walk_in_range rows table first four (k ∷ ks) h i l = four_at rows first table k ks h.1 (subst (IsCornerIn (length rows)) (sym h.0) four) i (omega arith)
