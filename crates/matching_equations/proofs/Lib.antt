@@ -2,3 +2,4 @@ pub mod Ranges
 pub mod Terms
 pub mod Matched
 pub mod Images
+pub mod Rounds

@@ -65,11 +65,11 @@ some_coefficient : (a b : ℕ) (z : ℤ) → z ≡ pos a -ℤ pos b → a ≢ b 
 some_coefficient a b (pos n) e ne = omega (arith, ints)
 some_coefficient a b (negsuc n) e ne = omega (arith, ints)
 
-small_coefficient : (a b : ℕ) (z : ℤ) → z ≡ pos a -ℤ pos b → a ≤ 4 → b ≤ 4 → unsigned_abs z ≤ 1000000
+small_coefficient : (a b : ℕ) (z : ℤ) → z ≡ pos a -ℤ pos b → a ≤ 1000000 → b ≤ 1000000 → unsigned_abs z ≤ 1000000
 small_coefficient a b (pos n) e la lb = omega (arith, ints)
 small_coefficient a b (negsuc n) e la lb = omega (arith, ints)
 
-are_terms : (e : Equation) (a n : ℕ) → length e.left ≤ 4 → length e.right ≤ 4 → AreTerms a n (filter_map (term_of e) (range_with_len a n))
+are_terms : (e : Equation) (a n : ℕ) → length e.left ≤ 1000000 → length e.right ≤ 1000000 → AreTerms a n (filter_map (term_of e) (range_with_len a n))
 are_terms e a zero l r = record {
   low = λ k d h. absurd (omega arith);
   high = λ k d h. absurd (omega arith);
@@ -102,10 +102,10 @@ are_terms e a (suc n) l r = go (times_in e.left a == times_in e.right a) refl (a
           bounded = All-cons (λ term. unsigned_abs term.1 ≤ 1000000) t ts (small_coefficient (times_in e.left a) (times_in e.right a) (coefficient e a) refl (omega arith) (omega arith)) rest.bounded;
         }
 
-pub row_is_sparse : (e : Equation) (n : ℕ) → length e.left ≤ 4 → length e.right ≤ 4 → IsSparse (row_of n e)
+pub row_is_sparse : (e : Equation) (n : ℕ) → length e.left ≤ 1000000 → length e.right ≤ 1000000 → IsSparse (row_of n e)
 row_is_sparse e n l r = let t : AreTerms 0 n (row_of n e) = are_terms e 0 n l r in record { ascending = t.ascending; nonzero = t.nonzero; bounded = t.bounded }
 
-pub row_in_range : (e : Equation) (n : ℕ) → length e.left ≤ 4 → length e.right ≤ 4 → IsInRange n (row_of n e)
+pub row_in_range : (e : Equation) (n : ℕ) → length e.left ≤ 1000000 → length e.right ≤ 1000000 → IsInRange n (row_of n e)
 row_in_range e n l r = let t : AreTerms 0 n (row_of n e) = are_terms e 0 n l r in λ k d h. let m = t.high k d h in omega (arith, m)
 
 -- before the first column that comes there are no terms
@@ -117,6 +117,6 @@ pub made_row : (left right : List ℕ) (column n : ℕ) {terms : List (ℕ × �
 made_row left right column n e f = f ∙ ap (λ k. filter_map (term_of (equation_of left right)) (below k)) e
 
 pub kept_in_range : (left right : List ℕ) (n : ℕ) (terms : List (ℕ × ℤ)) (result : Result (List (ℕ × ℤ)) NoMemory) → IfOk result (λ row. row ≡ terms) → terms ≡ row_of n (equation_of left right)
-    → length left ≤ 4 → length right ≤ 4 → IfOk result (IsInRange n)
+    → length left ≤ 1000000 → length right ≤ 1000000 → IfOk result (IsInRange n)
 kept_in_range left right n terms (Ok row) k e l r = subst (IsInRange n) (sym (k ∙ e)) (row_in_range (equation_of left right) n l r)
 kept_in_range left right n terms (Err fault) k e l r = tt

@@ -65,9 +65,9 @@ pub fn arc_columns(coords: Coords, tet: u32, face: u8, vertex: u8) -> ArrayVec<u
 
 /// How often a column stands in a list.
 fn times_in(columns: &[u32], column: u32) -> u32
-    requires { length columns.now ≤ 4 }
+    requires { length columns.now ≤ 1000000 }
     ensures value { result ≡ lists.times_in columns.now column }
-    ensures few { result ≤ 4 }
+    ensures few { result ≤ 1000000 }
 {
     let mut times = 0;
     for other in columns {
@@ -101,8 +101,8 @@ fn push_term(
     right: &[u32],
     column: u32,
 ) -> Result<(), NoMemory>
-    requires left { length left.now ≤ 4 }
-    requires right { length right.now ≤ 4 }
+    requires left { length left.now ≤ 1000000 }
+    requires right { length right.now ≤ 1000000 }
     ensures { OnOk result (terms.new.items ≡ terms.old.items ++ option_to_list (equations.term_of (record { left = left.now; right = right.now }) column)) }
 {
     let plus = times_in(left, column) as i32;
@@ -120,8 +120,8 @@ pub fn row_of(
     left: &[u32],
     right: &[u32],
 ) -> Result<SparseRow, NoMemory>
-    requires left { length left.now ≤ 4 }
-    requires right { length right.now ≤ 4 }
+    requires left { length left.now ≤ 1000000 }
+    requires right { length right.now ≤ 1000000 }
     ensures value { IfOk result (λ row. row ≡ equations.row_of columns (record { left = left.now; right = right.now })) }
     ensures in_range { IfOk result (IsInRange columns) }
 {

@@ -294,4 +294,4 @@ decides_near coords n near mask sa sb a b r marks p q is close = (
 pub are_clashes : (coords : Coordinates) (n : ℕ) → AreClashes (columns coords n) (clash_list coords n)
 are_clashes coords n =
     all_of_pairs (λ pair. (pair.0 < columns coords n) × (pair.1 < columns coords n) × (pair.0 ≢ pair.1)) coords n
-      (λ c e less within clashes. let low : c < columns coords n = omega arith in let apart : c ≢ e = λ same. omega arith in (low, within, apart))
+    (λ c e less within clashes. let low : c < columns coords n = omega arith in let apart : c ≢ e = λ same. omega arith in (low, within, apart))

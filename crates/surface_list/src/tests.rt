@@ -65,7 +65,8 @@ fn surfaces_of_small_tables(rt: HostRuntime) {
         &[&[1, 1, 0, 0, 1, 0, 0], &[1, 1, 1, 1, 0, 0, 0]],
     );
     let free = [[None, None, None, None]];
-    are_surfaces(&rt, alloc, &[], Coords::Standard, MAX_ENTRY, &[]);
+    let empty: Vec<Row> = Vec::new(alloc);
+    are_surfaces(&rt, alloc, &empty, Coords::Standard, MAX_ENTRY, &[]);
     are_surfaces(
         &rt,
         alloc,
