@@ -1,1 +1,11 @@
 pub mod OptionRules
+pub mod Hyphens
+pub mod WordSteps
+pub mod OptionSteps
+pub mod OptionWalk
+pub mod LeafFaults
+pub mod ProgramWalk
+pub mod Spelled
+pub mod DashedWords
+pub mod Asked
+pub mod WordLists

@@ -1,9 +1,8 @@
 -- The arguments that stand for the options of a command, and what a use of one does.
-use Rattle.std.proofs.Common.{◌≡◌, ◌∙◌, ◌&&◌, ◌||◌, not, ℕ, Bool, true, false, refl, sym, ap, List, [], ◌∷◌, ◌++◌, map, Option, Some, None, cond, true≢false}
-use Rattle.std.specs.List.{find, list_any}
+use Rattle.std.proofs.Common.{◌≡◌, ◌∙◌, ◌||◌, ℕ, Bool, true, false, refl, ap, List, [], ◌∷◌, ◌++◌, map, Option, Some, None, cond, true≢false}
 use Rattle.std.specs.Str.{bytes_eq}
 use Rattle.std.proofs.lemmas.Slice.Eq.{bytes_eq-Decides}
-use Rattle.clap.specs.Walk.{Row, Rule, Text, arg_by_id, arg_by_index, arg_by_long, arg_by_short, at_row, has_row, reading_by, used}
+use Rattle.clap.specs.Walk.{Row, Rule, Text, arg_by_id, arg_by_index, arg_by_long, arg_by_short, at_row, has_row, more_values, reading_by, used}
 use Rattle.clap.specs.Simple.{new_rule}
 use Rattle.clap.specs.Faults.{use_fault}
 use Rattle.clap.specs.declared.builder.action.ArgAction.TheVariants.{Set}
@@ -72,12 +71,12 @@ has_row-rows id (g ∷ gs) = ap (λ b. bytes_eq g.0 id || b) (has_row-rows id gs
 at_row-new : (id : Text) (change : Row → List Row) (missing : List Row) (given : List Given) → is_named given id ≡ false
     → at_row id change missing (rows given) ≡ rows given ++ missing
 at_row-new id change missing [] e = refl
-at_row-new id change missing (g ∷ gs) e = go (bytes_eq g.0 id) e
+at_row-new id change missing (g ∷ gs) e = go (bytes_eq g.0 id) (at_row-new id change missing gs) e
   where
-    go : (b : Bool) → (b || is_named gs id) ≡ false
+    go : (b : Bool) → (is_named gs id ≡ false → at_row id change missing (rows gs) ≡ rows gs ++ missing) → (b || is_named gs id) ≡ false
         → cond b (change (row g) ++ rows gs) (row g ∷ at_row id change missing (rows gs)) ≡ row g ∷ (rows gs ++ missing)
-    go true e = absurd (true≢false e)
-    go false e = ap (λ rs. row g ∷ rs) (at_row-new id change missing gs e)
+    go true h e = absurd (true≢false e)
+    go false h e = ap (λ rs. row g ∷ rs) (h e)
 
 append_none : (rs : List Row) → rs ++ [] ≡ rs
 append_none [] = refl
@@ -91,8 +90,8 @@ pub used-new : (id v : Text) (given : List Given) → is_named given id ≡ fals
     → used (option_rule id) (v ∷ []) (rows given) ≡ rows (given ++ (id, v) ∷ [])
 used-new id v given e =
     let gone : at_row id (λ _. []) [] (rows given) ≡ rows given = at_row-new id (λ _. []) [] given e ∙ append_none (rows given) in
-    ap (λ rs. at_row id (λ r. record r { values = r.values ++ v ∷ []; source = Some (Rattle.clap.specs.Walk.stronger r.source CommandLine) } ∷ []) (row (id, v) ∷ []) rs) gone
-    ∙ at_row-new id _ (row (id, v) ∷ []) given e ∙ rows-append given (id, v)
+    ap (at_row id (more_values CommandLine (v ∷ [])) (row (id, v) ∷ [])) gone
+    ∙ at_row-new id (more_values CommandLine (v ∷ [])) (row (id, v) ∷ []) given e ∙ rows-append given (id, v)
 
 pub use-new : (id v : Text) (given : List Given) → is_named given id ≡ false → use_fault false (option_rule id) (v ∷ []) (rows given) ≡ []
 use-new id v given e = rw (has_row-rows id given, e) refl

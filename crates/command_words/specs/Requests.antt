@@ -1,10 +1,11 @@
 -- The requests and the values of options that the code's ones stand for.
-use Rattle.std.specs.Prelude.{◌≡◌, ℕ, List, Option, Some, None, Result, Ok, Err, ⊤}
+use Rattle.std.specs.Prelude.{◌≡◌, Option, Some, None, Result, Ok, Err, ⊤}
 use Rattle.std.specs.Option.{option_map}
-use Rattle.std.specs.Borrow.{Bor}
 use Rattle.command_definitions.specs.Requests as requests
 use Rattle.command_definitions.specs.Values as values
 use Rattle.matching_equations.specs.Columns.{coordinates_of}
+use Rattle.clap.specs.declared.error.kind.ErrorKind.{ErrorKind}
+use Rattle.clap.specs.declared.error.kind.ErrorKind.TheVariants as kinds
 use Rattle.command_words.specs.declared.request.Order.{Order}
 use Rattle.command_words.specs.declared.request.Order.TheVariants.{Given, Short, Zeros}
 use Rattle.command_words.specs.declared.request.Request.{Request}
@@ -54,3 +55,8 @@ FailsWords Usage asked = asked ≡ None
 abbrev pub AnswersWords : Result Request WordsFault → Option requests.Request → Type 0
 AnswersWords (Ok r) asked = asked ≡ Some (request r)
 AnswersWords (Err fault) asked = FailsWords fault asked
+
+-- the fault of a parse that fails by an error of this kind
+abbrev pub parse_fault : ErrorKind → WordsFault
+parse_fault kinds.OutOfMemory = NoMemory
+parse_fault _ = Usage

@@ -1,11 +1,15 @@
 //! The words of the command line, read into a request.
 #![tactic(auto)]
 
+mod program;
+mod reader;
 mod request;
 mod values;
 
 pub use matching_equations::Coords;
+pub use reader::read_words;
 pub use request::{Order, Request};
+use std::alloc::AllocError;
 
 /// Why words give no request.
 #[derive(Clone, Copy, Debug, PartialEq, Eq)]
@@ -15,3 +19,17 @@ pub enum WordsFault {
     /// The words are no command with its options.
     Usage,
 }
+
+impl From<AllocError> for WordsFault {
+    ghost use Rattle.std.specs.Prelude.{◌≡◌};
+    ghost use Rattle.command_words.specs.declared.WordsFault.TheVariants.{NoMemory};
+
+    ghost from_gives = { λ e f. f ≡ NoMemory };
+
+    fn from(_error: AllocError) -> WordsFault {
+        WordsFault::NoMemory
+    }
+}
+
+#[cfg(test)]
+mod tests;

@@ -1,0 +1,50 @@
+-- The command line as the parser is told it, and what is read of its matches.
+use Rattle.std.specs.Prelude.{true, List, [], map, fold, Option, Some, None, codes}
+use Rattle.clap.specs.Walk.{Row, Rule, Text, first_of}
+use Rattle.clap.specs.Simple.{App, Shape, new_rule, new_shape, with_subcommand}
+use Rattle.clap.specs.declared.builder.action.ArgAction.TheVariants.{Set}
+use Rattle.command_definitions.specs.Requests.{Request}
+use Rattle.command_definitions.specs.Values.{Values, request_with}
+use Rattle.command_definitions.specs.Words.{Command, commands}
+
+-- the argument of an option
+abbrev pub option_argument : Text → Rule
+option_argument name = record (new_rule name) { long = Some name; action = Some Set }
+
+-- the subcommand of a command with its options
+abbrev pub subcommand_with : Text → List Text → Shape
+subcommand_with name options = record (new_shape name) { rules = map option_argument options }
+
+-- the program, without its commands
+abbrev pub bare_program : App
+bare_program = record {
+  top = record (new_shape (codes "trinorm")) {
+    no_binary_name = true;
+    disable_help_flag = true;
+    disable_help_subcommand = true;
+    disable_version_flag = true;
+  };
+  subs = [];
+}
+
+-- the program with a command for each of the definitions
+abbrev pub program_with : List Command → App
+program_with cs = fold (λ a c. with_subcommand a (subcommand_with c.0 c.1)) bare_program cs
+
+abbrev pub program : App
+program = program_with commands
+
+-- the values of the options among what was found
+abbrev pub values_found : List Row → Values
+values_found found = record {
+  coords = first_of (codes "coords") found;
+  order = first_of (codes "order") found;
+  max_entry = first_of (codes "max-entry") found;
+  seed = first_of (codes "seed") found;
+  moves = first_of (codes "moves") found;
+}
+
+-- the request of the subcommand that was met, with what was found for its options
+abbrev pub request_found : Option (Text × List Row) → Option Request
+request_found None = None
+request_found (Some p) = request_with p.0 (values_found p.1)

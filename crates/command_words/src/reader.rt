@@ -1,0 +1,132 @@
+// Reads the words.
+ghost use Rattle.std.specs.Prelude.{◌≡◌, false, codes, map, IfOk, OnOk};
+ghost use Rattle.std.specs.List.{list_any};
+ghost use Rattle.std.specs.Str.{bytes_eq};
+ghost use Rattle.std.specs.Option.{option_map};
+ghost use Rattle.clap.specs.Values.{kind_of};
+ghost use Rattle.clap.specs.Matches.{found_of};
+ghost use Rattle.clap.specs.Simple.{subcommand_rows_of};
+ghost use Rattle.clap.specs.Walk.{rows_of, texts};
+ghost use Rattle.command_definitions.specs.Requests.{is_built};
+ghost use Rattle.command_definitions.specs.Words.{accepted_request, request_of};
+ghost use Rattle.command_words.specs.Apps.{request_found, values_found};
+ghost use Rattle.command_words.specs.Requests.{request, request as request_asked, parse_fault, texts_of, AnswersWords};
+ghost use Rattle.command_words.specs.Texts.{AreTexts, has_dashes};
+
+use crate::WordsFault;
+use crate::program::program;
+use crate::request::Request;
+use crate::values::{Values, request_with};
+use bench_io::Words;
+use clap::error::ErrorKind;
+use clap::{ArgMatches, Error};
+use matching_equations::Coords;
+use std::alloc::{AllocError, Global};
+
+// What was found for each option.
+fn values_found<'a>(matches: &ArgMatches<'a>) -> Values<'a>
+    ensures { texts_of result ≡ values_found (rows_of (found_of matches.now)) }
+{
+    Values {
+        coords: matches.get_str("coords"),
+        order: matches.get_str("order"),
+        max_entry: matches.get_str("max-entry"),
+        seed: matches.get_str("seed"),
+        moves: matches.get_str("moves"),
+    }
+}
+
+// The request of the command that was met.
+fn request_found(matches: &ArgMatches<'_>) -> Option<Request>
+    ensures { option_map request result ≡ request_found (subcommand_rows_of matches.now) }
+{
+    match matches.subcommand() {
+        Some((name, found)) => request_with(name, &values_found(found)),
+        None => None,
+    }
+}
+
+// The same, where no request is a fault.
+fn asked(matches: &ArgMatches<'_>) -> Result<Request, WordsFault>
+    ensures { AnswersWords result (request_found (subcommand_rows_of matches.now)) }
+{
+    match request_found(matches) {
+        Some(request) => Ok(request),
+        None => Err(WordsFault::Usage),
+    }
+}
+
+// The words as texts.
+fn texts_of(alloc: Global, words: &Words) -> Result<Vec<&str>, AllocError>
+    ensures texts { IfOk result (λ v. texts v.items ≡ words.now) }
+    ensures utf8 { OnOk result (AreTexts words.now) }
+{
+    let mut texts = Vec::new(alloc);
+    for i in 0..words.len() {
+        texts.push(words.word(i))?;
+    }
+    Ok(texts)
+}
+
+// Whether a word is two hyphens alone.
+fn has_dashes(words: &[&str]) -> bool
+    ensures { result ≡ list_any (λ w. bytes_eq w.now (codes "--")) words.now }
+{
+    words.iter().any(|word| *word == "--")
+}
+
+// The fault of a parse: want of memory, or words that are not in the grammar.
+fn fault_of(error: &Error) -> WordsFault
+    ensures { result ≡ parse_fault (kind_of error.now) }
+{
+    if error.kind() == ErrorKind::OutOfMemory {
+        return WordsFault::NoMemory;
+    }
+    WordsFault::Usage
+}
+
+// Parses the words, none of which is two hyphens alone.
+fn parse(alloc: Global, words: &[&str]) -> Result<Request, WordsFault>
+    requires utf8 { AreTexts (texts words.now) }
+    requires no_dashes { has_dashes (texts words.now) ≡ false }
+    ensures { AnswersWords result (request_of (texts words.now)) }
+{
+    let program = program(alloc)?;
+    match program.try_get_matches_from(words) {
+        Ok(matches) => asked(&matches),
+        Err(error) => Err(fault_of(&error)),
+    }
+}
+
+// What the words ask for, whether the program answers it yet or not.
+pub(crate) fn read_request(alloc: Global, words: &Words) -> Result<Request, WordsFault>
+    ensures { AnswersWords result (request_of words.now) }
+{
+    let texts = texts_of(alloc, words)?;
+    let texts = texts.as_slice();
+    if has_dashes(texts) {
+        return Err(WordsFault::Usage);
+    }
+    parse(alloc, texts)
+}
+
+// Whether the program answers the request yet.
+fn is_built(request: &Request) -> bool
+    ensures { result ≡ is_built (request_asked request.now) }
+{
+    match request {
+        Request::Verify(Coords::Standard) => true,
+        _ => false,
+    }
+}
+
+/// What the words ask for: `Ok` exactly where they are accepted, and `Usage` exactly where they are not.
+pub fn read_words(alloc: Global, words: &Words) -> Result<Request, WordsFault>
+    ensures { AnswersWords result (accepted_request words.now) }
+{
+    let request = read_request(alloc, words)?;
+    if !is_built(&request) {
+        return Err(WordsFault::Usage);
+    }
+    Ok(request)
+}
