@@ -31,7 +31,7 @@ abbrev pub is_built : Request → Bool
 is_built (verify standard) = true
 is_built (verify octagons) = true
 is_built (verify quads) = false
-is_built info = true
+is_built info = false
 is_built (surfaces standard order most) = true
 is_built (surfaces octagons order most) = true
 is_built (surfaces quads order most) = false

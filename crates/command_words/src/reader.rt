@@ -115,7 +115,9 @@ fn is_built(request: &Request) -> bool
     ensures { result ≡ is_built (request_asked request.now) }
 {
     match request {
-        Request::Verify(Coords::Standard) => true,
+        Request::Verify(Coords::Standard | Coords::Octagon) => true,
+        Request::Surfaces(Coords::Standard | Coords::Octagon, _, _) => true,
+        Request::Rays(_, _) => true,
         _ => false,
     }
 }

@@ -1,5 +1,5 @@
-pub mod Naming
 pub mod EachLine
 pub mod RefusalLines
 pub mod VerdictLines
 pub mod LastLine
+pub mod Accepted

@@ -3,7 +3,7 @@ use Rattle.std.proofs.Common.{◌≡◌, ℕ, List, [], ◌∷◌, ◌++◌, len
 use Rattle.std.specs.declared.alloc.Global.{Global}
 use Rattle.cone_definitions.specs.Rows as cones
 use Rattle.surface_definitions.specs.Verdict.{Verdict, solution, wrong_length, large, fails, clash, verdict, verdict_text}
-use Rattle.surface_definitions.specs.Coordinates.{standard, clash_list}
+use Rattle.surface_definitions.specs.Coordinates.{Coordinates, clash_list}
 use Rattle.text_definitions.specs.Written.{limit}
 use Rattle.quad_condition.specs.Faults.{answer_of}
 use Rattle.quad_condition.specs.declared.check.VectorFault.{VectorFault}
@@ -18,10 +18,10 @@ line_of (fails i) = refl
 line_of (clash a b) = refl
 
 -- the line of the verdict under the columns and rows of a system
-pub checked_line : (checked : Result (Unit {0}) VectorFault) (n m tets k : ℕ) (rows given : List cones.Row) (x : List ℕ)
-    → checked ≡ answer_of (verdict limit n rows (clash_list standard tets) x) → n ≡ m → tets ≡ k → rows ≡ given
-    → check_line checked ≡ verdict_text (verdict limit m given (clash_list standard k) x)
-checked_line checked n m tets k rows given x same columns count equal = ap check_line same ∙ line_of (verdict limit n rows (clash_list standard tets) x)
-    ∙ ap (λ (c : ℕ). verdict_text (verdict limit c rows (clash_list standard tets) x)) columns
-    ∙ ap (λ (t : ℕ). verdict_text (verdict limit m rows (clash_list standard t) x)) count
-    ∙ ap (λ (rs : List cones.Row). verdict_text (verdict limit m rs (clash_list standard k) x)) equal
+pub checked_line : (checked : Result (Unit {0}) VectorFault) (coords : Coordinates) (n m tets k : ℕ) (rows given : List cones.Row) (x : List ℕ)
+    → checked ≡ answer_of (verdict limit n rows (clash_list coords tets) x) → n ≡ m → tets ≡ k → rows ≡ given
+    → check_line checked ≡ verdict_text (verdict limit m given (clash_list coords k) x)
+checked_line checked coords n m tets k rows given x same columns count equal = ap check_line same ∙ line_of (verdict limit n rows (clash_list coords tets) x)
+    ∙ ap (λ (c : ℕ). verdict_text (verdict limit c rows (clash_list coords tets) x)) columns
+    ∙ ap (λ (t : ℕ). verdict_text (verdict limit m rows (clash_list coords t) x)) count
+    ∙ ap (λ (rs : List cones.Row). verdict_text (verdict limit m rs (clash_list coords k) x)) equal

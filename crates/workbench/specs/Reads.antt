@@ -18,5 +18,8 @@ GivesLine view (Ok x) left read = read ≡ Ok (view x, left)
 GivesLine view (Err e) left read = FailsLine e read
 
 -- the entries of each vector
+abbrev pub all_entries : List (Vec ℕ Global) → List (List ℕ)
+all_entries vectors = map (λ (v : Vec ℕ Global). v.items) vectors
+
 abbrev pub entries_of : Vec (Vec ℕ Global) Global → List (List ℕ)
-entries_of vectors = map (λ (v : Vec ℕ Global). v.items) vectors.items
+entries_of vectors = all_entries vectors.items

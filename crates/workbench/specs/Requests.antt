@@ -1,12 +1,29 @@
--- The request that the code's one stands for.
-use Rattle.std.specs.Prelude.{Option, Some, None}
-use Rattle.outcome_definitions.specs.Outcomes as outcomes
-use Rattle.workbench.specs.declared.request.Request.{Request}
-use Rattle.workbench.specs.declared.request.Request.TheVariants.{Verify}
+-- The requests that a run answers.
+use Rattle.std.specs.Prelude.{ℕ, ◌≢◌, ◌≤◌}
+use Rattle.text_definitions.specs.Written.{limit}
+use Rattle.matching_equations.specs.declared.coords.Coords.TheVariants.{Quad}
+use Rattle.command_words.specs.declared.request.Request.{Request}
+use Rattle.command_words.specs.declared.request.Request.TheVariants.{Verify, Info, Surfaces, Rays, Describe, Lift, Crush, Play, Sig, Same, Group, Check, Descend, Make, Bulk}
 
-abbrev pub request : Request → outcomes.Request
-request Verify = outcomes.verify
+-- a limit on the numbers of an enumeration
+pub record IsLimit (most : ℕ) : Type 0 where
+  pub some : 1 ≤ most
+  pub few : most ≤ limit
 
-abbrev pub asked : Option Request → Option outcomes.Request
-asked None = None
-asked (Some r) = Some (request r)
+-- the request is one that the program answers, with a limit in range
+abbrev pub IsBuilt : Request → Type 0
+IsBuilt (Verify coords) = coords ≢ Quad
+IsBuilt (Surfaces coords order most) = (coords ≢ Quad) × IsLimit most
+IsBuilt (Rays order most) = IsLimit most
+IsBuilt Info = ⊥
+IsBuilt (Describe coords) = ⊥
+IsBuilt Lift = ⊥
+IsBuilt Crush = ⊥
+IsBuilt Play = ⊥
+IsBuilt Sig = ⊥
+IsBuilt Same = ⊥
+IsBuilt Group = ⊥
+IsBuilt Check = ⊥
+IsBuilt Descend = ⊥
+IsBuilt (Make seed moves) = ⊥
+IsBuilt (Bulk seed moves) = ⊥

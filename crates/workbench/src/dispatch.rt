@@ -3,14 +3,19 @@ ghost use Rattle.std.specs.Prelude.{◌≡◌, ◌↔◌, ◌⊎◌, ◌-◌, �
 ghost use Rattle.bench_io.specs.Causes.{Grows, Rose, IsEnded};
 ghost use Rattle.outcome_definitions.specs.Lines.{read_line};
 ghost use Rattle.outcome_definitions.specs.Outcomes as outcomes;
-ghost use Rattle.outcome_definitions.specs.Outcomes.{IsOutcome, IsAnswerTo, IsOwnStatus, request_of, usage_outcome, most_bytes};
-ghost use Rattle.workbench.specs.Requests as requests;
+ghost use Rattle.outcome_definitions.specs.Outcomes.{IsOwnStatus};
+ghost use Rattle.outcome_definitions.specs.Answers.{IsOutcome, IsAnswerTo, most_bytes};
+ghost use Rattle.command_words.specs.Requests as words;
+ghost use Rattle.command_definitions.specs.Words.{accepted_request};
+ghost use Rattle.workbench.specs.Requests.{IsBuilt};
 ghost use Rattle.workbench.specs.Runs.{Answers, IsAnswered, IsCalm, IsWithin, IsResponse, IsWithoutMemory, IsCutOff, IsDue};
 
 use crate::outcome::Outcome;
-use crate::request::{Request, read_request};
+use crate::rays_command::rays;
+use crate::surfaces_command::surfaces;
 use crate::verify_command::verify;
 use bench_io::{ReadEnd, Sink, Source, Words, read_all, write_all};
+use command_words::{Request, WordsFault, read_words};
 use no_memory::NoMemory;
 use outcome_definitions::Status;
 use std::alloc::Global;
@@ -20,18 +25,34 @@ const MOST_BYTES: u64 = 1_048_576;
 
 // The answer of a command to an input that isn't too long.
 fn answer(alloc: Global, request: Request, bytes: &[u8]) -> Result<Outcome, NoMemory>
-    requires { length bytes.now ≤ most_bytes }
-    ensures answer { IfOk result (λ o. IsAnswerTo (requests.request request) bytes.now o) }
+    requires size { length bytes.now ≤ most_bytes }
+    requires built { IsBuilt request }
+    ensures answer { IfOk result (λ o. IsAnswerTo (words.request request) bytes.now o) }
     ensures own_status { IfOk result (λ o. IsOwnStatus o.status) }
 {
     match request {
-        Request::Verify => verify(alloc, bytes),
+        Request::Verify(coords) => verify(alloc, coords, bytes),
+        Request::Surfaces(coords, order, limit) => surfaces(alloc, coords, order, limit, bytes),
+        Request::Rays(order, limit) => rays(alloc, order, limit, bytes),
+        Request::Info => unreachable!(),
+        Request::Describe(_) => unreachable!(),
+        Request::Lift => unreachable!(),
+        Request::Crush => unreachable!(),
+        Request::Play => unreachable!(),
+        Request::Sig => unreachable!(),
+        Request::Same => unreachable!(),
+        Request::Group => unreachable!(),
+        Request::Check => unreachable!(),
+        Request::Descend => unreachable!(),
+        Request::Make(_, _) => unreachable!(),
+        Request::Bulk(_, _) => unreachable!(),
     }
 }
 
 // The outcome of a command over a source.
 fn respond<S: Source>(alloc: Global, request: Request, source: &mut S) -> Result<Outcome, NoMemory>
-    ensures response { IfOk result (IsResponse (requests.request request) (S.left source.old) (S.left source.new) (S.faults source.old) (S.faults source.new)) }
+    requires { IsBuilt request }
+    ensures response { IfOk result (IsResponse (words.request request) (S.left source.old) (S.left source.new) (S.faults source.old) (S.faults source.new)) }
     ensures no_memory { OnErr result (IsWithoutMemory (S.left source.old) (S.left source.new) (S.faults source.old) (S.faults source.new)) }
 {
     match read_all(alloc, source, MOST_BYTES) {
@@ -57,8 +78,8 @@ fn deliver<K: Sink>(outcome: &Outcome, sink: &mut K) -> Status
 /// The whole answer is built before the first write.
 pub fn run<S: Source, K: Sink>(alloc: Global, words: &Words, source: &mut S, sink: &mut K) -> Status
     // Usage comes exactly where the words are not accepted. Then nothing is read.
-    ensures usage { request_of words.now ≡ None → Answers result Status.Usage × (source.new ≡ source.old) }
-    ensures usage_alone { result ≡ Status.Usage → request_of words.now ≡ None }
+    ensures usage { accepted_request words.now ≡ None → Answers result Status.Usage × (source.new ≡ source.old) }
+    ensures usage_alone { result ≡ Status.Usage → accepted_request words.now ≡ None }
 
     // A read fault comes exactly where the source's count rose.
     ensures read_fault { S.faults source.old < 2 ^ 64 - 1 → S.faults source.old < S.faults source.new → (result ≡ Status.ReadFault) ⊎ (result ≡ Status.WriteFault) }
@@ -80,11 +101,12 @@ pub fn run<S: Source, K: Sink>(alloc: Global, words: &Words, source: &mut S, sin
         × IsOutcome words.now bytes o × (result ≡ o.status) × Grows (K.held sink.old) (K.held sink.new) o.text) }
     ensures end { result ≡ Status.Done → IsEnded (S.left source.new) }
 {
-    let Some(request) = read_request(words) else {
-        return deliver(&Outcome::usage(), sink);
-    };
-    match respond(alloc, request, source) {
-        Ok(outcome) => deliver(&outcome, sink),
-        Err(NoMemory) => Status::NoMemory,
+    match read_words(alloc, words) {
+        Ok(request) => match respond(alloc, request, source) {
+            Ok(outcome) => deliver(&outcome, sink),
+            Err(NoMemory) => Status::NoMemory,
+        },
+        Err(WordsFault::Usage) => deliver(&Outcome::usage(), sink),
+        Err(WordsFault::NoMemory) => Status::NoMemory,
     }
 }

@@ -1,18 +1,31 @@
 // The answers of the commands that list rays or surfaces.
-ghost use Rattle.std.specs.Prelude.{◌≡◌, ◌+◌, ◌++◌, ◌<◌, List, ℕ, length, codes, decimal, IfOk, OnOk};
+ghost use Rattle.std.specs.Prelude.{◌≡◌, ◌≢◌, ◌+◌, ◌++◌, ◌<◌, List, ℕ, length, codes, decimal, IfOk, OnOk};
 ghost use Rattle.double_description.specs.Faults.{named_of};
 ghost use Rattle.ray_answers.specs.Lists.{entries_text, list_text};
-ghost use Rattle.outcome_definitions.specs.Enumerations.{list_outcome, large_outcome, kind_text};
+ghost use Rattle.command_words.specs.Requests as words;
+ghost use Rattle.outcome_definitions.specs.Enumerations.{list_outcome, large_outcome, kind_text, order_of};
 ghost use Rattle.outcome_definitions.specs.Lines.{line};
 
 use crate::outcome::Outcome;
 use cone_core::Ray;
-use double_description::LargeKind;
+use double_description::{LargeKind, Order};
 use no_memory::NoMemory;
 use outcome_definitions::Status;
 use ray_answers::{write_entries, write_list};
 use std::alloc::Global;
 use text_writing::{append, append_decimal};
+
+/// The order of the rows that a word names.
+pub fn row_order(order: command_words::Order) -> Order
+    ensures order { result ≡ order_of (words.order_of order) }
+    ensures named { result ≢ Order.Free }
+{
+    match order {
+        command_words::Order::Given => Order::Given,
+        command_words::Order::Short => Order::Short,
+        command_words::Order::Zeros => Order::Zeros,
+    }
+}
 
 /// The number of vectors, and a line for each.
 pub fn list_outcome(alloc: Global, name: &[u8], list: &[Ray]) -> Result<Outcome, NoMemory>

@@ -7,7 +7,7 @@ mod enumerations;
 mod outcome;
 mod rays_command;
 mod refusals;
-mod request;
+mod surfaces_command;
 mod vectors;
 mod verify_command;
 

@@ -1,13 +1,13 @@
 // The command `rays`: all primitive extreme rays of a cone.
 ghost use Rattle.std.specs.Prelude.{◌≡◌, ◌≢◌, ◌≤◌, ◌^◌, [], length, codes, IfOk};
-ghost use Rattle.table_definitions.specs.TableText.{lexed};
-ghost use Rattle.document_definitions.specs.Documents.{cone_document};
+ghost use Rattle.command_words.specs.Requests as words;
+ghost use Rattle.document_definitions.specs.Documents.{worded, cone_document};
 ghost use Rattle.outcome_definitions.specs.Outcomes.{IsReadOutcome, IsOwnStatus};
 ghost use Rattle.outcome_definitions.specs.Enumerations.{IsEnumerationAnswer, ray_enumeration};
 ghost use Rattle.workbench.specs.Cones.{GivesConeDocument};
 
 use crate::document::end_document;
-use crate::enumerations::{large_outcome, list_outcome};
+use crate::enumerations::{large_outcome, list_outcome, row_order};
 use crate::outcome::Outcome;
 use crate::refusals::fault_outcome;
 use bench_io::Lexer;
@@ -15,6 +15,7 @@ use cone_core::{ConeFault, MAX_ENTRY, System, read_cone};
 use double_description::{EnumFault, Order};
 use gluing_table::TextFault;
 use no_memory::NoMemory;
+use signature_codec::InputFault;
 use std::alloc::Global;
 
 // The document of a cone.
@@ -46,17 +47,16 @@ fn answer(alloc: Global, system: &System, order: Order, limit: u128) -> Result<O
 }
 
 /// The outcome of `rays` on an input that isn't too long.
-pub fn rays(alloc: Global, order: Order, limit: u128, bytes: &[u8]) -> Result<Outcome, NoMemory>
+pub fn rays(alloc: Global, order: command_words::Order, limit: u128, bytes: &[u8]) -> Result<Outcome, NoMemory>
     requires size { length bytes.now ≤ 2 ^ 31 }
-    requires named { order ≢ Order.Free }
     requires some_limit { 1 ≤ limit }
     requires most_limit { limit ≤ MAX_ENTRY }
-    ensures answer { IfOk result (IsReadOutcome (lexed (cone_document bytes.now)) (λ cone. IsEnumerationAnswer (codes "rays") (ray_enumeration order limit cone))) }
+    ensures answer { IfOk result (IsReadOutcome (worded (cone_document bytes.now)) (λ cone. IsEnumerationAnswer (codes "rays") (ray_enumeration (words.order_of order) limit cone))) }
     ensures own_status { IfOk result (λ o. IsOwnStatus o.status) }
 {
     match read_cone_document(alloc, bytes) {
-        Ok(system) => answer(alloc, &system, order, limit),
-        Err(ConeFault::Lex(fault)) => fault_outcome(alloc, TextFault::Lex(fault)),
+        Ok(system) => answer(alloc, &system, row_order(order), limit),
+        Err(ConeFault::Lex(fault)) => fault_outcome(alloc, InputFault::Text(TextFault::Lex(fault))),
         Err(ConeFault::NoMemory) => Err(NoMemory),
     }
 }

@@ -1,12 +1,15 @@
 // The command `verify`: a verdict for each vector.
-ghost use Rattle.std.specs.Prelude.{◌≡◌, ◌≤◌, ◌++◌, ◌^◌, length, map, codes, decimal, IfOk, OnOk};
+ghost use Rattle.std.specs.Prelude.{◌≡◌, ◌≢◌, ◌≤◌, ◌++◌, ◌^◌, length, map, codes, decimal, IfOk, OnOk};
 ghost use Rattle.surface_definitions.specs.Coordinates as coordinates;
 ghost use Rattle.surface_definitions.specs.Equations.{matching_rows};
-ghost use Rattle.document_definitions.specs.Documents.{tri_and_vectors, verdicts_text};
+ghost use Rattle.document_definitions.specs.Documents.{vectors_document, verdicts_text};
+ghost use Rattle.matching_equations.specs.Columns.{coordinates_of};
+ghost use Rattle.workbench.specs.Reads.{all_entries};
 ghost use Rattle.outcome_definitions.specs.Lines.{line};
 ghost use Rattle.surface_definitions.specs.Verdict.{verdict_text};
-ghost use Rattle.outcome_definitions.specs.Outcomes.{IsReadOutcome, IsOwnStatus, verify_outcome, verdict_on};
-ghost use Rattle.workbench.specs.Verdicts.{check_line, all_entries};
+ghost use Rattle.outcome_definitions.specs.Outcomes.{IsReadOutcome, IsOwnStatus};
+ghost use Rattle.outcome_definitions.specs.Answers.{verify_outcome, verdict_on};
+ghost use Rattle.workbench.specs.Verdicts.{check_line};
 
 use crate::document::read_table_and_vectors;
 use crate::outcome::Outcome;
@@ -81,39 +84,42 @@ fn append_checked(
 fn append_verdict(
     alloc: Global,
     out: &mut Vec<u8>,
+    coords: Coords,
     table: &Table,
     system: &System,
     vector: &[u128],
 ) -> Result<(), NoMemory>
-    requires columns { system.now.columns ≡ coordinates.columns coordinates.standard (length table.now) }
-    requires rows { system.now.rows ≡ matching_rows coordinates.standard table.now }
-    ensures { OnOk result (out.new.items ≡ out.old.items ++ verdict_text (verdict_on table.now vector.now)) }
+    requires columns { system.now.columns ≡ coordinates.columns (coordinates_of coords) (length table.now) }
+    requires rows { system.now.rows ≡ matching_rows (coordinates_of coords) table.now }
+    ensures { OnOk result (out.new.items ≡ out.old.items ++ verdict_text (verdict_on (coordinates_of coords) table.now vector.now)) }
 {
-    let checked = check_vector(Coords::Standard, table.len(), system, vector);
+    let checked = check_vector(coords, table.len(), system, vector);
     append_checked(alloc, out, checked)
 }
 
 // The lines of the verdicts on vectors.
-fn verdicts(alloc: Global, table: &Table, vectors: &[Vec<u128>]) -> Result<Vec<u8>, NoMemory>
-    ensures { IfOk result (λ text. text.items ≡ verdicts_text (map (verdict_on table.now) (all_entries vectors.now))) }
+fn verdicts(alloc: Global, coords: Coords, table: &Table, vectors: &[Vec<u128>]) -> Result<Vec<u8>, NoMemory>
+    requires { coords ≢ Coords.Quad }
+    ensures { IfOk result (λ text. text.items ≡ verdicts_text (map (verdict_on (coordinates_of coords) table.now) (all_entries vectors.now))) }
 {
-    let system = matching_system(alloc, Coords::Standard, table)?;
+    let system = matching_system(alloc, coords, table)?;
     let mut text = Vec::new(alloc);
     for vector in vectors {
-        append_verdict(alloc, &mut text, table, &system, vector)?;
+        append_verdict(alloc, &mut text, coords, table, &system, vector)?;
     }
     Ok(text)
 }
 
-/// The outcome of `verify` on an input that isn't too long.
-pub fn verify(alloc: Global, bytes: &[u8]) -> Result<Outcome, NoMemory>
-    requires { length bytes.now ≤ 2 ^ 31 }
-    ensures answer { IfOk result (IsReadOutcome (tri_and_vectors bytes.now) (λ d p. p ≡ verify_outcome d)) }
+/// The outcome of `verify` on an input that isn't too long, in standard or octagon coordinates.
+pub fn verify(alloc: Global, coords: Coords, bytes: &[u8]) -> Result<Outcome, NoMemory>
+    requires size { length bytes.now ≤ 2 ^ 31 }
+    requires coords { coords ≢ Coords.Quad }
+    ensures answer { IfOk result (IsReadOutcome (vectors_document bytes.now) (λ d p. p ≡ verify_outcome (coordinates_of coords) d)) }
     ensures own_status { IfOk result (λ o. IsOwnStatus o.status) }
 {
     match read_table_and_vectors(alloc, bytes) {
         Ok(document) => {
-            let text = verdicts(alloc, &document.table, &document.vectors)?;
+            let text = verdicts(alloc, coords, &document.table, &document.vectors)?;
             Ok(Outcome::built(Status::Done, text))
         }
         Err(fault) => fault_outcome(alloc, fault),

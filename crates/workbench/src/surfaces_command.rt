@@ -1,0 +1,49 @@
+// The command `surfaces`: all vertex surfaces of a table.
+ghost use Rattle.std.specs.Prelude.{◌≡◌, ◌≢◌, ◌≤◌, ◌^◌, length, codes, IfOk};
+ghost use Rattle.command_words.specs.Requests as words;
+ghost use Rattle.document_definitions.specs.Documents.{table_document};
+ghost use Rattle.matching_equations.specs.Columns.{coordinates_of};
+ghost use Rattle.outcome_definitions.specs.Outcomes.{IsReadOutcome, IsOwnStatus};
+ghost use Rattle.outcome_definitions.specs.Enumerations.{IsEnumerationAnswer, surface_enumeration};
+
+use crate::document::read_table_document;
+use crate::enumerations::{large_outcome, list_outcome, row_order};
+use crate::outcome::Outcome;
+use crate::refusals::fault_outcome;
+use cone_core::MAX_ENTRY;
+use double_description::EnumFault;
+use gluing_table::Table;
+use matching_equations::Coords;
+use no_memory::NoMemory;
+use std::alloc::Global;
+use surface_list::surfaces_of;
+
+// The answer to a table.
+fn answer(alloc: Global, table: &Table, coords: Coords, order: command_words::Order, limit: u128) -> Result<Outcome, NoMemory>
+    requires coords { coords ≢ Coords.Quad }
+    requires some_limit { 1 ≤ limit }
+    requires most_limit { limit ≤ MAX_ENTRY }
+    ensures answer { IfOk result (IsEnumerationAnswer (codes "surfaces") (surface_enumeration (coordinates_of coords) (words.order_of order) limit table.now)) }
+    ensures own_status { IfOk result (λ o. IsOwnStatus o.status) }
+{
+    match surfaces_of(alloc, table, coords, row_order(order), limit) {
+        Ok(surfaces) => list_outcome(alloc, b"surfaces", &surfaces),
+        Err(EnumFault::Large { order, kind }) => large_outcome(alloc, &order, &kind),
+        Err(EnumFault::NoMemory) => Err(NoMemory),
+    }
+}
+
+/// The outcome of `surfaces` on an input that isn't too long, in standard or octagon coordinates.
+pub fn surfaces(alloc: Global, coords: Coords, order: command_words::Order, limit: u128, bytes: &[u8]) -> Result<Outcome, NoMemory>
+    requires size { length bytes.now ≤ 2 ^ 31 }
+    requires coords { coords ≢ Coords.Quad }
+    requires some_limit { 1 ≤ limit }
+    requires most_limit { limit ≤ MAX_ENTRY }
+    ensures answer { IfOk result (IsReadOutcome (table_document bytes.now) (λ rows. IsEnumerationAnswer (codes "surfaces") (surface_enumeration (coordinates_of coords) (words.order_of order) limit rows))) }
+    ensures own_status { IfOk result (λ o. IsOwnStatus o.status) }
+{
+    match read_table_document(alloc, bytes) {
+        Ok(table) => answer(alloc, &table, coords, order, limit),
+        Err(fault) => fault_outcome(alloc, fault),
+    }
+}
