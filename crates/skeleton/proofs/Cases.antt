@@ -1,5 +1,5 @@
 -- Facts about the edges of one tetrahedron, by their cases.
-use Rattle.std.proofs.Common.{◌≡◌, ◌≢◌, ◌⊎◌, inl, inr, ℕ, ◌+◌, ◌*◌, ◌/◌, ◌%◌, ◌<◌, Bool, true, false, List, [], ◌∷◌, refl, sym, ap, ◌∙◌, arith}
+use Rattle.std.proofs.Common.{◌≡◌, ◌≢◌, ◌⊎◌, inl, inr, ℕ, ◌+◌, ◌*◌, ◌/◌, ◌%◌, ◌<◌, Bool, true, false, List, [], ◌∷◌, refl}
 use Rattle.std.specs.Prelude.{◌==◌, ◌&&◌, ◌||◌, not, nat_lt, slice_index}
 use Rattle.std.specs.List.{list_all}
 use Rattle.std.proofs.lemmas.Bool.{eqb-true, eqb-false, ltb-true, and_parts}
@@ -53,8 +53,11 @@ or_cases false false c h = inr (inr h)
 
 -- two different vertices are the ends of their edge
 pub ends-edge_number : (a b : ℕ) → a < 4 → b < 4 → a ≢ b → (edge_number a b < 6) × ((ends (edge_number a b) ≡ a ∷ b ∷ []) ⊎ (ends (edge_number a b) ≡ b ∷ a ∷ []))
-ends-edge_number a b l m ne = (small, by_test (or_cases (a == b) (same_list (ends (edge_number a b)) (a ∷ b ∷ [])) (same_list (ends (edge_number a b)) (b ∷ a ∷ []))
-        (pairs_all (λ x y. (x == y) || (same_list (ends (edge_number x y)) (x ∷ y ∷ []) || same_list (ends (edge_number x y)) (y ∷ x ∷ []))) refl a b l m)))
+ends-edge_number a b l m ne = (
+  small,
+  by_test (or_cases (a == b) (same_list (ends (edge_number a b)) (a ∷ b ∷ [])) (same_list (ends (edge_number a b)) (b ∷ a ∷ []))
+      (pairs_all (λ x y. (x == y) || (same_list (ends (edge_number x y)) (x ∷ y ∷ []) || same_list (ends (edge_number x y)) (y ∷ x ∷ []))) refl a b l m)),
+)
   where
     apart : (a == b) ≡ true → ⊥
     apart e = ne (eqb-true a b e)

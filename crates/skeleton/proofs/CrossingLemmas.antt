@@ -5,7 +5,6 @@ use Rattle.table_definitions.specs.Permutation.{image, others}
 use Rattle.table_definitions.specs.Table.{Gluing, Row, glue}
 use Rattle.skeleton_definitions.specs.Links.{directed}
 use Rattle.table_definitions.specs.Places.{Place, across, edge, ends, face_of}
-
 use Rattle.skeleton.specs.Crossings.{crossed_vertex, crossed_face, crossed_edge, crossed_direction, edge_at, direction_at, pair}
 use Rattle.skeleton.proofs.Cases.{head}
 

@@ -1,15 +1,15 @@
 -- Which edges run against others, by the classes of directed edges.
-use Rattle.std.proofs.Common.{◌≡◌, ◌≢◌, ◌↔◌, ℕ, ◌+◌, ◌*◌, ◌/◌, ◌%◌, ◌<◌, Bool, true, false, List, length, refl, sym, ap, ◌∙◌, arith, subst, subst₂}
-use Rattle.std.specs.Prelude.{◌==◌, slice_index, IsTrue}
+use Rattle.std.proofs.Common.{◌≡◌, ◌≢◌, ◌↔◌, ℕ, ◌*◌, ◌/◌, ◌%◌, ◌<◌, Bool, true, false, List, length, refl, sym, ap, ◌∙◌, arith, subst, subst₂}
+use Rattle.std.specs.Prelude.{slice_index, IsTrue}
 use Rattle.std.proofs.lemmas.Bool.{eqb-true, eq-eqb}
 use Rattle.table_definitions.specs.Table.{Row}
 use Rattle.table_definitions.specs.Classes.{IsNumbering, least}
 use Rattle.skeleton_definitions.specs.Skeleton.{Skeleton, IsDirection}
-use Rattle.table_definitions.specs.Places.{Place, edge, ends, turned, IsJoined, RunsAgainst}
+use Rattle.table_definitions.specs.Places.{edge, ends, turned, IsJoined, RunsAgainst}
 use Rattle.skeleton_definitions.specs.Links.{directed, SameDirected}
-use Rattle.skeleton.specs.Crossings.{pair, pair_number}
+use Rattle.skeleton.specs.Crossings.{pair_number}
 use Rattle.skeleton.specs.Directions.{forward, backward, runs_against}
-use Rattle.skeleton.proofs.Cases.{AreEnds, are_ends, pair_number-parts}
+use Rattle.skeleton.proofs.Cases.{are_ends, pair_number-parts}
 use Rattle.skeleton.proofs.DirectionTies.{pair_is}
 use Rattle.skeleton.proofs.EdgeTies.{edge_pair}
 
@@ -54,9 +54,10 @@ pub runs_against-is : (rows : List Row) (directions : List ℕ) (count : ℕ) �
     → (j i : ℕ) → j < 6 * length rows → i < 6 * length rows → (runs_against directions j i ≡ true) ↔ IsJoined rows (edge j) (turned (edge i))
 unfolding runs_against
 runs_against-is rows directions count num j i lj li =
-    let t = num.together (forward j) (backward i) (forward_below j (length rows) lj) (backward_below i (length rows) li) in
-    (λ h. subst₂ (IsJoined rows) (directed_forward j) (directed_backward i) (t.0 (eqb-true (slice_index directions (forward j)) (slice_index directions (backward i)) h)),
-    λ h. eq-eqb (slice_index directions (forward j)) (slice_index directions (backward i)) (t.1 (subst₂ (IsJoined rows) (sym (directed_forward j)) (sym (directed_backward i)) h)))
+    let t = num.together (forward j) (backward i) (forward_below j (length rows) lj) (backward_below i (length rows) li) in (
+      λ h. subst₂ (IsJoined rows) (directed_forward j) (directed_backward i) (t.0 (eqb-true (slice_index directions (forward j)) (slice_index directions (backward i)) h)),
+      λ h. eq-eqb (slice_index directions (forward j)) (slice_index directions (backward i)) (t.1 (subst₂ (IsJoined rows) (sym (directed_forward j)) (sym (directed_backward i)) h)),
+    )
 
 -- directions by joins with reverses
 pub direction_none : (s : Skeleton) (i class first : ℕ) → class ≡ slice_index s.edges.classes i → first ≡ least s.edges.classes class → RunsAgainst s.rows first first → IsDirection s i false

@@ -1,8 +1,7 @@
 -- Directed edges by numbers.
-use Rattle.std.proofs.Common.{◌≡◌, ◌≢◌, ℕ, ◌+◌, ◌*◌, ◌/◌, ◌%◌, ◌<◌, false, List, [], ◌∷◌, length, Option, Some, refl, sym, ap, ◌∙◌, arith, subst}
-use Rattle.std.specs.Prelude.{◌==◌, slice_index}
-use Rattle.std.proofs.lemmas.Bool.{eqb-true, eq-eqb, ne_eqb}
-use Rattle.table_definitions.specs.Permutation.{others, image, IsPermutationOfFour}
+use Rattle.std.proofs.Common.{◌≡◌, ◌≢◌, ℕ, ◌+◌, ◌*◌, ◌/◌, ◌%◌, ◌<◌, List, length, Some, refl, sym, ap, ◌∙◌, arith, subst}
+use Rattle.std.proofs.lemmas.Bool.{eqb-true, eq-eqb}
+use Rattle.table_definitions.specs.Permutation.{image, IsPermutationOfFour}
 use Rattle.table_definitions.specs.Table.{Row, IsTable}
 use Rattle.table_definitions.specs.Places.{Place, IsPlace, across, carried}
 use Rattle.skeleton_definitions.specs.Links.{directed}
@@ -10,7 +9,7 @@ use Rattle.table_definitions.proofs.PermutationLaws.{image_below, image_same}
 use Rattle.skeleton.specs.Crossings.{direction_at, crossed_direction, pair, pair_number}
 use Rattle.skeleton.proofs.Cases.{head, head_below, apart_head, pair_number-head, pair_number-parts}
 use Rattle.skeleton.proofs.CrossingLemmas.{directed_is}
-use Rattle.skeleton.proofs.StepsBack.{Crosses, crosses}
+use Rattle.skeleton.proofs.StepsBack.{crosses}
 use Rattle.skeleton.proofs.PlaceLemmas.{AreCounted}
 
 -- two different vertices in an order
@@ -66,6 +65,7 @@ directions_counted rows table = record {
         let lands : q ≡ pair s.gluing.tet (image p v) (image p w) = s.lands ∙ ap (carried s.gluing) (directed_pair i) in
         let t : s.gluing.tet < length rows = table.in_range _ s.gluing s.glued in
         let n : pair_number (image p v) (image p w) < 12 = (pair_number-parts (image p v) (image p w) iv iw apart).0 in
-        let inside : 12 * s.gluing.tet + pair_number (image p v) (image p w) < 12 * length rows = omega arith in
-        (lands ∙ sym (pair_is s.gluing.tet (image p v) (image p w) iv iw apart) ∙ ap (λ (r : Place). directed (direction_at r)) (sym lands),
-        subst (λ (r : Place). direction_at r < 12 * length rows) (sym lands) inside)
+        let inside : 12 * s.gluing.tet + pair_number (image p v) (image p w) < 12 * length rows = omega arith in (
+          lands ∙ sym (pair_is s.gluing.tet (image p v) (image p w) iv iw apart) ∙ ap (λ (r : Place). directed (direction_at r)) (sym lands),
+          subst (λ (r : Place). direction_at r < 12 * length rows) (sym lands) inside,
+        )

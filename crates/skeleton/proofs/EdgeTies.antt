@@ -1,16 +1,16 @@
 -- Edges by numbers, in either direction.
 use Rattle.std.proofs.Common.{◌≡◌, ◌≢◌, ◌↔◌, ◌⊎◌, inl, inr, ℕ, ◌+◌, ◌*◌, ◌/◌, ◌%◌, ◌<◌, Bool, true, false, List, [], ◌∷◌, length, Option, Some, None, refl, sym, ap, ◌∙◌, arith, subst}
 use Rattle.std.specs.Prelude.{◌==◌, ◌||◌, option_map, option_and_then, slice_index, if◌then◌else◌}
-use Rattle.table_definitions.specs.Permutation.{image, IsPermutationOfFour}
+use Rattle.table_definitions.specs.Permutation.{image}
 use Rattle.table_definitions.specs.Table.{Gluing, Row, glue, IsTable}
-use Rattle.table_definitions.specs.Places.{Place, IsPlace, across, along, carried, turned, edge, ends, edge_number, IsJoined, SameEdge}
+use Rattle.table_definitions.specs.Places.{Place, IsPlace, across, along, carried, turned, edge, ends, edge_number, SameEdge}
 use Rattle.table_definitions.proofs.PermutationLaws.{image_below}
 use Rattle.skeleton.specs.Crossings.{edge_at, crossed_edge, pair}
 use Rattle.skeleton.specs.Neighbours.{led, IsLed, IsReversible}
 use Rattle.skeleton.proofs.Cases.{are_ends, edge_number-turned, edge_number-ends, ends-edge_number}
 use Rattle.skeleton.proofs.CrossingLemmas.{edge_is}
 use Rattle.skeleton.proofs.DirectionTies.{images_apart}
-use Rattle.skeleton.proofs.StepsBack.{Crosses, crosses, step_back, face_crossed}
+use Rattle.skeleton.proofs.StepsBack.{crosses, step_back, face_crossed}
 
 abbrev low : ℕ → ℕ
 low i = slice_index (ends (i % 6)) 0

@@ -1,7 +1,7 @@
 -- Faces by numbers.
-use Rattle.std.proofs.Common.{◌≡◌, ◌↔◌, ◌⊎◌, inl, inr, false, ℕ, zero, suc, ◌+◌, ◌*◌, ◌/◌, ◌%◌, ◌<◌, List, [], ◌∷◌, length, Option, Some, None, refl, sym, ap, ◌∙◌, arith, subst}
+use Rattle.std.proofs.Common.{◌≡◌, ◌↔◌, inl, inr, false, ℕ, zero, suc, ◌+◌, ◌*◌, ◌/◌, ◌%◌, ◌<◌, List, [], ◌∷◌, length, Option, Some, None, refl, sym, ap, ◌∙◌, arith, subst}
 use Rattle.std.specs.Prelude.{◌==◌, option_map, option_and_then}
-use Rattle.table_definitions.specs.Permutation.{image, inverse, IsPermutationOfFour}
+use Rattle.table_definitions.specs.Permutation.{image, inverse}
 use Rattle.table_definitions.specs.Table.{Gluing, Face, Row, glue, other_side, way_back, IsTable}
 use Rattle.table_definitions.specs.Places.{face_of, SameFace}
 use Rattle.table_definitions.proofs.PermutationLaws.{image_below, image-of_inverse}

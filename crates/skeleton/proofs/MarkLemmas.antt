@@ -1,16 +1,16 @@
 -- Counts and marks, one thing after the other.
-use Rattle.std.proofs.Common.{◌≡◌, ◌≢◌, ◌⊎◌, inl, inr, ℕ, zero, suc, ◌+◌, ◌-◌, ◌*◌, ◌/◌, ◌%◌, ◌<◌, ◌≤◌, Bool, true, false, List, [], ◌∷◌, ◌++◌, length, take, set, replicate, refl, sym, ap, ◌∙◌, arith, subst}
-use Rattle.std.specs.Prelude.{◌==◌, ◌&&◌, ◌||◌, not, slice_index, count_by, map}
+use Rattle.std.proofs.Common.{◌≡◌, ◌≢◌, ◌⊎◌, inl, inr, ℕ, zero, suc, ◌+◌, ◌<◌, Bool, true, false, List, [], ◌∷◌, ◌++◌, length, take, set, replicate, refl, sym, ap, ◌∙◌, arith, subst}
+use Rattle.std.specs.Prelude.{◌==◌, ◌&&◌, ◌||◌, not, slice_index, map}
 use Rattle.std.specs.List.{slice_index_or, list_any, list_all, range_with_len}
-use Rattle.std.proofs.lemmas.Bool.{cases_eq, cases_lt, eq-eqb, eqb-true, ne_eqb, false≢true}
+use Rattle.std.proofs.lemmas.Bool.{cases_eq, cases_lt, eq-eqb, ne_eqb, false≢true}
 use Rattle.std.proofs.Math.Bool.{or-false}
 use Rattle.std.proofs.lemmas.List.{get_or-set_same, get_or-set_other}
 use Rattle.std.proofs.lemmas.List.Folds.{list_any-append}
-use Rattle.std.proofs.lemmas.List.Sums.{count_by_more_no, count_by_more_yes, count_by-le-length}
+use Rattle.std.proofs.lemmas.List.Sums.{count_by_more_no, count_by_more_yes}
 use Rattle.table_definitions.specs.Lists.{below, times_in, pairs_of}
 use Rattle.table_definitions.specs.Permutation.{four}
-use Rattle.table_definitions.specs.Table.{Row, Face, faces}
-use Rattle.table_definitions.specs.Places.{is_boundary, is_closed, is_boundary_edge, lies_in_boundary}
+use Rattle.table_definitions.specs.Table.{Row}
+use Rattle.table_definitions.specs.Places.{is_boundary, is_closed, lies_in_boundary}
 use Rattle.table_definitions.proofs.Tests.{each_face}
 use Rattle.skeleton.specs.Parts.{AreBoundaryMarks, AreBoundaryMarksUpTo, is_open_at}
 
@@ -50,7 +50,6 @@ module _ (rows : List Row) (classes : List ℕ) (count : ℕ) where
       all_false zero c = refl
       all_false (suc n) zero = refl
       all_false (suc n) (suc c) = all_false n c
-
 
   module _ (i : ℕ) (marks : List Bool) (a : AreBoundaryMarksUpTo i rows classes count marks) where
     pub edge_passes : lies_in_boundary rows i ≡ false → AreBoundaryMarksUpTo (i + 1) rows classes count marks

@@ -1,8 +1,8 @@
 -- A table of neighbours joins what choices of neighbours lead to.
-use Rattle.std.proofs.Common.{◌≡◌, ◌↔◌, ℕ, zero, suc, ◌+◌, ◌<◌, ◌≤◌, List, [], ◌∷◌, ◌++◌, length, Contains, Option, Some, None, refl, sym, ap, subst, ◌∙◌, arith, inl, inr, ◌⊎◌, length-append}
+use Rattle.std.proofs.Common.{◌≡◌, ◌↔◌, ℕ, zero, suc, ◌+◌, ◌<◌, ◌≤◌, List, [], ◌∷◌, ◌++◌, length, Contains, Option, Some, None, refl, sym, ap, subst, ◌∙◌, arith, inl, inr, length-append}
 use Rattle.std.specs.Prelude.{option_and_then, slice_index}
 use Rattle.std.specs.List.{slice_index_or}
-use Rattle.std.proofs.lemmas.List.{get_or_push, get_or_append_left, get_or_default}
+use Rattle.std.proofs.lemmas.List.{get_or_push, get_or_append_left}
 use Rattle.std.proofs.lemmas.Bool.{cases_lt}
 use Rattle.finite_walks.specs.Joined.{LeadsBy, IsJoined, IsSymmetric, HasNeighboursBelow, neighbours_of}
 use Rattle.finite_walks.proofs.Rows.{present, present_contains}
@@ -20,7 +20,7 @@ one_more_row n next table row a e = record {
   entries = λ i l. elim (cases_lt i n) [
     | inl less ↦ let inside : i < length table = omega (arith, a.one_each) in get_or_append_left table (row ∷ []) [] i inside ∙ a.entries i less
     | inr more ↦ let same : i ≡ n = omega arith in
-      subst (λ k. slice_index_or (table ++ row ∷ []) k [] ≡ row_at next k) (sym same) (get_or_push table row [] n a.one_each ∙ e)
+        subst (λ k. slice_index_or (table ++ row ∷ []) k [] ≡ row_at next k) (sym same) (get_or_push table row [] n a.one_each ∙ e)
   ];
 }
 
@@ -58,9 +58,9 @@ module _ (n : ℕ) (next : ℕ → ℕ → Option ℕ) (table : List (List (Opti
   pub choice_of : (i j : ℕ) → Contains (neighbours_of table i) j → (i < n) × ((f : ℕ) × (f < 4) × (next i f ≡ Some j))
   choice_of i j c = elim (cases_lt i n) [
     | inl less ↦
-      let row : slice_index_or table i [] ≡ row_at next i = a.entries i less in
-      let e = entry_of (row_at next i) j (subst (λ (r : List (Option ℕ)). Contains (present r) j) row c) in
-      (less, (e.0, e.1, sym (at_row next i e.0 e.1) ∙ e.2))
+        let row : slice_index_or table i [] ≡ row_at next i = a.entries i less in
+        let e = entry_of (row_at next i) j (subst (λ (r : List (Option ℕ)). Contains (present r) j) row c) in
+        (less, (e.0, e.1, sym (at_row next i e.0 e.1) ∙ e.2))
     | inr more ↦ let m : length table ≤ i = omega (arith, a.one_each) in absurd (no_row table i j m c)
   ]
 

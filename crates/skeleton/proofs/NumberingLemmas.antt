@@ -1,5 +1,5 @@
 -- The least members of classes, and numberings from classes.
-use Rattle.std.proofs.Common.{◌≡◌, ◌≢◌, ℕ, zero, suc, ◌+◌, ◌<◌, ◌≤◌, true, false, List, [], ◌∷◌, ◌++◌, length, inl, inr, refl, sym, ap, subst, ◌∙◌, arith, length-append, get_or}
+use Rattle.std.proofs.Common.{◌≡◌, ◌≢◌, ℕ, ◌+◌, ◌<◌, ◌≤◌, List, [], ◌∷◌, ◌++◌, length, inl, inr, refl, sym, ap, subst, ◌∙◌, arith, length-append}
 use Rattle.std.specs.Prelude.{◌==◌, slice_index, ◌↔◌}
 use Rattle.std.proofs.lemmas.Bool.{cases_lt, cases_order, eq-eqb, ne_eqb}
 use Rattle.std.proofs.lemmas.List.{get_or_push, get_or_append_left}
@@ -30,7 +30,7 @@ first_passes i classes firsts ordered a l ne = record {
       | inl e ↦ absurd (ne e)
       | inr (inl less) ↦ less
       | inr (inr more) ↦ let o = ordered i (length firsts) l more in
-        let m : slice_index classes o.0 < length firsts = a.below o.0 o.1 in let e : slice_index classes o.0 ≡ length firsts = o.2 in absurd (omega arith)
+          let m : slice_index classes o.0 < length firsts = a.below o.0 o.1 in let e : slice_index classes o.0 ≡ length firsts = o.2 in absurd (omega arith)
     ]
 
 -- a place with a new class
@@ -43,17 +43,17 @@ first_grows i classes firsts a l e = record {
   least_member = λ c m. elim (cases_lt c (length firsts)) [
     | inl less ↦ get_or_append_left firsts (i ∷ []) 0 c less ∙ a.least_member c less
     | inr more ↦ let same : c ≡ length firsts = omega (arith, size) in
-      subst (λ k. slice_index (firsts ++ i ∷ []) k ≡ least classes k) (sym same) (new ∙ sym least_new)
+        subst (λ k. slice_index (firsts ++ i ∷ []) k ≡ least classes k) (sym same) (new ∙ sym least_new)
   ];
   in_range = λ c m. elim (cases_lt c (length firsts)) [
     | inl less ↦ let n : slice_index firsts c < i = a.in_range c less in let o : slice_index (firsts ++ i ∷ []) c ≡ slice_index firsts c = get_or_append_left firsts (i ∷ []) 0 c less in omega arith
     | inr more ↦ let same : c ≡ length firsts = omega (arith, size) in
-      subst (λ k. slice_index (firsts ++ i ∷ []) k < i + 1) (sym same) (let n = new in omega arith)
+        subst (λ k. slice_index (firsts ++ i ∷ []) k < i + 1) (sym same) (let n = new in omega arith)
   ];
   member = λ c m. elim (cases_lt c (length firsts)) [
     | inl less ↦ ap (slice_index classes) (get_or_append_left firsts (i ∷ []) 0 c less) ∙ a.member c less
     | inr more ↦ let same : c ≡ length firsts = omega (arith, size) in
-      subst (λ k. slice_index classes (slice_index (firsts ++ i ∷ []) k) ≡ k) (sym same) (ap (slice_index classes) new ∙ e)
+        subst (λ k. slice_index classes (slice_index (firsts ++ i ∷ []) k) ≡ k) (sym same) (ap (slice_index classes) new ∙ e)
   ];
 }
   where

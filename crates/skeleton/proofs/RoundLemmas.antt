@@ -1,19 +1,18 @@
 -- Corners by numbers, and their steps.
-use Rattle.std.proofs.Common.{◌≡◌, ◌≢◌, ◌⊎◌, inl, inr, ℕ, zero, suc, ◌+◌, ◌*◌, ◌/◌, ◌%◌, ◌<◌, ◌≤◌, Bool, true, false, List, [], ◌∷◌, length, map, Option, Some, None, refl, sym, ap, ◌∙◌, arith, subst}
-use Rattle.std.specs.Prelude.{◌==◌, ◌&&◌, option_map, slice_index}
-use Rattle.std.specs.List.{slice_index_or, list_all}
-use Rattle.std.proofs.lemmas.Bool.{eqb-true, and_parts}
+use Rattle.std.proofs.Common.{◌≡◌, ℕ, zero, suc, ◌+◌, ◌*◌, ◌/◌, ◌%◌, ◌<◌, ◌≤◌, List, [], ◌∷◌, length, Option, Some, None, refl, sym, ap, ◌∙◌, arith, subst}
+use Rattle.std.specs.Prelude.{option_map}
+use Rattle.std.specs.List.{slice_index_or}
 use Rattle.table_definitions.specs.Lists.{same_list}
-use Rattle.table_definitions.specs.Permutation.{image, compose, inverse, index, inversions, is_permutation, words, preimage, IsPermutationOfFour}
-use Rattle.table_definitions.specs.Table.{Gluing, Face, Row, glue, other_side, way_back, IsTable}
-use Rattle.skeleton_definitions.specs.Corners.{Corner, step, corner_behind, first_corner}
+use Rattle.table_definitions.specs.Permutation.{image, compose, inverse, index, is_permutation, words, preimage, IsPermutationOfFour}
+use Rattle.table_definitions.specs.Table.{Gluing, Face, Row, glue, way_back, IsTable}
+use Rattle.skeleton_definitions.specs.Corners.{step, corner_behind}
 use Rattle.table_definitions.proofs.ListLaws.{same_list-true}
-use Rattle.table_definitions.proofs.PermutationLaws.{on_words, on_two_words, image_below, inverse_permutes, compose_permutes, index_below, word_at-index}
+use Rattle.table_definitions.proofs.PermutationLaws.{on_two_words, compose_permutes, index_below, word_at-index}
 use Rattle.table_definitions.proofs.TableLaws.{glued_tet}
 use Rattle.perm_four.proofs.Permutations.{image-compose, index-words, words_permute}
 use Rattle.finite_walks.specs.Walks.{IsInjectiveBelow, IsUndoneBy, step_of}
 use Rattle.finite_walks.proofs.Steps.{undone_is_injective}
-use Rattle.skeleton.specs.Rounds.{word_at, corner_by, corner_at, swap, word_behind, next_corner, starts, start_of}
+use Rattle.skeleton.specs.Rounds.{word_at, corner_by, corner_at, swap, word_behind, next_corner}
 
 -- the corner of a number, and what is next, with what the code reads
 pub corner_at-is : (k : ℕ) (p : List ℕ) → p ≡ word_at k → corner_by (k / 24) p ≡ corner_at k

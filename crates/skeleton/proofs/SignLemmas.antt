@@ -1,19 +1,17 @@
 -- Signs from the classes of signed tetrahedra.
-use Rattle.std.proofs.Common.{◌≡◌, ◌≢◌, ◌⊎◌, inl, inr, ℕ, zero, suc, ◌+◌, ◌-◌, ◌*◌, ◌/◌, ◌%◌, ◌<◌, ◌≤◌, Bool, true, false, List, [], ◌∷◌, ◌++◌, length, Option, Some, None, refl, sym, ap, ◌∙◌, arith, subst, length-append}
+use Rattle.std.proofs.Common.{◌≡◌, ◌≢◌, inl, inr, ℕ, zero, suc, ◌+◌, ◌-◌, ◌*◌, ◌/◌, ◌%◌, ◌<◌, Bool, true, false, List, [], ◌∷◌, length, Option, Some, None, refl, sym, ap, ◌∙◌, arith, subst}
 use Rattle.std.specs.Prelude.{not, nat_lt, slice_index, option_and_then, if◌then◌else◌}
-use Rattle.std.specs.List.{slice_index_or}
-use Rattle.std.proofs.lemmas.Bool.{cases_lt, cases_order, lt-ltb, le-ltb}
-use Rattle.std.proofs.lemmas.List.{get_or_push, get_or_append_left}
+use Rattle.std.proofs.lemmas.Bool.{cases_order, lt-ltb, le-ltb}
 use Rattle.table_definitions.specs.Permutation.{is_odd}
 use Rattle.table_definitions.specs.Table.{Gluing, Face, Row, glue, IsTable}
 use Rattle.table_definitions.specs.Places.{SameComponent}
 use Rattle.table_definitions.specs.Classes.{IsNumbering}
-use Rattle.skeleton_definitions.specs.Orientation.{sign_of, sign_across, AreSigns, IsOrientable, StartTrue}
+use Rattle.skeleton_definitions.specs.Orientation.{sign_of, sign_across, AreSigns, StartTrue}
 use Rattle.skeleton_definitions.specs.Skeleton.{IsOrientation}
 use Rattle.table_definitions.proofs.TableLaws.{glued_tet, glued_face}
 use Rattle.skeleton.specs.Neighbours.{led, IsLed}
 use Rattle.skeleton.specs.Signs.{sign_behind, crossed_sign, AreSignsBy}
-use Rattle.skeleton.proofs.SignTies.{Signed, signed, landed, crossed_sign-is, led_is_component, signs_reversible}
+use Rattle.skeleton.proofs.SignTies.{signed, landed, crossed_sign-is, led_is_component, signs_reversible}
 
 -- two numbers compared, one way and the other
 compare : (a b : ℕ) → a ≢ b → nat_lt b a ≡ not (nat_lt a b)
@@ -127,15 +125,15 @@ module _ (rows : List Row) (table : IsTable rows) where
         | inl e ↦ absurd (apart t l e)
         | inr (inl less) ↦ lt-ltb (slice_index classes (2 * t)) (slice_index classes (2 * t + 1)) less
         | inr (inr more) ↦
-          let l0 : 2 * t < 2 * length rows = omega arith in
-          let l1 : 2 * t + 1 < 2 * length rows = omega arith in
-          let b = num.ascending (2 * t) (slice_index classes (2 * t + 1)) l0 more in
-          let earlier : b.0 < 2 * t = b.1 in
-          let lb : b.0 < 2 * length rows = omega arith in
-          let j : IsLed (crossed_sign rows) b.0 (2 * t + 1) = (num.together b.0 (2 * t + 1) lb l1).0 b.2 in
-          let d : (2 * t + 1) / 2 ≡ t = omega arith in
-          let less : b.0 / 2 < t = omega arith in
-          absurd (alone (b.0 / 2) less (subst (λ u. SameComponent rows (b.0 / 2) u) d (led_is_component rows b.0 (2 * t + 1) j)))
+            let l0 : 2 * t < 2 * length rows = omega arith in
+            let l1 : 2 * t + 1 < 2 * length rows = omega arith in
+            let b = num.ascending (2 * t) (slice_index classes (2 * t + 1)) l0 more in
+            let earlier : b.0 < 2 * t = b.1 in
+            let lb : b.0 < 2 * length rows = omega arith in
+            let j : IsLed (crossed_sign rows) b.0 (2 * t + 1) = (num.together b.0 (2 * t + 1) lb l1).0 b.2 in
+            let d : (2 * t + 1) / 2 ≡ t = omega arith in
+            let less : b.0 / 2 < t = omega arith in
+            absurd (alone (b.0 / 2) less (subst (λ u. SameComponent rows (b.0 / 2) u) d (led_is_component rows b.0 (2 * t + 1) j)))
       ]
 
       pub oriented : IsOrientation rows (Some signs)

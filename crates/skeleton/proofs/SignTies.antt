@@ -1,8 +1,8 @@
 -- Signed tetrahedra by numbers.
-use Rattle.std.proofs.Common.{◌≡◌, ◌≢◌, ◌⊎◌, inl, inr, ℕ, zero, suc, ◌+◌, ◌-◌, ◌*◌, ◌/◌, ◌%◌, ◌<◌, ◌≤◌, Bool, true, false, List, [], ◌∷◌, length, Option, Some, None, refl, sym, ap, ◌∙◌, arith, subst}
+use Rattle.std.proofs.Common.{◌≡◌, ℕ, ◌+◌, ◌-◌, ◌*◌, ◌/◌, ◌%◌, ◌<◌, Bool, true, false, List, [], ◌∷◌, length, Option, Some, None, refl, sym, ap, ◌∙◌, arith, subst}
 use Rattle.std.specs.Prelude.{option_map, option_and_then, if◌then◌else◌}
-use Rattle.table_definitions.specs.Permutation.{image, inverse, is_odd}
-use Rattle.table_definitions.specs.Table.{Gluing, Face, Row, glue, other_side, way_back, IsTable}
+use Rattle.table_definitions.specs.Permutation.{image, is_odd}
+use Rattle.table_definitions.specs.Table.{Gluing, Face, Row, glue, way_back, IsTable}
 use Rattle.table_definitions.specs.Places.{Place, across, along, whole, SameComponent}
 use Rattle.table_definitions.proofs.PermutationLaws.{image_below}
 use Rattle.table_definitions.proofs.TableLaws.{glued_face}

@@ -1,6 +1,6 @@
 -- A step over a gluing, taken apart, and the step back.
 use Rattle.std.proofs.Common.{◌≡◌, ℕ, ◌<◌, Bool, true, false, List, [], ◌∷◌, map, Option, Some, None, refl, sym, ap, ◌∙◌, subst}
-use Rattle.std.specs.Prelude.{◌==◌, ◌||◌, option_map, if◌then◌else◌}
+use Rattle.std.specs.Prelude.{◌||◌, option_map, if◌then◌else◌}
 use Rattle.std.specs.List.{AllByRecursion}
 use Rattle.table_definitions.specs.Lists.{has}
 use Rattle.table_definitions.specs.Permutation.{image, inverse, IsPermutationOfFour}

@@ -1,11 +1,11 @@
 -- Vertices by numbers.
-use Rattle.std.proofs.Common.{◌≡◌, ℕ, ◌+◌, ◌*◌, ◌/◌, ◌%◌, ◌<◌, List, [], ◌∷◌, length, Option, Some, refl, sym, ap, ◌∙◌, arith, subst}
+use Rattle.std.proofs.Common.{◌≡◌, ℕ, ◌+◌, ◌*◌, ◌/◌, ◌%◌, ◌<◌, List, [], ◌∷◌, length, refl, sym, ap, ◌∙◌, arith, subst}
 use Rattle.table_definitions.specs.Permutation.{image}
 use Rattle.table_definitions.specs.Table.{Row, IsTable}
-use Rattle.table_definitions.specs.Places.{Place, across, carried, vertex}
+use Rattle.table_definitions.specs.Places.{Place, vertex}
 use Rattle.table_definitions.proofs.PermutationLaws.{image_below}
 use Rattle.skeleton.specs.Crossings.{vertex_at, crossed_vertex}
-use Rattle.skeleton.proofs.StepsBack.{Crosses, crosses}
+use Rattle.skeleton.proofs.StepsBack.{crosses}
 use Rattle.skeleton.proofs.PlaceLemmas.{AreCounted}
 
 pub vertex_is : (t v : ℕ) → v < 4 → vertex (4 * t + v) ≡ record { tet = t; vertices = v ∷ [] }
@@ -25,7 +25,8 @@ vertices_counted rows table = record {
       let m : i % 4 < 4 = omega arith in
       let v : image s.gluing.perm (i % 4) < 4 = image_below s.gluing.perm (i % 4) (table.permutes _ s.gluing s.glued) m in
       let t : s.gluing.tet < length rows = table.in_range _ s.gluing s.glued in
-      let inside : 4 * s.gluing.tet + image s.gluing.perm (i % 4) < 4 * length rows = omega arith in
-      (s.lands ∙ sym (vertex_is s.gluing.tet (image s.gluing.perm (i % 4)) v) ∙ ap (λ (r : Place). vertex (vertex_at r)) (sym s.lands),
-      subst (λ (r : Place). vertex_at r < 4 * length rows) (sym s.lands) inside);
+      let inside : 4 * s.gluing.tet + image s.gluing.perm (i % 4) < 4 * length rows = omega arith in (
+        s.lands ∙ sym (vertex_is s.gluing.tet (image s.gluing.perm (i % 4)) v) ∙ ap (λ (r : Place). vertex (vertex_at r)) (sym s.lands),
+        subst (λ (r : Place). vertex_at r < 4 * length rows) (sym s.lands) inside,
+      );
 }

@@ -2,20 +2,20 @@
 use Rattle.std.proofs.Common.{◌≡◌, ◌≢◌, ◌⊎◌, inl, inr, ℕ, zero, suc, ◌+◌, ◌-◌, ◌*◌, ◌/◌, ◌%◌, ◌<◌, ◌≤◌, Bool, true, false, List, [], ◌∷◌, length, map, Option, Some, None, refl, sym, ap, ◌∙◌, arith, subst, subst₂}
 use Rattle.std.specs.Prelude.{◌==◌, ◌&&◌, ◌||◌, not, nat_lt, filter, option_map, is_none, slice_index}
 use Rattle.std.specs.Bool.{MatchBool}
-use Rattle.std.specs.List.{slice_index_or, list_any, list_all}
-use Rattle.std.proofs.lemmas.Bool.{eqb-true, eq-eqb, ne_eqb, cases_lt, ltb-true, false≢true}
+use Rattle.std.specs.List.{slice_index_or, list_any}
+use Rattle.std.proofs.lemmas.Bool.{eq-eqb, ne_eqb, cases_lt, ltb-true, false≢true}
 use Rattle.table_definitions.specs.Lists.{below, has, same_list}
 use Rattle.table_definitions.specs.Permutation.{four, image, index, words, IsPermutationOfFour}
-use Rattle.table_definitions.specs.Table.{Gluing, Face, Row, glue, IsTable}
+use Rattle.table_definitions.specs.Table.{Gluing, Row, glue, IsTable}
 use Rattle.table_definitions.specs.Classes.{IsNumbering, least}
 use Rattle.skeleton_definitions.specs.Skeleton.{Skeleton, IsSkeleton, IsAround}
 use Rattle.table_definitions.specs.Places.{Place, edge, ends, edge_number, turned, across, is_boundary, lies_in_boundary, is_boundary_edge, IsJoined, SameEdge}
-use Rattle.skeleton_definitions.specs.Corners.{Corner, step, first_corner, GoesRound, IsWalk}
+use Rattle.skeleton_definitions.specs.Corners.{Corner, first_corner, GoesRound, IsWalk}
 use Rattle.table_definitions.proofs.ChainLaws.{joined_refl, joined_more}
 use Rattle.table_definitions.proofs.ListLaws.{same_list-true}
 use Rattle.table_definitions.proofs.PermutationLaws.{image_below}
-use Rattle.perm_four.proofs.Permutations.{same_images, four_images}
-use Rattle.finite_walks.specs.Walks.{after, Reaches, GoesOn, IsOrbit, IsInjectiveBelow, last_of}
+use Rattle.perm_four.proofs.Permutations.{four_images}
+use Rattle.finite_walks.specs.Walks.{after, GoesOn, IsOrbit, last_of}
 use Rattle.finite_walks.proofs.Steps.{after_before}
 use Rattle.finite_walks.proofs.ChainLemmas.{going_on_has_cycle}
 use Rattle.skeleton.specs.Crossings.{pair}
@@ -24,7 +24,7 @@ use Rattle.skeleton.proofs.Cases.{below_all, are_ends, ends-edge_number}
 use Rattle.skeleton.proofs.CrossingLemmas.{across-glued, edge_is}
 use Rattle.skeleton.proofs.DirectionTies.{images_apart}
 use Rattle.skeleton.proofs.MarkLemmas.{any_more}
-use Rattle.skeleton.proofs.RoundLemmas.{Turns, turns, word_of, word_permutes, index_of_word, behind_permutes, behind_images, step_corner, next_corner-is, within}
+use Rattle.skeleton.proofs.RoundLemmas.{turns, word_of, word_permutes, index_of_word, behind_permutes, behind_images, step_corner, next_corner-is, within}
 
 -- different numbers are different corners
 pub corner_apart : (k l : ℕ) → k ≢ l → corner_at k ≢ corner_at l

@@ -1,6 +1,6 @@
 -- What lies across the faces of a tetrahedron, by numbers.
-use Rattle.std.specs.Prelude.{ℕ, ◌+◌, ◌-◌, nat_lt, ◌*◌, ◌/◌, ◌%◌, List, [], ◌∷◌, ◌==◌, Option, None, option_map, slice_index, if◌then◌else◌}
-use Rattle.table_definitions.specs.Table.{Gluing, Row, Face, glue, other_side}
+use Rattle.std.specs.Prelude.{ℕ, ◌+◌, ◌-◌, nat_lt, ◌*◌, List, [], ◌∷◌, ◌==◌, Option, None, option_map, slice_index, if◌then◌else◌}
+use Rattle.table_definitions.specs.Table.{Row, Face, glue, other_side}
 use Rattle.table_definitions.specs.Places.{Place, across, vertex, edge, edge_number, face_of}
 use Rattle.skeleton_definitions.specs.Links.{directed}
 

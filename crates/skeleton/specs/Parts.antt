@@ -1,5 +1,5 @@
 -- What is kept of a skeleton beside its classes.
-use Rattle.std.specs.Prelude.{◌≡◌, ℕ, ◌+◌, ◌*◌, ◌/◌, ◌%◌, ◌<◌, Bool, false, ◌&&◌, List, length, ◌==◌, slice_index, Vec}
+use Rattle.std.specs.Prelude.{◌≡◌, ℕ, ◌<◌, Bool, false, ◌&&◌, List, length, ◌==◌, slice_index, Vec}
 use Rattle.std.specs.List.{slice_index_or, list_any}
 use Rattle.std.specs.declared.alloc.Global.{Global}
 use Rattle.table_definitions.specs.Lists.{below}

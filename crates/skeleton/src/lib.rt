@@ -15,3 +15,6 @@ pub use corners::Corner;
 pub use kinds::Kind;
 pub use numbering::{Numbering, classes_of};
 pub use skeleton::Skeleton;
+
+#[cfg(test)]
+mod tests;

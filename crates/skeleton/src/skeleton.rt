@@ -46,41 +46,39 @@ impl Model for Skeleton {
     ghost Value = { definition.Skeleton };
 
     ghost view = { λ s. record {
-        rows = s.table;
-        vertices = record { classes = s.vertices.classes.items; count = length s.vertices.firsts.items };
-        edges = record { classes = s.edges.classes.items; count = length s.edges.firsts.items };
-        faces = record { classes = s.faces.classes.items; count = length s.faces.firsts.items };
+      rows = s.table;
+      vertices = record { classes = s.vertices.classes.items; count = length s.vertices.firsts.items };
+      edges = record { classes = s.edges.classes.items; count = length s.edges.firsts.items };
+      faces = record { classes = s.faces.classes.items; count = length s.faces.firsts.items };
     } };
 
     ghost invariant = { λ s. IsBuilt (record {
-        rows = s.table;
-        vertices = s.vertices.classes.items;
-        vertex_firsts = s.vertices.firsts.items;
-        edges = s.edges.classes.items;
-        edge_firsts = s.edges.firsts.items;
-        faces = s.faces.classes.items;
-        face_firsts = s.faces.firsts.items;
-        directions = s.directions.classes.items;
-        direction_firsts = s.directions.firsts.items;
-        vertex_degrees = s.vertex_degrees.items;
-        edge_degrees = s.edge_degrees.items;
-        boundary = s.boundary.items;
-        closed = s.closed;
-        signs = option_map items_of s.signs;
-        walks = s.walks.items;
+      rows = s.table;
+      vertices = s.vertices.classes.items;
+      vertex_firsts = s.vertices.firsts.items;
+      edges = s.edges.classes.items;
+      edge_firsts = s.edges.firsts.items;
+      faces = s.faces.classes.items;
+      face_firsts = s.faces.firsts.items;
+      directions = s.directions.classes.items;
+      direction_firsts = s.directions.firsts.items;
+      vertex_degrees = s.vertex_degrees.items;
+      edge_degrees = s.edge_degrees.items;
+      boundary = s.boundary.items;
+      closed = s.closed;
+      signs = option_map items_of s.signs;
+      walks = s.walks.items;
     }) };
 }
 
-/// The same table once more, which is made anew, so that its rows are seen to be a table's.
+/// The same table once more.
 fn copied(alloc: Global, table: &Table) -> Result<Table, NoMemory>
     ensures same { IfOk result (λ copy. copy ≡ table.now) }
-    ensures is_table { OnOk result (IsTable table.now) }
+    ensures is_table { IsTable table.now }
 {
-    match Table::from_rows(alloc, table.rows()) {
-        Ok(copy) => Ok(copy),
-        // The rows of a table have no fault.
-        Err(_) => Err(NoMemory),
-    }
+    // What is read of the rows says that they are a table's.
+    let _ = table.rows();
+    table.copy(alloc)
 }
 
 impl Skeleton {

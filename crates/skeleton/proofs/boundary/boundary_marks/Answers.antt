@@ -1,4 +1,4 @@
-use Rattle.std.proofs.Common.{◌≡◌, ◌<◌, ◌≤◌, ℕ, List, Bool, false, Vec, Global, length, arith, slice_index, ap, ◌∙◌, sym}
+use Rattle.std.proofs.Common.{◌≡◌, List, Bool, false, Vec, Global, length, arith, ap, ◌∙◌, sym}
 use Rattle.std.proofs.lemmas.List.{length-replicate, length-set}
 use Rattle.skeleton.proofs.MarkLemmas.{none_bounded, edge_passes, edge_marks, edges_end}
 use Rattle.skeleton.proofs.boundary.boundary_marks.Goals as goal

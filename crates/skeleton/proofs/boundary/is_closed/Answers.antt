@@ -1,4 +1,4 @@
-use Rattle.std.proofs.Common.{◌≡◌, ◌<◌, ◌≤◌, ℕ, length, arith, sym, ◌∙◌}
+use Rattle.std.proofs.Common.{◌<◌, length, arith, sym, ◌∙◌}
 use Rattle.skeleton.specs.Parts.{is_open_at}
 use Rattle.skeleton.proofs.MarkLemmas.{open_somewhere, closed_everywhere, closed_more, some_face}
 use Rattle.skeleton.proofs.boundary.is_closed.Goals as goal

@@ -1,7 +1,6 @@
-use Rattle.std.proofs.Common.{◌≡◌, sym, ap, ◌∙◌, subst, List, ℕ, ◌/◌, Option, Some, None}
+use Rattle.std.proofs.Common.{◌≡◌, sym, ap, ◌∙◌, subst, List, ℕ, ◌/◌, None}
 use Rattle.table_definitions.specs.Permutation.{image, compose}
 use Rattle.table_definitions.specs.Table.{Gluing, glue}
-use Rattle.skeleton.specs.Rounds.{swap}
 use Rattle.skeleton.proofs.RoundLemmas.{next_corner-free, next_corner-by}
 use Rattle.skeleton.proofs.corners.next_place.Goals as goal
 

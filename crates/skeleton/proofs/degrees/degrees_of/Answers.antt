@@ -1,8 +1,7 @@
-use Rattle.std.proofs.Common.{◌≡◌, ◌+◌, ◌<◌, ◌≤◌, ℕ, List, length, take, set, arith, slice_index, ap, ◌∙◌, sym}
+use Rattle.std.proofs.Common.{◌≡◌, ◌+◌, ◌<◌, ◌≤◌, ℕ, List, length, take, arith, slice_index, ap, ◌∙◌}
 use Rattle.std.proofs.lemmas.List.{get_or_default, length-replicate, length-set, length-take-le, take_all}
 use Rattle.std.proofs.lemmas.List.Sums.{count_by-le-length}
 use Rattle.std.specs.Prelude.{◌==◌}
-use Rattle.table_definitions.specs.Classes.{degree}
 use Rattle.table_definitions.specs.Lists.{times_in}
 use Rattle.skeleton.proofs.MarkLemmas.{degree_grows, all_zero}
 use Rattle.skeleton.proofs.degrees.degrees_of.Goals as goal

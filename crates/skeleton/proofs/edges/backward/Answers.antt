@@ -1,5 +1,4 @@
-use Rattle.std.proofs.Common.{◌≡◌, ◌+◌, ◌*◌, ◌/◌, ◌%◌, ℕ, List, ap, ◌∙◌, sym, slice_index}
-use Rattle.table_definitions.specs.Places.{ends}
+use Rattle.std.proofs.Common.{◌+◌, ◌*◌, ◌/◌, ℕ, List, ap, ◌∙◌, sym, slice_index}
 use Rattle.skeleton.specs.Crossings.{pair_number}
 use Rattle.skeleton.specs.Directions.{backward}
 use Rattle.skeleton.proofs.edges.backward.Goals as goal

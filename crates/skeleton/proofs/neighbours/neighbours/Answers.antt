@@ -1,4 +1,4 @@
-use Rattle.std.proofs.Common.{◌≡◌, ◌*◌, length, List, Option, ℕ, sym, subst, subst₂, arith}
+use Rattle.std.proofs.Common.{◌≡◌, ◌*◌, length, subst, arith}
 use Rattle.skeleton.specs.Neighbours.{AreNeighbours}
 use Rattle.skeleton.specs.Numberings.{crossing, per_tet}
 use Rattle.skeleton.proofs.NeighbourLemmas.{none_yet, one_more_row}

@@ -1,4 +1,4 @@
-use Rattle.std.proofs.Common.{◌≡◌, ◌<◌, ◌*◌, ℕ, List, Option, length, sym, ap, subst, subst₂, ◌∙◌, arith}
+use Rattle.std.proofs.Common.{◌≡◌, ◌*◌, ℕ, List, Option, length, sym, subst, arith}
 use Rattle.finite_walks.specs.Joined.{IsSymmetric, HasNeighboursBelow, neighbours_of}
 use Rattle.finite_walks.specs.Classes.{AreClasses}
 use Rattle.skeleton.specs.Neighbours.{AreNeighbours}

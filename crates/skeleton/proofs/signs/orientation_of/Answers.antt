@@ -1,4 +1,4 @@
-use Rattle.std.proofs.Common.{◌≡◌, ◌≢◌, ◌+◌, ◌*◌, ◌<◌, ℕ, List, length, slice_index, sym, ap, subst, subst₂, ◌∙◌, arith}
+use Rattle.std.proofs.Common.{◌≡◌, ◌≢◌, ◌+◌, ◌*◌, ◌<◌, ℕ, List, length, slice_index, subst₂}
 use Rattle.skeleton.specs.Signs.{AreSignsBy}
 use Rattle.skeleton.proofs.SignLemmas.{oriented, not_orientable}
 use Rattle.skeleton.proofs.signs.orientation_of.Goals as goal
@@ -12,11 +12,11 @@ HasJoined classes n = (t : ℕ) × (t < n) × (slice_index classes (2 * t) ≡ s
 pub returns-then-tells_apart : goal.returns-then-tells_apart
 returns-then-tells_apart c =
     oriented c.args.table.now c.requires _ _ c.in_ok-classes.ensures.numbering
-    (subst₂ AreApart c.deref.ensures.value c.len.ensures (c.tells_apart.ensures.apart c.if-tells_apart.true))
-    _ (subst₂ (λ (classes : List ℕ) (n : ℕ). AreSignsBy classes n c.in_ok-signs.signs.items) c.deref-then-tells_apart.ensures.value c.len-then-tells_apart.ensures c.in_ok-signs.ensures)
+    (subst₂ AreApart c.deref.ensures.value c.len.ensures.value (c.tells_apart.ensures.apart c.if-tells_apart.true))
+    _ (subst₂ (λ (classes : List ℕ) (n : ℕ). AreSignsBy classes n c.in_ok-signs.signs.items) c.deref-then-tells_apart.ensures.value c.len-then-tells_apart.ensures.value c.in_ok-signs.ensures)
 
 pub returns : goal.returns
 returns c =
     let j : HasJoined c.in_ok-classes.field-0.classes.items (length c.args.table.now) =
-    subst₂ HasJoined c.deref.ensures.value c.len.ensures (c.tells_apart.ensures.joined c.if-tells_apart.false) in
+    subst₂ HasJoined c.deref.ensures.value c.len.ensures.value (c.tells_apart.ensures.joined c.if-tells_apart.false) in
     not_orientable c.args.table.now c.requires _ _ c.in_ok-classes.ensures.numbering j.0 j.1 j.2

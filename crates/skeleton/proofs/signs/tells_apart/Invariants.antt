@@ -1,4 +1,4 @@
-use Rattle.std.proofs.Common.{◌≡◌, ◌≢◌, ◌+◌, ◌*◌, ◌<◌, ℕ, slice_index}
+use Rattle.std.proofs.Common.{◌≢◌, ◌+◌, ◌*◌, ◌<◌, ℕ, slice_index}
 use Rattle.skeleton.proofs.signs.tells_apart.Given as goal
 
 abbrev pub invariant-loop-tet : goal.invariant-loop-tet

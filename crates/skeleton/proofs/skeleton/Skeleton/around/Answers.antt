@@ -1,4 +1,4 @@
-use Rattle.std.proofs.Common.{◌≡◌, ◌<◌, ◌*◌, ℕ, List, length, sym, ap, subst, ◌∙◌, arith}
+use Rattle.std.proofs.Common.{◌<◌, ◌*◌, List, length, sym, subst, arith}
 use Rattle.std.specs.Prelude.{slice_index}
 use Rattle.skeleton_definitions.specs.Corners.{Corner}
 use Rattle.skeleton_definitions.specs.Skeleton.{Skeleton, IsSkeleton, IsAround}

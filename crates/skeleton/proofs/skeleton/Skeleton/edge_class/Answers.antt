@@ -1,4 +1,4 @@
-use Rattle.std.proofs.Common.{false, true, sym, ◌∙◌}
+use Rattle.std.proofs.Common.{sym, ◌∙◌}
 use Rattle.std.proofs.lemmas.Bool.{false≢true}
 use Rattle.skeleton.proofs.DirectionLemmas.{direction_none, direction_told}
 use Rattle.skeleton.proofs.skeleton.Skeleton.edge_class.Goals as goal

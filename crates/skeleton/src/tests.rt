@@ -1,0 +1,116 @@
+use super::*;
+use gluing_table::{Glue, Row, Table};
+use perm_four::Perm4;
+use std::alloc::Global;
+use std::process::Abort;
+
+fn by(tet: u32, word: &[u8]) -> Option<Glue> {
+    match Perm4::from_word(word) {
+        Some(perm) => Some(Glue { tet, perm }),
+        None => None,
+    }
+}
+
+fn of(rt: &impl Abort, alloc: Global, rows: &[Row]) -> Skeleton {
+    let table = Table::from_rows(alloc, rows).expect(rt, "a table");
+    Skeleton::of(alloc, &table).expect(rt, "memory")
+}
+
+#[test]
+fn the_figure_eight_complement(rt: HostRuntime) {
+    let skeleton = of(
+        &rt,
+        rt.alloc(),
+        &[
+            [
+                by(1, b"0123"),
+                by(1, b"1203"),
+                by(1, b"1032"),
+                by(1, b"3021"),
+            ],
+            [
+                by(0, b"0123"),
+                by(0, b"1320"),
+                by(0, b"2013"),
+                by(0, b"1032"),
+            ],
+        ],
+    );
+    assert_eq!(rt; skeleton.vertices(), 1);
+    assert_eq!(rt; skeleton.vertex_degree(0), 8);
+    assert_eq!(rt; skeleton.edges(), 2);
+    assert_eq!(rt; skeleton.edge_degree(0), 6);
+    assert_eq!(rt; skeleton.edge_degree(1), 6);
+    assert_eq!(rt; skeleton.faces(), 4);
+    assert!(rt; skeleton.is_closed());
+    assert!(rt; skeleton.orientation().is_some());
+    assert_eq!(rt; skeleton.first_invalid(), None);
+}
+
+#[test]
+fn a_table_that_is_not_orientable(rt: HostRuntime) {
+    let skeleton = of(
+        &rt,
+        rt.alloc(),
+        &[[
+            by(0, b"1203"),
+            by(0, b"2013"),
+            by(0, b"0231"),
+            by(0, b"0312"),
+        ]],
+    );
+    assert!(rt; skeleton.orientation().is_none());
+}
+
+#[test]
+fn an_edge_that_meets_its_reverse(rt: HostRuntime) {
+    let skeleton = of(
+        &rt,
+        rt.alloc(),
+        &[[by(0, b"1032"), by(0, b"1032"), None, None]],
+    );
+    assert_eq!(rt; skeleton.vertices(), 2);
+    assert_eq!(rt; skeleton.edges(), 4);
+    assert_eq!(rt; skeleton.edge_degree(0), 1);
+    assert_eq!(rt; skeleton.edge_degree(1), 2);
+    assert_eq!(rt; skeleton.edge_degree(2), 2);
+    assert_eq!(rt; skeleton.edge_degree(3), 1);
+    assert_eq!(rt; skeleton.faces(), 3);
+    assert!(rt; !skeleton.is_closed());
+    assert!(rt; skeleton.is_boundary_edge(0));
+    assert!(rt; !skeleton.is_boundary_edge(3));
+    assert!(rt; skeleton.around(0).is_empty());
+    assert_eq!(rt; skeleton.first_invalid(), Some(3));
+    assert_eq!(rt; skeleton.table().len(), 1);
+    assert_eq!(rt; skeleton.vertex_class(0, 3), 1);
+    assert_eq!(rt; skeleton.face_class(0, 1), 0);
+    assert_eq!(rt; skeleton.edge_class(0, 5), (3, false));
+}
+
+#[test]
+fn the_walks_of_a_sphere(rt: HostRuntime) {
+    let skeleton = of(
+        &rt,
+        rt.alloc(),
+        &[[
+            by(0, b"1023"),
+            by(0, b"1023"),
+            by(0, b"1230"),
+            by(0, b"3012"),
+        ]],
+    );
+    assert_eq!(rt; skeleton.edges(), 2);
+    let corner = |a: u8, b: u8, c: u8, d: u8| Corner { tet: 0, a, b, c, d };
+    assert_eq!(rt;
+        skeleton.around(0),
+        [
+            corner(0, 1, 2, 3),
+            corner(1, 2, 0, 3),
+            corner(0, 2, 3, 1),
+            corner(3, 1, 0, 2),
+            corner(3, 0, 2, 1),
+        ]
+        .as_slice()
+    );
+    assert_eq!(rt; skeleton.around(1).len(), 1);
+}
