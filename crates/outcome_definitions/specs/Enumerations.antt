@@ -73,10 +73,13 @@ abbrev pub ray_enumeration : OrderName → ℕ → ConeText → Enumeration
 ray_enumeration order limit cone = record { system = system_of cone; pairs = []; order = order_of order; limit = limit }
 
 -- the vertex surfaces of a table in standard or octagon coordinates
-abbrev pub surface_enumeration : Coordinates → OrderName → ℕ → List Row → Enumeration
-surface_enumeration coords order limit rows = record {
+abbrev pub table_enumeration : Coordinates → Order → ℕ → List Row → Enumeration
+table_enumeration coords order limit rows = record {
   system = record { columns = columns coords (length rows); rows = matching_rows coords rows };
   pairs = clash_list coords (length rows);
-  order = order_of order;
+  order = order;
   limit = limit;
 }
+
+abbrev pub surface_enumeration : Coordinates → OrderName → ℕ → List Row → Enumeration
+surface_enumeration coords order limit rows = table_enumeration coords (order_of order) limit rows

@@ -3,3 +3,5 @@ pub mod RefusalLines
 pub mod VerdictLines
 pub mod LastLine
 pub mod Accepted
+pub mod RunClauses
+pub mod Answering

@@ -58,3 +58,8 @@ IsCutOff before now text = (n : ℕ) × (n < length text) × Grows before now (t
 -- what is to be written: that the source failed, or the outcome of the words and of the input
 abbrev pub IsDue : List (List ℕ) → List ℕ → ℕ → ℕ → Outcome → Type 0
 IsDue words bytes before now o = IsReadFault before now o ⊎ IsOutcome words bytes o
+
+-- an outcome was written whole, or cut off where the sink failed
+abbrev pub IsDelivered : Outcome → Status → Option (List ℕ) → Option (List ℕ) → ℕ → ℕ → Type 0
+IsDelivered o result before now faults_before faults_now = ((result ≡ o.status) × Grows before now o.text × IsCalm faults_before faults_now)
+    ⊎ ((result ≡ WriteFault) × IsCutOff before now o.text × Rose faults_before faults_now)

@@ -8,7 +8,7 @@ ghost use Rattle.outcome_definitions.specs.Answers.{IsOutcome, IsAnswerTo, most_
 ghost use Rattle.command_words.specs.Requests as words;
 ghost use Rattle.command_definitions.specs.Words.{accepted_request};
 ghost use Rattle.workbench.specs.Requests.{IsBuilt};
-ghost use Rattle.workbench.specs.Runs.{Answers, IsAnswered, IsCalm, IsWithin, IsResponse, IsWithoutMemory, IsCutOff, IsDue};
+ghost use Rattle.workbench.specs.Runs.{Answers, IsAnswered, IsCalm, IsWithin, IsResponse, IsWithoutMemory, IsCutOff, IsDue, IsDelivered};
 
 use crate::outcome::Outcome;
 use crate::rays_command::rays;
@@ -65,8 +65,7 @@ fn respond<S: Source>(alloc: Global, request: Request, source: &mut S) -> Result
 
 // Writes an outcome.
 fn deliver<K: Sink>(outcome: &Outcome, sink: &mut K) -> Status
-    ensures { ((result ≡ outcome.now.status) × Grows (K.held sink.old) (K.held sink.new) outcome.now.text × IsCalm (K.faults sink.old) (K.faults sink.new))
-        ⊎ ((result ≡ Status.WriteFault) × IsCutOff (K.held sink.old) (K.held sink.new) outcome.now.text × Rose (K.faults sink.old) (K.faults sink.new)) }
+    ensures { IsDelivered outcome.now result (K.held sink.old) (K.held sink.new) (K.faults sink.old) (K.faults sink.new) }
 {
     match write_all(sink, outcome.text()) {
         Ok(()) => outcome.status(),

@@ -71,14 +71,14 @@ fn table_line(alloc: Global, fault: TableFault) -> Result<Vec<u8>, NoMemory>
 }
 
 // A kind and a place in a signature.
-fn place_fault_line(alloc: Global, kind: &[u8], at: u32) -> Result<Vec<u8>, NoMemory>
+fn place_fault_line(alloc: Global, kind: &[u8], at: usize) -> Result<Vec<u8>, NoMemory>
     ensures { IfOk result (λ text. text.items ≡ place_line kind.now at) }
 {
     let mut text = Vec::new(alloc);
     append(&mut text, b"refused: signature ")?;
     append(&mut text, kind)?;
     append(&mut text, b" ")?;
-    append_decimal(alloc, &mut text, u128::from(at))?;
+    append_decimal(alloc, &mut text, at as u128)?;
     append(&mut text, b"\n")?;
     Ok(text)
 }

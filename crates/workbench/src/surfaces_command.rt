@@ -4,14 +4,14 @@ ghost use Rattle.command_words.specs.Requests as words;
 ghost use Rattle.document_definitions.specs.Documents.{table_document};
 ghost use Rattle.matching_equations.specs.Columns.{coordinates_of};
 ghost use Rattle.outcome_definitions.specs.Outcomes.{IsReadOutcome, IsOwnStatus};
-ghost use Rattle.outcome_definitions.specs.Enumerations.{IsEnumerationAnswer, surface_enumeration};
+ghost use Rattle.outcome_definitions.specs.Enumerations.{IsEnumerationAnswer, surface_enumeration, table_enumeration};
 
 use crate::document::read_table_document;
 use crate::enumerations::{large_outcome, list_outcome, row_order};
 use crate::outcome::Outcome;
 use crate::refusals::fault_outcome;
 use cone_core::MAX_ENTRY;
-use double_description::EnumFault;
+use double_description::{EnumFault, Order};
 use gluing_table::Table;
 use matching_equations::Coords;
 use no_memory::NoMemory;
@@ -19,14 +19,15 @@ use std::alloc::Global;
 use surface_list::surfaces_of;
 
 // The answer to a table.
-fn answer(alloc: Global, table: &Table, coords: Coords, order: command_words::Order, limit: u128) -> Result<Outcome, NoMemory>
+fn answer(alloc: Global, table: &Table, coords: Coords, order: Order, limit: u128) -> Result<Outcome, NoMemory>
     requires coords { coords ≢ Coords.Quad }
+    requires named { order ≢ Order.Free }
     requires some_limit { 1 ≤ limit }
     requires most_limit { limit ≤ MAX_ENTRY }
-    ensures answer { IfOk result (IsEnumerationAnswer (codes "surfaces") (surface_enumeration (coordinates_of coords) (words.order_of order) limit table.now)) }
+    ensures answer { IfOk result (IsEnumerationAnswer (codes "surfaces") (table_enumeration (coordinates_of coords) order limit table.now)) }
     ensures own_status { IfOk result (λ o. IsOwnStatus o.status) }
 {
-    match surfaces_of(alloc, table, coords, row_order(order), limit) {
+    match surfaces_of(alloc, table, coords, order, limit) {
         Ok(surfaces) => list_outcome(alloc, b"surfaces", &surfaces),
         Err(EnumFault::Large { order, kind }) => large_outcome(alloc, &order, &kind),
         Err(EnumFault::NoMemory) => Err(NoMemory),
@@ -43,7 +44,7 @@ pub fn surfaces(alloc: Global, coords: Coords, order: command_words::Order, limi
     ensures own_status { IfOk result (λ o. IsOwnStatus o.status) }
 {
     match read_table_document(alloc, bytes) {
-        Ok(table) => answer(alloc, &table, coords, order, limit),
+        Ok(table) => answer(alloc, &table, coords, row_order(order), limit),
         Err(fault) => fault_outcome(alloc, fault),
     }
 }

@@ -1,0 +1,49 @@
+-- What was delivered is the outcome of the words and of the input, or a prefix of what was due.
+use Rattle.std.proofs.Common.{◌≡◌, ℕ, ◌<◌, ◌⊎◌, inl, inr, List, length, take, Option, Some, None, refl, sym, ◌∙◌, ap, subst}
+use Rattle.std.specs.Prelude.{IfSome, ⊤}
+use Rattle.bench_io.specs.Causes.{Grows, Rose}
+use Rattle.command_definitions.specs.Requests.{Request}
+use Rattle.command_definitions.specs.Words.{accepted_request}
+use Rattle.outcome_definitions.specs.declared.Status.{Status}
+use Rattle.outcome_definitions.specs.declared.Status.TheVariants.{ReadFault, WriteFault}
+use Rattle.outcome_definitions.specs.Outcomes.{Outcome, IsOwnStatus, read_outcome}
+use Rattle.outcome_definitions.specs.Answers.{IsOutcome, IsOutcomeOf, IsRequestOutcome}
+use Rattle.workbench.specs.Runs.{IsAnswered, IsCalm, IsReadFault, IsReadWell, IsResponse, IsCutOff, IsDelivered, IsDue}
+
+module _ (words : List (List ℕ)) (r : Request) (accepted : accepted_request words ≡ Some r) (rest : Option (List ℕ)) (before now : ℕ) (o : Outcome)
+    (held grown : Option (List ℕ)) (faults_before faults_now : ℕ) (status : Status) where
+  outcome_of_words : (bytes : List ℕ) → IsRequestOutcome r bytes o → IsOutcome words bytes o
+  outcome_of_words bytes h = subst (λ (asked : Option Request). IsOutcomeOf asked bytes o) (sym accepted) h
+
+  -- the clause on a status that is neither a fault nor want of memory
+  abbrev Answered : List ℕ → Type 0
+  Answered bytes = (p : Outcome) × IsOutcome words bytes p × (status ≡ p.status) × Grows held grown p.text
+
+  answered_well : (left : Option (List ℕ)) → IsReadWell r left rest before now o → status ≡ o.status → Grows held grown o.text → IfSome left Answered
+  answered_well None well same grows = tt
+  answered_well (Some bytes) well same grows = (o, outcome_of_words bytes well.outcome, same, grows)
+
+  pub run_outcome : (left : Option (List ℕ)) → IsResponse r left rest before now o → IsDelivered o status held grown faults_before faults_now → IsAnswered status → IfSome left Answered
+  run_outcome left (inl fault) (inl whole) h = absurd (let e : status ≡ ReadFault = whole.0 ∙ ap (λ (p : Outcome). p.status) fault.outcome in subst IsAnswered e h)
+  run_outcome left (inl fault) (inr cut) h = absurd (subst IsAnswered cut.0 h)
+  run_outcome left (inr well) (inl whole) h = answered_well left well whole.0 whole.1
+  run_outcome left (inr well) (inr cut) h = absurd (subst IsAnswered cut.0 h)
+
+  -- the clause on a failed sink
+  abbrev CutOff : List ℕ → Type 0
+  CutOff bytes = (p : Outcome) × IsDue words bytes before now p × IsCutOff held grown p.text
+
+  cut_fault : (left : Option (List ℕ)) → IsReadFault before now o → IsCutOff held grown o.text → IfSome left CutOff
+  cut_fault None fault cut = tt
+  cut_fault (Some bytes) fault cut = (o, inl fault, cut)
+
+  cut_well : (left : Option (List ℕ)) → IsReadWell r left rest before now o → IsCutOff held grown o.text → IfSome left CutOff
+  cut_well None well cut = tt
+  cut_well (Some bytes) well cut = (o, inr (outcome_of_words bytes well.outcome), cut)
+
+  pub run_prefix : (left : Option (List ℕ)) → IsResponse r left rest before now o → IsDelivered o status held grown faults_before faults_now → status ≡ WriteFault → IfSome left CutOff
+  run_prefix left (inl fault) (inl whole) e =
+      absurd (let same : ReadFault ≡ WriteFault = sym (ap (λ (p : Outcome). p.status) fault.outcome) ∙ sym whole.0 ∙ e in cc)
+  run_prefix left (inl fault) (inr cut) e = cut_fault left fault cut.1
+  run_prefix left (inr well) (inl whole) e = absurd (subst IsOwnStatus (sym whole.0 ∙ e) well.own_status)
+  run_prefix left (inr well) (inr cut) e = cut_well left well cut.1
