@@ -62,7 +62,7 @@ pub below-more : (n : ℕ) → below (n + 1) ≡ below n ++ n ∷ []
 below-more n = range-more 0 n ∙ ap (λ k. below n ++ k ∷ []) (omega arith)
 
 -- the order of faces is that of their places
-before_places : (m k : ℕ) → is_face_before (face_at m) (face_at k) ≡ nat_lt m k
+pub before_places : (m k : ℕ) → is_face_before (face_at m) (face_at k) ≡ nat_lt m k
 before_places m k =
     ⊎_elim
     (λ (l : m < k). sym (lt-ltb m k l ∙ sym (here l)))

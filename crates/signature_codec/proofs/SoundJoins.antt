@@ -54,7 +54,7 @@ boundary_sound met seen x free ht hf h = record {
     glued y g e = by_bool (same_face x y) (λ same. absurd (let k = known-here x y None met same in cc)) (λ apart. earlier y (Some g) apart e)
 
 -- the way back from the other side
-other-other : (x : Face) (g : Gluing) → IsPermutationOfFour g.perm → x.face < 4 → other_side (other_side x g) (way_back x g) ≡ x
+pub other-other : (x : Face) (g : Gluing) → IsPermutationOfFour g.perm → x.face < 4 → other_side (other_side x g) (way_back x g) ≡ x
 other-other x g p hf = let e : image (inverse g.perm) (image g.perm x.face) ≡ x.face = image-inverse g.perm (image g.perm x.face) (image_below g.perm p x.face hf) ∙ preimage-image g.perm p x.face hf in λ i. record { tet = x.tet; face = e i }
 
 back-back : (x : Face) (g : Gluing) → IsPermutationOfFour g.perm → way_back (other_side x g) (way_back x g) ≡ g

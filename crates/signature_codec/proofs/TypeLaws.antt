@@ -167,7 +167,7 @@ split (Ok d) (Ok g) false f make k = refl
 split (Ok d) (Err e) b f make k = refl
 split (Err e) q b f make k = refl
 
-after_types-parts : (text : List ℕ) (h : signatures.Head) (s : Types) (at : ℕ) → (parts_of text h s at >>= signatures.table_of h.count) ≡ signatures.after_types text h s at
+pub after_types-parts : (text : List ℕ) (h : signatures.Head) (s : Types) (at : ℕ) → (parts_of text h s at >>= signatures.table_of h.count) ≡ signatures.after_types text h s at
 after_types-parts text h s at =
     let twos : ℕ = times_in s.read 2 in
     let gluings_at : ℕ = at + h.width * twos in

@@ -96,10 +96,10 @@ tet_begun rows k w l h = ⊎_elim
     ap (λ y. is_seen rows y (k / 4)) (start k ∙ ap face_at same) ∙ h.seen (k / 4))
     (cases_lt (first_place k) k)
 
-if_true : {A : Type 0} (b : Bool) (x y : A) → b ≡ true → (if b then x else y) ≡ x
+pub if_true : {A : Type 0} (b : Bool) (x y : A) → b ≡ true → (if b then x else y) ≡ x
 if_true b x y h = rw h refl
 
-if_false : {A : Type 0} (b : Bool) (x y : A) → b ≡ false → (if b then x else y) ≡ y
+pub if_false : {A : Type 0} (b : Bool) (x y : A) → b ≡ false → (if b then x else y) ≡ y
 if_false b x y h = rw h refl
 
 or_right : (a b : Bool) → b ≡ true → (a || b) ≡ true

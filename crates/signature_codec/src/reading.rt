@@ -1,6 +1,7 @@
 //! The table of a text.
 
-ghost use Rattle.std.specs.Prelude.{◌≡◌};
+ghost use Rattle.std.specs.Prelude.{◌≡◌, IfOk};
+ghost use Rattle.signature_definitions.specs.Spelling.{Spells};
 ghost use Rattle.table_definitions.specs.Table.{IsTable};
 ghost use Rattle.signature_definitions.specs.SignatureText.{signature_table};
 ghost use Rattle.signature_codec.specs.Faults.{Reads};
@@ -27,7 +28,8 @@ fn table_of(alloc: Global, rows: &[Row]) -> Result<Table, SigFault>
 
 /// The table that a text spells, or the first fault of the text.
 pub fn read_signature(alloc: Global, text: &[u8]) -> Result<Table, SigFault>
-    ensures { Reads (λ t. t) result (signature_table text.now) }
+    ensures reads { Reads (λ t. t) result (signature_table text.now) }
+    ensures spelled { IfOk result (Spells text.now) }
 {
     let head = head_of(text)?;
     let types = read_types(alloc, text, head)?;
