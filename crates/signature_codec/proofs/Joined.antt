@@ -33,7 +33,7 @@ pub record BothMet (met : List (Option (Option Gluing))) (k : ℕ) (g : Gluing) 
   pub free_other : get_or met (place_of (other_side (face_at k) g)) None ≡ None
   pub apart : same_face (other_side (face_at k) g) (face_at k) ≡ false
 
-other_face : (k : ℕ) (g : Gluing) → IsPermutationOfFour g.perm → (other_side (face_at k) g).face < 4
+pub other_face : (k : ℕ) (g : Gluing) → IsPermutationOfFour g.perm → (other_side (face_at k) g).face < 4
 other_face k g p = image_below g.perm p (k % 4) (omega arith)
 
 other_apart : (met : List (Option (Option Gluing))) (k : ℕ) (g : Gluing) → BothMet met k g → place_of (other_side (face_at k) g) ≢ k
@@ -62,7 +62,7 @@ met_other met k g b =
     ∙ get_or-set_at met q q (Some (Some (way_back (face_at k) g))) None refl b.inside_other
 
 -- two faces fewer are free
-met_count : (met : List (Option (Option Gluing))) (k : ℕ) (g : Gluing) → BothMet met k g → sum_by free (meet_at met (face_at k) g) + 2 ≡ sum_by free met
+pub met_count : (met : List (Option (Option Gluing))) (k : ℕ) (g : Gluing) → BothMet met k g → sum_by free (meet_at met (face_at k) g) + 2 ≡ sum_by free met
 met_count met k g b =
     let q : ℕ = place_of (other_side (face_at k) g) in
     let back : Option (Option Gluing) = Some (Some (way_back (face_at k) g)) in
@@ -121,13 +121,13 @@ both_joined n k seen parts s g j b most hx hg sum fit = record {
 pub bound_here : (met : List (Option (Option Gluing))) (k : ℕ) → k < length met → get_or (slice_set met (place_of (face_at k)) (Some None)) k None ≡ Some None
 bound_here met k l = let there : k ≡ place_of (face_at k) = sym (place-face_at k) in get_or-set_at met (place_of (face_at k)) k (Some None) None there (omega (arith, there))
 
-bound_elsewhere : (met : List (Option (Option Gluing))) (k p : ℕ) → p ≢ k → get_or (slice_set met (place_of (face_at k)) (Some None)) p None ≡ get_or met p None
+pub bound_elsewhere : (met : List (Option (Option Gluing))) (k p : ℕ) → p ≢ k → get_or (slice_set met (place_of (face_at k)) (Some None)) p None ≡ get_or met p None
 bound_elsewhere met k p a = get_or-set_other met (place_of (face_at k)) p (Some None) None (λ e. a (e ∙ place-face_at k))
 
-bound_kept : (met : List (Option (Option Gluing))) (k : ℕ) → get_or met k None ≡ None → (p : ℕ) (o : Option Gluing) → get_or met p None ≡ Some o → get_or (slice_set met (place_of (face_at k)) (Some None)) p None ≡ Some o
+pub bound_kept : (met : List (Option (Option Gluing))) (k : ℕ) → get_or met k None ≡ None → (p : ℕ) (o : Option Gluing) → get_or met p None ≡ Some o → get_or (slice_set met (place_of (face_at k)) (Some None)) p None ≡ Some o
 bound_kept met k none p o e = bound_elsewhere met k p (none_apart met p k o none e) ∙ e
 
-bound_count : (met : List (Option (Option Gluing))) (k : ℕ) → k < length met → get_or met k None ≡ None → sum_by free (slice_set met (place_of (face_at k)) (Some None)) + 1 ≡ sum_by free met
+pub bound_count : (met : List (Option (Option Gluing))) (k : ℕ) → k < length met → get_or met k None ≡ None → sum_by free (slice_set met (place_of (face_at k)) (Some None)) + 1 ≡ sum_by free met
 bound_count met k l none =
     let there : place_of (face_at k) ≡ k = place-face_at k in
     let first = sum_by-set free met (place_of (face_at k)) (Some None) None (omega (arith, there)) in
@@ -243,7 +243,7 @@ kept_on n (suc m) k s t e j h p o f =
     kept_on n m (k + 1) a.0 t (omega arith) on.0 a.2 p o (on.1 p o f)
 
 -- the state at the start
-free_count : (n : ℕ) → sum_by free (replicate n None) ≡ n
+pub free_count : (n : ℕ) → sum_by free (replicate n None) ≡ n
 free_count zero = refl
 free_count (suc n) = sum_by-cons free None (replicate n None) ∙ ap (λ m. 1 + m) (free_count n) ∙ omega arith
 

@@ -14,3 +14,7 @@ pub mod Stepping
 pub mod Joined
 pub mod Walked
 pub mod ReadTables
+pub mod SpelledReads
+pub mod Following
+pub mod Followed
+pub mod SpelledTables

@@ -57,7 +57,7 @@ boundary_sound met seen x free ht hf h = record {
 pub other-other : (x : Face) (g : Gluing) → IsPermutationOfFour g.perm → x.face < 4 → other_side (other_side x g) (way_back x g) ≡ x
 other-other x g p hf = let e : image (inverse g.perm) (image g.perm x.face) ≡ x.face = image-inverse g.perm (image g.perm x.face) (image_below g.perm p x.face hf) ∙ preimage-image g.perm p x.face hf in λ i. record { tet = x.tet; face = e i }
 
-back-back : (x : Face) (g : Gluing) → IsPermutationOfFour g.perm → way_back (other_side x g) (way_back x g) ≡ g
+pub back-back : (x : Face) (g : Gluing) → IsPermutationOfFour g.perm → way_back (other_side x g) (way_back x g) ≡ g
 back-back x g p = let e : inverse (inverse g.perm) ≡ g.perm = inverse-inverse g.perm p in λ i. record { tet = g.tet; perm = e i }
 
 pub same_face-refl : (z : Face) → same_face z z ≡ true

@@ -34,7 +34,7 @@ drop-nothing : (A : Type 0) (k : ℕ) → drop k (nothing A) ≡ nothing A
 drop-nothing A zero = refl
 drop-nothing A (suc k) = refl
 
-drop-drop : {A : Type 0} (j k : ℕ) (xs : List A) → drop k (drop j xs) ≡ drop (j + k) xs
+pub drop-drop : {A : Type 0} (j k : ℕ) (xs : List A) → drop k (drop j xs) ≡ drop (j + k) xs
 drop-drop zero k xs = let e : k ≡ 0 + k = omega arith in ap (λ m. drop m xs) e
 drop-drop {A} (suc j) k [] = drop-nothing A k ∙ sym (drop-nothing A (suc j + k))
 drop-drop (suc j) k (x ∷ xs) = let e : suc j + k ≡ suc (j + k) = omega arith in rw e (drop-drop j k xs)

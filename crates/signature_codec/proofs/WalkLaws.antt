@@ -137,7 +137,7 @@ or_none : (b : Bool) → (b || false) ≡ b
 or_none true = refl
 or_none false = refl
 
-some_same : (w v : Walking) → Some w ≡ Some v → w ≡ v
+pub some_same : (w v : Walking) → Some w ≡ Some v → w ≡ v
 some_same w v e = cc
 
 -- a face before another lies in no later tetrahedron
@@ -245,7 +245,7 @@ walk_begins rows = record {
     only_zero u = grind arith
 
 -- behind the last face
-list_all-map : {A B : Type 0} (p : B → Bool) (f : A → B) (xs : List A) → list_all p (map f xs) ≡ list_all (λ x. p (f x)) xs
+pub list_all-map : {A B : Type 0} (p : B → Bool) (f : A → B) (xs : List A) → list_all p (map f xs) ≡ list_all (λ x. p (f x)) xs
 list_all-map p f [] = refl
 list_all-map p f (x ∷ xs) = ap (λ b. p (f x) && b) (list_all-map p f xs)
 

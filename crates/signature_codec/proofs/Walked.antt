@@ -38,7 +38,7 @@ pub record Parted (parts : signatures.Parts) (w : Walking) (s : Slots) : Type 0 
   pub destinations : map (λ (d : ℕ × ℕ). d.0) parts.destinations ≡ map (λ (g : Gluing). g.tet) w.gluings ++ map (λ (d : ℕ × ℕ). d.0) s.parts.destinations
   pub gluings : map (λ (d : ℕ × ℕ). d.0) parts.gluings ≡ map (λ (g : Gluing). index g.perm) w.gluings ++ map (λ (d : ℕ × ℕ). d.0) s.parts.gluings
 
-before_at : (k : ℕ) (g : Gluing) → image g.perm (k % 4) < 4 → is_face_before (other_side (face_at k) g) (face_at k) ≡ nat_lt (place_of (other_side (face_at k) g)) k
+pub before_at : (k : ℕ) (g : Gluing) → image g.perm (k % 4) < 4 → is_face_before (other_side (face_at k) g) (face_at k) ≡ nat_lt (place_of (other_side (face_at k) g)) k
 before_at k g h = ap (λ y. is_face_before y (face_at k)) (sym (face_at-place (other_side (face_at k) g) h)) ∙ before_places (place_of (other_side (face_at k) g)) k
 
 taken : (rows : List Row) (k : ℕ) (w v : Walking) (o : Option Gluing) → k / 4 < w.seen → glue rows (face_at k) ≡ o → take_entry (face_at k) o w ≡ Some v → take_face rows (face_at k) w ≡ Some v
@@ -136,7 +136,7 @@ walk_on n (suc m) k rows parts s t w table long e j h walk part fin =
     walk_on n m (k + 1) rows parts a.0 t v.0 table long (omega arith) on.0 a.2 (takes_on rows k w v.0 table inside walk v.1) v.2 fin
 
 -- nothing is left at the end
-all_met : (met : List (Option (Option Gluing))) → ((p : ℕ) → p < length met → (o : Option Gluing) × (get_or met p None ≡ Some o)) → sum_by free met ≡ 0
+pub all_met : (met : List (Option (Option Gluing))) → ((p : ℕ) → p < length met → (o : Option Gluing) × (get_or met p None ≡ Some o)) → sum_by free met ≡ 0
 all_met [] h = refl
 all_met (None ∷ met) h = absurd (let a = h 0 (omega arith) in let e = a.1 in cc)
 all_met (Some o ∷ met) h = let c = sum_by-cons free (Some o) met in let r = all_met met (λ p l. h (suc p) (omega arith)) in omega (arith, c, r)

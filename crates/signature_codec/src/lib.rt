@@ -16,7 +16,7 @@ mod walk;
 
 pub use any::{InputFault, read_any};
 pub use faults::{SigFault, SpellFault};
-pub use laws::read_tables_are_spelled;
+pub use laws::signatures_are_spellings;
 pub use reading::read_signature;
 pub use spelling::spell;
 

@@ -10,6 +10,7 @@ use Rattle.signature_codec.proofs.ReadLaws.{fails_on, next_ok}
 use Rattle.signature_codec.proofs.JoinedTables.{joined_table}
 use Rattle.signature_codec.proofs.TypeLaws.{parts_fit, behind_head, signature_table-head, signature_table-types, signature_table-parts, signature_table-joined}
 use Rattle.signature_codec.proofs.ReadTables.{spelled_on_ok}
+use Rattle.signature_codec.proofs.SpelledTables.{refused_on_err}
 use Rattle.signature_codec.proofs.reading.read_signature.Goals as goal
 
 pub returns-in_err-head-clause-reads : goal.returns-in_err-head-clause-reads
@@ -69,9 +70,19 @@ returns-clause-reads c =
     subst P (ap Ok c.deref.ensures.value ∙ sym c.in_ok-rows.ensures ∙ spelled) c.table_of.ensures
 
 pub returns-clause-spelled : goal.returns-clause-spelled
-returns-clause-spelled c =
-    let h = head_shown c.in_ok-head.head in
-    let P : Result (List Row) signatures.SigFault → Type 0 = λ q. Reads (λ t. t) c.table_of.result q in
-    let spelled = signature_table-joined c.args.text.now h (types_shown c.in_ok-types.types) c.in_ok-types.types.next (parts_shown c.in_ok-parts.parts) c.in_ok-parts.parts.count
-    c.in_ok-head.ensures.reads c.in_ok-types.ensures.reads c.in_ok-parts.ensures.reads c.in_ok-parts.ensures.count in
-    spelled_on_ok c.table_of.result c.args.text.now (subst P (ap Ok c.deref.ensures.value ∙ sym c.in_ok-rows.ensures ∙ spelled) c.table_of.ensures)
+returns-clause-spelled c = spelled_on_ok c.table_of.result c.args.text.now (returns-clause-reads c)
+
+pub returns-in_err-head-clause-refused : goal.returns-in_err-head-clause-refused
+returns-in_err-head-clause-refused c = refused_on_err c.from_residual.result c.args.text.now (returns-in_err-head-clause-reads c)
+
+pub returns-in_err-types-clause-refused : goal.returns-in_err-types-clause-refused
+returns-in_err-types-clause-refused c = refused_on_err c.from_residual-in_err-types.result c.args.text.now (returns-in_err-types-clause-reads c)
+
+pub returns-in_err-parts-clause-refused : goal.returns-in_err-parts-clause-refused
+returns-in_err-parts-clause-refused c = refused_on_err c.from_residual-in_err-parts.result c.args.text.now (returns-in_err-parts-clause-reads c)
+
+pub returns-in_err-rows-clause-refused : goal.returns-in_err-rows-clause-refused
+returns-in_err-rows-clause-refused c = refused_on_err c.from_residual-in_err-rows.result c.args.text.now (returns-in_err-rows-clause-reads c)
+
+pub returns-clause-refused : goal.returns-clause-refused
+returns-clause-refused c = refused_on_err c.table_of.result c.args.text.now (returns-clause-reads c)
