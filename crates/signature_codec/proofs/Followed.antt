@@ -1,30 +1,26 @@
 -- Joining the parts of a walk-ordered table face after face gives the table.
-use Rattle.std.proofs.Common.{◌≡◌, ℕ, zero, suc, ◌+◌, ◌-◌, ◌*◌, ◌/◌, ◌%◌, ◌<◌, ◌≤◌, Bool, true, false, List, [], ◌∷◌, ◌++◌, length, drop, get_or, map, replicate, Option, Some, None, refl, sym, ap, ◌∙◌, subst, arith, ◌⊎◌, inl, inr, ⊎_elim}
-use Rattle.std.specs.Prelude.{Result, Ok, Err, All, nat_le, nat_lt, is_some, filter_map, sum_by, ◌||◌, ◌&&◌, ◌==◌, if◌then◌else◌, cond, unwrap_or}
+use Rattle.std.proofs.Common.{◌≡◌, ℕ, zero, suc, ◌+◌, ◌*◌, ◌/◌, ◌%◌, ◌<◌, Bool, true, false, List, [], ◌∷◌, ◌++◌, length, drop, get_or, map, Option, Some, None, refl, sym, ap, ◌∙◌, subst, arith}
+use Rattle.std.specs.Prelude.{Ok, nat_le, is_some, filter_map, sum_by, ◌||◌, ◌==◌, if◌then◌else◌, cond}
 use Rattle.std.specs.List.{slice_index_or, list_all, range_with_len}
-use Rattle.std.proofs.lemmas.Bool.{lt-ltb, le-ltb, cases_lt, and_parts}
-use borrow.Author.Tests.{ltb-true}
-use Rattle.std.proofs.lemmas.List.{get_or_past, length-replicate}
+use Rattle.std.proofs.lemmas.Bool.{lt-ltb, le-ltb}
 use Rattle.std.proofs.lemmas.List.Sums.{sum_by-cons, sum_by-append}
-use Rattle.text_definitions.specs.Reading.{◌>>=◌}
 use Rattle.table_definitions.specs.Lists.{below, times_in}
-use Rattle.table_definitions.specs.Permutation.{identity, words, image, index, IsPermutationOfFour}
-use Rattle.table_definitions.specs.Table.{Gluing, Row, Face, IsTable, glue, other_side, way_back, same_face, is_face_before, faces}
-use Rattle.signature_definitions.specs.WalkOrder.{is_seen, is_ordered_gluing, is_ordered_at, IsWalkOrdered}
-use Rattle.signature_definitions.specs.Spelling.{type_of, seen_gluing, face_types, seen_gluings}
+use Rattle.table_definitions.specs.Permutation.{identity, words, index, IsPermutationOfFour}
+use Rattle.table_definitions.specs.Table.{Gluing, Row, Face, IsTable, glue, other_side, same_face, is_face_before}
+use Rattle.signature_definitions.specs.WalkOrder.{is_seen, is_ordered_at, IsWalkOrdered}
+use Rattle.signature_definitions.specs.Spelling.{type_of, seen_gluing}
 use Rattle.signature_definitions.specs.SignatureText as signatures
 use Rattle.signature_definitions.specs.SignatureText.{faces_of_type}
 use Rattle.perm_four.proofs.ListFacts.{list_all-below}
 use Rattle.perm_four.proofs.Permutations.{image_below, words_at}
-use Rattle.signature_codec.specs.Slots.{Slots, place_of, face_at, slot, meet_at, slot_boundary, slot_new, slot_glued, slot_seen, slot_type, with_types, slot_next, slot_face, slot_faces, slots_begun}
-use Rattle.signature_codec.specs.Walks.{Walking, with_type, take_face, walk_begun, IsWalk}
+use Rattle.signature_codec.specs.Slots.{Slots, place_of, face_at, slot, meet_at, slot_boundary, slot_glued, slot_type, with_types, slot_next, slot_face, slot_faces}
+use Rattle.signature_codec.specs.Walks.{Walking, take_face, IsWalk}
 use Rattle.signature_codec.proofs.ReadLaws.{next_ok, else_of}
-use Rattle.signature_codec.proofs.Simulation.{by_bool, faces-places}
-use Rattle.signature_codec.proofs.SeenLaws.{is_seen-later}
-use Rattle.signature_codec.proofs.WalkLaws.{takes_on, takes_off, walk_begins, walk_types, list_all-map}
+use Rattle.signature_codec.proofs.Simulation.{faces-places}
+use Rattle.signature_codec.proofs.WalkLaws.{takes_on, takes_off, list_all-map}
 use Rattle.signature_codec.proofs.Stepping.{free, place-face_at}
-use Rattle.signature_codec.proofs.Joined.{met_count, bound_count, free_count}
-use Rattle.signature_codec.proofs.Walked.{before_at, all_met}
+use Rattle.signature_codec.proofs.Joined.{met_count, bound_count}
+use Rattle.signature_codec.proofs.Walked.{before_at}
 use Rattle.signature_codec.proofs.SpelledReads.{unless_of}
 use Rattle.signature_codec.proofs.Following.{Took, took_none, took_met, took_old, took_new, took, FollowsMet, met_follows, bound_follows, both_unmet, both_follows}
 

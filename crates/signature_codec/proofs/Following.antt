@@ -1,31 +1,22 @@
 -- A walk-ordered table is joined from its parts as it is walked through.
-use Rattle.std.proofs.Common.{◌≡◌, ◌≢◌, ℕ, zero, suc, ◌+◌, ◌-◌, ◌*◌, ◌/◌, ◌%◌, ◌<◌, ◌≤◌, Bool, true, false, List, [], ◌∷◌, ◌++◌, length, drop, get_or, map, replicate, Option, Some, None, refl, sym, ap, ◌∙◌, subst, arith, ◌⊎◌, inl, inr, ⊎_elim}
-use Rattle.std.specs.Prelude.{Result, Ok, Err, nat_le, nat_lt, not, is_some, slice_set, filter_map, sum_by, ◌||◌, ◌&&◌, ◌==◌, if◌then◌else◌, cond, unwrap_or}
-use Rattle.std.specs.List.{slice_index_or, list_all, range_with_len}
-use Rattle.std.proofs.lemmas.Bool.{eqb-true, lt-ltb, le-ltb, cases_lt, cases_eq, and_parts, not-true}
+use Rattle.std.proofs.Common.{◌≡◌, ℕ, ◌+◌, ◌*◌, ◌/◌, ◌%◌, ◌<◌, ◌≤◌, Bool, true, false, List, [], ◌∷◌, ◌++◌, length, get_or, Option, Some, None, refl, sym, ap, ◌∙◌, subst, arith, ⊎_elim}
+use Rattle.std.specs.Prelude.{nat_lt, not, slice_set, ◌&&◌, ◌==◌}
+use Rattle.std.proofs.lemmas.Bool.{eqb-true, cases_eq, and_parts}
 use borrow.Author.Tests.{ltb-true, ltb-false}
-use Rattle.std.proofs.lemmas.List.{length-set, get_or_past, length-replicate}
-use Rattle.std.proofs.lemmas.List.Sums.{sum_by-cons, sum_by-append}
-use Rattle.text_definitions.specs.Reading.{◌>>=◌}
-use Rattle.table_definitions.specs.Lists.{below, same_list, times_in}
-use Rattle.table_definitions.specs.Permutation.{identity, words, image, index, IsPermutationOfFour}
-use Rattle.table_definitions.specs.Table.{Gluing, Row, Face, IsTable, glue, other_side, way_back, same_face, is_face_before, faces}
-use Rattle.signature_definitions.specs.WalkOrder.{is_seen, is_ordered_gluing, is_ordered_at, IsWalkOrdered}
-use Rattle.signature_definitions.specs.Spelling.{type_of, seen_gluing}
-use Rattle.signature_definitions.specs.SignatureText as signatures
-use Rattle.signature_definitions.specs.SignatureText.{faces_of_type}
-use Rattle.perm_four.proofs.ListFacts.{list_all-below, same_list-true}
-use Rattle.perm_four.proofs.Permutations.{image_below, words_at}
-use Rattle.signature_codec.specs.Slots.{Slots, place_of, face_at, slot, meet_at, slot_boundary, slot_new, slot_glued, slot_seen, slot_type, with_types, slot_next, slot_face, slot_faces, slots_begun}
-use Rattle.signature_codec.specs.Walks.{Walking, with_type, take_glued, take_entry, take_face, walk_begun, IsWalk}
-use Rattle.signature_codec.proofs.ReadLaws.{next_ok, else_of}
-use Rattle.signature_codec.proofs.Simulation.{by_bool, faces-places}
+use Rattle.std.proofs.lemmas.List.{length-set}
+use Rattle.table_definitions.specs.Lists.{same_list}
+use Rattle.table_definitions.specs.Permutation.{identity, image, IsPermutationOfFour}
+use Rattle.table_definitions.specs.Table.{Gluing, Row, IsTable, glue, other_side, way_back, same_face, is_face_before}
+use Rattle.perm_four.proofs.ListFacts.{same_list-true}
+use Rattle.perm_four.proofs.Permutations.{image_below}
+use Rattle.signature_codec.specs.Slots.{place_of, face_at, meet_at}
+use Rattle.signature_codec.specs.Walks.{Walking, with_type, take_glued, take_entry, take_face}
+use Rattle.signature_codec.proofs.Simulation.{by_bool}
 use Rattle.signature_codec.proofs.SoundJoins.{other-other, back-back}
-use Rattle.signature_codec.proofs.WalkLaws.{if_true, if_false, some_same, takes_on, takes_off, walk_begins, list_all-map}
-use Rattle.signature_codec.proofs.Stepping.{free, place-face_at, face_at-place}
-use Rattle.signature_codec.proofs.Joined.{BothMet, met_here, met_elsewhere, met_other, met_count, met_kept, bound_here, bound_elsewhere, bound_kept, bound_count, other_face, free_count}
+use Rattle.signature_codec.proofs.WalkLaws.{if_true, if_false, some_same}
+use Rattle.signature_codec.proofs.Stepping.{place-face_at, face_at-place}
+use Rattle.signature_codec.proofs.Joined.{BothMet, met_here, met_elsewhere, met_other, met_kept, bound_here, bound_elsewhere, bound_kept, other_face}
 use Rattle.signature_codec.proofs.Walked.{before_at}
-use Rattle.signature_codec.proofs.SpelledReads.{unless_of}
 
 -- what the walk does at a face
 pub data Took (rows : List Row) (k : ℕ) (w v : Walking) : Type 0 where

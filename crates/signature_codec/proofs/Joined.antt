@@ -1,19 +1,18 @@
 -- Joining face after face keeps what is met, and meets all faces before the next one.
-use Rattle.std.proofs.Common.{◌≡◌, ◌≢◌, ℕ, zero, suc, ◌+◌, ◌-◌, ◌*◌, ◌/◌, ◌%◌, ◌<◌, ◌≤◌, Bool, true, false, List, [], ◌∷◌, ◌++◌, length, drop, get_or, map, replicate, Option, Some, None, refl, sym, ap, ◌∙◌, subst, arith, ◌⊎◌, inl, inr, ⊎_elim}
-use Rattle.std.specs.Prelude.{Result, Ok, Err, slice_set, sum_by}
+use Rattle.std.proofs.Common.{◌≡◌, ◌≢◌, ℕ, zero, suc, ◌+◌, ◌*◌, ◌/◌, ◌%◌, ◌<◌, ◌≤◌, false, List, [], ◌∷◌, length, get_or, replicate, Option, Some, None, refl, sym, ap, ◌∙◌, subst, arith, ◌⊎◌, inl, inr, ⊎_elim}
+use Rattle.std.specs.Prelude.{Ok, slice_set, sum_by}
 use Rattle.std.specs.List.{slice_index_or}
 use Rattle.std.proofs.lemmas.Bool.{cases_eq}
 use Rattle.std.proofs.lemmas.Grind.{get_or-set_at}
 use Rattle.std.proofs.lemmas.List.{length-set, get_or-set_other, get_or_past}
 use Rattle.std.proofs.lemmas.List.Sums.{sum_by-set, sum_by-cons}
-use Rattle.text_definitions.specs.Reading.{◌>>=◌}
 use Rattle.table_definitions.specs.Lists.{times_in}
 use Rattle.table_definitions.specs.Permutation.{identity, words, image, IsPermutationOfFour}
 use Rattle.table_definitions.specs.Table.{Gluing, Face, other_side, way_back, same_face}
 use Rattle.signature_definitions.specs.SignatureText as signatures
 use Rattle.signature_definitions.specs.SignatureText.{faces_of_type}
 use Rattle.perm_four.proofs.Permutations.{image_below, words_permute}
-use Rattle.signature_codec.specs.Slots.{Slots, place_of, face_at, slot, meet_at, slot_boundary, slot_new, with_types, slot_face, slot_faces, slots_begun, IsSlots}
+use Rattle.signature_codec.specs.Slots.{Slots, place_of, face_at, meet_at, slot_boundary, slot_new, with_types, slot_face, slot_faces, slots_begun, IsSlots}
 use Rattle.signature_codec.proofs.SlotLaws.{ok_same, face_kept, times-same}
 use Rattle.signature_codec.proofs.Simulation.{by_bool, same_face-true, place-apart}
 use Rattle.signature_codec.proofs.SoundJoins.{other-other}

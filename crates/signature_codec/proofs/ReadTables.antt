@@ -1,13 +1,11 @@
 -- Where a table is read of a text, the text spells it.
-use Rattle.std.proofs.Common.{◌≡◌, ℕ, zero, suc, ◌+◌, ◌-◌, ◌*◌, ◌<◌, ◌≤◌, Bool, true, false, List, [], ◌∷◌, ◌++◌, length, drop, map, refl, sym, ap, ◌∙◌, subst, arith, ◌⊎◌, inl, inr, ⊎_elim, append_assoc, append-nil}
-use Rattle.std.specs.Prelude.{Result, Ok, Err, All, nat_le, nat_lt, sum_by, IfOk}
-use Rattle.std.proofs.lemmas.Bool.{cases_lt}
+use Rattle.std.proofs.Common.{◌≡◌, ℕ, zero, suc, ◌+◌, ◌*◌, ◌<◌, ◌≤◌, Bool, List, [], ◌∷◌, ◌++◌, length, drop, map, refl, sym, ap, ◌∙◌, subst, arith, append-nil}
+use Rattle.std.specs.Prelude.{Result, Ok, Err, nat_lt, sum_by, IfOk}
 use Rattle.std.proofs.lemmas.List.{length-append}
 use Rattle.std.proofs.lemmas.List.FromFn.{length-map-range_with_len}
 use borrow.Author.Tests.{ltb-false}
 use Rattle.text_definitions.specs.Reading.{◌>>=◌}
 use Rattle.table_definitions.specs.Lists.{times_in}
-use Rattle.table_definitions.specs.Permutation.{index}
 use Rattle.table_definitions.specs.Table.{Gluing, Row, IsTable}
 use Rattle.signature_definitions.specs.Spelling.{character, in_values, head_values, width, packed, joined, face_types, seen_gluings, spelling, spelling_values, Spells}
 use Rattle.signature_definitions.specs.SignatureText as signatures
@@ -16,7 +14,7 @@ use Rattle.signature_codec.specs.declared.faults.SigFault.{SigFault}
 use Rattle.signature_codec.specs.Faults.{Reads}
 use Rattle.signature_codec.specs.Parts.{parts_of, types_begun}
 use Rattle.signature_codec.specs.Slots.{Slots, slot_faces, slots_begun, slot_row, slot_rows, IsSlots}
-use Rattle.signature_codec.proofs.SlotLaws.{unless_ok, unless_same, ok_same}
+use Rattle.signature_codec.proofs.SlotLaws.{unless_ok, ok_same}
 use Rattle.signature_codec.proofs.TypeLaws.{bind_ok, parts_fit, numbers_read, behind_head, signature_table-head, after_types-parts}
 use Rattle.signature_codec.proofs.Simulation.{slots_join}
 use Rattle.signature_codec.proofs.JoinedTables.{joined_table}

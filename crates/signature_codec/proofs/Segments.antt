@@ -1,19 +1,16 @@
 -- What is read of a text stands in it as it is spelled.
-use Rattle.std.proofs.Common.{◌≡◌, ℕ, zero, suc, ◌+◌, ◌-◌, ◌*◌, ◌/◌, ◌%◌, ◌<◌, ◌≤◌, Bool, true, false, List, [], ◌∷◌, ◌++◌, length, drop, get_or, map, Option, Some, None, refl, sym, ap, ◌∙◌, subst, arith, ◌⊎◌, inl, inr, ⊎_elim, append_assoc, append-nil}
-use Rattle.std.specs.Prelude.{Result, Ok, Err, All, nat_le, nat_lt, not, slice_get, slice_index, sum_by, ◌||◌, ◌&&◌, ◌==◌, if◌then◌else◌, cond}
-use Rattle.std.specs.List.{position, position_or_len, prefix_len}
-use Rattle.std.proofs.lemmas.Bool.{eqb-true, eq-eqb, lt-ltb, le-ltb, cases_lt, not-true, not-false}
-use Rattle.std.proofs.lemmas.List.{map-append, length-map, length-append}
+use Rattle.std.proofs.Common.{◌≡◌, ℕ, zero, suc, ◌+◌, ◌*◌, ◌/◌, ◌%◌, ◌<◌, ◌≤◌, Bool, true, false, List, [], ◌∷◌, ◌++◌, length, drop, map, Option, Some, None, refl, sym, ap, ◌∙◌, subst, arith, append_assoc}
+use Rattle.std.specs.Prelude.{Result, Ok, nat_le, nat_lt, not, slice_get, slice_index, ◌||◌, ◌==◌, if◌then◌else◌, cond}
+use Rattle.std.specs.List.{position_or_len}
+use Rattle.std.proofs.lemmas.Bool.{eqb-true, eq-eqb, lt-ltb}
+use Rattle.std.proofs.lemmas.List.{map-append, length-append}
 use Rattle.std.proofs.lemmas.List.Sums.{prefix_len_stops}
 use borrow.Author.Tests.{ltb-true, ltb-false}
 use Rattle.text_definitions.specs.Reading.{◌>>=◌}
-use Rattle.table_definitions.specs.Lists.{times_in}
-use Rattle.signature_definitions.specs.Spelling.{alphabet, character, value_of, in_values, head_values, width, packed, joined}
+use Rattle.signature_definitions.specs.Spelling.{alphabet, character, value_of, in_values, head_values, width}
 use Rattle.signature_definitions.specs.SignatureText as signatures
 use Rattle.signature_definitions.specs.SignatureText.{Types, Head, value_at, number_in, numbers_in, types_from, head_of, faces_of_type}
-use Rattle.signature_codec.specs.Parts.{parts_of, types_begun}
-use Rattle.signature_codec.proofs.ReadLaws.{behind_character}
-use Rattle.signature_codec.proofs.SlotLaws.{unless_ok, unless_same, ok_of, ok_same}
+use Rattle.signature_codec.proofs.SlotLaws.{unless_ok, ok_same}
 use Rattle.signature_codec.proofs.Simulation.{by_bool}
 use Rattle.signature_codec.proofs.TypeLaws.{bind_ok, value_at_below}
 

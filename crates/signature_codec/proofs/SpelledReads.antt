@@ -1,6 +1,6 @@
 -- What is spelled in a text is read of it.
-use Rattle.std.proofs.Common.{◌≡◌, ℕ, zero, suc, ◌+◌, ◌-◌, ◌*◌, ◌/◌, ◌%◌, ◌^◌, ◌<◌, ◌≤◌, Bool, true, false, List, [], ◌∷◌, ◌++◌, length, drop, get_or, map, Option, Some, None, refl, sym, ap, ◌∙◌, subst, arith, ◌⊎◌, inl, inr, ⊎_elim, append_assoc, append-nil}
-use Rattle.std.specs.Prelude.{Result, Ok, Err, All, nat_le, nat_lt, not, slice_get, unwrap_or, sum_by, count_by, ◌||◌, ◌&&◌, ◌==◌, if◌then◌else◌, cond}
+use Rattle.std.proofs.Common.{◌≡◌, ℕ, zero, suc, ◌+◌, ◌-◌, ◌*◌, ◌/◌, ◌%◌, ◌^◌, ◌<◌, ◌≤◌, Bool, true, false, List, [], ◌∷◌, ◌++◌, length, drop, map, Option, Some, None, refl, sym, ap, ◌∙◌, subst, arith, ⊎_elim, append_assoc, append-nil}
+use Rattle.std.specs.Prelude.{Result, Ok, Err, All, nat_le, nat_lt, not, slice_get, unwrap_or, sum_by, ◌||◌, ◌&&◌, ◌==◌, if◌then◌else◌, cond}
 use Rattle.std.specs.List.{list_all}
 use Rattle.std.proofs.Math.Nat.{pow-succ'}
 use Rattle.std.proofs.lemmas.Bool.{eqb-true, eq-eqb, lt-ltb, le-ltb, cases_lt}
@@ -9,10 +9,9 @@ use Rattle.std.proofs.lemmas.List.Sums.{sum_by-cons}
 use Rattle.text_definitions.specs.Reading.{◌>>=◌}
 use Rattle.table_definitions.specs.Lists.{below, times_in}
 use Rattle.perm_four.proofs.ListFacts.{list_all-below}
-use Rattle.signature_definitions.specs.Spelling.{alphabet, character, value_of, in_values, head_values, width, packed, joined}
+use Rattle.signature_definitions.specs.Spelling.{character, value_of, in_values, head_values, width, packed, joined}
 use Rattle.signature_definitions.specs.SignatureText as signatures
 use Rattle.signature_definitions.specs.SignatureText.{Types, Head, value_at, number_in, numbers_in, types_from, head_of, faces_of_type}
-use Rattle.signature_codec.specs.Parts.{types_begun}
 use Rattle.signature_codec.proofs.ReadLaws.{behind_character, next_ok, types_from-some, types_from-none, else_of}
 use Rattle.signature_codec.proofs.Simulation.{by_bool}
 use Rattle.signature_codec.proofs.TextLaws.{drop-drop}

@@ -1,15 +1,14 @@
 -- Where a text spells a table, the table is read of it.
-use Rattle.std.proofs.Common.{◌≡◌, ◌≢◌, ℕ, zero, suc, ◌+◌, ◌-◌, ◌*◌, ◌/◌, ◌%◌, ◌^◌, ◌<◌, ◌≤◌, Bool, true, false, List, [], ◌∷◌, ◌++◌, length, drop, get_or, map, replicate, Option, Some, None, refl, sym, ap, ◌∙◌, subst, arith, ◌⊎◌, inl, inr, ⊎_elim, append_assoc, append-nil}
-use Rattle.std.specs.Prelude.{Result, Ok, Err, All, nat_le, nat_lt, filter_map, sum_by, ◌==◌, if◌then◌else◌, cond, unwrap_or, IfErr}
-use Rattle.std.specs.List.{slice_index_or, range_with_len}
-use Rattle.std.proofs.lemmas.Bool.{lt-ltb, le-ltb, cases_lt, and_parts}
+use Rattle.std.proofs.Common.{◌≡◌, ◌≢◌, ℕ, zero, suc, ◌+◌, ◌*◌, ◌/◌, ◌%◌, ◌<◌, ◌≤◌, Bool, true, false, List, [], ◌∷◌, ◌++◌, length, drop, get_or, map, Option, Some, None, refl, sym, ap, ◌∙◌, subst, arith, ◌⊎◌, inl, inr, append-nil}
+use Rattle.std.specs.Prelude.{Result, Ok, Err, All, nat_lt, filter_map, sum_by, ◌==◌, if◌then◌else◌, cond, unwrap_or, IfErr}
+use Rattle.std.proofs.lemmas.Bool.{le-ltb, and_parts}
 use borrow.Author.Tests.{ltb-true}
-use Rattle.std.proofs.lemmas.List.{get_or-replicate, length-replicate, length-map, length-append, map-append, ext_get_or}
+use Rattle.std.proofs.lemmas.List.{get_or-replicate, length-replicate, length-map, length-append, ext_get_or}
 use Rattle.std.proofs.lemmas.List.FromFn.{get_or-map-range_with_len, length-map-range_with_len}
-use Rattle.std.proofs.lemmas.List.Sums.{sum_by-cons, sum_by-append}
+use Rattle.std.proofs.lemmas.List.Sums.{sum_by-cons}
 use Rattle.text_definitions.specs.Reading.{◌>>=◌}
-use Rattle.table_definitions.specs.Lists.{below, times_in}
-use Rattle.table_definitions.specs.Permutation.{four, index, IsPermutationOfFour}
+use Rattle.table_definitions.specs.Lists.{times_in}
+use Rattle.table_definitions.specs.Permutation.{index}
 use Rattle.table_definitions.specs.Table.{Gluing, Row, Face, IsTable, glue, other_side, is_face_before, faces}
 use Rattle.signature_definitions.specs.WalkOrder.{is_seen, is_ordered_gluing, IsWalkOrdered}
 use Rattle.signature_definitions.specs.Spelling.{character, in_values, head_values, width, packed, joined, type_of, seen_gluing, face_types, seen_gluings, spelling, spelling_values, Spells}
@@ -29,12 +28,11 @@ use Rattle.signature_codec.proofs.SeenLaws.{is_seen-later}
 use Rattle.signature_codec.proofs.WalkLaws.{walk_begins, walk_types}
 use Rattle.signature_codec.proofs.TextLaws.{types_small}
 use Rattle.signature_codec.proofs.Segments.{Holds, length-in_values}
-use Rattle.signature_codec.proofs.Stepping.{free, place-face_at}
+use Rattle.signature_codec.proofs.Stepping.{free}
 use Rattle.signature_codec.proofs.Joined.{free_count}
 use Rattle.signature_codec.proofs.Walked.{all_met}
 use Rattle.signature_codec.proofs.SpelledReads.{holds_split, reads_head, width_fits, types_reads, behind_types, placed, placed_values, length-placed, placed_below, numbers_reads, single_spelled, unless_of}
-use Rattle.signature_codec.proofs.Following.{FollowsMet}
-use Rattle.signature_codec.proofs.Followed.{type_at, gluing_at, faces_from, values_of, Rest, Follows, Followed, follow, ordered_at}
+use Rattle.signature_codec.proofs.Followed.{type_at, gluing_at, Rest, Follows, Followed, follow, ordered_at}
 
 -- the tetrahedra and the indices that a table's text names
 abbrev pub tets_of : List Row → List ℕ

@@ -1,20 +1,16 @@
 -- What joining one face does.
-use Rattle.std.proofs.Common.{◌≡◌, ℕ, zero, suc, ◌+◌, ◌-◌, ◌*◌, ◌/◌, ◌%◌, ◌<◌, ◌≤◌, Bool, true, false, List, [], ◌∷◌, ◌++◌, length, drop, get_or, map, replicate, Option, Some, None, refl, sym, ap, ◌∙◌, subst, arith, ◌⊎◌, inl, inr, ⊎_elim}
-use Rattle.std.specs.Prelude.{Result, Ok, Err, All, nat_le, nat_lt, is_some, slice_set, sum_by, ◌||◌, ◌&&◌, ◌==◌, if◌then◌else◌, unwrap_or}
+use Rattle.std.proofs.Common.{◌≡◌, ℕ, zero, suc, ◌+◌, ◌*◌, ◌/◌, ◌%◌, ◌<◌, ◌≤◌, Bool, true, false, List, [], ◌∷◌, length, drop, get_or, Option, Some, None, refl, sym, ap, ◌∙◌, subst, arith, ◌⊎◌}
+use Rattle.std.specs.Prelude.{Result, Ok, All, nat_le, is_some, sum_by, ◌||◌, if◌then◌else◌}
 use Rattle.std.specs.List.{slice_index_or}
-use Rattle.std.proofs.lemmas.Bool.{cases_lt, cases_eq}
-use Rattle.std.proofs.lemmas.Grind.{get_or-set_at}
-use Rattle.std.proofs.lemmas.List.{length-set, get_or-set_other}
-use Rattle.std.proofs.lemmas.List.Sums.{sum_by-set, sum_by-cons}
+use Rattle.std.proofs.lemmas.List.Sums.{sum_by-cons}
 use Rattle.table_definitions.specs.Lists.{times_in}
-use Rattle.table_definitions.specs.Permutation.{identity, words, image, IsPermutationOfFour}
-use Rattle.table_definitions.specs.Table.{Gluing, Row, Face, other_side, way_back, same_face}
+use Rattle.table_definitions.specs.Permutation.{words}
+use Rattle.table_definitions.specs.Table.{Gluing, Face, other_side, same_face}
 use Rattle.signature_definitions.specs.SignatureText as signatures
 use Rattle.signature_definitions.specs.SignatureText.{faces_of_type}
-use Rattle.perm_four.proofs.Permutations.{image_below, words_permute}
-use Rattle.signature_codec.specs.Slots.{Slots, place_of, face_at, slot, meet_at, slot_boundary, slot_new, slot_glued, slot_seen, slot_type, with_types, slot_next, slot_face, IsSlots, IsTaking}
-use Rattle.signature_codec.proofs.SlotLaws.{unless_ok, unless_same, ok_of, ok_same, face_kept, times-same}
-use Rattle.signature_codec.proofs.Simulation.{by_bool, same_face-true, place-apart, not_le, place_inside}
+use Rattle.signature_codec.specs.Slots.{Slots, place_of, face_at, slot, meet_at, slot_boundary, slot_new, slot_seen, slot_type, with_types, slot_next, slot_face, IsSlots}
+use Rattle.signature_codec.proofs.SlotLaws.{unless_ok, ok_same, times-same}
+use Rattle.signature_codec.proofs.Simulation.{by_bool, not_le}
 
 -- one for a face that isn't met
 abbrev pub free : Option (Option Gluing) → ℕ

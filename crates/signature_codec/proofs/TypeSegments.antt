@@ -1,17 +1,16 @@
 -- The types that are read stand in the text three to a character, and count the faces.
-use Rattle.std.proofs.Common.{◌≡◌, ℕ, zero, suc, ◌+◌, ◌-◌, ◌*◌, ◌/◌, ◌%◌, ◌<◌, ◌≤◌, Bool, true, false, List, [], ◌∷◌, ◌++◌, length, drop, map, refl, sym, ap, ◌∙◌, subst, arith, ◌⊎◌, inl, inr, ⊎_elim, append_assoc, append-nil}
-use Rattle.std.specs.Prelude.{Result, Ok, Err, All, nat_le, nat_lt, not, sum_by, ◌||◌, ◌&&◌, ◌==◌, if◌then◌else◌}
-use Rattle.std.proofs.lemmas.Bool.{eqb-true, eq-eqb, cases_lt}
-use Rattle.std.proofs.lemmas.List.{map-append, length-append}
+use Rattle.std.proofs.Common.{◌≡◌, ℕ, zero, suc, ◌+◌, ◌-◌, ◌*◌, ◌/◌, ◌%◌, ◌<◌, ◌≤◌, Bool, true, false, List, [], ◌∷◌, ◌++◌, length, map, refl, sym, ap, ◌∙◌, subst, arith, ◌⊎◌, inl, inr, ⊎_elim, append_assoc}
+use Rattle.std.specs.Prelude.{Result, Ok, All, nat_le, nat_lt, not, sum_by, ◌||◌, ◌&&◌, ◌==◌, if◌then◌else◌}
+use Rattle.std.proofs.lemmas.Bool.{eqb-true, eq-eqb}
+use Rattle.std.proofs.lemmas.List.{length-append}
 use Rattle.std.proofs.lemmas.List.Sums.{sum_by-append}
 use borrow.Author.Tests.{ltb-false}
 use Rattle.text_definitions.specs.Reading.{◌>>=◌}
-use Rattle.signature_definitions.specs.Spelling.{character, in_values, packed, joined}
+use Rattle.signature_definitions.specs.Spelling.{in_values, packed, joined}
 use Rattle.signature_definitions.specs.SignatureText as signatures
 use Rattle.signature_definitions.specs.SignatureText.{Types, value_at, number_in, numbers_in, types_from, faces_of_type}
 use Rattle.signature_codec.proofs.ReadLaws.{behind_character}
-use Rattle.signature_codec.proofs.SlotLaws.{unless_ok, unless_same, ok_of, ok_same}
-use Rattle.signature_codec.proofs.Simulation.{by_bool}
+use Rattle.signature_codec.proofs.SlotLaws.{unless_ok, ok_of, ok_same}
 use Rattle.signature_codec.proofs.TypeLaws.{bind_ok, value_at_below}
 use Rattle.signature_codec.proofs.Segments.{Holds, holds_nothing, holds_more, holds_value, holds_number, length-in_values, or_parts, not_parts}
 

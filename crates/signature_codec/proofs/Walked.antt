@@ -1,28 +1,27 @@
 -- A table that is joined is walked through as it was joined.
-use Rattle.std.proofs.Common.{◌≡◌, ◌≢◌, ℕ, zero, suc, ◌+◌, ◌-◌, ◌*◌, ◌/◌, ◌%◌, ◌<◌, ◌≤◌, Bool, true, false, List, [], ◌∷◌, ◌++◌, length, drop, get_or, map, Option, Some, None, refl, sym, ap, ◌∙◌, subst, arith, ◌⊎◌, inl, inr, ⊎_elim, append_assoc, append-nil}
-use Rattle.std.specs.Prelude.{Result, Ok, Err, nat_lt, sum_by, ◌&&◌, ◌==◌, if◌then◌else◌, unwrap_or}
+use Rattle.std.proofs.Common.{◌≡◌, ℕ, zero, suc, ◌+◌, ◌*◌, ◌/◌, ◌%◌, ◌<◌, ◌≤◌, Bool, true, false, List, [], ◌∷◌, ◌++◌, length, get_or, map, Option, Some, None, refl, sym, ap, ◌∙◌, subst, arith, ⊎_elim, append_assoc, append-nil}
+use Rattle.std.specs.Prelude.{Ok, nat_lt, sum_by, ◌&&◌, ◌==◌, if◌then◌else◌, unwrap_or}
 use Rattle.std.specs.List.{slice_index_or}
 use Rattle.std.proofs.lemmas.Bool.{lt-ltb, le-ltb, eq-eqb, cases_lt, and_from}
 use Rattle.std.proofs.lemmas.List.{map-append}
 use Rattle.std.proofs.lemmas.List.FromFn.{get_or-map-range_with_len, length-map-range_with_len}
 use Rattle.std.proofs.lemmas.List.Sums.{sum_by-cons}
-use Rattle.text_definitions.specs.Reading.{◌>>=◌}
 use Rattle.table_definitions.specs.Lists.{same_list, times_in}
-use Rattle.table_definitions.specs.Permutation.{four, identity, words, image, index}
-use Rattle.table_definitions.specs.Table.{Gluing, Row, Face, IsTable, glue, other_side, is_face_before}
+use Rattle.table_definitions.specs.Permutation.{identity, words, image, index}
+use Rattle.table_definitions.specs.Table.{Gluing, Row, IsTable, glue, other_side, is_face_before}
 use Rattle.signature_definitions.specs.WalkOrder.{IsWalkOrdered}
 use Rattle.signature_definitions.specs.Spelling.{face_types, seen_gluings}
 use Rattle.signature_definitions.specs.SignatureText as signatures
 use Rattle.signature_definitions.specs.SignatureText.{faces_of_type}
 use Rattle.perm_four.proofs.Permutations.{image_below, words_permute, index-words}
-use Rattle.signature_codec.specs.Slots.{Slots, place_of, face_at, slot, meet_at, slot_boundary, slot_new, with_types, slot_face, slot_faces, slots_begun, slot_row, slot_rows, IsSlots}
-use Rattle.signature_codec.specs.Walks.{Walking, with_type, take_glued, take_entry, take_face, walk_begun, IsWalk}
+use Rattle.signature_codec.specs.Slots.{Slots, place_of, face_at, slot, slot_face, slot_faces, slots_begun, slot_row, slot_rows, IsSlots}
+use Rattle.signature_codec.specs.Walks.{Walking, with_type, take_entry, take_face, walk_begun, IsWalk}
 use Rattle.signature_codec.proofs.SlotLaws.{ok_same, face_kept}
 use Rattle.signature_codec.proofs.SeenLaws.{before_places}
 use Rattle.signature_codec.proofs.WalkLaws.{if_true, if_false, takes_on, walk_begins, walk_ordered, walk_types, walk_gluings}
 use Rattle.signature_codec.proofs.TypeLaws.{bind_ok}
 use Rattle.signature_codec.proofs.Stepping.{free, IsJoined, Stepped, stays, bounds, reaches, glues, place-face_at, face_at-place, stepped}
-use Rattle.signature_codec.proofs.Joined.{BothMet, met_here, new_met, glues_met, bound_here, joined_on, kept_on, joined_begun}
+use Rattle.signature_codec.proofs.Joined.{met_here, new_met, glues_met, bound_here, joined_on, kept_on, joined_begun}
 
 -- what the rows are glued to at a place
 pub glue-slot_rows : (n : ℕ) (met : List (Option (Option Gluing))) (p : ℕ) → p < 4 * n → glue (slot_rows n met) (face_at p) ≡ unwrap_or (get_or met p None) None

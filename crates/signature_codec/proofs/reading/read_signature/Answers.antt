@@ -1,12 +1,12 @@
-use Rattle.std.proofs.Common.{◌≡◌, ◌<◌, ◌≤◌, List, ◌∙◌, subst, sym, ap}
-use Rattle.std.specs.Prelude.{Result, Ok, Err}
+use Rattle.std.proofs.Common.{◌<◌, ◌≤◌, List, ◌∙◌, subst, sym, ap}
+use Rattle.std.specs.Prelude.{Result, Ok}
 use Rattle.std.proofs.lemmas.Result.{err_from_is_err_and}
 use Rattle.table_definitions.specs.Table.{Row, IsTable}
 use Rattle.signature_definitions.specs.SignatureText as signatures
 use Rattle.signature_codec.specs.Faults.{FailsAs, Reads}
-use Rattle.signature_codec.specs.Parts.{head_shown, types_shown, parts_shown, parts_of, types_begun}
+use Rattle.signature_codec.specs.Parts.{head_shown, types_shown, parts_shown}
 use Rattle.signature_codec.specs.Slots.{IsSlots, slots_begun}
-use Rattle.signature_codec.proofs.ReadLaws.{fails_on, next_ok}
+use Rattle.signature_codec.proofs.ReadLaws.{fails_on}
 use Rattle.signature_codec.proofs.JoinedTables.{joined_table}
 use Rattle.signature_codec.proofs.TypeLaws.{parts_fit, behind_head, signature_table-head, signature_table-types, signature_table-parts, signature_table-joined}
 use Rattle.signature_codec.proofs.ReadTables.{spelled_on_ok}

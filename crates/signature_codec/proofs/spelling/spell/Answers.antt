@@ -1,4 +1,4 @@
-use Rattle.std.proofs.Common.{◌≡◌, ◌<◌, ◌≤◌, ◌++◌, [], length, map, arith, sym, ap, subst, ◌∙◌, List, ℕ}
+use Rattle.std.proofs.Common.{◌≡◌, ◌<◌, ◌++◌, [], length, map, arith, sym, ap, subst, ◌∙◌, List, ℕ}
 use Rattle.std.specs.Prelude.{All}
 use Rattle.table_definitions.specs.Table.{Gluing, Row}
 use Rattle.signature_definitions.specs.Spelling as spellings
