@@ -1,5 +1,5 @@
 -- A word that names no form of tables.
-use Rattle.std.proofs.Common.{◌≡◌, ℕ, Bool, true, false, List, refl, sym, ap, ◌∙◌, eqb}
+use Rattle.std.proofs.Common.{◌≡◌, ℕ, false, List, refl, sym, ap, ◌∙◌, eqb}
 use Rattle.std.specs.Prelude.{codes, Ok, Err}
 use lib.Pointwise.{pointwise}
 use Rattle.perm_four.proofs.ListFacts.{pointwise-same_list}

@@ -1,15 +1,13 @@
 -- Joined faces are a table.
-use Rattle.std.proofs.Common.{◌≡◌, ℕ, zero, suc, ◌+◌, ◌*◌, ◌<◌, ◌≤◌, Bool, true, false, List, [], ◌∷◌, length, get_or, map, Option, Some, None, refl, sym, ap, ◌∙◌, subst, arith, ⊎_elim}
+use Rattle.std.proofs.Common.{◌≡◌, ℕ, zero, suc, ◌+◌, ◌*◌, ◌<◌, ◌≤◌, List, [], length, get_or, map, Option, Some, None, refl, sym, ap, ◌∙◌, subst, arith, ⊎_elim}
 use Rattle.std.specs.Prelude.{Result, Ok, Err, not, unwrap_or}
-use Rattle.std.specs.List.{slice_index_or, range_with_len}
+use Rattle.std.specs.List.{range_with_len}
 use Rattle.std.proofs.lemmas.Bool.{cases_lt}
 use Rattle.std.proofs.lemmas.List.{get_or_past}
 use Rattle.std.proofs.lemmas.List.FromFn.{get_or-map-range_with_len, length-map-range_with_len}
 use Rattle.std.proofs.lemmas.List.Elements.{All-from_get_or}
-use Rattle.text_definitions.specs.Reading.{◌>>=◌}
-use Rattle.table_definitions.specs.Lists.{below}
 use Rattle.table_definitions.specs.Permutation.{four}
-use Rattle.table_definitions.specs.Table.{Gluing, Face, Row, IsTable, glue, other_side, way_back, same_face, faces}
+use Rattle.table_definitions.specs.Table.{Gluing, Face, Row, IsTable, glue, other_side, way_back, faces}
 use Rattle.signature_definitions.specs.SignatureText as signatures
 use Rattle.signature_definitions.specs.SignatureText.{join_faces, Joining}
 use Rattle.signature_codec.specs.Slots.{Slots, face_at, slot_face, slots_begun, IsSlots}

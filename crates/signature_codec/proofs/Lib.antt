@@ -7,4 +7,14 @@ pub mod JoinedTables
 pub mod SeenLaws
 pub mod WalkLaws
 pub mod TextLaws
+pub mod Segments
+pub mod TypeSegments
 pub mod InputLaws
+pub mod Stepping
+pub mod Joined
+pub mod Walked
+pub mod ReadTables
+pub mod SpelledReads
+pub mod Following
+pub mod Followed
+pub mod SpelledTables

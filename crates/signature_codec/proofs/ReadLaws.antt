@@ -1,7 +1,6 @@
 -- Steps of readers: a fault stays a fault, and what is read first stands in front.
-use Rattle.std.proofs.Common.{◌≡◌, ℕ, zero, suc, ◌+◌, ◌-◌, ◌*◌, ◌^◌, ◌<◌, ◌≤◌, Bool, true, false, List, [], ◌∷◌, ◌++◌, length, refl, sym, ap, ◌∙◌, subst, arith, append_assoc, append-nil}
-use Rattle.std.specs.Prelude.{Result, Ok, Err, nat_le, nat_lt, ◌==◌, if◌then◌else◌}
-use Rattle.std.proofs.lemmas.Bool.{lt-ltb, le-ltb}
+use Rattle.std.proofs.Common.{◌≡◌, ℕ, zero, suc, ◌+◌, ◌-◌, ◌*◌, ◌^◌, ◌<◌, ◌≤◌, Bool, true, false, List, [], ◌∷◌, ◌++◌, refl, sym, ap, ◌∙◌, subst, arith, append_assoc, append-nil}
+use Rattle.std.specs.Prelude.{Result, Ok, Err, nat_le, ◌==◌, if◌then◌else◌}
 use Rattle.std.proofs.Math.Nat.{pow-succ'}
 use Rattle.text_definitions.specs.Reading.{◌>>=◌}
 use Rattle.signature_definitions.specs.SignatureText as signatures
@@ -146,18 +145,18 @@ is_none n h = grind arith
 pub next_ok : {A B : Type 0} (r : Result A signatures.SigFault) (x : A) (f : A → Result B signatures.SigFault) → r ≡ Ok x → (r >>= f) ≡ f x
 next_ok {A} r x f h = ap (λ (q : Result A signatures.SigFault). q >>= f) h
 
-else_of : {A : Type 0} (b : Bool) (x y : A) → b ≡ false → (if b then x else y) ≡ y
+pub else_of : {A : Type 0} (b : Bool) (x y : A) → b ≡ false → (if b then x else y) ≡ y
 else_of b x y h = rw h refl
 
 -- what a character's types are followed by
 abbrev pub behind_character : List ℕ → ℕ → ℕ → ℕ → signatures.Types → ℕ → Result (signatures.Types × ℕ) signatures.SigFault
 behind_character text n at m s v = character_types n at v s >>= (λ t. types_from m text n (at + 1) t)
 
-types_from-some : (m : ℕ) (text : List ℕ) (n at : ℕ) (s : signatures.Types) → 0 < s.left → types_from (suc m) text n at s ≡ (value_at text at >>= behind_character text n at m s)
+pub types_from-some : (m : ℕ) (text : List ℕ) (n at : ℕ) (s : signatures.Types) → 0 < s.left → types_from (suc m) text n at s ≡ (value_at text at >>= behind_character text n at m s)
 unfolding types_from
 types_from-some m text n at s some = else_of (s.left == 0) (Ok (s, at)) (value_at text at >>= behind_character text n at m s) (not_none s.left some)
 
-types_from-none : (m : ℕ) (text : List ℕ) (n at : ℕ) (s : signatures.Types) → s.left ≤ 0 → types_from m text n at s ≡ Ok (s, at)
+pub types_from-none : (m : ℕ) (text : List ℕ) (n at : ℕ) (s : signatures.Types) → s.left ≤ 0 → types_from m text n at s ≡ Ok (s, at)
 unfolding types_from
 types_from-none zero text n at s none = refl
 types_from-none (suc m) text n at s none = rw (is_none s.left none) refl

@@ -1,15 +1,11 @@
 -- Which tetrahedra are seen before a face is taken.
-use Rattle.std.proofs.Common.{◌≡◌, ℕ, zero, suc, ◌+◌, ◌-◌, ◌*◌, ◌/◌, ◌%◌, ◌<◌, ◌≤◌, Bool, true, false, List, [], ◌∷◌, ◌++◌, length, map, Option, Some, None, refl, sym, ap, ◌∙◌, subst, arith, ◌⊎◌, inl, inr, ⊎_elim}
-use Rattle.std.specs.Prelude.{nat_lt, nat_le, not, find, filter_map, ◌||◌, ◌&&◌, ◌==◌, if◌then◌else◌, cond}
-use Rattle.std.specs.List.{list_any, list_all, range_with_len}
-use Rattle.std.proofs.lemmas.Bool.{eqb-true, eq-eqb, lt-ltb, le-ltb, cases_lt, cases_eq, false≢true}
-use Rattle.std.proofs.lemmas.List.Elements.{filter_map-append}
-use Rattle.std.proofs.lemmas.List.FromFn.{map-range_with_len_more}
-use borrow.Author.Tests.{ltb-true}
-use Rattle.table_definitions.specs.Lists.{below, same_list}
-use Rattle.table_definitions.specs.Permutation.{identity}
-use Rattle.table_definitions.specs.Table.{Gluing, Row, Face, glue, other_side, way_back, faces, is_face_before}
-use Rattle.signature_definitions.specs.WalkOrder.{is_glued_to, is_seen, is_ordered_gluing, is_ordered_at}
+use Rattle.std.proofs.Common.{◌≡◌, ℕ, zero, suc, ◌+◌, ◌*◌, ◌/◌, ◌%◌, ◌<◌, ◌≤◌, Bool, true, false, List, [], ◌∷◌, ◌++◌, length, map, refl, sym, ap, ◌∙◌, arith, ⊎_elim}
+use Rattle.std.specs.Prelude.{nat_lt, ◌||◌, ◌&&◌, ◌==◌}
+use Rattle.std.specs.List.{list_any, range_with_len}
+use Rattle.std.proofs.lemmas.Bool.{eqb-true, eq-eqb, lt-ltb, le-ltb, cases_lt}
+use Rattle.table_definitions.specs.Lists.{below}
+use Rattle.table_definitions.specs.Table.{Row, glue, is_face_before}
+use Rattle.signature_definitions.specs.WalkOrder.{is_glued_to, is_seen}
 use Rattle.signature_codec.specs.Slots.{face_at}
 use Rattle.signature_codec.proofs.Simulation.{faces-places, by_bool}
 
@@ -62,7 +58,7 @@ pub below-more : (n : ℕ) → below (n + 1) ≡ below n ++ n ∷ []
 below-more n = range-more 0 n ∙ ap (λ k. below n ++ k ∷ []) (omega arith)
 
 -- the order of faces is that of their places
-before_places : (m k : ℕ) → is_face_before (face_at m) (face_at k) ≡ nat_lt m k
+pub before_places : (m k : ℕ) → is_face_before (face_at m) (face_at k) ≡ nat_lt m k
 before_places m k =
     ⊎_elim
     (λ (l : m < k). sym (lt-ltb m k l ∙ sym (here l)))

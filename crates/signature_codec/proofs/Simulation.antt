@@ -1,18 +1,18 @@
 -- Joining faces at their places does what joining them in a list of the faces met does.
-use Rattle.std.proofs.Common.{◌≡◌, ℕ, zero, suc, ◌+◌, ◌-◌, ◌*◌, ◌/◌, ◌%◌, ◌<◌, ◌≤◌, Bool, true, false, List, [], ◌∷◌, ◌++◌, length, drop, get_or, map, replicate, Option, Some, None, refl, sym, ap, ◌∙◌, subst, arith}
-use Rattle.std.specs.Prelude.{Result, Ok, Err, find, nat_le, is_some, slice_set, option_map, option_and_then, unwrap_or, ◌||◌, ◌&&◌, ◌==◌, if◌then◌else◌, cond}
+use Rattle.std.proofs.Common.{◌≡◌, ℕ, zero, suc, ◌+◌, ◌*◌, ◌/◌, ◌%◌, ◌<◌, ◌≤◌, Bool, true, false, List, [], ◌∷◌, length, drop, map, Option, Some, None, refl, sym, ap, ◌∙◌, subst, arith}
+use Rattle.std.specs.Prelude.{Result, Ok, Err, find, nat_le, is_some, slice_set, option_map, option_and_then, unwrap_or, ◌||◌, ◌==◌, if◌then◌else◌, cond}
 use Rattle.std.specs.List.{slice_index_or, list_any, range_with_len}
 use Rattle.std.proofs.lemmas.Bool.{eqb-true, eq-eqb, and_parts, and_from, false≢true}
-use Rattle.std.proofs.lemmas.Grind.{get_or-set_at, common_steps}
+use Rattle.std.proofs.lemmas.Grind.{get_or-set_at}
 use Rattle.std.proofs.lemmas.List.{length-set, get_or-set_other, get_or-replicate}
 use Rattle.text_definitions.specs.Reading.{◌>>=◌}
-use Rattle.table_definitions.specs.Lists.{below, pairs_of, times_in}
+use Rattle.table_definitions.specs.Lists.{below, pairs_of}
 use Rattle.table_definitions.specs.Permutation.{four, identity, words, image}
-use Rattle.table_definitions.specs.Table.{Gluing, Face, Row, other_side, way_back, same_face, faces}
+use Rattle.table_definitions.specs.Table.{Gluing, Face, other_side, way_back, same_face, faces}
 use Rattle.signature_definitions.specs.SignatureText as signatures
 use Rattle.signature_definitions.specs.SignatureText.{join_faces}
 use Rattle.perm_four.proofs.Permutations.{image_below, words_permute}
-use Rattle.signature_codec.specs.Slots.{Slots, place_of, face_at, slot, meet_at, slot_boundary, slot_new, slot_glued, slot_seen, slot_type, with_types, slot_next, slot_face, slot_faces, slots_begun, slot_row, slot_rows, IsSlots, IsTaking}
+use Rattle.signature_codec.specs.Slots.{Slots, place_of, face_at, slot, meet_at, slot_glued, slot_type, with_types, slot_next, slot_face, slot_faces, slots_begun, slot_row, slot_rows, IsSlots, IsTaking}
 use Rattle.signature_codec.proofs.SlotLaws.{face_kept, times-same}
 
 -- what a list of the faces met knows of a face

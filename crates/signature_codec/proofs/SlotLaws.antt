@@ -1,20 +1,19 @@
 -- What joining a face keeps.
-use Rattle.std.proofs.Common.{◌≡◌, ℕ, zero, suc, ◌+◌, ◌-◌, ◌*◌, ◌<◌, ◌≤◌, Bool, true, false, List, [], ◌∷◌, ◌++◌, length, drop, get_or, map, Option, Some, None, refl, sym, ap, ◌∙◌, subst, arith}
-use Rattle.std.specs.Prelude.{Result, Ok, Err, All, nat_le, is_some, slice_set, ◌||◌, ◌==◌, if◌then◌else◌}
-use Rattle.std.specs.List.{slice_index_or, range_with_len}
+use Rattle.std.proofs.Common.{◌≡◌, ℕ, zero, suc, ◌+◌, ◌-◌, ◌<◌, ◌≤◌, Bool, true, false, List, [], ◌∷◌, ◌++◌, length, drop, get_or, Option, Some, None, refl, sym, ap, ◌∙◌, subst, arith}
+use Rattle.std.specs.Prelude.{Result, Ok, Err, All, nat_le, is_some, ◌||◌, ◌==◌, if◌then◌else◌}
+use Rattle.std.specs.List.{slice_index_or}
 use Rattle.std.specs.Result.{OnOk}
 use Rattle.std.proofs.Math.Seq.{drop-cons}
-use Rattle.std.proofs.lemmas.Grind.{get_or_after_one, common_steps}
-use Rattle.std.proofs.lemmas.List.{length-set, get_or-drop, length-drop}
+use Rattle.std.proofs.lemmas.Grind.{common_steps}
+use Rattle.std.proofs.lemmas.List.{length-set}
 use Rattle.std.proofs.lemmas.List.FromFn.{map-range_with_len_more}
-use Rattle.text_definitions.specs.Reading.{◌>>=◌}
-use Rattle.table_definitions.specs.Lists.{below, times_in}
+use Rattle.table_definitions.specs.Lists.{times_in}
 use Rattle.table_definitions.specs.Permutation.{identity, words}
-use Rattle.table_definitions.specs.Table.{Gluing, Face, Row, other_side, same_face}
+use Rattle.table_definitions.specs.Table.{Gluing, Face, other_side, same_face}
 use Rattle.signature_definitions.specs.SignatureText as signatures
 use Rattle.signature_codec.specs.declared.faults.SigFault.{SigFault}
 use Rattle.signature_codec.specs.Faults.{FailsAs, Leaves}
-use Rattle.signature_codec.specs.Slots.{Slots, place_of, face_at, slot, meet_at, slot_boundary, slot_new, slot_glued, slot_seen, slot_type, with_types, slot_next, slot_face, slot_faces, slots_begun, slot_row, slot_rows, IsSlots, IsTaking}
+use Rattle.signature_codec.specs.Slots.{Slots, place_of, face_at, slot, meet_at, slot_boundary, slot_new, slot_glued, slot_type, with_types, slot_next, slot_face, slot_faces, slot_row, slot_rows, IsSlots, IsTaking}
 use Rattle.signature_codec.proofs.ReadLaws.{fails_on, next_ok}
 
 -- how often a number stands in a list with one more in front

@@ -1,22 +1,17 @@
 -- The faces that are met are glued as in a table.
-use Rattle.std.proofs.Common.{◌≡◌, ℕ, zero, suc, ◌+◌, ◌-◌, ◌*◌, ◌<◌, ◌≤◌, Bool, true, false, List, [], ◌∷◌, ◌++◌, length, drop, get_or, map, Option, Some, None, refl, sym, ap, ◌∙◌, subst, arith, ◌⊎◌, inl, inr, ⊎_elim}
-use Rattle.std.specs.Prelude.{Result, Ok, Err, All, find, nat_le, not, is_some, option_map, unwrap_or, ◌||◌, ◌&&◌, ◌==◌, if◌then◌else◌, cond}
-use Rattle.std.specs.List.{slice_index_or, list_any, range_with_len}
-use Rattle.std.proofs.lemmas.Bool.{eqb-true, eq-eqb, and_parts, and_from, false≢true, cases_lt}
-use Rattle.std.proofs.lemmas.List.{get_or_past, length-map}
-use Rattle.std.proofs.lemmas.List.FromFn.{get_or-map-range_with_len, length-map-range_with_len}
-use Rattle.std.proofs.lemmas.List.Elements.{All-from_get_or}
-use Rattle.text_definitions.specs.Reading.{◌>>=◌}
-use Rattle.table_definitions.specs.Lists.{below, times_in}
-use Rattle.table_definitions.specs.Permutation.{four, identity, words, image, inverse, IsPermutationOfFour}
-use Rattle.table_definitions.specs.Table.{Gluing, Face, Row, IsTable, glue, other_side, way_back, same_face, faces}
+use Rattle.std.proofs.Common.{◌≡◌, ℕ, zero, suc, ◌+◌, ◌<◌, ◌≤◌, Bool, true, false, List, [], ◌∷◌, length, drop, Option, Some, None, refl, sym, ap, ◌∙◌, subst, arith, ◌⊎◌, inl, inr, ⊎_elim}
+use Rattle.std.specs.Prelude.{Result, Ok, All, nat_le, is_some, ◌||◌, ◌==◌, if◌then◌else◌}
+use Rattle.std.specs.List.{slice_index_or, list_any}
+use Rattle.std.proofs.lemmas.Bool.{eq-eqb, and_from, false≢true}
+use Rattle.table_definitions.specs.Lists.{times_in}
+use Rattle.table_definitions.specs.Permutation.{identity, words, image, inverse, IsPermutationOfFour}
+use Rattle.table_definitions.specs.Table.{Gluing, Face, other_side, way_back, same_face}
 use Rattle.signature_definitions.specs.SignatureText as signatures
 use Rattle.signature_definitions.specs.SignatureText.{join_faces, Joining}
 use Rattle.perm_four.proofs.Permutations.{image_below, words_permute, inverse_permutes, image-inverse, preimage-image, inverse-inverse}
-use Rattle.signature_codec.specs.Slots.{Slots, face_at, slot_face, slot_faces, slots_begun, IsSlots}
-use Rattle.signature_codec.proofs.SlotLaws.{unless_ok, unless_same, ok_of, ok_same, face_kept, times-same}
-use Rattle.signature_codec.proofs.TypeLaws.{bind_ok}
-use Rattle.signature_codec.proofs.Simulation.{known_in, by_bool, same_face-true, known-here, known-other, is_some-known, glued-known, Agree, Agrees, face_step, begun_agrees, faces-places, not_le}
+use Rattle.signature_codec.specs.Slots.{Slots, IsSlots}
+use Rattle.signature_codec.proofs.SlotLaws.{unless_ok, ok_same, times-same}
+use Rattle.signature_codec.proofs.Simulation.{known_in, by_bool, same_face-true, known-here, known-other, is_some-known, not_le}
 
 -- the faces that are met lie in tetrahedra that are seen, and each that is glued leads to another one that leads back
 pub record IsSound (met : List (Face × Option Gluing)) (seen : ℕ) : Type 0 where
@@ -54,10 +49,10 @@ boundary_sound met seen x free ht hf h = record {
     glued y g e = by_bool (same_face x y) (λ same. absurd (let k = known-here x y None met same in cc)) (λ apart. earlier y (Some g) apart e)
 
 -- the way back from the other side
-other-other : (x : Face) (g : Gluing) → IsPermutationOfFour g.perm → x.face < 4 → other_side (other_side x g) (way_back x g) ≡ x
+pub other-other : (x : Face) (g : Gluing) → IsPermutationOfFour g.perm → x.face < 4 → other_side (other_side x g) (way_back x g) ≡ x
 other-other x g p hf = let e : image (inverse g.perm) (image g.perm x.face) ≡ x.face = image-inverse g.perm (image g.perm x.face) (image_below g.perm p x.face hf) ∙ preimage-image g.perm p x.face hf in λ i. record { tet = x.tet; face = e i }
 
-back-back : (x : Face) (g : Gluing) → IsPermutationOfFour g.perm → way_back (other_side x g) (way_back x g) ≡ g
+pub back-back : (x : Face) (g : Gluing) → IsPermutationOfFour g.perm → way_back (other_side x g) (way_back x g) ≡ g
 back-back x g p = let e : inverse (inverse g.perm) ≡ g.perm = inverse-inverse g.perm p in λ i. record { tet = g.tet; perm = e i }
 
 pub same_face-refl : (z : Face) → same_face z z ≡ true

@@ -1,14 +1,13 @@
 -- The parts of a text, one character after the other.
-use Rattle.std.proofs.Common.{◌≡◌, ℕ, zero, suc, ◌+◌, ◌-◌, ◌*◌, ◌/◌, ◌%◌, ◌<◌, ◌≤◌, List, [], ◌∷◌, ◌++◌, length, drop, get_or, map, refl, sym, ap, ◌∙◌, subst, arith, append_assoc, append-nil}
+use Rattle.std.proofs.Common.{◌≡◌, ℕ, zero, suc, ◌+◌, ◌*◌, ◌/◌, ◌%◌, ◌<◌, ◌≤◌, List, [], ◌∷◌, ◌++◌, length, drop, get_or, map, refl, sym, ap, ◌∙◌, arith, append_assoc, append-nil}
 use Rattle.std.proofs.lemmas.List.FromFn.{length-map-range_with_len}
 use Rattle.signature_codec.specs.Slots.{face_at}
 use Rattle.signature_codec.proofs.Simulation.{faces-places}
 use Rattle.std.specs.Prelude.{Bool, true, false, All, slice_index, filter_map, Option, Some, None, if◌then◌else◌}
 use Rattle.std.proofs.lemmas.List.{map-append, get_or-drop, length-drop}
 use Rattle.std.proofs.Math.Seq.{drop-cons}
-use Rattle.std.proofs.lemmas.List.Elements.{filter_map-append}
 use Rattle.table_definitions.specs.Permutation.{index}
-use Rattle.table_definitions.specs.Table.{Gluing, Row, Face, glue, other_side, faces, is_face_before, IsTable}
+use Rattle.table_definitions.specs.Table.{Gluing, Row, Face, glue, other_side, faces, is_face_before}
 use Rattle.signature_definitions.specs.Spelling.{character, in_values, packed, joined, head_values, width, type_of, face_types, seen_gluings, spelling, spelling_values}
 use Rattle.signature_definitions.specs.WalkOrder.{is_seen}
 use Rattle.signature_codec.specs.Texts.{number_text, destinations_text, indices_text}
@@ -34,7 +33,7 @@ drop-nothing : (A : Type 0) (k : ℕ) → drop k (nothing A) ≡ nothing A
 drop-nothing A zero = refl
 drop-nothing A (suc k) = refl
 
-drop-drop : {A : Type 0} (j k : ℕ) (xs : List A) → drop k (drop j xs) ≡ drop (j + k) xs
+pub drop-drop : {A : Type 0} (j k : ℕ) (xs : List A) → drop k (drop j xs) ≡ drop (j + k) xs
 drop-drop zero k xs = let e : k ≡ 0 + k = omega arith in ap (λ m. drop m xs) e
 drop-drop {A} (suc j) k [] = drop-nothing A k ∙ sym (drop-nothing A (suc j + k))
 drop-drop (suc j) k (x ∷ xs) = let e : suc j + k ≡ suc (j + k) = omega arith in rw e (drop-drop j k xs)

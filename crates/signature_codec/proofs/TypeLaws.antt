@@ -1,7 +1,7 @@
 -- What is known of the parts of a text that was read.
-use Rattle.std.proofs.Common.{◌≡◌, ℕ, zero, suc, ◌+◌, ◌-◌, ◌*◌, ◌/◌, ◌%◌, ◌<◌, ◌≤◌, Bool, true, false, List, [], ◌∷◌, ◌++◌, length, get_or, Option, Some, None, refl, sym, ap, ◌∙◌, subst, arith, zero-add}
-use Rattle.std.specs.Prelude.{Result, Ok, Err, All, count_by, nat_le, nat_lt, not, slice_get, ◌||◌, ◌&&◌, ◌==◌, if◌then◌else◌, cond}
-use Rattle.std.specs.List.{slice_index_or, position, position_or_len}
+use Rattle.std.proofs.Common.{◌≡◌, ℕ, zero, suc, ◌+◌, ◌-◌, ◌*◌, ◌/◌, ◌%◌, ◌<◌, ◌≤◌, Bool, true, false, List, [], ◌∷◌, ◌++◌, length, Option, Some, None, refl, sym, ap, ◌∙◌, subst, arith}
+use Rattle.std.specs.Prelude.{Result, Ok, Err, All, nat_le, nat_lt, not, slice_get, ◌==◌, if◌then◌else◌, cond}
+use Rattle.std.specs.List.{position, position_or_len}
 use borrow.Author.Tests.{ltb-true}
 use Rattle.std.proofs.lemmas.Grind.{common_steps}
 use Rattle.std.proofs.lemmas.List.{length-replicate}
@@ -14,7 +14,7 @@ use Rattle.signature_definitions.specs.SignatureText.{numbers_in, types_from, Ty
 use Rattle.signature_codec.specs.Parts.{parts_of, types_begun}
 use Rattle.signature_codec.specs.Slots.{IsSlots, slots_begun}
 use Rattle.signature_codec.proofs.ReadLaws.{behind_character, next_ok}
-use Rattle.signature_codec.proofs.SlotLaws.{unless_ok, ok_of, ok_same, unless_same, times-same, times-other}
+use Rattle.signature_codec.proofs.SlotLaws.{unless_ok, ok_of, ok_same, unless_same}
 
 -- the steps of an answer that is Ok
 pub bind_ok : {A B : Type 0} (r : Result A signatures.SigFault) (f : A → Result B signatures.SigFault) (t : B) → (r >>= f) ≡ Ok t → (x : A) × (r ≡ Ok x) × (f x ≡ Ok t)
@@ -167,7 +167,7 @@ split (Ok d) (Ok g) false f make k = refl
 split (Ok d) (Err e) b f make k = refl
 split (Err e) q b f make k = refl
 
-after_types-parts : (text : List ℕ) (h : signatures.Head) (s : Types) (at : ℕ) → (parts_of text h s at >>= signatures.table_of h.count) ≡ signatures.after_types text h s at
+pub after_types-parts : (text : List ℕ) (h : signatures.Head) (s : Types) (at : ℕ) → (parts_of text h s at >>= signatures.table_of h.count) ≡ signatures.after_types text h s at
 after_types-parts text h s at =
     let twos : ℕ = times_in s.read 2 in
     let gluings_at : ℕ = at + h.width * twos in

@@ -1,5 +1,7 @@
 -- The faults of signatures, as the calls answer them.
-use Rattle.std.specs.Prelude.{◌≡◌, ℕ, Result, Ok, Err}
+use Rattle.std.specs.Prelude.{◌≡◌, ◌≢◌, ℕ, List, Result, Ok, Err}
+use Rattle.table_definitions.specs.Table.{Row}
+use Rattle.signature_definitions.specs.Spelling.{Spells}
 use Rattle.signature_definitions.specs.SignatureText as signatures
 use Rattle.signature_codec.specs.declared.faults.SigFault.{SigFault}
 use Rattle.signature_codec.specs.declared.faults.SigFault.TheVariants.{NoMemory, BadChar, Short, BadType, Leftover, Destination, Gluing, FaceTaken, Trailing, TooMany, Unreached, Width}
@@ -39,3 +41,7 @@ fault_of_part Gluings at = signatures.gluing at
 abbrev pub answer_of_part : Part → ℕ → SigFault
 answer_of_part Destinations at = Destination at
 answer_of_part Gluings at = Gluing at
+
+-- a text that is refused for another reason than want of memory spells no table
+abbrev pub SpellsNothing : List ℕ → SigFault → Type 0
+SpellsNothing text e = e ≢ NoMemory → (rows : List Row) → Spells text rows → ⊥

@@ -4,3 +4,4 @@ pub mod Slots
 pub mod Walks
 pub mod Texts
 pub mod Inputs
+pub mod Laws

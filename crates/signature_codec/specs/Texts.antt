@@ -1,5 +1,5 @@
 -- The parts of a text that are numbers one after the other.
-use Rattle.std.specs.Prelude.{ℕ, List, [], ◌++◌, map}
+use Rattle.std.specs.Prelude.{ℕ, List, map}
 use Rattle.table_definitions.specs.Permutation.{index}
 use Rattle.table_definitions.specs.Table.{Gluing}
 use Rattle.signature_definitions.specs.Spelling.{character, in_values, joined}

@@ -1,5 +1,5 @@
 -- The walk through the faces of a table in order.
-use Rattle.std.specs.Prelude.{◌≡◌, ℕ, ◌+◌, ◌*◌, ◌<◌, ◌≤◌, ◌&&◌, true, List, [], ◌∷◌, ◌++◌, length, map, filter_map, ◌==◌, nat_lt, Option, Some, None, Result, Ok, Err, if◌then◌else◌}
+use Rattle.std.specs.Prelude.{◌≡◌, ℕ, ◌+◌, ◌<◌, ◌≤◌, ◌&&◌, true, List, [], ◌∷◌, ◌++◌, length, map, filter_map, ◌==◌, nat_lt, Option, Some, None, Result, Ok, Err, if◌then◌else◌}
 use Rattle.table_definitions.specs.Lists.{below, same_list}
 use Rattle.table_definitions.specs.Permutation.{identity}
 use Rattle.table_definitions.specs.Table.{Gluing, Row, Face, glue, other_side, is_face_before}

@@ -6,6 +6,7 @@ mod characters;
 mod faults;
 mod heads;
 mod joining;
+mod laws;
 mod numbers;
 mod parts;
 mod reading;
@@ -15,6 +16,7 @@ mod walk;
 
 pub use any::{InputFault, read_any};
 pub use faults::{SigFault, SpellFault};
+pub use laws::signatures_are_spellings;
 pub use reading::read_signature;
 pub use spelling::spell;
 

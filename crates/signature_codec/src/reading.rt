@@ -1,9 +1,10 @@
 //! The table of a text.
 
-ghost use Rattle.std.specs.Prelude.{◌≡◌};
+ghost use Rattle.std.specs.Prelude.{◌≡◌, IfOk, IfErr};
+ghost use Rattle.signature_definitions.specs.Spelling.{Spells};
 ghost use Rattle.table_definitions.specs.Table.{IsTable};
 ghost use Rattle.signature_definitions.specs.SignatureText.{signature_table};
-ghost use Rattle.signature_codec.specs.Faults.{Reads};
+ghost use Rattle.signature_codec.specs.Faults.{Reads, SpellsNothing};
 
 use crate::SigFault;
 use crate::heads::head_of;
@@ -25,9 +26,13 @@ fn table_of(alloc: Global, rows: &[Row]) -> Result<Table, SigFault>
     }
 }
 
-/// The table that a text spells, or the first fault of the text.
+/// The walk-ordered table that a text spells, or the first fault of the text: its phases are the head, the types of the
+/// faces, the destinations, the gluings and the joining of the faces, and a later one is looked at where the earlier
+/// ones have no fault. (The profile of Burton's isomorphism signatures that this project writes.)
 pub fn read_signature(alloc: Global, text: &[u8]) -> Result<Table, SigFault>
-    ensures { Reads (λ t. t) result (signature_table text.now) }
+    ensures reads { Reads (λ t. t) result (signature_table text.now) }
+    ensures spelled { IfOk result (Spells text.now) }
+    ensures refused { IfErr result (SpellsNothing text.now) }
 {
     let head = head_of(text)?;
     let types = read_types(alloc, text, head)?;

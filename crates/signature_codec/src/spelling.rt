@@ -3,7 +3,7 @@
 ghost use Rattle.std.specs.Prelude.{◌≡◌, ◌<◌, ◌≤◌, ◌++◌, ℕ, length, map, All, OnOk, IfOk, IfErr, slice_index};
 ghost use Rattle.table_definitions.specs.Permutation.{index};
 ghost use Rattle.signature_definitions.specs.Spelling as spellings;
-ghost use Rattle.signature_definitions.specs.WalkOrder.{IsWalkOrdered};
+ghost use Rattle.signature_definitions.specs.SignatureText.{signature_table};
 ghost use Rattle.signature_codec.specs.Texts.{number_text, destinations_text, indices_text};
 ghost use Rattle.signature_codec.specs.Walks.{StopsAt};
 
@@ -88,9 +88,11 @@ fn append_indices(text: &mut Vec<u8>, gluings: &[Glue]) -> Result<(), NoMemory>
     Ok(())
 }
 
-/// The text of a walk-ordered table.
+/// The text of a walk-ordered table; it reads back as the table. `NotOrdered` names the first face at which the table
+/// isn't walk-ordered.
 pub fn spell(alloc: Global, table: &Table) -> Result<Vec<u8>, SpellFault>
     ensures spells { IfOk result (λ text. spellings.Spells text.items table.now) }
+    ensures read_back { IfOk result (λ text. signature_table text.items ≡ Ok table.now) }
     ensures stops { IfErr result (StopsAt table.now) }
 {
     let count = table.rows().len() as u32;

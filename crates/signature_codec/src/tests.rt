@@ -1,5 +1,6 @@
 use super::*;
-use gluing_table::{Table, write_table};
+use bench_io::Lexer;
+use gluing_table::write_table;
 use std::alloc::Global;
 use std::test::Fail;
 
@@ -72,5 +73,22 @@ fn a_long_text_is_read_and_spelled(rt: HostRuntime) -> Result<(), Fail> {
     let table = read_signature(rt.alloc(), &text)?;
     assert_eq!(rt; table.len(), 63);
     assert_eq!(rt; spell(rt.alloc(), &table)?.as_slice(), text.as_slice());
+    Ok(())
+}
+
+fn next_table(alloc: Global, lexer: &mut Lexer<'_>) -> Result<Vec<u8>, Fail> {
+    lexer.need_line()?;
+    let table = read_any(alloc, lexer)?;
+    let mut out = Vec::new(alloc);
+    write_table(alloc, &table, &mut out)?;
+    Ok(out)
+}
+
+#[test]
+fn tables_are_read_in_either_form(rt: HostRuntime) -> Result<(), Fail> {
+    let written = b"tri 1\n0:1023 0:1023 0:1230 0:3012\n".as_slice();
+    let mut lexer = Lexer::new(b"sig bkaagj\ntri 1\n0:1023 0:1023 0:1230 0:3012\n");
+    assert_eq!(rt; next_table(rt.alloc(), &mut lexer)?.as_slice(), written);
+    assert_eq!(rt; next_table(rt.alloc(), &mut lexer)?.as_slice(), written);
     Ok(())
 }

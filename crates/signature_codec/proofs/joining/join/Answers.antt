@@ -1,11 +1,11 @@
-use Rattle.std.proofs.Common.{◌≡◌, List, ◌∙◌, sym, subst, ap}
+use Rattle.std.proofs.Common.{List, ◌∙◌, sym, subst, ap}
 use Rattle.std.specs.Prelude.{Result, Ok}
 use Rattle.std.proofs.lemmas.Result.{err_from_is_err_and}
 use Rattle.table_definitions.specs.Table.{Row}
 use Rattle.signature_definitions.specs.SignatureText as signatures
 use Rattle.signature_codec.specs.Faults.{FailsAs}
 use Rattle.signature_codec.specs.Parts.{parts_shown}
-use Rattle.signature_codec.specs.Slots.{Slots, slot_rows, slots_shown}
+use Rattle.signature_codec.specs.Slots.{slot_rows, slots_shown}
 use Rattle.signature_codec.proofs.ReadLaws.{fails_on, next_ok}
 use Rattle.signature_codec.proofs.Simulation.{slots_join}
 use Rattle.signature_codec.proofs.joining.join.Goals as goal

@@ -1,5 +1,5 @@
-use Rattle.std.proofs.Common.{◌≡◌, ◌<◌, length, arith}
-use Rattle.signature_codec.specs.Slots.{slots_shown, IsSlots}
+use Rattle.std.proofs.Common.{◌<◌, length, arith}
+use Rattle.signature_codec.specs.Slots.{slots_shown}
 use Rattle.signature_codec.proofs.SlotLaws.{kept_on_ok, taken_kept, taking_next}
 use Rattle.signature_codec.proofs.joining.join_face.Goals as goal
 

@@ -1,4 +1,4 @@
-use Rattle.std.proofs.Common.{◌≡◌, Some, sym, [], ℕ, List}
+use Rattle.std.proofs.Common.{◌≡◌, Some, []}
 use Rattle.std.specs.List.{slice_index_or}
 use Rattle.perm_four.proofs.Permutations.{index-words, words_permute}
 use Rattle.table_definitions.specs.Permutation.{words}

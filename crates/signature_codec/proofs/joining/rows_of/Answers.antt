@@ -1,4 +1,3 @@
-use Rattle.std.proofs.Common.{◌∷◌, [], ◌++◌, ap, sym, ◌∙◌}
 use Rattle.signature_codec.proofs.SlotLaws.{slot_rows-more}
 use Rattle.signature_codec.proofs.joining.rows_of.Goals as goal
 

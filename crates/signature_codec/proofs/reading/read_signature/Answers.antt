@@ -1,33 +1,35 @@
-use Rattle.std.proofs.Common.{◌≡◌, ◌<◌, ◌≤◌, List, ◌∙◌, subst, sym, ap}
-use Rattle.std.specs.Prelude.{Result, Ok, Err}
+use Rattle.std.proofs.Common.{◌<◌, ◌≤◌, List, ◌∙◌, subst, sym, ap}
+use Rattle.std.specs.Prelude.{Result, Ok}
 use Rattle.std.proofs.lemmas.Result.{err_from_is_err_and}
 use Rattle.table_definitions.specs.Table.{Row, IsTable}
 use Rattle.signature_definitions.specs.SignatureText as signatures
 use Rattle.signature_codec.specs.Faults.{FailsAs, Reads}
-use Rattle.signature_codec.specs.Parts.{head_shown, types_shown, parts_shown, parts_of, types_begun}
+use Rattle.signature_codec.specs.Parts.{head_shown, types_shown, parts_shown}
 use Rattle.signature_codec.specs.Slots.{IsSlots, slots_begun}
-use Rattle.signature_codec.proofs.ReadLaws.{fails_on, next_ok}
+use Rattle.signature_codec.proofs.ReadLaws.{fails_on}
 use Rattle.signature_codec.proofs.JoinedTables.{joined_table}
 use Rattle.signature_codec.proofs.TypeLaws.{parts_fit, behind_head, signature_table-head, signature_table-types, signature_table-parts, signature_table-joined}
+use Rattle.signature_codec.proofs.ReadTables.{spelled_on_ok}
+use Rattle.signature_codec.proofs.SpelledTables.{refused_on_err}
 use Rattle.signature_codec.proofs.reading.read_signature.Goals as goal
 
-pub returns-in_err-head : goal.returns-in_err-head
-returns-in_err-head c =
+pub returns-in_err-head-clause-reads : goal.returns-in_err-head-clause-reads
+returns-in_err-head-clause-reads c =
     let p = err_from_is_err_and c.from_residual.result c.from_residual.ensures.1 in
     let e = c.in_err-head.field-0.0 in
     let P : Result (List Row) signatures.SigFault → Type 0 = λ q. FailsAs e q in
     rw (p.1, p.2) (subst P (sym (signature_table-head c.args.text.now)) (fails_on e _ (behind_head c.args.text.now) c.in_err-head.ensures.reads))
 
-pub returns-in_err-types : goal.returns-in_err-types
-returns-in_err-types c =
+pub returns-in_err-types-clause-reads : goal.returns-in_err-types-clause-reads
+returns-in_err-types-clause-reads c =
     let p = err_from_is_err_and c.from_residual-in_err-types.result c.from_residual-in_err-types.ensures.1 in
     let e = c.in_err-types.field-0.0 in
     let h = head_shown c.in_ok-head.head in
     let P : Result (List Row) signatures.SigFault → Type 0 = λ q. FailsAs e q in
     rw (p.1, p.2) (subst P (sym (signature_table-types c.args.text.now h c.in_ok-head.ensures.reads)) (fails_on e _ (λ s. signatures.after_types c.args.text.now h s.0 s.1) c.in_err-types.ensures.reads))
 
-pub returns-in_err-parts : goal.returns-in_err-parts
-returns-in_err-parts c =
+pub returns-in_err-parts-clause-reads : goal.returns-in_err-parts-clause-reads
+returns-in_err-parts-clause-reads c =
     let p = err_from_is_err_and c.from_residual-in_err-parts.result c.from_residual-in_err-parts.ensures.1 in
     let e = c.in_err-parts.field-0.0 in
     let h = head_shown c.in_ok-head.head in
@@ -41,8 +43,8 @@ join-requires c =
     let fit = parts_fit c.args.text.now h (types_shown c.in_ok-types.types) c.in_ok-types.types.next (parts_shown c.in_ok-parts.parts) c.in_ok-head.ensures.few c.in_ok-types.ensures.reads c.in_ok-parts.ensures.reads in
     rw c.in_ok-parts.ensures.count fit
 
-pub returns-in_err-rows : goal.returns-in_err-rows
-returns-in_err-rows c =
+pub returns-in_err-rows-clause-reads : goal.returns-in_err-rows-clause-reads
+returns-in_err-rows-clause-reads c =
     let p = err_from_is_err_and c.from_residual-in_err-rows.result c.from_residual-in_err-rows.ensures.1 in
     let e = c.in_err-rows.field-0.0 in
     let h = head_shown c.in_ok-head.head in
@@ -59,10 +61,28 @@ table_of-requires c =
     let few : n ≤ 1000 = rw c.in_ok-parts.ensures.count c.in_ok-head.ensures.few in
     subst IsTable (sym c.deref.ensures.value) (joined_table n (parts_shown c.in_ok-parts.parts) c.in_ok-rows.rows.items few fits c.in_ok-rows.ensures)
 
-pub returns : goal.returns
-returns c =
+pub returns-clause-reads : goal.returns-clause-reads
+returns-clause-reads c =
     let h = head_shown c.in_ok-head.head in
     let P : Result (List Row) signatures.SigFault → Type 0 = λ q. Reads (λ t. t) c.table_of.result q in
     let spelled = signature_table-joined c.args.text.now h (types_shown c.in_ok-types.types) c.in_ok-types.types.next (parts_shown c.in_ok-parts.parts) c.in_ok-parts.parts.count
     c.in_ok-head.ensures.reads c.in_ok-types.ensures.reads c.in_ok-parts.ensures.reads c.in_ok-parts.ensures.count in
     subst P (ap Ok c.deref.ensures.value ∙ sym c.in_ok-rows.ensures ∙ spelled) c.table_of.ensures
+
+pub returns-clause-spelled : goal.returns-clause-spelled
+returns-clause-spelled c = spelled_on_ok c.table_of.result c.args.text.now (returns-clause-reads c)
+
+pub returns-in_err-head-clause-refused : goal.returns-in_err-head-clause-refused
+returns-in_err-head-clause-refused c = refused_on_err c.from_residual.result c.args.text.now (returns-in_err-head-clause-reads c)
+
+pub returns-in_err-types-clause-refused : goal.returns-in_err-types-clause-refused
+returns-in_err-types-clause-refused c = refused_on_err c.from_residual-in_err-types.result c.args.text.now (returns-in_err-types-clause-reads c)
+
+pub returns-in_err-parts-clause-refused : goal.returns-in_err-parts-clause-refused
+returns-in_err-parts-clause-refused c = refused_on_err c.from_residual-in_err-parts.result c.args.text.now (returns-in_err-parts-clause-reads c)
+
+pub returns-in_err-rows-clause-refused : goal.returns-in_err-rows-clause-refused
+returns-in_err-rows-clause-refused c = refused_on_err c.from_residual-in_err-rows.result c.args.text.now (returns-in_err-rows-clause-reads c)
+
+pub returns-clause-refused : goal.returns-clause-refused
+returns-clause-refused c = refused_on_err c.table_of.result c.args.text.now (returns-clause-reads c)

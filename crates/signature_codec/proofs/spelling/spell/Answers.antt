@@ -1,9 +1,10 @@
-use Rattle.std.proofs.Common.{◌≡◌, ◌<◌, ◌≤◌, ◌++◌, [], length, map, arith, sym, ap, subst, ◌∙◌, List, ℕ}
+use Rattle.std.proofs.Common.{◌≡◌, ◌<◌, ◌++◌, [], length, map, arith, sym, ap, subst, ◌∙◌, List, ℕ}
 use Rattle.std.specs.Prelude.{All}
 use Rattle.table_definitions.specs.Table.{Gluing, Row}
 use Rattle.signature_definitions.specs.Spelling as spellings
 use Rattle.signature_codec.specs.Texts.{destinations_text, indices_text}
 use Rattle.signature_codec.proofs.TextLaws.{types_small, few_types, whole_text}
+use Rattle.signature_codec.proofs.SpelledTables.{spelled_read}
 use Rattle.signature_codec.proofs.spelling.spell.Goals as goal
 
 pub append_types-requires-clause-small : goal.append_types-requires-clause-small
@@ -39,3 +40,6 @@ returns-clause-spells c =
       ordered = c.in_ok-walk.ensures.whole.ordered;
       spelled = whole ∙ whole_text c.args.table.now types gs n (ap (λ (rows : List Row). length rows) c.rows.ensures.rows) c.in_ok-walk.ensures.whole.types c.in_ok-walk.ensures.whole.gluings;
     }
+
+pub returns-clause-read_back : goal.returns-clause-read_back
+returns-clause-read_back c = spelled_read c.append_indices.new.text.items c.args.table.now (returns-clause-spells c)

@@ -1,5 +1,4 @@
 use Rattle.signature_codec.specs.Walks.{IsWalk, walk_shown}
-use Rattle.signature_codec.proofs.WalkLaws.{listed}
 use Rattle.signature_codec.proofs.walk.walk_of.Given as goal
 
 abbrev pub invariant-loop-place : goal.invariant-loop-place
