@@ -1,5 +1,5 @@
 -- How the words after a command name options and their values.
-use Rattle.std.specs.Prelude.{ℕ, Bool, ◌==◌, ◌&&◌, not, true, false, List, [], ◌∷◌, ◌++◌, Option, Some, None, if◌then◌else◌}
+use Rattle.std.specs.Prelude.{ℕ, Bool, ◌==◌, ◌&&◌, false, List, [], ◌∷◌, ◌++◌, Option, Some, None, if◌then◌else◌}
 use Rattle.std.specs.List.{list_any, before_first, after_first, find}
 use Rattle.std.specs.Option.{option_map}
 use Rattle.text_definitions.specs.Reading.{same_word}

@@ -1,6 +1,6 @@
 -- The commands with the values of their options.
 use Rattle.std.specs.Prelude.{ℕ, Bool, true, false}
-use Rattle.surface_definitions.specs.Coordinates.{Coordinates, standard, quads, octagons}
+use Rattle.surface_definitions.specs.Coordinates.{Coordinates, standard}
 
 -- in which order the rows are taken: as they are given, those with fewest entries first, or by their leading zeros
 pub data Order : Type 0 where

@@ -1,5 +1,5 @@
 -- The values that options take, and the request of a command with such values.
-use Rattle.std.specs.Prelude.{ℕ, Bool, ◌&&◌, not, nat_lt, nat_le, List, [], ◌∷◌, length, Option, Some, None, codes, if◌then◌else◌}
+use Rattle.std.specs.Prelude.{ℕ, Bool, ◌&&◌, nat_lt, nat_le, List, length, Option, Some, None, codes, if◌then◌else◌}
 use Rattle.std.specs.Option.{option_map, option_and_then}
 use Rattle.text_definitions.specs.Reading.{same_word}
 use Rattle.text_definitions.specs.Text.{is_decimal, digits_value}
