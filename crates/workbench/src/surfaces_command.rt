@@ -19,7 +19,13 @@ use std::alloc::Global;
 use surface_list::surfaces_of;
 
 // The answer to a table.
-fn answer(alloc: Global, table: &Table, coords: Coords, order: Order, limit: u128) -> Result<Outcome, NoMemory>
+fn answer(
+    alloc: Global,
+    table: &Table,
+    coords: Coords,
+    order: Order,
+    limit: u128,
+) -> Result<Outcome, NoMemory>
     requires coords { coords ≢ Coords.Quad }
     requires named { order ≢ Order.Free }
     requires some_limit { 1 ≤ limit }
@@ -35,7 +41,13 @@ fn answer(alloc: Global, table: &Table, coords: Coords, order: Order, limit: u12
 }
 
 /// The outcome of `surfaces` on an input that isn't too long, in standard or octagon coordinates.
-pub fn surfaces(alloc: Global, coords: Coords, order: command_words::Order, limit: u128, bytes: &[u8]) -> Result<Outcome, NoMemory>
+pub fn surfaces(
+    alloc: Global,
+    coords: Coords,
+    order: command_words::Order,
+    limit: u128,
+    bytes: &[u8],
+) -> Result<Outcome, NoMemory>
     requires size { length bytes.now ≤ 2 ^ 31 }
     requires coords { coords ≢ Coords.Quad }
     requires some_limit { 1 ≤ limit }

@@ -98,7 +98,12 @@ fn append_verdict(
 }
 
 // The lines of the verdicts on vectors.
-fn verdicts(alloc: Global, coords: Coords, table: &Table, vectors: &[Vec<u128>]) -> Result<Vec<u8>, NoMemory>
+fn verdicts(
+    alloc: Global,
+    coords: Coords,
+    table: &Table,
+    vectors: &[Vec<u128>],
+) -> Result<Vec<u8>, NoMemory>
     requires { coords ≢ Coords.Quad }
     ensures { IfOk result (λ text. text.items ≡ verdicts_text (map (verdict_on (coordinates_of coords) table.now) (all_entries vectors.now))) }
 {

@@ -4,6 +4,12 @@
 #[cfg(test)]
 mod hostile_rows;
 #[cfg(test)]
+mod rays_rows;
+#[cfg(test)]
 mod running;
+#[cfg(test)]
+mod surfaces_rows;
+#[cfg(test)]
+mod usage_rows;
 #[cfg(test)]
 mod verify_rows;

@@ -3,6 +3,7 @@ ghost use Rattle.std.specs.Prelude.{◌<◌};
 
 use bench_io::{MemorySink, MemorySource, Words};
 use std::alloc::Global;
+use std::process::Abort;
 use std::test::Fail;
 use workbench::{Status, run};
 
@@ -48,4 +49,14 @@ pub fn answered(
         status,
         text: sink.bytes().to_vec(alloc)?,
     })
+}
+
+/// Each row is answered with its status and its text.
+pub fn are_answered(rt: &impl Abort, alloc: Global, rows: &[Row]) -> Result<(), Fail> {
+    for row in rows {
+        let answer = answered(alloc, row.words, row.input, STEADY, STEADY, 1 << 16)?;
+        assert_eq!(rt; answer.status, row.status);
+        assert_eq!(rt; answer.text.as_slice(), row.text);
+    }
+    Ok(())
 }

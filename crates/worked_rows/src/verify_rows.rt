@@ -1,10 +1,9 @@
 // Rows of `verify`.
-use crate::running::{Row, STEADY, answered};
-use std::alloc::Global;
+use crate::running::{Row, are_answered};
 use std::test::Fail;
 use workbench::Status;
 
-const ROWS: [Row; 34] = [
+const ROWS: [Row; 53] = [
     Row {
         words: &["verify"],
         input: b"tri 1\n0:1023 0:1023 0:1230 0:3012\nvec 1 1 0 0 1 0 0\nvec 1 0 0 0 0 0 0\nvec 0 0 1 1 0 1 1\nvec 1 1 0 0 1 0\nvec 0 0 0 0 0 0 0\n",
@@ -13,9 +12,27 @@ const ROWS: [Row; 34] = [
     },
     Row {
         words: &["verify"],
+        input: b"sig bkaagj\nvec 1 1 0 0 1 0 0\nvec 1 0 0 0 0 0 0\nvec 0 0 1 1 0 1 1\nvec 1 1 0 0 1 0\nvec 0 0 0 0 0 0 0\n",
+        status: Status::Done,
+        text: b"solution\nfails 0\nclash 5 6\nlength 6\nsolution\n",
+    },
+    Row {
+        words: &["verify"],
         input: b"tri 1\n0:1023 0:1023 0:1230 0:3012\nvec 170141183460469231731687303715884105727 170141183460469231731687303715884105727 0 0 0 170141183460469231731687303715884105727 170141183460469231731687303715884105727\n",
         status: Status::Done,
         text: b"large 4\n",
+    },
+    Row {
+        words: &["verify"],
+        input: b"sig bkaagj\nvec 170141183460469231731687303715884105727 170141183460469231731687303715884105727 0 0 0 170141183460469231731687303715884105727 170141183460469231731687303715884105727\n",
+        status: Status::Done,
+        text: b"large 4\n",
+    },
+    Row {
+        words: &["verify"],
+        input: b"sig bkaagj\nvec 170141183460469231731687303715884105728 0 0 0 0 0 0\n",
+        status: Status::Input,
+        text: b"refused: input 2 5 too-wide\n",
     },
     Row {
         words: &["verify"],
@@ -28,6 +45,24 @@ const ROWS: [Row; 34] = [
         input: b"",
         status: Status::Input,
         text: b"refused: input 1 1 missing-word\n",
+    },
+    Row {
+        words: &["verify", "--"],
+        input: b"sig bkaagj\n",
+        status: Status::Usage,
+        text: b"refused: usage\n",
+    },
+    Row {
+        words: &["verify", "--help"],
+        input: b"sig bkaagj\n",
+        status: Status::Usage,
+        text: b"refused: usage\n",
+    },
+    Row {
+        words: &["verify", "--coords", "octagon"],
+        input: b"tri 2\n- - - -\n- - - -\nvec 0 0 0 0 0 0 0 1 0 0 0 0 0 0 0 0 0 1 0 0\n",
+        status: Status::Done,
+        text: b"clash 7 17\n",
     },
     Row {
         words: &["verify"],
@@ -169,54 +204,127 @@ const ROWS: [Row; 34] = [
     },
     Row {
         words: &["verify"],
+        input: b"sig a\nvec\n",
+        status: Status::Done,
+        text: b"solution\n",
+    },
+    Row {
+        words: &["verify"],
+        input: b"sig bkaagj x\n",
+        status: Status::Input,
+        text: b"refused: input 1 12 extra-word\n",
+    },
+    Row {
+        words: &["verify"],
         input: b"tri 2\n- - - -\n- - - -\nvec 0 0 0 0 1 0 1 0 0 0 0 0 0 0\n",
         status: Status::Done,
         text: b"clash 4 6\n",
     },
     Row {
-        words: &[],
-        input: b"tri 0\n",
-        status: Status::Usage,
-        text: b"refused: usage\n",
+        words: &["verify"],
+        input: b"sig bkaag\n",
+        status: Status::Input,
+        text: b"refused: signature short 5\n",
     },
     Row {
-        words: &["Verify"],
-        input: b"tri 0\n",
-        status: Status::Usage,
-        text: b"refused: usage\n",
+        words: &["verify"],
+        input: b"sig bkaagjx\n",
+        status: Status::Input,
+        text: b"refused: signature trailing 6\n",
     },
     Row {
-        words: &["verify", "verify"],
-        input: b"tri 0\n",
-        status: Status::Usage,
-        text: b"refused: usage\n",
+        words: &["verify"],
+        input: b"sig blaagj\n",
+        status: Status::Input,
+        text: b"refused: signature bad-type 1\n",
     },
     Row {
-        words: &["verify", "--"],
-        input: b"tri 0\n",
-        status: Status::Usage,
-        text: b"refused: usage\n",
+        words: &["verify"],
+        input: b"sig bAaagj\n",
+        status: Status::Input,
+        text: b"refused: signature leftover 1\n",
     },
     Row {
-        words: &["verify", "--help"],
-        input: b"tri 0\n",
-        status: Status::Usage,
-        text: b"refused: usage\n",
+        words: &["verify"],
+        input: b"sig bkbagj\n",
+        status: Status::Input,
+        text: b"refused: signature destination 2\n",
     },
     Row {
-        words: &["help"],
-        input: b"tri 0\n",
-        status: Status::Usage,
-        text: b"refused: usage\n",
+        words: &["verify"],
+        input: b"sig bkaayj\n",
+        status: Status::Input,
+        text: b"refused: signature gluing 4\n",
+    },
+    Row {
+        words: &["verify"],
+        input: b"sig bkaaga\n",
+        status: Status::Input,
+        text: b"refused: signature face-taken 5\n",
+    },
+    Row {
+        words: &["verify"],
+        input: b"sig cQc\n",
+        status: Status::Input,
+        text: b"refused: signature unreached\n",
+    },
+    Row {
+        words: &["verify"],
+        input: b"sig -\n",
+        status: Status::Input,
+        text: b"refused: signature short 1\n",
+    },
+    Row {
+        words: &["verify"],
+        input: b"sig -a\n",
+        status: Status::Input,
+        text: b"refused: signature width 1\n",
+    },
+    Row {
+        words: &["verify"],
+        input: b"sig -b\n",
+        status: Status::Input,
+        text: b"refused: signature short 2\n",
+    },
+    Row {
+        words: &["verify"],
+        input: b"sig -b9\n",
+        status: Status::Input,
+        text: b"refused: signature width 1\n",
+    },
+    Row {
+        words: &["verify"],
+        input: b"sig -cba\n",
+        status: Status::Input,
+        text: b"refused: signature width 1\n",
+    },
+    Row {
+        words: &["verify"],
+        input: b"sig -c-a\n",
+        status: Status::Input,
+        text: b"refused: signature width 1\n",
+    },
+    Row {
+        words: &["verify"],
+        input: b"sig -d\n",
+        status: Status::Input,
+        text: b"refused: signature too-many\n",
+    },
+    Row {
+        words: &["verify"],
+        input: b"sig -c+p\n",
+        status: Status::Input,
+        text: b"refused: signature too-many\n",
+    },
+    Row {
+        words: &["verify"],
+        input: b"sig -cOp\n",
+        status: Status::Input,
+        text: b"refused: signature short 4\n",
     },
 ];
 
 #[test]
-fn rows_are_answered(rt: HostRuntime) -> Result<(), Fail> {
-    for row in ROWS {
-        let answer = answered(rt.alloc(), row.words, row.input, STEADY, STEADY, 1 << 16)?;
-        assert_eq!(rt; answer.status, row.status);
-        assert_eq!(rt; answer.text.as_slice(), row.text);
-    }
-    Ok(())
+fn verify_rows_are_answered(rt: HostRuntime) -> Result<(), Fail> {
+    are_answered(&rt, rt.alloc(), &ROWS)
 }
