@@ -118,6 +118,7 @@ fn is_built(request: &Request) -> bool
         Request::Verify(Coords::Standard | Coords::Octagon) => true,
         Request::Surfaces(Coords::Standard | Coords::Octagon, _, _) => true,
         Request::Rays(_, _) => true,
+        Request::Info => true,
         _ => false,
     }
 }

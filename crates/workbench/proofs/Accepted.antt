@@ -125,7 +125,7 @@ request_built : (r : code.Request) → is_built (request r) ≡ true → HasLimi
 request_built (Verify Standard) e h = λ same. absurd cc
 request_built (Verify Quad) e h = not_true e
 request_built (Verify Octagon) e h = λ same. absurd cc
-request_built Info e h = not_true e
+request_built Info e h = tt
 request_built (Surfaces Standard order most) e h = ((λ same. absurd cc), h)
 request_built (Surfaces Quad order most) e h = not_true e
 request_built (Surfaces Octagon order most) e h = ((λ same. absurd cc), h)

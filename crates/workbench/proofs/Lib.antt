@@ -5,3 +5,4 @@ pub mod LastLine
 pub mod Accepted
 pub mod RunClauses
 pub mod Answering
+pub mod ClassLines

@@ -1,5 +1,5 @@
 -- The requests that a run answers.
-use Rattle.std.specs.Prelude.{ℕ, ◌≢◌, ◌≤◌}
+use Rattle.std.specs.Prelude.{ℕ, ◌≢◌, ◌≤◌, ⊤}
 use Rattle.text_definitions.specs.Written.{limit}
 use Rattle.matching_equations.specs.declared.coords.Coords.TheVariants.{Quad}
 use Rattle.command_words.specs.declared.request.Request.{Request}
@@ -15,7 +15,7 @@ abbrev pub IsBuilt : Request → Type 0
 IsBuilt (Verify coords) = coords ≢ Quad
 IsBuilt (Surfaces coords order most) = (coords ≢ Quad) × IsLimit most
 IsBuilt (Rays order most) = IsLimit most
-IsBuilt Info = ⊥
+IsBuilt Info = ⊤
 IsBuilt (Describe coords) = ⊥
 IsBuilt Lift = ⊥
 IsBuilt Crush = ⊥

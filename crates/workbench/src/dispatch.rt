@@ -10,6 +10,7 @@ ghost use Rattle.command_definitions.specs.Words.{accepted_request};
 ghost use Rattle.workbench.specs.Requests.{IsBuilt};
 ghost use Rattle.workbench.specs.Runs.{Answers, IsAnswered, IsCalm, IsWithin, IsResponse, IsWithoutMemory, IsCutOff, IsDue, IsDelivered};
 
+use crate::info_command::info;
 use crate::outcome::Outcome;
 use crate::rays_command::rays;
 use crate::surfaces_command::surfaces;
@@ -34,7 +35,7 @@ fn answer(alloc: Global, request: Request, bytes: &[u8]) -> Result<Outcome, NoMe
         Request::Verify(coords) => verify(alloc, coords, bytes),
         Request::Surfaces(coords, order, limit) => surfaces(alloc, coords, order, limit, bytes),
         Request::Rays(order, limit) => rays(alloc, order, limit, bytes),
-        Request::Info => unreachable!(),
+        Request::Info => info(alloc, bytes),
         Request::Describe(_) => unreachable!(),
         Request::Lift => unreachable!(),
         Request::Crush => unreachable!(),

@@ -4,6 +4,8 @@
 mod dispatch;
 mod document;
 mod enumerations;
+mod info_command;
+mod information;
 mod outcome;
 mod rays_command;
 mod refusals;

@@ -4,6 +4,8 @@
 #[cfg(test)]
 mod hostile_rows;
 #[cfg(test)]
+mod info_rows;
+#[cfg(test)]
 mod rays_rows;
 #[cfg(test)]
 mod running;

@@ -1,0 +1,12 @@
+use Rattle.std.proofs.Common.{◌≡◌, ◌<◌, ℕ, false, length}
+use Rattle.std.specs.List.{slice_index_or}
+use Rattle.table_definitions.specs.Table.{glue}
+use Rattle.skeleton_definitions.specs.Links.{is_first_side}
+use Rattle.vertex_links.specs.Tallies.{side_at}
+use Rattle.vertex_links.proofs.sides.first_sides.Given as goal
+
+abbrev pub invariant-loop-place : goal.invariant-loop-place
+invariant-loop-place l = record {
+  size : length l.passes.items ≡ l.place;
+  passes : (j : ℕ) → j < l.place → slice_index_or l.passes.items j false ≡ is_first_side (side_at j) (glue l.table (side_at j));
+}

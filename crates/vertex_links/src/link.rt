@@ -1,0 +1,197 @@
+//! Links, and their kinds.
+
+ghost use Rattle.std.specs.Prelude.{◌≡◌, ◌==◌, ◌↔◌, IsTrue, ◌*◌, ◌/◌, ◌<◌, ℕ, length, slice_index, IfOk};
+ghost use Rattle.skeleton_definitions.specs.Links as definition;
+ghost use Rattle.skeleton_definitions.specs.Skeleton.{IsSkeleton};
+ghost use Rattle.skeleton.specs.Numberings.{AreClassesOf};
+ghost use Rattle.vertex_links.specs.Shown.{kind_shown, IsOfItsKind, CountsCorners, AreLinks};
+
+use crate::sides::{first_sides, least_corners, open_sides, owners, turned_vertices};
+use crate::tally::tally;
+use no_memory::NoMemory;
+use skeleton::{Kind, Numbering, Skeleton, classes_of};
+use std::alloc::Global;
+
+/// What a link is.
+#[derive(Clone, Copy, Debug, PartialEq, Eq)]
+pub enum LinkKind {
+    /// Closed, of Euler characteristic 2.
+    Sphere,
+    /// Not closed, of Euler characteristic 1.
+    Disc,
+    /// Closed and orientable, of Euler characteristic 0.
+    Torus,
+    /// Closed and not orientable, of Euler characteristic 0.
+    Klein,
+    Other,
+}
+
+/// The link of a vertex class: a triangle for each member.
+#[derive(Clone, Copy, Debug, PartialEq, Eq)]
+pub struct Link {
+    pub triangles: u32,
+    pub edges: u32,
+    pub vertices: u32,
+    /// The Euler characteristic: vertices less edges plus triangles.
+    pub euler: i64,
+    /// No side of a triangle lies in a boundary face.
+    pub closed: bool,
+    pub orientable: bool,
+    pub kind: LinkKind,
+}
+
+fn kind_of(closed: bool, euler: i64, orientable: bool) -> LinkKind
+    ensures { kind_shown result ≡ definition.kind_of closed euler orientable }
+{
+    match (closed, euler, orientable) {
+        (true, 2, _) => LinkKind::Sphere,
+        (true, 0, true) => LinkKind::Torus,
+        (true, 0, false) => LinkKind::Klein,
+        (false, 1, _) => LinkKind::Disc,
+        _ => LinkKind::Other,
+    }
+}
+
+/// A link with its Euler characteristic and its kind.
+fn link_of(triangles: u32, edges: u32, vertices: u32, closed: bool, orientable: bool) -> Link
+    ensures triangles { result.triangles ≡ triangles }
+    ensures edges { result.edges ≡ edges }
+    ensures vertices { result.vertices ≡ vertices }
+    ensures closed { result.closed ≡ closed }
+    ensures orientable { result.orientable ≡ orientable }
+    ensures kind { IsOfItsKind result }
+{
+    let euler = (vertices as i64 + triangles as i64) - edges as i64;
+    Link {
+        triangles,
+        edges,
+        vertices,
+        euler,
+        closed,
+        orientable,
+        kind: kind_of(closed, euler, orientable),
+    }
+}
+
+/// How many members of each class are joined to themselves with the other sign: none exactly where the link is
+/// orientable.
+fn turned_tally(alloc: Global, skeleton: &Skeleton) -> Result<Vec<u32>, NoMemory>
+    requires { IsSkeleton skeleton.now }
+    ensures size { IfOk result (λ t. length t.items ≡ skeleton.now.vertices.count) }
+    ensures orientable { IfOk result (λ t. (c : ℕ) → c < skeleton.now.vertices.count → IsTrue (slice_index t.items c == 0) ↔ definition.IsOrientableLink skeleton.now.rows skeleton.now.vertices.classes c) }
+{
+    let table = skeleton.table();
+    let members = owners(alloc, skeleton, 1)?;
+    let signs = classes_of(alloc, table, Kind::VertexSigns)?;
+    let passes = turned_vertices(alloc, &signs.classes, 4 * table.len())?;
+    let tallies = tally(alloc, &passes, &members, skeleton.vertices() as usize)?;
+    Ok(tallies)
+}
+
+/// What is counted for each vertex class.
+#[derive(Drop)]
+struct Tallies {
+    /// The sides of its triangles, two glued ones counted once.
+    sides: Vec<u32>,
+    /// The classes of the corners of its triangles.
+    corners: Vec<u32>,
+    /// The sides in boundary faces.
+    unglued: Vec<u32>,
+    /// The members that are joined to themselves with the other sign.
+    turned: Vec<u32>,
+    directions: Numbering,
+}
+
+/// How many edges the link of each class has.
+fn edge_tally(alloc: Global, skeleton: &Skeleton, owners: &[u32]) -> Result<Vec<u32>, NoMemory>
+    requires skeleton { IsSkeleton skeleton.now }
+    requires one_each { length owners.now ≡ 12 * length skeleton.now.rows }
+    requires owned { (j : ℕ) → j < 12 * length skeleton.now.rows → slice_index owners.now j ≡ slice_index skeleton.now.vertices.classes (j / 3) }
+    ensures size { IfOk result (λ t. length t.items ≡ skeleton.now.vertices.count) }
+    ensures edges { IfOk result (λ t. (c : ℕ) → c < skeleton.now.vertices.count → slice_index t.items c ≡ definition.link_edges skeleton.now.rows skeleton.now.vertices.classes c) }
+{
+    let passes = first_sides(alloc, skeleton.table())?;
+    let tallies = tally(alloc, &passes, owners, skeleton.vertices() as usize)?;
+    Ok(tallies)
+}
+
+/// How many sides of triangles of each class lie in boundary faces.
+fn open_tally(alloc: Global, skeleton: &Skeleton, owners: &[u32]) -> Result<Vec<u32>, NoMemory>
+    requires skeleton { IsSkeleton skeleton.now }
+    requires one_each { length owners.now ≡ 12 * length skeleton.now.rows }
+    requires owned { (j : ℕ) → j < 12 * length skeleton.now.rows → slice_index owners.now j ≡ slice_index skeleton.now.vertices.classes (j / 3) }
+    ensures size { IfOk result (λ t. length t.items ≡ skeleton.now.vertices.count) }
+    ensures closed { IfOk result (λ t. (c : ℕ) → c < skeleton.now.vertices.count → (slice_index t.items c == 0) ≡ definition.is_closed_link skeleton.now.rows skeleton.now.vertices.classes c) }
+{
+    let passes = open_sides(alloc, skeleton.table())?;
+    let tallies = tally(alloc, &passes, owners, skeleton.vertices() as usize)?;
+    Ok(tallies)
+}
+
+/// How many vertices the link of each class has.
+fn corner_tally(
+    alloc: Global,
+    skeleton: &Skeleton,
+    owners: &[u32],
+    directions: &Numbering,
+) -> Result<Vec<u32>, NoMemory>
+    requires skeleton { IsSkeleton skeleton.now }
+    requires directions { AreClassesOf Kind.Directions skeleton.now.rows directions.now.classes.items directions.now.firsts.items }
+    requires one_each { length owners.now ≡ 12 * length skeleton.now.rows }
+    requires owned { (j : ℕ) → j < 12 * length skeleton.now.rows → slice_index owners.now j ≡ slice_index skeleton.now.vertices.classes (j / 3) }
+    ensures size { IfOk result (λ t. length t.items ≡ skeleton.now.vertices.count) }
+    ensures vertices { IfOk result (λ t. CountsCorners skeleton.now directions.now.classes.items t.items) }
+{
+    let passes = least_corners(alloc, &directions.classes, &directions.firsts)?;
+    let tallies = tally(alloc, &passes, owners, skeleton.vertices() as usize)?;
+    Ok(tallies)
+}
+
+fn counted(alloc: Global, skeleton: &Skeleton) -> Result<Tallies, NoMemory>
+    requires { IsSkeleton skeleton.now }
+    ensures sides { IfOk result (λ t. length t.sides.items ≡ skeleton.now.vertices.count) }
+    ensures corners { IfOk result (λ t. length t.corners.items ≡ skeleton.now.vertices.count) }
+    ensures unglued { IfOk result (λ t. length t.unglued.items ≡ skeleton.now.vertices.count) }
+    ensures turned { IfOk result (λ t. length t.turned.items ≡ skeleton.now.vertices.count) }
+    ensures edges { IfOk result (λ t. (c : ℕ) → c < skeleton.now.vertices.count → slice_index t.sides.items c ≡ definition.link_edges skeleton.now.rows skeleton.now.vertices.classes c) }
+    ensures closed { IfOk result (λ t. (c : ℕ) → c < skeleton.now.vertices.count → (slice_index t.unglued.items c == 0) ≡ definition.is_closed_link skeleton.now.rows skeleton.now.vertices.classes c) }
+    ensures directions { IfOk result (λ t. AreClassesOf Kind.Directions skeleton.now.rows t.directions.classes.items t.directions.firsts.items) }
+    ensures vertices { IfOk result (λ t. CountsCorners skeleton.now t.directions.classes.items t.corners.items) }
+    ensures orientable { IfOk result (λ t. (c : ℕ) → c < skeleton.now.vertices.count → IsTrue (slice_index t.turned.items c == 0) ↔ definition.IsOrientableLink skeleton.now.rows skeleton.now.vertices.classes c) }
+{
+    let table = skeleton.table();
+    let owners_of_corners = owners(alloc, skeleton, 3)?;
+    let sides = edge_tally(alloc, skeleton, &owners_of_corners)?;
+    let unglued = open_tally(alloc, skeleton, &owners_of_corners)?;
+    let directions = classes_of(alloc, table, Kind::Directions)?;
+    let corners = corner_tally(alloc, skeleton, &owners_of_corners, &directions)?;
+    let turned = turned_tally(alloc, skeleton)?;
+    Ok(Tallies {
+        sides,
+        corners,
+        unglued,
+        turned,
+        directions,
+    })
+}
+
+/// The links of the vertex classes, ascending.
+pub fn links(alloc: Global, skeleton: &Skeleton) -> Result<Vec<Link>, NoMemory>
+    ensures one_each { IfOk result (λ links. length links.items ≡ skeleton.now.vertices.count) }
+    ensures links { IfOk result (λ links. AreLinks skeleton.now (length links.items) links.items) }
+{
+    let count = skeleton.vertices();
+    let tallies = counted(alloc, skeleton)?;
+    let mut links = Vec::with_capacity(alloc, count as usize)?;
+    for class in 0..count {
+        let place = class as usize;
+        links.push(link_of(
+            skeleton.vertex_degree(class),
+            tallies.sides[place],
+            tallies.corners[place],
+            tallies.unglued[place] == 0,
+            tallies.turned[place] == 0,
+        ))?;
+    }
+    Ok(links)
+}

@@ -1,0 +1,80 @@
+-- The lines of classes, one more at a time.
+use Rattle.std.proofs.Common.{◌≡◌, ℕ, zero, suc, ◌+◌, ◌<◌, ◌≤◌, List, [], ◌∷◌, ◌++◌, length, Bool, false, refl, sym, ap, ◌∙◌, subst, add-one, append_assoc, append-nil, length-append, arith, ◌⊎◌, inl, inr, Option, Some, None, true}
+use Rattle.std.specs.Prelude.{IsTrue, is_some, codes, ◌↔◌}
+use Rattle.std.specs.List.{slice_index_or}
+use Rattle.skeleton_definitions.specs.Links.{Link}
+use Rattle.outcome_definitions.specs.Information.{classes_text, counted, told, edge_line, vertex_line, AreValid, Information, IsInformation, information_text, IsInformationAnswer}
+use Rattle.outcome_definitions.specs.Outcomes.{Outcome}
+use Rattle.outcome_definitions.specs.declared.Status.TheVariants.{Done}
+use Rattle.table_definitions.specs.Table.{Row}
+use Rattle.skeleton_definitions.specs.Orientation.{IsOrientable}
+use Rattle.skeleton_definitions.specs.Skeleton.{Skeleton, IsValidClass, IsOrientation}
+use Rattle.std.specs.Option.{option_copied}
+use Rattle.std.proofs.lemmas.Bool.{cases_lt}
+use Rattle.std.proofs.Math.ListN.{get_or-append}
+use Rattle.std.proofs.Math.Seq.{get_or-append_seam}
+use denote.Ref.{Bor}
+
+last_or_earlier : (c n : ℕ) → c < n + 1 → (c ≡ n) ⊎ (c < n)
+last_or_earlier c n h = elim (cases_lt c n) [ inl less ↦ inr less | inr more ↦ inl (omega arith) ]
+
+pub lines_begin : (text : ℕ → List ℕ) (front : List ℕ) → front ≡ front ++ classes_text text 0
+unfolding classes_text
+lines_begin text front = sym (append-nil front)
+
+one_more : (text : ℕ → List ℕ) (n : ℕ) → classes_text text (n + 1) ≡ classes_text text n ++ text n
+unfolding classes_text
+one_more text n = ap (classes_text text) (add-one n)
+
+pub lines_more : (text : ℕ → List ℕ) (n : ℕ) (front before now line : List ℕ) → now ≡ before ++ line → before ≡ front ++ classes_text text n → line ≡ text n
+    → now ≡ front ++ classes_text text (n + 1)
+lines_more text n front before now line grown so_far same =
+    grown ∙ ap (λ (b : List ℕ). b ++ line) so_far ∙ ap (λ (l : List ℕ). (front ++ classes_text text n) ++ l) same
+    ∙ append_assoc front (classes_text text n) (text n) ∙ ap (λ (r : List ℕ). front ++ r) (sym (one_more text n))
+
+pub edge_same : (c m n : ℕ) (p q v : Bool) → m ≡ n → p ≡ q → edge_line c m p v ≡ edge_line c n q v
+edge_same c m n p q v e f = ap (λ (d : ℕ). edge_line c d p v) e ∙ ap (λ (b : Bool). edge_line c n b v) f
+
+pub vertex_same : (c m n : ℕ) (l : Link) → m ≡ n → vertex_line c m l ≡ vertex_line c n l
+vertex_same c m n l e = ap (λ (d : ℕ). vertex_line c d l) e
+
+-- one more class whose validity is told
+abbrev Told : Skeleton → ℕ → Bool → Type 0
+Told s c v = IsTrue v ↔ IsValidClass s c
+
+told_at : (s : Skeleton) (n : ℕ) (before now : List Bool) (b : Bool) → now ≡ before ++ b ∷ [] → Told s n b → (length before ≡ n) × AreValid s n before
+    → (c : ℕ) → (c ≡ n) ⊎ (c < n) → Told s c (slice_index_or now c false)
+told_at s n before now b grown same told c (inl e) =
+    let last : slice_index_or now c false ≡ b = ap (λ (xs : List Bool). slice_index_or xs c false) grown ∙ ap (λ (k : ℕ). slice_index_or (before ++ b ∷ []) k false) (e ∙ sym told.0) ∙ get_or-append_seam before b [] false in
+    subst (Told s c) (sym last) (subst (λ (k : ℕ). Told s k b) (sym e) same)
+told_at s n before now b grown same told c (inr less) =
+    let inside : c < length before = subst (λ (k : ℕ). c < k) (sym told.0) less in
+    let kept : slice_index_or now c false ≡ slice_index_or before c false = ap (λ (xs : List Bool). slice_index_or xs c false) grown ∙ get_or-append before (b ∷ []) false c inside in
+    subst (Told s c) (sym kept) (told.1 c less)
+
+pub valid_more : (s : Skeleton) (n : ℕ) (before now : List Bool) (b : Bool) → now ≡ before ++ b ∷ [] → Told s n b → (length before ≡ n) × AreValid s n before
+    → (length now ≡ n + 1) × AreValid s (n + 1) now
+valid_more s n before now b grown same told =
+    let size : length (before ++ b ∷ []) ≡ length before + 1 = length-append before (b ∷ []) in
+    (ap length grown ∙ size ∙ ap (λ (k : ℕ). k + 1) told.0, λ c less. told_at s n before now b grown same told c (last_or_earlier c n less))
+
+-- the presence of signs tells whether there are any
+pub signs_tell : (rows : List Row) (r : Option (Bor (List Bool))) (b : Bool) → b ≡ is_some r → IsOrientation rows (option_copied r) → IsTrue b ↔ IsOrientable rows
+signs_tell rows None b e h = (λ t. absurd (let f : false ≡ true = sym e ∙ t in cc), λ p. absurd (h p))
+signs_tell rows (Some signs) b e h = (λ t. (signs.now, h.0), λ p. e)
+
+pub informed : (rows : List Row) (i : Information) (o : Outcome) (text : List ℕ) → IsInformation rows i → o ≡ record { status = Done; text = text } → text ≡ information_text i → IsInformationAnswer rows o
+informed rows i o text h same line = (i, h, same ∙ ap (λ (t : List ℕ). record { status = Done; text = t }) line)
+
+four_pieces : (t t₁ t₂ t₃ t₄ a b c d : List ℕ) → t₁ ≡ t ++ a → t₂ ≡ t₁ ++ b → t₃ ≡ t₂ ++ c → t₄ ≡ t₃ ++ d → t₄ ≡ t ++ (((a ++ b) ++ c) ++ d)
+four_pieces t t₁ t₂ t₃ t₄ a b c d e f g h =
+    let two : t₂ ≡ t ++ (a ++ b) = f ∙ ap (λ (u : List ℕ). u ++ b) e ∙ append_assoc t a b in
+    let three : t₃ ≡ t ++ ((a ++ b) ++ c) = g ∙ ap (λ (u : List ℕ). u ++ c) two ∙ append_assoc t (a ++ b) c in
+    h ∙ ap (λ (u : List ℕ). u ++ d) three ∙ append_assoc t ((a ++ b) ++ c) d
+
+-- the lines of the whole table, one after the other
+pub flags_written : (t t₁ t₂ t₃ t₄ : List ℕ) (n m : ℕ) (x y z w : Bool) → t₁ ≡ t ++ counted (codes "tetrahedra ") n → t₂ ≡ t₁ ++ told (codes "connected ") x
+    → t₃ ≡ t₂ ++ told (codes "orientable ") y → t₄ ≡ t₃ ++ told (codes "closed ") z → n ≡ m → z ≡ w
+    → t₄ ≡ t ++ (counted (codes "tetrahedra ") m ++ told (codes "connected ") x ++ told (codes "orientable ") y ++ told (codes "closed ") w)
+flags_written t t₁ t₂ t₃ t₄ n m x y z w e f g h size same =
+    four_pieces t t₁ t₂ t₃ t₄ _ _ _ _ (e ∙ ap (λ (k : ℕ). t ++ counted (codes "tetrahedra ") k) size) f g (h ∙ ap (λ (b : Bool). t₃ ++ told (codes "closed ") b) same)
