@@ -48,4 +48,5 @@ def main():
         print(f"{name}: {len(text)} bytes, {lines} verdicts, status {done.returncode}, {seconds:.2f} s, at most {peak} MB")
 
 
-main()
+if __name__ == "__main__":
+    main()

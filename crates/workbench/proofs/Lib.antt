@@ -6,3 +6,4 @@ pub mod Accepted
 pub mod RunClauses
 pub mod Answering
 pub mod ClassLines
+pub mod Headlines

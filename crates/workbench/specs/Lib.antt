@@ -6,3 +6,4 @@ pub mod Codes
 pub mod Verdicts
 pub mod Cones
 pub mod Requests
+pub mod Prints

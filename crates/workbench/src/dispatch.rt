@@ -7,6 +7,10 @@ ghost use Rattle.outcome_definitions.specs.Outcomes.{IsOwnStatus};
 ghost use Rattle.outcome_definitions.specs.Answers.{IsOutcome, IsAnswerTo, most_bytes};
 ghost use Rattle.command_words.specs.Requests as words;
 ghost use Rattle.command_definitions.specs.Words.{accepted_request};
+ghost use Rattle.command_definitions.specs.Requests as requests;
+ghost use Rattle.command_definitions.specs.Requests.{Order as OrderName};
+ghost use Rattle.surface_definitions.specs.Coordinates.{Coordinates};
+ghost use Rattle.workbench.specs.Prints.{PrintsSurfaces, PrintsRays, PrintsVerdicts};
 ghost use Rattle.workbench.specs.Requests.{IsBuilt};
 ghost use Rattle.workbench.specs.Runs.{Answers, IsAnswered, IsCalm, IsWithin, IsResponse, IsWithoutMemory, IsCutOff, IsDue, IsDelivered};
 
@@ -100,6 +104,22 @@ pub fn run<S: Source, K: Sink>(alloc: Global, words: &Words, source: &mut S, sin
     ensures outcome { IsAnswered result → IfSome (S.left source.old) (λ bytes. (o : outcomes.Outcome)
         × IsOutcome words.now bytes o × (result ≡ o.status) × Grows (K.held sink.old) (K.held sink.new) o.text) }
     ensures end { result ≡ Status.Done → IsEnded (S.left source.new) }
+
+    // For every input that spells a gluing table, `surfaces` prints exactly the primitive integer vectors that lie on
+    // extreme rays of its solution cone and meet the quadrilateral condition, each once, in lexicographic order.
+    ensures surfaces { result ≡ Status.Done → (coords : Coordinates) → (order : OrderName) → (most : ℕ)
+        → accepted_request words.now ≡ Some (requests.surfaces coords order most)
+        → IfSome (S.left source.old) (λ bytes. PrintsSurfaces coords bytes (K.held sink.old) (K.held sink.new)) }
+
+    // `rays` prints exactly the primitive extreme rays of a cone, and `verify` a verdict for each vector.
+    ensures rays { result ≡ Status.Done → (order : OrderName) → (most : ℕ) → accepted_request words.now ≡ Some (requests.rays order most)
+        → IfSome (S.left source.old) (λ bytes. PrintsRays bytes (K.held sink.old) (K.held sink.new)) }
+    ensures verify { result ≡ Status.Done → (coords : Coordinates) → accepted_request words.now ≡ Some (requests.verify coords)
+        → IfSome (S.left source.old) (λ bytes. PrintsVerdicts coords bytes (K.held sink.old) (K.held sink.new)) }
+
+    // Where neither count rose, the words and the input are answered, or memory ran out.
+    ensures answered { S.faults source.old < 2 ^ 64 - 1 → K.faults sink.old < 2 ^ 64 - 1 → S.faults source.new ≡ S.faults source.old
+        → K.faults sink.new ≡ K.faults sink.old → IsAnswered result ⊎ (result ≡ Status.NoMemory) }
 {
     match read_words(alloc, words) {
         Ok(request) => match respond(alloc, request, source) {

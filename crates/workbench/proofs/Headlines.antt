@@ -1,0 +1,85 @@
+-- What a run that is done has printed follows from the outcome of the words and of the input.
+use Rattle.std.proofs.Common.{◌≡◌, ℕ, List, length, Bool, true, false, Option, Some, None, Result, Ok, Err, ◌⊎◌, inl, inr, refl, sym, ◌∙◌, ap, subst}
+use Rattle.std.specs.Prelude.{IfSome, codes, nat_lt}
+use Rattle.std.specs.Bool.{MatchBool}
+use Rattle.bench_io.specs.Causes.{Grows}
+use Rattle.signature_definitions.specs.SignatureText.{InputFault}
+use Rattle.surface_definitions.specs.Coordinates.{Coordinates}
+use Rattle.document_definitions.specs.Documents.{worded, table_document, vectors_document, cone_document}
+use Rattle.command_definitions.specs.Requests.{Request, verify, surfaces, rays, Order}
+use Rattle.command_definitions.specs.Words.{accepted_request}
+use Rattle.outcome_definitions.specs.declared.Status.{Status}
+use Rattle.outcome_definitions.specs.declared.Status.TheVariants.{Done, Input, Large}
+use Rattle.outcome_definitions.specs.Outcomes.{Outcome, too_long_outcome, fault_outcome, IsReadOutcome}
+use Rattle.outcome_definitions.specs.Enumerations.{IsEnumerationAnswer, surface_enumeration, ray_enumeration, list_outcome, large_outcome}
+use Rattle.outcome_definitions.specs.Answers.{IsOutcome, IsOutcomeOf, IsRequestOutcome, IsAnswerTo, verify_outcome, most_bytes}
+use Rattle.workbench.specs.Runs.{IsAnswered}
+use Rattle.workbench.specs.Prints.{PrintsSurfaces, PrintsRays, PrintsVerdicts}
+
+-- an outcome that is done is no other
+apart : {P : Type 0} (o p : Outcome) → o.status ≡ Done → o ≡ p → (p.status ≡ Done → P) → P
+apart o p done same f = f (sym (ap (λ (q : Outcome). q.status) same) ∙ done)
+
+not_input : {P : Type 0} → Input ≡ Done → P
+not_input e = absurd cc
+
+not_large : {P : Type 0} → Large ≡ Done → P
+not_large e = absurd cc
+
+not_too_long : (b : Bool) (A : Type 0) (o : Outcome) → o.status ≡ Done → MatchBool b (o ≡ too_long_outcome) A → A
+not_too_long true A o done h = apart o too_long_outcome done h not_input
+not_too_long false A o done h = h
+
+was_read : {A : Type 0} (read : Result A InputFault) (P : A → Outcome → Type 0) (o : Outcome) → o.status ≡ Done → IsReadOutcome read P o → (a : A) × (read ≡ Ok a) × P a o
+was_read (Ok a) P o done h = (a, refl, h)
+was_read (Err fault) P o done h = apart o (fault_outcome fault) done h not_input
+
+module _ (words : List (List ℕ)) (bytes : List ℕ) (o : Outcome) (held grown : Option (List ℕ)) (outcome : IsOutcome words bytes o) (done : o.status ≡ Done) (grows : Grows held grown o.text) where
+  answered : (r : Request) → accepted_request words ≡ Some r → IsAnswerTo r bytes o
+  answered r e = not_too_long (nat_lt most_bytes (length bytes)) (IsAnswerTo r bytes o) o done (subst (λ (asked : Option Request). IsOutcomeOf asked bytes o) e outcome)
+
+  printed : (p : Outcome) → o ≡ p → Grows held grown p.text
+  printed p same = subst (λ (q : Outcome). Grows held grown q.text) same grows
+
+  pub prints_surfaces : (coords : Coordinates) (order : Order) (most : ℕ) → accepted_request words ≡ Some (surfaces coords order most) → PrintsSurfaces coords bytes held grown
+  prints_surfaces coords order most e =
+      let d = was_read (table_document bytes) (λ rows. IsEnumerationAnswer (codes "surfaces") (surface_enumeration coords order most rows)) o done (answered (surfaces coords order most) e) in
+      elim d.2 [
+        | inl h ↦ record { rows = d.0; spelled = d.1; list = h.1; surfaces = (h.2).surfaces; printed = printed (list_outcome (codes "surfaces") h.1) h.3 }
+        | inr h ↦ apart o (large_outcome h.0 h.1) done h.3 not_large
+      ]
+
+  pub prints_rays : (order : Order) (most : ℕ) → accepted_request words ≡ Some (rays order most) → PrintsRays bytes held grown
+  prints_rays order most e =
+      let d = was_read (worded (cone_document bytes)) (λ cone. IsEnumerationAnswer (codes "rays") (ray_enumeration order most cone)) o done (answered (rays order most) e) in
+      elim d.2 [
+        | inl h ↦ record { cone = d.0; spelled = d.1; list = h.1; rays = (h.2).surfaces; printed = printed (list_outcome (codes "rays") h.1) h.3 }
+        | inr h ↦ apart o (large_outcome h.0 h.1) done h.3 not_large
+      ]
+
+  pub prints_verdicts : (coords : Coordinates) → accepted_request words ≡ Some (verify coords) → PrintsVerdicts coords bytes held grown
+  prints_verdicts coords e =
+      let d = was_read (vectors_document bytes) (λ d p. p ≡ verify_outcome coords d) o done (answered (verify coords) e) in
+      record { rows = (d.0).0; vectors = (d.0).1; spelled = d.1; printed = printed (verify_outcome coords d.0) d.2 }
+
+-- the same where the source tells its bytes
+abbrev Tells : List (List ℕ) → Status → Option (List ℕ) → Option (List ℕ) → List ℕ → Type 0
+Tells words status held grown bytes = (o : Outcome) × IsOutcome words bytes o × (status ≡ o.status) × Grows held grown o.text
+
+pub told_surfaces : (words : List (List ℕ)) (status : Status) (held grown left : Option (List ℕ)) → status ≡ Done → IfSome left (Tells words status held grown)
+    → (coords : Coordinates) (order : Order) (most : ℕ) → accepted_request words ≡ Some (surfaces coords order most) → IfSome left (λ bytes. PrintsSurfaces coords bytes held grown)
+told_surfaces words status held grown None done h coords order most e = tt
+told_surfaces words status held grown (Some bytes) done h coords order most e = prints_surfaces words bytes h.0 held grown h.1 (sym h.2 ∙ done) h.3 coords order most e
+
+pub told_rays : (words : List (List ℕ)) (status : Status) (held grown left : Option (List ℕ)) → status ≡ Done → IfSome left (Tells words status held grown)
+    → (order : Order) (most : ℕ) → accepted_request words ≡ Some (rays order most) → IfSome left (λ bytes. PrintsRays bytes held grown)
+told_rays words status held grown None done h order most e = tt
+told_rays words status held grown (Some bytes) done h order most e = prints_rays words bytes h.0 held grown h.1 (sym h.2 ∙ done) h.3 order most e
+
+pub told_verdicts : (words : List (List ℕ)) (status : Status) (held grown left : Option (List ℕ)) → status ≡ Done → IfSome left (Tells words status held grown)
+    → (coords : Coordinates) → accepted_request words ≡ Some (verify coords) → IfSome left (λ bytes. PrintsVerdicts coords bytes held grown)
+told_verdicts words status held grown None done h coords e = tt
+told_verdicts words status held grown (Some bytes) done h coords e = prints_verdicts words bytes h.0 held grown h.1 (sym h.2 ∙ done) h.3 coords e
+
+pub done_answered : (status : Status) → status ≡ Done → IsAnswered status
+done_answered status done = subst IsAnswered (sym done) tt
