@@ -2,7 +2,6 @@
 use Rattle.std.proofs.Common.{◌≡◌, ◌≢◌, ℕ, Bool, true, false, List, length, sym, ◌∙◌}
 use Rattle.std.specs.Prelude.{Option, Some, None, Result, Ok, Err, nat_lt, codes}
 use Rattle.std.specs.Bool.{MatchBool}
-use Rattle.table_definitions.specs.Table.{Row}
 use Rattle.double_description.specs.declared.picker.Order.TheVariants.{Free}
 use Rattle.signature_definitions.specs.SignatureText.{InputFault}
 use Rattle.document_definitions.specs.Documents.{worded, table_document, vectors_document, cone_document}

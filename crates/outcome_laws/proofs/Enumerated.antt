@@ -1,5 +1,5 @@
 -- An enumeration in a named order has one answer: one list, or one ray or pair where a number passes the limit, and not both.
-use Rattle.std.proofs.Common.{◌≡◌, ◌≢◌, ℕ, ◌+◌, ◌<◌, ◌≤◌, inl, inr, ⊎_elim, List, [], Contains, length, take, get_or, slice_index_or, zero-add, subst, sym, ap, ap₂, ◌∙◌, arith}
+use Rattle.std.proofs.Common.{◌≡◌, ◌≢◌, ℕ, ◌<◌, ◌≤◌, inl, inr, ⊎_elim, List, [], Contains, length, get_or, slice_index_or, zero-add, subst, sym, ap, ap₂, ◌∙◌, arith}
 use Rattle.std.specs.List.{range_with_len}
 use Rattle.std.proofs.lemmas.Bool.{cases_lt}
 use Rattle.std.proofs.lemmas.List.{take_all, take-map}
@@ -32,7 +32,7 @@ one_of_longer : (e : Enumeration) (taken others : List ℕ) (one other : Named) 
     length taken ≤ length others → (taken ≡ others) × (one ≡ other)
 one_of_longer e taken others one other some h g less =
     let both = one_is_named_lem e.limit e.system.columns (in_order e.system.rows others) e.pairs h.step g.step one other
-        (large_in_longer e taken others one some h g.named less) g.large in
+    (large_in_longer e taken others one some h g.named less) g.large in
     let a = h.count in
     let b = g.count in
     let same = both.0 in (

@@ -1,15 +1,15 @@
 -- What is told of a table is one text.
-use Rattle.std.proofs.Common.{◌≡◌, ℕ, zero, suc, ◌+◌, ◌*◌, ◌<◌, ◌≤◌, ◌↔◌, Bool, true, false, List, [], ◌++◌, length, get_or, slice_index_or, subst, sym, ap, ap₂, refl, ◌∙◌, arith}
-use Rattle.std.specs.Prelude.{ℤ, IsTrue}
+use Rattle.std.proofs.Common.{◌≡◌, ℕ, zero, suc, ◌*◌, ◌<◌, ◌↔◌, Bool, true, false, List, ◌++◌, length, slice_index_or, subst, sym, ap, ap₂, refl, ◌∙◌, arith}
+use Rattle.std.specs.Prelude.{IsTrue}
 use Rattle.std.proofs.lemmas.List.{get_or_default}
 use Rattle.table_definitions.specs.Table.{Row}
-use Rattle.table_definitions.specs.Classes.{IsNumbering, degree}
+use Rattle.table_definitions.specs.Classes.{degree}
 use Rattle.table_definitions.specs.Places.{IsConnected, is_boundary_edge}
 use Rattle.skeleton_definitions.specs.Orientation.{IsOrientable}
-use Rattle.skeleton_definitions.specs.Links.{Link, IsLink, SameDirected, euler_of, kind_of, IsOrientableLink, link_vertices}
+use Rattle.skeleton_definitions.specs.Links.{Link, IsLink, SameDirected, euler_of, kind_of, IsOrientableLink}
 use Rattle.skeleton_definitions.specs.Skeleton.{Skeleton, IsValidClass}
 use Rattle.vertex_links.specs.declared.link.Link as found
-use Rattle.vertex_links.specs.Shown.{link_shown, AreLinks, AreLinksUpTo}
+use Rattle.vertex_links.specs.Shown.{link_shown, AreLinks}
 use Rattle.outcome_definitions.specs.declared.Status.TheVariants.{Done}
 use Rattle.outcome_definitions.specs.Outcomes.{Outcome}
 use Rattle.outcome_definitions.specs.Information.{Information, IsInformation, IsInformationAnswer, no_link, AreValid, vertex_line, vertex_text, edge_line, edge_text, classes_text, flags_text, counts_text, information_text}
@@ -36,16 +36,22 @@ one_link rows classes directions c l m h k = λ i. record {
   where
     triangles : l.triangles ≡ m.triangles
     triangles = h.triangles ∙ sym k.triangles
+
     edges : l.edges ≡ m.edges
     edges = h.edges ∙ sym k.edges
+
     vertices : l.vertices ≡ m.vertices
     vertices = h.vertices ∙ sym k.vertices
+
     euler : l.euler ≡ m.euler
     euler = h.euler ∙ (λ i. euler_of (vertices i) (edges i) (triangles i)) ∙ sym k.euler
+
     closed : l.closed ≡ m.closed
     closed = h.closed ∙ sym k.closed
+
     orientable : l.orientable ≡ m.orientable
     orientable = same_test (IsOrientableLink rows classes c) l.orientable m.orientable h.orientable k.orientable
+
     kind : l.kind ≡ m.kind
     kind = h.kind ∙ (λ i. kind_of (closed i) (euler i) (orientable i)) ∙ sym k.kind
 
@@ -59,8 +65,10 @@ links_agree s n m links others h k c l r = one_link s.rows s.vertices.classes k.
   where
     one : found.Link
     one = slice_index_or links c no_link
+
     other : found.Link
     other = slice_index_or others c no_link
+
     same : h.0 ≡ k.0
     same = one_classes (12 * length s.rows) (SameDirected s.rows) h.0 k.0 h.1 k.1 h.2 k.2
 
@@ -92,14 +100,18 @@ one_skeleton_text rows i j e h k = ap (λ (s : Skeleton). information_text (on s
   where
     moved : IsInformation rows (on j.skeleton i)
     moved = subst (λ (s : Skeleton). IsInformation rows (on s i)) e h
+
     flags : flags_text j.skeleton i.connected i.orientable ≡ flags_text j.skeleton j.connected j.orientable
     flags = ap₂ (flags_text j.skeleton)
         (same_test (IsConnected rows) i.connected j.connected h.connected k.connected)
         (same_test (IsOrientable rows) i.orientable j.orientable h.orientable k.orientable)
+
     vertices : classes_text (vertex_text j.skeleton i.links) j.skeleton.vertices.count ≡ classes_text (vertex_text j.skeleton j.links) j.skeleton.vertices.count
     vertices = vertices_agree j.skeleton i.links j.links moved.one_each k.one_each moved.links k.links
+
     edges : classes_text (edge_text j.skeleton i.valid) j.skeleton.edges.count ≡ classes_text (edge_text j.skeleton j.valid) j.skeleton.edges.count
     edges = edges_agree j.skeleton i.valid j.valid moved.valid k.valid
+
     same : information_text (on j.skeleton i) ≡ information_text j
     same = λ t. flags t ++ counts_text j.skeleton ++ vertices t ++ edges t
 

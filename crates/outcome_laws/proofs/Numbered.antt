@@ -1,5 +1,5 @@
 -- A skeleton of a table is one.
-use Rattle.std.proofs.Common.{◌≡◌, ℕ, ◌+◌, ◌*◌, ◌<◌, ◌≤◌, inl, inr, List, length, subst, sym, ap, ap₂, ◌∙◌, arith, ext_get_or}
+use Rattle.std.proofs.Common.{◌≡◌, ℕ, ◌*◌, ◌<◌, inl, inr, List, length, subst, sym, ap₂, ◌∙◌, arith, ext_get_or}
 use Rattle.std.specs.Prelude.{slice_index}
 use Rattle.std.proofs.lemmas.Bool.{cases_order}
 use Rattle.table_definitions.specs.Table.{Row}
@@ -7,7 +7,6 @@ use Rattle.table_definitions.specs.Classes.{IsNumbering}
 use Rattle.table_definitions.specs.Places.{SameVertex, SameEdge, SameFace}
 use Rattle.table_definitions.proofs.ClassLaws.{numberings_agree}
 use Rattle.skeleton_definitions.specs.Skeleton.{Numbering, Skeleton, IsSkeleton}
-
 
 pub one_classes : (n : ℕ) (Same : ℕ → ℕ → Type 0) (one other : List ℕ) (k m : ℕ) → IsNumbering n Same one k → IsNumbering n Same other m → one ≡ other
 one_classes n Same one other k m a b =
@@ -40,9 +39,11 @@ one_skeleton s t e a b = λ i. record { rows = e i; vertices = vertices i; edges
     vertices : s.vertices ≡ t.vertices
     vertices = one_numbering (4 * length t.rows) (SameVertex t.rows) s.vertices t.vertices
         (subst (λ (r : List Row). IsNumbering (4 * length r) (SameVertex r) s.vertices.classes s.vertices.count) e a.vertices) b.vertices
+
     edges : s.edges ≡ t.edges
     edges = one_numbering (6 * length t.rows) (SameEdge t.rows) s.edges t.edges
         (subst (λ (r : List Row). IsNumbering (6 * length r) (SameEdge r) s.edges.classes s.edges.count) e a.edges) b.edges
+
     faces : s.faces ≡ t.faces
     faces = one_numbering (4 * length t.rows) (SameFace t.rows) s.faces t.faces
         (subst (λ (r : List Row). IsNumbering (4 * length r) (SameFace r) s.faces.classes s.faces.count) e a.faces) b.faces
