@@ -1,0 +1,60 @@
+-- Words and an input are due one outcome.
+use Rattle.std.proofs.Common.{◌≡◌, ◌≢◌, ℕ, Bool, true, false, List, length, sym, ◌∙◌}
+use Rattle.std.specs.Prelude.{Option, Some, None, Result, Ok, Err, nat_lt, codes}
+use Rattle.std.specs.Bool.{MatchBool}
+use Rattle.double_description.specs.declared.picker.Order.TheVariants.{Free}
+use Rattle.signature_definitions.specs.SignatureText.{InputFault}
+use Rattle.document_definitions.specs.Documents.{worded, table_document, vectors_document, cone_document}
+use Rattle.command_definitions.specs.Requests.{Request, verify, info, surfaces, rays, describe, lift, crush, play, sig, same, group, check, descend, make, bulk, Order as OrderName, given, short, zeros}
+use Rattle.command_definitions.specs.Words.{accepted_request}
+use Rattle.outcome_definitions.specs.Outcomes.{Outcome, too_long_outcome, IsReadOutcome}
+use Rattle.outcome_definitions.specs.Enumerations.{IsEnumerationAnswer, order_of, ray_enumeration, surface_enumeration}
+use Rattle.outcome_definitions.specs.Information.{IsInformationAnswer}
+use Rattle.outcome_definitions.specs.Answers.{most_bytes, verify_outcome, IsAnswerTo, IsOutcomeOf, IsOutcome}
+use Rattle.outcome_laws.proofs.Enumerated.{one_enumeration}
+use Rattle.outcome_laws.proofs.Informed.{one_information}
+
+-- a word names an order
+named : (order : OrderName) → order_of order ≢ Free
+named given e = cc
+named short e = cc
+named zeros e = cc
+
+-- the outcome of a document is one where each value's answer is
+one_read : {A : Type 0} (document : Result A InputFault) (IsAnswer : A → Outcome → Type 0) (o p : Outcome) →
+    ((value : A) → IsAnswer value o → IsAnswer value p → o ≡ p) → IsReadOutcome document IsAnswer o → IsReadOutcome document IsAnswer p → o ≡ p
+one_read (Ok value) IsAnswer o p one h k = one value h k
+one_read (Err fault) IsAnswer o p one h k = h ∙ sym k
+
+one_answer : (request : Request) (bytes : List ℕ) (o p : Outcome) → IsAnswerTo request bytes o → IsAnswerTo request bytes p → o ≡ p
+one_answer (verify coords) bytes o p h k = one_read (vectors_document bytes) (λ d q. q ≡ verify_outcome coords d) o p (λ d a b. a ∙ sym b) h k
+one_answer info bytes o p h k = one_read (table_document bytes) IsInformationAnswer o p (λ rows. one_information rows o p) h k
+one_answer (surfaces coords order most) bytes o p h k =
+    one_read (table_document bytes) (λ rows. IsEnumerationAnswer (codes "surfaces") (surface_enumeration coords order most rows)) o p
+    (λ rows. one_enumeration (codes "surfaces") (surface_enumeration coords order most rows) o p (named order)) h k
+one_answer (rays order most) bytes o p h k =
+    one_read (worded (cone_document bytes)) (λ cone. IsEnumerationAnswer (codes "rays") (ray_enumeration order most cone)) o p
+    (λ cone. one_enumeration (codes "rays") (ray_enumeration order most cone) o p (named order)) h k
+one_answer (describe coords) bytes o p h k = absurd h
+one_answer lift bytes o p h k = absurd h
+one_answer crush bytes o p h k = absurd h
+one_answer play bytes o p h k = absurd h
+one_answer sig bytes o p h k = absurd h
+one_answer same bytes o p h k = absurd h
+one_answer group bytes o p h k = absurd h
+one_answer check bytes o p h k = absurd h
+one_answer descend bytes o p h k = absurd h
+one_answer (make seed moves) bytes o p h k = absurd h
+one_answer (bulk seed moves) bytes o p h k = absurd h
+
+one_by_length : (long : Bool) (request : Request) (bytes : List ℕ) (o p : Outcome) → MatchBool long (o ≡ too_long_outcome) (IsAnswerTo request bytes o) →
+    MatchBool long (p ≡ too_long_outcome) (IsAnswerTo request bytes p) → o ≡ p
+one_by_length true request bytes o p h k = h ∙ sym k
+one_by_length false request bytes o p h k = one_answer request bytes o p h k
+
+one_outcome : (request : Option Request) (bytes : List ℕ) (o p : Outcome) → IsOutcomeOf request bytes o → IsOutcomeOf request bytes p → o ≡ p
+one_outcome None bytes o p h k = h ∙ sym k
+one_outcome (Some request) bytes o p h k = one_by_length (nat_lt most_bytes (length bytes)) request bytes o p h k
+
+pub outcomes_agree_lem : (words : List (List ℕ)) (bytes : List ℕ) (o p : Outcome) → IsOutcome words bytes o → IsOutcome words bytes p → o ≡ p
+outcomes_agree_lem words bytes o p h k = one_outcome (accepted_request words) bytes o p h k

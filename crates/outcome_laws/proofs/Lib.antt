@@ -1,0 +1,5 @@
+pub mod Steps
+pub mod Enumerated
+pub mod Numbered
+pub mod Informed
+pub mod Agreement
