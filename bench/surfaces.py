@@ -53,7 +53,7 @@ def main():
     for tetrahedra in range(3, 13):
         for order in ("given", "short", "zeros"):
             measure(program, ["surfaces", "--order", order], f"layered loop of {tetrahedra}", layered_loop(tetrahedra))
-    for columns in (20, 30):
+    for columns in (20, 30, 40):
         for order in ("given", "zeros"):
             measure(program, ["rays", "--order", order], f"cone of {columns} columns", cone(columns, columns // 2, columns))
 
