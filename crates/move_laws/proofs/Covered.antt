@@ -67,14 +67,14 @@ pub record IsInner (rows : List Row) (m : Move) (y : Face) : Type 0 where
   pub apart : j ≢ l
   pub is : opposite (new_facet rows m j) l ≡ y
 
-in_place-same : (a b : ℕ) → in_place_of a b a ≡ b
+pub in_place-same : (a b : ℕ) → in_place_of a b a ≡ b
 in_place-same a b = let t : (a == a) ≡ true = grind arith in ap (λ (c : Bool). if c then b else a) t
 
 pub in_place-other : (a b l : ℕ) → l ≢ a → in_place_of a b l ≡ l
 in_place-other a b l d = let t : (l == a) ≡ false = grind arith in ap (λ (c : Bool). if c then b else l) t
 
 -- the vertex of facet i with label j goes to that of the new facet j with label i
-crossed : (rows : List Row) (m : Move) (i j : ℕ) (f : Facet) → IsFacet rows i f → j < 5 → j ≢ i → image (label_by_label f (new_facet rows m j)) (preimage f.labels j) ≡ preimage (ascending j) i
+pub crossed : (rows : List Row) (m : Move) (i j : ℕ) (f : Facet) → IsFacet rows i f → j < 5 → j ≢ i → image (label_by_label f (new_facet rows m j)) (preimage f.labels j) ≡ preimage (ascending j) i
 crossed rows m i j f is l apart =
     let at : HasVertex f.labels j = vertex_at i f.labels is.labels j l apart in
     image-map (λ l. preimage (ascending j) (in_place_of j f.missing l)) f.labels (preimage f.labels j) (rw (length-labels i f.labels is.labels) at.small)

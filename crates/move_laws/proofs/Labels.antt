@@ -21,10 +21,10 @@ pub record AreLabels (i : ℕ) (labels : List ℕ) : Type 0 where
   pub is : labels ≡ labels_by i perm
 
 -- a test of labels
-abbrev label_tests : (ℕ → List ℕ → Bool) → Bool
+abbrev pub label_tests : (ℕ → List ℕ → Bool) → Bool
 label_tests t = list_all (λ i. list_all (λ q. t i (labels_by i q)) words) (below 5)
 
-on_labels : (t : ℕ → List ℕ → Bool) → label_tests t ≡ true → (i : ℕ) (labels : List ℕ) → AreLabels i labels → t i labels ≡ true
+pub on_labels : (t : ℕ → List ℕ → Bool) → label_tests t ≡ true → (i : ℕ) (labels : List ℕ) → AreLabels i labels → t i labels ≡ true
 on_labels t all i labels h =
     let at : t i (labels_by i h.perm) ≡ true = by_words (λ q. t i (labels_by i q)) (list_all-below (λ k. list_all (λ q. t k (labels_by k q)) words) 5 all i h.missing) h.perm h.permutes in
     let P : List ℕ → Type 0 = λ ls. t i ls ≡ true in

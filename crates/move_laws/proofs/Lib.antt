@@ -4,3 +4,9 @@ pub mod ListedFacets
 pub mod Legal
 pub mod Covered
 pub mod Agreement
+pub mod Matched
+pub mod Renamed
+pub mod InverseFacets
+pub mod Placed
+pub mod SecondStand
+pub mod LedBack

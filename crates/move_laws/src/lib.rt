@@ -2,9 +2,15 @@
 //! back up to labels.
 #![tactic(auto)]
 
-ghost use Rattle.move_definitions.specs.Laws.{MovesAgree};
+ghost use Rattle.move_definitions.specs.Laws.{MovesAgree, InversesHaveCores, InversesLeadBackUpToLabels};
 
 /// A move leads to at most one table.
 pub fn moves_agree()
     ensures { MovesAgree }
+{}
+
+/// The inverse of a move leads from the new table to a relabelling of the old one.
+pub fn inverses_lead_back()
+    ensures cores { InversesHaveCores }
+    ensures tables { InversesLeadBackUpToLabels }
 {}
