@@ -2,4 +2,6 @@ pub mod Moves
 pub mod MoveText
 pub mod Grammar
 pub mod Certificates
+pub mod Laws
+pub mod Undos
 pub mod Sessions
