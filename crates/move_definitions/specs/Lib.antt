@@ -3,3 +3,5 @@ pub mod MoveText
 pub mod Grammar
 pub mod Certificates
 pub mod Laws
+pub mod Undos
+pub mod Sessions

@@ -1,11 +1,11 @@
 -- What holds of cores, mask by mask.
-use Rattle.std.proofs.Common.{◌≡◌, ℕ, ◌<◌, ◌≤◌, ◌/◌, ◌^◌, Bool, true, false, List, [], ◌∷◌, length, refl, sym, ap, ◌∙◌, Option, Some}
-use Rattle.std.specs.Prelude.{◌==◌, ◌&&◌, nat_lt, slice_index, bit_and, if◌then◌else◌, not}
+use Rattle.std.proofs.Common.{◌≡◌, ℕ, zero, suc, arith, ◌<◌, ◌≤◌, ◌/◌, ◌^◌, Bool, true, false, List, [], ◌∷◌, length, refl, sym, ap, ◌∙◌, Option, Some}
+use Rattle.std.specs.Prelude.{◌==◌, ◌&&◌, nat_lt, slice_index, bit_and, if◌then◌else◌, not, filter}
 use Rattle.std.proofs.lemmas.Bool.{eqb-true}
-use Rattle.table_definitions.specs.Lists.{has, below}
+use Rattle.table_definitions.specs.Lists.{has, below, same_list}
 use Rattle.std.specs.List.{list_all}
 use Rattle.table_definitions.specs.Permutation.{four, is_permutation, IsPermutationOfFour, inverse, preimage, index}
-use Rattle.move_definitions.specs.Moves.{vertices_by_label}
+use Rattle.move_definitions.specs.Moves.{vertices_by_label, IsCore}
 use Rattle.perm_four.proofs.ListFacts.{list_all-below}
 use Rattle.pachner_moves.specs.Cores.{core_of, has_bit}
 
@@ -43,3 +43,9 @@ labels_index m l =
 
 pub some_same : (o : Option (List ℕ)) (p q : List ℕ) → o ≡ Some p → o ≡ Some q → p ≡ q
 some_same o p q e f = cc
+
+-- the vertices of a mask are a core
+pub core_ascends : (m : ℕ) → 0 < m → m < 16 → IsCore (core_of m)
+core_ascends zero p l = absurd (omega arith)
+core_ascends (suc k) p l =
+    list_all-below (λ i. nat_lt 0 (length (core_of (suc i))) && same_list (filter (has (core_of (suc i))) four) (core_of (suc i))) 15 refl k (omega arith)

@@ -3,7 +3,7 @@
 ghost use Rattle.std.specs.Prelude.{◌≡◌, ◌<◌, ◌≤◌, ◌↔◌, length, IsSome, IfSome};
 ghost use Rattle.table_definitions.specs.Lists.{has};
 ghost use Rattle.table_definitions.specs.Permutation.{IsPermutationOfFour, inverse};
-ghost use Rattle.move_definitions.specs.Moves.{vertices_by_label};
+ghost use Rattle.move_definitions.specs.Moves.{vertices_by_label, IsCore};
 ghost use Rattle.pachner_moves.specs.Cores.{core_of};
 
 use perm_four::Perm4;
@@ -64,6 +64,7 @@ impl Core {
         ensures value { result ≡ length self }
         ensures some { 0 < result }
         ensures most { result ≤ 4 }
+        ensures ascending { IsCore self }
     {
         SIZES[self.mask as usize]
     }

@@ -1,0 +1,8 @@
+//! Scripts of moves: steps in text, and sessions that play, undo and redo moves.
+#![tactic(auto)]
+
+mod reader;
+mod writer;
+
+pub use reader::{Step, read_move, read_step};
+pub use writer::write_move;
