@@ -43,7 +43,7 @@ carried_at old m new p x lt lf o e =
 across_test : ℕ → ℕ → Bool
 across_test j l = (j == l) || is_permutation (across j l)
 
-across_permutes : (j l : ℕ) → j < 5 → l < 5 → j ≢ l → IsPermutationOfFour (across j l)
+pub across_permutes : (j l : ℕ) → j < 5 → l < 5 → j ≢ l → IsPermutationOfFour (across j l)
 across_permutes j l hj hl d =
     given_apart j l (is_permutation (across j l)) (list_all-below (λ l. (j == l) || is_permutation (across j l)) 5 (list_all-below (λ j. list_all (λ l. (j == l) || is_permutation (across j l)) (below 5)) 5 tests j hj) l hl) d
   where
@@ -210,7 +210,7 @@ under_twice s s' r r' q hs hs' hr hr' hq =
     ∙ sym (compose-compose r' r (compose q (inverse (compose s' s))) hr' hr (compose_permutes q (inverse (compose s' s)) hq (inverse_permutes (compose s' s) (compose_permutes s' s hs' hs))))
 
 -- where the face that stands for x leads
-over_there : (x : Face) (s r g : Gluing) → IsPermutationOfFour s.perm → IsPermutationOfFour r.perm → IsPermutationOfFour g.perm → x.face < 4 → other_side (face_under s x) (gluing_under s r g) ≡ face_under r (other_side x g)
+pub over_there : (x : Face) (s r g : Gluing) → IsPermutationOfFour s.perm → IsPermutationOfFour r.perm → IsPermutationOfFour g.perm → x.face < 4 → other_side (face_under s x) (gluing_under s r g) ≡ face_under r (other_side x g)
 over_there x s r g hs hr hg l =
     let k : image s.perm x.face < 4 = image_below s.perm hs x.face l in
     let q = inverse_permutes s.perm hs in

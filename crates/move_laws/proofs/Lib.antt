@@ -10,3 +10,6 @@ pub mod InverseFacets
 pub mod Placed
 pub mod SecondStand
 pub mod LedBack
+pub mod Shapes
+pub mod LedOn
+pub mod MadeTables
