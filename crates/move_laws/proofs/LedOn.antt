@@ -1,6 +1,6 @@
 -- A legal move leads to a table, which is made face by face.
-use Rattle.std.proofs.Common.{◌≡◌, ℕ, zero, suc, ◌+◌, ◌-◌, ◌<◌, ◌≤◌, Bool, true, false, List, [], ◌∷◌, length, map, get_or, Option, Some, None, refl, sym, ap, ◌∙◌, subst, arith, inl, inr}
-use Rattle.std.specs.Prelude.{◌⊎◌, ◌≢◌, option_and_then, All}
+use Rattle.std.proofs.Common.{◌≡◌, ℕ, zero, suc, ◌<◌, ◌≤◌, List, [], length, map, get_or, Option, Some, None, refl, sym, ap, ◌∙◌, subst, arith, inl, inr}
+use Rattle.std.specs.Prelude.{◌⊎◌, ◌≢◌, option_and_then}
 use Rattle.std.proofs.lemmas.Bool.{cases_lt}
 use Rattle.std.proofs.lemmas.List.{get_or-map, length-map}
 use Rattle.std.proofs.lemmas.List.Elements.{All-from_get_or}
@@ -9,9 +9,10 @@ use Rattle.table_definitions.specs.Lists.{below}
 use Rattle.table_definitions.specs.Permutation.{four, image}
 use Rattle.table_definitions.specs.Table.{Gluing, Row, Face, glue, IsTable}
 use Rattle.table_definitions.specs.Relabelling.{face_under}
-use Rattle.move_definitions.specs.Moves.{Move, IsCore, opposite, new_length, new_facet, kept, label_by_label, move_fault, moved_gluing, stand_in_at, IsMoved}
+use Rattle.move_definitions.specs.Moves.{Move, IsCore, opposite, new_length, new_facet, label_by_label, moved_gluing, stand_in_at}
 use Rattle.move_definitions.specs.Laws.{LegalMovesLeadOn}
 use Rattle.move_laws.proofs.CoreTests.{core_size}
+use Rattle.move_laws.proofs.ListedFacets.{same_some}
 use Rattle.move_laws.proofs.Labels.{ascending, new_labels, HasVertex, vertex_at}
 use Rattle.move_laws.proofs.Legal.{HasNoFault, no_fault}
 use Rattle.move_laws.proofs.Covered.{face_at, StandsForOld, IsInner, covered}
@@ -39,9 +40,6 @@ made_row rows m table h c t = map (λ v. made_gluing rows m table h c (face_at t
 made : (rows : List Row) (m : Move) → IsTable rows → HasNoFault rows m → IsCore m.core → List Row
 made rows m table h c = map (made_row rows m table h c) (below (new_length rows m))
 
-some_is : (o : Option Gluing) (f g : Gluing) → o ≡ Some f → o ≡ Some g → f ≡ g
-some_is o f g e k = cc
-
 -- it is the same, however the face is found to stand for another
 outer_value : (rows : List Row) (m : Move) → IsTable rows → HasNoFault rows m → IsCore m.core → (x : Face) (s : Gluing) → x.tet < length rows → x.face < 4 → stand_in_at rows m x ≡ Some s
     → (k : StandsForOld rows m (face_under s x) ⊎ IsInner rows m (face_under s x)) → gluing_of rows m (face_under s x) k ≡ option_and_then (moved_gluing rows m x s) (glue rows x)
@@ -50,7 +48,7 @@ outer_value rows m table h c x s lt lf stands (inl o) =
     let there : IsKeptFace rows m o.old (face_under s x) o.by ⊎ IsFacetFace rows m o.old (face_under s x) o.by =
     subst (λ (y : Face). IsKeptFace rows m o.old y o.by ⊎ IsFacetFace rows m o.old y o.by) o.is (shape rows m table h c o.old o.by o.tet o.face o.stands) in
     let same : o.old ≡ x = stands_for_one rows m table h c o.old x (face_under s x) o.by s o.tet lt there (shape rows m table h c x s lt lf stands) in
-    let by : o.by ≡ s = some_is (stand_in_at rows m x) o.by s (ap (stand_in_at rows m) (sym same) ∙ o.stands) stands in
+    let by : o.by ≡ s = same_some (stand_in_at rows m x) o.by s (ap (stand_in_at rows m) (sym same) ∙ o.stands) stands in
     ap (λ (z : Face). option_and_then (moved_gluing rows m z o.by) (glue rows z)) same ∙ ap (λ (g : Gluing). option_and_then (moved_gluing rows m x g) (glue rows x)) by
 outer_value rows m table h c x s lt lf stands (inr n) = absurd (inner_stands_for_none rows m c x (face_under s x) s (shape rows m table h c x s lt lf stands) n)
 

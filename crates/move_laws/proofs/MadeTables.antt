@@ -1,11 +1,10 @@
 -- The rows to which a move leads from a table are a table, within the limit of tetrahedra.
-use Rattle.std.proofs.Common.{◌≡◌, ℕ, zero, suc, ◌+◌, ◌-◌, ◌<◌, ◌≤◌, Bool, true, false, List, [], ◌∷◌, length, map, Option, Some, None, refl, sym, ap, ◌∙◌, subst, arith, inl, inr}
-use Rattle.std.specs.Prelude.{◌⊎◌, ◌==◌, ◌||◌, ◌≢◌, not, option_map, option_and_then, IsTrue, All}
+use Rattle.std.proofs.Common.{◌≡◌, ℕ, ◌+◌, ◌<◌, Bool, true, List, length, Option, Some, None, refl, sym, ap, ◌∙◌, subst, arith, inl, inr}
+use Rattle.std.specs.Prelude.{◌⊎◌, ◌==◌, ◌||◌, ◌≢◌, option_map, option_and_then}
 use Rattle.std.specs.List.{list_all}
-use Rattle.std.proofs.lemmas.List.Elements.{All-get_or}
 use Rattle.table_definitions.specs.Lists.{below, same_list, in_place_of}
 use Rattle.table_definitions.specs.Permutation.{IsPermutationOfFour, image, preimage, inverse, compose}
-use Rattle.table_definitions.specs.Table.{max_tets, Gluing, Row, Face, glue, other_side, way_back, same_face, IsTable}
+use Rattle.table_definitions.specs.Table.{Gluing, Row, Face, glue, other_side, way_back, same_face, IsTable}
 use Rattle.table_definitions.specs.Relabelling.{IsRelabelled, face_under, gluing_under}
 use Rattle.table_definitions.proofs.TableLaws.{glued_tet, glued_face}
 use Rattle.move_definitions.specs.Moves.{Move, IsCore, opposite, kept, new_length, new_facet, stand_in_at, moved_gluing, inverse_move, IsMoved}
@@ -16,7 +15,7 @@ use Rattle.gluing_table.proofs.Carried.{IsGood, not_from, same_from, same_to}
 use Rattle.move_laws.proofs.CoreTests.{core_size}
 use Rattle.move_laws.proofs.Labels.{ascending, new_labels, HasVertex, vertex_at, length-labels, image-map}
 use Rattle.move_laws.proofs.Legal.{HasNoFault, no_fault}
-use Rattle.move_laws.proofs.Covered.{face_at, StandsForOld, IsInner, covered, in_place-same}
+use Rattle.move_laws.proofs.Covered.{gluing_to, face_at, StandsForOld, IsInner, covered, in_place-same}
 use Rattle.move_laws.proofs.Renamed.{across, given_apart}
 use Rattle.move_laws.proofs.SecondStand.{other_stands}
 use Rattle.move_laws.proofs.LedBack.{across_permutes, over_there, inverses_lead_back_lem, inverses_have_cores_lem}
@@ -42,23 +41,19 @@ across_vertex j l hj hl d =
     ∙ ap (λ q. preimage (ascending l) (in_place_of l j q)) v.label
     ∙ ap (preimage (ascending l)) (in_place-same l j)
 
-mk_gluing : ℕ → List ℕ → Gluing
-mk_gluing t p = record { tet = t; perm = p }
-
 good_inner : (old : List Row) (m : Move) (new : List Row) → IsCore m.core → IsMoved old m new → (j l : ℕ) → j < length m.core → l < length m.core → j ≢ l → IsGood (length new) new (opposite (new_facet old m j) l) (record { tet = kept old m + l; perm = across j l })
-unfolding mk_gluing
 good_inner old m new c h j l hj hl d = record {
   permutes = across_permutes j l sj sl d;
   in_range = rw h.length_is (omega arith);
   apart = not_from (same_face (other_side y g) y) (λ t. d (apart_tets (same_from (kept old m + l) (kept old m + j) (image (across j l) (preimage (ascending j) l)) (preimage (ascending j) l) t).0));
-  leads_back = ap (glue new) over ∙ h.inner l j hl hj (λ e. d (sym e)) ∙ ap (λ (p : List ℕ). Some (mk_gluing (kept old m + j) p)) (across_back j l sj sl d);
+  leads_back = ap (glue new) over ∙ h.inner l j hl hj (λ e. d (sym e)) ∙ ap (λ (p : List ℕ). Some (gluing_to (kept old m + j) p)) (across_back j l sj sl d);
 }
   where
     y : Face
     y = opposite (new_facet old m j) l
 
     g : Gluing
-    g = mk_gluing (kept old m + l) (across j l)
+    g = gluing_to (kept old m + l) (across j l)
 
     sj : j < 5
     sj = let few : length m.core < 5 = (core_size m.core c).1 in omega arith
@@ -90,13 +85,12 @@ itself w = same_to w.tet w.tet w.face w.face refl refl
 -- the gluing that stands for the gluing g of x
 good_outer : (old : List Row) (m : Move) (new : List Row) → IsTable old → IsCore m.core → IsMoved old m new → (x : Face) (s g r : Gluing) → x.tet < length old → x.face < 4 → stand_in_at old m x ≡ Some s → glue old x ≡ Some g → stand_in_at old m (other_side x g) ≡ Some r
     → IsGood (length new) new (face_under s x) (gluing_under s r g)
-unfolding mk_gluing
 good_outer old m new table c h x s g r lt lf stands glued stands' = record {
   permutes = compose_permutes r.perm (compose g.perm (inverse s.perm)) hr (compose_permutes g.perm (inverse s.perm) hg (inverse_permutes s.perm hs));
   in_range = rw h.length_is range.0;
   apart = not_from (same_face (other_side z g') z) never;
   leads_back = ap (glue new) over ∙ h.outer y r yt yf stands' ∙ ap (option_and_then (moved_gluing old m y r)) (table.leads_back x g glued) ∙ ap (option_map (λ q. gluing_under r q (way_back x g))) back
-      ∙ ap (λ (p : List ℕ). Some (mk_gluing s.tet p)) (turned s.perm r.perm g.perm hs hr hg);
+      ∙ ap (λ (p : List ℕ). Some (gluing_to s.tet p)) (turned s.perm r.perm g.perm hs hr hg);
 }
   where
     f : HasNoFault old m

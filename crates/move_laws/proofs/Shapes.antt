@@ -1,20 +1,20 @@
 -- A face of the new table stands for one face of the old table alone, or lies between new facets.
-use Rattle.std.proofs.Common.{◌≡◌, ℕ, zero, suc, ◌+◌, ◌-◌, ◌<◌, ◌≤◌, Bool, true, false, List, [], ◌∷◌, length, map, Option, Some, None, refl, sym, ap, ◌∙◌, subst, arith, inl, inr}
+use Rattle.std.proofs.Common.{◌≡◌, ℕ, ◌+◌, ◌<◌, ◌≤◌, Bool, true, false, List, length, Some, refl, sym, ap, ◌∙◌, subst, arith, inl, inr}
 use Rattle.std.specs.Prelude.{◌⊎◌, ◌≢◌}
 use Rattle.table_definitions.specs.Lists.{has, closed_up}
-use Rattle.table_definitions.specs.Permutation.{IsPermutationOfFour, is_permutation, image, preimage, identity}
-use Rattle.table_definitions.specs.Table.{Gluing, Row, Face, glue, IsTable}
+use Rattle.table_definitions.specs.Permutation.{IsPermutationOfFour, image, preimage}
+use Rattle.table_definitions.specs.Table.{Gluing, Row, Face, IsTable}
 use Rattle.table_definitions.specs.Relabelling.{face_under}
-use Rattle.move_definitions.specs.Moves.{Move, IsCore, Facet, opposite, facet, new_length, new_facet, kept, kept_stand_in, stand_in_at}
+use Rattle.move_definitions.specs.Moves.{Move, IsCore, Facet, facet, new_length, kept, kept_stand_in, stand_in_at}
 use Rattle.perm_four.proofs.Permutations.{image_below}
 use Rattle.gluing_table.proofs.Ranks.{rank, stays, ranks_apart}
 use Rattle.move_laws.proofs.CoreTests.{core_size}
-use Rattle.move_laws.proofs.Labels.{AreLabels, ascending, new_labels, HasLabel, label_at, HasVertex, vertex_at}
-use Rattle.move_laws.proofs.ListedFacets.{closed_up-rank}
+use Rattle.move_laws.proofs.Labels.{ascending, new_labels, HasLabel, label_at, vertex_at}
+use Rattle.move_laws.proofs.ListedFacets.{same_some, closed_up-rank}
 use Rattle.move_laws.proofs.Legal.{IsFacet, facet_is, HasNoFault, gone, gone_distinct, OldFacet, gone_facet}
-use Rattle.move_laws.proofs.Covered.{face_at, stand_in-kept, facet_gluing, image-identity, crossed, StandsForOld, IsInner}
+use Rattle.move_laws.proofs.Covered.{face_at, stand_in-kept, facet_gluing, image-identity, crossed, IsInner}
 use Rattle.move_laws.proofs.Placed.{closed_up_small, stays_true}
-use Rattle.move_laws.proofs.SecondStand.{crossing, crossing_permutes, HasNewLabel, has_new_label}
+use Rattle.move_laws.proofs.SecondStand.{identity_permutes, crossing, crossing_permutes, HasNewLabel, has_new_label}
 
 -- the face y stands for the face x of a kept tetrahedron
 pub record IsKeptFace (rows : List Row) (m : Move) (x y : Face) (s : Gluing) : Type 0 where
@@ -37,12 +37,6 @@ pub record IsFacetFace (rows : List Row) (m : Move) (x y : Face) (s : Gluing) : 
   pub by : s ≡ facet_gluing rows m facet_of j
   pub old_is : face_at facet_of.tet (preimage facet_of.labels j) ≡ x
   pub new_is : face_at (kept rows m + j) (preimage (ascending j) i) ≡ y
-
-some_is : (o : Option Gluing) (f g : Gluing) → o ≡ Some f → o ≡ Some g → f ≡ g
-some_is o f g e k = cc
-
-some_facet : (o : Option Facet) (f g : Facet) → o ≡ Some f → o ≡ Some g → f ≡ g
-some_facet o f g e k = cc
 
 pub shape : (rows : List Row) (m : Move) → IsTable rows → HasNoFault rows m → IsCore m.core → (x : Face) (s : Gluing) → x.tet < length rows → x.face < 4 → stand_in_at rows m x ≡ Some s
     → IsKeptFace rows m x (face_under s x) s ⊎ IsFacetFace rows m x (face_under s x) s
@@ -74,7 +68,7 @@ shape rows m table h c x s lt lf stands = by_test (has (gone rows m) x.tet) refl
 
     by_kept : has (gone rows m) x.tet ≡ false → IsKeptFace rows m x (face_under s x) s
     by_kept e =
-        let by : s ≡ kept_stand_in rows m x.tet = some_is (stand_in_at rows m x) s (kept_stand_in rows m x.tet) stands (stand_in-kept rows m x e) in
+        let by : s ≡ kept_stand_in rows m x.tet = same_some (stand_in_at rows m x) s (kept_stand_in rows m x.tet) stands (stand_in-kept rows m x e) in
         let t : closed_up (gone rows m) x.tet ≡ s.tet = ap (λ (g : Gluing). g.tet) (sym by) in
         record {
           stays = e;
@@ -89,10 +83,6 @@ shape rows m table h c x s lt lf stands = by_test (has (gone rows m) x.tet) refl
     by_test true e = inr (by_facet (gone_facet rows m x.tet c e))
 
 -- what stands for a tetrahedron permutes its vertices
-identity_permutes : IsPermutationOfFour identity
-unfolding is_permutation
-identity_permutes = refl
-
 new_permutes : (rows : List Row) (m : Move) (x y : Face) (s : Gluing) → IsCore m.core → IsFacetFace rows m x y s → IsPermutationOfFour s.perm
 new_permutes rows m x y s c f =
     let few : length m.core < 5 = (core_size m.core c).1 in
@@ -152,7 +142,7 @@ stands_for_one rows m table h c x x' y s s' lt lt' (inr f) (inr f') =
     let j : f.j ≡ f'.j = omega arith in
     let vertices : preimage (ascending f.j) f.i ≡ preimage (ascending f'.j) f'.i = (λ i. (f.new_is i).face) ∙ sym (λ i. (f'.new_is i).face) in
     let i : f.i ≡ f'.i = same_label f.j f.i f'.i (omega arith) f.high f'.high (λ e. absurd (omega arith)) (λ e. absurd (omega arith)) (vertices ∙ ap (λ q. preimage (ascending q) f'.i) (sym j)) in
-    let facets : f.facet_of ≡ f'.facet_of = some_facet (facet rows m f'.i) f.facet_of f'.facet_of (ap (facet rows m) (sym i) ∙ f.found) f'.found in
+    let facets : f.facet_of ≡ f'.facet_of = same_some (facet rows m f'.i) f.facet_of f'.facet_of (ap (facet rows m) (sym i) ∙ f.found) f'.found in
     sym f.old_is ∙ ap (λ (g : Facet). face_at g.tet (preimage g.labels f.j)) facets ∙ ap (λ q. face_at f'.facet_of.tet (preimage f'.facet_of.labels q)) j ∙ f'.old_is
 
 -- and none where it lies between new facets
