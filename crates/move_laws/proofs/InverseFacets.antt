@@ -31,7 +31,7 @@ filtered {A} p x (y ∷ ys) a = by_test (p y) refl a (λ b. filtered p x ys b)
     by_test true t (inr b) later = let q = later b in (inr q.0, q.1)
     by_test false t b later = let q = later b in (inr q.0, q.1)
 
-appended : {A : Type 0} (x : A) (ys zs : List A) → Among x (ys ++ zs) → Among x ys ⊎ Among x zs
+pub appended : {A : Type 0} (x : A) (ys zs : List A) → Among x (ys ++ zs) → Among x ys ⊎ Among x zs
 appended x [] zs a = inr a
 appended x (y ∷ ys) zs (inl e) = inl (inl e)
 appended x (y ∷ ys) zs (inr a) = elim (appended x ys zs a) [ inl b ↦ inl (inr b) | inr b ↦ inr b ]
@@ -41,7 +41,7 @@ of_row z [] p a = absurd a
 of_row z (y ∷ ys) p (inl e) = (λ i. (e i).0, inl (λ i. (e i).1))
 of_row z (y ∷ ys) p (inr a) = let q = of_row z ys p a in (q.0, inr q.1)
 
-paired : {A B : Type 0} (xs : List A) (ys : List B) (p : A × B) → Among {A = A × B} p (pairs_of xs ys) → Among p.0 xs × Among p.1 ys
+pub paired : {A B : Type 0} (xs : List A) (ys : List B) (p : A × B) → Among {A = A × B} p (pairs_of xs ys) → Among p.0 xs × Among p.1 ys
 paired [] ys p a = absurd a
 paired {A} {B} (z ∷ xs) ys p a = pick (appended {A = A × B} p (map (λ (w : B). (z, w)) ys) (pairs_of xs ys) a) (λ b. paired xs ys p b)
   where

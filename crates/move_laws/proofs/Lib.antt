@@ -13,3 +13,5 @@ pub mod LedBack
 pub mod Shapes
 pub mod LedOn
 pub mod MadeTables
+pub mod Cores
+pub mod Played

@@ -2,7 +2,7 @@
 //! leads back up to labels.
 #![tactic(auto)]
 
-ghost use Rattle.move_definitions.specs.Laws.{LegalMovesLeadOn, MovesAgree, MovesMakeTables, InversesHaveCores, InversesLeadBackUpToLabels, InversesLeadOnlyBack};
+ghost use Rattle.move_definitions.specs.Laws.{LegalMovesLeadOn, MovesAgree, MovesMakeTables, InversesHaveCores, InversesLeadBackUpToLabels, InversesLeadOnlyBack, MoveLinesHaveCores, PlaysAgree, DescentsAgree, MakingsAgree};
 
 /// A legal move leads on, the limit of tetrahedra left aside.
 pub fn legal_moves_lead_on()
@@ -24,4 +24,16 @@ pub fn inverses_lead_back()
     ensures cores { InversesHaveCores }
     ensures tables { InversesLeadBackUpToLabels }
     ensures alone { InversesLeadOnlyBack }
+{}
+
+/// Moves that are played one after another lead to one table, and moves that lines spell have the cores for it.
+pub fn plays_agree()
+    ensures tables { PlaysAgree }
+    ensures lines { MoveLinesHaveCores }
+{}
+
+/// A table has one descent, and a state of the generator one making.
+pub fn descents_and_makings_agree()
+    ensures descents { DescentsAgree }
+    ensures makings { MakingsAgree }
 {}
