@@ -15,3 +15,4 @@ pub mod LedOn
 pub mod MadeTables
 pub mod Cores
 pub mod Played
+pub mod CoreExamples

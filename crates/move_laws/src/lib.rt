@@ -1,5 +1,5 @@
 //! What follows from the definitions of moves alone, whatever the code: a legal move leads to one table, and its inverse
-//! leads back up to labels.
+//! leads back up to labels. Scripts of moves, descents and the generator end at one table.
 #![tactic(auto)]
 
 ghost use Rattle.move_definitions.specs.Laws.{LegalMovesLeadOn, MovesAgree, MovesMakeTables, InversesHaveCores, InversesLeadBackUpToLabels, InversesLeadOnlyBack, MoveLinesHaveCores, PlaysAgree, DescentsAgree, MakingsAgree};
