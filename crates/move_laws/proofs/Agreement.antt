@@ -1,10 +1,9 @@
 -- A move leads to at most one table.
-use Rattle.std.proofs.Common.{◌≡◌, ℕ, ◌<◌, List, [], length, get_or, Option, Some, None, refl, sym, ap, ◌∙◌, subst, arith, inl, inr}
+use Rattle.std.proofs.Common.{◌≡◌, ℕ, ◌<◌, List, [], length, get_or, None, sym, ap, ◌∙◌, arith, inl, inr}
 use Rattle.std.specs.Prelude.{◌⊎◌, All}
 use Rattle.std.proofs.lemmas.List.{ext_get_or}
-use Rattle.std.proofs.lemmas.List.Elements.{All-get_or}
-use Rattle.table_definitions.specs.Table.{Gluing, Row, Face, glue, IsTable}
-use Rattle.move_definitions.specs.Moves.{Move, IsCore, new_length, IsMoved}
+use Rattle.table_definitions.specs.Table.{Row, Face, glue}
+use Rattle.move_definitions.specs.Moves.{Move, new_length, IsMoved}
 use Rattle.move_definitions.specs.Laws.{MovesAgree}
 use Rattle.move_laws.proofs.Legal.{no_fault}
 use Rattle.move_laws.proofs.Covered.{StandsForOld, IsInner, covered, face_at}

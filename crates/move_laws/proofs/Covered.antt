@@ -1,22 +1,22 @@
 -- Each face of the table to which a move leads stands for one of the old table, or lies between facets that are put in.
-use Rattle.std.proofs.Common.{◌≡◌, ℕ, zero, suc, ◌+◌, ◌-◌, ◌<◌, ◌≤◌, Bool, true, false, List, [], ◌∷◌, length, map, get_or, Option, Some, None, refl, sym, ap, ◌∙◌, subst, arith, inl, inr}
-use Rattle.std.specs.Prelude.{◌⊎◌, ◌==◌, ◌≢◌, nat_lt, if◌then◌else◌, All}
-use Rattle.std.specs.List.{slice_index_or}
-use Rattle.std.proofs.lemmas.Bool.{lt-ltb, le-ltb, cases_eq, cases_lt}
-use Rattle.std.proofs.lemmas.List.{ext_get_or}
-use Rattle.std.proofs.lemmas.List.Elements.{All-get_or}
+use Rattle.std.proofs.Common.{◌≡◌, ℕ, zero, suc, ◌+◌, ◌-◌, ◌<◌, ◌≤◌, Bool, true, false, List, length, Some, None, refl, sym, ap, ◌∙◌, subst, arith, inl, inr}
+use Rattle.std.specs.Prelude.{◌⊎◌, ◌==◌, ◌≢◌, if◌then◌else◌}
+use Rattle.std.proofs.lemmas.Bool.{lt-ltb, le-ltb, cases_lt}
 use Rattle.table_definitions.specs.Lists.{has, in_place_of, closed_up}
-use Rattle.table_definitions.specs.Permutation.{four, image, preimage, identity}
-use Rattle.table_definitions.specs.Table.{Gluing, Row, Face, glue, IsTable}
+use Rattle.table_definitions.specs.Permutation.{image, preimage, identity}
+use Rattle.table_definitions.specs.Table.{Gluing, Row, Face, IsTable}
 use Rattle.table_definitions.specs.Relabelling.{face_under}
-use Rattle.move_definitions.specs.Moves.{Move, IsCore, Facet, opposite, facet, old_labels, new_length, new_facet, label_by_label, facet_stand_in, kept_stand_in, stand_in_of, stand_in_at, move_fault, kept, IsMoved}
+use Rattle.move_definitions.specs.Moves.{Move, IsCore, Facet, opposite, facet, old_labels, new_length, new_facet, label_by_label, facet_stand_in, kept_stand_in, stand_in_of, stand_in_at, kept}
 use Rattle.move_laws.proofs.CoreTests.{core_size}
-use Rattle.move_laws.proofs.Labels.{AreLabels, ascending, new_labels, HasLabel, label_at, HasVertex, vertex_at, length-labels, image-map}
+use Rattle.move_laws.proofs.Labels.{ascending, new_labels, HasLabel, label_at, HasVertex, vertex_at, length-labels, image-map}
 use Rattle.move_laws.proofs.ListedFacets.{not_found, is_found, comes_from, stays-count}
-use Rattle.move_laws.proofs.Legal.{IsFacet, facet_is, HasNoFault, no_fault, old_facet, old_label, facets_apart, gone, gone_distinct, length-gone, gone_below}
+use Rattle.move_laws.proofs.Legal.{IsFacet, facet_is, HasNoFault, old_facet, old_label, facets_apart, gone, gone_distinct, length-gone, gone_below}
 
 abbrev pub face_at : ℕ → ℕ → Face
 face_at t v = record { tet = t; face = v }
+
+abbrev pub gluing_to : ℕ → List ℕ → Gluing
+gluing_to t p = record { tet = t; perm = p }
 
 -- what stands for a kept tetrahedron, and for an old facet
 

@@ -1,21 +1,19 @@
 -- The inverse move is legal: the facets that were put in are those that it takes out.
-use Rattle.std.proofs.Common.{◌≡◌, ℕ, zero, suc, ◌+◌, ◌-◌, ◌<◌, ◌≤◌, Bool, true, false, cond, List, [], ◌∷◌, ◌++◌, length, map, drop, get_or, Option, Some, None, refl, sym, ap, ◌∙◌, subst, arith, inl, inr}
-use Rattle.std.specs.Prelude.{◌⊎◌, ◌==◌, ◌&&◌, ◌||◌, ◌≢◌, nat_lt, not, filter, option_map, if◌then◌else◌}
+use Rattle.std.proofs.Common.{◌≡◌, ℕ, zero, suc, ◌+◌, ◌-◌, ◌<◌, ◌≤◌, Bool, true, false, cond, List, [], ◌∷◌, ◌++◌, length, map, drop, Option, Some, None, refl, sym, ap, ◌∙◌, subst, arith, inl, inr}
+use Rattle.std.specs.Prelude.{◌⊎◌, ◌==◌, ◌≢◌, nat_lt, filter, option_map, if◌then◌else◌}
 use Rattle.std.specs.Option.{option_or}
-use Rattle.std.specs.List.{flat_map}
-use Rattle.std.proofs.lemmas.Bool.{eqb-true, eq-eqb, lt-ltb, ltb-true, and_parts, and_from, or_cases, cases_eq, cases_lt, false≢true}
-use Rattle.std.proofs.lemmas.List.{length-map}
-use Rattle.table_definitions.specs.Lists.{below, has, same_list, in_place_of, first_some, pairs_of}
-use Rattle.table_definitions.specs.Permutation.{four, image, preimage, inverse, compose}
-use Rattle.table_definitions.specs.Table.{Gluing, Row, Face, glue, IsTable}
+use Rattle.std.proofs.lemmas.Bool.{eqb-true, eq-eqb, lt-ltb, ltb-true, and_from, or_cases}
+use Rattle.table_definitions.specs.Lists.{has, same_list, in_place_of, first_some, pairs_of}
+use Rattle.table_definitions.specs.Permutation.{four, image, preimage, compose}
+use Rattle.table_definitions.specs.Table.{Row, glue, IsTable}
 use Rattle.table_definitions.proofs.TableLaws.{Among}
-use Rattle.move_definitions.specs.Moves.{Move, IsCore, Facet, MoveFault, own_facet, opposite, facet_behind, facet, old_labels, found_labels, tets_before, facet_fault, pair_fault, is_matched, move_fault, repeated, not_matched, new_facet, new_length, kept, label_by_label, inverse_move, IsMoved, vertices_by_label}
+use Rattle.move_definitions.specs.Moves.{Move, IsCore, Facet, own_facet, opposite, facet_behind, facet, found_labels, tets_before, facet_fault, pair_fault, is_matched, move_fault, repeated, not_matched, kept, inverse_move, IsMoved}
 use Rattle.move_laws.proofs.CoreTests.{core_size}
-use Rattle.move_laws.proofs.Labels.{AreLabels, ascending, new_labels, HasLabel, label_at, HasVertex, vertex_at, length-labels, image-map}
-use Rattle.move_laws.proofs.ListedFacets.{tets_of, IsOf, facet_with}
-use Rattle.move_laws.proofs.Legal.{facet-found, HasNoFault, no_fault, old_label_range}
+use Rattle.move_laws.proofs.Labels.{ascending, new_labels, label_at, HasVertex, vertex_at, length-labels, image-map}
+use Rattle.move_laws.proofs.ListedFacets.{same_some, tets_of, IsOf, facet_with}
+use Rattle.move_laws.proofs.Legal.{facet-found, no_fault}
 use Rattle.move_laws.proofs.Covered.{face_at, kept-count}
-use Rattle.move_laws.proofs.Renamed.{renamed, renamed_back, renamed-new, renamed_below, back-renamed, renamed-back, back-new, IsInverseCore, inverse_core, new_as_old_labels, renamed_labels, across, behind-renamed, match-renamed}
+use Rattle.move_laws.proofs.Renamed.{renamed, renamed_back, renamed-back, back-new, IsInverseCore, inverse_core, new_as_old_labels, renamed_labels, across, behind-renamed, match-renamed}
 
 -- lists in which nothing is found
 
@@ -33,7 +31,7 @@ filtered {A} p x (y ∷ ys) a = by_test (p y) refl a (λ b. filtered p x ys b)
     by_test true t (inr b) later = let q = later b in (inr q.0, q.1)
     by_test false t b later = let q = later b in (inr q.0, q.1)
 
-appended : {A : Type 0} (x : A) (ys zs : List A) → Among x (ys ++ zs) → Among x ys ⊎ Among x zs
+pub appended : {A : Type 0} (x : A) (ys zs : List A) → Among x (ys ++ zs) → Among x ys ⊎ Among x zs
 appended x [] zs a = inr a
 appended x (y ∷ ys) zs (inl e) = inl (inl e)
 appended x (y ∷ ys) zs (inr a) = elim (appended x ys zs a) [ inl b ↦ inl (inr b) | inr b ↦ inr b ]
@@ -43,7 +41,7 @@ of_row z [] p a = absurd a
 of_row z (y ∷ ys) p (inl e) = (λ i. (e i).0, inl (λ i. (e i).1))
 of_row z (y ∷ ys) p (inr a) = let q = of_row z ys p a in (q.0, inr q.1)
 
-paired : {A B : Type 0} (xs : List A) (ys : List B) (p : A × B) → Among {A = A × B} p (pairs_of xs ys) → Among p.0 xs × Among p.1 ys
+pub paired : {A B : Type 0} (xs : List A) (ys : List B) (p : A × B) → Among {A = A × B} p (pairs_of xs ys) → Among p.0 xs × Among p.1 ys
 paired [] ys p a = absurd a
 paired {A} {B} (z ∷ xs) ys p a = pick (appended {A = A × B} p (map (λ (w : B). (z, w)) ys) (pairs_of xs ys) a) (λ b. paired xs ys p b)
   where
@@ -55,9 +53,6 @@ paired {A} {B} (z ∷ xs) ys p a = pick (appended {A = A × B} p (map (λ (w : B
 
 abbrev pub inverse_of : List Row → Move → Move
 inverse_of old m = inverse_move (length old) m
-
-abbrev size_of : Move → ℕ
-size_of m = length m.core
 
 abbrev pub new_as_old : List Row → Move → ℕ → Facet
 new_as_old old m j = record { tet = kept old m + j; missing = renamed (length m.core) j; labels = new_as_old_labels (length m.core) j }
@@ -149,9 +144,6 @@ new_label old m new p i low high =
     let is : renamed s j ≡ i = renamed-back s i p.few high in
     record { label = j; small = small; is = is; facet_is = ap (facet new (inverse_of old m)) (sym is) ∙ facet-inverse old m new p j small }
 
-some_is : (o : Option Facet) (f g : Facet) → o ≡ Some f → o ≡ Some g → f ≡ g
-some_is o f g e k = cc
-
 -- no tetrahedron is found twice
 
 among_found : (old : List Row) (m : Move) (new : List Row) → IsPlayed old m new → (i : ℕ) → Among i (found_labels (inverse_of old m)) → (5 - length m.core ≤ i) × (i < 4)
@@ -199,7 +191,7 @@ new_tet old m new p i low high j is small = by_test (has (tets_before new (inver
         let less : o.label < i = ltb-true o.label i a.1 in
         let r : (5 - length m.core ≤ o.label) × (o.label < 4) = among_found old m new p o.label a.0 in
         let n : IsNewLabel old m new o.label = new_label old m new p o.label r.0 (omega arith) in
-        let same : o.facet ≡ new_as_old old m n.label = some_is (facet new (inverse_of old m) o.label) o.facet (new_as_old old m n.label) o.is n.facet_is in
+        let same : o.facet ≡ new_as_old old m n.label = same_some (facet new (inverse_of old m) o.label) o.facet (new_as_old old m n.label) o.is n.facet_is in
         let tets : kept old m + n.label ≡ kept old m + j = sym (ap (λ (f : Facet). f.tet) same) ∙ o.tet in
         let labels : n.label ≡ j = omega arith in
         let twice : o.label ≡ i = sym n.is ∙ ap (renamed s) labels ∙ is in

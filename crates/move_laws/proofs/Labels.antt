@@ -1,11 +1,11 @@
 -- The labels of facets: those of facet i are the numbers below 5 without i, in some order.
-use Rattle.std.proofs.Common.{◌≡◌, ℕ, zero, suc, ◌<◌, ◌≤◌, Bool, true, false, List, [], ◌∷◌, length, map, refl, sym, ap, ◌∙◌, subst, arith}
+use Rattle.std.proofs.Common.{◌≡◌, ℕ, ◌<◌, Bool, true, List, length, map, refl, sym, ap, ◌∙◌, subst, arith}
 use Rattle.std.specs.Prelude.{◌&&◌, ◌||◌, ◌==◌, ◌≢◌, nat_lt, not, filter, slice_index}
 use Rattle.std.specs.List.{list_all}
-use Rattle.std.proofs.lemmas.Bool.{eqb-true, ltb-true, lt-ltb, and_parts}
+use Rattle.std.proofs.lemmas.Bool.{eqb-true, ltb-true, and_parts}
 use Rattle.std.proofs.lemmas.List.{get_or-map, length-map}
-use Rattle.table_definitions.specs.Lists.{below, has, same_list, in_place_of}
-use Rattle.table_definitions.specs.Permutation.{four, IsPermutationOfFour, is_permutation, image, preimage, compose, words}
+use Rattle.table_definitions.specs.Lists.{below, same_list, in_place_of}
+use Rattle.table_definitions.specs.Permutation.{IsPermutationOfFour, is_permutation, image, preimage, words}
 use Rattle.perm_four.proofs.ListFacts.{list_all-below, same_list-true}
 use Rattle.perm_four.proofs.Permutations.{by_words, length-permutation}
 

@@ -1,24 +1,24 @@
 -- The inverse move leads to the old table, relabelled.
-use Rattle.std.proofs.Common.{◌≡◌, ℕ, zero, suc, ◌+◌, ◌-◌, ◌<◌, ◌≤◌, Bool, true, false, List, [], ◌∷◌, length, map, Option, Some, None, refl, sym, ap, ◌∙◌, subst, arith, inl, inr}
-use Rattle.std.specs.Prelude.{◌⊎◌, ◌==◌, ◌||◌, ◌≢◌, nat_lt, option_map, option_and_then}
+use Rattle.std.proofs.Common.{◌≡◌, ℕ, ◌+◌, ◌-◌, ◌<◌, ◌≤◌, Bool, true, List, length, map, Option, Some, None, refl, sym, ap, ◌∙◌, subst, arith, inl, inr}
+use Rattle.std.specs.Prelude.{◌⊎◌, ◌==◌, ◌||◌, ◌≢◌, option_map, option_and_then}
 use Rattle.std.specs.List.{list_all}
-use Rattle.std.proofs.lemmas.List.{length-map}
 use Rattle.table_definitions.specs.Lists.{below, in_place_of}
 use Rattle.table_definitions.specs.Permutation.{IsPermutationOfFour, is_permutation, image, preimage, inverse, compose}
-use Rattle.table_definitions.specs.Table.{Gluing, Row, Face, glue, other_side, IsTable}
-use Rattle.table_definitions.specs.Relabelling.{IsRelabelled, Carries, stand_in, face_under, gluing_under}
-use Rattle.move_definitions.specs.Moves.{Move, IsCore, Facet, opposite, facet, kept, facet_stand_in, stand_in_at, moved_gluing, new_facet, IsMoved}
+use Rattle.table_definitions.specs.Table.{Gluing, Row, Face, glue, other_side}
+use Rattle.table_definitions.specs.Relabelling.{Carries, stand_in, face_under, gluing_under}
+use Rattle.move_definitions.specs.Moves.{Move, Facet, opposite, facet, kept, facet_stand_in, stand_in_at, moved_gluing, new_facet, IsMoved}
 use Rattle.move_definitions.specs.Laws.{InversesHaveCores, InversesLeadBackUpToLabels}
 use Rattle.perm_four.proofs.ListFacts.{list_all-below}
-use Rattle.perm_four.proofs.Permutations.{image_below, preimage_below, image-preimage, preimage-image, image-inverse, inverse_permutes, inverse-of-compose, compose_permutes, compose-compose, image-compose, length-permutation, same_images}
+use Rattle.perm_four.proofs.Permutations.{image_below, preimage_below, image-preimage, preimage-image, image-inverse, inverse_permutes, inverse-of-compose, compose_permutes, compose-compose, image-compose, same_images}
 use Rattle.move_laws.proofs.CoreTests.{core_size}
+use Rattle.move_laws.proofs.ListedFacets.{same_some}
 use Rattle.move_laws.proofs.Labels.{AreLabels, ascending, new_labels, HasLabel, label_at, HasVertex, vertex_at, length-labels, image-map}
 use Rattle.move_laws.proofs.Legal.{IsFacet, facet_is, HasNoFault, no_fault, old_facet}
-use Rattle.move_laws.proofs.Covered.{face_at, StandsForOld, IsInner, covered, stand_in-old, facet_stand_in-old}
+use Rattle.move_laws.proofs.Covered.{gluing_to, face_at, StandsForOld, IsInner, covered, stand_in-old, facet_stand_in-old}
 use Rattle.move_laws.proofs.Matched.{AreGlued, old_glued, label_across}
-use Rattle.move_laws.proofs.Renamed.{renamed, renamed_back, back-renamed, renamed-old, renamed-new, renamed_below, renamed-place, new_as_old_labels, renamed_labels, across, given_apart, inverse_core}
+use Rattle.move_laws.proofs.Renamed.{renamed, renamed_back, back-renamed, renamed-old, renamed-new, renamed_below, renamed-place, new_as_old_labels, across, given_apart, inverse_core}
 use Rattle.move_laws.proofs.InverseFacets.{inverse_of, new_as_old, IsPlayed, played, facet-inverse, inverse_legal}
-use Rattle.move_laws.proofs.Placed.{moved_perm, moved_perm_permutes, place, facet_place, place-old, place_permutes, relabelling, stand_in-placed, is_relabelling, led_back, carries_back}
+use Rattle.move_laws.proofs.Placed.{moved_perm, moved_perm_permutes, place, facet_place, place-old, relabelling, stand_in-placed, is_relabelling, led_back, carries_back}
 use Rattle.move_laws.proofs.SecondStand.{kept-inverse, StandsAgain, stands_again, other_stands}
 
 -- the carried table, by places
@@ -43,7 +43,7 @@ carried_at old m new p x lt lf o e =
 across_test : ℕ → ℕ → Bool
 across_test j l = (j == l) || is_permutation (across j l)
 
-across_permutes : (j l : ℕ) → j < 5 → l < 5 → j ≢ l → IsPermutationOfFour (across j l)
+pub across_permutes : (j l : ℕ) → j < 5 → l < 5 → j ≢ l → IsPermutationOfFour (across j l)
 across_permutes j l hj hl d =
     given_apart j l (is_permutation (across j l)) (list_all-below (λ l. (j == l) || is_permutation (across j l)) 5 (list_all-below (λ j. list_all (λ l. (j == l) || is_permutation (across j l)) (below 5)) 5 tests j hj) l hl) d
   where
@@ -103,13 +103,9 @@ moved_across s i k a b q small low low' d ha hb hq e =
         ∙ ap (λ x. preimage (ascending l) (in_place_of l j x)) (sym is)
         ∙ sym (image-map (λ x. preimage (ascending l) (in_place_of l j x)) (ascending j) v (rw (length-labels j (ascending j) (new_labels j (let m = ha.missing in omega arith))) lv))
 
-mk_gluing : ℕ → List ℕ → Gluing
-mk_gluing t p = record { tet = t; perm = p }
-
 -- the face of the facet for old facet i that lies behind that for old facet k
 inner_at : (old : List Row) (m : Move) (new : List Row) → IsPlayed old m new → (i k : ℕ) → length m.core ≤ i → i < 5 → length m.core ≤ k → k < 5 → i ≢ k
     → glue (led_back old m) (face_at (kept old m + (i - length m.core)) (preimage (ascending (i - length m.core)) (k - length m.core))) ≡ Some (record { tet = kept old m + (k - length m.core); perm = across (i - length m.core) (k - length m.core) })
-unfolding mk_gluing
 inner_at old m new p i k low high low' high' d = ap (glue (led_back old m)) (sym face) ∙ carried_at old m new p x is.in_range vertex.small (Some a.by) a.glued ∙ ap (λ (g : Gluing). Some g) gluing
   where
     s : ℕ
@@ -160,11 +156,11 @@ inner_at old m new p i k low high low' high' d = ap (glue (led_back old m)) (sym
     face : face_under (place old m f.tet) x ≡ face_at (kept old m + (i - s)) (preimage (ascending (i - s)) (k - s))
     face = ap (λ (q : Gluing). face_under q x) from ∙ ap (face_at (kept old m + (i - s))) goes
 
-    gluing : gluing_under (place old m f.tet) (place old m a.by.tet) a.by ≡ mk_gluing (kept old m + (k - s)) (across (i - s) (k - s))
+    gluing : gluing_under (place old m f.tet) (place old m a.by.tet) a.by ≡ gluing_to (kept old m + (k - s)) (across (i - s) (k - s))
     gluing =
         ap (λ (q : Gluing). gluing_under q (place old m a.by.tet) a.by) from
         ∙ ap (λ (r : Gluing). gluing_under (facet_place old m i f.labels) r a.by) to
-        ∙ ap (mk_gluing (kept old m + (k - s))) (moved_across s i k f.labels g.labels a.by.perm p.few low low' d is.labels is'.labels (p.table.permutes x a.by a.glued) a.labels)
+        ∙ ap (gluing_to (kept old m + (k - s))) (moved_across s i k f.labels g.labels a.by.perm p.few low low' d is.labels is'.labels (p.table.permutes x a.by a.glued) a.labels)
 
 inner_back : (old : List Row) (m : Move) (new : List Row) → IsPlayed old m new → (j l : ℕ) → j < 5 - length m.core → l < 5 - length m.core → j ≢ l
     → glue (led_back old m) (opposite (new_facet new (inverse_of old m) j) l) ≡ Some (record { tet = (new_facet new (inverse_of old m) l).tet; perm = across j l })
@@ -191,7 +187,6 @@ inner_none old m new p x n =
     let v : HasVertex (ascending n.j) n.l = vertex_at n.j (ascending n.j) (new_labels n.j hj) n.l hl (λ e. n.apart (sym e)) in
     let label : image (new_as_old_labels s n.j) (preimage (ascending n.j) n.l) ≡ renamed s n.l =
     image-map (renamed s) (ascending n.j) (preimage (ascending n.j) n.l) (rw (length-labels n.j (ascending n.j) (new_labels n.j hj)) v.small) ∙ ap (renamed s) v.label in
-    let Low : ℕ → Type 0 = λ k. length (inverse_of old m).core ≤ k in
     let low : (j : ℕ) → j < s → length (inverse_of old m).core ≤ renamed s j = λ j l. subst (λ k. k ≤ renamed s j) (sym p.inverse_core.size) (renamed-new s j p.few l) in
     ap (stand_in_at new (inverse_of old m)) (sym n.is)
     ∙ stand_in-old new (inverse_of old m) (renamed s n.j) (new_as_old old m n.j) (preimage (ascending n.j) n.l) (no_fault new (inverse_of old m) (inverse_legal old m new p)) p.inverse_core.is_core (low n.j n.j_small) (renamed_below s n.j p.few hj) (facet-inverse old m new p n.j n.j_small)
@@ -210,7 +205,7 @@ under_twice s s' r r' q hs hs' hr hr' hq =
     ∙ sym (compose-compose r' r (compose q (inverse (compose s' s))) hr' hr (compose_permutes q (inverse (compose s' s)) hq (inverse_permutes (compose s' s) (compose_permutes s' s hs' hs))))
 
 -- where the face that stands for x leads
-over_there : (x : Face) (s r g : Gluing) → IsPermutationOfFour s.perm → IsPermutationOfFour r.perm → IsPermutationOfFour g.perm → x.face < 4 → other_side (face_under s x) (gluing_under s r g) ≡ face_under r (other_side x g)
+pub over_there : (x : Face) (s r g : Gluing) → IsPermutationOfFour s.perm → IsPermutationOfFour r.perm → IsPermutationOfFour g.perm → x.face < 4 → other_side (face_under s x) (gluing_under s r g) ≡ face_under r (other_side x g)
 over_there x s r g hs hr hg l =
     let k : image s.perm x.face < 4 = image_below s.perm hs x.face l in
     let q = inverse_permutes s.perm hs in
@@ -218,20 +213,16 @@ over_there x s r g hs hr hg l =
     (image-compose r.perm (compose g.perm (inverse s.perm)) (compose_permutes g.perm (inverse s.perm) hg q) (image s.perm x.face) k
     ∙ ap (image r.perm) (image-compose g.perm (inverse s.perm) q (image s.perm x.face) k ∙ ap (image g.perm) (image-inverse s.perm (image s.perm x.face) k ∙ preimage-image s.perm hs x.face l)))
 
-some_is : (o : Option Gluing) (f g : Gluing) → o ≡ Some f → o ≡ Some g → f ≡ g
-some_is o f g e k = cc
-
 -- a face that stands for the old face x
 outer_at : (old : List Row) (m : Move) (new : List Row) → IsPlayed old m new → (x : Face) (s s' : Gluing) → x.tet < length old → x.face < 4 → stand_in_at old m x ≡ Some s → stand_in_at new (inverse_of old m) (face_under s x) ≡ Some s'
     → glue (led_back old m) (face_under s' (face_under s x)) ≡ option_and_then (moved_gluing new (inverse_of old m) (face_under s x) s') (glue new (face_under s x))
-unfolding mk_gluing
 outer_at old m new p x s s' lt lf stands stands' = by_gluing (glue old x) refl
   where
     again : StandsAgain old m new x s
     again = stands_again old m new p x s lt lf stands
 
     second : again.second ≡ s'
-    second = some_is (stand_in_at new (inverse_of old m) (face_under s x)) again.second s' again.stands stands'
+    second = same_some (stand_in_at new (inverse_of old m) (face_under s x)) again.second s' again.stands stands'
 
     tet : s'.tet ≡ (place old m x.tet).tet
     tet = ap (λ (g : Gluing). g.tet) (sym second) ∙ again.tet
@@ -292,7 +283,7 @@ outer_at old m new p x s s' lt lf stands stands' = by_gluing (glue old x) refl
             ∙ ap (λ (q : List ℕ). compose (place old m g.tet).perm (compose g.perm (inverse q))) perm
 
         whole : gluing_under s' again'.second g' ≡ gluing_under (place old m x.tet) (place old m g.tet) g
-        whole = ap (λ u. mk_gluing u (compose again'.second.perm (compose g'.perm (inverse s'.perm)))) again'.tet ∙ ap (mk_gluing (place old m g.tet).tet) perms
+        whole = ap (λ u. gluing_to u (compose again'.second.perm (compose g'.perm (inverse s'.perm)))) again'.tet ∙ ap (gluing_to (place old m g.tet).tet) perms
 
         there : option_and_then (moved_gluing new (inverse_of old m) (face_under s x) s') (glue new (face_under s x)) ≡ Some (gluing_under (place old m x.tet) (place old m g.tet) g)
         there = ap (option_and_then (moved_gluing new (inverse_of old m) (face_under s x) s')) glued ∙ ap (option_map (λ r. gluing_under s' r g')) side ∙ ap (λ (q : Gluing). Some q) whole
@@ -301,9 +292,6 @@ outer_back : (old : List Row) (m : Move) (new : List Row) → IsPlayed old m new
     → glue (led_back old m) (face_under s' x) ≡ option_and_then (moved_gluing new (inverse_of old m) x s') (glue new x)
 outer_back old m new p x s' lt lf stands = by_cover (covered old m x p.table (no_fault old m p.moved.legal) p.core (rw (← p.moved.length_is) lt) lf)
   where
-    Is : Face → Type 0
-    Is y = stand_in_at new (inverse_of old m) y ≡ Some s' → glue (led_back old m) (face_under s' y) ≡ option_and_then (moved_gluing new (inverse_of old m) y s') (glue new y)
-
     none : (o : Option Gluing) → o ≡ None → o ≡ Some s' → ⊥
     none o a b = cc
 

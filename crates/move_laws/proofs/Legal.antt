@@ -1,20 +1,19 @@
 -- What is known of the facets of a legal move.
-use Rattle.std.proofs.Common.{◌≡◌, ℕ, zero, suc, ◌+◌, ◌-◌, ◌<◌, ◌≤◌, Bool, true, false, cond, List, [], ◌∷◌, length, map, drop, get_or, Option, Some, None, refl, sym, ap, ◌∙◌, subst, arith, inl, inr}
-use Rattle.std.specs.Prelude.{◌⊎◌, ◌==◌, ◌||◌, ◌&&◌, ◌≢◌, nat_lt, not, filter, option_map, if◌then◌else◌, All}
-use Rattle.std.specs.List.{list_all, slice_index_or}
+use Rattle.std.proofs.Common.{◌≡◌, ℕ, zero, suc, ◌-◌, ◌<◌, ◌≤◌, Bool, true, false, List, [], ◌∷◌, length, map, drop, get_or, Option, Some, None, refl, sym, ap, ◌∙◌, subst, arith, inl, inr}
+use Rattle.std.specs.Prelude.{◌⊎◌, ◌==◌, ◌||◌, ◌&&◌, nat_lt, not, filter, option_map, if◌then◌else◌}
+use Rattle.std.specs.List.{list_all}
 use Rattle.std.specs.Option.{option_or}
-use Rattle.std.proofs.lemmas.Bool.{eqb-true, eq-eqb, ltb-true, lt-ltb, le-ltb, and_parts, or_cases, false≢true, not-false, cases_eq, cases_lt}
-use Rattle.table_definitions.specs.Lists.{below, has, same_list, in_place_of, first_some, pairs_of}
-use Rattle.table_definitions.specs.Permutation.{four, IsPermutationOfFour, image, preimage, inverse, compose, words}
-use Rattle.table_definitions.specs.Table.{Gluing, Row, Face, glue, IsTable}
+use Rattle.std.proofs.lemmas.Bool.{eqb-true, eq-eqb, ltb-true, lt-ltb, le-ltb, and_parts, false≢true, cases_eq, cases_lt}
+use Rattle.table_definitions.specs.Lists.{below, has, in_place_of, first_some, pairs_of}
+use Rattle.table_definitions.specs.Permutation.{four, IsPermutationOfFour, image, preimage, inverse, compose}
+use Rattle.table_definitions.specs.Table.{Gluing, Row, glue, IsTable}
 use Rattle.table_definitions.proofs.TableLaws.{Among, first_some-none}
-use Rattle.move_definitions.specs.Moves.{Move, IsCore, Facet, MoveFault, own_facet, opposite, facet_behind, facet, old_labels, found_labels, old_facets, tets_before, facet_fault, pair_fault, move_fault, no_such_tet, boundary, repeated, vertices_by_label}
+use Rattle.move_definitions.specs.Moves.{Move, IsCore, Facet, MoveFault, own_facet, opposite, facet_behind, facet, old_labels, found_labels, tets_before, facet_fault, pair_fault, move_fault, no_such_tet, repeated, vertices_by_label}
 use Rattle.perm_four.proofs.ListFacts.{list_all-below}
 use Rattle.perm_four.proofs.Permutations.{inverse_permutes, compose_permutes}
-use Rattle.gluing_table.proofs.Bijections.{there}
 use Rattle.move_laws.proofs.CoreTests.{core_size, own_permutes}
-use Rattle.move_laws.proofs.Labels.{AreLabels, labels_by, own_labels}
-use Rattle.move_laws.proofs.ListedFacets.{Among_from_has, has_from_Among, has_tet, tets_of, IsOf, facet_with, AreApart, is_distinct, tets_distinct, length-tets}
+use Rattle.move_laws.proofs.Labels.{AreLabels, own_labels}
+use Rattle.move_laws.proofs.ListedFacets.{same_some, Among_from_has, has_tet, tets_of, IsOf, facet_with, AreApart, is_distinct, tets_distinct, length-tets}
 
 -- labels that are found, all old labels, and labels before one
 
@@ -185,9 +184,6 @@ old_facet rows m i h c low high = by_case (cases_lt i 4)
     by_case (inr more) = let at : i ≡ 4 = omega arith in (own_facet m, ap (facet rows m) at)
 
 -- the facets of two labels have different tetrahedra
-same_facet : (o : Option Facet) (f g : Facet) → o ≡ Some f → o ≡ Some g → f ≡ g
-same_facet o f g e k = cc
-
 not_head : (t u : ℕ) (b : Bool) → ((t == u) || b) ≡ false → (t ≡ u → ⊥) × (b ≡ false)
 not_head t u b h = (λ e. (let s : (t == u) ≡ true = eq-eqb t u e in cc), grind arith)
 
@@ -197,7 +193,7 @@ apart_before rows m h c i k f g low less high ef eg t = by_case (cases_lt k 4)
     by_case : (k < 4) ⊎ (4 ≤ k) → ⊥
     by_case (inl found) =
         let n : IsNew rows m k = found_facet rows m k h c (omega arith) found in
-        let is : n.facet_of ≡ g = same_facet (facet rows m k) n.facet_of g n.is eg in
+        let is : n.facet_of ≡ g = same_some (facet rows m k) n.facet_of g n.is eg in
         let there : has (tets_of (facet rows m) (filter (λ l. nat_lt l k) (found_labels m))) f.tet ≡ true =
         has_tet (facet rows m) (filter (λ l. nat_lt l k) (found_labels m)) i f (label_before (length m.core) k i (core_size m.core c).1 found low less) ef in
         let new : has (tets_before rows m k) f.tet ≡ false = ap (has (tets_before rows m k)) (t ∙ sym (ap (λ (x : Facet). x.tet) is)) ∙ n.new in
@@ -205,9 +201,9 @@ apart_before rows m h c i k f g low less high ef eg t = by_case (cases_lt k 4)
         false≢true (sym absent ∙ there)
     by_case (inr last) =
         let at : k ≡ 4 = omega arith in
-        let own : own_facet m ≡ g = same_facet (facet rows m k) (own_facet m) g (ap (facet rows m) at) eg in
+        let own : own_facet m ≡ g = same_some (facet rows m k) (own_facet m) g (ap (facet rows m) at) eg in
         let n : IsNew rows m i = found_facet rows m i h c low (omega arith) in
-        let is : n.facet_of ≡ f = same_facet (facet rows m i) n.facet_of f n.is ef in
+        let is : n.facet_of ≡ f = same_some (facet rows m i) n.facet_of f n.is ef in
         let here : m.tet ≡ n.facet_of.tet = ap (λ (x : Facet). x.tet) own ∙ sym t ∙ sym (ap (λ (x : Facet). x.tet) is) in
         (not_head m.tet n.facet_of.tet (has (tets_of (facet rows m) (filter (λ l. nat_lt l i) (found_labels m))) n.facet_of.tet) n.new).0 here
 

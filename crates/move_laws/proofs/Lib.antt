@@ -10,3 +10,9 @@ pub mod InverseFacets
 pub mod Placed
 pub mod SecondStand
 pub mod LedBack
+pub mod Shapes
+pub mod LedOn
+pub mod MadeTables
+pub mod Cores
+pub mod Played
+pub mod CoreExamples

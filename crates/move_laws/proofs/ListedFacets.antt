@@ -1,14 +1,14 @@
 -- What is found in a list of what a function gives of the numbers in a list.
-use Rattle.std.proofs.Common.{◌≡◌, ℕ, zero, suc, ◌+◌, ◌-◌, ◌<◌, ◌≤◌, Bool, true, false, cond, List, [], ◌∷◌, length, map, get_or, Option, Some, None, refl, sym, ap, ◌∙◌, subst, arith, inl, inr}
-use Rattle.std.specs.Prelude.{◌⊎◌, ◌==◌, ◌||◌, ◌&&◌, ◌≢◌, nat_lt, not, find, filter_map, count_by, All}
-use Rattle.std.specs.List.{cons_option, list_any, sum_by}
+use Rattle.std.proofs.Common.{◌≡◌, ℕ, zero, suc, ◌+◌, ◌<◌, Bool, true, false, cond, List, [], ◌∷◌, length, map, get_or, Option, Some, None, refl, sym, ap, ◌∙◌, subst, arith, inl, inr}
+use Rattle.std.specs.Prelude.{◌⊎◌, ◌==◌, ◌||◌, ◌&&◌, nat_lt, not, find, filter_map, count_by}
+use Rattle.std.specs.List.{cons_option}
 use Rattle.std.proofs.lemmas.List.Sums.{sum_by-cons}
 use Rattle.std.proofs.lemmas.Bool.{eqb-true, eq-eqb, and_parts, or_cases, false≢true, le-ltb, lt-ltb}
-use Rattle.table_definitions.specs.Lists.{has, closed_up, below}
+use Rattle.table_definitions.specs.Lists.{has, closed_up}
 use Rattle.table_definitions.proofs.TableLaws.{Among}
 use Rattle.move_definitions.specs.Moves.{Facet}
 use Rattle.gluing_table.specs.Replaceable.{gone_before}
-use Rattle.gluing_table.proofs.Ranks.{rank, one_if, stays, rank-suc, count_whole, unequal, of_rank}
+use Rattle.gluing_table.proofs.Ranks.{rank, one_if, stays, rank-suc, count_whole, of_rank}
 
 pub Among_from_has : (ns : List ℕ) (n : ℕ) → has ns n ≡ true → Among n ns
 Among_from_has [] n h = absurd (false≢true h)
@@ -87,8 +87,8 @@ not_found F ls t h = none (filter_map F ls) h
         by_test true h later = cc
         by_test false h later = later h
 
-some_is : (f g : Facet) → ◌≡◌ {A = Option Facet} (Some f) (Some g) → f ≡ g
-some_is f g e = cc
+pub same_some : {A : Type 0} (o : Option A) (x y : A) → o ≡ Some x → o ≡ Some y → x ≡ y
+same_some o x y e k = cc
 
 pub is_found : (F : ℕ → Option Facet) (ls : List ℕ) (k : ℕ) (g : Facet) → AreApart F ls → Among k ls → F k ≡ Some g → found_by F ls g.tet ≡ Some g
 is_found F [] k g a h e = absurd h
@@ -106,7 +106,7 @@ is_found F (l ∷ ls) k g a h e = by_head (F l) refl h (λ h'. is_found F ls k g
         by_test false s = other h
           where
             other : Among k (l ∷ ls) → found_by F ls g.tet ≡ Some g
-            other (inl q) = let at : F l ≡ Some g = ap F (sym q) ∙ e in let is : f ≡ g = some_is f g (sym i ∙ at) in let t : (f.tet == g.tet) ≡ true = eq-eqb f.tet g.tet (ap tet_of is) in absurd (false≢true (sym s ∙ t))
+            other (inl q) = let at : F l ≡ Some g = ap F (sym q) ∙ e in let is : f ≡ g = same_some (F l) f g i at in let t : (f.tet == g.tet) ≡ true = eq-eqb f.tet g.tet (ap tet_of is) in absurd (false≢true (sym s ∙ t))
             other (inr q) = later q
 
 -- numbers that stand in a list once

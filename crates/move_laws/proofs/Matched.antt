@@ -1,17 +1,17 @@
 -- The old facets of a legal move are glued among themselves label by label.
-use Rattle.std.proofs.Common.{◌≡◌, ℕ, zero, suc, ◌+◌, ◌-◌, ◌<◌, ◌≤◌, Bool, true, false, cond, List, [], ◌∷◌, length, map, get_or, Option, Some, None, refl, sym, ap, ◌∙◌, subst, arith, inl, inr}
-use Rattle.std.specs.Prelude.{◌⊎◌, ◌==◌, ◌&&◌, ◌≢◌, nat_lt, not, filter, option_map, if◌then◌else◌}
+use Rattle.std.proofs.Common.{◌≡◌, ℕ, zero, suc, ◌<◌, ◌≤◌, Bool, true, false, cond, List, [], ◌∷◌, length, map, Option, Some, None, refl, sym, ap, ◌∙◌, subst, arith, inl, inr}
+use Rattle.std.specs.Prelude.{◌⊎◌, ◌==◌, ◌≢◌, nat_lt, filter, option_map, if◌then◌else◌}
 use Rattle.std.proofs.lemmas.Bool.{eqb-true, lt-ltb, and_parts, cases_eq, cases_lt}
 use Rattle.std.proofs.lemmas.List.{ext_get_or, get_or-map, length-map}
 use Rattle.table_definitions.specs.Lists.{same_list, in_place_of, pairs_of}
 use Rattle.table_definitions.specs.Permutation.{four, IsPermutationOfFour, image, preimage, inverse, compose}
-use Rattle.table_definitions.specs.Table.{Gluing, Row, Face, glue, other_side, way_back, IsTable}
+use Rattle.table_definitions.specs.Table.{Gluing, Row, glue, other_side, way_back, IsTable}
 use Rattle.table_definitions.proofs.TableLaws.{Among, Among-pairs, first_some-none}
 use Rattle.move_definitions.specs.Moves.{Move, IsCore, Facet, MoveFault, own_facet, opposite, facet_behind, facet, found_labels, is_matched, pair_fault, not_matched, vertices_by_label}
 use Rattle.perm_four.proofs.ListFacts.{same_list-true}
 use Rattle.perm_four.proofs.Permutations.{image_below, preimage_below, image-preimage, preimage-image, image-inverse, inverse_permutes, length-permutation}
 use Rattle.move_laws.proofs.CoreTests.{core_size, own_permutes}
-use Rattle.move_laws.proofs.Labels.{AreLabels, HasLabel, label_at, HasVertex, vertex_at, length-labels, image-map}
+use Rattle.move_laws.proofs.Labels.{AreLabels, label_at, HasVertex, vertex_at, length-labels, image-map}
 use Rattle.move_laws.proofs.Legal.{IsFacet, facet_is, HasNoFault, found_label, facet-found}
 use Rattle.move_laws.proofs.Covered.{face_at, in_place-same, in_place-other}
 

@@ -1,15 +1,15 @@
 -- The relabelling to which the inverse of a move leads: what stands there for each tetrahedron of the old table.
-use Rattle.std.proofs.Common.{◌≡◌, ℕ, zero, suc, ◌+◌, ◌-◌, ◌<◌, ◌≤◌, Bool, true, false, List, [], ◌∷◌, length, map, get_or, Option, Some, None, refl, sym, ap, ◌∙◌, subst, arith, inl, inr}
-use Rattle.std.specs.Prelude.{◌⊎◌, ◌==◌, ◌&&◌, ◌||◌, ◌≢◌, nat_lt, not, slice_index, All}
+use Rattle.std.proofs.Common.{◌≡◌, ℕ, ◌+◌, ◌-◌, ◌<◌, ◌≤◌, Bool, true, false, List, [], length, map, get_or, Option, Some, None, refl, sym, ap, ◌∙◌, subst, arith, inl, inr}
+use Rattle.std.specs.Prelude.{◌⊎◌, ◌==◌, ◌||◌, ◌≢◌, nat_lt, not, slice_index}
 use Rattle.std.specs.List.{list_all, slice_index_or, position_or_len}
 use Rattle.std.proofs.lemmas.List.{get_or-map, length-map}
 use Rattle.std.proofs.lemmas.List.Sums.{position_or_len_is}
 use Rattle.std.proofs.lemmas.List.Elements.{All-from_get_or}
 use Rattle.std.proofs.lemmas.List.FromFn.{length-range_with_len, get_or-range_with_len}
-use Rattle.std.proofs.lemmas.Bool.{eq-eqb, le-ltb, cases_eq, cases_lt}
+use Rattle.std.proofs.lemmas.Bool.{eq-eqb}
 use Rattle.table_definitions.specs.Lists.{below, has, closed_up}
-use Rattle.table_definitions.specs.Permutation.{IsPermutationOfFour, is_permutation, image, preimage, identity}
-use Rattle.table_definitions.specs.Table.{Gluing, Row, glue, IsTable}
+use Rattle.table_definitions.specs.Permutation.{IsPermutationOfFour, is_permutation, preimage}
+use Rattle.table_definitions.specs.Table.{Gluing, Row, IsTable}
 use Rattle.table_definitions.specs.Relabelling.{Relabelling, IsRelabelling, Carries, stand_in}
 use Rattle.move_definitions.specs.Moves.{Move, IsCore, Facet, facet, old_labels, kept, kept_stand_in}
 use Rattle.perm_four.proofs.ListFacts.{list_all-below}
@@ -18,9 +18,9 @@ use Rattle.gluing_table.proofs.Ranks.{rank, stays, at_rank, StandsAt, ranks_apar
 use Rattle.gluing_table.proofs.Bijections.{onto, IsDistinct-from_before}
 use Rattle.gluing_table.proofs.Moves.{carries_from}
 use Rattle.move_laws.proofs.Labels.{AreLabels, ascending, on_labels, label_tests}
-use Rattle.move_laws.proofs.ListedFacets.{found_by, not_found, is_found, closed_up-rank, stays-count}
-use Rattle.move_laws.proofs.Legal.{IsFacet, facet_is, HasNoFault, old_label, facets_apart, gone, gone_distinct, length-gone, gone_below, OldFacet, gone_facet}
-use Rattle.move_laws.proofs.Covered.{kept-count}
+use Rattle.move_laws.proofs.ListedFacets.{same_some, found_by, not_found, is_found, closed_up-rank, stays-count}
+use Rattle.move_laws.proofs.Legal.{facet_is, HasNoFault, old_label, facets_apart, gone, gone_distinct, length-gone, gone_below, OldFacet, gone_facet}
+use Rattle.move_laws.proofs.Covered.{gluing_to, kept-count}
 use Rattle.move_laws.proofs.CoreTests.{core_size}
 use Rattle.move_laws.proofs.Renamed.{renamed, given_le}
 
@@ -123,9 +123,6 @@ place_permutes old m t table h c l =
       | inr f ↦ (let Permutes : List ℕ → Type 0 = λ p. IsPermutationOfFour p in subst Permutes (sym (ap perm_of f.is)) (moved_perm_permutes (length m.core) f.label f.facet_of.labels (core_size m.core c).1 f.low f.labels))
     ]
 
-same_facet : (o : Option Facet) (f g : Facet) → o ≡ Some f → o ≡ Some g → f ≡ g
-same_facet o f g e k = cc
-
 pub place_apart : (old : List Row) (m : Move) (t u : ℕ) → IsTable old → HasNoFault old m → IsCore m.core → t < length old → u < length old → (place old m t).tet ≡ (place old m u).tet → t ≡ u
 place_apart old m t u table h c lt lu e = by_cases (place_cases old m t table h c lt) (place_cases old m u table h c lu)
   where
@@ -148,7 +145,7 @@ place_apart old m t u table h c lt lu e = by_cases (place_cases old m t table h 
         let low = f.low in
         let low' = g.low in
         let labels : f.label ≡ g.label = omega arith in
-        let same : f.facet_of ≡ g.facet_of = same_facet (facet old m g.label) f.facet_of g.facet_of (ap (facet old m) (sym labels) ∙ f.found) g.found in
+        let same : f.facet_of ≡ g.facet_of = same_some (facet old m g.label) f.facet_of g.facet_of (ap (facet old m) (sym labels) ∙ f.found) g.found in
         sym f.tet ∙ ap (λ (x : Facet). x.tet) same ∙ g.tet
 
 -- the relabelling
@@ -165,14 +162,10 @@ length-below n = length-range_with_len 0 n
 mapped : {A : Type 0} (f : ℕ → A) (n t : ℕ) (d : A) → t < n → get_or (map f (below n)) t d ≡ f t
 mapped f n t d l = get_or-map f (below n) t 0 d (rw (length-below n) l) ∙ ap f (below_at n t 0 l)
 
-mk_gluing : ℕ → List ℕ → Gluing
-mk_gluing t p = record { tet = t; perm = p }
-
 pub stand_in-placed : (old : List Row) (m : Move) (t : ℕ) → t < length old → stand_in (relabelling old m) t ≡ place old m t
-unfolding mk_gluing
 stand_in-placed old m t l =
-    ap (λ u. mk_gluing u (slice_index_or (relabelling old m).perms t [])) (mapped (λ t. (place old m t).tet) (length old) t 0 l)
-    ∙ ap (mk_gluing (place old m t).tet) (mapped (λ t. (place old m t).perm) (length old) t [] l)
+    ap (λ u. gluing_to u (slice_index_or (relabelling old m).perms t [])) (mapped (λ t. (place old m t).tet) (length old) t 0 l)
+    ∙ ap (gluing_to (place old m t).tet) (mapped (λ t. (place old m t).perm) (length old) t [] l)
 
 pub is_relabelling : (old : List Row) (m : Move) → IsTable old → HasNoFault old m → IsCore m.core → IsRelabelling (length old) (relabelling old m)
 is_relabelling old m table h c = record {

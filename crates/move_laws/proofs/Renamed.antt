@@ -1,14 +1,13 @@
 -- The labels of a move and those of its inverse, where the core of the move has s vertices.
-use Rattle.std.proofs.Common.{◌≡◌, ℕ, zero, suc, ◌+◌, ◌-◌, ◌<◌, ◌≤◌, Bool, true, false, List, [], ◌∷◌, length, map, drop, refl, sym, ap, ◌∙◌, subst, arith}
+use Rattle.std.proofs.Common.{◌≡◌, ℕ, ◌+◌, ◌-◌, ◌<◌, ◌≤◌, Bool, true, false, List, length, map, drop, refl, ap, arith}
 use Rattle.std.specs.Prelude.{◌==◌, ◌&&◌, ◌||◌, ◌≢◌, nat_lt, not, filter, if◌then◌else◌}
 use Rattle.std.specs.List.{list_all}
 use Rattle.std.proofs.lemmas.Bool.{eqb-true, ltb-true, lt-ltb, le-ltb, and_parts}
-use Rattle.std.proofs.lemmas.List.{length-map}
 use Rattle.table_definitions.specs.Lists.{below, has, same_list, in_place_of}
-use Rattle.table_definitions.specs.Permutation.{four, IsPermutationOfFour, is_permutation, image, preimage, inverse, compose}
+use Rattle.table_definitions.specs.Permutation.{four, is_permutation, image, preimage, inverse, compose}
 use Rattle.perm_four.proofs.ListFacts.{list_all-below, same_list-true}
 use Rattle.move_definitions.specs.Moves.{IsCore, vertices_by_label}
-use Rattle.move_laws.proofs.Labels.{AreLabels, labels_by, ascending, label_tests, on_labels}
+use Rattle.move_laws.proofs.Labels.{AreLabels, labels_by, ascending}
 
 -- the old labels come first, then those of the new facets, that of the facet that the inverse move names as the last
 unfoldable pub renamed : ℕ → ℕ → ℕ

@@ -1,21 +1,22 @@
 -- What stands in the table of the inverse move for what stands in the new table.
-use Rattle.std.proofs.Common.{◌≡◌, ℕ, zero, suc, ◌+◌, ◌-◌, ◌<◌, ◌≤◌, Bool, true, false, List, [], ◌∷◌, length, map, Option, Some, None, refl, sym, ap, ◌∙◌, subst, arith, inl, inr}
-use Rattle.std.specs.Prelude.{◌⊎◌, ◌==◌, ◌||◌, ◌≢◌, nat_lt, not, count_by}
+use Rattle.std.proofs.Common.{◌≡◌, ℕ, ◌+◌, ◌-◌, ◌<◌, ◌≤◌, Bool, true, false, List, [], ◌∷◌, length, map, Option, Some, None, refl, sym, ap, ◌∙◌, subst, arith, inl, inr}
+use Rattle.std.specs.Prelude.{◌⊎◌, ◌==◌, ◌||◌, ◌≢◌, nat_lt, not}
 use Rattle.std.specs.List.{list_all}
 use Rattle.std.proofs.lemmas.List.Sums.{sum_by-cons}
-use Rattle.std.proofs.lemmas.Bool.{eq-eqb, le-ltb, cases_lt, cases_eq, false≢true}
+use Rattle.std.proofs.lemmas.Bool.{eq-eqb, le-ltb, cases_lt}
 use Rattle.table_definitions.specs.Lists.{below, has, same_list, in_place_of, closed_up}
 use Rattle.table_definitions.specs.Permutation.{IsPermutationOfFour, is_permutation, image, preimage, identity, compose}
 use Rattle.table_definitions.specs.Table.{Gluing, Row, Face, glue, other_side, way_back, IsTable}
 use Rattle.table_definitions.specs.Relabelling.{face_under}
-use Rattle.move_definitions.specs.Moves.{Move, IsCore, Facet, opposite, facet, kept, kept_stand_in, facet_stand_in, stand_in_at, new_facet, label_by_label, IsMoved}
+use Rattle.move_definitions.specs.Moves.{Move, IsCore, Facet, opposite, facet, kept, kept_stand_in, facet_stand_in, stand_in_at}
 use Rattle.perm_four.proofs.ListFacts.{list_all-below, same_list-true}
-use Rattle.perm_four.proofs.Permutations.{image_below, preimage-image, image-inverse, inverse_permutes}
+use Rattle.perm_four.proofs.Permutations.{image_below, preimage-image, image-inverse}
 use Rattle.gluing_table.specs.Replaceable.{gone_before}
 use Rattle.gluing_table.proofs.Ranks.{one_if}
+use Rattle.move_laws.proofs.ListedFacets.{same_some}
 use Rattle.move_laws.proofs.Labels.{AreLabels, ascending, new_labels, on_labels, label_tests, HasLabel, label_at, HasVertex, vertex_at, length-labels, image-map}
 use Rattle.move_laws.proofs.Legal.{IsFacet, facet_is, HasNoFault, no_fault, gone, OldFacet, gone_facet, old_facet}
-use Rattle.move_laws.proofs.Covered.{face_at, stand_in-kept, stand_in-old, facet_gluing, facet_stand_in-new, facet_stand_in-old, image-identity, in_place-same, crossed}
+use Rattle.move_laws.proofs.Covered.{face_at, stand_in-kept, stand_in-old, facet_gluing, facet_stand_in-new, facet_stand_in-old, in_place-same, crossed}
 use Rattle.move_laws.proofs.Matched.{AreGlued, old_glued, label_across}
 use Rattle.move_laws.proofs.Renamed.{renamed, renamed-old, renamed-new, renamed_below, new_as_old_labels, renamed_labels, given_le, given_lt, given_apart}
 use Rattle.move_laws.proofs.InverseFacets.{inverse_of, new_as_old, IsPlayed, facet-inverse, IsNewLabel, new_label, inverse_legal}
@@ -106,13 +107,7 @@ pub record StandsAgain (old : List Row) (m : Move) (new : List Row) (x : Face) (
   pub first_permutes : IsPermutationOfFour s.perm
   pub second_permutes : IsPermutationOfFour second.perm
 
-some_is : (o : Option Gluing) (f g : Gluing) → o ≡ Some f → o ≡ Some g → f ≡ g
-some_is o f g e k = cc
-
-mk_gluing : ℕ → List ℕ → Gluing
-mk_gluing t p = record { tet = t; perm = p }
-
-identity_permutes : IsPermutationOfFour identity
+pub identity_permutes : IsPermutationOfFour identity
 unfolding is_permutation
 identity_permutes = refl
 
@@ -193,7 +188,7 @@ has_new_label old m i f v s h c low high e stands = by_size (cases_lt (image f.l
     none o a b = cc
 
     by_size : (image f.labels v < length m.core) ⊎ (length m.core ≤ image f.labels v) → HasNewLabel old m f v s
-    by_size (inl l) = record { small = l; is = some_is (facet_stand_in old m f (image f.labels v)) s (facet_gluing old m f (image f.labels v)) here (facet_stand_in-new old m f (image f.labels v) l) }
+    by_size (inl l) = record { small = l; is = same_some (facet_stand_in old m f (image f.labels v)) s (facet_gluing old m f (image f.labels v)) here (facet_stand_in-new old m f (image f.labels v) l) }
     by_size (inr g) = absurd (none (facet_stand_in old m f (image f.labels v)) (facet_stand_in-old old m f (image f.labels v) g) here)
 
 pub stands_again : (old : List Row) (m : Move) (new : List Row) → IsPlayed old m new → (x : Face) (s : Gluing) → x.tet < length old → x.face < 4 → stand_in_at old m x ≡ Some s → StandsAgain old m new x s
@@ -213,7 +208,7 @@ stands_again old m new p x s lt lf stands = by_test (has (gone old m) x.tet) ref
         subst (λ (g : Gluing). StandsAgain old m new x g) (sym n.is) (subst (λ (y : Face). StandsAgain old m new y (facet_gluing old m f (image f.labels x.face))) face there)
 
     by_test : (b : Bool) → has (gone old m) x.tet ≡ b → StandsAgain old m new x s
-    by_test false e = subst (λ (g : Gluing). StandsAgain old m new x g) (some_is (stand_in_at old m x) (kept_stand_in old m x.tet) s (stand_in-kept old m x e) stands) (again-kept old m new p x lt lf e)
+    by_test false e = subst (λ (g : Gluing). StandsAgain old m new x g) (same_some (stand_in_at old m x) (kept_stand_in old m x.tet) s (stand_in-kept old m x e) stands) (again-kept old m new p x lt lf e)
     by_test true e = by_facet (gone_facet old m x.tet p.core e)
 
 -- where something stands for a face, something stands for the face to which it is glued
@@ -238,7 +233,7 @@ other_stands old m table h c x s g lf stands glued = by_test (has (gone old m) g
         let apart : k ≢ l = λ e. here.present (label ∙ sym e) in
         let a : AreGlued old k l f f' = old_glued old m k l f f' table h c low high low' high' apart ef ef' in
         let face : opposite f l ≡ y = ap (face_at f.tet) (ap (preimage f.labels) (sym label) ∙ here.vertex) ∙ ap (λ u. face_at u y.face) t in
-        let back : a.by ≡ way_back x g = some_is (glue old y) a.by (way_back x g) (ap (glue old) (sym face) ∙ a.glued) (table.leads_back x g glued) in
+        let back : a.by ≡ way_back x g = same_some (glue old y) a.by (way_back x g) (ap (glue old) (sym face) ∙ a.glued) (table.leads_back x g glued) in
         let tets : f'.tet ≡ x.tet = sym a.tet ∙ ap (λ (b : Gluing). b.tet) back in
         let to : image a.by.perm y.face ≡ x.face = ap (λ (b : Gluing). image b.perm y.face) back ∙ image-inverse g.perm y.face yf ∙ preimage-image g.perm hp x.face lf in
         let across : image f'.labels (image a.by.perm y.face) ≡ in_place_of l k (image f.labels y.face) =
