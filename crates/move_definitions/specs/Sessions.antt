@@ -1,7 +1,8 @@
 -- Sessions: moves that are played, taken back and played once more.
 use Rattle.std.specs.Prelude.{◌≡◌, ℕ, ◌+◌, ◌-◌, ◌<◌, ◌≤◌, List, [], ◌∷◌, ◌++◌, length, take, None, Some, codes, decimal}
-use Rattle.table_definitions.specs.Table.{Row}
-use Rattle.move_definitions.specs.Moves.{Move, MoveFault, no_such_tet, boundary, repeated, not_matched, too_many, play_fault, PlaysAll}
+use Rattle.std.specs.List.{FoldsTo}
+use Rattle.table_definitions.specs.Table.{Row, IsTable}
+use Rattle.move_definitions.specs.Moves.{Move, MoveFault, no_such_tet, boundary, repeated, not_matched, too_many, IsCore, play_fault, Plays}
 use Rattle.move_definitions.specs.MoveText as text
 
 -- a first table, the moves that are kept, and how many of them are played
@@ -10,12 +11,19 @@ pub record Session : Type 0 where
   pub moves : List Move
   pub played : ℕ
 
+-- a move of a table is played on it
+abbrev pub LeadsTo : List Row → Move → List Row → Type 0
+LeadsTo old m new = IsTable old × IsCore m.core × Plays old m new
+
+abbrev pub LeadAllTo : List Row → List Move → List Row → Type 0
+LeadAllTo old moves new = FoldsTo LeadsTo old moves new
+
 -- the moves that are played lead from the first table to this one
 pub record IsTableOf (s : Session) (table : List Row) : Type 0 where
   pub in_range : s.played ≤ length s.moves
-  pub reached : PlaysAll s.first (take s.played s.moves) table
+  pub reached : LeadAllTo s.first (take s.played s.moves) table
   -- the others can be played too
-  pub others : (last : List Row) × PlaysAll s.first s.moves last
+  pub others : (last : List Row) × LeadAllTo s.first s.moves last
 
 -- no move is played yet
 abbrev pub begun : List Row → Session

@@ -1,2 +1,3 @@
 pub mod Words
 pub mod WrittenParts
+pub mod RecordLaws

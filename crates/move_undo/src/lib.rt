@@ -2,7 +2,9 @@
 #![tactic(auto)]
 
 mod reader;
+mod session;
 mod writer;
 
 pub use reader::{Step, read_move, read_step};
+pub use session::{PlayFault, Session};
 pub use writer::write_move;
