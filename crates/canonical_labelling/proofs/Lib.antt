@@ -1,0 +1,10 @@
+pub mod Group
+pub mod Standing
+pub mod Back
+pub mod Kept
+pub mod Seen
+pub mod Agreeing
+pub mod Told
+pub mod TextOrder
+pub mod Least
+pub mod Matching
