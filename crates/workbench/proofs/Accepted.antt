@@ -7,7 +7,6 @@ use Rattle.text_definitions.specs.Text.{digits_value}
 use Rattle.text_definitions.specs.Reading.{same_word}
 use Rattle.text_definitions.specs.Written.{limit}
 use Rattle.matching_equations.specs.declared.coords.Coords.{Coords}
-use Rattle.matching_equations.specs.declared.coords.Coords.TheVariants.{Standard, Quad, Octagon}
 use Rattle.command_definitions.specs.Requests as asked
 use Rattle.command_definitions.specs.Requests.{Request, is_built}
 use Rattle.command_definitions.specs.Values.{Values, ◌>>=◌, request_with, plain_request, surfaces_with, rays_with, made_with, coordinates_in, piece_coordinates_in, order_in, limit_in, limit_named, positive, decimal_up_to, is_short_decimal, seed_in, moves_in, most_moves, most_bulk_moves, values_of, or_default}
@@ -122,13 +121,9 @@ not_true : {P : Type 0} → false ≡ true → P
 not_true {P} e = absurd cc
 
 request_built : (r : code.Request) → is_built (request r) ≡ true → HasLimit (request r) → IsBuilt r
-request_built (Verify Standard) e h = λ same. absurd cc
-request_built (Verify Quad) e h = not_true e
-request_built (Verify Octagon) e h = λ same. absurd cc
+request_built (Verify coords) e h = tt
 request_built Info e h = tt
-request_built (Surfaces Standard order most) e h = ((λ same. absurd cc), h)
-request_built (Surfaces Quad order most) e h = not_true e
-request_built (Surfaces Octagon order most) e h = ((λ same. absurd cc), h)
+request_built (Surfaces coords order most) e h = h
 request_built (Rays order most) e h = h
 request_built (Describe coords) e h = not_true e
 request_built Lift e h = not_true e
