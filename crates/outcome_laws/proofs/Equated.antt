@@ -62,25 +62,30 @@ exchanged a b c d e = omega arith
 
 taken_out : (y : Corner) (ys : List Corner) → Among y ys → AreApart ys → (zs : List Corner) × IsWithout y ys zs
 taken_out y [] h a = absurd h
-taken_out y (l ∷ ls) (inl e) a = (ls, record {
-  apart = a.1;
-  within = λ k h. inr h;
-  gone = λ h. a.0 (subst (λ k. Among k ls) e h);
-  others = λ k h. ⊎_elim (λ q. inl (q ∙ sym e)) (λ g. inr g) h;
-  counts = λ f x. ap (λ k. times_in (map f (k ∷ ls)) x) (sym e);
-})
+taken_out y (l ∷ ls) (inl e) a = (
+  ls,
+  record {
+    apart = a.1;
+    within = λ k h. inr h;
+    gone = λ h. a.0 (subst (λ k. Among k ls) e h);
+    others = λ k h. ⊎_elim (λ q. inl (q ∙ sym e)) (λ g. inr g) h;
+    counts = λ f x. ap (λ k. times_in (map f (k ∷ ls)) x) (sym e);
+  },
+)
 taken_out y (l ∷ ls) (inr h) a =
     let r = taken_out y ls h a.1 in
-    let w = r.1 in
-    (l ∷ r.0, record {
-      apart = ((λ b. a.0 (w.within l b)), w.apart);
-      within = λ k b. ⊎_elim (λ q. inl q) (λ g. inr (w.within k g)) b;
-      gone = λ b. ⊎_elim (λ q. a.0 (subst (λ k. Among k ls) q h)) (λ g. w.gone g) b;
-      others = λ k b. ⊎_elim (λ q. inr (inl q)) (λ g. ⊎_elim (λ q. inl q) (λ d. inr (inr d)) (w.others k g)) b;
-      counts = λ f x. times_more x (f l) (map f ls)
-          ∙ exchanged (times_in (map f (l ∷ [])) x) (times_in (map f (y ∷ [])) x) (times_in (map f r.0) x) (times_in (map f ls) x) (w.counts f x ∙ times_more x (f y) (map f r.0))
-          ∙ ap (λ n. times_in (map f (y ∷ [])) x + n) (sym (times_more x (f l) (map f r.0))) ∙ sym (times_more x (f y) (map f (l ∷ r.0)));
-    })
+    let w = r.1 in (
+      l ∷ r.0,
+      record {
+        apart = ((λ b. a.0 (w.within l b)), w.apart);
+        within = λ k b. ⊎_elim (λ q. inl q) (λ g. inr (w.within k g)) b;
+        gone = λ b. ⊎_elim (λ q. a.0 (subst (λ k. Among k ls) q h)) (λ g. w.gone g) b;
+        others = λ k b. ⊎_elim (λ q. inr (inl q)) (λ g. ⊎_elim (λ q. inl q) (λ d. inr (inr d)) (w.others k g)) b;
+        counts = λ f x. times_more x (f l) (map f ls)
+            ∙ exchanged (times_in (map f (l ∷ [])) x) (times_in (map f (y ∷ [])) x) (times_in (map f r.0) x) (times_in (map f ls) x) (w.counts f x ∙ times_more x (f y) (map f r.0))
+            ∙ ap (λ n. times_in (map f (y ∷ [])) x + n) (sym (times_more x (f l) (map f r.0))) ∙ sym (times_more x (f y) (map f (l ∷ r.0)));
+      },
+    )
 
 -- lists of the same corners, each once, have the same numbers as often
 same_counts : (xs ys : List Corner) → AreApart xs → AreApart ys → ((k : Corner) → Among k xs → Among k ys) → ((k : Corner) → Among k ys → Among k xs) → (f : Corner → ℕ) (x : ℕ) →

@@ -1,17 +1,16 @@
 -- An accepted request is one that the program answers, with a limit in range.
-use Rattle.std.proofs.Common.{◌≡◌, ◌≢◌, ℕ, ◌<◌, ◌≤◌, Bool, true, false, List, [], ◌∷◌, Option, Some, None, refl, sym, ap, ◌∙◌, subst, arith, nat_lt}
+use Rattle.std.proofs.Common.{◌≡◌, ℕ, ◌≤◌, Bool, true, false, List, [], ◌∷◌, Option, Some, None, refl, subst, arith, nat_lt}
 use Rattle.std.proofs.Common.{ltb-false, ltb-true}
 use Rattle.std.specs.Prelude.{codes, if◌then◌else◌, ⊤}
 use Rattle.std.specs.Option.{option_map, option_and_then}
 use Rattle.text_definitions.specs.Text.{digits_value}
 use Rattle.text_definitions.specs.Reading.{same_word}
 use Rattle.text_definitions.specs.Written.{limit}
-use Rattle.matching_equations.specs.declared.coords.Coords.{Coords}
 use Rattle.command_definitions.specs.Requests as asked
 use Rattle.command_definitions.specs.Requests.{Request, is_built}
 use Rattle.command_definitions.specs.Values.{Values, ◌>>=◌, request_with, plain_request, surfaces_with, rays_with, made_with, coordinates_in, piece_coordinates_in, order_in, limit_in, limit_named, positive, decimal_up_to, is_short_decimal, seed_in, moves_in, most_moves, most_bulk_moves, values_of, or_default}
-use Rattle.command_definitions.specs.Options.{Given, options_of}
-use Rattle.command_definitions.specs.Words.{Command, command_named, request_given, request_of, built_request, accepted_request}
+use Rattle.command_definitions.specs.Options.{options_of}
+use Rattle.command_definitions.specs.Words.{command_named, request_of, built_request, accepted_request}
 use Rattle.command_words.specs.Requests.{request}
 use Rattle.command_words.specs.declared.request.Request as code
 use Rattle.command_words.specs.declared.request.Request.TheVariants.{Verify, Info, Surfaces, Rays, Describe, Lift, Crush, Play, Sig, Same, Group, Check, Descend, Make, Bulk}

@@ -1,5 +1,5 @@
 -- From what the parts of a command answered to its outcome.
-use Rattle.std.proofs.Common.{◌≡◌, ℕ, ◌⊎◌, inl, inr, List, length, Result, Ok, Err, Vec, sym, subst}
+use Rattle.std.proofs.Common.{◌≡◌, ℕ, inl, inr, List, length, Result, Ok, Err, Vec, sym, subst}
 use Rattle.std.specs.declared.alloc.Global.{Global}
 use Rattle.std.specs.Prelude.{IfOk, codes}
 use Rattle.table_definitions.specs.Table.{Row}
@@ -14,7 +14,7 @@ use Rattle.double_description.specs.Faults.{named_of}
 use Rattle.surface_list.specs.Surfaces.{AreSurfaces, IsLargeIn, cone_of, AreTableSurfaces, IsTableRefused}
 use Rattle.signature_definitions.specs.SignatureText.{InputFault}
 use Rattle.outcome_definitions.specs.Outcomes.{Outcome, IsReadOutcome}
-use Rattle.outcome_definitions.specs.Enumerations.{Enumeration, IsListed, IsPastLimit, list_outcome, large_outcome, IsEnumerationAnswer, IsSurfacesAnswer}
+use Rattle.outcome_definitions.specs.Enumerations.{Enumeration, list_outcome, large_outcome, IsEnumerationAnswer, IsSurfacesAnswer}
 
 -- what follows from the value of an answer
 pub if_ok : {X E : Type 0} (r : Result X E) (P Q : X → Type 0) → ((x : X) → P x → Q x) → IfOk r P → IfOk r Q

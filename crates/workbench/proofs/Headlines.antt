@@ -1,5 +1,5 @@
 -- What a run that is done has printed follows from the outcome of the words and of the input.
-use Rattle.std.proofs.Common.{◌≡◌, ℕ, List, length, Bool, true, false, Option, Some, None, Result, Ok, Err, ◌⊎◌, inl, inr, refl, sym, ◌∙◌, ap, subst}
+use Rattle.std.proofs.Common.{◌≡◌, ℕ, List, length, Bool, true, false, Option, Some, None, Result, Ok, Err, inl, inr, refl, sym, ◌∙◌, ap, subst}
 use Rattle.std.specs.Prelude.{IfSome, codes, nat_lt}
 use Rattle.std.specs.Bool.{MatchBool}
 use Rattle.bench_io.specs.Causes.{Grows}
@@ -13,7 +13,7 @@ use Rattle.outcome_definitions.specs.declared.Status.{Status}
 use Rattle.outcome_definitions.specs.declared.Status.TheVariants.{Done, Input, Large}
 use Rattle.outcome_definitions.specs.Outcomes.{Outcome, too_long_outcome, fault_outcome, IsReadOutcome}
 use Rattle.outcome_definitions.specs.Enumerations.{IsEnumerationAnswer, IsSurfacesAnswer, order_of, ray_enumeration, list_outcome, large_outcome}
-use Rattle.outcome_definitions.specs.Answers.{IsOutcome, IsOutcomeOf, IsRequestOutcome, IsAnswerTo, IsVerdictsAnswer, verify_outcome, most_bytes}
+use Rattle.outcome_definitions.specs.Answers.{IsOutcome, IsOutcomeOf, IsAnswerTo, IsVerdictsAnswer, verify_outcome, most_bytes}
 use Rattle.workbench.specs.Runs.{IsAnswered}
 use Rattle.workbench.specs.Prints.{PrintsSurfaces, PrintsRays, PrintsVerdicts}
 

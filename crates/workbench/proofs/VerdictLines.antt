@@ -1,6 +1,5 @@
 -- What the check of a vector answers is written as the verdict on it.
-use Rattle.std.proofs.Common.{◌≡◌, ℕ, List, [], ◌∷◌, ◌++◌, length, map, Result, Vec, refl, sym, ◌∙◌, ap}
-use Rattle.std.specs.declared.alloc.Global.{Global}
+use Rattle.std.proofs.Common.{◌≡◌, ℕ, List, Result, refl, ◌∙◌, ap}
 use Rattle.cone_definitions.specs.Rows as cones
 use Rattle.surface_definitions.specs.Verdict.{Verdict, solution, wrong_length, large, fails, clash, verdict, verdict_text}
 use Rattle.surface_definitions.specs.Coordinates.{Coordinates, clash_list}
