@@ -1,6 +1,6 @@
 -- The commands with the values of their options.
 use Rattle.std.specs.Prelude.{ℕ, Bool, true, false}
-use Rattle.surface_definitions.specs.Coordinates.{Coordinates, standard, quads, octagons}
+use Rattle.surface_definitions.specs.Coordinates.{Coordinates}
 
 -- in which order the rows are taken: as they are given, those with fewest entries first, or by their leading zeros
 pub data Order : Type 0 where
@@ -28,13 +28,9 @@ pub data Request : Type 0 where
 
 -- whether the program answers the request yet
 abbrev pub is_built : Request → Bool
-is_built (verify standard) = true
-is_built (verify octagons) = true
-is_built (verify quads) = false
+is_built (verify coords) = true
 is_built info = true
-is_built (surfaces standard order most) = true
-is_built (surfaces octagons order most) = true
-is_built (surfaces quads order most) = false
+is_built (surfaces coords order most) = true
 is_built (rays order most) = true
 is_built (describe coords) = false
 is_built lift = false

@@ -20,7 +20,6 @@ use crate::values::{Values, request_with};
 use bench_io::Words;
 use clap::error::ErrorKind;
 use clap::{ArgMatches, Error};
-use matching_equations::Coords;
 use std::alloc::{AllocError, Global};
 
 // What was found for each option.
@@ -163,8 +162,8 @@ fn is_built(request: &Request) -> bool
     ensures { result ≡ is_built (request_asked request.now) }
 {
     match request {
-        Request::Verify(Coords::Standard | Coords::Octagon) => true,
-        Request::Surfaces(Coords::Standard | Coords::Octagon, _, _) => true,
+        Request::Verify(_) => true,
+        Request::Surfaces(_, _, _) => true,
         Request::Rays(_, _) => true,
         Request::Info => true,
         _ => false,

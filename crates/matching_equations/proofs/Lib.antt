@@ -3,3 +3,4 @@ pub mod Terms
 pub mod Matched
 pub mod Images
 pub mod Rounds
+pub mod EdgeCorners

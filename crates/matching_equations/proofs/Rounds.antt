@@ -6,17 +6,8 @@ use Rattle.table_definitions.specs.Permutation.{image, IsPermutationOfFour}
 use Rattle.table_definitions.specs.Table.{Gluing, Row, glue, IsTable}
 use Rattle.table_definitions.proofs.PermutationLaws.{image_below, image-of_inverse}
 use Rattle.matching_equations.proofs.Images.{images_apart}
+use Rattle.matching_equations.specs.Quads.{IsCornerIn}
 use Rattle.skeleton_definitions.specs.Corners.{Corner, corner_behind, step, steps, Reaches, GoesRound, IsWalk, AreCorners}
-
--- a corner of one of the tetrahedra: its vertices are vertices, and a is neither c nor d
-pub record IsCornerIn (n : ℕ) (k : Corner) : Type 0 where
-  pub tet : k.tet < n
-  pub a : k.a < 4
-  pub b : k.b < 4
-  pub c : k.c < 4
-  pub d : k.d < 4
-  pub ac : k.a ≢ k.c
-  pub ad : k.a ≢ k.d
 
 -- the corner before, by what leads back
 abbrev pub undone : Corner → Option Gluing → Corner

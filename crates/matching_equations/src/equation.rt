@@ -16,7 +16,7 @@ use smallvec::SmallVec;
 use std::alloc::Global;
 
 /// The quad type that keeps two vertices on one side.
-fn keeping(vertex: u8, face: u8) -> u8
+pub fn keeping(vertex: u8, face: u8) -> u8
     requires a_vertex { vertex < 4 }
     requires a_face { face < 4 }
     requires apart { vertex ≢ face }

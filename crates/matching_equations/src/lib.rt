@@ -1,12 +1,15 @@
-//! The columns of normal and octagonal surfaces, and the matching equations of a gluing table.
+//! The columns of normal and octagonal surfaces, and the equations of a gluing table.
 #![tactic(auto)]
 
 mod coords;
 mod equation;
 mod matching;
+mod quads;
+mod table_equations;
 
 pub use coords::{Coords, Piece, column, columns, columns_each, triangles_each};
 pub use matching::matching_system;
+pub use table_equations::equations;
 
 #[cfg(test)]
 mod tests;

@@ -3,6 +3,7 @@ use cone_core::System;
 use gluing_table::{Glue, Table};
 use no_memory::NoMemory;
 use perm_four::Perm4;
+use skeleton::Skeleton;
 
 fn by(tet: u32, word: &[u8]) -> Option<Glue> {
     match Perm4::from_word(word) {
@@ -20,7 +21,7 @@ fn entries(system: &System, i: u32) -> &[(u32, i32)] {
 }
 
 #[test]
-fn a_sphere_has_six_rows(rt: HostRuntime) -> Result<(), NoMemory> {
+fn a_sphere_has_six_rows_and_two_in_quads(rt: HostRuntime) -> Result<(), NoMemory> {
     let row = [
         by(0, b"1023"),
         by(0, b"1023"),
@@ -28,7 +29,8 @@ fn a_sphere_has_six_rows(rt: HostRuntime) -> Result<(), NoMemory> {
         by(0, b"3012"),
     ];
     let table = Table::from_rows(rt.alloc(), &[row]).expect(&rt, "a table");
-    let standard = matching_system(rt.alloc(), Coords::Standard, &table)?;
+    let skeleton = Skeleton::of(rt.alloc(), &table)?;
+    let standard = equations(rt.alloc(), &skeleton, Coords::Standard)?;
     assert_eq!(rt; standard.columns(), 7);
     assert_eq!(rt; standard.len(), 6);
     assert_eq!(rt; entries(&standard, 0), &[(0u32, -1), (1, 1)][..]);
@@ -43,12 +45,17 @@ fn a_sphere_has_six_rows(rt: HostRuntime) -> Result<(), NoMemory> {
         entries(&standard, 5),
         &[(0u32, -1), (3, 1), (4, 1), (6, -1)][..]
     );
-    let octagon = matching_system(rt.alloc(), Coords::Octagon, &table)?;
+    let octagon = equations(rt.alloc(), &skeleton, Coords::Octagon)?;
     assert_eq!(rt; octagon.len(), 6);
     assert_eq!(rt;
         entries(&octagon, 4),
         &[(1u32, 1), (2, -1), (4, -1), (6, 1), (7, 1), (9, -1)][..]
     );
+    let quad = equations(rt.alloc(), &skeleton, Coords::Quad)?;
+    assert_eq!(rt; quad.columns(), 3);
+    assert_eq!(rt; quad.len(), 2);
+    assert_eq!(rt; entries(&quad, 0), &[(1u32, -1), (2, 1)][..]);
+    assert_eq!(rt; entries(&quad, 1), &[(1u32, 1), (2, -1)][..]);
     Ok(())
 }
 

@@ -3,15 +3,16 @@ use Rattle.std.specs.Prelude.{◌≡◌, ℕ, List, map, length, Option, Some, N
 use Rattle.std.specs.Bool.{MatchBool}
 use Rattle.text_definitions.specs.Written.{limit}
 use Rattle.table_definitions.specs.Table.{Row}
+use Rattle.cone_definitions.specs.Rows.{Row as EquationRow}
 use Rattle.surface_definitions.specs.Coordinates.{Coordinates, columns, clash_list}
-use Rattle.surface_definitions.specs.Equations.{matching_rows}
+use Rattle.surface_definitions.specs.QuadEquations.{AreEquations}
 use Rattle.surface_definitions.specs.Verdict.{Verdict, verdict}
 use Rattle.document_definitions.specs.Documents.{worded, table_document, vectors_document, steps_document, cone_document, verdicts_text}
 use Rattle.command_definitions.specs.Requests.{Request, verify, info, surfaces, rays, describe, lift, crush, play, sig, same, group, check, descend, make, bulk}
 use Rattle.command_definitions.specs.Words.{accepted_request}
 use Rattle.outcome_definitions.specs.declared.Status.TheVariants.{Done}
 use Rattle.outcome_definitions.specs.Outcomes.{Outcome, usage_outcome, too_long_outcome, IsReadOutcome}
-use Rattle.outcome_definitions.specs.Enumerations.{IsEnumerationAnswer, ray_enumeration, surface_enumeration}
+use Rattle.outcome_definitions.specs.Enumerations.{IsEnumerationAnswer, IsSurfacesAnswer, order_of, ray_enumeration}
 use Rattle.outcome_definitions.specs.Information.{IsInformationAnswer}
 use Rattle.outcome_definitions.specs.Scripts.{IsScriptAnswer}
 
@@ -19,19 +20,23 @@ use Rattle.outcome_definitions.specs.Scripts.{IsScriptAnswer}
 abbrev pub most_bytes : ℕ
 most_bytes = 1048576
 
--- the verdict on a vector in standard or octagon coordinates
-abbrev pub verdict_on : Coordinates → List Row → List ℕ → Verdict
-verdict_on coords rows x = verdict limit (columns coords (length rows)) (matching_rows coords rows) (clash_list coords (length rows)) x
+-- the verdict on a vector under the equations of a table
+abbrev pub verdict_on : Coordinates → List Row → List EquationRow → List ℕ → Verdict
+verdict_on coords rows equations x = verdict limit (columns coords (length rows)) equations (clash_list coords (length rows)) x
 
 -- a verdict on each vector
-abbrev pub verify_outcome : Coordinates → List Row × List (List ℕ) → Outcome
-verify_outcome coords d = record { status = Done; text = verdicts_text (map (verdict_on coords d.0) d.1) }
+abbrev pub verify_outcome : Coordinates → List Row → List EquationRow → List (List ℕ) → Outcome
+verify_outcome coords rows equations vectors = record { status = Done; text = verdicts_text (map (verdict_on coords rows equations) vectors) }
+
+-- the answer to a table and vectors: a verdict on each vector, under the equations of the table
+abbrev pub IsVerdictsAnswer : Coordinates → List Row × List (List ℕ) → Outcome → Type 0
+IsVerdictsAnswer coords d o = (equations : List EquationRow) × AreEquations coords d.0 equations × (o ≡ verify_outcome coords d.0 equations d.1)
 
 -- The outcome of a command on an input that isn't too long. A command that isn't built has none.
 abbrev pub IsAnswerTo : Request → List ℕ → Outcome → Type 0
-IsAnswerTo (verify coords) bytes o = IsReadOutcome (vectors_document bytes) (λ d p. p ≡ verify_outcome coords d) o
+IsAnswerTo (verify coords) bytes o = IsReadOutcome (vectors_document bytes) (IsVerdictsAnswer coords) o
 IsAnswerTo info bytes o = IsReadOutcome (table_document bytes) IsInformationAnswer o
-IsAnswerTo (surfaces coords order most) bytes o = IsReadOutcome (table_document bytes) (λ rows. IsEnumerationAnswer (codes "surfaces") (surface_enumeration coords order most rows)) o
+IsAnswerTo (surfaces coords order most) bytes o = IsReadOutcome (table_document bytes) (IsSurfacesAnswer coords (order_of order) most) o
 IsAnswerTo (rays order most) bytes o = IsReadOutcome (worded (cone_document bytes)) (λ cone. IsEnumerationAnswer (codes "rays") (ray_enumeration order most cone)) o
 IsAnswerTo (describe coords) bytes o = ⊥
 IsAnswerTo lift bytes o = ⊥

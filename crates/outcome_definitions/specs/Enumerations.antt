@@ -2,6 +2,7 @@
 use Rattle.std.specs.Prelude.{◌≡◌, ℕ, ◌+◌, ◌-◌, List, [], ◌++◌, length, codes, decimal, ◌⊎◌, slice_index}
 use Rattle.std.specs.List.{range_with_len}
 use Rattle.std.specs.List.Sorted.{IsPermutation}
+use Rattle.cone_definitions.specs.Rows.{Row as EquationRow}
 use Rattle.cone_definitions.specs.Surfaces.{Clash, IsSurfaceList}
 use Rattle.cone_definitions.specs.Elimination.{in_order, Named, ray, pair, IsLarge}
 use Rattle.cone_core.specs.Systems.{Cone}
@@ -11,7 +12,7 @@ use Rattle.double_description.specs.declared.picker.Order.{Order}
 use Rattle.double_description.specs.declared.picker.Order.TheVariants.{Given, Short, Zeros}
 use Rattle.table_definitions.specs.Table.{Row}
 use Rattle.surface_definitions.specs.Coordinates.{Coordinates, columns, clash_list}
-use Rattle.surface_definitions.specs.Equations.{matching_rows}
+use Rattle.surface_definitions.specs.QuadEquations.{AreEquations}
 use Rattle.command_definitions.specs.Requests.{Order as OrderName, given, short, zeros}
 use Rattle.double_description.specs.Enumerated.{AreWithin}
 use Rattle.ray_answers.specs.Answers.{AreNamed}
@@ -72,14 +73,16 @@ order_of zeros = Zeros
 abbrev pub ray_enumeration : OrderName → ℕ → ConeText → Enumeration
 ray_enumeration order limit cone = record { system = system_of cone; pairs = []; order = order_of order; limit = limit }
 
--- the vertex surfaces of a table in standard or octagon coordinates
-abbrev pub table_enumeration : Coordinates → Order → ℕ → List Row → Enumeration
-table_enumeration coords order limit rows = record {
-  system = record { columns = columns coords (length rows); rows = matching_rows coords rows };
+-- the vertex surfaces of a table, by its equations
+abbrev pub table_enumeration : Coordinates → Order → ℕ → List Row → List EquationRow → Enumeration
+table_enumeration coords order limit rows equations = record {
+  system = record { columns = columns coords (length rows); rows = equations };
   pairs = clash_list coords (length rows);
   order = order;
   limit = limit;
 }
 
-abbrev pub surface_enumeration : Coordinates → OrderName → ℕ → List Row → Enumeration
-surface_enumeration coords order limit rows = table_enumeration coords (order_of order) limit rows
+-- the answer to a table: its vertex surfaces, under the equations of the table
+abbrev pub IsSurfacesAnswer : Coordinates → Order → ℕ → List Row → Outcome → Type 0
+IsSurfacesAnswer coords order limit rows o =
+    (equations : List EquationRow) × AreEquations coords rows equations × IsEnumerationAnswer (codes "surfaces") (table_enumeration coords order limit rows equations) o

@@ -1,18 +1,22 @@
 -- Words and an input are due one outcome.
-use Rattle.std.proofs.Common.{◌≡◌, ◌≢◌, ℕ, Bool, true, false, List, length, sym, ◌∙◌}
+use Rattle.std.proofs.Common.{◌≡◌, ◌≢◌, ℕ, Bool, true, false, List, length, sym, ap, ◌∙◌, subst}
 use Rattle.std.specs.Prelude.{Option, Some, None, Result, Ok, Err, nat_lt, codes}
 use Rattle.std.specs.Bool.{MatchBool}
+use Rattle.table_definitions.specs.Table.{Row}
+use Rattle.surface_definitions.specs.Coordinates.{Coordinates}
+use Rattle.double_description.specs.declared.picker.Order.{Order}
 use Rattle.double_description.specs.declared.picker.Order.TheVariants.{Free}
 use Rattle.signature_definitions.specs.SignatureText.{InputFault}
 use Rattle.document_definitions.specs.Documents.{worded, table_document, vectors_document, steps_document, cone_document}
 use Rattle.command_definitions.specs.Requests.{Request, verify, info, surfaces, rays, describe, lift, crush, play, sig, same, group, check, descend, make, bulk, Order as OrderName, given, short, zeros}
 use Rattle.command_definitions.specs.Words.{accepted_request}
 use Rattle.outcome_definitions.specs.Outcomes.{Outcome, too_long_outcome, IsReadOutcome}
-use Rattle.outcome_definitions.specs.Enumerations.{IsEnumerationAnswer, order_of, ray_enumeration, surface_enumeration}
+use Rattle.outcome_definitions.specs.Enumerations.{IsEnumerationAnswer, IsSurfacesAnswer, order_of, ray_enumeration, table_enumeration}
 use Rattle.outcome_definitions.specs.Information.{IsInformationAnswer}
 use Rattle.outcome_definitions.specs.Scripts.{IsScriptAnswer}
-use Rattle.outcome_definitions.specs.Answers.{most_bytes, verify_outcome, IsAnswerTo, IsOutcomeOf, IsOutcome}
+use Rattle.outcome_definitions.specs.Answers.{most_bytes, verify_outcome, IsVerdictsAnswer, IsAnswerTo, IsOutcomeOf, IsOutcome}
 use Rattle.outcome_laws.proofs.Enumerated.{one_enumeration}
+use Rattle.outcome_laws.proofs.Equated.{one_equations}
 use Rattle.outcome_laws.proofs.Informed.{one_information}
 use Rattle.outcome_laws.proofs.Scripted.{one_script}
 
@@ -28,12 +32,20 @@ one_read : {A : Type 0} (document : Result A InputFault) (IsAnswer : A → Outco
 one_read (Ok value) IsAnswer o p one h k = one value h k
 one_read (Err fault) IsAnswer o p one h k = h ∙ sym k
 
+-- the equations of a table are one list
+one_verdicts : (coords : Coordinates) (d : List Row × List (List ℕ)) (o p : Outcome) → IsVerdictsAnswer coords d o → IsVerdictsAnswer coords d p → o ≡ p
+one_verdicts coords d o p h k = h.2 ∙ ap (λ equations. verify_outcome coords d.0 equations d.1) (one_equations coords d.0 h.0 k.0 h.1 k.1) ∙ sym k.2
+
+one_surfaces : (coords : Coordinates) (order : Order) (most : ℕ) (rows : List Row) (o p : Outcome) → order ≢ Free → IsSurfacesAnswer coords order most rows o → IsSurfacesAnswer coords order most rows p → o ≡ p
+one_surfaces coords order most rows o p some h k =
+    one_enumeration (codes "surfaces") (table_enumeration coords order most rows h.0) o p some h.2
+    (subst (λ equations. IsEnumerationAnswer (codes "surfaces") (table_enumeration coords order most rows equations) p) (sym (one_equations coords rows h.0 k.0 h.1 k.1)) k.2)
+
 one_answer : (request : Request) (bytes : List ℕ) (o p : Outcome) → IsAnswerTo request bytes o → IsAnswerTo request bytes p → o ≡ p
-one_answer (verify coords) bytes o p h k = one_read (vectors_document bytes) (λ d q. q ≡ verify_outcome coords d) o p (λ d a b. a ∙ sym b) h k
+one_answer (verify coords) bytes o p h k = one_read (vectors_document bytes) (IsVerdictsAnswer coords) o p (λ d. one_verdicts coords d o p) h k
 one_answer info bytes o p h k = one_read (table_document bytes) IsInformationAnswer o p (λ rows. one_information rows o p) h k
 one_answer (surfaces coords order most) bytes o p h k =
-    one_read (table_document bytes) (λ rows. IsEnumerationAnswer (codes "surfaces") (surface_enumeration coords order most rows)) o p
-    (λ rows. one_enumeration (codes "surfaces") (surface_enumeration coords order most rows) o p (named order)) h k
+    one_read (table_document bytes) (IsSurfacesAnswer coords (order_of order) most) o p (λ rows. one_surfaces coords (order_of order) most rows o p (named order)) h k
 one_answer (rays order most) bytes o p h k =
     one_read (worded (cone_document bytes)) (λ cone. IsEnumerationAnswer (codes "rays") (ray_enumeration order most cone)) o p
     (λ cone. one_enumeration (codes "rays") (ray_enumeration order most cone) o p (named order)) h k

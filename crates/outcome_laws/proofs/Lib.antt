@@ -3,4 +3,5 @@ pub mod Enumerated
 pub mod Numbered
 pub mod Informed
 pub mod Scripted
+pub mod Equated
 pub mod Agreement

@@ -19,7 +19,7 @@ no_more n Same classes k m a b less =
     let below : slice_index classes last.0 < k = a.in_range last.0 last.1 in
     let is : slice_index classes last.0 ≡ k = last.2 in omega arith
 
-one_count : (n : ℕ) (Same : ℕ → ℕ → Type 0) (classes : List ℕ) (k m : ℕ) → IsNumbering n Same classes k → IsNumbering n Same classes m → k ≡ m
+pub one_count : (n : ℕ) (Same : ℕ → ℕ → Type 0) (classes : List ℕ) (k m : ℕ) → IsNumbering n Same classes k → IsNumbering n Same classes m → k ≡ m
 one_count n Same classes k m a b = elim (cases_order k m) [
   | inl e ↦ e
   | inr (inl less) ↦ absurd (no_more n Same classes k m a b less)

@@ -1,10 +1,11 @@
--- The equations in quad coordinates: a row for each inner edge.
-use Rattle.std.specs.Prelude.{◌≡◌, ℕ, List, length, map}
+-- The equations of a table in any coordinates. In quad coordinates they are a row for each inner edge.
+use Rattle.std.specs.Prelude.{◌≡◌, ℕ, ◌*◌, List, length, map}
 use Rattle.std.specs.List.{AllZip}
 use Rattle.table_definitions.specs.Table.{Row}
-use Rattle.surface_definitions.specs.Coordinates.{quads, columns, quad_column, keeping}
-use Rattle.surface_definitions.specs.Equations.{Equation, row_of}
-use Rattle.table_definitions.specs.Classes.{least}
+use Rattle.surface_definitions.specs.Coordinates.{Coordinates, standard, quads, octagons, columns, quad_column, keeping}
+use Rattle.surface_definitions.specs.Equations.{Equation, row_of, matching_rows}
+use Rattle.table_definitions.specs.Classes.{IsNumbering, least}
+use Rattle.table_definitions.specs.Places.{SameEdge}
 use Rattle.skeleton_definitions.specs.Corners.{Corner, first_corner, AreCorners, inner_edges}
 use Rattle.cone_definitions.specs.Rows.{Row as EquationRow}
 
@@ -24,3 +25,16 @@ IsQuadRow rows classes c row =
 -- one row for each inner edge class, ascending, by the numbering of the edges
 abbrev pub AreQuadRows : List Row → List ℕ → ℕ → List EquationRow → Type 0
 AreQuadRows rows classes count quad_rows = AllZip (IsQuadRow rows classes) (inner_edges rows classes count) quad_rows
+
+-- so by the numbering of the edges of a table, which is one
+pub record AreQuadEquations (rows : List Row) (quad_rows : List EquationRow) : Type 0 where
+  pub classes : List ℕ
+  pub count : ℕ
+  pub numbered : IsNumbering (6 * length rows) (SameEdge rows) classes count
+  pub each : AreQuadRows rows classes count quad_rows
+
+-- the equations of a table: matching equations, and in quad coordinates those of the inner edges
+abbrev pub AreEquations : Coordinates → List Row → List EquationRow → Type 0
+AreEquations standard rows equations = equations ≡ matching_rows standard rows
+AreEquations quads rows equations = AreQuadEquations rows equations
+AreEquations octagons rows equations = equations ≡ matching_rows octagons rows

@@ -4,7 +4,7 @@ use Rattle.std.specs.Prelude.{Result, Ok, Err, IfOk, IfErr}
 use Rattle.std.proofs.lemmas.List.Sorted.{IsPermutation-refl}
 use Rattle.table_definitions.specs.Table.{Row}
 use Rattle.surface_definitions.specs.Coordinates.{Coordinates, columns, clash_list}
-use Rattle.surface_definitions.specs.Equations.{matching_rows}
+use Rattle.surface_definitions.specs.QuadEquations.{AreEquations}
 use Rattle.cone_definitions.specs.Surfaces.{Clash}
 use Rattle.cone_definitions.proofs.Next.{one_surface_list_lem}
 use Rattle.cone_core.specs.Systems.{Cone}
@@ -15,7 +15,7 @@ use Rattle.double_description.specs.declared.engine.EnumFault.TheVariants.{Large
 use Rattle.double_description.specs.Turns.{AreTaken}
 use Rattle.double_description.specs.Enumerated.{IsEnumerated, IsRefused}
 use Rattle.ray_answers.specs.Answers.{AreNamed}
-use Rattle.surface_list.specs.Surfaces.{matching_cone, AreSurfacesIn, AreSurfaces, AreRefused}
+use Rattle.surface_list.specs.Surfaces.{cone_of, AreSurfacesIn, AreRefused, AreTableSurfaces, IsTableRefused}
 use denote.Ref.{Bor}
 
 named_turns : (order : Order) (post : Bor Cone → Bor (List ℕ) → ℕ → Type 0) (system : Cone) (taken : List ℕ) → AreTaken order post system taken → AreNamed order system taken
@@ -40,21 +40,34 @@ are_refused limit system pairs others order other post (Err (Large taken kind)) 
     (subst (λ o. AreRefused limit system pairs o (Large taken kind)) f
     (record { step = h.step; count = h.count; named = named_turns order post system taken.items h.turns; large = h.large }))
 
-cone_is : (coords : Coordinates) (rows : List Row) (system : Cone) → system.columns ≡ columns coords (length rows) → system.rows ≡ matching_rows coords rows → system ≡ matching_cone coords rows
-cone_is coords rows system e f = λ i. record { columns = e i; rows = f i }
+cone_is : (coords : Coordinates) (rows : List Row) (system : Cone) → system.columns ≡ columns coords (length rows) → system ≡ cone_of coords rows system.rows
+cone_is coords rows system e = λ i. record { columns = e i; rows = system.rows }
 
-pub surfaces_by : (limit : ℕ) (coords : Coordinates) (rows : List Row) (system : Cone) (n : ℕ) (order : Order) (rays : Rays) → system.columns ≡ columns coords (length rows) → system.rows ≡ matching_rows coords rows
-    → n ≡ length rows → AreSurfacesIn limit system (clash_list coords n) order rays → AreSurfaces limit (matching_cone coords rows) (clash_list coords (length rows)) order rays.list.items
+pub surfaces_by : (limit : ℕ) (coords : Coordinates) (rows : List Row) (system : Cone) (n : ℕ) (order : Order) (rays : Rays) → system.columns ≡ columns coords (length rows) → AreEquations coords rows system.rows
+    → n ≡ length rows → AreSurfacesIn limit system (clash_list coords n) order rays → AreTableSurfaces limit coords rows order rays.list.items
 surfaces_by limit coords rows system n order rays e f g h =
-    let there : AreSurfacesIn limit (matching_cone coords rows) (clash_list coords (length rows)) order rays =
-    subst (λ s. AreSurfacesIn limit s (clash_list coords (length rows)) order rays) (cone_is coords rows system e f)
-    (subst (λ m. AreSurfacesIn limit system (clash_list coords m) order rays) g h) in
-    record {
-      list = there.surfaces;
-      only = λ others is_list. one_surface_list_lem (columns coords (length rows)) (matching_rows coords rows) (matching_rows coords rows) (clash_list coords (length rows)) others rays.list.items
-          (IsPermutation-refl (matching_rows coords rows)) is_list there.surfaces;
-      taken = rays.order.items;
-      all = there.all;
-      named = there.named;
-      within = there.within;
-    }
+    let there : AreSurfacesIn limit (cone_of coords rows system.rows) (clash_list coords (length rows)) order rays =
+    subst (λ s. AreSurfacesIn limit s (clash_list coords (length rows)) order rays) (cone_is coords rows system e)
+    (subst (λ m. AreSurfacesIn limit system (clash_list coords m) order rays) g h) in (
+      system.rows,
+      f,
+      record {
+        list = there.surfaces;
+        only = λ others is_list. one_surface_list_lem (columns coords (length rows)) system.rows system.rows (clash_list coords (length rows)) others rays.list.items
+            (IsPermutation-refl system.rows) is_list there.surfaces;
+        taken = rays.order.items;
+        all = there.all;
+        named = there.named;
+        within = there.within;
+      },
+    )
+
+pub refused_by : (limit : ℕ) (coords : Coordinates) (rows : List Row) (system : Cone) (n : ℕ) (order : Order) (fault : EnumFault) → system.columns ≡ columns coords (length rows) → AreEquations coords rows system.rows
+    → n ≡ length rows → AreRefused limit system (clash_list coords n) order fault → IsTableRefused limit coords rows order fault
+refused_by limit coords rows system n order NoMemory e f g h = tt
+refused_by limit coords rows system n order (Large taken kind) e f g h = (
+  system.rows,
+  f,
+  subst (λ s. AreRefused limit s (clash_list coords (length rows)) order (Large taken kind)) (cone_is coords rows system e)
+      (subst (λ m. AreRefused limit system (clash_list coords m) order (Large taken kind)) g h),
+)

@@ -1,9 +1,9 @@
 //! The vertex surfaces of a gluing table.
 #![tactic(auto)]
 
-mod surfaces;
+mod listed;
 
-pub use surfaces::surfaces_of;
+pub use listed::surfaces;
 
 #[cfg(test)]
 mod tests;

@@ -1,4 +1,4 @@
-ghost use Rattle.std.specs.Prelude.{◌≢◌, ◌≤◌};
+ghost use Rattle.std.specs.Prelude.{◌≤◌};
 
 use super::*;
 use cone_core::MAX_ENTRY;
@@ -6,6 +6,7 @@ use double_description::Order;
 use gluing_table::{Glue, Row, Table};
 use matching_equations::Coords;
 use perm_four::Perm4;
+use skeleton::Skeleton;
 use std::alloc::Global;
 
 fn by(tet: u32, word: &[u8]) -> Option<Glue> {
@@ -23,12 +24,12 @@ fn are_surfaces(
     limit: u128,
     vectors: &[&[u128]],
 )
-    requires coords { coords ≢ Coords.Quad }
     requires some_limit { 1 ≤ limit }
     requires most_limit { limit ≤ MAX_ENTRY }
 {
     let table = Table::from_rows(alloc, rows).expect(rt, "a table");
-    match surfaces_of(alloc, &table, coords, Order::Given, limit) {
+    let skeleton = Skeleton::of(alloc, &table).expect(rt, "a skeleton");
+    match surfaces(alloc, &skeleton, coords, Order::Given, limit) {
         Ok(rays) => {
             assert_eq!(rt; rays.len(), vectors.len());
             for (ray, vector) in rays.iter().zip(vectors) {
@@ -64,6 +65,7 @@ fn surfaces_of_small_tables(rt: HostRuntime) {
         1,
         &[&[1, 1, 0, 0, 1, 0, 0], &[1, 1, 1, 1, 0, 0, 0]],
     );
+    are_surfaces(&rt, alloc, &sphere, Coords::Quad, MAX_ENTRY, &[&[1, 0, 0]]);
     let free = [[None, None, None, None]];
     let empty: Vec<Row> = Vec::new(alloc);
     are_surfaces(&rt, alloc, &empty, Coords::Standard, MAX_ENTRY, &[]);

@@ -1,18 +1,16 @@
 -- An accepted request is one that the program answers, with a limit in range.
-use Rattle.std.proofs.Common.{◌≡◌, ◌≢◌, ℕ, ◌<◌, ◌≤◌, Bool, true, false, List, [], ◌∷◌, Option, Some, None, refl, sym, ap, ◌∙◌, subst, arith, nat_lt}
+use Rattle.std.proofs.Common.{◌≡◌, ℕ, ◌≤◌, Bool, true, false, List, [], ◌∷◌, Option, Some, None, refl, subst, arith, nat_lt}
 use Rattle.std.proofs.Common.{ltb-false, ltb-true}
 use Rattle.std.specs.Prelude.{codes, if◌then◌else◌, ⊤}
 use Rattle.std.specs.Option.{option_map, option_and_then}
 use Rattle.text_definitions.specs.Text.{digits_value}
 use Rattle.text_definitions.specs.Reading.{same_word}
 use Rattle.text_definitions.specs.Written.{limit}
-use Rattle.matching_equations.specs.declared.coords.Coords.{Coords}
-use Rattle.matching_equations.specs.declared.coords.Coords.TheVariants.{Standard, Quad, Octagon}
 use Rattle.command_definitions.specs.Requests as asked
 use Rattle.command_definitions.specs.Requests.{Request, is_built}
 use Rattle.command_definitions.specs.Values.{Values, ◌>>=◌, request_with, plain_request, surfaces_with, rays_with, made_with, coordinates_in, piece_coordinates_in, order_in, limit_in, limit_named, positive, decimal_up_to, is_short_decimal, seed_in, moves_in, most_moves, most_bulk_moves, values_of, or_default}
-use Rattle.command_definitions.specs.Options.{Given, options_of}
-use Rattle.command_definitions.specs.Words.{Command, command_named, request_given, request_of, built_request, accepted_request}
+use Rattle.command_definitions.specs.Options.{options_of}
+use Rattle.command_definitions.specs.Words.{command_named, request_of, built_request, accepted_request}
 use Rattle.command_words.specs.Requests.{request}
 use Rattle.command_words.specs.declared.request.Request as code
 use Rattle.command_words.specs.declared.request.Request.TheVariants.{Verify, Info, Surfaces, Rays, Describe, Lift, Crush, Play, Sig, Same, Group, Check, Descend, Make, Bulk}
@@ -122,13 +120,9 @@ not_true : {P : Type 0} → false ≡ true → P
 not_true {P} e = absurd cc
 
 request_built : (r : code.Request) → is_built (request r) ≡ true → HasLimit (request r) → IsBuilt r
-request_built (Verify Standard) e h = λ same. absurd cc
-request_built (Verify Quad) e h = not_true e
-request_built (Verify Octagon) e h = λ same. absurd cc
+request_built (Verify coords) e h = tt
 request_built Info e h = tt
-request_built (Surfaces Standard order most) e h = ((λ same. absurd cc), h)
-request_built (Surfaces Quad order most) e h = not_true e
-request_built (Surfaces Octagon order most) e h = ((λ same. absurd cc), h)
+request_built (Surfaces coords order most) e h = h
 request_built (Rays order most) e h = h
 request_built (Describe coords) e h = not_true e
 request_built Lift e h = not_true e

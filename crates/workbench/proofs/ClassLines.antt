@@ -1,5 +1,5 @@
 -- The lines of classes, one more at a time.
-use Rattle.std.proofs.Common.{◌≡◌, ℕ, zero, suc, ◌+◌, ◌<◌, ◌≤◌, List, [], ◌∷◌, ◌++◌, length, Bool, false, refl, sym, ap, ◌∙◌, subst, add-one, append_assoc, append-nil, length-append, arith, ◌⊎◌, inl, inr, Option, Some, None, true}
+use Rattle.std.proofs.Common.{◌≡◌, ℕ, ◌+◌, ◌<◌, List, [], ◌∷◌, ◌++◌, length, Bool, false, sym, ap, ◌∙◌, subst, add-one, append_assoc, append-nil, length-append, arith, ◌⊎◌, inl, inr, Option, Some, None, true}
 use Rattle.std.specs.Prelude.{IsTrue, is_some, codes, ◌↔◌}
 use Rattle.std.specs.List.{slice_index_or}
 use Rattle.skeleton_definitions.specs.Links.{Link}

@@ -1,5 +1,5 @@
 -- Reading lines of one form to the end of the input, line by line.
-use Rattle.std.proofs.Common.{◌≡◌, ℕ, ◌+◌, ◌<◌, List, [], ◌∷◌, ◌++◌, Result, Ok, Err, length, refl, sym, ap, ◌∙◌, subst, arith, append_assoc, append-nil, Vec, map}
+use Rattle.std.proofs.Common.{◌≡◌, ℕ, ◌<◌, List, [], ◌∷◌, ◌++◌, Result, Ok, Err, length, refl, sym, ap, ◌∙◌, arith, append_assoc, append-nil, Vec, map}
 use Rattle.std.specs.declared.alloc.Global.{Global}
 use Rattle.cone_text_definitions.specs.VectorText.{vector_at}
 use Rattle.std.proofs.lemmas.List.{map-append}

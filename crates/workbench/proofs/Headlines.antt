@@ -1,9 +1,10 @@
 -- What a run that is done has printed follows from the outcome of the words and of the input.
-use Rattle.std.proofs.Common.{◌≡◌, ℕ, List, length, Bool, true, false, Option, Some, None, Result, Ok, Err, ◌⊎◌, inl, inr, refl, sym, ◌∙◌, ap, subst}
+use Rattle.std.proofs.Common.{◌≡◌, ℕ, List, length, Bool, true, false, Option, Some, None, Result, Ok, Err, inl, inr, refl, sym, ◌∙◌, ap, subst}
 use Rattle.std.specs.Prelude.{IfSome, codes, nat_lt}
 use Rattle.std.specs.Bool.{MatchBool}
 use Rattle.bench_io.specs.Causes.{Grows}
 use Rattle.signature_definitions.specs.SignatureText.{InputFault}
+use Rattle.table_definitions.specs.Table.{Row}
 use Rattle.surface_definitions.specs.Coordinates.{Coordinates}
 use Rattle.document_definitions.specs.Documents.{worded, table_document, vectors_document, cone_document}
 use Rattle.command_definitions.specs.Requests.{Request, verify, surfaces, rays, Order}
@@ -11,8 +12,8 @@ use Rattle.command_definitions.specs.Words.{accepted_request}
 use Rattle.outcome_definitions.specs.declared.Status.{Status}
 use Rattle.outcome_definitions.specs.declared.Status.TheVariants.{Done, Input, Large}
 use Rattle.outcome_definitions.specs.Outcomes.{Outcome, too_long_outcome, fault_outcome, IsReadOutcome}
-use Rattle.outcome_definitions.specs.Enumerations.{IsEnumerationAnswer, surface_enumeration, ray_enumeration, list_outcome, large_outcome}
-use Rattle.outcome_definitions.specs.Answers.{IsOutcome, IsOutcomeOf, IsRequestOutcome, IsAnswerTo, verify_outcome, most_bytes}
+use Rattle.outcome_definitions.specs.Enumerations.{IsEnumerationAnswer, IsSurfacesAnswer, order_of, ray_enumeration, list_outcome, large_outcome}
+use Rattle.outcome_definitions.specs.Answers.{IsOutcome, IsOutcomeOf, IsAnswerTo, IsVerdictsAnswer, verify_outcome, most_bytes}
 use Rattle.workbench.specs.Runs.{IsAnswered}
 use Rattle.workbench.specs.Prints.{PrintsSurfaces, PrintsRays, PrintsVerdicts}
 
@@ -34,6 +35,9 @@ was_read : {A : Type 0} (read : Result A InputFault) (P : A → Outcome → Type
 was_read (Ok a) P o done h = (a, refl, h)
 was_read (Err fault) P o done h = apart o (fault_outcome fault) done h not_input
 
+told : {A Q : Type 0} (read : Result A InputFault) (P : A → Outcome → Type 0) (o : Outcome) → (a : A) × (read ≡ Ok a) × P a o → ((a : A) → read ≡ Ok a → P a o → Q) → Q
+told read P o d f = f d.0 d.1 d.2
+
 module _ (words : List (List ℕ)) (bytes : List ℕ) (o : Outcome) (held grown : Option (List ℕ)) (outcome : IsOutcome words bytes o) (done : o.status ≡ Done) (grows : Grows held grown o.text) where
   answered : (r : Request) → accepted_request words ≡ Some r → IsAnswerTo r bytes o
   answered r e = not_too_long (nat_lt most_bytes (length bytes)) (IsAnswerTo r bytes o) o done (subst (λ (asked : Option Request). IsOutcomeOf asked bytes o) e outcome)
@@ -41,13 +45,17 @@ module _ (words : List (List ℕ)) (bytes : List ℕ) (o : Outcome) (held grown 
   printed : (p : Outcome) → o ≡ p → Grows held grown p.text
   printed p same = subst (λ (q : Outcome). Grows held grown q.text) same grows
 
+  surfaces_from : (coords : Coordinates) (order : Order) (most : ℕ) (rows : List Row) → table_document bytes ≡ Ok rows → IsSurfacesAnswer coords (order_of order) most rows o → PrintsSurfaces coords bytes held grown
+  surfaces_from coords order most rows spelled h = elim h.2 [
+    | inl g ↦ record { rows = rows; spelled = spelled; equations = h.0; of_table = h.1; list = g.1; surfaces = (g.2).surfaces; printed = printed (list_outcome (codes "surfaces") g.1) g.3 }
+    | inr g ↦ apart o (large_outcome g.0 g.1) done g.3 not_large
+  ]
+
   pub prints_surfaces : (coords : Coordinates) (order : Order) (most : ℕ) → accepted_request words ≡ Some (surfaces coords order most) → PrintsSurfaces coords bytes held grown
   prints_surfaces coords order most e =
-      let d = was_read (table_document bytes) (λ rows. IsEnumerationAnswer (codes "surfaces") (surface_enumeration coords order most rows)) o done (answered (surfaces coords order most) e) in
-      elim d.2 [
-        | inl h ↦ record { rows = d.0; spelled = d.1; list = h.1; surfaces = (h.2).surfaces; printed = printed (list_outcome (codes "surfaces") h.1) h.3 }
-        | inr h ↦ apart o (large_outcome h.0 h.1) done h.3 not_large
-      ]
+      told (table_document bytes) (IsSurfacesAnswer coords (order_of order) most) o
+      (was_read (table_document bytes) (IsSurfacesAnswer coords (order_of order) most) o done (answered (surfaces coords order most) e))
+      (surfaces_from coords order most)
 
   pub prints_rays : (order : Order) (most : ℕ) → accepted_request words ≡ Some (rays order most) → PrintsRays bytes held grown
   prints_rays order most e =
@@ -57,10 +65,13 @@ module _ (words : List (List ℕ)) (bytes : List ℕ) (o : Outcome) (held grown 
         | inr h ↦ apart o (large_outcome h.0 h.1) done h.3 not_large
       ]
 
+  verdicts_from : (coords : Coordinates) (d : List Row × List (List ℕ)) → vectors_document bytes ≡ Ok d → IsVerdictsAnswer coords d o → PrintsVerdicts coords bytes held grown
+  verdicts_from coords d spelled h =
+      record { rows = d.0; vectors = d.1; spelled = spelled; equations = h.0; of_table = h.1; printed = printed (verify_outcome coords d.0 h.0 d.1) h.2 }
+
   pub prints_verdicts : (coords : Coordinates) → accepted_request words ≡ Some (verify coords) → PrintsVerdicts coords bytes held grown
   prints_verdicts coords e =
-      let d = was_read (vectors_document bytes) (λ d p. p ≡ verify_outcome coords d) o done (answered (verify coords) e) in
-      record { rows = (d.0).0; vectors = (d.0).1; spelled = d.1; printed = printed (verify_outcome coords d.0) d.2 }
+      told (vectors_document bytes) (IsVerdictsAnswer coords) o (was_read (vectors_document bytes) (IsVerdictsAnswer coords) o done (answered (verify coords) e)) (verdicts_from coords)
 
 -- the same where the source tells its bytes
 abbrev Tells : List (List ℕ) → Status → Option (List ℕ) → Option (List ℕ) → List ℕ → Type 0

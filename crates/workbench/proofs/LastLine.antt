@@ -1,7 +1,6 @@
 -- Where a further line is begun, the end of the document is looked for on it.
-use Rattle.std.proofs.Common.{◌≡◌, List, [], ◌∷◌, Result, Ok, refl, ap, ◌∙◌}
+use Rattle.std.proofs.Common.{◌≡◌, List, [], ◌∷◌, Ok, refl, ap, ◌∙◌}
 use Rattle.text_definitions.specs.Text.{Line}
-use Rattle.text_definitions.specs.declared.LexFault.{LexFault}
 use Rattle.text_definitions.specs.Reading.{Reading, begun, line_from, need_line_at, end_line_at}
 use Rattle.document_definitions.specs.Documents.{no_line_from, no_line_at}
 

@@ -1,9 +1,8 @@
 -- The line of a fault that a call answered is that of the fault that was found.
-use Rattle.std.proofs.Common.{◌≡◌, ℕ, List, Result, Ok, Err, refl, sym, ◌∙◌, ap, subst}
+use Rattle.std.proofs.Common.{◌≡◌, ℕ, List, Result, Err, refl, sym, ◌∙◌, ap, subst}
 use Rattle.table_definitions.specs.Table as gluings
 use Rattle.table_definitions.specs.TableText as texts
 use Rattle.signature_definitions.specs.SignatureText as signatures
-use Rattle.gluing_table.specs.declared.table.TableFault.{TableFault}
 use Rattle.gluing_table.specs.declared.reader.TextFault.{TextFault}
 use Rattle.gluing_table.specs.declared.reader.TextFault.TheVariants as text_faults
 use Rattle.gluing_table.specs.Faults.{answer}

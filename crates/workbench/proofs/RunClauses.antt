@@ -1,14 +1,14 @@
 -- What was delivered is the outcome of the words and of the input, or a prefix of what was due.
-use Rattle.std.proofs.Common.{◌≡◌, ℕ, ◌<◌, ◌⊎◌, inl, inr, List, length, take, Option, Some, None, refl, sym, ◌∙◌, ap, subst}
-use Rattle.std.specs.Prelude.{IfSome, ⊤}
-use Rattle.bench_io.specs.Causes.{Grows, Rose}
+use Rattle.std.proofs.Common.{◌≡◌, ℕ, inl, inr, List, Option, Some, None, sym, ◌∙◌, ap, subst}
+use Rattle.std.specs.Prelude.{IfSome}
+use Rattle.bench_io.specs.Causes.{Grows}
 use Rattle.command_definitions.specs.Requests.{Request}
 use Rattle.command_definitions.specs.Words.{accepted_request}
 use Rattle.outcome_definitions.specs.declared.Status.{Status}
 use Rattle.outcome_definitions.specs.declared.Status.TheVariants.{ReadFault, WriteFault}
-use Rattle.outcome_definitions.specs.Outcomes.{Outcome, IsOwnStatus, read_outcome}
+use Rattle.outcome_definitions.specs.Outcomes.{Outcome, IsOwnStatus}
 use Rattle.outcome_definitions.specs.Answers.{IsOutcome, IsOutcomeOf, IsRequestOutcome}
-use Rattle.workbench.specs.Runs.{IsAnswered, IsCalm, IsReadFault, IsReadWell, IsResponse, IsCutOff, IsDelivered, IsDue}
+use Rattle.workbench.specs.Runs.{IsAnswered, IsReadFault, IsReadWell, IsResponse, IsCutOff, IsDelivered, IsDue}
 
 module _ (words : List (List ℕ)) (r : Request) (accepted : accepted_request words ≡ Some r) (rest : Option (List ℕ)) (before now : ℕ) (o : Outcome)
     (held grown : Option (List ℕ)) (faults_before faults_now : ℕ) (status : Status) where

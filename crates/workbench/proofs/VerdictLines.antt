@@ -1,6 +1,5 @@
 -- What the check of a vector answers is written as the verdict on it.
-use Rattle.std.proofs.Common.{◌≡◌, ℕ, List, [], ◌∷◌, ◌++◌, length, map, Result, Vec, refl, sym, ◌∙◌, ap}
-use Rattle.std.specs.declared.alloc.Global.{Global}
+use Rattle.std.proofs.Common.{◌≡◌, ℕ, List, Result, refl, ◌∙◌, ap}
 use Rattle.cone_definitions.specs.Rows as cones
 use Rattle.surface_definitions.specs.Verdict.{Verdict, solution, wrong_length, large, fails, clash, verdict, verdict_text}
 use Rattle.surface_definitions.specs.Coordinates.{Coordinates, clash_list}
@@ -17,11 +16,10 @@ line_of (large i) = refl
 line_of (fails i) = refl
 line_of (clash a b) = refl
 
--- the line of the verdict under the columns and rows of a system
-pub checked_line : (checked : Result (Unit {0}) VectorFault) (coords : Coordinates) (n m tets k : ℕ) (rows given : List cones.Row) (x : List ℕ)
-    → checked ≡ answer_of (verdict limit n rows (clash_list coords tets) x) → n ≡ m → tets ≡ k → rows ≡ given
-    → check_line checked ≡ verdict_text (verdict limit m given (clash_list coords k) x)
-checked_line checked coords n m tets k rows given x same columns count equal = ap check_line same ∙ line_of (verdict limit n rows (clash_list coords tets) x)
+-- the line of the verdict under the columns of a system
+pub checked_line : (checked : Result (Unit {0}) VectorFault) (coords : Coordinates) (n m tets k : ℕ) (rows : List cones.Row) (x : List ℕ)
+    → checked ≡ answer_of (verdict limit n rows (clash_list coords tets) x) → n ≡ m → tets ≡ k
+    → check_line checked ≡ verdict_text (verdict limit m rows (clash_list coords k) x)
+checked_line checked coords n m tets k rows x same columns count = ap check_line same ∙ line_of (verdict limit n rows (clash_list coords tets) x)
     ∙ ap (λ (c : ℕ). verdict_text (verdict limit c rows (clash_list coords tets) x)) columns
     ∙ ap (λ (t : ℕ). verdict_text (verdict limit m rows (clash_list coords t) x)) count
-    ∙ ap (λ (rs : List cones.Row). verdict_text (verdict limit m rs (clash_list coords k) x)) equal

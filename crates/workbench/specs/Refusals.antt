@@ -1,13 +1,11 @@
 -- The lines of refusals, by the faults of the code's calls.
 use Rattle.std.specs.Prelude.{◌≡◌, ℕ, List, [], codes}
-use Rattle.table_definitions.specs.Table as gluings
 use Rattle.table_definitions.specs.TableText as texts
 use Rattle.signature_definitions.specs.SignatureText as signatures
 use Rattle.gluing_table.specs.declared.table.TableFault.{TableFault}
 use Rattle.gluing_table.specs.declared.table.TableFault.TheVariants as table_faults
 use Rattle.gluing_table.specs.declared.reader.TextFault.{TextFault}
 use Rattle.gluing_table.specs.declared.reader.TextFault.TheVariants as text_faults
-use Rattle.gluing_table.specs.Faults.{answer}
 use Rattle.signature_codec.specs.declared.faults.SigFault.{SigFault}
 use Rattle.signature_codec.specs.declared.faults.SigFault.TheVariants.{BadChar, Short, BadType, Leftover, Destination, Gluing, FaceTaken, Trailing, TooMany, Unreached, Width}
 use Rattle.signature_codec.specs.declared.faults.SigFault.TheVariants as sig_faults

@@ -1,7 +1,6 @@
 -- The requests that a run answers.
-use Rattle.std.specs.Prelude.{ℕ, ◌≢◌, ◌≤◌, ⊤}
+use Rattle.std.specs.Prelude.{ℕ, ◌≤◌, ⊤}
 use Rattle.text_definitions.specs.Written.{limit}
-use Rattle.matching_equations.specs.declared.coords.Coords.TheVariants.{Quad}
 use Rattle.command_words.specs.declared.request.Request.{Request}
 use Rattle.command_words.specs.declared.request.Request.TheVariants.{Verify, Info, Surfaces, Rays, Describe, Lift, Crush, Play, Sig, Same, Group, Check, Descend, Make, Bulk}
 
@@ -12,8 +11,8 @@ pub record IsLimit (most : ℕ) : Type 0 where
 
 -- the request is one that the program answers, with a limit in range
 abbrev pub IsBuilt : Request → Type 0
-IsBuilt (Verify coords) = coords ≢ Quad
-IsBuilt (Surfaces coords order most) = (coords ≢ Quad) × IsLimit most
+IsBuilt (Verify coords) = ⊤
+IsBuilt (Surfaces coords order most) = IsLimit most
 IsBuilt (Rays order most) = IsLimit most
 IsBuilt Info = ⊤
 IsBuilt (Describe coords) = ⊥

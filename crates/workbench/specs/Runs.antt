@@ -1,5 +1,5 @@
 -- What a run answers, over what is read and what is written.
-use Rattle.std.specs.Prelude.{◌≡◌, ℕ, ◌-◌, ◌^◌, ◌<◌, ◌≤◌, ◌+◌, List, length, take, Option, Some, None, Result, Ok, Err, ◌⊎◌, ⊤, IfSome}
+use Rattle.std.specs.Prelude.{◌≡◌, ℕ, ◌-◌, ◌^◌, ◌<◌, ◌≤◌, ◌+◌, List, length, take, Option, ◌⊎◌, ⊤, IfSome}
 use Rattle.bench_io.specs.Causes.{Grows, Rose, IsEnded}
 use Rattle.outcome_definitions.specs.declared.Status.{Status}
 use Rattle.outcome_definitions.specs.declared.Status.TheVariants.{Done, Usage, Input, Refused, Large, ReadFault, WriteFault, NoMemory}

@@ -106,7 +106,8 @@ pub fn run<S: Source, K: Sink>(alloc: Global, words: &Words, source: &mut S, sin
     ensures end { result ≡ Status.Done → IsEnded (S.left source.new) }
 
     // For every input that spells a gluing table, `surfaces` prints exactly the primitive integer vectors that lie on
-    // extreme rays of its solution cone and meet the quadrilateral condition, each once, in lexicographic order.
+    // extreme rays of its solution cone, in the coordinates asked for, and meet the quadrilateral condition, each once,
+    // in lexicographic order.
     ensures surfaces { result ≡ Status.Done → (coords : Coordinates) → (order : OrderName) → (most : ℕ)
         → accepted_request words.now ≡ Some (requests.surfaces coords order most)
         → IfSome (S.left source.old) (λ bytes. PrintsSurfaces coords bytes (K.held sink.old) (K.held sink.new)) }

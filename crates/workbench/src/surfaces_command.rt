@@ -1,10 +1,10 @@
 // The command `surfaces`: all vertex surfaces of a table.
-ghost use Rattle.std.specs.Prelude.{◌≡◌, ◌≢◌, ◌≤◌, ◌^◌, length, codes, IfOk};
+ghost use Rattle.std.specs.Prelude.{◌≡◌, ◌≢◌, ◌≤◌, ◌^◌, length, IfOk};
 ghost use Rattle.command_words.specs.Requests as words;
 ghost use Rattle.document_definitions.specs.Documents.{table_document};
 ghost use Rattle.matching_equations.specs.Columns.{coordinates_of};
 ghost use Rattle.outcome_definitions.specs.Outcomes.{IsReadOutcome, IsOwnStatus};
-ghost use Rattle.outcome_definitions.specs.Enumerations.{IsEnumerationAnswer, surface_enumeration, table_enumeration};
+ghost use Rattle.outcome_definitions.specs.Enumerations.{IsSurfacesAnswer, order_of};
 
 use crate::document::read_table_document;
 use crate::enumerations::{large_outcome, list_outcome, row_order};
@@ -15,8 +15,29 @@ use double_description::{EnumFault, Order};
 use gluing_table::Table;
 use matching_equations::Coords;
 use no_memory::NoMemory;
+use skeleton::Skeleton;
 use std::alloc::Global;
-use surface_list::surfaces_of;
+
+// The answer to a table, by its skeleton.
+fn listed(
+    alloc: Global,
+    skeleton: &Skeleton,
+    coords: Coords,
+    order: Order,
+    limit: u128,
+) -> Result<Outcome, NoMemory>
+    requires named { order ≢ Order.Free }
+    requires some_limit { 1 ≤ limit }
+    requires most_limit { limit ≤ MAX_ENTRY }
+    ensures answer { IfOk result (IsSurfacesAnswer (coordinates_of coords) order limit skeleton.now.rows) }
+    ensures own_status { IfOk result (λ o. IsOwnStatus o.status) }
+{
+    match surface_list::surfaces(alloc, skeleton, coords, order, limit) {
+        Ok(surfaces) => list_outcome(alloc, b"surfaces", &surfaces),
+        Err(EnumFault::Large { order, kind }) => large_outcome(alloc, &order, &kind),
+        Err(EnumFault::NoMemory) => Err(NoMemory),
+    }
+}
 
 // The answer to a table.
 fn answer(
@@ -26,21 +47,17 @@ fn answer(
     order: Order,
     limit: u128,
 ) -> Result<Outcome, NoMemory>
-    requires coords { coords ≢ Coords.Quad }
     requires named { order ≢ Order.Free }
     requires some_limit { 1 ≤ limit }
     requires most_limit { limit ≤ MAX_ENTRY }
-    ensures answer { IfOk result (IsEnumerationAnswer (codes "surfaces") (table_enumeration (coordinates_of coords) order limit table.now)) }
+    ensures answer { IfOk result (IsSurfacesAnswer (coordinates_of coords) order limit table.now) }
     ensures own_status { IfOk result (λ o. IsOwnStatus o.status) }
 {
-    match surfaces_of(alloc, table, coords, order, limit) {
-        Ok(surfaces) => list_outcome(alloc, b"surfaces", &surfaces),
-        Err(EnumFault::Large { order, kind }) => large_outcome(alloc, &order, &kind),
-        Err(EnumFault::NoMemory) => Err(NoMemory),
-    }
+    let skeleton = Skeleton::of(alloc, table)?;
+    listed(alloc, &skeleton, coords, order, limit)
 }
 
-/// The outcome of `surfaces` on an input that isn't too long, in standard or octagon coordinates.
+/// The outcome of `surfaces` on an input that isn't too long.
 pub fn surfaces(
     alloc: Global,
     coords: Coords,
@@ -49,10 +66,9 @@ pub fn surfaces(
     bytes: &[u8],
 ) -> Result<Outcome, NoMemory>
     requires size { length bytes.now ≤ 2 ^ 31 }
-    requires coords { coords ≢ Coords.Quad }
     requires some_limit { 1 ≤ limit }
     requires most_limit { limit ≤ MAX_ENTRY }
-    ensures answer { IfOk result (IsReadOutcome (table_document bytes.now) (λ rows. IsEnumerationAnswer (codes "surfaces") (surface_enumeration (coordinates_of coords) (words.order_of order) limit rows))) }
+    ensures answer { IfOk result (IsReadOutcome (table_document bytes.now) (IsSurfacesAnswer (coordinates_of coords) (order_of (words.order_of order)) limit)) }
     ensures own_status { IfOk result (λ o. IsOwnStatus o.status) }
 {
     match read_table_document(alloc, bytes) {

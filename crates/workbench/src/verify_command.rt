@@ -1,14 +1,13 @@
 // The command `verify`: a verdict for each vector.
-ghost use Rattle.std.specs.Prelude.{◌≡◌, ◌≢◌, ◌≤◌, ◌++◌, ◌^◌, length, map, codes, decimal, IfOk, OnOk};
+ghost use Rattle.std.specs.Prelude.{◌≡◌, ◌≤◌, ◌++◌, ◌^◌, length, map, codes, decimal, IfOk, OnOk};
 ghost use Rattle.surface_definitions.specs.Coordinates as coordinates;
-ghost use Rattle.surface_definitions.specs.Equations.{matching_rows};
 ghost use Rattle.document_definitions.specs.Documents.{vectors_document, verdicts_text};
 ghost use Rattle.matching_equations.specs.Columns.{coordinates_of};
 ghost use Rattle.workbench.specs.Reads.{all_entries};
 ghost use Rattle.outcome_definitions.specs.Lines.{line};
 ghost use Rattle.surface_definitions.specs.Verdict.{verdict_text};
 ghost use Rattle.outcome_definitions.specs.Outcomes.{IsReadOutcome, IsOwnStatus};
-ghost use Rattle.outcome_definitions.specs.Answers.{verify_outcome, verdict_on};
+ghost use Rattle.outcome_definitions.specs.Answers.{IsVerdictsAnswer, verdict_on};
 ghost use Rattle.workbench.specs.Verdicts.{check_line};
 
 use crate::document::read_table_and_vectors;
@@ -16,10 +15,11 @@ use crate::outcome::Outcome;
 use crate::refusals::fault_outcome;
 use cone_core::System;
 use gluing_table::Table;
-use matching_equations::{Coords, matching_system};
+use matching_equations::{Coords, equations};
 use no_memory::NoMemory;
 use outcome_definitions::Status;
 use quad_condition::{VectorFault, check_vector};
+use skeleton::Skeleton;
 use std::alloc::Global;
 use text_writing::{append, append_decimal};
 
@@ -89,9 +89,8 @@ fn append_verdict(
     system: &System,
     vector: &[u128],
 ) -> Result<(), NoMemory>
-    requires columns { system.now.columns ≡ coordinates.columns (coordinates_of coords) (length table.now) }
-    requires rows { system.now.rows ≡ matching_rows (coordinates_of coords) table.now }
-    ensures { OnOk result (out.new.items ≡ out.old.items ++ verdict_text (verdict_on (coordinates_of coords) table.now vector.now)) }
+    requires { system.now.columns ≡ coordinates.columns (coordinates_of coords) (length table.now) }
+    ensures { OnOk result (out.new.items ≡ out.old.items ++ verdict_text (verdict_on (coordinates_of coords) table.now system.now.rows vector.now)) }
 {
     let checked = check_vector(coords, table.len(), system, vector);
     append_checked(alloc, out, checked)
@@ -102,31 +101,43 @@ fn verdicts(
     alloc: Global,
     coords: Coords,
     table: &Table,
+    system: &System,
     vectors: &[Vec<u128>],
 ) -> Result<Vec<u8>, NoMemory>
-    requires { coords ≢ Coords.Quad }
-    ensures { IfOk result (λ text. text.items ≡ verdicts_text (map (verdict_on (coordinates_of coords) table.now) (all_entries vectors.now))) }
+    requires { system.now.columns ≡ coordinates.columns (coordinates_of coords) (length table.now) }
+    ensures { IfOk result (λ text. text.items ≡ verdicts_text (map (verdict_on (coordinates_of coords) table.now system.now.rows) (all_entries vectors.now))) }
 {
-    let system = matching_system(alloc, coords, table)?;
     let mut text = Vec::new(alloc);
     for vector in vectors {
-        append_verdict(alloc, &mut text, coords, table, &system, vector)?;
+        append_verdict(alloc, &mut text, coords, table, system, vector)?;
     }
     Ok(text)
 }
 
-/// The outcome of `verify` on an input that isn't too long, in standard or octagon coordinates.
+// The answer to a table and vectors.
+fn answer(
+    alloc: Global,
+    coords: Coords,
+    table: &Table,
+    vectors: &[Vec<u128>],
+) -> Result<Outcome, NoMemory>
+    ensures answer { IfOk result (IsVerdictsAnswer (coordinates_of coords) (table.now, all_entries vectors.now)) }
+    ensures own_status { IfOk result (λ o. IsOwnStatus o.status) }
+{
+    let skeleton = Skeleton::of(alloc, table)?;
+    let system = equations(alloc, &skeleton, coords)?;
+    let text = verdicts(alloc, coords, table, &system, vectors)?;
+    Ok(Outcome::built(Status::Done, text))
+}
+
+/// The outcome of `verify` on an input that isn't too long.
 pub fn verify(alloc: Global, coords: Coords, bytes: &[u8]) -> Result<Outcome, NoMemory>
-    requires size { length bytes.now ≤ 2 ^ 31 }
-    requires coords { coords ≢ Coords.Quad }
-    ensures answer { IfOk result (IsReadOutcome (vectors_document bytes.now) (λ d p. p ≡ verify_outcome (coordinates_of coords) d)) }
+    requires { length bytes.now ≤ 2 ^ 31 }
+    ensures answer { IfOk result (IsReadOutcome (vectors_document bytes.now) (IsVerdictsAnswer (coordinates_of coords))) }
     ensures own_status { IfOk result (λ o. IsOwnStatus o.status) }
 {
     match read_table_and_vectors(alloc, bytes) {
-        Ok(document) => {
-            let text = verdicts(alloc, coords, &document.table, &document.vectors)?;
-            Ok(Outcome::built(Status::Done, text))
-        }
+        Ok(document) => answer(alloc, coords, &document.table, &document.vectors),
         Err(fault) => fault_outcome(alloc, fault),
     }
 }

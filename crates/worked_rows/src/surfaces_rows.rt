@@ -3,7 +3,7 @@ use crate::running::{Row, are_answered};
 use std::test::Fail;
 use workbench::Status;
 
-const ROWS: [Row; 22] = [
+const ROWS: [Row; 26] = [
     Row {
         words: &["surfaces"],
         input: b"sig bkaagj\n",
@@ -135,6 +135,30 @@ const ROWS: [Row; 22] = [
         input: b"sig bkaagj\n",
         status: Status::Done,
         text: b"# surfaces 3\nvec 0 0 1 1 0 0 0 1 0 0\nvec 1 1 0 0 1 0 0 0 0 0\nvec 1 1 1 1 0 0 0 0 0 0\n",
+    },
+    Row {
+        words: &["surfaces", "--coords", "quad"],
+        input: b"sig bkaagj\n",
+        status: Status::Done,
+        text: b"# surfaces 1\nvec 1 0 0\n",
+    },
+    Row {
+        words: &["surfaces", "--coords", "quad"],
+        input: b"sig cPcbbbiht\n",
+        status: Status::Done,
+        text: b"# surfaces 4\nvec 0 0 2 0 0 1\nvec 0 1 0 0 2 0\nvec 0 1 0 2 0 0\nvec 2 0 0 0 0 1\n",
+    },
+    Row {
+        words: &["surfaces", "--coords", "quad", "--order", "short"],
+        input: b"sig cPcbbbiht\n",
+        status: Status::Done,
+        text: b"# surfaces 4\nvec 0 0 2 0 0 1\nvec 0 1 0 0 2 0\nvec 0 1 0 2 0 0\nvec 2 0 0 0 0 1\n",
+    },
+    Row {
+        words: &["surfaces", "--coords", "quad", "--order", "zeros"],
+        input: b"sig cPcbbbiht\n",
+        status: Status::Done,
+        text: b"# surfaces 4\nvec 0 0 2 0 0 1\nvec 0 1 0 0 2 0\nvec 0 1 0 2 0 0\nvec 2 0 0 0 0 1\n",
     },
 ];
 

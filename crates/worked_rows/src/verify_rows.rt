@@ -3,7 +3,7 @@ use crate::running::{Row, are_answered};
 use std::test::Fail;
 use workbench::Status;
 
-const ROWS: [Row; 53] = [
+const ROWS: [Row; 54] = [
     Row {
         words: &["verify"],
         input: b"tri 1\n0:1023 0:1023 0:1230 0:3012\nvec 1 1 0 0 1 0 0\nvec 1 0 0 0 0 0 0\nvec 0 0 1 1 0 1 1\nvec 1 1 0 0 1 0\nvec 0 0 0 0 0 0 0\n",
@@ -321,6 +321,12 @@ const ROWS: [Row; 53] = [
         input: b"sig -cOp\n",
         status: Status::Input,
         text: b"refused: signature short 4\n",
+    },
+    Row {
+        words: &["verify", "--coords", "quad"],
+        input: b"sig bkaagj\nvec 1 0 0\nvec 0 1 0\nvec 0 0 1\nvec 0 1 1\n",
+        status: Status::Done,
+        text: b"solution\nfails 0\nfails 0\nclash 1 2\n",
     },
 ];
 

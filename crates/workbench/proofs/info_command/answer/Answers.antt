@@ -1,9 +1,8 @@
 -- The skeleton's table is the one that was given.
 use Rattle.std.proofs.Common.{List, subst}
-use Rattle.std.specs.Prelude.{IsTrue, IfOk, ◌↔◌}
+use Rattle.std.specs.Prelude.{IsTrue, ◌↔◌}
 use Rattle.table_definitions.specs.Table.{Row}
 use Rattle.table_definitions.specs.Places.{IsConnected}
-use Rattle.outcome_definitions.specs.Information.{IsInformationAnswer}
 use Rattle.workbench.proofs.info_command.answer.Goals as goal
 
 pub informed-requires-clause-connected : goal.informed-requires-clause-connected

@@ -1,5 +1,5 @@
 -- Each turn takes one line.
-use Rattle.std.proofs.Common.{sym, ◌∙◌, ap, map, Vec, ℕ, List}
+use Rattle.std.proofs.Common.{sym, ◌∙◌}
 use Rattle.std.proofs.lemmas.Result.{err_from_is_err_and}
 use Rattle.cone_text_definitions.specs.VectorText.{vector_at}
 use Rattle.surface_definitions.proofs.VectorLaws.{vector_read}

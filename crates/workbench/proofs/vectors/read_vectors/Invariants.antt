@@ -1,5 +1,5 @@
 -- The vectors so far with those that are left are those of the input.
-use Rattle.std.proofs.Common.{◌≡◌, ℕ, List, length, map}
+use Rattle.std.proofs.Common.{◌≡◌, length}
 use Rattle.cone_text_definitions.specs.VectorText.{vector_at}
 use Rattle.document_definitions.specs.Documents.{each_line_from}
 use Rattle.workbench.proofs.EachLine.{with_fronts}

@@ -8,5 +8,5 @@ use Rattle.workbench.proofs.verify_command.append_verdict.Goals as goal
 pub returns : goal.returns
 returns c =
     subst (λ (line : List ℕ). OnOk c.append_checked.result (c.append_checked.new.out.items ≡ c.args.out.now.items ++ line))
-    (checked_line c.check_vector-checked.result (coordinates_of c.args.coords) _ _ _ _ _ _ c.args.vector.now c.check_vector-checked.ensures.verdict c.requires.columns c.len.ensures.value c.requires.rows)
+    (checked_line c.check_vector-checked.result (coordinates_of c.args.coords) _ _ _ _ _ c.args.vector.now c.check_vector-checked.ensures.verdict c.requires c.len.ensures.value)
     c.append_checked.ensures

@@ -7,4 +7,4 @@ use Rattle.workbench.specs.Reads.{all_entries}
 use Rattle.workbench.proofs.verify_command.verdicts.Given as goal
 
 abbrev pub invariant-loop-vector : goal.invariant-loop-vector
-invariant-loop-vector l = l.text.items ≡ verdicts_text (map (verdict_on (coordinates_of l.coords) l.table) (all_entries (take l.vector-index l.vectors)))
+invariant-loop-vector l = l.text.items ≡ verdicts_text (map (verdict_on (coordinates_of l.coords) l.table l.system.rows) (all_entries (take l.vector-index l.vectors)))

@@ -1,7 +1,7 @@
 use Rattle.std.proofs.Common.{ℕ, Vec, ap, ◌∙◌}
 use Rattle.std.specs.declared.alloc.Global.{Global}
 use Rattle.surface_list.proofs.Enumerations.{are_surfaces_in, are_refused}
-use Rattle.surface_list.proofs.surfaces.enumerated.Goals as goal
+use Rattle.surface_list.proofs.listed.enumerated.Goals as goal
 
 pub returns-clause-ok : goal.returns-clause-ok
 returns-clause-ok c =

@@ -1,15 +1,15 @@
 //! All admissible vertex surfaces, by elimination of the equations.
 
-ghost use Rattle.std.specs.Prelude.{◌≡◌, ◌≢◌, ◌≤◌, length, IfOk, IfErr};
+ghost use Rattle.std.specs.Prelude.{◌≡◌, ◌≢◌, ◌≤◌, IfOk, IfErr};
 ghost use Rattle.surface_definitions.specs.Coordinates as coordinates;
 ghost use Rattle.matching_equations.specs.Columns.{coordinates_of};
-ghost use Rattle.surface_list.specs.Surfaces.{AreSurfaces, AreSurfacesIn, AreRefused, matching_cone};
+ghost use Rattle.surface_list.specs.Surfaces.{AreSurfacesIn, AreRefused, AreTableSurfaces, IsTableRefused};
 
 use cone_core::{MAX_ENTRY, Ray, System};
 use double_description::{EnumFault, Order, Permit, Picker, Rays, choice, enumerate};
-use gluing_table::Table;
-use matching_equations::{Coords, matching_system};
+use matching_equations::{Coords, equations};
 use quad_condition::{Masks, clash_list};
+use skeleton::Skeleton;
 use std::alloc::Global;
 use support_bits::Support;
 
@@ -39,24 +39,23 @@ fn enumerated(
     enumerate(alloc, system, &permit, &picker, limit)
 }
 
-/// The vertex surfaces of a table in standard or octagon coordinates, strictly ascending, its equations taken in a
-/// named order; refused exactly where a number of a step passes the limit (Haken 1961; Burton 2010).
-pub fn surfaces_of(
+/// The vertex surfaces of a table, strictly ascending, its equations taken in a named order; refused exactly where a
+/// number of a step passes the limit (Haken 1961; Tollefson 1998; Burton 2010).
+pub fn surfaces(
     alloc: Global,
-    table: &Table,
+    skeleton: &Skeleton,
     coords: Coords,
     order: Order,
     limit: u128,
 ) -> Result<Vec<Ray>, EnumFault>
-    requires coords { coords ≢ Coords.Quad }
     requires named { order ≢ Order.Free }
     requires some_limit { 1 ≤ limit }
     requires most_limit { limit ≤ MAX_ENTRY }
-    ensures ok { IfOk result (λ rays. AreSurfaces limit (matching_cone (coordinates_of coords) table.now) (coordinates.clash_list (coordinates_of coords) (length table.now)) order rays.items) }
-    ensures err { IfErr result (AreRefused limit (matching_cone (coordinates_of coords) table.now) (coordinates.clash_list (coordinates_of coords) (length table.now)) order) }
+    ensures ok { IfOk result (λ rays. AreTableSurfaces limit (coordinates_of coords) skeleton.now.rows order rays.items) }
+    ensures err { IfErr result (IsTableRefused limit (coordinates_of coords) skeleton.now.rows order) }
 {
-    let system = matching_system(alloc, coords, table)?;
-    let tets = table.rows().len() as u32;
+    let system = equations(alloc, skeleton, coords)?;
+    let tets = skeleton.table().len();
     let rays = enumerated(alloc, coords, tets, &system, order, limit)?;
     let Rays { list, order: _ } = rays;
     Ok(list)

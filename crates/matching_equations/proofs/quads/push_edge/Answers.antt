@@ -1,0 +1,17 @@
+use Rattle.std.proofs.Common.{sym}
+use Rattle.matching_equations.proofs.EdgeCorners.{round_of, row_appended}
+use Rattle.matching_equations.proofs.quads.push_edge.Goals as goal
+
+pub push_round-requires-clause-corners : goal.push_round-requires-clause-corners
+push_round-requires-clause-corners c =
+    (round_of c.args.skeleton.now c.args.class c.around.result.now c.requires.skeleton c.requires.class (sym c.if-is_boundary_edge.ensures) c.around.ensures).inside
+
+pub push_round-requires-clause-few : goal.push_round-requires-clause-few
+push_round-requires-clause-few c =
+    (round_of c.args.skeleton.now c.args.class c.around.result.now c.requires.skeleton c.requires.class (sym c.if-is_boundary_edge.ensures) c.around.ensures).few
+
+pub returns-clause-rows : goal.returns-clause-rows
+returns-clause-rows c =
+    row_appended c.args.skeleton.now c.args.class c.args.system.now.columns c.around.result.now _ _ (sym c.if-is_boundary_edge.ensures)
+    (round_of c.args.skeleton.now c.args.class c.around.result.now c.requires.skeleton c.requires.class (sym c.if-is_boundary_edge.ensures) c.around.ensures)
+    c.requires.columns c.in_ok-push_round.ensures.rows

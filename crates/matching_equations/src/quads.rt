@@ -1,0 +1,102 @@
+//! The equations in quad coordinates.
+
+ghost use Rattle.std.specs.Prelude.{◌≡◌, ◌≢◌, ◌+◌, ◌*◌, ◌<◌, ◌≤◌, ◌^◌, [], ◌∷◌, ◌++◌, length, IfOk, OnOk};
+ghost use Rattle.surface_definitions.specs.Coordinates as coordinates;
+ghost use Rattle.surface_definitions.specs.Coordinates.{quads};
+ghost use Rattle.surface_definitions.specs.Equations as equations;
+ghost use Rattle.surface_definitions.specs.QuadEquations.{AreQuadRows, quad_equation};
+ghost use Rattle.skeleton_definitions.specs.Skeleton.{IsSkeleton};
+ghost use Rattle.matching_equations.specs.Quads.{AreCornersIn, IsRowAppended};
+
+use crate::coords::{Coords, columns, columns_each};
+use crate::equation::{keeping, row_of};
+use cone_core::System;
+use no_memory::NoMemory;
+use skeleton::{Corner, Skeleton};
+use std::alloc::Global;
+
+/// The column of the quad that keeps two vertices of a tetrahedron on one side.
+fn quad_column(tet: u32, vertex: u8, other: u8) -> u32
+    requires tet { tet ≤ 1000 }
+    requires a_vertex { vertex < 4 }
+    requires another { other < 4 }
+    requires apart { vertex ≢ other }
+    ensures { result ≡ coordinates.quad_column quads tet (coordinates.keeping vertex other) }
+{
+    columns_each(Coords::Quad) * tet + u32::from(keeping(vertex, other))
+}
+
+/// Of each corner, the column of the quad that keeps a and c on one side.
+fn first_columns(alloc: Global, corners: &[Corner]) -> Result<Vec<u32>, NoMemory>
+    requires { AreCornersIn 1000 corners.now }
+    ensures { IfOk result (λ columns. columns.items ≡ (quad_equation corners.now).left) }
+{
+    let mut columns = Vec::with_capacity(alloc, corners.len())?;
+    for corner in corners {
+        columns.push(quad_column(corner.tet, corner.a, corner.c))?;
+    }
+    Ok(columns)
+}
+
+/// Of each corner, the column of the quad that keeps a and d on one side.
+fn second_columns(alloc: Global, corners: &[Corner]) -> Result<Vec<u32>, NoMemory>
+    requires { AreCornersIn 1000 corners.now }
+    ensures { IfOk result (λ columns. columns.items ≡ (quad_equation corners.now).right) }
+{
+    let mut columns = Vec::with_capacity(alloc, corners.len())?;
+    for corner in corners {
+        columns.push(quad_column(corner.tet, corner.a, corner.d))?;
+    }
+    Ok(columns)
+}
+
+/// Appends the row of the corners round an edge.
+fn push_round(alloc: Global, corners: &[Corner], system: &mut System) -> Result<(), NoMemory>
+    requires corners { AreCornersIn 1000 corners.now }
+    requires few { length corners.now ≤ 1000000 }
+    requires room { length system.old.rows + 1 < 2 ^ 32 }
+    ensures columns { OnOk result (system.new.columns ≡ system.old.columns) }
+    ensures rows { OnOk result (system.new.rows ≡ system.old.rows ++ equations.row_of system.old.columns (quad_equation corners.now) ∷ []) }
+{
+    let left = first_columns(alloc, corners)?;
+    let right = second_columns(alloc, corners)?;
+    let row = row_of(alloc, system.columns(), &left, &right)?;
+    system.push_row(row)?;
+    Ok(())
+}
+
+/// Appends the row of an edge class, where it is inner.
+fn push_edge(
+    alloc: Global,
+    skeleton: &Skeleton,
+    class: u32,
+    system: &mut System,
+) -> Result<(), NoMemory>
+    requires skeleton { IsSkeleton skeleton.now }
+    requires class { class < skeleton.now.edges.count }
+    requires columns { system.old.columns ≡ coordinates.columns quads (length skeleton.now.rows) }
+    requires room { length system.old.rows + 1 < 2 ^ 32 }
+    ensures columns { OnOk result (system.new.columns ≡ system.old.columns) }
+    ensures rows { OnOk result (IsRowAppended skeleton.now.rows skeleton.now.edges.classes class system.old.rows system.new.rows) }
+{
+    if skeleton.is_boundary_edge(class) {
+        return Ok(());
+    }
+    push_round(alloc, skeleton.around(class), system)?;
+    Ok(())
+}
+
+/// The equations of a table in quad coordinates: one for each inner edge class, the quads that rise along the edge at
+/// its corners as many as those that fall (Tollefson 1998).
+pub fn quad_system(alloc: Global, skeleton: &Skeleton) -> Result<System, NoMemory>
+    ensures columns { IfOk result (λ s. s.columns ≡ coordinates.columns quads (length skeleton.now.rows)) }
+    ensures rows { IfOk result (λ s. AreQuadRows skeleton.now.rows skeleton.now.edges.classes skeleton.now.edges.count s.rows) }
+    ensures skeleton { IsSkeleton skeleton.now }
+{
+    let tets = skeleton.table().rows().len() as u32;
+    let mut system = System::new(alloc, columns(Coords::Quad, tets));
+    for class in 0..skeleton.edges() {
+        push_edge(alloc, skeleton, class, &mut system)?;
+    }
+    Ok(system)
+}
