@@ -4,3 +4,4 @@ pub mod MoveExamples
 pub mod RelationExamples
 pub mod CertificateExamples
 pub mod MoveTests
+pub mod UndoExamples
