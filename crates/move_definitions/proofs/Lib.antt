@@ -8,3 +8,4 @@ pub mod MoveExamples
 pub mod RelationExamples
 pub mod CertificateExamples
 pub mod MoveTests
+pub mod UndoExamples

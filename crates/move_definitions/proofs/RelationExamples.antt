@@ -7,13 +7,13 @@ use Rattle.move_definitions.proofs.MoveTests.{IsMoved-passed}
 use Rattle.table_definitions.proofs.Tables.{sphere, four_tets, row, by}
 
 -- 14 0 leads from the sphere to the table of four, and 41 0 3 from there to one tetrahedron
-at : ℕ → List ℕ → Move
+abbrev pub at : ℕ → List ℕ → Move
 at t core = record { tet = t; core = core }
 
-moved_by_14 : IsMoved sphere (at 0 four) four_tets
-unfolding computed at
+pub moved_by_14 : IsMoved sphere (at 0 four) four_tets
+unfolding computed
 moved_by_14 = IsMoved-passed sphere (at 0 four) four_tets (record { legal = refl; length_is = refl; fours = refl; inner = refl; outer = refl })
 
 moved_by_41 : IsMoved four_tets (at 0 (3 ∷ [])) (row (by 0 21) (by 0 9) (by 0 18) (by 0 21) ∷ [])
-unfolding computed at
+unfolding computed
 moved_by_41 = IsMoved-passed four_tets (at 0 (3 ∷ [])) (row (by 0 21) (by 0 9) (by 0 18) (by 0 21) ∷ []) (record { legal = refl; length_is = refl; fours = refl; inner = refl; outer = refl })

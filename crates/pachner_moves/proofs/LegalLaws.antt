@@ -26,7 +26,7 @@ pub record IsLegal (rows : List Row) (m : Move) : Type 0 where
   pub apart : (i k : ℕ) (f g : Facet) → IsOldFacet rows m i f → IsOldFacet rows m k g → f.tet ≡ g.tet → i ≡ k
   pub inner : (i k : ℕ) (f g : Facet) → IsOldFacet rows m i f → IsOldFacet rows m k g → i ≢ k → glue rows (opposite f k) ≡ Some (record { tet = g.tet; perm = label_by_label f g })
 
-both_none : {A : Type 0} (a b : Option A) → option_or a b ≡ None → (a ≡ None) × (b ≡ None)
+pub both_none : {A : Type 0} (a b : Option A) → option_or a b ≡ None → (a ≡ None) × (b ≡ None)
 both_none None b e = (refl, e)
 both_none (Some x) b e = absurd cc
 

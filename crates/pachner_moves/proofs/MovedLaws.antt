@@ -16,7 +16,7 @@ use Rattle.gluing_table.proofs.FreshRows.{back_is}
 use Rattle.gluing_table.proofs.Replaced.{replaced_is_table}
 use Rattle.move_definitions.specs.Moves.{Move, Facet, too_many, old_facets, vertex_of, opposite, move_fault, play_fault, IsCore, kept, new_length, new_facet, kept_stand_in, stand_in_at, moved_gluing, IsMoved, Plays}
 use Rattle.pachner_moves.specs.Facets.{IsOldFacet, AreOldFacets, CanPlay, put_rows, stands_for, exchange}
-use Rattle.pachner_moves.proofs.LegalLaws.{IsLegal, legal_from}
+use Rattle.pachner_moves.proofs.LegalLaws.{IsLegal, legal_from, both_none}
 use Rattle.pachner_moves.proofs.ListedLaws.{tets, old_of_tet, taken-has, are_old, stand_kept}
 use Rattle.pachner_moves.proofs.NumberLaws.{picked-within}
 use Rattle.move_definitions.specs.Undos.{taken_numbers}
@@ -134,10 +134,6 @@ moves rows m c = record {
         ∙ ap (λ (t : Gluing). option_and_then (moved_gluing rows m x t) (glue rows x)) (sym p.is)
 
 -- a move that is not at fault
-both_none : {A : Type 0} (a b : Option A) → option_or a b ≡ None → (a ≡ None) × (b ≡ None)
-both_none None b e = (refl, e)
-both_none (Some x) b e = absurd cc
-
 pub can_move : (rows : List Row) (m : Move) → CanPlay rows m → CanMove rows m
 can_move rows m can =
     let b = both_none (move_fault rows m) (cond (nat_lt max_tets (new_length rows m)) (Some too_many) None) can.playable in

@@ -217,7 +217,7 @@ impl Undo {
 /// Takes a move back, so that the table is the former one, row for row.
 pub fn take_back(table: &mut Table, undo: &Undo)
     requires { CanTakeBack table.old undo.now }
-    ensures { table.new ≡ undos.former table.old undo.now }
+    ensures former { table.new ≡ undos.former table.old undo.now }
 {
     let removed = put_numbers(undo);
     table.replace(&removed, &undo.rows);
