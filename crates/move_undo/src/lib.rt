@@ -8,3 +8,6 @@ mod writer;
 pub use reader::{Step, read_move, read_step};
 pub use session::{PlayFault, Session};
 pub use writer::write_move;
+
+#[cfg(test)]
+mod tests;

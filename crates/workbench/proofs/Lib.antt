@@ -6,4 +6,5 @@ pub mod Accepted
 pub mod RunClauses
 pub mod Answering
 pub mod ClassLines
+pub mod ScriptLines
 pub mod Headlines

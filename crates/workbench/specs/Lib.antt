@@ -4,6 +4,7 @@ pub mod Reads
 pub mod Refusals
 pub mod Codes
 pub mod Verdicts
+pub mod Scripts
 pub mod Cones
 pub mod Requests
 pub mod Prints

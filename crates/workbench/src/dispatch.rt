@@ -16,6 +16,7 @@ ghost use Rattle.workbench.specs.Runs.{Answers, IsAnswered, IsCalm, IsWithin, Is
 
 use crate::info_command::info;
 use crate::outcome::Outcome;
+use crate::play_command::play;
 use crate::rays_command::rays;
 use crate::surfaces_command::surfaces;
 use crate::verify_command::verify;
@@ -40,10 +41,10 @@ fn answer(alloc: Global, request: Request, bytes: &[u8]) -> Result<Outcome, NoMe
         Request::Surfaces(coords, order, limit) => surfaces(alloc, coords, order, limit, bytes),
         Request::Rays(order, limit) => rays(alloc, order, limit, bytes),
         Request::Info => info(alloc, bytes),
+        Request::Play => play(alloc, bytes),
         Request::Describe(_) => unreachable!(),
         Request::Lift => unreachable!(),
         Request::Crush => unreachable!(),
-        Request::Play => unreachable!(),
         Request::Sig => unreachable!(),
         Request::Same => unreachable!(),
         Request::Group => unreachable!(),

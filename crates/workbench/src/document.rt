@@ -1,13 +1,16 @@
 // The documents of the commands.
 ghost use Rattle.std.specs.Prelude.{◌≡◌, ◌≤◌, ◌^◌, length};
 ghost use Rattle.text_definitions.specs.Reading.{Moves};
-ghost use Rattle.document_definitions.specs.Documents.{next_table_at, no_line_at, table_document, vectors_document};
+ghost use Rattle.document_definitions.specs.Documents.{next_table_at, no_line_at, table_document, vectors_document, steps_document};
 ghost use Rattle.signature_codec.specs.Inputs.{GivesInput, GivesDocument};
 ghost use Rattle.workbench.specs.Reads.{entries_of};
+ghost use Rattle.workbench.specs.Scripts.{steps_of};
 
+use crate::steps::read_steps;
 use crate::vectors::read_vectors;
 use bench_io::{LexFault, Lexer};
 use gluing_table::Table;
+use move_undo::Step;
 use signature_codec::{InputFault, read_any};
 use std::alloc::Global;
 
@@ -16,6 +19,13 @@ use std::alloc::Global;
 pub struct TableAndVectors {
     pub table: Table,
     pub vectors: Vec<Vec<u128>>,
+}
+
+/// A table, and steps.
+#[derive(Drop)]
+pub struct TableAndSteps {
+    pub table: Table,
+    pub steps: Vec<Step>,
 }
 
 /// No further line may stand: its first word is one too many.
@@ -59,4 +69,16 @@ pub fn read_table_and_vectors(alloc: Global, bytes: &[u8]) -> Result<TableAndVec
     let table = read_table(alloc, &mut lexer)?;
     let vectors = read_vectors(alloc, &mut lexer)?;
     Ok(TableAndVectors { table, vectors })
+}
+
+/// The document of a table and steps.
+#[tactic(auto, unfolding(document_definitions::specs::Documents::table_and_lines))]
+pub fn read_table_and_steps(alloc: Global, bytes: &[u8]) -> Result<TableAndSteps, InputFault>
+    requires { length bytes.now ≤ 2 ^ 31 }
+    ensures { GivesDocument (λ d. (d.table, steps_of d.steps)) result (steps_document bytes.now) }
+{
+    let mut lexer = Lexer::new(bytes);
+    let table = read_table(alloc, &mut lexer)?;
+    let steps = read_steps(alloc, &mut lexer)?;
+    Ok(TableAndSteps { table, steps })
 }

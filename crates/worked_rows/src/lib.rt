@@ -6,6 +6,8 @@ mod hostile_rows;
 #[cfg(test)]
 mod info_rows;
 #[cfg(test)]
+mod play_rows;
+#[cfg(test)]
 mod rays_rows;
 #[cfg(test)]
 mod running;
