@@ -1,3 +1,4 @@
 pub mod Documents
 pub mod Grammar
 pub mod Laws
+pub mod ConeGrammar

@@ -1,0 +1,2 @@
+pub mod ConeLaws
+pub mod DocumentLaws
