@@ -4,3 +4,6 @@ pub mod ConeReading
 pub mod ConeFinding
 pub mod Blocks
 pub mod Cones
+pub mod Tables
+pub mod Documents
+pub mod AnyTables

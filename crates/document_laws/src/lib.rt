@@ -3,9 +3,23 @@
 #![tactic(auto)]
 
 ghost use Rattle.document_laws.specs.ConeLaws.{ConesAreRead, ConeDocumentsAreRead};
+ghost use Rattle.document_laws.specs.DocumentLaws.{TableDocumentsAreRead, VectorsDocumentsAreRead, VectorDocumentsAreRead, TwoTablesAreRead, TablesAreRead};
 
 /// Lines are read as a cone exactly where they are one, and so are the bytes of an input.
 pub fn cones_are_read()
     ensures lines { ConesAreRead }
     ensures documents { ConeDocumentsAreRead }
+{}
+
+/// Inputs of one table, of two, and of any number are read exactly where their lines are these.
+pub fn tables_are_read()
+    ensures one { TableDocumentsAreRead }
+    ensures two { TwoTablesAreRead }
+    ensures any { TablesAreRead }
+{}
+
+/// Inputs of a table and of vectors, or of one vector, are read exactly where their lines are these.
+pub fn tables_with_vectors_are_read()
+    ensures vectors { VectorsDocumentsAreRead }
+    ensures vector { VectorDocumentsAreRead }
 {}
