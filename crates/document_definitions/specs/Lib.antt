@@ -2,3 +2,4 @@ pub mod Documents
 pub mod Grammar
 pub mod Laws
 pub mod ConeGrammar
+pub mod Signs

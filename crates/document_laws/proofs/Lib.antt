@@ -7,3 +7,8 @@ pub mod Cones
 pub mod Tables
 pub mod Documents
 pub mod AnyTables
+pub mod Local
+pub mod LocalWords
+pub mod LocalLines
+pub mod LocalForms
+pub mod LocalTables
