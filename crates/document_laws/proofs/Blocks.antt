@@ -26,7 +26,7 @@ pub record ReadsEnd {E : Type 0} (end : Reading → Result Reading E) : Type 0 w
 
 -- all lines of an input are one block
 module _ {A E : Type 0} (end : Reading → Result Reading E) (ends : ReadsEnd end) (read : Reading → Result (A × Reading) E) (Form : List Line → A → Type 0) (blocks : ReadsBlocks read Form) where
-  abbrev closed : A × Reading → Result A E
+  abbrev pub closed : A × Reading → Result A E
   closed x = end x.1 >>= λ (d : Reading). Ok x.0
 
   pub document_sound : (bytes : List ℕ) (x : A) → (read (start_of bytes) >>= closed) ≡ Ok x → Form (lines_of bytes) x
@@ -40,11 +40,14 @@ module _ {A E : Type 0} (end : Reading → Result Reading E) (ends : ReadsEnd en
       let whole : lines_of bytes ≡ block.0 = block.1 ∙ ap (λ (ls : List Line). block.0 ++ ls) none ∙ append-nil block.0 in
       subst (λ (y : A). Form (lines_of bytes) y) same (subst (λ (ls : List Line). Form ls (first.0).0) (sym whole) block.2)
 
-  pub document_complete : (bytes : List ℕ) (x : A) → Form (lines_of bytes) x → (read (start_of bytes) >>= closed) ≡ Ok x
-  document_complete bytes x h =
-      let found : (d : Reading) × (read (start_of bytes) ≡ Ok (x, d)) × (d.later ≡ []) = blocks.complete (start_of bytes) x (lines_of bytes) [] (sym (append-nil (lines_of bytes))) h in
+  pub closed_complete : (c : Reading) (x : A) → Form c.later x → (read c >>= closed) ≡ Ok x
+  closed_complete c x h =
+      let found : (d : Reading) × (read c ≡ Ok (x, d)) × (d.later ≡ []) = blocks.complete c x c.later [] (sym (append-nil c.later)) h in
       ap (λ (r : Result (A × Reading) E). r >>= closed) found.1
       ∙ ap (λ (r : Result Reading E). r >>= λ (d : Reading). Ok x) (ends.complete found.0 found.0 (no_line_found found.0 found.2))
+
+  pub document_complete : (bytes : List ℕ) (x : A) → Form (lines_of bytes) x → (read (start_of bytes) >>= closed) ≡ Ok x
+  document_complete bytes x h = closed_complete (start_of bytes) x h
 
 -- two blocks, one after the other
 module _ {A B E : Type 0} (first : Reading → Result (A × Reading) E) (second : Reading → Result (B × Reading) E) (Front : List Line → A → Type 0) (Back : List Line → B → Type 0)

@@ -12,7 +12,7 @@ use Rattle.document_laws.specs.ConeLaws.{ReadsCone}
 use Rattle.document_laws.proofs.LineLaws.{BeginsLine, line_begun}
 use Rattle.document_laws.proofs.ConeReading.{ConeRead, cone_read}
 use Rattle.document_laws.proofs.ConeFinding.{ReadsLines, cone_found}
-use Rattle.document_laws.proofs.Blocks.{ReadsBlocks, ReadsEnd, document_sound, document_complete}
+use Rattle.document_laws.proofs.Blocks.{ReadsBlocks, ReadsEnd, document_sound, closed_complete}
 
 -- a cone on the next lines
 abbrev pub next_cone : Reading → Result (Cone × Reading) LexFault
@@ -54,16 +54,20 @@ cones_read c cone rest = (
 abbrev closed : Cone × Reading → Result Cone LexFault
 closed x = no_line_at x.1 >>= λ (end : Reading). Ok x.0
 
-grouped : (bytes : List ℕ) → cone_document bytes ≡ next_cone (start_of bytes) >>= closed
-unfolding cone_document
-grouped bytes = by_line (need_line_at (start_of bytes))
+abbrev pub cone_document_at : Reading → Result Cone LexFault
+cone_document_at c = need_line_at c >>= λ (line : Reading). cone_at line >>= closed
+
+grouped : (c : Reading) → cone_document_at c ≡ next_cone c >>= closed
+grouped c = by_line (need_line_at c)
   where
     by_line : (r : Result Reading LexFault) → (r >>= λ (line : Reading). cone_at line >>= closed) ≡ r >>= cone_at >>= closed
     by_line (Ok x) = refl
     by_line (Err f) = refl
 
+pub cone_document_found : (c : Reading) (cone : Cone) → AreConeLines c.later cone → cone_document_at c ≡ Ok cone
+cone_document_found c cone h = grouped c ∙ closed_complete no_line_at no_line_ends next_cone AreConeLines cone_blocks c cone h
+
 pub cone_documents_read : (bytes : List ℕ) (cone : Cone) → (cone_document bytes ≡ Ok cone) ↔ AreConeLines (lines_of bytes) cone
-cone_documents_read bytes cone = (
-  λ e. document_sound no_line_at no_line_ends next_cone AreConeLines cone_blocks bytes cone (sym (grouped bytes) ∙ e),
-  λ h. grouped bytes ∙ document_complete no_line_at no_line_ends next_cone AreConeLines cone_blocks bytes cone h,
-)
+unfolding cone_document
+cone_documents_read bytes cone =
+    (λ e. document_sound no_line_at no_line_ends next_cone AreConeLines cone_blocks bytes cone (sym (grouped (start_of bytes)) ∙ e), λ h. cone_document_found (start_of bytes) cone h)

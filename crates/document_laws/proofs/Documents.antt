@@ -17,13 +17,13 @@ use Rattle.document_definitions.specs.Grammar.{AreTableAndLines, AreTwoTables, A
 use Rattle.table_definitions.proofs.ReadingLaws.{bind_ok, ok_parts}
 use Rattle.surface_definitions.proofs.VectorLaws.{VectorRead, vector_read, vector_found}
 use Rattle.document_laws.proofs.LineLaws.{BeginsLine, line_begun, line_found}
-use Rattle.document_laws.proofs.Blocks.{ReadsBlocks, ReadsLine, document_sound, document_complete, both, Both, both_blocks, lines_read, lines_found}
+use Rattle.document_laws.proofs.Blocks.{ReadsBlocks, ReadsLine, document_sound, document_complete, closed_complete, both, Both, both_blocks, lines_read, lines_found}
 use Rattle.document_laws.proofs.Tables.{worded_ok, worded_with, worded_end, table_blocks}
 
 abbrev Table : Type 0
 Table = List Row × Reading
 
-abbrev end_at : Reading → Result Reading InputFault
+abbrev pub end_at : Reading → Result Reading InputFault
 end_at c = worded (no_line_at c)
 
 -- one table
@@ -39,9 +39,11 @@ two_tables c = both next_table_at next_table_at AreTableLines AreTableLines tabl
 abbrev TwoTables : List Line → List Row × List Row → Type 0
 TwoTables lines x = AreTwoTables lines x.0 x.1
 
-two_tables_grouped : (bytes : List ℕ) → two_tables_document bytes ≡ two_tables (start_of bytes) >>= λ (x : (List Row × List Row) × Reading). end_at x.1 >>= λ (d : Reading). Ok x.0
-unfolding two_tables_document
-two_tables_grouped bytes = by_first (next_table_at (start_of bytes))
+abbrev pub two_tables_at : Reading → Result (List Row × List Row) InputFault
+two_tables_at c = next_table_at c >>= λ (first : Table). next_table_at first.1 >>= λ (second : Table). end_at second.1 >>= λ (d : Reading). Ok (first.0, second.0)
+
+two_tables_grouped : (c : Reading) → two_tables_at c ≡ two_tables c >>= λ (x : (List Row × List Row) × Reading). end_at x.1 >>= λ (d : Reading). Ok x.0
+two_tables_grouped c = by_first (next_table_at c)
   where
     by_second : (first : Table) (r : Result Table InputFault)
         → (r >>= λ (second : Table). end_at second.1 >>= λ (d : Reading). Ok (first.0, second.0))
@@ -55,16 +57,20 @@ two_tables_grouped bytes = by_first (next_table_at (start_of bytes))
     by_first (Ok y) = by_second y (next_table_at y.1)
     by_first (Err f) = refl
 
+two_blocks : ReadsBlocks two_tables TwoTables
+two_blocks = both_blocks next_table_at next_table_at AreTableLines AreTableLines table_blocks table_blocks
+
+pub two_tables_found : (c : Reading) (first second : List Row) → AreTwoTables c.later first second → two_tables_at c ≡ Ok (first, second)
+two_tables_found c first second h = two_tables_grouped c ∙ closed_complete end_at worded_end two_tables TwoTables two_blocks c (first, second) h
+
 pub two_tables_read : (bytes : List ℕ) (first second : List Row) → (two_tables_document bytes ≡ Ok (first, second)) ↔ AreTwoTables (lines_of bytes) first second
+unfolding two_tables_document
 two_tables_read bytes first second =
-    let blocks : ReadsBlocks two_tables TwoTables = both_blocks next_table_at next_table_at AreTableLines AreTableLines table_blocks table_blocks in (
-      λ e. document_sound end_at worded_end two_tables TwoTables blocks bytes (first, second) (sym (two_tables_grouped bytes) ∙ e),
-      λ h. two_tables_grouped bytes ∙ document_complete end_at worded_end two_tables TwoTables blocks bytes (first, second) h,
-    )
+    (λ e. document_sound end_at worded_end two_tables TwoTables two_blocks bytes (first, second) (sym (two_tables_grouped (start_of bytes)) ∙ e), λ h. two_tables_found (start_of bytes) first second h)
 
 -- a table and lines of one form to the end of the input
 module _ {A : Type 0} (form : Reading → Result (A × Reading) LexFault) (Form : Line → A → Type 0) (reads : ReadsLine form Form) where
-  abbrev after_table : Table → Result (List Row × List A) InputFault
+  abbrev pub after_table : Table → Result (List Row × List A) InputFault
   after_table t = worded (each_line_from form t.1.later t.1) >>= λ (xs : List A × Reading). Ok (t.0, xs.0)
 
   pub lines_document_read : (bytes : List ℕ) (rows : List Row) (xs : List A) → table_and_lines form bytes ≡ Ok (rows, xs) → AreTableAndLines Form (lines_of bytes) rows xs
@@ -79,13 +85,19 @@ module _ {A : Type 0} (form : Reading → Result (A × Reading) LexFault) (Form 
       lines_read form Form reads (first.0).1.later (first.0).1 (second.0).0 (second.0).1 (worded_ok (each_line_from form (first.0).1.later (first.0).1) second.0 second.1) in
       (table.0, (first.0).1.later, table.1, subst (λ (q : List Row). AreTableLines table.0 q) parts.0 table.2, subst (λ (ys : List A). AllZip Form (first.0).1.later ys) parts.1 others)
 
-  pub lines_document_found : (bytes : List ℕ) (rows : List Row) (xs : List A) → AreTableAndLines Form (lines_of bytes) rows xs → table_and_lines form bytes ≡ Ok (rows, xs)
-  unfolding table_and_lines
-  lines_document_found bytes rows xs h =
-      let table : (d : Reading) × (next_table_at (start_of bytes) ≡ Ok (rows, d)) × (d.later ≡ h.1) = table_blocks.complete (start_of bytes) rows h.0 h.1 h.2 h.3 in
+  abbrev pub lines_document_at : Reading → Result (List Row × List A) InputFault
+  lines_document_at c = next_table_at c >>= after_table
+
+  pub lines_found_at : (c : Reading) (rows : List Row) (xs : List A) → AreTableAndLines Form c.later rows xs → lines_document_at c ≡ Ok (rows, xs)
+  lines_found_at c rows xs h =
+      let table : (d : Reading) × (next_table_at c ≡ Ok (rows, d)) × (d.later ≡ h.1) = table_blocks.complete c rows h.0 h.1 h.2 h.3 in
       let found : (d : Reading) × (each_line_from form table.0.later table.0 ≡ Ok (xs, d)) = lines_found form Form reads table.0.later table.0 xs (subst (λ (ls : List Line). AllZip Form ls xs) (sym table.2) h.4) in
       ap (λ (r : Result Table InputFault). r >>= after_table) table.1
       ∙ ap (λ (r : Result (List A × Reading) InputFault). r >>= λ (ys : List A × Reading). Ok (rows, ys.0)) (worded_with (each_line_from form table.0.later table.0) (xs, found.0) found.1)
+
+  pub lines_document_found : (bytes : List ℕ) (rows : List Row) (xs : List A) → AreTableAndLines Form (lines_of bytes) rows xs → table_and_lines form bytes ≡ Ok (rows, xs)
+  unfolding table_and_lines
+  lines_document_found bytes rows xs h = lines_found_at (start_of bytes) rows xs h
 
 -- vectors
 pub reads_vectors : ReadsLine vector_at IsVectorLine
@@ -134,9 +146,12 @@ table_and_vector c = both next_table_at next_vector AreTableLines IsOneVector ta
 abbrev TableAndVector : List Line → List Row × List ℕ → Type 0
 TableAndVector lines x = AreTableAndLines IsVectorLine lines x.0 (x.1 ∷ [])
 
-vector_grouped : (bytes : List ℕ) → vector_document bytes ≡ table_and_vector (start_of bytes) >>= λ (x : (List Row × List ℕ) × Reading). end_at x.1 >>= λ (d : Reading). Ok x.0
-unfolding vector_document
-vector_grouped bytes = by_table (next_table_at (start_of bytes))
+abbrev pub vector_document_at : Reading → Result (List Row × List ℕ) InputFault
+vector_document_at c =
+    next_table_at c >>= λ (t : Table). worded (need_line_at t.1) >>= λ (line : Reading). worded (vector_at line) >>= λ (v : List ℕ × Reading). end_at v.1 >>= λ (d : Reading). Ok (t.0, v.0)
+
+vector_grouped : (c : Reading) → vector_document_at c ≡ table_and_vector c >>= λ (x : (List Row × List ℕ) × Reading). end_at x.1 >>= λ (d : Reading). Ok x.0
+vector_grouped c = by_table (next_table_at c)
   where
     by_vector : (t : Table) (r : Result (List ℕ × Reading) InputFault)
         → (r >>= λ (v : List ℕ × Reading). end_at v.1 >>= λ (d : Reading). Ok (t.0, v.0))
@@ -156,9 +171,13 @@ vector_grouped bytes = by_table (next_table_at (start_of bytes))
     by_table (Ok y) = by_line y (worded (need_line_at y.1))
     by_table (Err f) = refl
 
+table_and_vector_blocks : ReadsBlocks table_and_vector TableAndVector
+table_and_vector_blocks = both_blocks next_table_at next_vector AreTableLines IsOneVector table_blocks vector_blocks
+
+pub vector_document_found : (c : Reading) (rows : List Row) (xs : List ℕ) → AreTableAndLines IsVectorLine c.later rows (xs ∷ []) → vector_document_at c ≡ Ok (rows, xs)
+vector_document_found c rows xs h = vector_grouped c ∙ closed_complete end_at worded_end table_and_vector TableAndVector table_and_vector_blocks c (rows, xs) h
+
 pub vector_document_read : (bytes : List ℕ) (rows : List Row) (xs : List ℕ) → (vector_document bytes ≡ Ok (rows, xs)) ↔ AreTableAndLines IsVectorLine (lines_of bytes) rows (xs ∷ [])
+unfolding vector_document
 vector_document_read bytes rows xs =
-    let blocks : ReadsBlocks table_and_vector TableAndVector = both_blocks next_table_at next_vector AreTableLines IsOneVector table_blocks vector_blocks in (
-      λ e. document_sound end_at worded_end table_and_vector TableAndVector blocks bytes (rows, xs) (sym (vector_grouped bytes) ∙ e),
-      λ h. vector_grouped bytes ∙ document_complete end_at worded_end table_and_vector TableAndVector blocks bytes (rows, xs) h,
-    )
+    (λ e. document_sound end_at worded_end table_and_vector TableAndVector table_and_vector_blocks bytes (rows, xs) (sym (vector_grouped (start_of bytes)) ∙ e), λ h. vector_document_found (start_of bytes) rows xs h)

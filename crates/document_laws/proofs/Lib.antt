@@ -12,3 +12,4 @@ pub mod LocalWords
 pub mod LocalLines
 pub mod LocalForms
 pub mod LocalTables
+pub mod Leaving

@@ -37,20 +37,20 @@ skipped n (stray column ∷ ts) end m [] last others more e = absurd cc
 skipped n (t ∷ ts) end m (u ∷ us) last others more e =
     skipped n ts end m us last others more (tails (token_sign m u).1 (token_sign n t).1 (plain (line_signs m us last others)) (plain (rest_of_line n ts end) ++ more) e)
 
-no_input_end : (n : ℕ) (ts : List Token) (end : ℕ) (others : List Placed) → opening (plain (line_signs n ts end others)) ≢ Some input_end
+pub no_input_end : (n : ℕ) (ts : List Token) (end : ℕ) (others : List Placed) → opening (plain (line_signs n ts end others)) ≢ Some input_end
 unfolding line_signs
 no_input_end n [] end others e = absurd cc
 no_input_end n (word column w ∷ ts) end others e = absurd cc
 no_input_end n (stray column ∷ ts) end others e = absurd cc
 
 -- where something other than the end of the input is shown behind the line, a line follows
-record Further (other : Reading) (more : List Sign) : Type 0 where
-  line : Line
-  rest : List Line
-  lines : other.later ≡ line ∷ rest
-  there : shows (begun line rest other) ≡ more
+pub record Further (other : Reading) (more : List Sign) : Type 0 where
+  pub line : Line
+  pub rest : List Line
+  pub lines : other.later ≡ line ∷ rest
+  pub there : shows (begun line rest other) ≡ more
 
-further_in : (ls : List Line) (other : Reading) (more : List Sign) → other.later ≡ ls → plain (signs_of other.input_end ls) ≡ more → opening more ≢ Some input_end → Further other more
+pub further_in : (ls : List Line) (other : Reading) (more : List Sign) → other.later ≡ ls → plain (signs_of other.input_end ls) ≡ more → opening more ≢ Some input_end → Further other more
 unfolding signs_of
 further_in [] other more split e n = absurd (n (ap opening (sym e)))
 further_in (l ∷ ls) other more split e n = record { line = l; rest = ls; lines = split; there = e }

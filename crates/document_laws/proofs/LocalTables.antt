@@ -68,7 +68,7 @@ lexed_alone : (r : Result Reading LexFault) → lexed (alone r) ≡ alone (lexed
 lexed_alone (Ok d) = refl
 lexed_alone (Err f) = refl
 
-worded_alone : (r : Result Reading LexFault) → worded (alone r) ≡ alone (worded r)
+pub worded_alone : (r : Result Reading LexFault) → worded (alone r) ≡ alone (worded r)
 worded_alone (Ok d) = refl
 worded_alone (Err f) = refl
 

@@ -1,2 +1,3 @@
 pub mod ConeLaws
 pub mod DocumentLaws
+pub mod FaultLaws
