@@ -21,7 +21,7 @@ abbrev Tables : Type 0
 Tables = List (List Row) × Reading
 
 -- a table of the line that is begun is one of the next lines
-next_of_begun : (c : Reading) (l : Line) (ls : List Line) → c.later ≡ l ∷ ls → next_table_at c ≡ any_table_at (begun l ls c)
+pub next_of_begun : (c : Reading) (l : Line) (ls : List Line) → c.later ≡ l ∷ ls → next_table_at c ≡ any_table_at (begun l ls c)
 unfolding next_table_at
 next_of_begun c l ls e = ap (λ (r : Result Reading InputFault). r >>= any_table_at) (worded_with (need_line_at c) (begun l ls c) (line_found c l ls e))
 

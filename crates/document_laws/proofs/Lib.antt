@@ -13,3 +13,4 @@ pub mod LocalLines
 pub mod LocalForms
 pub mod LocalTables
 pub mod Leaving
+pub mod LeavingDocuments

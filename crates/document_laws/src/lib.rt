@@ -1,8 +1,10 @@
 //! What follows from the definitions of documents alone, whatever the code: inputs are read exactly where their lines
-//! are in the grammar. The functions here have no code: their contracts are laws over the definitions.
+//! are in the grammar, and where they are refused, the fault stands at the first sign with which no input is in it.
+//! The functions here have no code: their contracts are laws over the definitions.
 #![tactic(auto)]
 
 ghost use Rattle.document_laws.specs.ConeLaws.{ConesAreRead, ConeDocumentsAreRead};
+ghost use Rattle.document_laws.specs.FaultLaws.{ConeFaultsLeave, TableFaultsLeave, TwoTablesFaultsLeave, TablesFaultsLeave, VectorsFaultsLeave, VectorFaultsLeave};
 ghost use Rattle.document_laws.specs.DocumentLaws.{TableDocumentsAreRead, VectorsDocumentsAreRead, VectorDocumentsAreRead, TwoTablesAreRead, TablesAreRead};
 
 /// Lines are read as a cone exactly where they are one, and so are the bytes of an input.
@@ -22,4 +24,14 @@ pub fn tables_are_read()
 pub fn tables_with_vectors_are_read()
     ensures vectors { VectorsDocumentsAreRead }
     ensures vector { VectorDocumentsAreRead }
+{}
+
+/// Where the text of an input is refused, the fault stands at the first sign with which no input of its kind goes on.
+pub fn faults_leave_the_grammar()
+    ensures cone { ConeFaultsLeave }
+    ensures table { TableFaultsLeave }
+    ensures two_tables { TwoTablesFaultsLeave }
+    ensures tables { TablesFaultsLeave }
+    ensures vectors { VectorsFaultsLeave }
+    ensures vector { VectorFaultsLeave }
 {}
