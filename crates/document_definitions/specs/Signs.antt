@@ -33,11 +33,19 @@ signs_of end (l ∷ ls) = line_signs l.number l.tokens l.end (signs_of end ls)
 abbrev pub plain : List Placed → List Sign
 plain signs = map (λ (s : Placed). s.1) signs
 
--- At place p stands the first sign, after those before it, with which no lines are in the grammar: whatever follows
--- that sign in other lines, which show the same up to and with it, they are not in the grammar.
+-- At place p stands a sign with which the lines leave the grammar: other lines that show the same up to and with that
+-- sign are not in the grammar, whatever follows it.
 pub record LeavesAt (InGrammar : List Line → Type 0) (end : Place) (lines : List Line) (p : Place) : Type 0 where
   pub before : List Placed
   pub sign : Sign
   pub after : List Placed
   pub stands : signs_of end lines ≡ before ++ (p, sign) ∷ after
   pub no_way_on : (others : List Line) (more : List Sign) → plain (signs_of end others) ≡ plain before ++ sign ∷ more → InGrammar others → ⊥
+
+-- The same, and no sign before p is such: what stands before p can be gone on with.
+pub record FirstLeavesAt (InGrammar : List Line → Type 0) (end : Place) (lines : List Line) (p : Place) : Type 0 where
+  pub leaves : LeavesAt InGrammar end lines p
+  pub others : List Line
+  pub more : List Sign
+  pub shown_before : plain (signs_of end others) ≡ plain leaves.before ++ more
+  pub way_on : InGrammar others

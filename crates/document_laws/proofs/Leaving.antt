@@ -23,15 +23,15 @@ pub record StopsBehind {X E : Type 0} (read : Reading → Result X E) (c : Readi
 
 module _ {X E : Type 0} (lexical : LexFault → E) (stop go : Reading → Result X E)
     (at_end : (c : Reading) (f : LexFault) → stop c ≡ Err (lexical f) → (f.place ≡ c.input_end) × ((d : Reading) (x : X) → stop d ≢ Ok x)) where
-  abbrev reads : Reading → Result X E
+  abbrev pub reads : Reading → Result X E
   reads c = by_lines stop go c.later c
 
-  none_left : (ls : List Line) (other : Reading) (more : List Sign) → plain (signs_of other.input_end ls) ≡ input_end ∷ more → ((d : Reading) (x : X) → stop d ≢ Ok x) → (x : X) → by_lines stop go ls other ≢ Ok x
+  pub none_left : (ls : List Line) (other : Reading) (more : List Sign) → plain (signs_of other.input_end ls) ≡ input_end ∷ more → ((d : Reading) (x : X) → stop d ≢ Ok x) → (x : X) → by_lines stop go ls other ≢ Ok x
   unfolding signs_of
   none_left [] other more e n x p = n other x p
   none_left (l ∷ ls) other more e n x p = no_input_end l.number l.tokens l.end (signs_of other.input_end ls) (ap opening e)
 
-  behind_end : (c : Reading) (p : Place) → c.later ≡ [] → p ≡ c.input_end → ((d : Reading) (x : X) → stop d ≢ Ok x) → StopsBehind reads c p
+  abbrev pub behind_end : (c : Reading) (p : Place) → c.later ≡ [] → p ≡ c.input_end → ((d : Reading) (x : X) → stop d ≢ Ok x) → StopsBehind reads c p
   unfolding signs_of
   behind_end c p split there n = record {
     front = [];
@@ -41,7 +41,7 @@ module _ {X E : Type 0} (lexical : LexFault → E) (stop go : Reading → Result
     same = λ other more e x q. none_left other.later other more e n x q;
   }
 
-  behind_line : (c : Reading) (l : Line) (ls : List Line) (p : Place) → c.later ≡ l ∷ ls → StopsAt go (begun l ls c) p → StopsBehind reads c p
+  abbrev pub behind_line : (c : Reading) (l : Line) (ls : List Line) (p : Place) → c.later ≡ l ∷ ls → StopsAt go (begun l ls c) p → StopsBehind reads c p
   unfolding signs_of
   behind_line c l ls p split h = record {
     front = h.front;
@@ -68,7 +68,7 @@ module _ {X E : Type 0} (lexical : LexFault → E) (stop go : Reading → Result
 abbrev pub start_with : List ℕ → List Line → Reading
 start_with bytes lines = record (start_of bytes) { later = lines }
 
-pub leaves : {X E : Type 0} (read : Reading → Result X E) (InGrammar : List Line → Type 0) (bytes : List ℕ) (p : Place) → StopsBehind read (start_of bytes) p
+abbrev pub leaves : {X E : Type 0} (read : Reading → Result X E) (InGrammar : List Line → Type 0) (bytes : List ℕ) (p : Place) → StopsBehind read (start_of bytes) p
     → ((others : List Line) → InGrammar others → (x : X) × (read (start_with bytes others) ≡ Ok x)) → LeavesAt InGrammar (end_of bytes) (lines_of bytes) p
 leaves read InGrammar bytes p h found = record {
   before = h.front;

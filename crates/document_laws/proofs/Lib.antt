@@ -14,3 +14,4 @@ pub mod LocalForms
 pub mod LocalTables
 pub mod Leaving
 pub mod LeavingDocuments
+pub mod Ways

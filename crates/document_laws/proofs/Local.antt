@@ -52,7 +52,7 @@ pub bind_err : {A B E : Type 0} (r : Result A E) (g : A → Result B E) (e : E) 
 bind_err (Ok x) g e p = inr (x, refl, p)
 bind_err {A} (Err f) g e p = let same : f ≡ e = cc in inl (ap (λ (h : _). Err h) same)
 
-shows_split : (c d : Reading) (front : List Placed) → left_signs c ≡ front ++ left_signs d → shows c ≡ plain front ++ shows d
+pub shows_split : (c d : Reading) (front : List Placed) → left_signs c ≡ front ++ left_signs d → shows c ≡ plain front ++ shows d
 shows_split c d front e = ap plain e ∙ plain-append front (left_signs d)
 
 pub regrouped : (xs ys : List Placed) (more : List Sign) (c : Reading) → shows c ≡ plain (xs ++ ys) ++ more → shows c ≡ plain xs ++ (plain ys ++ more)
@@ -63,7 +63,7 @@ module _ {A B E : Type 0} (first : Reading → Result (A × Reading) E) (second 
   abbrev pub chained : Reading → Result (B × Reading) E
   chained c = first c >>= λ (y : A × Reading). second y.0 y.1
 
-  goes_joined : (c : Reading) (x : A) (d : Reading) (z : B) (last : Reading) → GoesOn first c x d → GoesOn (second x) d z last → GoesOn chained c z last
+  abbrev pub goes_joined : (c : Reading) (x : A) (d : Reading) (z : B) (last : Reading) → GoesOn first c x d → GoesOn (second x) d z last → GoesOn chained c z last
   goes_joined c x d z last g h = record {
     front = g.front ++ h.front;
     split = g.split ∙ ap (λ (ss : List Placed). g.front ++ ss) h.split ∙ sym (append_assoc g.front h.front (left_signs last));
@@ -80,10 +80,10 @@ module _ {A B E : Type 0} (first : Reading → Result (A × Reading) E) (second 
       goes_joined c (b.0).0 (b.0).1 z last (g (b.0).0 (b.0).1 b.1) (h (b.0).0 (b.0).1 b.1 z last b.2)
 
 module _ {A X E : Type 0} (lexical : LexFault → E) (first : Reading → Result (A × Reading) E) (second : A → Reading → Result X E) where
-  abbrev ended : Reading → Result X E
+  abbrev pub ended : Reading → Result X E
   ended c = first c >>= λ (y : A × Reading). second y.0 y.1
 
-  stops_late : (c : Reading) (x : A) (d : Reading) (p : Place) → GoesOn first c x d → StopsAt (second x) d p → StopsAt ended c p
+  abbrev pub stops_late : (c : Reading) (x : A) (d : Reading) (p : Place) → GoesOn first c x d → StopsAt (second x) d p → StopsAt ended c p
   stops_late c x d p g h = record {
     front = g.front ++ h.front;
     sign = h.sign;
@@ -97,7 +97,7 @@ module _ {A X E : Type 0} (lexical : LexFault → E) (first : Reading → Result
         h.same f.0 more f.2 z (sym (ap (λ (r : Result (A × Reading) E). r >>= λ (y : A × Reading). second y.0 y.1) f.1) ∙ q));
   }
 
-  stops_early : (c : Reading) (p : Place) → StopsAt first c p → StopsAt ended c p
+  abbrev pub stops_early : (c : Reading) (p : Place) → StopsAt first c p → StopsAt ended c p
   stops_early c p h = record {
     front = h.front;
     sign = h.sign;

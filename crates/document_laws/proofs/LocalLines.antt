@@ -14,11 +14,11 @@ use Rattle.document_laws.proofs.Local.{left_signs, shows, opening, opening_more,
 use Rattle.document_laws.proofs.LocalWords.{as_is, end_there}
 
 -- the tokens that are left in a line, and its end
-rest_of_line : ℕ → List Token → ℕ → List Placed
+pub rest_of_line : ℕ → List Token → ℕ → List Placed
 rest_of_line n [] end = (record { line = n; column = end }, line_end) ∷ []
 rest_of_line n (t ∷ ts) end = token_sign n t ∷ rest_of_line n ts end
 
-line_split : (n : ℕ) (ts : List Token) (end : ℕ) (others : List Placed) → line_signs n ts end others ≡ rest_of_line n ts end ++ others
+pub line_split : (n : ℕ) (ts : List Token) (end : ℕ) (others : List Placed) → line_signs n ts end others ≡ rest_of_line n ts end ++ others
 unfolding line_signs rest_of_line
 line_split n [] end others = refl
 line_split n (t ∷ ts) end others = ap (λ (ss : List Placed). token_sign n t ∷ ss) (line_split n ts end others)
@@ -55,16 +55,16 @@ unfolding signs_of
 further_in [] other more split e n = absurd (n (ap opening (sym e)))
 further_in (l ∷ ls) other more split e n = record { line = l; rest = ls; lines = split; there = e }
 
-abbrev rest_here : Reading → List Placed
+abbrev pub rest_here : Reading → List Placed
 rest_here c = rest_of_line c.current.number c.current.tokens c.current.end
 
-behind_line : (c other : Reading) (more : List Sign) → shows other ≡ plain (rest_here c) ++ more → plain (signs_of other.input_end other.later) ≡ more
+pub behind_line : (c other : Reading) (more : List Sign) → shows other ≡ plain (rest_here c) ++ more → plain (signs_of other.input_end other.later) ≡ more
 behind_line c other more e = skipped c.current.number c.current.tokens c.current.end other.current.number other.current.tokens other.current.end (signs_of other.input_end other.later) more e
 
-further : (c other : Reading) (more : List Sign) → shows other ≡ plain (rest_here c) ++ more → opening more ≢ Some input_end → Further other more
+pub further : (c other : Reading) (more : List Sign) → shows other ≡ plain (rest_here c) ++ more → opening more ≢ Some input_end → Further other more
 further c other more e n = further_in other.later other more refl (behind_line c other more e) n
 
-split_line : (c : Reading) (l : Line) (ls : List Line) → c.later ≡ l ∷ ls → left_signs c ≡ rest_here c ++ left_signs (begun l ls c)
+pub split_line : (c : Reading) (l : Line) (ls : List Line) → c.later ≡ l ∷ ls → left_signs c ≡ rest_here c ++ left_signs (begun l ls c)
 unfolding signs_of
 split_line c l ls e =
     ap (λ (ks : List Line). line_signs c.current.number c.current.tokens c.current.end (signs_of c.input_end ks)) e
@@ -92,17 +92,21 @@ pub goes_line : (c : Reading) → Goes next_line c
 unfolding need_line_at
 goes_line c x d e = goes_line_in c.later c refl x d e
 
-no_line_more : (ls : List Line) (other : Reading) (more : List Sign) → plain (signs_of other.input_end ls) ≡ input_end ∷ more → (x : ⊤ × Reading) → alone (line_from ls other) ≢ Ok x
+pub no_line_more : (ls : List Line) (other : Reading) (more : List Sign) → plain (signs_of other.input_end ls) ≡ input_end ∷ more → (x : ⊤ × Reading) → alone (line_from ls other) ≢ Ok x
 unfolding signs_of
 no_line_more [] other more e x p = absurd cc
 no_line_more (l ∷ ls) other more e x p = no_input_end l.number l.tokens l.end (signs_of other.input_end ls) (ap opening e)
 
-stops_line_in : (ls : List Line) (c : Reading) → c.later ≡ ls → (f : LexFault) → alone (line_from ls c) ≡ Err f → StopsAt next_line c f.place
+-- it stops where the input ends
+abbrev pub StopsAfterLine : Reading → Place → Type 0
+StopsAfterLine c p = (h : StopsAt next_line c p) × (h.front ≡ rest_here c)
+
+pub stops_line_in : (ls : List Line) (c : Reading) → c.later ≡ ls → (f : LexFault) → alone (line_from ls c) ≡ Err f → StopsAfterLine c f.place
 unfolding need_line_at signs_of
 stops_line_in [] c split f e =
     let fault : LexFault = record { place = c.input_end; kind = MissingWord } in
     let same : fault ≡ f = cc in
-    subst (λ (g : LexFault). StopsAt next_line c g.place) same
+    subst (λ (g : LexFault). StopsAfterLine c g.place) same
     (record {
       front = rest_here c;
       sign = input_end;
@@ -111,12 +115,12 @@ stops_line_in [] c split f e =
           ap (λ (ks : List Line). line_signs c.current.number c.current.tokens c.current.end (signs_of c.input_end ks)) split
           ∙ line_split c.current.number c.current.tokens c.current.end ((c.input_end, input_end) ∷ []);
       same = λ other more s x p. no_line_more other.later other more (behind_line c other (input_end ∷ more) s) x p;
-    })
+    }, refl)
 stops_line_in (l ∷ ls) c split f e = absurd cc
 
 pub stops_line : (c : Reading) → Stops as_is next_line c
 unfolding need_line_at
-stops_line c f e = stops_line_in c.later c refl f e
+stops_line c f e = (stops_line_in c.later c refl f e).0
 
 -- a reader of the next line, where one is left
 abbrev pub by_lines : {X E : Type 0} → (Reading → Result X E) → (Reading → Result X E) → List Line → Reading → Result X E
@@ -154,7 +158,7 @@ abbrev pub by_ends : {A E : Type 0} → A → (Reading → Result (A × Reading)
 by_ends x go [] c = Ok (x, c)
 by_ends x go (t ∷ ts) c = go c
 
-ends_shown : (ts : List Token) (c : Reading) → ts ≡ [] → opening (shows (with_tokens ts c)) ≡ Some line_end
+pub ends_shown : (ts : List Token) (c : Reading) → ts ≡ [] → opening (shows (with_tokens ts c)) ≡ Some line_end
 unfolding line_signs
 ends_shown [] c e = refl
 ends_shown (t ∷ ts) c e = absurd cc

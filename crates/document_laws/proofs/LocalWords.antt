@@ -37,6 +37,10 @@ end_there [] c e = refl
 end_there (stray column ∷ ts) c e = absurd cc
 end_there (word column v ∷ ts) c e = absurd cc
 
+-- a reader stops at the very next sign
+abbrev pub StopsHere : {X E : Type 0} → (Reading → Result X E) → Reading → Place → Type 0
+StopsHere read c p = (h : StopsAt read c p) × (h.front ≡ [])
+
 -- the next word, put to a test
 abbrev pub tested : {A : Type 0} → Result A LexKind → Reading → Result (A × Reading) LexFault
 tested (Ok x) c = Ok (x, c)
@@ -46,14 +50,14 @@ abbrev pub word_with : {A : Type 0} → (List ℕ → Result A LexKind) → Read
 word_with test c = word_at c >>= λ (w : List ℕ × Reading). tested (test w.0) w.1
 
 module _ {A : Type 0} (test : List ℕ → Result A LexKind) where
-  abbrev read : Reading → Result (A × Reading) LexFault
+  abbrev pub read : Reading → Result (A × Reading) LexFault
   read c = word_with test c
 
-  at_word : (column : ℕ) (w : List ℕ) (ts : List Token) (c : Reading) → read (with_tokens (word column w ∷ ts) c) ≡ tested (test w) (with_tokens ts (behind column c))
+  pub at_word : (column : ℕ) (w : List ℕ) (ts : List Token) (c : Reading) → read (with_tokens (word column w ∷ ts) c) ≡ tested (test w) (with_tokens ts (behind column c))
   unfolding word_at
   at_word column w ts c = refl
 
-  again : (w : List ℕ) (r : Result A LexKind) (other : Reading) (more : List Sign) → test w ≡ r → shows other ≡ shown w ∷ more
+  pub again : (w : List ℕ) (r : Result A LexKind) (other : Reading) (more : List Sign) → test w ≡ r → shows other ≡ shown w ∷ more
       → (next : Reading) × (read other ≡ tested r next) × (shows next ≡ more)
   again w r other more t e =
       let v : (column : ℕ) × (rest : List Token) × (other.current.tokens ≡ word column w ∷ rest) × (shows (with_tokens rest other) ≡ more) = word_there other.current.tokens other w more e in
@@ -111,33 +115,33 @@ module _ {A : Type 0} (test : List ℕ → Result A LexKind) where
       err_ok : (f : LexFault) → Err f ≢ Ok x
       err_ok f e = absurd cc
 
-  stops_here : (ts : List Token) (c : Reading) → Stops as_is read (with_tokens ts c)
+  pub stops_here : (ts : List Token) (c : Reading) (f : LexFault) → read (with_tokens ts c) ≡ Err f → StopsHere read (with_tokens ts c) f.place
   unfolding word_at line_signs
   stops_here [] c f e =
       let same : fault_at c c.current.end MissingWord ≡ f = cc in
-      subst (λ (g : LexFault). StopsAt read (with_tokens [] c) g.place) same
-      (record { front = []; sign = line_end; after = signs_of c.input_end c.later; split = refl; same = λ other more s x p. none_ended other more s x p })
+      subst (λ (g : LexFault). StopsHere read (with_tokens [] c) g.place) same
+      (record { front = []; sign = line_end; after = signs_of c.input_end c.later; split = refl; same = λ other more s x p. none_ended other more s x p }, refl)
   stops_here (stray column ∷ ts) c f e =
       let same : fault_at c column BadByte ≡ f = cc in
-      subst (λ (g : LexFault). StopsAt read (with_tokens (stray column ∷ ts) c) g.place) same
-      (record { front = []; sign = strange; after = left_signs (with_tokens ts c); split = refl; same = λ other more s x p. none_strange other more s x p })
+      subst (λ (g : LexFault). StopsHere read (with_tokens (stray column ∷ ts) c) g.place) same
+      (record { front = []; sign = strange; after = left_signs (with_tokens ts c); split = refl; same = λ other more s x p. none_strange other more s x p }, refl)
   stops_here (word column w ∷ ts) c f e = by_test (test w) refl e
     where
-      by_test : (r : Result A LexKind) → test w ≡ r → tested r (with_tokens ts (behind column c)) ≡ Err f → StopsAt read (with_tokens (word column w ∷ ts) c) f.place
+      by_test : (r : Result A LexKind) → test w ≡ r → tested r (with_tokens ts (behind column c)) ≡ Err f → StopsHere read (with_tokens (word column w ∷ ts) c) f.place
       by_test (Ok y) t e = absurd cc
       by_test (Err k) t e =
           let same : word_fault (with_tokens ts (behind column c)) k ≡ f = cc in
-          subst (λ (g : LexFault). StopsAt read (with_tokens (word column w ∷ ts) c) g.place) same
-          (record { front = []; sign = shown w; after = left_signs (with_tokens ts c); split = refl; same = λ other more s x p. none_refused w k other more t s x p })
+          subst (λ (g : LexFault). StopsHere read (with_tokens (word column w ∷ ts) c) g.place) same
+          (record { front = []; sign = shown w; after = left_signs (with_tokens ts c); split = refl; same = λ other more s x p. none_refused w k other more t s x p }, refl)
 
   pub stops_word : (c : Reading) → Stops as_is read c
-  stops_word c = stops_here c.current.tokens c
+  stops_word c f e = (stops_here c.current.tokens c f e).0
 
 -- the end of a line
 abbrev pub ending : Reading → Result (⊤ × Reading) LexFault
 ending c = alone (end_line_at c)
 
-ends_again : (other : Reading) → opening (shows other) ≡ Some line_end → ending other ≡ Ok (tt, other)
+pub ends_again : (other : Reading) → opening (shows other) ≡ Some line_end → ending other ≡ Ok (tt, other)
 unfolding end_line_at
 ends_again other o = ap (λ (ts : List Token). alone (end_from ts other)) (end_there other.current.tokens other o)
 
@@ -159,17 +163,17 @@ token_more [] c s e n x p = (let same : s ≡ line_end = cc in n same)
 token_more (stray column ∷ ts) c s e n x p = absurd cc
 token_more (word column w ∷ ts) c s e n x p = absurd cc
 
-stops_end_here : (ts : List Token) (c : Reading) → Stops as_is ending (with_tokens ts c)
+pub stops_end_here : (ts : List Token) (c : Reading) (f : LexFault) → ending (with_tokens ts c) ≡ Err f → StopsHere ending (with_tokens ts c) f.place
 unfolding end_line_at line_signs
 stops_end_here [] c f e = absurd cc
 stops_end_here (stray column ∷ ts) c f e =
     let same : fault_at c column BadByte ≡ f = cc in
-    subst (λ (g : LexFault). StopsAt ending (with_tokens (stray column ∷ ts) c) g.place) same
-    (record { front = []; sign = strange; after = left_signs (with_tokens ts c); split = refl; same = λ other more s x p. token_more other.current.tokens other strange (ap opening s) (λ q. cc) x p })
+    subst (λ (g : LexFault). StopsHere ending (with_tokens (stray column ∷ ts) c) g.place) same
+    (record { front = []; sign = strange; after = left_signs (with_tokens ts c); split = refl; same = λ other more s x p. token_more other.current.tokens other strange (ap opening s) (λ q. cc) x p }, refl)
 stops_end_here (word column w ∷ ts) c f e =
     let same : fault_at c column ExtraWord ≡ f = cc in
-    subst (λ (g : LexFault). StopsAt ending (with_tokens (word column w ∷ ts) c) g.place) same
-    (record { front = []; sign = shown w; after = left_signs (with_tokens ts c); split = refl; same = λ other more s x p. token_more other.current.tokens other (shown w) (ap opening s) (λ q. cc) x p })
+    subst (λ (g : LexFault). StopsHere ending (with_tokens (word column w ∷ ts) c) g.place) same
+    (record { front = []; sign = shown w; after = left_signs (with_tokens ts c); split = refl; same = λ other more s x p. token_more other.current.tokens other (shown w) (ap opening s) (λ q. cc) x p }, refl)
 
 pub stops_end : (c : Reading) → Stops as_is ending c
-stops_end c = stops_end_here c.current.tokens c
+stops_end c f e = (stops_end_here c.current.tokens c f e).0
