@@ -72,11 +72,11 @@ row_found l ls row columns c h =
     }
 
 -- lines of coefficients are read as rows
-record RowsFound (n columns : ℕ) (c : Reading) (rows : List (List ℤ)) (rest : List Line) : Type 0 where
-  left : Reading
-  read : cone_rows_at n columns c ≡ Ok (rows, left)
-  later : left.later ≡ rest
-  at_end : c.current.tokens ≡ [] → left.current.tokens ≡ []
+pub record RowsFound (n columns : ℕ) (c : Reading) (rows : List (List ℤ)) (rest : List Line) : Type 0 where
+  pub left : Reading
+  pub read : cone_rows_at n columns c ≡ Ok (rows, left)
+  pub later : left.later ≡ rest
+  pub at_end : c.current.tokens ≡ [] → left.current.tokens ≡ []
 
 rows_more : (n columns : ℕ) (c : Reading) (row : List ℤ) (ls : List Line) (rows : List (List ℤ)) (rest : List Line) (one : RowFound columns c row ls) → RowsFound n columns one.left rows rest → RowsFound (suc n) columns c (row ∷ rows) rest
 unfolding cone_rows_at
@@ -89,7 +89,7 @@ rows_more n columns c row ls rows rest one more = record {
   at_end = λ h. more.at_end one.at_end;
 }
 
-rows_found : (lines rest : List Line) (rows : List (List ℤ)) (columns : ℕ) (c : Reading) → AllZip (IsCoefficientLine columns) lines rows → RowsFound (length rows) columns (with_later (lines ++ rest) c) rows rest
+pub rows_found : (lines rest : List Line) (rows : List (List ℤ)) (columns : ℕ) (c : Reading) → AllZip (IsCoefficientLine columns) lines rows → RowsFound (length rows) columns (with_later (lines ++ rest) c) rows rest
 unfolding cone_rows_at
 rows_found [] rest [] columns c z = record { left = with_later rest c; read = refl; later = refl; at_end = λ h. h }
 rows_found [] rest (row ∷ rows) columns c z = absurd z

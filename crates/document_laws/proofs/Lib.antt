@@ -15,3 +15,5 @@ pub mod LocalTables
 pub mod Leaving
 pub mod LeavingDocuments
 pub mod Ways
+pub mod WordWays
+pub mod ConeWays

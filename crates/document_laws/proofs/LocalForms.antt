@@ -22,7 +22,7 @@ pub stops_pure : {X : Type 0} (g : Reading → X) (c : Reading) → Stops as_is 
 stops_pure g c f e = absurd (ok_never (g c) f e)
 
 -- a number up to max, of which f is made
-number_test : {A : Type 0} → (ℕ → A) → ℕ → Option ℕ → Result A LexKind
+unfoldable pub number_test : {A : Type 0} → (ℕ → A) → ℕ → Option ℕ → Result A LexKind
 number_test f max None = Err BadWord
 number_test f max (Some n) = if nat_lt max n then Err NumberTooWide else Ok (f n)
 
@@ -44,7 +44,7 @@ unwrapped : {A E : Type 0} (r : Result (A × Reading) E) → (r >>= λ (n : A ×
 unwrapped (Ok n) = refl
 unwrapped (Err e) = refl
 
-number_word : (max : ℕ) (c : Reading) → word_with (λ w. number_test (λ n. n) max (decimal_value w)) c ≡ number_at max c
+pub number_word : (max : ℕ) (c : Reading) → word_with (λ w. number_test (λ n. n) max (decimal_value w)) c ≡ number_at max c
 unfolding number_at
 number_word max c =
     any_word (word_at c) (λ (w : List ℕ × Reading). tested (number_test (λ n. n) max (decimal_value w.0)) w.1) (λ (w : List ℕ × Reading). number_up_to max (decimal_value w.0) w.1)
@@ -56,30 +56,30 @@ goes_number max c = (let test : List ℕ → Result ℕ LexKind = λ w. number_t
 pub stops_number : (max : ℕ) (c : Reading) → Stops as_is (number_at max) c
 stops_number max c = (let test : List ℕ → Result ℕ LexKind = λ w. number_test (λ n. n) max (decimal_value w) in stops_same as_is (word_with test) (number_at max) (number_word max) c (stops_word test c))
 
-signed_test : ℕ → List ℕ → Result ℤ LexKind
+unfoldable pub signed_test : ℕ → List ℕ → Result ℤ LexKind
 signed_test max w = number_test (λ n. with_sign (is_negative w) n) max (decimal_value (magnitude w))
 
-signed_word : (max : ℕ) (c : Reading) → word_with (signed_test max) c ≡ signed_at max c
+pub signed_word : (max : ℕ) (c : Reading) → word_with (signed_test max) c ≡ signed_at max c
 unfolding signed_at signed_test
 signed_word max c =
     any_word (word_at c) (λ (w : List ℕ × Reading). tested (signed_test max w.0) w.1)
     (λ (w : List ℕ × Reading). number_up_to max (decimal_value (magnitude w.0)) w.1 >>= λ (n : ℕ × Reading). Ok (with_sign (is_negative w.0) n.0, n.1))
     (λ w. number_tested (λ n. with_sign (is_negative w.0) n) max (decimal_value (magnitude w.0)) w.1)
 
-goes_signed : (max : ℕ) (c : Reading) → Goes (signed_at max) c
+pub goes_signed : (max : ℕ) (c : Reading) → Goes (signed_at max) c
 goes_signed max c = goes_same (word_with (signed_test max)) (signed_at max) (signed_word max) c (goes_word (signed_test max) c)
 
 stops_signed : (max : ℕ) (c : Reading) → Stops as_is (signed_at max) c
 stops_signed max c = stops_same as_is (word_with (signed_test max)) (signed_at max) (signed_word max) c (stops_word (signed_test max) c)
 
 -- a word that has to stand there
-exact_test : List ℕ → List ℕ → Result ⊤ LexKind
+unfoldable pub exact_test : List ℕ → List ℕ → Result ⊤ LexKind
 exact_test wanted w = if same_word w wanted then Ok tt else Err BadWord
 
 abbrev pub exactly : List ℕ → Reading → Result (⊤ × Reading) LexFault
 exactly wanted c = alone (exactly_at wanted c)
 
-exact_word : (wanted : List ℕ) (c : Reading) → word_with (exact_test wanted) c ≡ exactly wanted c
+pub exact_word : (wanted : List ℕ) (c : Reading) → word_with (exact_test wanted) c ≡ exactly wanted c
 unfolding exactly_at exact_test
 exact_word wanted c = by_word (word_at c)
   where
@@ -164,13 +164,13 @@ unfolding vector_at
 stops_vector c = stops_moved as_is (exactly_at (codes "vec")) (numbers_at limit) c (goes_exactly (codes "vec") c) (stops_exactly (codes "vec") c) (λ d e. stops_numbers limit d)
 
 -- coefficients, rows and cones
-abbrev Row : Type 0
+abbrev pub Row : Type 0
 Row = List ℤ × Reading
 
-abbrev Rows : Type 0
+abbrev pub Rows : Type 0
 Rows = List (List ℤ) × Reading
 
-goes_coefficients : (n : ℕ) (c : Reading) → Goes (coefficients_at n) c
+pub goes_coefficients : (n : ℕ) (c : Reading) → Goes (coefficients_at n) c
 unfolding coefficients_at
 goes_coefficients zero c = goes_pure [] c
 goes_coefficients (suc n) c =
@@ -184,19 +184,19 @@ stops_coefficients (suc n) c =
     stops_chained as_is (signed_at 1000000) (λ z d. coefficients_at n d >>= λ (r : Row). Ok (z ∷ r.0, r.1)) c (goes_signed 1000000 c) (stops_signed 1000000 c)
     (λ z d e. stops_first as_is (coefficients_at n) (λ r d'. Ok (z ∷ r, d')) d (stops_coefficients n d) (λ y f q. absurd (ok_never (z ∷ y.0, y.1) f q)))
 
-abbrev closed_row : List ℤ → Reading → Result Row LexFault
+abbrev pub closed_row : List ℤ → Reading → Result Row LexFault
 closed_row r d = end_line_at d >>= λ (end : Reading). Ok (r, end)
 
-abbrev row_on : ℕ → Reading → Result Row LexFault
+abbrev pub row_on : ℕ → Reading → Result Row LexFault
 row_on columns d = coefficients_at columns d >>= λ (r : Row). closed_row r.0 r.1
 
-goes_closed : (r : List ℤ) (d : Reading) → Goes (closed_row r) d
+pub goes_closed : (r : List ℤ) (d : Reading) → Goes (closed_row r) d
 goes_closed r d = goes_moved as_is end_line_at (λ end. Ok (r, end)) d (goes_end d) (λ end e. goes_pure r end)
 
 stops_closed : (r : List ℤ) (d : Reading) → Stops as_is (closed_row r) d
 stops_closed r d = stops_moved as_is end_line_at (λ end. Ok (r, end)) d (goes_end d) (stops_end d) (λ end e. stops_pure (λ c. (r, c)) end)
 
-goes_row : (columns : ℕ) (c : Reading) → Goes (cone_row_at columns) c
+pub goes_row : (columns : ℕ) (c : Reading) → Goes (cone_row_at columns) c
 unfolding cone_row_at
 goes_row columns c = goes_moved as_is need_line_at (row_on columns) c (goes_line c) (λ d e. goes_chained (coefficients_at columns) closed_row d (goes_coefficients columns d) (λ r d' q. goes_closed r d'))
 
@@ -206,7 +206,7 @@ stops_row columns c =
     stops_moved as_is need_line_at (row_on columns) c (goes_line c) (stops_line c)
     (λ d e. stops_chained as_is (coefficients_at columns) closed_row d (goes_coefficients columns d) (stops_coefficients columns d) (λ r d' q. stops_closed r d'))
 
-goes_rows : (n columns : ℕ) (c : Reading) → Goes (cone_rows_at n columns) c
+pub goes_rows : (n columns : ℕ) (c : Reading) → Goes (cone_rows_at n columns) c
 unfolding cone_rows_at
 goes_rows zero columns c = goes_pure [] c
 goes_rows (suc n) columns c =
@@ -220,7 +220,7 @@ stops_rows (suc n) columns c =
     stops_chained as_is (cone_row_at columns) (λ r d. cone_rows_at n columns d >>= λ (rs : Rows). Ok (r ∷ rs.0, rs.1)) c (goes_row columns c) (stops_row columns c)
     (λ r d e. stops_first as_is (cone_rows_at n columns) (λ rs d'. Ok (r ∷ rs, d')) d (stops_rows n columns d) (λ y f q. absurd (ok_never (r ∷ y.0, y.1) f q)))
 
-goes_cone_rows : (columns n : ℕ) (c : Reading) → Goes (rows_of_cone_at columns n) c
+pub goes_cone_rows : (columns n : ℕ) (c : Reading) → Goes (rows_of_cone_at columns n) c
 goes_cone_rows zero n c = goes_pure (replicate n []) c
 goes_cone_rows (suc columns) n c = goes_rows n (suc columns) c
 
@@ -231,19 +231,19 @@ stops_cone_rows (suc columns) n c = stops_rows n (suc columns) c
 abbrev Read : Type 0
 Read = Result (Cone × Reading) LexFault
 
-abbrev cone_of : ℕ → List (List ℤ) → Cone
+abbrev pub cone_of : ℕ → List (List ℤ) → Cone
 cone_of columns rows = record { columns = columns; rows = rows }
 
-abbrev after_end : ℕ → ℕ → Reading → Read
+abbrev pub after_end : ℕ → ℕ → Reading → Read
 after_end columns n d = rows_of_cone_at columns n d >>= λ (rows : Rows). Ok (cone_of columns rows.0, rows.1)
 
-abbrev after_count : ℕ → ℕ → Reading → Read
+abbrev pub after_count : ℕ → ℕ → Reading → Read
 after_count columns n d = end_line_at d >>= after_end columns n
 
-abbrev after_columns : ℕ → Reading → Read
+abbrev pub after_columns : ℕ → Reading → Read
 after_columns columns d = number_at 10000 d >>= λ (n : ℕ × Reading). after_count columns n.0 n.1
 
-abbrev after_name : Reading → Read
+abbrev pub after_name : Reading → Read
 after_name d = number_at 10000 d >>= λ (n : ℕ × Reading). after_columns n.0 n.1
 
 pub goes_cone : (c : Reading) → Goes cone_at c

@@ -14,7 +14,7 @@ use Rattle.document_laws.proofs.Local.{left_signs, shows, opening, opening_more,
 use Rattle.document_laws.proofs.LocalWords.{as_is, end_there}
 
 -- the tokens that are left in a line, and its end
-pub rest_of_line : ℕ → List Token → ℕ → List Placed
+unfoldable pub rest_of_line : ℕ → List Token → ℕ → List Placed
 rest_of_line n [] end = (record { line = n; column = end }, line_end) ∷ []
 rest_of_line n (t ∷ ts) end = token_sign n t ∷ rest_of_line n ts end
 
