@@ -17,7 +17,7 @@ use Rattle.document_laws.proofs.ConeFinding.{RowsFound, rows_found}
 use Rattle.document_laws.proofs.Local.{shows, opening, StopsAt, Goes, goes_chained, goes_pure, goes_same, goes_moved, alone, alone_bind}
 use Rattle.document_laws.proofs.LocalWords.{as_is, word_with, ending, ends_again, goes_end}
 use Rattle.document_laws.proofs.LocalLines.{next_line, goes_line, ends_shown}
-use Rattle.document_laws.proofs.LocalForms.{number_test, number_word, signed_test, signed_word, exact_test, exact_word, exactly, goes_number, goes_signed, goes_exactly, goes_coefficients, goes_closed, goes_row, goes_rows, goes_cone_rows, closed_row, row_on, cone_of}
+use Rattle.document_laws.proofs.LocalForms.{number_test, number_word, signed_test, signed_word, exact_test, exact_word, exactly, goes_number, goes_signed, goes_exactly, goes_coefficients, goes_closed, goes_row, goes_rows, goes_cone_rows, closed_row, row_on, cone_of, after_end, after_count, after_columns, after_name}
 use Rattle.document_laws.proofs.Ways.{Sat, From, Way, Well, WellOpen, Free, sat_both, well_free, well_goes, well_open, well_behind, free_chained, free_pure, free_same, sat_same, well_same, well_open_same, from_sat, sat_mapped, well_mapped, well_open_mapped}
 use Rattle.document_laws.proofs.WordWays.{free_word, sat_word, well_word, sat_end, well_end, free_line, well_line}
 
@@ -143,7 +143,7 @@ module _ (Aim : List ℤ → List Sign → Type 0) (k : Reading) (none : k.curre
 abbrev Rows : Type 0
 Rows = List (List ℤ) × Reading
 
-abbrev last_signs : List Sign
+abbrev pub last_signs : List Sign
 last_signs = line_end ∷ input_end ∷ []
 
 at_nothing : (n end : ℕ) (p : Place) → plain (line_signs n [] end (signs_of p [])) ≡ last_signs
@@ -240,3 +240,89 @@ last_cone_rows (suc columns) n = last_rows n (suc columns)
 well_cone_rows : (columns n : ℕ) (Aim : List (List ℤ) → List Sign → Type 0) → ((rows : List (List ℤ)) → Aim rows last_signs) → (c : Reading) → WellOpen as_is (rows_of_cone_at columns n) Aim c
 well_cone_rows zero n Aim a c = λ f e. absurd cc
 well_cone_rows (suc columns) n Aim a c = well_rows n (suc columns) Aim a c
+
+-- a cone, behind which nothing is left
+abbrev pub IsLast : Cone → List Sign → Type 0
+IsLast cone ss = ss ≡ last_signs
+
+abbrev Read : Type 0
+Read = Result (Cone × Reading) LexFault
+
+goes_after_end : (columns n : ℕ) (c : Reading) → Goes (after_end columns n) c
+goes_after_end columns n c = goes_chained (rows_of_cone_at columns n) (λ rows d. Ok (cone_of columns rows, d)) c (goes_cone_rows columns n c) (λ rows last q. goes_pure (cone_of columns rows) last)
+
+goes_after_count : (columns n : ℕ) (c : Reading) → Goes (after_count columns n) c
+goes_after_count columns n c = goes_moved as_is end_line_at (after_end columns n) c (goes_end c) (λ d e. goes_after_end columns n d)
+
+goes_after_columns : (columns : ℕ) (c : Reading) → Goes (after_columns columns) c
+goes_after_columns columns c = goes_chained (number_at 10000) (after_count columns) c (goes_number 10000 c) (λ n d e. goes_after_count columns n d)
+
+goes_after_name : (c : Reading) → Goes after_name c
+goes_after_name c = goes_chained (number_at 10000) after_columns c (goes_number 10000 c) (λ n d e. goes_after_columns n d)
+
+from_end : (columns n : ℕ) → From (after_end columns n) IsLast (shows (last_cone_rows columns n).start)
+from_end columns n =
+    let l : RowsLast (rows_of_cone_at columns n) = last_cone_rows columns n in
+    record {
+      start = l.start;
+      there = refl;
+      value = cone_of columns l.value;
+      next = l.next;
+      reads = ap (λ (q : Result Rows LexFault). q >>= λ (rows : Rows). Ok (cone_of columns rows.0, rows.1)) l.reads;
+      aim = l.last;
+    }
+
+ended_count : (columns n : ℕ) (c : Reading) → (ending c >>= λ (u : ⊤ × Reading). after_end columns n u.1) ≡ after_count columns n c
+ended_count columns n c = alone_bind (end_line_at c) (after_end columns n)
+
+sat_ending : (columns n : ℕ) → Sat ending (λ u ss. From (after_end columns n) IsLast ss)
+sat_ending columns n = (let l : RowsLast (rows_of_cone_at columns n) = last_cone_rows columns n in sat_end (λ u ss. From (after_end columns n) IsLast ss) l.start l.none (from_end columns n))
+
+sat_count : (columns n : ℕ) → Sat (after_count columns n) IsLast
+sat_count columns n =
+    sat_same (λ c. ending c >>= λ (u : ⊤ × Reading). after_end columns n u.1) (after_count columns n) IsLast (ended_count columns n)
+    (sat_both as_is ending (λ u. after_end columns n) IsLast (λ u k. goes_after_end columns n k) (sat_ending columns n))
+
+well_count : (columns n : ℕ) (c : Reading) → Well as_is (after_count columns n) IsLast c
+well_count columns n c =
+    well_same as_is (λ d. ending d >>= λ (u : ⊤ × Reading). after_end columns n u.1) (after_count columns n) IsLast (ended_count columns n) c
+    (well_goes as_is ending (λ u. after_end columns n) IsLast (λ u k. goes_after_end columns n k) c (goes_end c) (well_end (λ u ss. From (after_end columns n) IsLast ss) c (sat_ending columns n))
+    (λ u d e. well_open_mapped (rows_of_cone_at columns n) (λ rows. cone_of columns rows) IsLast d (well_cone_rows columns n (λ rows ss. ss ≡ last_signs) (λ rows. refl) d)))
+
+from_count : (columns : ℕ) → From (after_count columns 0) IsLast (shows (sat_count columns 0).start)
+from_count columns = from_sat (after_count columns 0) IsLast (sat_count columns 0)
+
+sat_columns : (columns : ℕ) → Sat (after_columns columns) IsLast
+sat_columns columns = sat_both as_is (number_at 10000) (after_count columns) IsLast (goes_after_count columns) (sat_number (λ n ss. From (after_count columns n) IsLast ss) (sat_count columns 0).start (from_count columns))
+
+well_columns : (columns : ℕ) (c : Reading) → Well as_is (after_columns columns) IsLast c
+well_columns columns c =
+    well_free as_is (number_at 10000) (after_count columns) IsLast (goes_after_count columns) c (free_number c) (well_number (λ n ss. From (after_count columns n) IsLast ss) c (sat_count columns 0).start (from_count columns))
+    (λ n d e. well_count columns n d)
+
+from_columns : From (after_columns 0) IsLast (shows (sat_columns 0).start)
+from_columns = from_sat (after_columns 0) IsLast (sat_columns 0)
+
+sat_name : Sat after_name IsLast
+sat_name = sat_both as_is (number_at 10000) after_columns IsLast goes_after_columns (sat_number (λ n ss. From (after_columns n) IsLast ss) (sat_columns 0).start from_columns)
+
+well_name : (c : Reading) → Well as_is after_name IsLast c
+well_name c =
+    well_free as_is (number_at 10000) after_columns IsLast goes_after_columns c (free_number c) (well_number (λ n ss. From (after_columns n) IsLast ss) c (sat_columns 0).start from_columns) (λ n d e. well_columns n d)
+
+from_name : From after_name IsLast (shows sat_name.start)
+from_name = from_sat after_name IsLast sat_name
+
+cone_by_name : (c : Reading) → (exactly (codes "cone") c >>= λ (u : ⊤ × Reading). after_name u.1) ≡ cone_at c
+unfolding cone_at
+cone_by_name c = alone_bind (exactly_at (codes "cone") c) after_name
+
+pub sat_cone : Sat cone_at IsLast
+sat_cone =
+    sat_same (λ c. exactly (codes "cone") c >>= λ (u : ⊤ × Reading). after_name u.1) cone_at IsLast cone_by_name
+    (sat_both as_is (exactly (codes "cone")) (λ u. after_name) IsLast (λ u k. goes_after_name k) (sat_named (λ u ss. From after_name IsLast ss) sat_name.start from_name))
+
+pub well_cone : (c : Reading) → Well as_is cone_at IsLast c
+well_cone c =
+    well_same as_is (λ d. exactly (codes "cone") d >>= λ (u : ⊤ × Reading). after_name u.1) cone_at IsLast cone_by_name c
+    (well_free as_is (exactly (codes "cone")) (λ u. after_name) IsLast (λ u k. goes_after_name k) c (free_named c) (well_named (λ u ss. From after_name IsLast ss) c sat_name.start from_name) (λ u d e. well_name d))

@@ -21,6 +21,14 @@ pub record StopsBehind {X E : Type 0} (read : Reading → Result X E) (c : Readi
   pub split : signs_of c.input_end c.later ≡ front ++ (p, sign) ∷ after
   pub same : (other : Reading) (more : List Sign) → plain (signs_of other.input_end other.later) ≡ plain front ++ sign ∷ more → (x : X) → read other ≢ Ok x
 
+pub no_line_signs : (p : Place) → signs_of p [] ≡ (p, input_end) ∷ []
+unfolding signs_of
+no_line_signs p = refl
+
+pub begun_signs : (c : Reading) (l : Line) (ls : List Line) → signs_of c.input_end (l ∷ ls) ≡ left_signs (begun l ls c)
+unfolding signs_of
+begun_signs c l ls = refl
+
 module _ {X E : Type 0} (lexical : LexFault → E) (stop go : Reading → Result X E)
     (at_end : (c : Reading) (f : LexFault) → stop c ≡ Err (lexical f) → (f.place ≡ c.input_end) × ((d : Reading) (x : X) → stop d ≢ Ok x)) where
   abbrev pub reads : Reading → Result X E
@@ -32,22 +40,20 @@ module _ {X E : Type 0} (lexical : LexFault → E) (stop go : Reading → Result
   none_left (l ∷ ls) other more e n x p = no_input_end l.number l.tokens l.end (signs_of other.input_end ls) (ap opening e)
 
   abbrev pub behind_end : (c : Reading) (p : Place) → c.later ≡ [] → p ≡ c.input_end → ((d : Reading) (x : X) → stop d ≢ Ok x) → StopsBehind reads c p
-  unfolding signs_of
   behind_end c p split there n = record {
     front = [];
     sign = input_end;
     after = [];
-    split = ap (λ (ls : List Line). signs_of c.input_end ls) split ∙ ap (λ (q : Place). (q, input_end) ∷ []) (sym there);
+    split = ap (λ (ls : List Line). signs_of c.input_end ls) split ∙ no_line_signs c.input_end ∙ ap (λ (q : Place). (q, input_end) ∷ []) (sym there);
     same = λ other more e x q. none_left other.later other more e n x q;
   }
 
   abbrev pub behind_line : (c : Reading) (l : Line) (ls : List Line) (p : Place) → c.later ≡ l ∷ ls → StopsAt go (begun l ls c) p → StopsBehind reads c p
-  unfolding signs_of
   behind_line c l ls p split h = record {
     front = h.front;
     sign = h.sign;
     after = h.after;
-    split = ap (λ (ks : List Line). signs_of c.input_end ks) split ∙ h.split;
+    split = ap (λ (ks : List Line). signs_of c.input_end ks) split ∙ begun_signs c l ls ∙ h.split;
     same =
         λ other more e x q. (let next : List Sign = plain h.front ++ h.sign ∷ more in
         let there : shows (begun l ls c) ≡ plain h.front ++ h.sign ∷ plain h.after = ap plain h.split ∙ plain-append h.front ((p, h.sign) ∷ h.after) in
@@ -79,17 +85,17 @@ leaves read InGrammar bytes p h found = record {
 }
 
 -- no further line
-abbrev none_stop : Reading → Result (⊤ × Reading) LexFault
+abbrev pub none_stop : Reading → Result (⊤ × Reading) LexFault
 none_stop c = Ok (tt, c)
 
-no_line_alone : (c : Reading) → by_lines none_stop ending c.later c ≡ alone (no_line_at c)
+pub no_line_alone : (c : Reading) → by_lines none_stop ending c.later c ≡ alone (no_line_at c)
 no_line_alone c = by_list c.later
   where
     by_list : (ls : List Line) → by_lines none_stop ending ls c ≡ alone (no_line_from ls c)
     by_list [] = refl
     by_list (l ∷ ls) = refl
 
-none_never : (c : Reading) (f : LexFault) → none_stop c ≢ Err f
+pub none_never : (c : Reading) (f : LexFault) → none_stop c ≢ Err f
 none_never c f e = absurd cc
 
 pub stops_no_line : (c : Reading) → Stops as_is (λ d. alone (no_line_at d)) c

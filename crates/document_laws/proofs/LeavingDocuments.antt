@@ -30,39 +30,29 @@ use Rattle.document_laws.proofs.LocalTables.{in_text, worded_lift, worded_alone,
 use Rattle.document_laws.proofs.Leaving.{StopsBehind, stops_behind, start_with, leaves, stops_no_line, stops_closing, each_line, stops_each}
 
 -- the fault of a line that is wanted where none is left
-abbrev missing : Reading → LexFault
+abbrev pub missing : Reading → LexFault
 missing c = record { place = c.input_end; kind = MissingWord }
 
-abbrev no_line : {X : Type 0} → Reading → Result X LexFault
+abbrev pub no_line : {X : Type 0} → Reading → Result X LexFault
 no_line c = Err (missing c)
 
-no_line_ends : {X : Type 0} (c : Reading) (f : LexFault) → no_line {X = X} c ≡ Err f → (f.place ≡ c.input_end) × ((d : Reading) (x : X) → no_line d ≢ Ok x)
+pub no_line_ends : {X : Type 0} (c : Reading) (f : LexFault) → no_line {X = X} c ≡ Err f → (f.place ≡ c.input_end) × ((d : Reading) (x : X) → no_line d ≢ Ok x)
 no_line_ends c f e = (let same : missing c ≡ f = cc in (ap (λ (g : LexFault). g.place) (sym same), λ d x p. absurd cc))
 
 -- a cone
-abbrev closed_cone : Cone → Reading → Result Cone LexFault
+abbrev pub closed_cone : Cone → Reading → Result Cone LexFault
 closed_cone cone d = no_line_at d >>= λ (last : Reading). Ok cone
 
-abbrev cone_on : Reading → Result Cone LexFault
+abbrev pub cone_on : Reading → Result Cone LexFault
 cone_on d = cone_at d >>= λ (x : Cone × Reading). closed_cone x.0 x.1
 
-cone_by_line : (c : Reading) → by_lines no_line cone_on c.later c ≡ cone_document_at c
+pub cone_by_line : (c : Reading) → by_lines no_line cone_on c.later c ≡ cone_document_at c
 unfolding need_line_at
 cone_by_line c = by_list c.later
   where
     by_list : (ls : List Line) → by_lines no_line cone_on ls c ≡ line_from ls c >>= cone_on
     by_list [] = refl
     by_list (l ∷ ls) = refl
-
-stops_cone_on : (c : Reading) → Stops as_is cone_on c
-stops_cone_on c = stops_chained as_is cone_at closed_cone c (goes_cone c) (stops_cone c) (λ cone d e. stops_closing as_is no_line_at cone d (stops_no_line d))
-
-pub cone_faults_leave : ConeFaultsLeave
-unfolding cone_document
-cone_faults_leave bytes f e =
-    leaves cone_document_at SomeCone bytes f.place
-    (stops_behind as_is no_line cone_on no_line_ends cone_document_at cone_by_line (start_of bytes) (λ l ls split. stops_cone_on (begun l ls (start_of bytes))) f e)
-    (λ others g. (g.0, cone_document_found (start_with bytes others) g.0 g.1))
 
 -- tables
 abbrev no_table : {X : Type 0} → Reading → Result X InputFault

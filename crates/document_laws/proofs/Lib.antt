@@ -17,3 +17,4 @@ pub mod LeavingDocuments
 pub mod Ways
 pub mod WordWays
 pub mod ConeWays
+pub mod LeavingCones

@@ -131,7 +131,7 @@ module _ {X E : Type 0} (lexical : LexFault → E) (stop go : Reading → Result
   abbrev pub by_line : Reading → Result X E
   by_line c = by_lines stop go c.later c
 
-  in_line : (c : Reading) (l : Line) (ls : List Line) (p : Place) → c.later ≡ l ∷ ls → StopsAt go (begun l ls c) p → StopsAt by_line c p
+  abbrev pub in_line : (c : Reading) (l : Line) (ls : List Line) (p : Place) → c.later ≡ l ∷ ls → StopsAt go (begun l ls c) p → StopsAt by_line c p
   in_line c l ls p split h = record {
     front = rest_here c ++ h.front;
     sign = h.sign;

@@ -70,7 +70,7 @@ unfolding rest_of_line line_signs
 opening_rest n [] end ss others = refl
 opening_rest n (t ∷ ts) end ss others = refl
 
-opens_rest : (c : Reading) (ss : List Sign) → opening (plain (rest_here c) ++ ss) ≡ opening (shows c)
+pub opens_rest : (c : Reading) (ss : List Sign) → opening (plain (rest_here c) ++ ss) ≡ opening (shows c)
 opens_rest c ss = opening_rest c.current.number c.current.tokens c.current.end ss (signs_of c.input_end c.later)
 
 abbrev FreeLine : Reading → ⊤ → Reading → Type 0

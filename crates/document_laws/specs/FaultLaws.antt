@@ -1,5 +1,5 @@
--- The laws of faults: where a text is refused, the fault stands at the first sign with which no text is in the grammar,
--- whatever follows it there.
+-- The laws of faults: where a text is refused, the fault stands at a sign with which no text is in the grammar, whatever
+-- follows it there; in a cone it is the first such sign.
 use Rattle.std.specs.Prelude.{◌≡◌, ℕ, List, [], ◌∷◌, Err}
 use Rattle.text_definitions.specs.Text.{Line, lines_of, end_of}
 use Rattle.text_definitions.specs.declared.LexFault.{LexFault}
@@ -12,7 +12,7 @@ use Rattle.surface_definitions.specs.Grammar.{IsVectorLine}
 use Rattle.document_definitions.specs.ConeGrammar.{AreConeLines}
 use Rattle.document_definitions.specs.Grammar.{AreTableAndLines, AreTwoTables, AreTables}
 use Rattle.document_definitions.specs.Documents.{cone_document, table_document, vectors_document, vector_document, two_tables_document, tables_document}
-use Rattle.document_definitions.specs.Signs.{LeavesAt}
+use Rattle.document_definitions.specs.Signs.{LeavesAt, FirstLeavesAt}
 
 -- lines that some cone, table or the like is read from
 abbrev pub SomeCone : List Line → Type 0
@@ -33,9 +33,9 @@ SomeTwoTables lines = (first : List Row) × (second : List Row) × AreTwoTables 
 abbrev pub SomeTables : List Line → Type 0
 SomeTables lines = (tables : List (List Row)) × AreTables lines tables
 
--- where the text of an input is refused, it leaves the grammar at the fault's place
+-- where the text of an input is refused, it leaves the grammar at the fault's place; that of a cone there first
 abbrev pub ConeFaultsLeave : Type 0
-ConeFaultsLeave = (bytes : List ℕ) (f : LexFault) → cone_document bytes ≡ Err f → LeavesAt SomeCone (end_of bytes) (lines_of bytes) f.place
+ConeFaultsLeave = (bytes : List ℕ) (f : LexFault) → cone_document bytes ≡ Err f → FirstLeavesAt SomeCone (end_of bytes) (lines_of bytes) f.place
 
 abbrev pub TableFaultsLeave : Type 0
 TableFaultsLeave = (bytes : List ℕ) (f : LexFault) → table_document bytes ≡ Err (bad_text (lexical f)) → LeavesAt SomeTable (end_of bytes) (lines_of bytes) f.place

@@ -1,5 +1,5 @@
 //! What follows from the definitions of documents alone, whatever the code: inputs are read exactly where their lines
-//! are in the grammar, and where they are refused, the fault stands at the first sign with which no input is in it.
+//! are in the grammar, and where they are refused, the fault stands at a sign with which no input is in it.
 //! The functions here have no code: their contracts are laws over the definitions.
 #![tactic(auto)]
 
@@ -26,7 +26,8 @@ pub fn tables_with_vectors_are_read()
     ensures vector { VectorDocumentsAreRead }
 {}
 
-/// Where the text of an input is refused, the fault stands at the first sign with which no input of its kind goes on.
+/// Where the text of an input is refused, the fault stands at a sign with which no input of its kind goes on; where a cone
+/// is refused, at the first such sign.
 pub fn faults_leave_the_grammar()
     ensures cone { ConeFaultsLeave }
     ensures table { TableFaultsLeave }

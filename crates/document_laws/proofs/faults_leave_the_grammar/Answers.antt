@@ -1,4 +1,5 @@
-use Rattle.document_laws.proofs.LeavingDocuments.{cone_faults_leave, table_faults_leave, two_tables_faults_leave, tables_faults_leave, vectors_faults_leave, vector_faults_leave}
+use Rattle.document_laws.proofs.LeavingDocuments.{table_faults_leave, two_tables_faults_leave, tables_faults_leave, vectors_faults_leave, vector_faults_leave}
+use Rattle.document_laws.proofs.LeavingCones.{cone_faults_leave}
 use Rattle.document_laws.proofs.faults_leave_the_grammar.Goals as goal
 
 pub returns-clause-cone : goal.returns-clause-cone
