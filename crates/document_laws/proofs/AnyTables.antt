@@ -1,17 +1,16 @@
 -- Any number of tables are read exactly where their lines are these.
-use Rattle.std.proofs.Common.{◌≡◌, ◌≤◌, ◌+◌, ℕ, suc, List, [], ◌∷◌, ◌++◌, length, Result, Ok, Err, refl, sym, ap, ◌∙◌, subst, arith, ◌⊎◌, inl, inr}
+use Rattle.std.proofs.Common.{◌≡◌, ◌≤◌, ◌+◌, ℕ, List, [], ◌∷◌, ◌++◌, length, Result, Ok, refl, sym, ap, ◌∙◌, subst, arith, inl, inr}
 use Rattle.std.specs.Prelude.{◌↔◌}
-use Rattle.std.proofs.lemmas.List.{append-nil, length-append}
+use Rattle.std.proofs.lemmas.List.{length-append}
 use Rattle.text_definitions.specs.Text.{Line, lines_of}
 use Rattle.text_definitions.specs.Reading.{Reading, ◌>>=◌, begun, need_line_at, start_of}
 use Rattle.table_definitions.specs.Table.{Row}
 use Rattle.signature_definitions.specs.SignatureText.{InputFault, any_table_at}
 use Rattle.signature_definitions.specs.Grammar.{AreTableLines}
-use Rattle.document_definitions.specs.Documents.{worded, next_table_at, tables_on, tables_from, tables_document}
+use Rattle.document_definitions.specs.Documents.{next_table_at, tables_on, tables_from, tables_document}
 use Rattle.document_definitions.specs.Grammar.{AreTables}
 use Rattle.table_definitions.proofs.ReadingLaws.{bind_ok, ok_parts}
 use Rattle.document_laws.proofs.LineLaws.{line_found}
-use Rattle.document_laws.proofs.Blocks.{ReadsBlocks}
 use Rattle.document_laws.proofs.Tables.{worded_with, table_blocks}
 
 abbrev Table : Type 0
@@ -113,10 +112,10 @@ pub tables_read : (bytes : List ℕ) (tables : List (List Row)) → (tables_docu
 unfolding tables_document
 tables_read bytes tables = (
   λ e. (
-    let first : (ts : Tables) × (tables_from (lines_of bytes) (start_of bytes) ≡ Ok ts) × (◌≡◌ {A = Result (List (List Row)) InputFault} (Ok ts.0) (Ok tables)) =
-    bind_ok (tables_from (lines_of bytes) (start_of bytes)) (λ (ts : Tables). Ok ts.0) tables e in
-    let same : (first.0).0 ≡ tables = cc in
-    subst (λ (ts : List (List Row)). AreTables (lines_of bytes) ts) same (tables_from_read (lines_of bytes) (start_of bytes) (first.0).0 (first.0).1 (omega arith) first.1)
-  ),
+      let first : (ts : Tables) × (tables_from (lines_of bytes) (start_of bytes) ≡ Ok ts) × (◌≡◌ {A = Result (List (List Row)) InputFault} (Ok ts.0) (Ok tables)) =
+      bind_ok (tables_from (lines_of bytes) (start_of bytes)) (λ (ts : Tables). Ok ts.0) tables e in
+      let same : (first.0).0 ≡ tables = cc in
+      subst (λ (ts : List (List Row)). AreTables (lines_of bytes) ts) same (tables_from_read (lines_of bytes) (start_of bytes) (first.0).0 (first.0).1 (omega arith) first.1)
+      ),
   λ h. (let found : IsRead (lines_of bytes) (start_of bytes) tables = tables_from_found (lines_of bytes) (start_of bytes) tables (omega arith) h in ap (λ (r : Result Tables InputFault). r >>= λ (ts : Tables). Ok ts.0) found.1),
 )

@@ -1,10 +1,10 @@
 -- What is in the grammar of cones is read as it.
-use Rattle.std.proofs.Common.{◌≡◌, ℕ, zero, suc, ℤ, List, [], ◌∷◌, ◌++◌, length, Result, Ok, Err, refl, sym, ap, ◌∙◌, subst}
-use Rattle.std.specs.Prelude.{codes, replicate}
+use Rattle.std.proofs.Common.{◌≡◌, ℕ, zero, suc, ℤ, List, [], ◌∷◌, ◌++◌, length, Result, Ok, refl, sym, ap, ◌∙◌, subst}
+use Rattle.std.specs.Prelude.{codes}
 use Rattle.std.specs.List.{AllZip}
 use Rattle.text_definitions.specs.Text.{Token, word, stray, Line}
 use Rattle.text_definitions.specs.declared.LexFault.{LexFault}
-use Rattle.text_definitions.specs.Reading.{Reading, ◌>>=◌, begun, need_line_at, end_line_at, number_at, signed_at, exactly_at}
+use Rattle.text_definitions.specs.Reading.{Reading, ◌>>=◌, begun, need_line_at, end_line_at, number_at}
 use Rattle.table_definitions.specs.Grammar.{AreWords, IsNumber, IsSigned}
 use Rattle.cone_text_definitions.specs.ConeText.{Cone, coefficients_at, cone_row_at, cone_rows_at, rows_of_cone_at, cone_at}
 use Rattle.document_definitions.specs.ConeGrammar.{IsCoefficientLine, AreConeRows, AreConeLines}

@@ -1,24 +1,23 @@
 -- Cones: what stands before a fault can be gone on with to a cone.
-use Rattle.std.proofs.Common.{◌≡◌, ◌≢◌, ℕ, zero, suc, ℤ, pos, List, [], ◌∷◌, ◌++◌, length, Option, Some, None, Result, Ok, Err, ◌≤◌, inl, refl, sym, ap, ◌∙◌, subst, arith}
-use Rattle.std.specs.Prelude.{⊤, replicate, codes, map}
+use Rattle.std.proofs.Common.{◌≡◌, ℕ, zero, suc, ℤ, pos, List, [], ◌∷◌, ◌++◌, length, Result, Ok, inl, refl, sym, ap, ◌∙◌, subst, arith}
+use Rattle.std.specs.Prelude.{⊤, replicate, codes}
 use Rattle.std.specs.List.{AllZip}
-use Rattle.std.proofs.lemmas.List.{length-replicate, append-nil}
+use Rattle.std.proofs.lemmas.List.{length-replicate}
 use Rattle.text_definitions.specs.declared.Place.{Place}
 use Rattle.text_definitions.specs.declared.LexKind.{LexKind}
 use Rattle.text_definitions.specs.declared.LexFault.{LexFault}
 use Rattle.text_definitions.specs.Text.{Token, word, Line, decimal_value}
-use Rattle.text_definitions.specs.Reading.{Reading, ◌>>=◌, begun, need_line_at, end_line_at, number_at, signed_at, exactly_at}
-use Rattle.table_definitions.specs.Grammar.{AreWords, IsNumber, IsSigned}
+use Rattle.text_definitions.specs.Reading.{Reading, ◌>>=◌, need_line_at, end_line_at, number_at, signed_at, exactly_at}
+use Rattle.table_definitions.specs.Grammar.{AreWords, IsSigned}
 use Rattle.cone_text_definitions.specs.ConeText.{Cone, coefficients_at, cone_row_at, cone_rows_at, rows_of_cone_at, cone_at}
 use Rattle.document_definitions.specs.ConeGrammar.{IsCoefficientLine}
-use Rattle.document_definitions.specs.Signs.{Sign, line_end, input_end, Placed, line_signs, signs_of, plain}
-use Rattle.document_laws.proofs.LineLaws.{with_later}
+use Rattle.document_definitions.specs.Signs.{Sign, line_end, input_end, line_signs, signs_of, plain}
 use Rattle.document_laws.proofs.ConeFinding.{RowsFound, rows_found}
-use Rattle.document_laws.proofs.Local.{shows, opening, StopsAt, Goes, goes_chained, goes_pure, goes_same, goes_moved, alone, alone_bind}
+use Rattle.document_laws.proofs.Local.{shows, Goes, goes_chained, goes_pure, goes_moved, alone_bind}
 use Rattle.document_laws.proofs.LocalWords.{as_is, word_with, ending, ends_again, goes_end}
-use Rattle.document_laws.proofs.LocalLines.{next_line, goes_line, ends_shown}
-use Rattle.document_laws.proofs.LocalForms.{number_test, number_word, signed_test, signed_word, exact_test, exact_word, exactly, goes_number, goes_signed, goes_exactly, goes_coefficients, goes_closed, goes_row, goes_rows, goes_cone_rows, closed_row, row_on, cone_of, after_end, after_count, after_columns, after_name}
-use Rattle.document_laws.proofs.Ways.{Sat, From, Way, Well, WellOpen, Free, sat_both, well_free, well_goes, well_open, well_behind, free_chained, free_pure, free_same, sat_same, well_same, well_open_same, from_sat, sat_mapped, well_mapped, well_open_mapped}
+use Rattle.document_laws.proofs.LocalLines.{next_line, ends_shown}
+use Rattle.document_laws.proofs.LocalForms.{number_test, number_word, signed_test, signed_word, exact_test, exact_word, exactly, goes_number, goes_coefficients, goes_closed, goes_row, goes_rows, goes_cone_rows, closed_row, row_on, cone_of, after_end, after_count, after_columns, after_name}
+use Rattle.document_laws.proofs.Ways.{Sat, From, Well, WellOpen, Free, sat_both, well_free, well_goes, well_open, well_behind, free_chained, free_pure, free_same, sat_same, well_same, well_open_same, from_sat, sat_mapped, well_mapped, well_open_mapped}
 use Rattle.document_laws.proofs.WordWays.{free_word, sat_word, well_word, sat_end, well_end, free_line, well_line}
 
 abbrev naught : List ℕ

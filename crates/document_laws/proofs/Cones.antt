@@ -1,9 +1,9 @@
 -- Cones are read exactly where they are in the grammar.
-use Rattle.std.proofs.Common.{◌≡◌, ℕ, List, [], ◌∷◌, ◌++◌, Result, Ok, Err, refl, sym, ap, ◌∙◌, subst}
+use Rattle.std.proofs.Common.{◌≡◌, ℕ, List, ◌∷◌, ◌++◌, Result, Ok, Err, refl, sym, ap, ◌∙◌, subst}
 use Rattle.std.specs.Prelude.{◌↔◌}
 use Rattle.text_definitions.specs.Text.{Line, lines_of}
 use Rattle.text_definitions.specs.declared.LexFault.{LexFault}
-use Rattle.text_definitions.specs.Reading.{Reading, ◌>>=◌, begun, need_line_at, start_of}
+use Rattle.text_definitions.specs.Reading.{Reading, ◌>>=◌, need_line_at, start_of}
 use Rattle.cone_text_definitions.specs.ConeText.{Cone, cone_at}
 use Rattle.document_definitions.specs.ConeGrammar.{AreConeLines}
 use Rattle.document_definitions.specs.Documents.{cone_document, no_line_at}

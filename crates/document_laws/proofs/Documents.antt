@@ -1,23 +1,22 @@
 -- Documents with tables in either form are read exactly where their lines are in the grammar.
-use Rattle.std.proofs.Common.{◌≡◌, ℕ, List, [], ◌∷◌, ◌++◌, length, Result, Ok, Err, refl, sym, ap, ◌∙◌, subst}
+use Rattle.std.proofs.Common.{◌≡◌, ℕ, List, [], ◌∷◌, ◌++◌, Result, Ok, Err, refl, sym, ap, ◌∙◌, subst}
 use Rattle.std.specs.Prelude.{◌↔◌}
 use Rattle.std.specs.List.{AllZip}
-use Rattle.std.proofs.lemmas.List.{append-nil}
 use Rattle.text_definitions.specs.Text.{Line, lines_of}
 use Rattle.text_definitions.specs.declared.LexFault.{LexFault}
 use Rattle.text_definitions.specs.Reading.{Reading, ◌>>=◌, begun, need_line_at, start_of}
 use Rattle.table_definitions.specs.Table.{Row}
 use Rattle.cone_text_definitions.specs.VectorText.{vector_at}
-use Rattle.signature_definitions.specs.SignatureText.{InputFault, any_table_at}
+use Rattle.signature_definitions.specs.SignatureText.{InputFault}
 use Rattle.signature_definitions.specs.Grammar.{AreTableLines}
 use Rattle.surface_definitions.specs.Grammar.{IsVectorLine}
 use Rattle.surface_definitions.specs.Laws.{ReadsVector}
-use Rattle.document_definitions.specs.Documents.{worded, no_line_at, each_line_from, next_table_at, tables_on, tables_from, table_document, table_and_lines, vectors_document, vector_document, two_tables_document, tables_document}
-use Rattle.document_definitions.specs.Grammar.{AreTableAndLines, AreTwoTables, AreTables}
+use Rattle.document_definitions.specs.Documents.{worded, no_line_at, each_line_from, next_table_at, table_document, table_and_lines, vectors_document, vector_document, two_tables_document}
+use Rattle.document_definitions.specs.Grammar.{AreTableAndLines, AreTwoTables}
 use Rattle.table_definitions.proofs.ReadingLaws.{bind_ok, ok_parts}
 use Rattle.surface_definitions.proofs.VectorLaws.{VectorRead, vector_read, vector_found}
 use Rattle.document_laws.proofs.LineLaws.{BeginsLine, line_begun, line_found}
-use Rattle.document_laws.proofs.Blocks.{ReadsBlocks, ReadsLine, document_sound, document_complete, closed_complete, both, Both, both_blocks, lines_read, lines_found}
+use Rattle.document_laws.proofs.Blocks.{ReadsBlocks, ReadsLine, document_sound, document_complete, closed_complete, both, both_blocks, lines_read, lines_found}
 use Rattle.document_laws.proofs.Tables.{worded_ok, worded_with, worded_end, table_blocks}
 
 abbrev Table : Type 0

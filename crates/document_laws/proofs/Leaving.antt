@@ -1,17 +1,16 @@
 -- Documents: where one is refused, its lines leave the grammar.
-use Rattle.std.proofs.Common.{◌≡◌, ◌≢◌, ℕ, List, [], ◌∷◌, ◌++◌, Option, Some, None, Result, Ok, Err, refl, sym, ap, ◌∙◌, subst}
+use Rattle.std.proofs.Common.{◌≡◌, ◌≢◌, ℕ, List, [], ◌∷◌, ◌++◌, Some, Result, Ok, Err, refl, sym, ap, ◌∙◌, subst}
 use Rattle.std.specs.Prelude.{⊤}
 use Rattle.text_definitions.specs.declared.Place.{Place}
 use Rattle.text_definitions.specs.declared.LexFault.{LexFault}
 use Rattle.text_definitions.specs.Text.{Line, lines_of, end_of}
-use Rattle.text_definitions.specs.Reading.{Reading, ◌>>=◌, begun, start_of, end_line_at}
+use Rattle.text_definitions.specs.Reading.{Reading, ◌>>=◌, begun, start_of}
 use Rattle.document_definitions.specs.Documents.{no_line_at, no_line_from, each_line_from}
-use Rattle.document_definitions.specs.Signs.{Sign, input_end, Placed, line_signs, signs_of, plain, LeavesAt}
-use Rattle.table_definitions.proofs.ReadingLaws.{bind_ok}
+use Rattle.document_definitions.specs.Signs.{Sign, input_end, Placed, signs_of, plain, LeavesAt}
 use Rattle.document_laws.proofs.Blocks.{ReadsLine}
-use Rattle.document_laws.proofs.Local.{left_signs, shows, opening, opening_more, plain-append, GoesOn, StopsAt, Goes, Stops, stops_chained, stops_first, stops_same, alone, alone_bind}
+use Rattle.document_laws.proofs.Local.{left_signs, shows, opening, opening_more, plain-append, StopsAt, Goes, Stops, stops_chained, stops_first, stops_same, alone, alone_bind}
 use Rattle.document_laws.proofs.LocalWords.{as_is, ending, stops_end}
-use Rattle.document_laws.proofs.LocalLines.{by_lines, by_line, stops_by_line, Further, further_in, no_input_end}
+use Rattle.document_laws.proofs.LocalLines.{by_lines, stops_by_line, Further, further_in, no_input_end}
 
 -- a reading of which no line is begun, and where it stops among the lines that are left
 pub record StopsBehind {X E : Type 0} (read : Reading → Result X E) (c : Reading) (p : Place) : Type 0 where

@@ -1,25 +1,25 @@
 -- Where a cone is refused, its lines leave the grammar at the fault's place, and at none before.
-use Rattle.std.proofs.Common.{◌≡◌, ◌≢◌, ℕ, List, [], ◌∷◌, ◌++◌, Option, Some, None, Result, Ok, Err, ◌⊎◌, inl, inr, refl, sym, ap, ◌∙◌, subst}
-use Rattle.std.specs.Prelude.{⊤, map}
+use Rattle.std.proofs.Common.{◌≡◌, ℕ, List, [], ◌∷◌, ◌++◌, Result, Ok, Err, ◌⊎◌, inl, inr, refl, sym, ap, ◌∙◌, subst}
+use Rattle.std.specs.Prelude.{⊤}
 use Rattle.std.proofs.lemmas.List.{append-nil, append_assoc}
 use Rattle.text_definitions.specs.declared.Place.{Place}
 use Rattle.text_definitions.specs.declared.LexFault.{LexFault}
 use Rattle.text_definitions.specs.Text.{Token, word, stray, Line, lines_of, end_of}
-use Rattle.text_definitions.specs.Reading.{Reading, ◌>>=◌, begun, start_of, end_line_at}
+use Rattle.text_definitions.specs.Reading.{Reading, ◌>>=◌, begun, start_of}
 use Rattle.cone_text_definitions.specs.ConeText.{Cone, cone_at}
 use Rattle.document_definitions.specs.ConeGrammar.{AreConeLines}
 use Rattle.document_definitions.specs.Documents.{no_line_at, no_line_from, cone_document}
-use Rattle.document_definitions.specs.Signs.{Sign, line_end, input_end, Placed, token_sign, line_signs, signs_of, plain, LeavesAt, FirstLeavesAt}
+use Rattle.document_definitions.specs.Signs.{Sign, line_end, input_end, Placed, token_sign, line_signs, signs_of, plain, FirstLeavesAt}
 use Rattle.document_laws.specs.FaultLaws.{ConeFaultsLeave, SomeCone}
 use Rattle.document_laws.proofs.ConeReading.{ConeRead, cone_read}
-use Rattle.document_laws.proofs.Cones.{cone_document_at, cone_document_found}
-use Rattle.document_laws.proofs.Local.{left_signs, shows, opening, plain-append, GoesOn, StopsAt, bind_err, stops_early, stops_late, alone, alone_bind}
+use Rattle.document_laws.proofs.Cones.{cone_document_found}
+use Rattle.document_laws.proofs.Local.{shows, opening, plain-append, GoesOn, StopsAt, bind_err, stops_early, stops_late, alone, alone_bind}
 use Rattle.document_laws.proofs.LocalWords.{as_is, ending, StopsHere, stops_end_here}
-use Rattle.document_laws.proofs.LocalLines.{by_lines, by_line, in_line, rest_here, line_split, behind_line as behind_rest, no_input_end}
+use Rattle.document_laws.proofs.LocalLines.{by_lines, in_line, rest_here, line_split, behind_line as behind_rest, no_input_end}
 use Rattle.document_laws.proofs.LocalForms.{goes_cone}
-use Rattle.document_laws.proofs.Leaving.{StopsBehind, behind_end, behind_line, start_with, leaves, none_stop, no_line_alone, none_never}
-use Rattle.document_laws.proofs.LeavingDocuments.{missing, no_line, no_line_ends, closed_cone, cone_on, cone_by_line}
-use Rattle.document_laws.proofs.Ways.{Sat, Way, graft}
+use Rattle.document_laws.proofs.Leaving.{behind_end, behind_line, start_with, leaves, none_stop, no_line_alone, none_never}
+use Rattle.document_laws.proofs.LeavingDocuments.{no_line, no_line_ends, closed_cone, cone_on, cone_by_line}
+use Rattle.document_laws.proofs.Ways.{Way, graft}
 use Rattle.document_laws.proofs.WordWays.{opens_rest}
 use Rattle.document_laws.proofs.ConeWays.{last_signs, IsLast, sat_cone, well_cone}
 

@@ -1,11 +1,8 @@
 -- Cones, tables and vectors: where one is refused, its lines leave the grammar at the fault's place.
-use Rattle.std.proofs.Common.{◌≡◌, ◌≢◌, ℕ, List, [], ◌∷◌, ◌++◌, Option, Some, None, Result, Ok, Err, ◌⊎◌, inl, inr, refl, sym, ap, ◌∙◌, subst}
-use Rattle.std.specs.Prelude.{⊤}
-use Rattle.std.specs.List.{AllZip}
-use Rattle.text_definitions.specs.declared.Place.{Place}
+use Rattle.std.proofs.Common.{◌≡◌, ◌≢◌, ℕ, List, [], ◌∷◌, ◌++◌, Result, Ok, Err, inl, inr, refl, sym, ap, ◌∙◌, subst}
 use Rattle.text_definitions.specs.declared.LexKind.TheVariants.{MissingWord}
 use Rattle.text_definitions.specs.declared.LexFault.{LexFault}
-use Rattle.text_definitions.specs.Text.{Line, lines_of, end_of}
+use Rattle.text_definitions.specs.Text.{Line, lines_of}
 use Rattle.text_definitions.specs.Reading.{Reading, ◌>>=◌, begun, start_of, need_line_at, line_from}
 use Rattle.table_definitions.specs.Table.{Row}
 use Rattle.cone_text_definitions.specs.ConeText.{Cone, cone_at}
@@ -13,21 +10,20 @@ use Rattle.cone_text_definitions.specs.VectorText.{vector_at}
 use Rattle.surface_definitions.specs.Grammar.{IsVectorLine}
 use Rattle.signature_definitions.specs.SignatureText.{InputFault, any_table_at}
 use Rattle.signature_definitions.specs.Grammar.{AreTableLines}
-use Rattle.document_definitions.specs.Documents.{worded, no_line_at, no_line_from, each_line_from, next_table_at, tables_on, tables_from, cone_document, table_document, vectors_document, vector_document, two_tables_document, tables_document, table_and_lines}
+use Rattle.document_definitions.specs.Documents.{worded, no_line_at, each_line_from, next_table_at, tables_on, tables_from, table_document, vector_document, two_tables_document, tables_document, table_and_lines}
 use Rattle.document_definitions.specs.Grammar.{AreTables}
-use Rattle.document_definitions.specs.Signs.{LeavesAt}
-use Rattle.document_laws.specs.FaultLaws.{ConeFaultsLeave, TableFaultsLeave, TwoTablesFaultsLeave, TablesFaultsLeave, VectorsFaultsLeave, VectorFaultsLeave, SomeCone, SomeTable, SomeTwoTables, SomeTables, SomeTableAndVectors, SomeTableAndVector}
+use Rattle.document_laws.specs.FaultLaws.{TableFaultsLeave, TwoTablesFaultsLeave, TablesFaultsLeave, VectorsFaultsLeave, VectorFaultsLeave, SomeTable, SomeTwoTables, SomeTables, SomeTableAndVectors, SomeTableAndVector}
 use Rattle.document_laws.proofs.Blocks.{closed_complete}
-use Rattle.document_laws.proofs.Cones.{cone_document_at, cone_document_found}
+use Rattle.document_laws.proofs.Cones.{cone_document_at}
 use Rattle.document_laws.proofs.Tables.{worded_end, table_blocks}
-use Rattle.document_laws.proofs.Documents.{end_at, two_tables_at, two_tables_found, after_table, lines_document_at, lines_found_at, reads_vectors, vector_document_at, vector_document_found}
+use Rattle.document_laws.proofs.Documents.{end_at, two_tables_at, two_tables_found, lines_document_at, lines_found_at, reads_vectors, vector_document_at, vector_document_found}
 use Rattle.document_laws.proofs.AnyTables.{next_of_begun}
-use Rattle.document_laws.proofs.Local.{Goes, Stops, stops_chained, stops_first, stops_same, stops_moved, alone, goes_moved, stops_lifted, goes_lifted}
+use Rattle.document_laws.proofs.Local.{Stops, stops_chained, stops_first, stops_same, stops_moved, alone, stops_lifted, goes_lifted}
 use Rattle.document_laws.proofs.LocalWords.{as_is}
-use Rattle.document_laws.proofs.LocalLines.{by_lines, by_line, stops_by_line, goes_line, stops_line}
-use Rattle.document_laws.proofs.LocalForms.{goes_cone, stops_cone, goes_vector, stops_vector}
+use Rattle.document_laws.proofs.LocalLines.{by_lines, stops_by_line, goes_line, stops_line}
+use Rattle.document_laws.proofs.LocalForms.{goes_vector, stops_vector}
 use Rattle.document_laws.proofs.LocalTables.{in_text, worded_lift, worded_alone, goes_worded, stops_worded, goes_any_table, stops_any_table, goes_next_table, stops_next_table}
-use Rattle.document_laws.proofs.Leaving.{StopsBehind, stops_behind, start_with, leaves, stops_no_line, stops_closing, each_line, stops_each}
+use Rattle.document_laws.proofs.Leaving.{StopsBehind, stops_behind, start_with, leaves, stops_no_line, stops_closing, stops_each}
 
 -- the fault of a line that is wanted where none is left
 abbrev pub missing : Reading → LexFault

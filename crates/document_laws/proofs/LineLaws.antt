@@ -1,9 +1,8 @@
 -- Lines that are begun and ended; and each line of an input has a token.
-use Rattle.std.proofs.Common.{◌≡◌, ◌≢◌, ℕ, ◌+◌, Bool, true, false, List, [], ◌∷◌, ◌++◌, Option, Some, None, Result, Ok, Err, refl, sym, ap, ◌∙◌, subst}
+use Rattle.std.proofs.Common.{◌≡◌, ◌≢◌, ℕ, ◌+◌, Bool, true, false, List, [], ◌∷◌, ◌++◌, Ok, refl, sym, ap, subst}
 use Rattle.std.specs.Prelude.{◌==◌, if◌then◌else◌}
-use Rattle.std.specs.List.{AllZip, AllByRecursion}
+use Rattle.std.specs.List.{AllByRecursion}
 use Rattle.text_definitions.specs.Text.{Token, word, stray, Line, is_blank, is_word_byte, join_byte, tokens_from, is_skipped, without_cr, pieces, line_of, lines_from, lines_of}
-use Rattle.text_definitions.specs.declared.LexFault.{LexFault}
 use Rattle.text_definitions.specs.Reading.{Reading, begun, need_line_at, end_line_at}
 use Rattle.document_definitions.specs.Documents.{no_line_at, no_line_from}
 use Rattle.table_definitions.specs.Grammar.{AreWords}

@@ -1,10 +1,9 @@
 -- Readers see no more of the input than the signs that they take, and the next one.
-use Rattle.std.proofs.Common.{◌≡◌, ◌≢◌, ℕ, List, [], ◌∷◌, ◌++◌, Option, Some, None, Result, Ok, Err, ◌⊎◌, inl, inr, refl, sym, ap, ◌∙◌, subst}
-use Rattle.std.specs.Prelude.{map, ⊤}
+use Rattle.std.proofs.Common.{◌≡◌, ◌≢◌, List, [], ◌∷◌, ◌++◌, Option, Some, None, Result, Ok, Err, ◌⊎◌, inl, inr, refl, sym, ap, ◌∙◌, subst}
+use Rattle.std.specs.Prelude.{⊤}
 use Rattle.std.proofs.lemmas.List.{append_assoc, map-append}
 use Rattle.text_definitions.specs.declared.Place.{Place}
 use Rattle.text_definitions.specs.declared.LexFault.{LexFault}
-use Rattle.text_definitions.specs.Text.{Line}
 use Rattle.text_definitions.specs.Reading.{Reading, ◌>>=◌}
 use Rattle.document_definitions.specs.Signs.{Sign, Placed, line_signs, signs_of, plain}
 use Rattle.table_definitions.proofs.ReadingLaws.{bind_ok, ok_parts}

@@ -1,16 +1,16 @@
 -- Numbers, vectors and cones: their readers see no more than they take and the next sign.
-use Rattle.std.proofs.Common.{◌≡◌, ◌≢◌, ℕ, zero, suc, ℤ, Bool, true, false, List, [], ◌∷◌, ◌++◌, Option, Some, None, Result, Ok, Err, refl, sym, ap, ◌∙◌, subst}
+use Rattle.std.proofs.Common.{◌≡◌, ◌≢◌, ℕ, zero, suc, ℤ, Bool, true, false, List, [], ◌∷◌, Option, Some, None, Result, Ok, Err, refl, sym, ap, ◌∙◌}
 use Rattle.std.specs.Prelude.{⊤, nat_lt, if◌then◌else◌, codes, replicate}
 use Rattle.text_definitions.specs.declared.LexKind.{LexKind}
 use Rattle.text_definitions.specs.declared.LexKind.TheVariants.{BadWord, NumberTooWide}
 use Rattle.text_definitions.specs.declared.LexFault.{LexFault}
-use Rattle.text_definitions.specs.Text.{Token, word, Line, decimal_value}
+use Rattle.text_definitions.specs.Text.{Token, word, decimal_value}
 use Rattle.text_definitions.specs.Written.{limit}
 use Rattle.text_definitions.specs.Reading.{Reading, ◌>>=◌, word_at, number_up_to, number_at, signed_at, magnitude, is_negative, with_sign, exactly_at, same_word, numbers_from, numbers_at, need_line_at, end_line_at, word_fault}
 use Rattle.cone_text_definitions.specs.VectorText.{vector_at}
 use Rattle.cone_text_definitions.specs.ConeText.{Cone, coefficients_at, cone_row_at, cone_rows_at, rows_of_cone_at, cone_at}
-use Rattle.table_definitions.proofs.ReadingLaws.{with_tokens, behind, TakesNumber, number_read}
-use Rattle.document_laws.proofs.Local.{GoesOn, StopsAt, Goes, Stops, goes_chained, stops_chained, stops_first, goes_pure, goes_same, stops_same, alone, goes_moved, stops_moved}
+use Rattle.table_definitions.proofs.ReadingLaws.{TakesNumber, number_read}
+use Rattle.document_laws.proofs.Local.{Goes, Stops, goes_chained, stops_chained, stops_first, goes_pure, goes_same, stops_same, alone, goes_moved, stops_moved}
 use Rattle.document_laws.proofs.LocalWords.{as_is, tested, word_with, goes_word, stops_word, goes_end, stops_end}
 use Rattle.document_laws.proofs.LocalLines.{goes_line, stops_line, by_end, by_ends, goes_by_end, stops_by_end}
 

@@ -1,15 +1,15 @@
 -- Readers of one line after another, and of a line to its end, see no more than they take and the next sign.
-use Rattle.std.proofs.Common.{◌≡◌, ◌≢◌, ℕ, List, [], ◌∷◌, ◌++◌, Option, Some, None, Result, Ok, Err, refl, sym, ap, ◌∙◌, subst}
-use Rattle.std.specs.Prelude.{map, ⊤}
+use Rattle.std.proofs.Common.{◌≡◌, ◌≢◌, ℕ, List, [], ◌∷◌, ◌++◌, Some, Result, Ok, Err, refl, sym, ap, ◌∙◌, subst}
+use Rattle.std.specs.Prelude.{⊤}
 use Rattle.std.proofs.lemmas.List.{append_assoc}
 use Rattle.text_definitions.specs.declared.Place.{Place}
 use Rattle.text_definitions.specs.declared.LexKind.TheVariants.{MissingWord}
 use Rattle.text_definitions.specs.declared.LexFault.{LexFault}
 use Rattle.text_definitions.specs.Text.{Token, word, stray, Line}
-use Rattle.text_definitions.specs.Reading.{Reading, ◌>>=◌, begun, need_line_at, line_from}
-use Rattle.document_definitions.specs.Signs.{Sign, shown, strange, line_end, input_end, Placed, token_sign, line_signs, signs_of, plain}
+use Rattle.text_definitions.specs.Reading.{Reading, begun, need_line_at, line_from}
+use Rattle.document_definitions.specs.Signs.{Sign, line_end, input_end, Placed, token_sign, line_signs, signs_of, plain}
 use Rattle.table_definitions.proofs.ReadingLaws.{ok_parts, with_tokens}
-use Rattle.document_laws.proofs.LineLaws.{with_later, line_found}
+use Rattle.document_laws.proofs.LineLaws.{line_found}
 use Rattle.document_laws.proofs.Local.{left_signs, shows, opening, opening_more, plain-append, regrouped, GoesOn, StopsAt, Goes, Stops, alone}
 use Rattle.document_laws.proofs.LocalWords.{as_is, end_there}
 
@@ -106,16 +106,18 @@ unfolding need_line_at signs_of
 stops_line_in [] c split f e =
     let fault : LexFault = record { place = c.input_end; kind = MissingWord } in
     let same : fault ≡ f = cc in
-    subst (λ (g : LexFault). StopsAfterLine c g.place) same
-    (record {
-      front = rest_here c;
-      sign = input_end;
-      after = [];
-      split =
-          ap (λ (ks : List Line). line_signs c.current.number c.current.tokens c.current.end (signs_of c.input_end ks)) split
-          ∙ line_split c.current.number c.current.tokens c.current.end ((c.input_end, input_end) ∷ []);
-      same = λ other more s x p. no_line_more other.later other more (behind_line c other (input_end ∷ more) s) x p;
-    }, refl)
+    subst (λ (g : LexFault). StopsAfterLine c g.place) same (
+      record {
+        front = rest_here c;
+        sign = input_end;
+        after = [];
+        split =
+            ap (λ (ks : List Line). line_signs c.current.number c.current.tokens c.current.end (signs_of c.input_end ks)) split
+            ∙ line_split c.current.number c.current.tokens c.current.end ((c.input_end, input_end) ∷ []);
+        same = λ other more s x p. no_line_more other.later other more (behind_line c other (input_end ∷ more) s) x p;
+      },
+      refl,
+    )
 stops_line_in (l ∷ ls) c split f e = absurd cc
 
 pub stops_line : (c : Reading) → Stops as_is next_line c

@@ -1,6 +1,6 @@
 -- Tables in either form: their readers see no more than they take and the next sign.
-use Rattle.std.proofs.Common.{◌≡◌, ◌≢◌, ℕ, zero, suc, ◌^◌, Bool, true, false, List, [], ◌∷◌, Option, Some, None, Result, Ok, Err, refl, sym, ap, ◌∙◌, subst}
-use Rattle.std.specs.Prelude.{⊤, nat_lt, if◌then◌else◌, codes}
+use Rattle.std.proofs.Common.{◌≡◌, ◌≢◌, ℕ, zero, suc, ◌^◌, Bool, true, false, List, [], ◌∷◌, Option, Some, None, Result, Ok, Err, refl, ap}
+use Rattle.std.specs.Prelude.{nat_lt, if◌then◌else◌, codes}
 use Rattle.text_definitions.specs.declared.LexKind.{LexKind}
 use Rattle.text_definitions.specs.declared.LexKind.TheVariants.{BadWord, NumberTooWide}
 use Rattle.text_definitions.specs.declared.LexFault.{LexFault}
@@ -10,9 +10,9 @@ use Rattle.table_definitions.specs.Lists.{same_list}
 use Rattle.table_definitions.specs.Table.{max_tets, Gluing, TableFault, too_many, table_fault}
 use Rattle.table_definitions.specs.Table as tables
 use Rattle.table_definitions.specs.TableText.{TextFault, lexical, no_table, lexed, gluing_of, gluing_entry, entry_at, row_at, rows_at, checked, counted_rows_at, table_at}
-use Rattle.signature_definitions.specs.SignatureText.{SigFault, InputFault, bad_text, bad_signature, texted, decoded, signature_table, signature_at, named_table_at, any_table_at}
+use Rattle.signature_definitions.specs.SignatureText.{SigFault, InputFault, bad_text, texted, decoded, signature_table, signature_at, named_table_at, any_table_at}
 use Rattle.document_definitions.specs.Documents.{worded, next_table_at}
-use Rattle.document_laws.proofs.Local.{GoesOn, StopsAt, Goes, Stops, goes_chained, stops_chained, stops_first, goes_pure, goes_same, stops_same, alone, goes_moved, stops_moved, Lift, goes_lifted, stops_lifted}
+use Rattle.document_laws.proofs.Local.{Goes, Stops, goes_chained, stops_chained, stops_first, goes_pure, goes_same, stops_same, alone, goes_moved, stops_moved, Lift, goes_lifted, stops_lifted}
 use Rattle.document_laws.proofs.LocalWords.{as_is, tested, word_with, goes_word, stops_word, goes_end, stops_end}
 use Rattle.document_laws.proofs.LocalLines.{goes_line, stops_line}
 use Rattle.document_laws.proofs.LocalForms.{ok_never, stops_pure, goes_number, stops_number}

@@ -1,16 +1,15 @@
 -- The lexer's calls see no more than they take and the next sign.
-use Rattle.std.proofs.Common.{◌≡◌, ◌≢◌, ℕ, Bool, true, false, List, [], ◌∷◌, ◌++◌, Option, Some, None, Result, Ok, Err, refl, sym, ap, ◌∙◌, subst}
-use Rattle.std.specs.Prelude.{map, ⊤}
+use Rattle.std.proofs.Common.{◌≡◌, ◌≢◌, ℕ, List, [], ◌∷◌, Some, Result, Ok, Err, refl, sym, ap, ◌∙◌, subst}
+use Rattle.std.specs.Prelude.{⊤}
 use Rattle.text_definitions.specs.declared.Place.{Place}
 use Rattle.text_definitions.specs.declared.LexKind.{LexKind}
 use Rattle.text_definitions.specs.declared.LexKind.TheVariants.{BadByte, MissingWord, ExtraWord}
 use Rattle.text_definitions.specs.declared.LexFault.{LexFault}
-use Rattle.text_definitions.specs.Text.{Token, word, stray, Line}
-use Rattle.text_definitions.specs.Reading.{Reading, ◌>>=◌, begun, column_at, fault_at, word_fault, word_at, end_line_at, need_line_at, line_from, end_from}
-use Rattle.document_definitions.specs.Signs.{Sign, shown, strange, line_end, input_end, Placed, token_sign, line_signs, signs_of, plain}
-use Rattle.table_definitions.proofs.ReadingLaws.{bind_ok, ok_parts, with_tokens, behind}
-use Rattle.document_laws.proofs.LineLaws.{with_later}
-use Rattle.document_laws.proofs.Local.{left_signs, shows, opening, opening_more, plain-append, GoesOn, StopsAt, Goes, Stops, alone}
+use Rattle.text_definitions.specs.Text.{Token, word, stray}
+use Rattle.text_definitions.specs.Reading.{Reading, ◌>>=◌, column_at, fault_at, word_fault, word_at, end_line_at, end_from}
+use Rattle.document_definitions.specs.Signs.{Sign, shown, strange, line_end, line_signs, signs_of}
+use Rattle.table_definitions.proofs.ReadingLaws.{ok_parts, with_tokens, behind}
+use Rattle.document_laws.proofs.Local.{left_signs, shows, opening, GoesOn, StopsAt, Goes, Stops, alone}
 
 abbrev pub as_is : LexFault → LexFault
 as_is f = f

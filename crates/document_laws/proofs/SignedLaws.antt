@@ -1,6 +1,6 @@
 -- Signed decimals are read exactly where they are in the grammar.
-use Rattle.std.proofs.Common.{◌≡◌, ℕ, ◌≤◌, ℤ, pos, neg_ℤ, Bool, true, false, List, [], ◌∷◌, Option, Some, None, Result, Ok, Err, ◌⊎◌, inl, inr, refl, sym, ap, ◌∙◌, subst}
-use Rattle.std.specs.Prelude.{◌==◌, nat_lt, length, if◌then◌else◌, codes}
+use Rattle.std.proofs.Common.{◌≡◌, ℕ, ◌≤◌, ℤ, Bool, true, false, List, [], ◌∷◌, Option, Some, None, Result, Ok, Err, inl, inr, refl, sym, ap, ◌∙◌, subst}
+use Rattle.std.specs.Prelude.{◌==◌, nat_lt, length, if◌then◌else◌}
 use Rattle.std.specs.Char.{is_ascii_digit}
 use Rattle.std.specs.List.{list_all}
 use Rattle.std.proofs.lemmas.Bool.{and_right, eqb-true, le-ltb, ltb-false}
@@ -63,7 +63,7 @@ pub signed_read : (max : ℕ) (ts : List Token) (c : Reading) (z : ℤ) (d : Rea
 unfolding signed_at
 signed_read max ts c z d e =
     let first : (x : List ℕ × Reading) × (word_at (with_tokens ts c) ≡ Ok x)
-        × ((number_up_to max (decimal_value (magnitude x.0)) x.1 >>= λ (n : ℕ × Reading). Ok (with_sign (is_negative x.0) n.0, n.1)) ≡ Ok (z, d)) =
+    × ((number_up_to max (decimal_value (magnitude x.0)) x.1 >>= λ (n : ℕ × Reading). Ok (with_sign (is_negative x.0) n.0, n.1)) ≡ Ok (z, d)) =
     bind_ok (word_at (with_tokens ts c)) (λ (x : List ℕ × Reading). number_up_to max (decimal_value (magnitude x.0)) x.1 >>= λ (n : ℕ × Reading). Ok (with_sign (is_negative x.0) n.0, n.1)) (z, d) e in
     let second : (n : ℕ × Reading) × (number_up_to max (decimal_value (magnitude (first.0).0)) (first.0).1 ≡ Ok n) × (◌≡◌ {A = Result (ℤ × Reading) LexFault} (Ok (with_sign (is_negative (first.0).0) n.0, n.1)) (Ok (z, d))) =
     bind_ok (number_up_to max (decimal_value (magnitude (first.0).0)) (first.0).1) (λ (n : ℕ × Reading). Ok (with_sign (is_negative (first.0).0) n.0, n.1)) (z, d) first.2 in

@@ -1,5 +1,5 @@
 -- A table in either form is read exactly where the next lines are one.
-use Rattle.std.proofs.Common.{◌≡◌, ℕ, Bool, true, false, List, [], ◌∷◌, ◌++◌, Result, Ok, Err, ◌⊎◌, inl, inr, refl, sym, ap, ◌∙◌, subst}
+use Rattle.std.proofs.Common.{◌≡◌, ℕ, Bool, true, false, List, [], ◌∷◌, ◌++◌, Result, Ok, Err, inl, inr, refl, sym, ap, ◌∙◌, subst}
 use Rattle.std.specs.Prelude.{codes, if◌then◌else◌}
 use Rattle.text_definitions.specs.Text.{Token, word, Line}
 use Rattle.text_definitions.specs.declared.LexKind.TheVariants.{BadWord}
@@ -8,18 +8,18 @@ use Rattle.text_definitions.specs.Reading.{Reading, ◌>>=◌, begun, need_line_
 use Rattle.table_definitions.specs.Lists.{same_list}
 use Rattle.table_definitions.specs.Table.{Row}
 use Rattle.table_definitions.specs.TableText.{TextFault, lexed, table_at, tri_table_at}
-use Rattle.table_definitions.specs.Grammar.{AreWords, AreTriLines}
+use Rattle.table_definitions.specs.Grammar.{AreWords}
 use Rattle.table_definitions.specs.Laws.{ReadsTriTable}
-use Rattle.signature_definitions.specs.SignatureText.{SigFault, InputFault, bad_text, texted, decoded, signature_table, signature_at, named_table_at, any_table_at}
-use Rattle.signature_definitions.specs.Grammar.{AreSigLines, AreTableLines}
+use Rattle.signature_definitions.specs.SignatureText.{SigFault, InputFault, texted, decoded, signature_table, signature_at, named_table_at, any_table_at}
+use Rattle.signature_definitions.specs.Grammar.{AreTableLines}
 use Rattle.document_definitions.specs.Documents.{worded, no_line_at, next_table_at}
-use Rattle.table_definitions.proofs.ListLaws.{same_list-true, same_list_from}
+use Rattle.table_definitions.proofs.ListLaws.{same_list-true}
 use Rattle.table_definitions.proofs.ReadingLaws.{bind_ok, ok_parts, with_tokens, behind, TakesWord, word_taken}
 use Rattle.table_definitions.proofs.TableReadingLaws.{lexed_ok, TriTableRead, tri_table_read}
 use Rattle.table_definitions.proofs.TableFoundLaws.{lexed_with, tri_table_found}
 use Rattle.signature_codec.proofs.ReadTables.{read_spelled}
 use Rattle.signature_codec.proofs.SpelledTables.{spelled_read}
-use Rattle.document_laws.proofs.LineLaws.{BeginsLine, line_begun, line_found, line_ended, end_found, FirstWord, first_word, no_words}
+use Rattle.document_laws.proofs.LineLaws.{BeginsLine, line_begun, line_found, line_ended, FirstWord, first_word, no_words}
 use Rattle.document_laws.proofs.Blocks.{ReadsBlocks, ReadsEnd}
 
 -- what stands between the kinds of fault

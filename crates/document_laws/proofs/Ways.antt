@@ -1,18 +1,14 @@
 -- What stands before a fault can be gone on with, to an aim.
-use Rattle.std.proofs.Common.{◌≡◌, ◌≢◌, ℕ, List, [], ◌∷◌, ◌++◌, Option, Some, None, Result, Ok, Err, ◌⊎◌, inl, inr, refl, sym, ap, ◌∙◌, subst}
-use Rattle.std.specs.Prelude.{⊤, map}
+use Rattle.std.proofs.Common.{◌≡◌, ◌≢◌, ℕ, List, [], ◌∷◌, ◌++◌, Result, Ok, Err, ◌⊎◌, inl, inr, refl, sym, ap, ◌∙◌, subst}
 use Rattle.std.proofs.lemmas.List.{append_assoc}
 use Rattle.text_definitions.specs.declared.Place.{Place}
-use Rattle.text_definitions.specs.declared.LexKind.{LexKind}
 use Rattle.text_definitions.specs.declared.LexFault.{LexFault}
 use Rattle.text_definitions.specs.Text.{Token, word, stray, Line}
-use Rattle.text_definitions.specs.Reading.{Reading, ◌>>=◌, begun, need_line_at, end_line_at, word_at, line_from}
-use Rattle.document_definitions.specs.Signs.{Sign, shown, strange, line_end, input_end, Placed, token_sign, line_signs, signs_of, plain}
-use Rattle.table_definitions.proofs.ReadingLaws.{bind_ok, ok_parts, with_tokens, behind}
-use Rattle.document_laws.proofs.LineLaws.{line_found}
-use Rattle.document_laws.proofs.Local.{left_signs, shows, opening, opening_more, plain-append, shows_split, GoesOn, StopsAt, Goes, Stops, regrouped, chained, goes_joined, bind_err, ended, stops_late, stops_early, alone}
-use Rattle.document_laws.proofs.LocalWords.{as_is, tested, word_with, at_word, again, StopsHere, stops_here, ending, ends_again, stops_end_here}
-use Rattle.document_laws.proofs.LocalLines.{rest_of_line, line_split, rest_here, split_line, further, Further, no_input_end, next_line, goes_line, StopsAfterLine, stops_line_in}
+use Rattle.text_definitions.specs.Reading.{Reading, ◌>>=◌}
+use Rattle.document_definitions.specs.Signs.{Sign, line_end, input_end, Placed, token_sign, line_signs, signs_of, plain}
+use Rattle.table_definitions.proofs.ReadingLaws.{bind_ok, ok_parts, with_tokens}
+use Rattle.document_laws.proofs.Local.{left_signs, shows, opening, opening_more, plain-append, shows_split, GoesOn, StopsAt, Goes, regrouped, chained, goes_joined, bind_err, stops_late, stops_early}
+use Rattle.document_laws.proofs.LocalWords.{as_is}
 
 -- readings that can be read with an aim: from somewhere, where certain signs are shown, and behind certain signs
 pub record Sat {A E : Type 0} (read : Reading → Result (A × Reading) E) (Aim : A → List Sign → Type 0) : Type 0 where

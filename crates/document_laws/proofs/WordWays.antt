@@ -1,15 +1,14 @@
 -- The lexer's calls: what stands before a fault can be gone on with.
-use Rattle.std.proofs.Common.{◌≡◌, ◌≢◌, ℕ, List, [], ◌∷◌, ◌++◌, Option, Some, None, Result, Ok, Err, refl, sym, ap, ◌∙◌, subst}
-use Rattle.std.specs.Prelude.{⊤, map}
-use Rattle.text_definitions.specs.declared.Place.{Place}
+use Rattle.std.proofs.Common.{◌≡◌, ◌≢◌, ℕ, List, [], ◌∷◌, ◌++◌, Some, Result, Ok, Err, refl, sym, ap, ◌∙◌, subst}
+use Rattle.std.specs.Prelude.{⊤}
 use Rattle.text_definitions.specs.declared.LexKind.{LexKind}
 use Rattle.text_definitions.specs.declared.LexFault.{LexFault}
 use Rattle.text_definitions.specs.Text.{Token, word, stray, Line}
-use Rattle.text_definitions.specs.Reading.{Reading, ◌>>=◌, begun, column_at, need_line_at, end_line_at, word_at, line_from}
-use Rattle.document_definitions.specs.Signs.{Sign, shown, line_end, input_end, Placed, line_signs, signs_of, plain}
+use Rattle.text_definitions.specs.Reading.{Reading, begun, column_at, need_line_at, word_at, line_from}
+use Rattle.document_definitions.specs.Signs.{Sign, shown, input_end, Placed, line_signs, signs_of, plain}
 use Rattle.table_definitions.proofs.ReadingLaws.{ok_parts, with_tokens, behind}
 use Rattle.document_laws.proofs.LineLaws.{line_found}
-use Rattle.document_laws.proofs.Local.{left_signs, shows, opening, plain-append, GoesOn, StopsAt, alone}
+use Rattle.document_laws.proofs.Local.{shows, opening, plain-append, alone}
 use Rattle.document_laws.proofs.LocalWords.{as_is, tested, word_with, at_word, again, StopsHere, stops_here, ending, ends_again, stops_end_here}
 use Rattle.document_laws.proofs.LocalLines.{rest_of_line, line_split, rest_here, split_line, further, Further, no_input_end, next_line, StopsAfterLine, stops_line_in, ends_shown}
 use Rattle.document_laws.proofs.Ways.{Sat, Way, Well, WellOpen, FreeOn, Free}
