@@ -149,7 +149,7 @@ at_nothing : (n end : ℕ) (p : Place) → plain (line_signs n [] end (signs_of 
 unfolding line_signs signs_of
 at_nothing n end p = refl
 
-at_last : (k : Reading) → k.current.tokens ≡ [] → k.later ≡ [] → shows k ≡ last_signs
+pub at_last : (k : Reading) → k.current.tokens ≡ [] → k.later ≡ [] → shows k ≡ last_signs
 at_last k none empty = by_parts k.current.tokens k.later none empty
   where
     by_parts : (ts : List Token) (ls : List Line) → ts ≡ [] → ls ≡ [] → plain (line_signs k.current.number ts k.current.end (signs_of k.input_end ls)) ≡ last_signs
@@ -184,7 +184,7 @@ zeros_rows zero columns = tt
 zeros_rows (suc n) columns = (zeros_row columns, zeros_rows n columns)
 
 -- a reading of lines of zeros, none of which is begun
-abbrev of_lines : List Line → Reading
+abbrev pub of_lines : List Line → Reading
 of_lines ls = record { current = record { number = 0; tokens = []; end = 0 }; later = ls; input_end = record { line = 0; column = 0 }; taken = record { line = 0; column = 0 } }
 
 record RowsLast {A : Type 0} (read : Reading → Result (A × Reading) LexFault) : Type 0 where

@@ -112,26 +112,26 @@ stops_closing {X} {E} lexical end x c s =
 
 -- lines of one form to the end of the input
 module _ {A : Type 0} (form : Reading → Result (A × Reading) LexFault) (Form : Line → A → Type 0) (forms : ReadsLine form Form) (goes : (c : Reading) → Goes form c) (stops : (c : Reading) → Stops as_is form c) where
-  abbrev Lines : Type 0
+  abbrev pub Lines : Type 0
   Lines = List A × Reading
 
   abbrev pub each_line : Reading → Result Lines LexFault
   each_line c = each_line_from form c.later c
 
-  abbrev none : Reading → Result Lines LexFault
+  abbrev pub none : Reading → Result Lines LexFault
   none c = Ok ([], c)
 
-  abbrev others_of : A → Reading → Result Lines LexFault
+  abbrev pub others_of : A → Reading → Result Lines LexFault
   others_of x c = each_line c >>= λ (xs : Lines). Ok (x ∷ xs.0, xs.1)
 
-  abbrev one : Reading → Result Lines LexFault
+  abbrev pub one : Reading → Result Lines LexFault
   one c = form c >>= λ (x : A × Reading). others_of x.0 x.1
 
   like : {B C : Type 0} (r : Result B LexFault) (f g : B → Result C LexFault) → ((x : B) → r ≡ Ok x → f x ≡ g x) → r >>= f ≡ r >>= g
   like (Ok x) f g e = e x refl
   like (Err h) f g e = refl
 
-  each_stepped : (c : Reading) → by_lines none one c.later c ≡ each_line c
+  pub each_stepped : (c : Reading) → by_lines none one c.later c ≡ each_line c
   unfolding each_line_from
   each_stepped c = by_list c.later
     where
@@ -141,7 +141,7 @@ module _ {A : Type 0} (form : Reading → Result (A × Reading) LexFault) (Form 
           like (form (begun l ls c)) (λ (x : A × Reading). others_of x.0 x.1) (λ (x : A × Reading). each_line_from form ls x.1 >>= λ (xs : Lines). Ok (x.0 ∷ xs.0, xs.1))
           (λ x p. ap (λ (ks : List Line). each_line_from form ks x.1 >>= λ (xs : Lines). Ok (x.0 ∷ xs.0, xs.1)) ((forms.sound (begun l ls c) x.0 x.1 p).1))
 
-  lines_never : (x : Lines) (f : LexFault) → ◌≢◌ {A = Result Lines LexFault} (Ok x) (Err f)
+  pub lines_never : (x : Lines) (f : LexFault) → ◌≢◌ {A = Result Lines LexFault} (Ok x) (Err f)
   lines_never x f e = absurd cc
 
   stops_each_in : (ls : List Line) (c : Reading) → c.later ≡ ls → Stops as_is each_line c

@@ -24,12 +24,12 @@ use Rattle.document_laws.proofs.WordWays.{opens_rest}
 use Rattle.document_laws.proofs.ConeWays.{last_signs, IsLast, sat_cone, well_cone}
 
 -- what is shown doesn't depend on the place where the input ends
-same_line : (n : ℕ) (ts : List Token) (end : ℕ) (xs ys : List Placed) → plain xs ≡ plain ys → plain (line_signs n ts end xs) ≡ plain (line_signs n ts end ys)
+pub same_line : (n : ℕ) (ts : List Token) (end : ℕ) (xs ys : List Placed) → plain xs ≡ plain ys → plain (line_signs n ts end xs) ≡ plain (line_signs n ts end ys)
 unfolding line_signs
 same_line n [] end xs ys e = ap (λ (ss : List Sign). line_end ∷ ss) e
 same_line n (t ∷ ts) end xs ys e = ap (λ (ss : List Sign). (token_sign n t).1 ∷ ss) (same_line n ts end xs ys e)
 
-same_signs : (p q : Place) (ls : List Line) → plain (signs_of p ls) ≡ plain (signs_of q ls)
+pub same_signs : (p q : Place) (ls : List Line) → plain (signs_of p ls) ≡ plain (signs_of q ls)
 unfolding signs_of
 same_signs p q [] = refl
 same_signs p q (l ∷ ls) = same_line l.number l.tokens l.end (signs_of p ls) (signs_of q ls) (same_signs p q ls)
@@ -38,7 +38,7 @@ opened : (o : Reading) → plain (signs_of o.input_end (o.current ∷ o.later)) 
 unfolding signs_of
 opened o = refl
 
-as_lines : (end : Place) (o : Reading) → plain (signs_of end (o.current ∷ o.later)) ≡ shows o
+pub as_lines : (end : Place) (o : Reading) → plain (signs_of end (o.current ∷ o.later)) ≡ shows o
 as_lines end o = same_signs end o.input_end (o.current ∷ o.later) ∙ opened o
 
 -- no line is left behind the last signs
@@ -47,7 +47,7 @@ unfolding signs_of
 no_lines p [] e = refl
 no_lines p (l ∷ ls) e = absurd (no_input_end l.number l.tokens l.end (signs_of p ls) (ap opening e))
 
-none_behind : (ts : List Token) (n end : ℕ) (p : Place) (ls : List Line) → plain (line_signs n ts end (signs_of p ls)) ≡ last_signs → ls ≡ []
+pub none_behind : (ts : List Token) (n end : ℕ) (p : Place) (ls : List Line) → plain (line_signs n ts end (signs_of p ls)) ≡ last_signs → ls ≡ []
 unfolding line_signs
 none_behind [] n end p ls e = (let tail : plain (signs_of p ls) ≡ input_end ∷ [] = cc in no_lines p ls tail)
 none_behind (word column w ∷ ts) n end p ls e = absurd cc

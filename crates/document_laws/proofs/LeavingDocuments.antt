@@ -51,13 +51,13 @@ cone_by_line c = by_list c.later
     by_list (l ∷ ls) = refl
 
 -- tables
-abbrev no_table : {X : Type 0} → Reading → Result X InputFault
+abbrev pub no_table : {X : Type 0} → Reading → Result X InputFault
 no_table c = Err (in_text (missing c))
 
-no_table_ends : {X : Type 0} (c : Reading) (f : LexFault) → no_table {X = X} c ≡ Err (in_text f) → (f.place ≡ c.input_end) × ((d : Reading) (x : X) → no_table d ≢ Ok x)
+pub no_table_ends : {X : Type 0} (c : Reading) (f : LexFault) → no_table {X = X} c ≡ Err (in_text f) → (f.place ≡ c.input_end) × ((d : Reading) (x : X) → no_table d ≢ Ok x)
 no_table_ends c f e = (let same : missing c ≡ f = cc in (ap (λ (g : LexFault). g.place) (sym same), λ d x p. absurd cc))
 
-table_by_line : {X : Type 0} (g : List Row × Reading → Result X InputFault) (c : Reading) → by_lines no_table (λ d. any_table_at d >>= g) c.later c ≡ next_table_at c >>= g
+pub table_by_line : {X : Type 0} (g : List Row × Reading → Result X InputFault) (c : Reading) → by_lines no_table (λ d. any_table_at d >>= g) c.later c ≡ next_table_at c >>= g
 unfolding need_line_at next_table_at
 table_by_line {X} g c = by_list c.later
   where
@@ -67,7 +67,7 @@ table_by_line {X} g c = by_list c.later
 
 -- a document that begins with a table
 module _ {X : Type 0} (after : List Row → Reading → Result X InputFault) (stops : (rows : List Row) (c : Reading) → Stops in_text (after rows) c) where
-  abbrev begins : Reading → Result X InputFault
+  abbrev pub begins : Reading → Result X InputFault
   begins c = next_table_at c >>= λ (t : List Row × Reading). after t.0 t.1
 
   begins_behind : (c : Reading) (f : LexFault) → begins c ≡ Err (in_text f) → StopsBehind begins c f.place
@@ -105,7 +105,7 @@ two_tables_faults_leave bytes f e =
     (λ others g. ((g.0, g.1), two_tables_found (start_with bytes others) g.0 g.1 g.2))
 
 -- a table and vectors
-abbrev vectors_on : List Row → Reading → Result (List Row × List (List ℕ)) InputFault
+abbrev pub vectors_on : List Row → Reading → Result (List Row × List (List ℕ)) InputFault
 vectors_on rows c = worded (each_line_from vector_at c.later c) >>= λ (xs : List (List ℕ) × Reading). Ok (rows, xs.0)
 
 stops_vectors : (rows : List Row) (c : Reading) → Stops in_text (vectors_on rows) c

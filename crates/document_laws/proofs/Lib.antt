@@ -18,3 +18,5 @@ pub mod Ways
 pub mod WordWays
 pub mod ConeWays
 pub mod LeavingCones
+pub mod VectorWays
+pub mod LeavingVectors

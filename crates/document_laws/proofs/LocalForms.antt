@@ -99,16 +99,16 @@ pub stops_exactly : (wanted : List ℕ) (c : Reading) → Stops as_is (exactly w
 stops_exactly wanted c = stops_same as_is (word_with (exact_test wanted)) (exactly wanted) (exact_word wanted) c (stops_word (exact_test wanted) c)
 
 -- numbers to the end of a line
-abbrev Numbers : Type 0
+abbrev pub Numbers : Type 0
 Numbers = List ℕ × Reading
 
-abbrev others_with : ℕ → ℕ → Reading → Result Numbers LexFault
+abbrev pub others_with : ℕ → ℕ → Reading → Result Numbers LexFault
 others_with max n c = numbers_at max c >>= λ (xs : Numbers). Ok (n ∷ xs.0, xs.1)
 
-abbrev one_more : ℕ → Reading → Result Numbers LexFault
+abbrev pub one_more : ℕ → Reading → Result Numbers LexFault
 one_more max c = number_at max c >>= λ (n : ℕ × Reading). others_with max n.0 n.1
 
-tokens_after : (max : ℕ) (c : Reading) (t : Token) (ts : List Token) (n : ℕ) (d : Reading) → c.current.tokens ≡ t ∷ ts → number_at max c ≡ Ok (n, d) → ts ≡ d.current.tokens
+pub tokens_after : (max : ℕ) (c : Reading) (t : Token) (ts : List Token) (n : ℕ) (d : Reading) → c.current.tokens ≡ t ∷ ts → number_at max c ≡ Ok (n, d) → ts ≡ d.current.tokens
 tokens_after max c t ts n d split e = from_word (number_read max c.current.tokens c n d e)
   where
     from_word : TakesNumber max c.current.tokens c n d → ts ≡ d.current.tokens
@@ -121,7 +121,7 @@ bind_like : {A B : Type 0} (r : Result A LexFault) (f g : A → Result B LexFaul
 bind_like (Ok x) f g e = e x refl
 bind_like (Err h) f g e = refl
 
-numbers_stepped : (max : ℕ) (c : Reading) → by_end [] (one_more max) c ≡ numbers_at max c
+pub numbers_stepped : (max : ℕ) (c : Reading) → by_end [] (one_more max) c ≡ numbers_at max c
 unfolding numbers_from
 numbers_stepped max c = by_tokens c.current.tokens refl
   where

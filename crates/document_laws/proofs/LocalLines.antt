@@ -165,7 +165,7 @@ unfolding line_signs
 ends_shown [] c e = refl
 ends_shown (t ∷ ts) c e = absurd cc
 
-token_shown : (us : List Token) (c : Reading) (t : Token) (ts : List Token) → us ≡ t ∷ ts → opening (shows (with_tokens us c)) ≢ Some line_end
+pub token_shown : (us : List Token) (c : Reading) (t : Token) (ts : List Token) → us ≡ t ∷ ts → opening (shows (with_tokens us c)) ≢ Some line_end
 unfolding line_signs
 token_shown [] c t ts e o = absurd cc
 token_shown (word column w ∷ us) c t ts e o = absurd cc
@@ -175,7 +175,7 @@ module _ {A E : Type 0} (x : A) (go : Reading → Result (A × Reading) E) where
   abbrev pub by_end : Reading → Result (A × Reading) E
   by_end c = by_ends x go c.current.tokens c
 
-  more_in : (ts : List Token) (other : Reading) → opening (shows (with_tokens ts other)) ≢ Some line_end → by_ends x go ts other ≡ go other
+  pub more_in : (ts : List Token) (other : Reading) → opening (shows (with_tokens ts other)) ≢ Some line_end → by_ends x go ts other ≡ go other
   more_in [] other n = absurd (n (ends_shown [] other refl))
   more_in (t ∷ ts) other n = refl
 
@@ -205,21 +205,22 @@ module _ {A E : Type 0} (x : A) (go : Reading → Result (A × Reading) E) where
   pub goes_by_end : (c : Reading) → ((t : Token) (ts : List Token) → c.current.tokens ≡ t ∷ ts → Goes go c) → Goes by_end c
   goes_by_end c g y d e = goes_end_in c.current.tokens c refl g y d e
 
+  abbrev pub end_stop : (c : Reading) (t : Token) (ts : List Token) (p : Place) → c.current.tokens ≡ t ∷ ts → StopsAt go c p → StopsAt by_end c p
+  end_stop c t ts p split h = record {
+    front = h.front;
+    sign = h.sign;
+    after = h.after;
+    split = h.split;
+    same =
+        λ other more s y q. (let there : shows c ≡ plain h.front ++ h.sign ∷ plain h.after = ap plain h.split ∙ plain-append h.front ((p, h.sign) ∷ h.after) in
+        let begins : opening (shows other) ≡ opening (shows c) = ap opening s ∙ opening_more (plain h.front) (h.sign ∷ more) (h.sign ∷ plain h.after) refl ∙ ap opening (sym there) in
+        let n : opening (shows other) ≢ Some line_end = λ r. token_shown c.current.tokens c t ts split (sym begins ∙ r) in
+        h.same other more s y (sym (more_in other.current.tokens other n) ∙ q));
+  }
+
   stops_end_in : (lexical : LexFault → E) (ts : List Token) (c : Reading) → c.current.tokens ≡ ts → ((t : Token) (us : List Token) → c.current.tokens ≡ t ∷ us → Stops lexical go c) → (f : LexFault) → by_ends x go ts c ≡ Err (lexical f) → StopsAt by_end c f.place
   stops_end_in lexical [] c split g f e = absurd cc
-  stops_end_in lexical (t ∷ ts) c split g f e =
-      let h : StopsAt go c f.place = g t ts split f e in
-      record {
-        front = h.front;
-        sign = h.sign;
-        after = h.after;
-        split = h.split;
-        same =
-            λ other more s y p. (let there : shows c ≡ plain h.front ++ h.sign ∷ plain h.after = ap plain h.split ∙ plain-append h.front ((f.place, h.sign) ∷ h.after) in
-            let begins : opening (shows other) ≡ opening (shows c) = ap opening s ∙ opening_more (plain h.front) (h.sign ∷ more) (h.sign ∷ plain h.after) refl ∙ ap opening (sym there) in
-            let n : opening (shows other) ≢ Some line_end = λ q. token_shown c.current.tokens c t ts split (sym begins ∙ q) in
-            h.same other more s y (sym (more_in other.current.tokens other n) ∙ p));
-      }
+  stops_end_in lexical (t ∷ ts) c split g f e = end_stop c t ts f.place split (g t ts split f e)
 
   pub stops_by_end : (lexical : LexFault → E) (c : Reading) → ((t : Token) (ts : List Token) → c.current.tokens ≡ t ∷ ts → Stops lexical go c) → Stops lexical by_end c
   stops_by_end lexical c g f e = stops_end_in lexical c.current.tokens c refl g f e

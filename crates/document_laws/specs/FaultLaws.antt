@@ -1,7 +1,8 @@
 -- The laws of faults: where a text is refused, the fault stands at a sign with which no text is in the grammar, whatever
--- follows it there; in a cone it is the first such sign.
-use Rattle.std.specs.Prelude.{◌≡◌, ℕ, List, [], ◌∷◌, Err}
+-- follows it there; in a cone, and in vectors behind a table that was read, it is the first such sign.
+use Rattle.std.specs.Prelude.{◌≡◌, ℕ, List, [], ◌∷◌, Ok, Err}
 use Rattle.text_definitions.specs.Text.{Line, lines_of, end_of}
+use Rattle.text_definitions.specs.Reading.{Reading, start_of}
 use Rattle.text_definitions.specs.declared.LexFault.{LexFault}
 use Rattle.table_definitions.specs.Table.{Row}
 use Rattle.table_definitions.specs.TableText.{lexical}
@@ -11,7 +12,7 @@ use Rattle.signature_definitions.specs.Grammar.{AreTableLines}
 use Rattle.surface_definitions.specs.Grammar.{IsVectorLine}
 use Rattle.document_definitions.specs.ConeGrammar.{AreConeLines}
 use Rattle.document_definitions.specs.Grammar.{AreTableAndLines, AreTwoTables, AreTables}
-use Rattle.document_definitions.specs.Documents.{cone_document, table_document, vectors_document, vector_document, two_tables_document, tables_document}
+use Rattle.document_definitions.specs.Documents.{cone_document, next_table_at, table_document, vectors_document, vector_document, two_tables_document, tables_document}
 use Rattle.document_definitions.specs.Signs.{LeavesAt, FirstLeavesAt}
 
 -- lines that some cone, table or the like is read from
@@ -51,3 +52,9 @@ VectorsFaultsLeave = (bytes : List ℕ) (f : LexFault) → vectors_document byte
 
 abbrev pub VectorFaultsLeave : Type 0
 VectorFaultsLeave = (bytes : List ℕ) (f : LexFault) → vector_document bytes ≡ Err (bad_text (lexical f)) → LeavesAt SomeTableAndVector (end_of bytes) (lines_of bytes) f.place
+
+-- where a table was read, and a vector behind it is refused, the fault's place is the first such
+abbrev pub VectorsFaultsLeaveFirst : Type 0
+VectorsFaultsLeaveFirst =
+    (bytes : List ℕ) (rows : List Row) (left : Reading) (f : LexFault) → next_table_at (start_of bytes) ≡ Ok (rows, left) → vectors_document bytes ≡ Err (bad_text (lexical f))
+    → FirstLeavesAt SomeTableAndVectors (end_of bytes) (lines_of bytes) f.place

@@ -4,7 +4,7 @@
 #![tactic(auto)]
 
 ghost use Rattle.document_laws.specs.ConeLaws.{ConesAreRead, ConeDocumentsAreRead};
-ghost use Rattle.document_laws.specs.FaultLaws.{ConeFaultsLeave, TableFaultsLeave, TwoTablesFaultsLeave, TablesFaultsLeave, VectorsFaultsLeave, VectorFaultsLeave};
+ghost use Rattle.document_laws.specs.FaultLaws.{ConeFaultsLeave, TableFaultsLeave, TwoTablesFaultsLeave, TablesFaultsLeave, VectorsFaultsLeave, VectorsFaultsLeaveFirst, VectorFaultsLeave};
 ghost use Rattle.document_laws.specs.DocumentLaws.{TableDocumentsAreRead, VectorsDocumentsAreRead, VectorDocumentsAreRead, TwoTablesAreRead, TablesAreRead};
 
 /// Lines are read as a cone exactly where they are one, and so are the bytes of an input.
@@ -27,12 +27,13 @@ pub fn tables_with_vectors_are_read()
 {}
 
 /// Where the text of an input is refused, the fault stands at a sign with which no input of its kind goes on; where a cone
-/// is refused, at the first such sign.
+/// is refused, or a vector behind a table that was read, at the first such sign.
 pub fn faults_leave_the_grammar()
     ensures cone { ConeFaultsLeave }
     ensures table { TableFaultsLeave }
     ensures two_tables { TwoTablesFaultsLeave }
     ensures tables { TablesFaultsLeave }
     ensures vectors { VectorsFaultsLeave }
+    ensures vectors_first { VectorsFaultsLeaveFirst }
     ensures vector { VectorFaultsLeave }
 {}

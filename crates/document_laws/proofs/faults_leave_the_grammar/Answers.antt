@@ -1,5 +1,6 @@
 use Rattle.document_laws.proofs.LeavingDocuments.{table_faults_leave, two_tables_faults_leave, tables_faults_leave, vectors_faults_leave, vector_faults_leave}
 use Rattle.document_laws.proofs.LeavingCones.{cone_faults_leave}
+use Rattle.document_laws.proofs.LeavingVectors.{vectors_faults_leave_first}
 use Rattle.document_laws.proofs.faults_leave_the_grammar.Goals as goal
 
 pub returns-clause-cone : goal.returns-clause-cone
@@ -19,3 +20,6 @@ returns-clause-vectors c = vectors_faults_leave
 
 pub returns-clause-vector : goal.returns-clause-vector
 returns-clause-vector c = vector_faults_leave
+
+pub returns-clause-vectors_first : goal.returns-clause-vectors_first
+returns-clause-vectors_first c = vectors_faults_leave_first
