@@ -1,0 +1,159 @@
+-- Documents: where one is refused, its lines leave the grammar.
+use Rattle.std.proofs.Common.{◌≡◌, ◌≢◌, ℕ, List, [], ◌∷◌, ◌++◌, Some, Result, Ok, Err, refl, sym, ap, ◌∙◌, subst}
+use Rattle.std.specs.Prelude.{⊤}
+use Rattle.text_definitions.specs.declared.Place.{Place}
+use Rattle.text_definitions.specs.declared.LexFault.{LexFault}
+use Rattle.text_definitions.specs.Text.{Line, lines_of, end_of}
+use Rattle.text_definitions.specs.Reading.{Reading, ◌>>=◌, begun, start_of}
+use Rattle.document_definitions.specs.Documents.{no_line_at, no_line_from, each_line_from}
+use Rattle.document_definitions.specs.Signs.{Sign, input_end, Placed, signs_of, plain, LeavesAt}
+use Rattle.document_laws.proofs.Blocks.{ReadsLine}
+use Rattle.document_laws.proofs.Local.{left_signs, shows, opening, opening_more, plain-append, StopsAt, Goes, Stops, stops_chained, stops_first, stops_same, alone, alone_bind}
+use Rattle.document_laws.proofs.LocalWords.{as_is, ending, stops_end}
+use Rattle.document_laws.proofs.LocalLines.{by_lines, stops_by_line, Further, further_in, no_input_end}
+
+-- a reading of which no line is begun, and where it stops among the lines that are left
+pub record StopsBehind {X E : Type 0} (read : Reading → Result X E) (c : Reading) (p : Place) : Type 0 where
+  pub front : List Placed
+  pub sign : Sign
+  pub after : List Placed
+  pub split : signs_of c.input_end c.later ≡ front ++ (p, sign) ∷ after
+  pub same : (other : Reading) (more : List Sign) → plain (signs_of other.input_end other.later) ≡ plain front ++ sign ∷ more → (x : X) → read other ≢ Ok x
+
+pub no_line_signs : (p : Place) → signs_of p [] ≡ (p, input_end) ∷ []
+unfolding signs_of
+no_line_signs p = refl
+
+pub begun_signs : (c : Reading) (l : Line) (ls : List Line) → signs_of c.input_end (l ∷ ls) ≡ left_signs (begun l ls c)
+unfolding signs_of
+begun_signs c l ls = refl
+
+module _ {X E : Type 0} (lexical : LexFault → E) (stop go : Reading → Result X E)
+    (at_end : (c : Reading) (f : LexFault) → stop c ≡ Err (lexical f) → (f.place ≡ c.input_end) × ((d : Reading) (x : X) → stop d ≢ Ok x)) where
+  abbrev pub reads : Reading → Result X E
+  reads c = by_lines stop go c.later c
+
+  pub none_left : (ls : List Line) (other : Reading) (more : List Sign) → plain (signs_of other.input_end ls) ≡ input_end ∷ more → ((d : Reading) (x : X) → stop d ≢ Ok x) → (x : X) → by_lines stop go ls other ≢ Ok x
+  unfolding signs_of
+  none_left [] other more e n x p = n other x p
+  none_left (l ∷ ls) other more e n x p = no_input_end l.number l.tokens l.end (signs_of other.input_end ls) (ap opening e)
+
+  abbrev pub behind_end : (c : Reading) (p : Place) → c.later ≡ [] → p ≡ c.input_end → ((d : Reading) (x : X) → stop d ≢ Ok x) → StopsBehind reads c p
+  behind_end c p split there n = record {
+    front = [];
+    sign = input_end;
+    after = [];
+    split = ap (λ (ls : List Line). signs_of c.input_end ls) split ∙ no_line_signs c.input_end ∙ ap (λ (q : Place). (q, input_end) ∷ []) (sym there);
+    same = λ other more e x q. none_left other.later other more e n x q;
+  }
+
+  abbrev pub behind_line : (c : Reading) (l : Line) (ls : List Line) (p : Place) → c.later ≡ l ∷ ls → StopsAt go (begun l ls c) p → StopsBehind reads c p
+  behind_line c l ls p split h = record {
+    front = h.front;
+    sign = h.sign;
+    after = h.after;
+    split = ap (λ (ks : List Line). signs_of c.input_end ks) split ∙ begun_signs c l ls ∙ h.split;
+    same =
+        λ other more e x q. (let next : List Sign = plain h.front ++ h.sign ∷ more in
+        let there : shows (begun l ls c) ≡ plain h.front ++ h.sign ∷ plain h.after = ap plain h.split ∙ plain-append h.front ((p, h.sign) ∷ h.after) in
+        let none : opening next ≢ Some input_end =
+        λ o. no_input_end l.number l.tokens l.end (signs_of c.input_end ls) (ap opening there ∙ opening_more (plain h.front) (h.sign ∷ plain h.after) (h.sign ∷ more) refl ∙ o) in
+        let f : Further other next = further_in other.later other next refl e none in
+        h.same (begun f.line f.rest other) more f.there x (sym (ap (λ (ks : List Line). by_lines stop go ks other) f.lines) ∙ q));
+  }
+
+  behind_in : (ls : List Line) (c : Reading) → c.later ≡ ls → ((l : Line) (ms : List Line) → c.later ≡ l ∷ ms → Stops lexical go (begun l ms c)) → (f : LexFault) → by_lines stop go ls c ≡ Err (lexical f) → StopsBehind reads c f.place
+  behind_in [] c split s f e = (let t : (f.place ≡ c.input_end) × ((d : Reading) (x : X) → stop d ≢ Ok x) = at_end c f e in behind_end c f.place split t.0 t.1)
+  behind_in (l ∷ ls) c split s f e = behind_line c l ls f.place split (s l ls split f e)
+
+  pub stops_behind : (read : Reading → Result X E) → ((c : Reading) → reads c ≡ read c) → (c : Reading) → ((l : Line) (ls : List Line) → c.later ≡ l ∷ ls → Stops lexical go (begun l ls c)) → (f : LexFault) → read c ≡ Err (lexical f) → StopsBehind read c f.place
+  stops_behind read same c s f e = subst (λ (r : Reading → Result X E). StopsBehind r c f.place) (λ i d. same d i) (behind_in c.later c refl s f (same c ∙ e))
+
+-- what can't be read isn't in the grammar
+abbrev pub start_with : List ℕ → List Line → Reading
+start_with bytes lines = record (start_of bytes) { later = lines }
+
+abbrev pub leaves : {X E : Type 0} (read : Reading → Result X E) (InGrammar : List Line → Type 0) (bytes : List ℕ) (p : Place) → StopsBehind read (start_of bytes) p
+    → ((others : List Line) → InGrammar others → (x : X) × (read (start_with bytes others) ≡ Ok x)) → LeavesAt InGrammar (end_of bytes) (lines_of bytes) p
+leaves read InGrammar bytes p h found = record {
+  before = h.front;
+  sign = h.sign;
+  after = h.after;
+  stands = h.split;
+  no_way_on = λ others more e g. (let r = found others g in h.same (start_with bytes others) more e r.0 r.1);
+}
+
+-- no further line
+abbrev pub none_stop : Reading → Result (⊤ × Reading) LexFault
+none_stop c = Ok (tt, c)
+
+pub no_line_alone : (c : Reading) → by_lines none_stop ending c.later c ≡ alone (no_line_at c)
+no_line_alone c = by_list c.later
+  where
+    by_list : (ls : List Line) → by_lines none_stop ending ls c ≡ alone (no_line_from ls c)
+    by_list [] = refl
+    by_list (l ∷ ls) = refl
+
+pub none_never : (c : Reading) (f : LexFault) → none_stop c ≢ Err f
+none_never c f e = absurd cc
+
+pub stops_no_line : (c : Reading) → Stops as_is (λ d. alone (no_line_at d)) c
+stops_no_line c =
+    stops_same as_is (λ d. by_lines none_stop ending d.later d) (λ d. alone (no_line_at d)) no_line_alone c (stops_by_line as_is none_stop ending none_never c (λ l ls split. stops_end (begun l ls c)))
+
+-- what is read without a fault at a place, and then no further line
+pub stops_closing : {X E : Type 0} (lexical : LexFault → E) (end : Reading → Result Reading E) (x : X) (c : Reading) → Stops lexical (λ d. alone (end d)) c → Stops lexical (λ d. end d >>= λ (last : Reading). Ok x) c
+stops_closing {X} {E} lexical end x c s =
+    stops_same lexical (λ d. alone (end d) >>= λ (y : ⊤ × Reading). Ok x) (λ d. end d >>= λ (last : Reading). Ok x) (λ d. alone_bind (end d) (λ last. Ok x)) c
+    (stops_first lexical (λ d. alone (end d)) (λ u d. Ok x) c s (λ y f. ok_no_fault x (lexical f)))
+  where
+    ok_no_fault : (z : X) (e : E) → ◌≢◌ {A = Result X E} (Ok z) (Err e)
+    ok_no_fault z e p = absurd cc
+
+-- lines of one form to the end of the input
+module _ {A : Type 0} (form : Reading → Result (A × Reading) LexFault) (Form : Line → A → Type 0) (forms : ReadsLine form Form) (goes : (c : Reading) → Goes form c) (stops : (c : Reading) → Stops as_is form c) where
+  abbrev pub Lines : Type 0
+  Lines = List A × Reading
+
+  abbrev pub each_line : Reading → Result Lines LexFault
+  each_line c = each_line_from form c.later c
+
+  abbrev pub none : Reading → Result Lines LexFault
+  none c = Ok ([], c)
+
+  abbrev pub others_of : A → Reading → Result Lines LexFault
+  others_of x c = each_line c >>= λ (xs : Lines). Ok (x ∷ xs.0, xs.1)
+
+  abbrev pub one : Reading → Result Lines LexFault
+  one c = form c >>= λ (x : A × Reading). others_of x.0 x.1
+
+  like : {B C : Type 0} (r : Result B LexFault) (f g : B → Result C LexFault) → ((x : B) → r ≡ Ok x → f x ≡ g x) → r >>= f ≡ r >>= g
+  like (Ok x) f g e = e x refl
+  like (Err h) f g e = refl
+
+  pub each_stepped : (c : Reading) → by_lines none one c.later c ≡ each_line c
+  unfolding each_line_from
+  each_stepped c = by_list c.later
+    where
+      by_list : (ls : List Line) → by_lines none one ls c ≡ each_line_from form ls c
+      by_list [] = refl
+      by_list (l ∷ ls) =
+          like (form (begun l ls c)) (λ (x : A × Reading). others_of x.0 x.1) (λ (x : A × Reading). each_line_from form ls x.1 >>= λ (xs : Lines). Ok (x.0 ∷ xs.0, xs.1))
+          (λ x p. ap (λ (ks : List Line). each_line_from form ks x.1 >>= λ (xs : Lines). Ok (x.0 ∷ xs.0, xs.1)) ((forms.sound (begun l ls c) x.0 x.1 p).1))
+
+  pub lines_never : (x : Lines) (f : LexFault) → ◌≢◌ {A = Result Lines LexFault} (Ok x) (Err f)
+  lines_never x f e = absurd cc
+
+  stops_each_in : (ls : List Line) (c : Reading) → c.later ≡ ls → Stops as_is each_line c
+  stops_each_in [] c empty =
+      stops_same as_is (λ d. by_lines none one d.later d) each_line each_stepped c (stops_by_line as_is none one (λ d f. lines_never ([], d) f) c (λ l ms split. (let e : [] ≡ l ∷ ms = sym empty ∙ split in absurd cc)))
+  stops_each_in (k ∷ ks) c first =
+      stops_same as_is (λ d. by_lines none one d.later d) each_line each_stepped c
+      (stops_by_line as_is none one (λ d f. lines_never ([], d) f) c
+      (λ l ms split. (let e : k ∷ ks ≡ l ∷ ms = sym first ∙ split in
+      let tail : ms ≡ ks = cc in
+      stops_chained as_is form others_of (begun l ms c) (goes (begun l ms c)) (stops (begun l ms c))
+      (λ x d p. stops_first as_is each_line (λ xs d'. Ok (x ∷ xs, d')) d (stops_each_in ks d ((forms.sound (begun l ms c) x d p).1 ∙ tail)) (λ y f. lines_never (x ∷ y.0, y.1) f)))))
+
+  pub stops_each : (c : Reading) → Stops as_is each_line c
+  stops_each c = stops_each_in c.later c refl

@@ -1,0 +1,265 @@
+-- Numbers, vectors and cones: their readers see no more than they take and the next sign.
+use Rattle.std.proofs.Common.{◌≡◌, ◌≢◌, ℕ, zero, suc, ℤ, Bool, true, false, List, [], ◌∷◌, Option, Some, None, Result, Ok, Err, refl, sym, ap, ◌∙◌}
+use Rattle.std.specs.Prelude.{⊤, nat_lt, if◌then◌else◌, codes, replicate}
+use Rattle.text_definitions.specs.declared.LexKind.{LexKind}
+use Rattle.text_definitions.specs.declared.LexKind.TheVariants.{BadWord, NumberTooWide}
+use Rattle.text_definitions.specs.declared.LexFault.{LexFault}
+use Rattle.text_definitions.specs.Text.{Token, word, decimal_value}
+use Rattle.text_definitions.specs.Written.{limit}
+use Rattle.text_definitions.specs.Reading.{Reading, ◌>>=◌, word_at, number_up_to, number_at, signed_at, magnitude, is_negative, with_sign, exactly_at, same_word, numbers_from, numbers_at, need_line_at, end_line_at, word_fault}
+use Rattle.cone_text_definitions.specs.VectorText.{vector_at}
+use Rattle.cone_text_definitions.specs.ConeText.{Cone, coefficients_at, cone_row_at, cone_rows_at, rows_of_cone_at, cone_at}
+use Rattle.table_definitions.proofs.ReadingLaws.{TakesNumber, number_read}
+use Rattle.document_laws.proofs.Local.{Goes, Stops, goes_chained, stops_chained, stops_first, goes_pure, goes_same, stops_same, alone, goes_moved, stops_moved}
+use Rattle.document_laws.proofs.LocalWords.{as_is, tested, word_with, goes_word, stops_word, goes_end, stops_end}
+use Rattle.document_laws.proofs.LocalLines.{goes_line, stops_line, by_end, by_ends, goes_by_end, stops_by_end}
+
+-- a value never fails
+pub ok_never : {A : Type 0} (x : A) (f : LexFault) → ◌≢◌ {A = Result A LexFault} (Ok x) (Err f)
+ok_never x f e = absurd cc
+
+pub stops_pure : {X : Type 0} (g : Reading → X) (c : Reading) → Stops as_is (λ d. Ok (g d)) c
+stops_pure g c f e = absurd (ok_never (g c) f e)
+
+-- a number up to max, of which f is made
+unfoldable pub number_test : {A : Type 0} → (ℕ → A) → ℕ → Option ℕ → Result A LexKind
+number_test f max None = Err BadWord
+number_test f max (Some n) = if nat_lt max n then Err NumberTooWide else Ok (f n)
+
+number_tested : {A : Type 0} (g : ℕ → A) (max : ℕ) (o : Option ℕ) (c : Reading) → tested (number_test g max o) c ≡ number_up_to max o c >>= λ (n : ℕ × Reading). Ok (g n.0, n.1)
+unfolding number_test
+number_tested g max None c = refl
+number_tested {A} g max (Some n) c = by_test (nat_lt max n)
+  where
+    by_test : (b : Bool) → tested (if b then Err NumberTooWide else Ok (g n)) c
+        ≡ if◌then◌else◌ {A = Result (ℕ × Reading) LexFault} b (Err (word_fault c NumberTooWide)) (Ok (n, c)) >>= λ (m : ℕ × Reading). Ok (g m.0, m.1)
+    by_test true = refl
+    by_test false = refl
+
+any_word : {A : Type 0} (r : Result (List ℕ × Reading) LexFault) (f g : List ℕ × Reading → Result (A × Reading) LexFault) → ((w : List ℕ × Reading) → f w ≡ g w) → r >>= f ≡ r >>= g
+any_word (Ok w) f g e = e w
+any_word (Err h) f g e = refl
+
+unwrapped : {A E : Type 0} (r : Result (A × Reading) E) → (r >>= λ (n : A × Reading). Ok (n.0, n.1)) ≡ r
+unwrapped (Ok n) = refl
+unwrapped (Err e) = refl
+
+pub number_word : (max : ℕ) (c : Reading) → word_with (λ w. number_test (λ n. n) max (decimal_value w)) c ≡ number_at max c
+unfolding number_at
+number_word max c =
+    any_word (word_at c) (λ (w : List ℕ × Reading). tested (number_test (λ n. n) max (decimal_value w.0)) w.1) (λ (w : List ℕ × Reading). number_up_to max (decimal_value w.0) w.1)
+    (λ w. number_tested (λ n. n) max (decimal_value w.0) w.1 ∙ unwrapped (number_up_to max (decimal_value w.0) w.1))
+
+pub goes_number : (max : ℕ) (c : Reading) → Goes (number_at max) c
+goes_number max c = (let test : List ℕ → Result ℕ LexKind = λ w. number_test (λ n. n) max (decimal_value w) in goes_same (word_with test) (number_at max) (number_word max) c (goes_word test c))
+
+pub stops_number : (max : ℕ) (c : Reading) → Stops as_is (number_at max) c
+stops_number max c = (let test : List ℕ → Result ℕ LexKind = λ w. number_test (λ n. n) max (decimal_value w) in stops_same as_is (word_with test) (number_at max) (number_word max) c (stops_word test c))
+
+unfoldable pub signed_test : ℕ → List ℕ → Result ℤ LexKind
+signed_test max w = number_test (λ n. with_sign (is_negative w) n) max (decimal_value (magnitude w))
+
+pub signed_word : (max : ℕ) (c : Reading) → word_with (signed_test max) c ≡ signed_at max c
+unfolding signed_at signed_test
+signed_word max c =
+    any_word (word_at c) (λ (w : List ℕ × Reading). tested (signed_test max w.0) w.1)
+    (λ (w : List ℕ × Reading). number_up_to max (decimal_value (magnitude w.0)) w.1 >>= λ (n : ℕ × Reading). Ok (with_sign (is_negative w.0) n.0, n.1))
+    (λ w. number_tested (λ n. with_sign (is_negative w.0) n) max (decimal_value (magnitude w.0)) w.1)
+
+pub goes_signed : (max : ℕ) (c : Reading) → Goes (signed_at max) c
+goes_signed max c = goes_same (word_with (signed_test max)) (signed_at max) (signed_word max) c (goes_word (signed_test max) c)
+
+stops_signed : (max : ℕ) (c : Reading) → Stops as_is (signed_at max) c
+stops_signed max c = stops_same as_is (word_with (signed_test max)) (signed_at max) (signed_word max) c (stops_word (signed_test max) c)
+
+-- a word that has to stand there
+unfoldable pub exact_test : List ℕ → List ℕ → Result ⊤ LexKind
+exact_test wanted w = if same_word w wanted then Ok tt else Err BadWord
+
+abbrev pub exactly : List ℕ → Reading → Result (⊤ × Reading) LexFault
+exactly wanted c = alone (exactly_at wanted c)
+
+pub exact_word : (wanted : List ℕ) (c : Reading) → word_with (exact_test wanted) c ≡ exactly wanted c
+unfolding exactly_at exact_test
+exact_word wanted c = by_word (word_at c)
+  where
+    by_test : (w : List ℕ × Reading) (b : Bool) → tested (if◌then◌else◌ {A = Result ⊤ LexKind} b (Ok tt) (Err BadWord)) w.1 ≡ alone (if◌then◌else◌ {A = Result Reading LexFault} b (Ok w.1) (Err (word_fault w.1 BadWord)))
+    by_test w true = refl
+    by_test w false = refl
+
+    by_word : (r : Result (List ℕ × Reading) LexFault) → (r >>= λ (w : List ℕ × Reading). tested (exact_test wanted w.0) w.1)
+        ≡ alone (r >>= λ (w : List ℕ × Reading). if same_word w.0 wanted then Ok w.1 else Err (word_fault w.1 BadWord))
+    by_word (Ok w) = by_test w (same_word w.0 wanted)
+    by_word (Err f) = refl
+
+pub goes_exactly : (wanted : List ℕ) (c : Reading) → Goes (exactly wanted) c
+goes_exactly wanted c = goes_same (word_with (exact_test wanted)) (exactly wanted) (exact_word wanted) c (goes_word (exact_test wanted) c)
+
+pub stops_exactly : (wanted : List ℕ) (c : Reading) → Stops as_is (exactly wanted) c
+stops_exactly wanted c = stops_same as_is (word_with (exact_test wanted)) (exactly wanted) (exact_word wanted) c (stops_word (exact_test wanted) c)
+
+-- numbers to the end of a line
+abbrev pub Numbers : Type 0
+Numbers = List ℕ × Reading
+
+abbrev pub others_with : ℕ → ℕ → Reading → Result Numbers LexFault
+others_with max n c = numbers_at max c >>= λ (xs : Numbers). Ok (n ∷ xs.0, xs.1)
+
+abbrev pub one_more : ℕ → Reading → Result Numbers LexFault
+one_more max c = number_at max c >>= λ (n : ℕ × Reading). others_with max n.0 n.1
+
+pub tokens_after : (max : ℕ) (c : Reading) (t : Token) (ts : List Token) (n : ℕ) (d : Reading) → c.current.tokens ≡ t ∷ ts → number_at max c ≡ Ok (n, d) → ts ≡ d.current.tokens
+tokens_after max c t ts n d split e = from_word (number_read max c.current.tokens c n d e)
+  where
+    from_word : TakesNumber max c.current.tokens c n d → ts ≡ d.current.tokens
+    from_word h =
+        let cons : t ∷ ts ≡ word h.word.column h.w ∷ h.word.rest = sym split ∙ h.word.tokens in
+        let same : ts ≡ h.word.rest = cc in
+        same ∙ ap (λ (r : Reading). r.current.tokens) (sym h.word.left)
+
+bind_like : {A B : Type 0} (r : Result A LexFault) (f g : A → Result B LexFault) → ((x : A) → r ≡ Ok x → f x ≡ g x) → r >>= f ≡ r >>= g
+bind_like (Ok x) f g e = e x refl
+bind_like (Err h) f g e = refl
+
+pub numbers_stepped : (max : ℕ) (c : Reading) → by_end [] (one_more max) c ≡ numbers_at max c
+unfolding numbers_from
+numbers_stepped max c = by_tokens c.current.tokens refl
+  where
+    by_tokens : (ts : List Token) → c.current.tokens ≡ ts → by_ends [] (one_more max) ts c ≡ numbers_from max ts c
+    by_tokens [] e = refl
+    by_tokens (t ∷ ts) e =
+        bind_like (number_at max c) (λ (n : ℕ × Reading). others_with max n.0 n.1) (λ (n : ℕ × Reading). numbers_from max ts n.1 >>= λ (xs : Numbers). Ok (n.0 ∷ xs.0, xs.1))
+        (λ n p. ap (λ (us : List Token). numbers_from max us n.1 >>= λ (xs : Numbers). Ok (n.0 ∷ xs.0, xs.1)) (sym (tokens_after max c t ts n.0 n.1 e p)))
+
+module _ (max : ℕ) where
+  goes_numbers_in : (ts : List Token) (c : Reading) → c.current.tokens ≡ ts → Goes (numbers_at max) c
+  goes_numbers_in [] c none =
+      goes_same (by_end [] (one_more max)) (numbers_at max) (numbers_stepped max) c (goes_by_end [] (one_more max) c (λ t ts split. (let e : [] ≡ t ∷ ts = sym none ∙ split in absurd cc)))
+  goes_numbers_in (u ∷ us) c first =
+      goes_same (by_end [] (one_more max)) (numbers_at max) (numbers_stepped max) c
+      (goes_by_end [] (one_more max) c (λ t ts split. goes_chained (number_at max) (others_with max) c (goes_number max c)
+      (λ n d e. goes_chained (numbers_at max) (λ xs d'. Ok (n ∷ xs, d')) d (goes_numbers_in us d (sym (tokens_after max c u us n d first e))) (λ xs last q. goes_pure (n ∷ xs) last))))
+
+  pub goes_numbers : (c : Reading) → Goes (numbers_at max) c
+  goes_numbers c = goes_numbers_in c.current.tokens c refl
+
+  stops_numbers_in : (ts : List Token) (c : Reading) → c.current.tokens ≡ ts → Stops as_is (numbers_at max) c
+  stops_numbers_in [] c none =
+      stops_same as_is (by_end [] (one_more max)) (numbers_at max) (numbers_stepped max) c (stops_by_end [] (one_more max) as_is c (λ t ts split. (let e : [] ≡ t ∷ ts = sym none ∙ split in absurd cc)))
+  stops_numbers_in (u ∷ us) c first =
+      stops_same as_is (by_end [] (one_more max)) (numbers_at max) (numbers_stepped max) c
+      (stops_by_end [] (one_more max) as_is c (λ t ts split. stops_chained as_is (number_at max) (others_with max) c (goes_number max c) (stops_number max c)
+      (λ n d e. stops_first as_is (numbers_at max) (λ xs d'. Ok (n ∷ xs, d')) d (stops_numbers_in us d (sym (tokens_after max c u us n d first e))) (λ y f q. absurd (ok_never (n ∷ y.0, y.1) f q)))))
+
+  pub stops_numbers : (c : Reading) → Stops as_is (numbers_at max) c
+  stops_numbers c = stops_numbers_in c.current.tokens c refl
+
+-- vectors
+pub goes_vector : (c : Reading) → Goes vector_at c
+unfolding vector_at
+goes_vector c = goes_moved as_is (exactly_at (codes "vec")) (numbers_at limit) c (goes_exactly (codes "vec") c) (λ d e. goes_numbers limit d)
+
+pub stops_vector : (c : Reading) → Stops as_is vector_at c
+unfolding vector_at
+stops_vector c = stops_moved as_is (exactly_at (codes "vec")) (numbers_at limit) c (goes_exactly (codes "vec") c) (stops_exactly (codes "vec") c) (λ d e. stops_numbers limit d)
+
+-- coefficients, rows and cones
+abbrev pub Row : Type 0
+Row = List ℤ × Reading
+
+abbrev pub Rows : Type 0
+Rows = List (List ℤ) × Reading
+
+pub goes_coefficients : (n : ℕ) (c : Reading) → Goes (coefficients_at n) c
+unfolding coefficients_at
+goes_coefficients zero c = goes_pure [] c
+goes_coefficients (suc n) c =
+    goes_chained (signed_at 1000000) (λ z d. coefficients_at n d >>= λ (r : Row). Ok (z ∷ r.0, r.1)) c (goes_signed 1000000 c)
+    (λ z d e. goes_chained (coefficients_at n) (λ r d'. Ok (z ∷ r, d')) d (goes_coefficients n d) (λ r last q. goes_pure (z ∷ r) last))
+
+stops_coefficients : (n : ℕ) (c : Reading) → Stops as_is (coefficients_at n) c
+unfolding coefficients_at
+stops_coefficients zero c = stops_pure (λ d. ([], d)) c
+stops_coefficients (suc n) c =
+    stops_chained as_is (signed_at 1000000) (λ z d. coefficients_at n d >>= λ (r : Row). Ok (z ∷ r.0, r.1)) c (goes_signed 1000000 c) (stops_signed 1000000 c)
+    (λ z d e. stops_first as_is (coefficients_at n) (λ r d'. Ok (z ∷ r, d')) d (stops_coefficients n d) (λ y f q. absurd (ok_never (z ∷ y.0, y.1) f q)))
+
+abbrev pub closed_row : List ℤ → Reading → Result Row LexFault
+closed_row r d = end_line_at d >>= λ (end : Reading). Ok (r, end)
+
+abbrev pub row_on : ℕ → Reading → Result Row LexFault
+row_on columns d = coefficients_at columns d >>= λ (r : Row). closed_row r.0 r.1
+
+pub goes_closed : (r : List ℤ) (d : Reading) → Goes (closed_row r) d
+goes_closed r d = goes_moved as_is end_line_at (λ end. Ok (r, end)) d (goes_end d) (λ end e. goes_pure r end)
+
+stops_closed : (r : List ℤ) (d : Reading) → Stops as_is (closed_row r) d
+stops_closed r d = stops_moved as_is end_line_at (λ end. Ok (r, end)) d (goes_end d) (stops_end d) (λ end e. stops_pure (λ c. (r, c)) end)
+
+pub goes_row : (columns : ℕ) (c : Reading) → Goes (cone_row_at columns) c
+unfolding cone_row_at
+goes_row columns c = goes_moved as_is need_line_at (row_on columns) c (goes_line c) (λ d e. goes_chained (coefficients_at columns) closed_row d (goes_coefficients columns d) (λ r d' q. goes_closed r d'))
+
+stops_row : (columns : ℕ) (c : Reading) → Stops as_is (cone_row_at columns) c
+unfolding cone_row_at
+stops_row columns c =
+    stops_moved as_is need_line_at (row_on columns) c (goes_line c) (stops_line c)
+    (λ d e. stops_chained as_is (coefficients_at columns) closed_row d (goes_coefficients columns d) (stops_coefficients columns d) (λ r d' q. stops_closed r d'))
+
+pub goes_rows : (n columns : ℕ) (c : Reading) → Goes (cone_rows_at n columns) c
+unfolding cone_rows_at
+goes_rows zero columns c = goes_pure [] c
+goes_rows (suc n) columns c =
+    goes_chained (cone_row_at columns) (λ r d. cone_rows_at n columns d >>= λ (rs : Rows). Ok (r ∷ rs.0, rs.1)) c (goes_row columns c)
+    (λ r d e. goes_chained (cone_rows_at n columns) (λ rs d'. Ok (r ∷ rs, d')) d (goes_rows n columns d) (λ rs last q. goes_pure (r ∷ rs) last))
+
+stops_rows : (n columns : ℕ) (c : Reading) → Stops as_is (cone_rows_at n columns) c
+unfolding cone_rows_at
+stops_rows zero columns c = stops_pure (λ d. ([], d)) c
+stops_rows (suc n) columns c =
+    stops_chained as_is (cone_row_at columns) (λ r d. cone_rows_at n columns d >>= λ (rs : Rows). Ok (r ∷ rs.0, rs.1)) c (goes_row columns c) (stops_row columns c)
+    (λ r d e. stops_first as_is (cone_rows_at n columns) (λ rs d'. Ok (r ∷ rs, d')) d (stops_rows n columns d) (λ y f q. absurd (ok_never (r ∷ y.0, y.1) f q)))
+
+pub goes_cone_rows : (columns n : ℕ) (c : Reading) → Goes (rows_of_cone_at columns n) c
+goes_cone_rows zero n c = goes_pure (replicate n []) c
+goes_cone_rows (suc columns) n c = goes_rows n (suc columns) c
+
+stops_cone_rows : (columns n : ℕ) (c : Reading) → Stops as_is (rows_of_cone_at columns n) c
+stops_cone_rows zero n c = stops_pure (λ d. (replicate n [], d)) c
+stops_cone_rows (suc columns) n c = stops_rows n (suc columns) c
+
+abbrev Read : Type 0
+Read = Result (Cone × Reading) LexFault
+
+abbrev pub cone_of : ℕ → List (List ℤ) → Cone
+cone_of columns rows = record { columns = columns; rows = rows }
+
+abbrev pub after_end : ℕ → ℕ → Reading → Read
+after_end columns n d = rows_of_cone_at columns n d >>= λ (rows : Rows). Ok (cone_of columns rows.0, rows.1)
+
+abbrev pub after_count : ℕ → ℕ → Reading → Read
+after_count columns n d = end_line_at d >>= after_end columns n
+
+abbrev pub after_columns : ℕ → Reading → Read
+after_columns columns d = number_at 10000 d >>= λ (n : ℕ × Reading). after_count columns n.0 n.1
+
+abbrev pub after_name : Reading → Read
+after_name d = number_at 10000 d >>= λ (n : ℕ × Reading). after_columns n.0 n.1
+
+pub goes_cone : (c : Reading) → Goes cone_at c
+unfolding cone_at
+goes_cone c =
+    goes_moved as_is (exactly_at (codes "cone")) after_name c (goes_exactly (codes "cone") c)
+    (λ d1 e1. goes_chained (number_at 10000) after_columns d1 (goes_number 10000 d1)
+    (λ columns d2 e2. goes_chained (number_at 10000) (after_count columns) d2 (goes_number 10000 d2)
+    (λ n d3 e3. goes_moved as_is end_line_at (after_end columns n) d3 (goes_end d3)
+    (λ d4 e4. goes_chained (rows_of_cone_at columns n) (λ rows d. Ok (cone_of columns rows, d)) d4 (goes_cone_rows columns n d4) (λ rows last q. goes_pure (cone_of columns rows) last)))))
+
+pub stops_cone : (c : Reading) → Stops as_is cone_at c
+unfolding cone_at
+stops_cone c =
+    stops_moved as_is (exactly_at (codes "cone")) after_name c (goes_exactly (codes "cone") c) (stops_exactly (codes "cone") c)
+    (λ d1 e1. stops_chained as_is (number_at 10000) after_columns d1 (goes_number 10000 d1) (stops_number 10000 d1)
+    (λ columns d2 e2. stops_chained as_is (number_at 10000) (after_count columns) d2 (goes_number 10000 d2) (stops_number 10000 d2)
+    (λ n d3 e3. stops_moved as_is end_line_at (after_end columns n) d3 (goes_end d3) (stops_end d3)
+    (λ d4 e4. stops_first as_is (rows_of_cone_at columns n) (λ rows d. Ok (cone_of columns rows, d)) d4 (stops_cone_rows columns n d4) (λ y f q. absurd (ok_never (cone_of columns y.0, y.1) f q))))))

@@ -1,0 +1,311 @@
+-- What stands before a fault can be gone on with, to an aim.
+use Rattle.std.proofs.Common.{◌≡◌, ◌≢◌, ℕ, List, [], ◌∷◌, ◌++◌, Result, Ok, Err, ◌⊎◌, inl, inr, refl, sym, ap, ◌∙◌, subst}
+use Rattle.std.proofs.lemmas.List.{append_assoc}
+use Rattle.text_definitions.specs.declared.Place.{Place}
+use Rattle.text_definitions.specs.declared.LexFault.{LexFault}
+use Rattle.text_definitions.specs.Text.{Token, word, stray, Line}
+use Rattle.text_definitions.specs.Reading.{Reading, ◌>>=◌}
+use Rattle.document_definitions.specs.Signs.{Sign, line_end, input_end, Placed, token_sign, line_signs, signs_of, plain}
+use Rattle.table_definitions.proofs.ReadingLaws.{bind_ok, ok_parts, with_tokens}
+use Rattle.document_laws.proofs.Local.{left_signs, shows, opening, opening_more, plain-append, shows_split, GoesOn, StopsAt, Goes, regrouped, chained, goes_joined, bind_err, stops_late, stops_early}
+use Rattle.document_laws.proofs.LocalWords.{as_is}
+
+-- readings that can be read with an aim: from somewhere, where certain signs are shown, and behind certain signs
+pub record Sat {A E : Type 0} (read : Reading → Result (A × Reading) E) (Aim : A → List Sign → Type 0) : Type 0 where
+  pub start : Reading
+  pub value : A
+  pub next : Reading
+  pub reads : read start ≡ Ok (value, next)
+  pub aim : Aim value (shows next)
+
+pub record From {A E : Type 0} (read : Reading → Result (A × Reading) E) (Aim : A → List Sign → Type 0) (ss : List Sign) : Type 0 where
+  pub start : Reading
+  pub there : shows start ≡ ss
+  pub value : A
+  pub next : Reading
+  pub reads : read start ≡ Ok (value, next)
+  pub aim : Aim value (shows next)
+
+pub record Way {A E : Type 0} (read : Reading → Result (A × Reading) E) (front : List Placed) (Aim : A → List Sign → Type 0) : Type 0 where
+  pub other : Reading
+  pub more : List Sign
+  pub there : shows other ≡ plain front ++ more
+  pub value : A
+  pub next : Reading
+  pub reads : read other ≡ Ok (value, next)
+  pub aim : Aim value (shows next)
+
+-- where a reader stops, what stands before can be gone on with; and so that the first sign is the same
+abbrev pub Well : {A E : Type 0} → (LexFault → E) → (Reading → Result (A × Reading) E) → (A → List Sign → Type 0) → Reading → Type 0
+Well lexical read Aim c = (f : LexFault) → read c ≡ Err (lexical f) → (h : StopsAt read c f.place) × Way read h.front Aim
+
+abbrev pub WellOpen : {A E : Type 0} → (LexFault → E) → (Reading → Result (A × Reading) E) → (A → List Sign → Type 0) → Reading → Type 0
+WellOpen lexical read Aim c = (f : LexFault) → read c ≡ Err (lexical f) → (h : StopsAt read c f.place) × (w : Way read h.front Aim) × (opening (shows w.other) ≡ opening (shows c))
+
+-- a reader that doesn't look at the next sign
+pub record FreeOn {A E : Type 0} (read : Reading → Result (A × Reading) E) (c : Reading) (x : A) (d : Reading) : Type 0 where
+  pub goes : GoesOn read c x d
+  pub same : (o : Reading) (k : Reading) → shows o ≡ plain goes.front ++ shows k → (next : Reading) × (read o ≡ Ok (x, next)) × (shows next ≡ shows k)
+
+abbrev pub Free : {A E : Type 0} → (Reading → Result (A × Reading) E) → Reading → Type 0
+Free {A} read c = (x : A) (d : Reading) → read c ≡ Ok (x, d) → FreeOn read c x d
+
+-- what is left of a reading behind some signs, with other signs in place of what is left
+line_before : Reading → Reading
+line_before k = record k { current = record { number = 0; tokens = []; end = 0 }; later = k.current ∷ k.later }
+
+line_before_shows : (k : Reading) → shows (line_before k) ≡ line_end ∷ shows k
+unfolding line_before line_signs signs_of
+line_before_shows k = refl
+
+token_before : Token → Reading → Reading
+token_before t k = with_tokens (t ∷ k.current.tokens) k
+
+token_before_shows : (t : Token) (n : ℕ) (k : Reading) → shows (token_before t k) ≡ (token_sign n t).1 ∷ shows k
+unfolding token_before line_signs
+token_before_shows (word column w) n k = refl
+token_before_shows (stray column) n k = refl
+
+heads : {A : Type 0} (x y : A) (xs ys : List A) → x ∷ xs ≡ y ∷ ys → (x ≡ y) × (xs ≡ ys)
+heads x y xs ys e = (cc, cc)
+
+one_only : (s : Placed) (front rest : List Placed) (t : Placed) → rest ≢ [] → s ∷ [] ≡ t ∷ (front ++ rest) → ⊥
+one_only s [] rest t n e = (let p : [] ≡ rest = cc in n (sym p))
+one_only s (x ∷ front) rest t n e = (let p : [] ≡ x ∷ (front ++ rest) = cc in absurd cc)
+
+graft_in : (front : List Placed) (n : ℕ) (ts : List Token) (end : ℕ) (ls : List Line) (p : Place) (rest : List Placed) → rest ≢ [] → line_signs n ts end (signs_of p ls) ≡ front ++ rest → (k : Reading)
+    → (o : Reading) × (shows o ≡ plain front ++ shows k)
+unfolding line_signs signs_of
+graft_in [] n ts end ls p rest some e k = (k, refl)
+graft_in (s ∷ front) n (t ∷ ts) end ls p rest some e k =
+    let parts : (token_sign n t ≡ s) × (line_signs n ts end (signs_of p ls) ≡ front ++ rest) = heads (token_sign n t) s (line_signs n ts end (signs_of p ls)) (front ++ rest) e in
+    let o : (o : Reading) × (shows o ≡ plain front ++ shows k) = graft_in front n ts end ls p rest some parts.1 k in
+    (token_before t o.0, token_before_shows t n o.0 ∙ ap (λ (q : Placed). q.1 ∷ shows o.0) parts.0 ∙ ap (λ (ss : List Sign). s.1 ∷ ss) o.1)
+graft_in (s ∷ front) n [] end [] p rest some e k =
+    let here : Placed = (record { line = n; column = end }, line_end) in
+    let parts : (here ≡ s) × ((p, input_end) ∷ [] ≡ front ++ rest) = heads here s ((p, input_end) ∷ []) (front ++ rest) e in
+    last front parts.1 parts.0
+  where
+    last : (front : List Placed) → (p, input_end) ∷ [] ≡ front ++ rest → ◌≡◌ {A = Placed} (record { line = n; column = end }, line_end) s → (o : Reading) × (shows o ≡ s.1 ∷ (plain front ++ shows k))
+    last [] e h = (line_before k, line_before_shows k ∙ ap (λ (q : Placed). q.1 ∷ shows k) h)
+    last (t ∷ front) e h = absurd (one_only (p, input_end) front rest t some e)
+graft_in (s ∷ front) n [] end (l ∷ ls) p rest some e k =
+    let here : Placed = (record { line = n; column = end }, line_end) in
+    let parts : (here ≡ s) × (line_signs l.number l.tokens l.end (signs_of p ls) ≡ front ++ rest) = heads here s (line_signs l.number l.tokens l.end (signs_of p ls)) (front ++ rest) e in
+    let o : (o : Reading) × (shows o ≡ plain front ++ shows k) = graft_in front l.number l.tokens l.end ls p rest some parts.1 k in
+    (line_before o.0, line_before_shows o.0 ∙ ap (λ (q : Placed). q.1 ∷ shows o.0) parts.0 ∙ ap (λ (ss : List Sign). s.1 ∷ ss) o.1)
+
+none_here : (n end : ℕ) (others : List Placed) → line_signs n [] end others ≢ []
+unfolding line_signs
+none_here n end others e = absurd cc
+
+none_there : (n : ℕ) (t : Token) (ts : List Token) (end : ℕ) (others : List Placed) → line_signs n (t ∷ ts) end others ≢ []
+unfolding line_signs
+none_there n t ts end others e = absurd cc
+
+some_left : (d : Reading) → left_signs d ≢ []
+some_left d e = by_tokens d.current.tokens e
+  where
+    by_tokens : (ts : List Token) → line_signs d.current.number ts d.current.end (signs_of d.input_end d.later) ≢ []
+    by_tokens [] e = none_here d.current.number d.current.end (signs_of d.input_end d.later) e
+    by_tokens (t ∷ ts) e = none_there d.current.number t ts d.current.end (signs_of d.input_end d.later) e
+
+pub graft : (c : Reading) (front : List Placed) (d : Reading) → left_signs c ≡ front ++ left_signs d → (k : Reading) → (o : Reading) × (shows o ≡ plain front ++ shows k)
+graft c front d e k = graft_in front c.current.number c.current.tokens c.current.end c.later c.input_end (left_signs d) (some_left d) e k
+
+-- a reader reads the same where the same is shown
+pub again_from : {A E : Type 0} (read : Reading → Result (A × Reading) E) (Aim : A → List Sign → Type 0) → ((k : Reading) → Goes read k) → (ss : List Sign) → From read Aim ss → (c : Reading) → shows c ≡ ss
+    → (y : A) × (e : Reading) × (read c ≡ Ok (y, e)) × Aim y (shows e)
+again_from read Aim g ss f c e =
+    let h : GoesOn read f.start f.value f.next = g f.start f.value f.next f.reads in
+    let there : shows c ≡ plain h.front ++ shows f.next = e ∙ sym f.there ∙ shows_split f.start f.next h.front h.split in
+    let n : (next : Reading) × (read c ≡ Ok (f.value, next)) × (shows next ≡ shows f.next) = h.same c (shows f.next) there refl in
+    (f.value, n.0, n.1, subst (λ (ts : List Sign). Aim f.value ts) (sym n.2) f.aim)
+
+-- one reader after another
+module _ {A B E : Type 0} (lexical : LexFault → E) (first : Reading → Result (A × Reading) E) (second : A → Reading → Result (B × Reading) E) (Aim : B → List Sign → Type 0)
+    (goes_second : (x : A) (k : Reading) → Goes (second x) k) where
+  abbrev pub Then : A → List Sign → Type 0
+  Then x ss = From (second x) Aim ss
+
+  abbrev pub both : Reading → Result (B × Reading) E
+  both c = first c >>= λ (y : A × Reading). second y.0 y.1
+
+  on : (o : Reading) (x : A) (d : Reading) (y : B) (e : Reading) → first o ≡ Ok (x, d) → second x d ≡ Ok (y, e) → both o ≡ Ok (y, e)
+  on o x d y e p q = ap (λ (r : Result (A × Reading) E). r >>= λ (y : A × Reading). second y.0 y.1) p ∙ q
+
+  pub sat_both : Sat first Then → Sat both Aim
+  sat_both s =
+      let a : (y : B) × (e : Reading) × (second s.value s.next ≡ Ok (y, e)) × Aim y (shows e) = again_from (second s.value) Aim (goes_second s.value) (shows s.next) s.aim s.next refl in
+      record { start = s.start; value = a.0; next = a.1; reads = on s.start s.value s.next a.0 a.1 s.reads a.2; aim = a.3 }
+
+  way_early : (front : List Placed) → (w : Way first front Then) → (v : Way both front Aim) × (v.other ≡ w.other)
+  way_early front w =
+      let a : (y : B) × (e : Reading) × (second w.value w.next ≡ Ok (y, e)) × Aim y (shows e) = again_from (second w.value) Aim (goes_second w.value) (shows w.next) w.aim w.next refl in
+      (record { other = w.other; more = w.more; there = w.there; value = a.0; next = a.1; reads = on w.other w.value w.next a.0 a.1 w.reads a.2; aim = a.3 }, refl)
+
+  way_late : (front back : List Placed) (x : A) (w : Way (second x) back Aim) (o next : Reading) → shows o ≡ plain front ++ shows w.other → first o ≡ Ok (x, next) → shows next ≡ shows w.other
+      → (v : Way both (front ++ back) Aim) × (v.other ≡ o)
+  way_late front back x w o next e r s =
+      let from : From (second x) Aim (shows w.other) = record { start = w.other; there = refl; value = w.value; next = w.next; reads = w.reads; aim = w.aim } in
+      let a : (y : B) × (e : Reading) × (second x next ≡ Ok (y, e)) × Aim y (shows e) = again_from (second x) Aim (goes_second x) (shows w.other) from next s in (
+        record {
+          other = o;
+          more = w.more;
+          there = e ∙ ap (λ (ss : List Sign). plain front ++ ss) w.there ∙ sym (append_assoc (plain front) (plain back) w.more) ∙ ap (λ (ss : List Sign). ss ++ w.more) (sym (plain-append front back));
+          value = a.0;
+          next = a.1;
+          reads = on o x next a.0 a.1 r a.2;
+          aim = a.3;
+        },
+        refl,
+      )
+
+  abbrev Case : Reading → LexFault → Type 0
+  Case c f = (first c ≡ Err (lexical f)) ⊎ ((y : A × Reading) × (first c ≡ Ok y) × (second y.0 y.1 ≡ Err (lexical f)))
+
+  case_of : (c : Reading) (f : LexFault) → both c ≡ Err (lexical f) → Case c f
+  case_of c f e = bind_err (first c) (λ (y : A × Reading). second y.0 y.1) (lexical f) e
+
+  early : (c : Reading) → Well lexical first Then c → (f : LexFault) → first c ≡ Err (lexical f) → (h : StopsAt both c f.place) × Way both h.front Aim
+  early c w f p = (let u = w f p in (stops_early lexical first second c f.place u.0, (way_early u.0.front u.1).0))
+
+  pub well_free : (c : Reading) → Free first c → Well lexical first Then c → ((x : A) (d : Reading) → first c ≡ Ok (x, d) → Well lexical (second x) Aim d) → Well lexical both Aim c
+  well_free c g w1 w2 f e = by_case (case_of c f e)
+    where
+      late : (x : A) (d : Reading) → FreeOn first c x d → (h : StopsAt (second x) d f.place) × Way (second x) h.front Aim → (h : StopsAt both c f.place) × Way both h.front Aim
+      late x d fr u =
+          let gr : (o : Reading) × (shows o ≡ plain fr.goes.front ++ shows (u.1.other)) = graft c fr.goes.front d fr.goes.split u.1.other in
+          let n : (next : Reading) × (first gr.0 ≡ Ok (x, next)) × (shows next ≡ shows (u.1.other)) = fr.same gr.0 u.1.other gr.1 in
+          (stops_late lexical first second c x d f.place fr.goes u.0, (way_late fr.goes.front u.0.front x u.1 gr.0 n.0 gr.1 n.1 n.2).0)
+
+      by_case : Case c f → (h : StopsAt both c f.place) × Way both h.front Aim
+      by_case (inl p) = early c w1 f p
+      by_case (inr (y, p, q)) = late y.0 y.1 (g y.0 y.1 p) (w2 y.0 y.1 p f q)
+
+  -- the first reader may look at the next sign, which stays the same
+  late_open : (c : Reading) (x : A) (d : Reading) (p : Place) → GoesOn first c x d → (h : StopsAt (second x) d p) × (w : Way (second x) h.front Aim) × (opening (shows w.other) ≡ opening (shows d))
+      → (h : StopsAt both c p) × (w : Way both h.front Aim) × (opening (shows w.other) ≡ opening (shows c))
+  late_open c x d p g u =
+      let gr : (o : Reading) × (shows o ≡ plain g.front ++ shows (u.1.other)) = graft c g.front d g.split u.1.other in
+      let n : (next : Reading) × (first gr.0 ≡ Ok (x, next)) × (shows next ≡ shows (u.1.other)) = g.same gr.0 (shows (u.1.other)) gr.1 u.2 in
+      let way = way_late g.front u.0.front x u.1 gr.0 n.0 gr.1 n.1 n.2 in (
+        stops_late lexical first second c x d p g u.0,
+        way.0,
+        ap (λ (r : Reading). opening (shows r)) way.1 ∙ ap opening gr.1 ∙ opening_more (plain g.front) (shows (u.1.other)) (shows d) u.2 ∙ sym (ap opening (shows_split c d g.front g.split)),
+      )
+
+  pub well_goes : (c : Reading) → Goes first c → Well lexical first Then c → ((x : A) (d : Reading) → first c ≡ Ok (x, d) → WellOpen lexical (second x) Aim d) → Well lexical both Aim c
+  well_goes c g w1 w2 f e = by_case (case_of c f e)
+    where
+      by_case : Case c f → (h : StopsAt both c f.place) × Way both h.front Aim
+      by_case (inl p) = early c w1 f p
+      by_case (inr (y, p, q)) = (let u = late_open c y.0 y.1 f.place (g y.0 y.1 p) (w2 y.0 y.1 p f q) in (u.0, u.1))
+
+  pub well_open : (c : Reading) → Goes first c → WellOpen lexical first Then c → ((x : A) (d : Reading) → first c ≡ Ok (x, d) → WellOpen lexical (second x) Aim d) → WellOpen lexical both Aim c
+  well_open c g w1 w2 f e = by_case (case_of c f e)
+    where
+      by_case : Case c f → (h : StopsAt both c f.place) × (w : Way both h.front Aim) × (opening (shows w.other) ≡ opening (shows c))
+      by_case (inl p) =
+          let u = w1 f p in
+          let way = way_early u.0.front u.1 in
+          (stops_early lexical first second c f.place u.0, way.0, ap (λ (r : Reading). opening (shows r)) way.1 ∙ u.2)
+      by_case (inr (y, p, q)) = late_open c y.0 y.1 f.place (g y.0 y.1 p) (w2 y.0 y.1 p f q)
+
+  -- the first reader takes a sign, and doesn't look at the next one
+  pub well_behind : (c : Reading) → ((x : A) (d : Reading) → first c ≡ Ok (x, d) → (fr : FreeOn first c x d) × ((ss : List Sign) → opening (plain fr.goes.front ++ ss) ≡ opening (shows c))) → WellOpen lexical first Then c
+      → ((x : A) (d : Reading) → first c ≡ Ok (x, d) → Well lexical (second x) Aim d) → WellOpen lexical both Aim c
+  well_behind c g w1 w2 f e = by_case (case_of c f e)
+    where
+      late : (x : A) (d : Reading) → (fr : FreeOn first c x d) × ((ss : List Sign) → opening (plain fr.goes.front ++ ss) ≡ opening (shows c)) → (h : StopsAt (second x) d f.place) × Way (second x) h.front Aim
+          → (h : StopsAt both c f.place) × (w : Way both h.front Aim) × (opening (shows w.other) ≡ opening (shows c))
+      late x d fr u =
+          let gr : (o : Reading) × (shows o ≡ plain fr.0.goes.front ++ shows (u.1.other)) = graft c fr.0.goes.front d fr.0.goes.split u.1.other in
+          let n : (next : Reading) × (first gr.0 ≡ Ok (x, next)) × (shows next ≡ shows (u.1.other)) = fr.0.same gr.0 u.1.other gr.1 in
+          let way = way_late fr.0.goes.front u.0.front x u.1 gr.0 n.0 gr.1 n.1 n.2 in
+          (stops_late lexical first second c x d f.place fr.0.goes u.0, way.0, ap (λ (r : Reading). opening (shows r)) way.1 ∙ ap opening gr.1 ∙ fr.1 (shows (u.1.other)))
+
+      by_case : Case c f → (h : StopsAt both c f.place) × (w : Way both h.front Aim) × (opening (shows w.other) ≡ opening (shows c))
+      by_case (inl p) =
+          let u = w1 f p in
+          let way = way_early u.0.front u.1 in
+          (stops_early lexical first second c f.place u.0, way.0, ap (λ (r : Reading). opening (shows r)) way.1 ∙ u.2)
+      by_case (inr (y, p, q)) = late y.0 y.1 (g y.0 y.1 p) (w2 y.0 y.1 p f q)
+
+-- two readers that don't look ahead
+module _ {A B E : Type 0} (first : Reading → Result (A × Reading) E) (second : A → Reading → Result (B × Reading) E) where
+  free_joined : (c : Reading) (x : A) (d : Reading) (y : B) (last : Reading) → FreeOn first c x d → FreeOn (second x) d y last → FreeOn (chained first second) c y last
+  free_joined c x d y last g h = record {
+    goes = goes_joined first second c x d y last g.goes h.goes;
+    same =
+        λ o k e. (let gr : (m : Reading) × (shows m ≡ plain h.goes.front ++ shows k) = graft d h.goes.front last h.goes.split k in
+        let n : (next : Reading) × (first o ≡ Ok (x, next)) × (shows next ≡ shows gr.0) = g.same o gr.0 (regrouped g.goes.front h.goes.front (shows k) o e ∙ ap (λ (ss : List Sign). plain g.goes.front ++ ss) (sym gr.1)) in
+        let m : (next : Reading) × (second x n.0 ≡ Ok (y, next)) × (shows next ≡ shows k) = h.same n.0 k (n.2 ∙ gr.1) in
+        (m.0, ap (λ (r : Result (A × Reading) E). r >>= λ (z : A × Reading). second z.0 z.1) n.1 ∙ m.1, m.2));
+  }
+
+  pub free_chained : (c : Reading) → Free first c → ((x : A) (d : Reading) → first c ≡ Ok (x, d) → Free (second x) d) → Free (chained first second) c
+  free_chained c g h z last e =
+      let b : (y : A × Reading) × (first c ≡ Ok y) × (second y.0 y.1 ≡ Ok (z, last)) = bind_ok (first c) (λ (y : A × Reading). second y.0 y.1) (z, last) e in
+      free_joined c (b.0).0 (b.0).1 z last (g (b.0).0 (b.0).1 b.1) (h (b.0).0 (b.0).1 b.1 z last b.2)
+
+pub free_pure : {A E : Type 0} (x : A) (c : Reading) → Free {A = A} {E = E} (λ d. Ok (x, d)) c
+free_pure {A} {E} x c y d e =
+    let parts : (x ≡ y) × (c ≡ d) = ok_parts (x, c) (y, d) e in
+    subst (λ (z : A). FreeOn {A = A} {E = E} (λ d. Ok (x, d)) c z d) parts.0
+    (subst (λ (r : Reading). FreeOn {A = A} {E = E} (λ d. Ok (x, d)) c x r) parts.1
+    (record { goes = record { front = []; split = refl; same = λ other more s o. (other, refl, s) }; same = λ o k s. (o, refl, s) }))
+
+-- readers that give the same everywhere
+pub free_same : {A E : Type 0} (r s : Reading → Result (A × Reading) E) → ((c : Reading) → r c ≡ s c) → (c : Reading) → Free r c → Free s c
+free_same {A} {E} r s e c g = subst (λ (q : Reading → Result (A × Reading) E). Free q c) (λ i d. e d i) g
+
+pub sat_same : {A E : Type 0} (r s : Reading → Result (A × Reading) E) (Aim : A → List Sign → Type 0) → ((c : Reading) → r c ≡ s c) → Sat r Aim → Sat s Aim
+sat_same {A} {E} r s Aim e g = subst (λ (q : Reading → Result (A × Reading) E). Sat q Aim) (λ i d. e d i) g
+
+pub well_same : {A E : Type 0} (lexical : LexFault → E) (r s : Reading → Result (A × Reading) E) (Aim : A → List Sign → Type 0) → ((c : Reading) → r c ≡ s c) → (c : Reading) → Well lexical r Aim c → Well lexical s Aim c
+well_same {A} {E} lexical r s Aim e c g = subst (λ (q : Reading → Result (A × Reading) E). Well lexical q Aim c) (λ i d. e d i) g
+
+pub well_open_same : {A E : Type 0} (lexical : LexFault → E) (r s : Reading → Result (A × Reading) E) (Aim : A → List Sign → Type 0) → ((c : Reading) → r c ≡ s c) → (c : Reading) → WellOpen lexical r Aim c → WellOpen lexical s Aim c
+well_open_same {A} {E} lexical r s Aim e c g = subst (λ (q : Reading → Result (A × Reading) E). WellOpen lexical q Aim c) (λ i d. e d i) g
+
+pub from_sat : {A E : Type 0} (read : Reading → Result (A × Reading) E) (Aim : A → List Sign → Type 0) (s : Sat read Aim) → From read Aim (shows s.start)
+from_sat read Aim s = record { start = s.start; there = refl; value = s.value; next = s.next; reads = s.reads; aim = s.aim }
+
+-- what is made of a value
+module _ {A B : Type 0} (read : Reading → Result (A × Reading) LexFault) (g : A → B) (Aim : B → List Sign → Type 0) where
+  abbrev pub mapped : Reading → Result (B × Reading) LexFault
+  mapped c = read c >>= λ (y : A × Reading). Ok (g y.0, y.1)
+
+  abbrev pub Made : A → List Sign → Type 0
+  Made x ss = Aim (g x) ss
+
+  made : (o : Reading) (x : A) (d : Reading) → read o ≡ Ok (x, d) → mapped o ≡ Ok (g x, d)
+  made o x d p = ap (λ (r : Result (A × Reading) LexFault). r >>= λ (y : A × Reading). Ok (g y.0, y.1)) p
+
+  pub sat_mapped : Sat read Made → Sat mapped Aim
+  sat_mapped s = record { start = s.start; value = g s.value; next = s.next; reads = made s.start s.value s.next s.reads; aim = s.aim }
+
+  way_mapped : (front : List Placed) → (w : Way read front Made) → (v : Way mapped front Aim) × (v.other ≡ w.other)
+  way_mapped front w = (record { other = w.other; more = w.more; there = w.there; value = g w.value; next = w.next; reads = made w.other w.value w.next w.reads; aim = w.aim }, refl)
+
+  never : (y : A × Reading) (f : LexFault) → ◌≢◌ {A = Result (B × Reading) LexFault} (Ok (g y.0, y.1)) (Err f)
+  never y f e = absurd cc
+
+  pub well_mapped : (c : Reading) → Well as_is read Made c → Well as_is mapped Aim c
+  well_mapped c w f e = by_case (bind_err (read c) (λ (y : A × Reading). Ok (g y.0, y.1)) f e)
+    where
+      by_case : (read c ≡ Err f) ⊎ ((y : A × Reading) × (read c ≡ Ok y) × (◌≡◌ {A = Result (B × Reading) LexFault} (Ok (g y.0, y.1)) (Err f))) → (h : StopsAt mapped c f.place) × Way mapped h.front Aim
+      by_case (inl p) = (let u = w f p in (stops_early as_is read (λ x d. Ok (g x, d)) c f.place u.0, (way_mapped u.0.front u.1).0))
+      by_case (inr (y, p, q)) = absurd (never y f q)
+
+  pub well_open_mapped : (c : Reading) → WellOpen as_is read Made c → WellOpen as_is mapped Aim c
+  well_open_mapped c w f e = by_case (bind_err (read c) (λ (y : A × Reading). Ok (g y.0, y.1)) f e)
+    where
+      by_case : (read c ≡ Err f) ⊎ ((y : A × Reading) × (read c ≡ Ok y) × (◌≡◌ {A = Result (B × Reading) LexFault} (Ok (g y.0, y.1)) (Err f)))
+          → (h : StopsAt mapped c f.place) × (w : Way mapped h.front Aim) × (opening (shows w.other) ≡ opening (shows c))
+      by_case (inl p) =
+          let u = w f p in
+          let way = way_mapped u.0.front u.1 in
+          (stops_early as_is read (λ x d. Ok (g x, d)) c f.place u.0, way.0, ap (λ (r : Reading). opening (shows r)) way.1 ∙ u.2)
+      by_case (inr (y, p, q)) = absurd (never y f q)

@@ -1,0 +1,8 @@
+use Rattle.document_laws.proofs.Cones.{cones_read, cone_documents_read}
+use Rattle.document_laws.proofs.cones_are_read.Goals as goal
+
+pub returns-clause-lines : goal.returns-clause-lines
+returns-clause-lines c = cones_read
+
+pub returns-clause-documents : goal.returns-clause-documents
+returns-clause-documents c = cone_documents_read

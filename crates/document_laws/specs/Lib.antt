@@ -1,0 +1,3 @@
+pub mod ConeLaws
+pub mod DocumentLaws
+pub mod FaultLaws

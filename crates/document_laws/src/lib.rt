@@ -1,0 +1,39 @@
+//! What follows from the definitions of documents alone, whatever the code: inputs are read exactly where their lines
+//! are in the grammar, and where they are refused, the fault stands at a sign with which no input is in it.
+//! The functions here have no code: their contracts are laws over the definitions.
+#![tactic(auto)]
+
+ghost use Rattle.document_laws.specs.ConeLaws.{ConesAreRead, ConeDocumentsAreRead};
+ghost use Rattle.document_laws.specs.FaultLaws.{ConeFaultsLeave, TableFaultsLeave, TwoTablesFaultsLeave, TablesFaultsLeave, VectorsFaultsLeave, VectorsFaultsLeaveFirst, VectorFaultsLeave};
+ghost use Rattle.document_laws.specs.DocumentLaws.{TableDocumentsAreRead, VectorsDocumentsAreRead, VectorDocumentsAreRead, TwoTablesAreRead, TablesAreRead};
+
+/// Lines are read as a cone exactly where they are one, and so are the bytes of an input.
+pub fn cones_are_read()
+    ensures lines { ConesAreRead }
+    ensures documents { ConeDocumentsAreRead }
+{}
+
+/// Inputs of one table, of two, and of any number are read exactly where their lines are these.
+pub fn tables_are_read()
+    ensures one { TableDocumentsAreRead }
+    ensures two { TwoTablesAreRead }
+    ensures any { TablesAreRead }
+{}
+
+/// Inputs of a table and of vectors, or of one vector, are read exactly where their lines are these.
+pub fn tables_with_vectors_are_read()
+    ensures vectors { VectorsDocumentsAreRead }
+    ensures vector { VectorDocumentsAreRead }
+{}
+
+/// Where the text of an input is refused, the fault stands at a sign with which no input of its kind goes on; where a cone
+/// is refused, or a vector behind a table that was read, at the first such sign.
+pub fn faults_leave_the_grammar()
+    ensures cone { ConeFaultsLeave }
+    ensures table { TableFaultsLeave }
+    ensures two_tables { TwoTablesFaultsLeave }
+    ensures tables { TablesFaultsLeave }
+    ensures vectors { VectorsFaultsLeave }
+    ensures vectors_first { VectorsFaultsLeaveFirst }
+    ensures vector { VectorFaultsLeave }
+{}
