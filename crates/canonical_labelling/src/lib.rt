@@ -1,8 +1,10 @@
 //! Canonical labellings: walks from a start, signatures, and the relabelling that is told of two tables.
 #![tactic(auto)]
 
+mod labels;
 mod laws;
 mod matches;
+mod order;
 mod signatures;
 mod starts;
 mod walks;
@@ -16,3 +18,5 @@ pub use walks::{Start, WalkFault, Walked, walk};
 
 #[cfg(test)]
 mod tests;
+#[cfg(test)]
+mod walk_tests;

@@ -1,10 +1,12 @@
-//! The walk through a table from a start.
+//! Walks through a table from a start.
 
 ghost use Rattle.std.specs.Prelude.{◌≡◌, ◌≢◌, ◌<◌, ℕ, length, IfOk, IfErr, OnOk};
 ghost use Rattle.table_definitions.specs.Places.{IsConnected, IsLeastUnreached};
 ghost use Rattle.labelling_definitions.specs.Labellings.{IsWalked};
 ghost use Rattle.canonical_labelling.specs.declared.walks.WalkFault.TheVariants as TheVariants;
 
+use crate::labels::relabelling_of;
+use crate::order::order_of;
 use gluing_table::{Relabelling, Table};
 use no_memory::NoMemory;
 use perm_four::Perm4;
@@ -51,12 +53,19 @@ impl From<NoMemory> for WalkFault {
     }
 }
 
-/// The table and the relabelling of the walk from a start.
+/// The walk from a start.
 pub fn walk(alloc: Global, table: &Table, start: Start) -> Result<Walked, WalkFault>
     requires { start.tet < length table.now }
     ensures walked { IfOk result (λ w. IsWalked table.now start w.relabelling w.table) }
     ensures connected { OnOk result (IsConnected table.now) }
     ensures fault { IfErr result (λ e. e ≢ WalkFault.NoMemory → (t : ℕ) × (e ≡ WalkFault.NotConnected t) × IsLeastUnreached table.now t) }
 {
-    unreachable!()
+    if let Some(tet) = table.unreached(alloc)? {
+        return Err(WalkFault::NotConnected { tet });
+    }
+    let count = table.rows().len() as u32;
+    let order = order_of(alloc, table, start)?;
+    let relabelling = relabelling_of(alloc, count, &order)?;
+    let table = table.relabel(alloc, &relabelling)?;
+    Ok(Walked { table, relabelling })
 }
