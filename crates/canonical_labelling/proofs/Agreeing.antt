@@ -1,10 +1,10 @@
 -- Two walks of a table from one start agree.
-use Rattle.std.proofs.Common.{◌≡◌, ℕ, zero, suc, ◌+◌, ◌*◌, ◌/◌, ◌%◌, ◌<◌, ◌≤◌, List, [], length, get_or, Option, Some, None, refl, sym, ap, ◌∙◌, subst, arith, inl, inr, ⊎_elim}
+use Rattle.std.proofs.Common.{◌≡◌, ℕ, zero, suc, ◌+◌, ◌*◌, ◌/◌, ◌%◌, ◌<◌, ◌≤◌, List, [], length, get_or, Option, Some, None, refl, sym, ap, ◌∙◌, subst, arith, ⊎_elim}
 use Rattle.std.specs.Prelude.{option_map, slice_index}
 use Rattle.std.specs.List.{slice_index_or}
 use Rattle.std.proofs.lemmas.Bool.{cases_lt}
 use Rattle.std.proofs.lemmas.List.{ext_get_or}
-use Rattle.table_definitions.specs.Permutation.{IsPermutationOfFour, image, preimage, inverse, compose}
+use Rattle.table_definitions.specs.Permutation.{IsPermutationOfFour, preimage, inverse, compose}
 use Rattle.table_definitions.specs.Table.{Gluing, Row, Face, IsTable, glue}
 use Rattle.table_definitions.specs.Relabelling.{Relabelling, IsRelabelling, Carries, stand_in, face_under, gluing_under}
 use Rattle.perm_four.proofs.Permutations.{preimage_below, image-preimage, inverse_permutes, compose_permutes}

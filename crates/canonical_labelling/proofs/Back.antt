@@ -4,7 +4,7 @@ use Rattle.std.specs.Prelude.{option_map, slice_index}
 use Rattle.std.specs.List.{slice_index_or}
 use Rattle.table_definitions.specs.Permutation.{IsPermutationOfFour, image, preimage, inverse, compose}
 use Rattle.table_definitions.specs.Table.{Gluing, Row, Face, IsTable, glue}
-use Rattle.table_definitions.specs.Relabelling.{Relabelling, IsRelabelling, IsRelabelled, Carries, stand_in, face_under, gluing_under}
+use Rattle.table_definitions.specs.Relabelling.{Relabelling, IsRelabelling, Carries, stand_in, face_under, gluing_under}
 use Rattle.perm_four.proofs.Permutations.{image_below, image-compose, preimage-image, preimage_below, image-preimage, image-inverse, inverse_permutes, compose_permutes}
 use Rattle.gluing_table.proofs.Carried.{image_in_range, perm_permutes, comes_from, images_apart, StandsFor}
 use Rattle.canonical_labelling.proofs.Group.{back_again, carried_twice}

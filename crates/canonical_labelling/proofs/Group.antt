@@ -1,6 +1,6 @@
 -- Equations of permutations.
 use Rattle.std.proofs.Common.{◌≡◌, List, ℕ, sym, ap, ◌∙◌}
-use Rattle.table_definitions.specs.Permutation.{IsPermutationOfFour, inverse, compose, identity}
+use Rattle.table_definitions.specs.Permutation.{IsPermutationOfFour, inverse, compose}
 use Rattle.perm_four.proofs.Permutations.{inverse_permutes, inverse-inverse, inverse-of-compose, compose_permutes, compose-compose, compose-inverse, inverse-compose, compose-identity, identity-compose}
 
 -- what goes before can be taken away

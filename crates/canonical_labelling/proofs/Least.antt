@@ -1,12 +1,12 @@
 -- The least text of the walks from all starts is the signature.
-use Rattle.std.proofs.Common.{◌≡◌, ℕ, ◌+◌, ◌*◌, ◌/◌, ◌%◌, ◌<◌, ◌≤◌, Bool, true, false, List, [], ◌∷◌, length, Option, Some, None, refl, sym, ap, ◌∙◌, subst, arith, inl, inr, ⊎_elim}
-use Rattle.std.specs.Prelude.{not, find, if◌then◌else◌, slice_index}
+use Rattle.std.proofs.Common.{◌≡◌, ℕ, ◌+◌, ◌*◌, ◌/◌, ◌%◌, ◌<◌, ◌≤◌, Bool, true, false, List, [], ◌∷◌, length, Some, None, refl, sym, ap, ◌∙◌, subst, arith, ⊎_elim}
+use Rattle.std.specs.Prelude.{not, find, if◌then◌else◌}
 use Rattle.std.specs.List.{list_all, slice_index_or}
 use Rattle.std.proofs.lemmas.Bool.{and_parts, cases_lt, le-ltb, eq-eqb}
 use Rattle.table_definitions.specs.Lists.{is_list_before}
-use Rattle.table_definitions.specs.Permutation.{IsPermutationOfFour, words, index, inverse}
+use Rattle.table_definitions.specs.Permutation.{IsPermutationOfFour, words, index}
 use Rattle.table_definitions.specs.Table.{Gluing, Row, Face, IsTable, faces}
-use Rattle.table_definitions.specs.Relabelling.{Relabelling, IsRelabelling, IsRelabelled, Carries, stand_in}
+use Rattle.table_definitions.specs.Relabelling.{IsRelabelling, IsRelabelled, stand_in}
 use Rattle.signature_definitions.specs.WalkOrder.{is_ordered_at, first_unordered, IsWalkOrdered}
 use Rattle.signature_definitions.specs.Spelling.{Spells, IsSignature, spelling}
 use Rattle.signature_codec.proofs.Simulation.{by_bool}

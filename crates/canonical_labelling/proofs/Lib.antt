@@ -1,11 +1,3 @@
-mod Growing
-mod Labelled
-mod Marking
-mod NewGluings
-mod Placing
-mod Reaching
-mod Seeing
-mod Sound
 pub mod Group
 pub mod Standing
 pub mod Back
@@ -16,3 +8,11 @@ pub mod Told
 pub mod TextOrder
 pub mod Least
 pub mod Matching
+mod Growing
+mod Labelled
+mod Marking
+mod NewGluings
+mod Placing
+mod Reaching
+mod Seeing
+mod Sound

@@ -1,8 +1,8 @@
 -- The first walk of the second table that leads to the walked first one tells the least relabelling.
-use Rattle.std.proofs.Common.{◌≡◌, ℕ, ◌+◌, ◌*◌, ◌/◌, ◌%◌, ◌<◌, ◌≤◌, Bool, true, false, List, [], ◌∷◌, ◌++◌, length, map, take, get_or, refl, sym, ap, ◌∙◌, subst, arith, inl, inr, ⊎_elim}
-use Rattle.std.specs.Prelude.{Option, Some, None, IfSome, IfNone, ◌⊎◌, ◌≢◌, ◌==◌, ◌&&◌, ◌||◌, not, nat_lt, slice_index, IsPermutation}
+use Rattle.std.proofs.Common.{◌≡◌, ℕ, ◌+◌, ◌*◌, ◌/◌, ◌%◌, ◌<◌, true, false, List, [], ◌∷◌, ◌++◌, length, map, take, get_or, refl, sym, ap, ◌∙◌, subst, arith, ⊎_elim}
+use Rattle.std.specs.Prelude.{Option, Some, None, IfSome, IfNone, ◌==◌, ◌&&◌, not, nat_lt, slice_index}
 use Rattle.std.specs.List.{slice_index_or}
-use Rattle.std.proofs.lemmas.Bool.{or_cases, and_parts, ltb-true, lt-ltb, eqb-true, cases_lt}
+use Rattle.std.proofs.lemmas.Bool.{or_cases, and_parts, ltb-true, lt-ltb, eqb-true}
 use Rattle.std.proofs.lemmas.List.{ext_get_or, get_or-take, length-take}
 use Rattle.std.proofs.lemmas.List.FromFn.{get_or-map-range_with_len, length-map-range_with_len, map-range_with_len_more}
 use Rattle.table_definitions.specs.Lists.{has, below}
@@ -11,13 +11,12 @@ use Rattle.table_definitions.specs.Table.{Gluing, Row, IsTable}
 use Rattle.table_definitions.specs.Relabelling.{Relabelling, IsRelabelling, IsRelabelled, Carries, stand_in}
 use Rattle.signature_codec.proofs.Simulation.{by_bool}
 use Rattle.perm_four.proofs.Permutations.{words_permute, index-words, index_below, words_at, inverse_permutes, inverse-inverse, compose-identity, identity-compose}
-use Rattle.gluing_table.specs.Positions.{IsFirstBad, is_bad_at}
+use Rattle.gluing_table.specs.Positions.{IsFirstBad}
 use Rattle.gluing_table.proofs.Bijections.{there, get_or-any}
 use Rattle.gluing_table.proofs.Carried.{image_in_range, images_apart, length-images, perm_permutes, comes_from}
-use Rattle.labelling_definitions.specs.Labellings.{Start, IsWalked, Relabels, is_stand_in_before, IsLeastRelabelling}
+use Rattle.labelling_definitions.specs.Labellings.{IsWalked, Relabels, is_stand_in_before, IsLeastRelabelling}
 use Rattle.canonical_labelling.specs.Starts.{start_at, start_back_at, IsNoMatch, IsFirstMatch}
-use Rattle.canonical_labelling.specs.Between.{back_of, inverted, after_of, after, between, images_between, perms_between, made}
-use Rattle.canonical_labelling.proofs.Standing.{same_relabelling}
+use Rattle.canonical_labelling.specs.Between.{inverted, after, between, images_between, perms_between}
 use Rattle.canonical_labelling.proofs.Back.{inverted_stands, inverted_relabelling, carries_back, after_stands, after_relabelling, carries_on}
 
 -- where the start of a number begins, as a gluing

@@ -1,13 +1,12 @@
 -- Of signatures and of relabellings that are told there is one, and what they tell.
-use Rattle.std.proofs.Common.{◌≡◌, ℕ, ◌<◌, ◌≤◌, Bool, true, false, List, [], ◌∷◌, length, Option, Some, None, refl, sym, ap, ◌∙◌, subst, arith, inl, inr, ⊎_elim}
+use Rattle.std.proofs.Common.{◌≡◌, ℕ, ◌<◌, ◌≤◌, Bool, true, false, List, [], ◌∷◌, length, Some, refl, sym, ap, ◌∙◌, subst, arith, inl, inr}
 use Rattle.std.specs.Prelude.{◌⊎◌, ◌==◌, ◌||◌, ◌&&◌, ◌↔◌, nat_lt, option_map}
-use Rattle.std.specs.List.{slice_index_or}
 use Rattle.std.proofs.lemmas.Bool.{eqb-true, eq-eqb, ltb-true, ltb-false, lt-ltb, and_parts, or_cases}
 use Rattle.table_definitions.specs.Lists.{is_list_before}
 use Rattle.table_definitions.specs.Permutation.{IsPermutationOfFour, index}
 use Rattle.table_definitions.specs.Table.{Gluing, Row, Face, IsTable, glue}
 use Rattle.table_definitions.specs.Places.{Place, whole, across, IsConnected}
-use Rattle.table_definitions.specs.Relabelling.{Relabelling, IsRelabelled, Carries, stand_in, face_under, gluing_under}
+use Rattle.table_definitions.specs.Relabelling.{Relabelling, IsRelabelled, stand_in, face_under, gluing_under}
 use Rattle.table_definitions.proofs.TableLaws.{glued_face, glued_tet}
 use Rattle.table_definitions.proofs.ChainLaws.{kept_along}
 use Rattle.signature_definitions.specs.Spelling.{Spells, IsSignature}
@@ -17,7 +16,7 @@ use Rattle.perm_four.proofs.Permutations.{index_apart}
 use Rattle.gluing_table.proofs.Carried.{perm_permutes}
 use Rattle.labelling_definitions.specs.Labellings.{Relabels, is_stand_in_before, IsLeastRelabelling}
 use Rattle.canonical_labelling.proofs.Standing.{same_relabelling}
-use Rattle.canonical_labelling.proofs.Kept.{relabels_back, relabels_on, Crossed, crossed}
+use Rattle.canonical_labelling.proofs.Kept.{relabels_back, relabels_on, crossed}
 use Rattle.canonical_labelling.proofs.Agreeing.{one_behind}
 
 neither : (a b : Bool) → (a || b) ≡ false → (a ≡ false) × (b ≡ false)

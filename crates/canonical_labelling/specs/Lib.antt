@@ -1,3 +1,3 @@
-pub mod Orders
 pub mod Starts
 pub mod Between
+pub mod Orders

@@ -1,7 +1,7 @@
-use Rattle.std.proofs.Common.{◌≡◌, ◌<◌, ℕ, length, List, sym, ap, ◌∙◌, subst, arith}
+use Rattle.std.proofs.Common.{◌≡◌, ℕ, length, List, sym, ap, ◌∙◌, arith}
 use Rattle.gluing_table.proofs.Carried.{length-images}
-use Rattle.canonical_labelling.specs.Between.{images_between, perms_between}
-use Rattle.canonical_labelling.proofs.Matching.{AreOlds, olds_by, listed_range, listed_between}
+use Rattle.canonical_labelling.specs.Between.{perms_between}
+use Rattle.canonical_labelling.proofs.Matching.{olds_by, listed_range, listed_between}
 use Rattle.canonical_labelling.proofs.matches.between.Goals as goal
 
 pub old_numbers-requires : goal.old_numbers-requires

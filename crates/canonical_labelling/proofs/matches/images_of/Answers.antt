@@ -1,4 +1,4 @@
-use Rattle.std.proofs.Common.{◌≡◌, ◌+◌, ◌<◌, ℕ, length, sym, ap, ◌∙◌, arith}
+use Rattle.std.proofs.Common.{length, ap, arith}
 use Rattle.std.specs.Prelude.{slice_index}
 use Rattle.gluing_table.proofs.Carried.{image_in_range}
 use Rattle.canonical_labelling.proofs.Matching.{pushed}

@@ -1,4 +1,4 @@
-use Rattle.std.proofs.Common.{◌≡◌, subst, arith}
+use Rattle.std.proofs.Common.{subst, arith}
 use Rattle.labelling_definitions.specs.Labellings.{Start, IsWalked}
 use Rattle.canonical_labelling.specs.Starts.{start_back_at}
 use Rattle.canonical_labelling.proofs.Agreeing.{one_walk}

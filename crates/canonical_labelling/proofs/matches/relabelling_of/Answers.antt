@@ -1,4 +1,3 @@
-use Rattle.std.proofs.Common.{◌≡◌, sym, ◌∙◌}
 use Rattle.canonical_labelling.proofs.Matching.{none_bad}
 use Rattle.canonical_labelling.proofs.matches.relabelling_of.Goals as goal
 

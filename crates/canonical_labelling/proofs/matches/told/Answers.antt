@@ -1,4 +1,4 @@
-use Rattle.std.proofs.Common.{◌≡◌, ◌*◌, ◌<◌, ℕ, length, sym, ap, ◌∙◌, subst}
+use Rattle.std.proofs.Common.{◌*◌, ◌<◌, ℕ, length, sym, ap, ◌∙◌, subst}
 use Rattle.gluing_table.proofs.Carried.{length-images}
 use Rattle.labelling_definitions.specs.Labellings.{Start, IsWalked, IsLeastRelabelling}
 use Rattle.canonical_labelling.specs.Between.{between}

@@ -1,4 +1,4 @@
-use Rattle.std.proofs.Common.{◌≡◌, ◌≤◌, ℕ, length, ◌∙◌, arith, inl, inr}
+use Rattle.std.proofs.Common.{◌∙◌, inl, inr}
 use Rattle.canonical_labelling.proofs.TextOrder.{ended_from}
 use Rattle.canonical_labelling.proofs.signatures.is_before.Goals as goal
 use Rattle.canonical_labelling.proofs.signatures.is_before.Goals.{then-loop-i-test+else-i-second, else-loop-i-test}

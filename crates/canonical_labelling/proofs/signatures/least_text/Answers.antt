@@ -1,4 +1,4 @@
-use Rattle.std.proofs.Common.{◌≡◌, ◌*◌, ◌+◌, ◌<◌, ℕ, length, subst, sym, ap, ◌∙◌, arith}
+use Rattle.std.proofs.Common.{◌≡◌, ◌*◌, length, subst, ap, arith}
 use Rattle.labelling_definitions.specs.Labellings.{Start}
 use Rattle.canonical_labelling.specs.Starts.{IsTextFrom, IsLeastText}
 use Rattle.canonical_labelling.proofs.Least.{least_begun, least_more}

@@ -1,4 +1,4 @@
-use Rattle.std.proofs.Common.{◌≡◌, ℕ, length, arith}
+use Rattle.std.proofs.Common.{arith}
 use Rattle.canonical_labelling.proofs.Least.{empty_signature, least_is_signature}
 use Rattle.canonical_labelling.proofs.signatures.signature.Goals as goal
 

@@ -1,4 +1,4 @@
-use Rattle.std.proofs.Common.{◌≡◌, subst}
+use Rattle.std.proofs.Common.{subst}
 use Rattle.signature_codec.specs.Walks.{StopsAt}
 use Rattle.canonical_labelling.proofs.Least.{never_unordered}
 use Rattle.canonical_labelling.proofs.signatures.text_of.Goals as goal
