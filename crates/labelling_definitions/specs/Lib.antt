@@ -1,1 +1,2 @@
 pub mod Labellings
+pub mod Census
