@@ -6,6 +6,8 @@ pub mod OptionWalk
 pub mod LeafFaults
 pub mod ProgramWalk
 pub mod Spelled
+pub mod NeverRead
 pub mod DashedWords
+pub mod Repeats
 pub mod Asked
 pub mod WordLists

@@ -1,5 +1,5 @@
 // Reads the words.
-ghost use Rattle.std.specs.Prelude.{◌≡◌, false, codes, map, IfOk, OnOk};
+ghost use Rattle.std.specs.Prelude.{◌≡◌, false, count_by, codes, map, IfOk, OnOk};
 ghost use Rattle.std.specs.List.{list_any};
 ghost use Rattle.std.specs.Str.{bytes_eq};
 ghost use Rattle.std.specs.Option.{option_map};
@@ -11,7 +11,7 @@ ghost use Rattle.command_definitions.specs.Requests.{is_built};
 ghost use Rattle.command_definitions.specs.Words.{accepted_request, request_of};
 ghost use Rattle.command_words.specs.Apps.{request_found, values_found};
 ghost use Rattle.command_words.specs.Requests.{request, request as request_asked, parse_fault, texts_of, AnswersWords};
-ghost use Rattle.command_words.specs.Texts.{AreTexts, has_dashes};
+ghost use Rattle.command_words.specs.Texts.{AreTexts, has_dashes, ends_option, is_naming, is_repeated, has_repeats};
 
 use crate::WordsFault;
 use crate::program::program;
@@ -75,6 +75,51 @@ fn has_dashes(words: &[&str]) -> bool
     words.iter().any(|word| *word == "--")
 }
 
+// Whether nothing follows an option in its word, or a value.
+fn ends_option(rest: &[u8]) -> bool
+    ensures { result ≡ ends_option rest.now }
+{
+    match rest.first() {
+        None => true,
+        Some(byte) => *byte == b'=',
+    }
+}
+
+// Whether a word names the option, with its value or without.
+fn is_naming(option: &str, word: &str) -> bool
+    ensures { result ≡ is_naming option.now word.now }
+{
+    match word.as_bytes().strip_prefix(option.as_bytes()) {
+        None => false,
+        Some(rest) => ends_option(rest),
+    }
+}
+
+// How many words name the option.
+fn times_named(option: &str, words: &[&str]) -> usize
+    ensures { result ≡ count_by (λ w. is_naming option.now w) (texts words.now) }
+{
+    words.iter().filter(|word| is_naming(option, word)).count()
+}
+
+// Whether more than one word names the option.
+fn is_repeated(words: &[&str], option: &str) -> bool
+    ensures { result ≡ is_repeated (texts words.now) option.now }
+{
+    times_named(option, words) > 1
+}
+
+// Whether some option is named by more than one word. The parser is to have no say in it.
+fn has_repeats(words: &[&str]) -> bool
+    ensures { result ≡ has_repeats (texts words.now) }
+{
+    is_repeated(words, "--coords")
+        || is_repeated(words, "--order")
+        || is_repeated(words, "--max-entry")
+        || is_repeated(words, "--seed")
+        || is_repeated(words, "--moves")
+}
+
 // The fault of a parse: want of memory, or words that are not in the grammar.
 fn fault_of(error: &Error) -> WordsFault
     ensures { result ≡ parse_fault (kind_of error.now) }
@@ -105,6 +150,9 @@ pub(crate) fn read_request(alloc: Global, words: &Words) -> Result<Request, Word
     let texts = texts_of(alloc, words)?;
     let texts = texts.as_slice();
     if has_dashes(texts) {
+        return Err(WordsFault::Usage);
+    }
+    if has_repeats(texts) {
         return Err(WordsFault::Usage);
     }
     parse(alloc, texts)

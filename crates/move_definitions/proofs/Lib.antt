@@ -1,3 +1,7 @@
+pub mod CoreTexts
+pub mod MoveReadingLaws
+pub mod MoveFoundLaws
+pub mod WrittenLaws
 pub mod Computed
 pub mod MoveEvaluators
 pub mod MoveExamples

@@ -2,4 +2,5 @@ pub mod Lines
 pub mod Outcomes
 pub mod Enumerations
 pub mod Information
+pub mod Scripts
 pub mod Answers

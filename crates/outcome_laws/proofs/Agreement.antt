@@ -4,15 +4,17 @@ use Rattle.std.specs.Prelude.{Option, Some, None, Result, Ok, Err, nat_lt, codes
 use Rattle.std.specs.Bool.{MatchBool}
 use Rattle.double_description.specs.declared.picker.Order.TheVariants.{Free}
 use Rattle.signature_definitions.specs.SignatureText.{InputFault}
-use Rattle.document_definitions.specs.Documents.{worded, table_document, vectors_document, cone_document}
+use Rattle.document_definitions.specs.Documents.{worded, table_document, vectors_document, steps_document, cone_document}
 use Rattle.command_definitions.specs.Requests.{Request, verify, info, surfaces, rays, describe, lift, crush, play, sig, same, group, check, descend, make, bulk, Order as OrderName, given, short, zeros}
 use Rattle.command_definitions.specs.Words.{accepted_request}
 use Rattle.outcome_definitions.specs.Outcomes.{Outcome, too_long_outcome, IsReadOutcome}
 use Rattle.outcome_definitions.specs.Enumerations.{IsEnumerationAnswer, order_of, ray_enumeration, surface_enumeration}
 use Rattle.outcome_definitions.specs.Information.{IsInformationAnswer}
+use Rattle.outcome_definitions.specs.Scripts.{IsScriptAnswer}
 use Rattle.outcome_definitions.specs.Answers.{most_bytes, verify_outcome, IsAnswerTo, IsOutcomeOf, IsOutcome}
 use Rattle.outcome_laws.proofs.Enumerated.{one_enumeration}
 use Rattle.outcome_laws.proofs.Informed.{one_information}
+use Rattle.outcome_laws.proofs.Scripted.{one_script}
 
 -- a word names an order
 named : (order : OrderName) → order_of order ≢ Free
@@ -38,7 +40,7 @@ one_answer (rays order most) bytes o p h k =
 one_answer (describe coords) bytes o p h k = absurd h
 one_answer lift bytes o p h k = absurd h
 one_answer crush bytes o p h k = absurd h
-one_answer play bytes o p h k = absurd h
+one_answer play bytes o p h k = one_read (steps_document bytes) IsScriptAnswer o p (λ d. one_script d o p) h k
 one_answer sig bytes o p h k = absurd h
 one_answer same bytes o p h k = absurd h
 one_answer group bytes o p h k = absurd h

@@ -2,4 +2,5 @@ pub mod Steps
 pub mod Enumerated
 pub mod Numbered
 pub mod Informed
+pub mod Scripted
 pub mod Agreement

@@ -1,6 +1,6 @@
 -- The facets behind faces, one label after the other.
 use Rattle.std.proofs.Common.{◌≡◌, ℕ, zero, suc, ◌+◌, ◌-◌, ◌<◌, ◌≤◌, Bool, true, false, cond, List, [], ◌∷◌, ◌++◌, length, map, drop, get_or, refl, sym, ap, ◌∙◌, subst, Option, Some, None, arith, inl, inr}
-use Rattle.std.specs.Prelude.{◌⊎◌, ◌==◌, ◌||◌, nat_lt, filter, filter_map, option_map, if◌then◌else◌, All, not, Result, Ok, Err}
+use Rattle.std.specs.Prelude.{◌⊎◌, ◌==◌, ◌||◌, nat_lt, filter, filter_map, option_map, if◌then◌else◌, All, Result, Ok, Err}
 use Rattle.std.specs.List.{range_with_len, list_any, list_all, cons_option}
 use Rattle.std.specs.Option.{option_or}
 use Rattle.std.proofs.lemmas.List.Elements.{filter_map-append}
@@ -11,14 +11,14 @@ use Rattle.std.proofs.lemmas.List.FromFn.{length-range_with_len, get_or-range_wi
 use Rattle.table_definitions.specs.Lists.{has, below, first_some, same_list, pairs_of}
 use Rattle.table_definitions.specs.Permutation.{four}
 use Rattle.table_definitions.specs.Table.{Gluing, Row, glue, IsTable}
-use Rattle.move_definitions.specs.Moves.{Move, Facet, MoveFault, facet, facet_fault, found_labels, old_labels, old_facets, tets_before, own_facet, opposite, facet_behind, boundary, repeated, pair_fault, move_fault, no_such_tet}
+use Rattle.move_definitions.specs.Moves.{Move, Facet, MoveFault, facet, facet_fault, found_labels, tets_before, own_facet, opposite, facet_behind, boundary, repeated, pair_fault, move_fault, no_such_tet}
 use Rattle.perm_four.proofs.ListFacts.{list_all-below, same_list-true, first_some-from, first_some-none_from, first_some-is_none}
 use Rattle.pachner_moves.specs.Faults.{facets_below, first_facet_fault, found_facets, pairs_fault, verdict, answer, IsAnswer, IsPattern}
 use Rattle.pachner_moves.specs.declared.legality.MoveFault.{MoveFault as Fault}
 
 -- lists of labels
 
-range-push : (a n : ℕ) → range_with_len a n ++ (a + n) ∷ [] ≡ range_with_len a (suc n)
+pub range-push : (a n : ℕ) → range_with_len a n ++ (a + n) ∷ [] ≡ range_with_len a (suc n)
 range-push a zero = ap (λ k. k ∷ []) (omega arith)
 range-push a (suc n) = ap (λ ks. a ∷ ks) (ap (λ k. range_with_len (a + 1) n ++ k ∷ []) (omega arith) ∙ range-push (a + 1) n)
 
@@ -28,16 +28,16 @@ range_step s label l =
     let b : suc (label - s) ≡ label + 1 - s = omega arith in
     ap (λ k. range_with_len s (label - s) ++ k ∷ []) (sym a) ∙ range-push s (label - s) ∙ ap (range_with_len s) b
 
-from_four : (s : ℕ) → s < 5 → drop s four ≡ range_with_len s (4 - s)
+pub from_four : (s : ℕ) → s < 5 → drop s four ≡ range_with_len s (4 - s)
 from_four s l = same_list-true (drop s four) (range_with_len s (4 - s)) (list_all-below (λ k. same_list (drop k four) (range_with_len k (4 - k))) 5 refl s l)
 
-before_label : (s i : ℕ) → s < 5 → i < 5 → filter (λ l. nat_lt l i) (drop s four) ≡ range_with_len s (i - s)
+pub before_label : (s i : ℕ) → s < 5 → i < 5 → filter (λ l. nat_lt l i) (drop s four) ≡ range_with_len s (i - s)
 before_label s i ls li =
     same_list-true (filter (λ l. nat_lt l i) (drop s four)) (range_with_len s (i - s))
     (list_all-below (λ j. same_list (filter (λ l. nat_lt l j) (drop s four)) (range_with_len s (j - s))) 5
     (list_all-below (λ k. list_all (λ j. same_list (filter (λ l. nat_lt l j) (drop k four)) (range_with_len k (j - k))) (below 5)) 5 refl s ls) i li)
 
-to_five : (s : ℕ) → s < 5 → drop s (below 5) ≡ drop s four ++ 4 ∷ []
+pub to_five : (s : ℕ) → s < 5 → drop s (below 5) ≡ drop s four ++ 4 ∷ []
 to_five s l = same_list-true (drop s (below 5)) (drop s four ++ 4 ∷ []) (list_all-below (λ k. same_list (drop k (below 5)) (drop k four ++ 4 ∷ [])) 5 refl s l)
 
 pub no_facets : (rows : List Row) (m : Move) (label : ℕ) (facets : List Facet) → label ≡ length m.core → facets ≡ [] → facets ≡ facets_below rows m label
@@ -250,7 +250,7 @@ or_none : {A : Type 0} (o : Option A) → option_or o None ≡ o
 or_none None = refl
 or_none (Some x) = refl
 
-some_facet : (rows : List Row) (m : Move) (i : ℕ) (o : Option Facet) → facet_fault rows m i o ≡ None → (f : Facet) × (o ≡ Some f)
+pub some_facet : (rows : List Row) (m : Move) (i : ℕ) (o : Option Facet) → facet_fault rows m i o ≡ None → (f : Facet) × (o ≡ Some f)
 some_facet rows m i None e = absurd cc
 some_facet rows m i (Some f) e = (f, refl)
 
@@ -278,7 +278,7 @@ no_facet_pair : (rows : List Row) → None ≡ pairs_fault rows []
 unfolding pairs_fault
 no_facet_pair rows = refl
 
-abbrev pairs_first : List Row → Move → ℕ → Option MoveFault
+abbrev pub pairs_first : List Row → Move → ℕ → Option MoveFault
 pairs_first rows m s = first_some (λ p. pair_fault rows (facet rows m p.0) (facet rows m p.1)) (filter (λ p. nat_lt p.0 p.1) (pairs_of (drop s four) (drop s four)))
 
 pairs_are : (rows : List Row) (m : Move) (s : ℕ) → 0 < s → s < 5 → first_some (fault_of rows m) (drop s four) ≡ None → pairs_first rows m s ≡ pairs_fault rows (filter_map (facet rows m) (drop s four))
@@ -296,7 +296,7 @@ pairs_are rows m (suc (suc (suc zero))) low high none = no_pair rows (facet rows
 pairs_are rows m (suc (suc (suc (suc zero)))) low high none = no_facet_pair rows
 pairs_are rows m (suc (suc (suc (suc (suc s))))) low high none = absurd (omega arith)
 
-move_fault_is : (rows : List Row) (m : Move) → m.tet < length rows → move_fault rows m ≡ option_or (first_facet_fault rows m) (pairs_first rows m (length m.core))
+pub move_fault_is : (rows : List Row) (m : Move) → m.tet < length rows → move_fault rows m ≡ option_or (first_facet_fault rows m) (pairs_first rows m (length m.core))
 unfolding move_fault
 move_fault_is rows m l = rw (lt-ltb m.tet (length rows) l) refl
 

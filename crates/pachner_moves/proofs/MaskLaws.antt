@@ -1,13 +1,13 @@
 -- What holds of cores, mask by mask.
-use Rattle.std.proofs.Common.{◌≡◌, ℕ, ◌<◌, ◌≤◌, ◌/◌, ◌^◌, Bool, true, false, List, [], ◌∷◌, length, refl, sym, ap, ◌∙◌, Option, Some}
-use Rattle.std.specs.Prelude.{◌==◌, ◌&&◌, nat_lt, slice_index, bit_and, if◌then◌else◌, not}
-use Rattle.std.proofs.lemmas.Bool.{eqb-true}
-use Rattle.table_definitions.specs.Lists.{has, below}
+use Rattle.std.proofs.Common.{◌≡◌, ℕ, ◌<◌, ◌/◌, ◌^◌, Bool, true, false, List, [], ◌∷◌, length, refl, Option, Some, arith, inl, inr}
+use Rattle.std.specs.Prelude.{◌⊎◌, ◌||◌, filter, ◌==◌, ◌&&◌, nat_lt, slice_index, bit_and, if◌then◌else◌, not}
+use Rattle.std.proofs.lemmas.Bool.{eqb-true, or_cases}
+use Rattle.table_definitions.specs.Lists.{has, below, same_list}
 use Rattle.std.specs.List.{list_all}
 use Rattle.table_definitions.specs.Permutation.{four, is_permutation, IsPermutationOfFour, inverse, preimage, index}
-use Rattle.move_definitions.specs.Moves.{vertices_by_label}
+use Rattle.move_definitions.specs.Moves.{IsCore, vertices_by_label}
 use Rattle.perm_four.proofs.ListFacts.{list_all-below}
-use Rattle.pachner_moves.specs.Cores.{core_of, has_bit}
+use Rattle.pachner_moves.specs.Cores.{core_of}
 
 abbrev same_test : Bool → Bool → Bool
 same_test a b = if a then b else not b
@@ -43,3 +43,10 @@ labels_index m l =
 
 pub some_same : (o : Option (List ℕ)) (p q : List ℕ) → o ≡ Some p → o ≡ Some q → p ≡ q
 some_same o p q e f = cc
+
+pub is_core : (m : ℕ) → 0 < m → m < 16 → IsCore (core_of m)
+is_core m l h = pick (or_cases (m == 0) (nat_lt 0 (length (core_of m)) && same_list (filter (has (core_of m)) four) (core_of m)) (list_all-below (λ k. (k == 0) || (nat_lt 0 (length (core_of k)) && same_list (filter (has (core_of k)) four) (core_of k))) 16 refl m h))
+  where
+    pick : ((m == 0) ≡ true) ⊎ ((nat_lt 0 (length (core_of m)) && same_list (filter (has (core_of m)) four) (core_of m)) ≡ true) → IsCore (core_of m)
+    pick (inl e) = absurd (let q = eqb-true m 0 e in omega arith)
+    pick (inr e) = e

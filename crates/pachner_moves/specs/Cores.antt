@@ -1,7 +1,6 @@
 -- Cores by the bits of a mask.
-use Rattle.std.specs.Prelude.{◌≡◌, ℕ, ◌/◌, ◌%◌, ◌^◌, ◌<◌, ◌≤◌, Bool, ◌==◌, List, filter, sum_by}
-use Rattle.table_definitions.specs.Permutation.{four, IsPermutationOfFour}
-use Rattle.move_definitions.specs.Moves.{vertices_by_label}
+use Rattle.std.specs.Prelude.{ℕ, ◌/◌, ◌%◌, ◌^◌, Bool, ◌==◌, List, filter, sum_by}
+use Rattle.table_definitions.specs.Permutation.{four}
 
 -- whether the mask has bit v
 abbrev pub has_bit : ℕ → ℕ → Bool

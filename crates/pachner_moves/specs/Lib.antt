@@ -1,3 +1,4 @@
 pub mod Cores
 pub mod Masks
 pub mod Faults
+pub mod Facets

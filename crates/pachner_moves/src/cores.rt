@@ -1,9 +1,9 @@
 //! Cores: the vertices of a tetrahedron that a move keeps together.
 
-ghost use Rattle.std.specs.Prelude.{◌≡◌, ◌<◌, ◌≤◌, ◌↔◌, length, IsSome, IfSome};
+ghost use Rattle.std.specs.Prelude.{◌≡◌, ◌<◌, ◌≤◌, ◌-◌, ◌↔◌, length, drop, IsSome, IfSome};
 ghost use Rattle.table_definitions.specs.Lists.{has};
-ghost use Rattle.table_definitions.specs.Permutation.{IsPermutationOfFour, inverse};
-ghost use Rattle.move_definitions.specs.Moves.{vertices_by_label};
+ghost use Rattle.table_definitions.specs.Permutation.{four, IsPermutationOfFour, inverse};
+ghost use Rattle.move_definitions.specs.Moves.{IsCore, vertices_by_label};
 ghost use Rattle.pachner_moves.specs.Cores.{core_of};
 
 use perm_four::Perm4;
@@ -14,6 +14,9 @@ const LABELS: [u8; 16] = [0, 0, 6, 0, 8, 2, 12, 0, 9, 3, 13, 1, 16, 4, 18, 0];
 
 /// For each mask the number of vertices of the core.
 const SIZES: [u8; 16] = [0, 1, 1, 2, 1, 2, 2, 3, 1, 2, 2, 3, 2, 3, 3, 4];
+
+/// By their number, the masks of the last vertices.
+const LAST: [u8; 5] = [15, 15, 14, 12, 8];
 
 /// Some of the vertices of a tetrahedron, at least one. Contracts see it as the list of its vertices, ascending.
 #[derive(Clone, Copy, Debug, PartialEq, Eq)]
@@ -62,10 +65,20 @@ impl Core {
     /// The number of its vertices.
     pub fn size(self) -> u8
         ensures value { result ≡ length self }
+        ensures core { IsCore self }
         ensures some { 0 < result }
         ensures most { result ≤ 4 }
     {
         SIZES[self.mask as usize]
+    }
+
+    /// The core of the move that leads back: the last vertices, as many as five less those of this core.
+    pub fn opposite(self) -> Core
+        ensures { result ≡ drop (length self - 1) four }
+    {
+        Core {
+            mask: LAST[self.size() as usize],
+        }
     }
 
     /// The label of each vertex: those of the core come first, and then the others.

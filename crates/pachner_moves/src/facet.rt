@@ -49,7 +49,7 @@ pub fn own_facet(m: Move) -> Facet
 
 /// The vertex with a label, or 4.
 #[tactic(auto, unfolding(table_definitions::specs::Permutation::preimage))]
-fn vertex_of(labels: &[u8; 4], label: u8) -> u8
+pub fn vertex_of(labels: &[u8; 4], label: u8) -> u8
     ensures value { result ≡ preimage labels.now label }
     ensures in_range { result ≤ 4 }
 {
@@ -124,7 +124,7 @@ fn labels_reached(labels: &[u8; 4], perm: Perm4) -> [u8; 4]
 }
 
 /// The same label, or another in its place.
-fn replace_label(label: u8, old: u8, new: u8) -> u8
+pub fn replace_label(label: u8, old: u8, new: u8) -> u8
     ensures { result ≡ in_place_of old new label }
 {
     if label == old { new } else { label }

@@ -33,7 +33,7 @@ pub struct Pattern {
 }
 
 /// Whether a tetrahedron is that of a facet.
-fn is_of_facet(facets: &[Facet], tet: u32) -> bool
+pub fn is_of_facet(facets: &[Facet], tet: u32) -> bool
     ensures { result ≡ has (map (λ f. f.tet) facets.now) tet }
 {
     for facet in facets {

@@ -3,11 +3,14 @@
 
 mod cores;
 mod facet;
+mod facets;
 mod legality;
+mod moving;
 
 pub use cores::{Core, Move};
 pub use facet::Facet;
 pub use legality::{MoveFault, Pattern, legal};
+pub use moving::{Undo, apply, inverse_move, take_back, taking_back_law};
 
 #[cfg(test)]
 mod tests;

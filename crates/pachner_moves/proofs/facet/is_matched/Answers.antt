@@ -1,4 +1,4 @@
-use Rattle.std.proofs.Common.{ap, ◌∙◌, List, ℕ, sym}
+use Rattle.std.proofs.Common.{ap, ◌∙◌, List, ℕ}
 use Rattle.table_definitions.specs.Table.{Gluing, glue}
 use Rattle.table_definitions.specs.Permutation.{compose}
 use Rattle.move_definitions.specs.Moves.{Facet, opposite}

@@ -1,4 +1,4 @@
-use Rattle.std.proofs.Common.{ap, ◌∙◌, arith, refl}
+use Rattle.std.proofs.Common.{ap, ◌∙◌, refl}
 use Rattle.move_definitions.specs.Moves.{Facet, Move, facet, boundary, repeated}
 use Rattle.pachner_moves.proofs.FindLaws.{is_boundary, repeated_by, free_by}
 use Rattle.pachner_moves.proofs.legality.find_facet.Goals as goal

@@ -1,4 +1,4 @@
-use Rattle.std.proofs.Common.{ap, ◌∙◌, arith, sym}
+use Rattle.std.proofs.Common.{ap, ◌∙◌, sym}
 use Rattle.move_definitions.specs.Moves.{Facet}
 use Rattle.pachner_moves.proofs.FindLaws.{any_at}
 use Rattle.pachner_moves.proofs.legality.is_of_facet.Goals as goal

@@ -1,7 +1,7 @@
-use Rattle.std.proofs.Common.{ap, ◌∙◌, arith, refl, sym, ◌≡◌, ◌<◌, ◌≤◌, length, List, ℕ}
+use Rattle.std.proofs.Common.{ap, arith, refl, ◌≡◌, length, List}
 use Rattle.std.proofs.lemmas.Result.{err_from_is_err_and}
 use Rattle.table_definitions.specs.Table.{Row}
-use Rattle.move_definitions.specs.Moves.{Move, own_facet, no_such_tet}
+use Rattle.move_definitions.specs.Moves.{Move, no_such_tet}
 use Rattle.pachner_moves.proofs.FindLaws.{all_in, none_such, facet_fault_first, pair_fault_found, is_legal}
 use Rattle.pachner_moves.proofs.legality.legal.Goals as goal
 

@@ -1,0 +1,50 @@
+use Rattle.std.proofs.Common.{◌≡◌, ◌<◌, ℕ, length, List, sym, ap, ◌∙◌, subst, arith}
+use Rattle.gluing_table.proofs.Carried.{length-images}
+use Rattle.canonical_labelling.specs.Between.{images_between, perms_between}
+use Rattle.canonical_labelling.proofs.Matching.{AreOlds, olds_by, listed_range, listed_between}
+use Rattle.canonical_labelling.proofs.matches.between.Goals as goal
+
+pub old_numbers-requires : goal.old_numbers-requires
+old_numbers-requires c =
+    let long = length-images (length c.args.first.now.images) c.args.second.now c.requires.second in
+    let few = c.requires.few in
+    omega (arith, long, few)
+
+pub perms_of-requires-clause-equal : goal.perms_of-requires-clause-equal
+perms_of-requires-clause-equal c =
+    let olds = olds_by (length c.args.first.now.images) c.args.second.now c.in_ok-olds.olds.items c.deref.result.now c.requires.second c.deref.ensures.value c.in_ok-olds.ensures.length c.in_ok-olds.ensures.back in
+    (listed_range c.args.first.now c.args.second.now c.deref.result.now c.deref-2.result.now c.requires.first c.requires.second olds (c.deref-2.ensures.value ∙ c.in_ok-images.ensures)).0
+
+pub perms_of-requires-clause-in_range : goal.perms_of-requires-clause-in_range
+perms_of-requires-clause-in_range c =
+    let olds = olds_by (length c.args.first.now.images) c.args.second.now c.in_ok-olds.olds.items c.deref.result.now c.requires.second c.deref.ensures.value c.in_ok-olds.ensures.length c.in_ok-olds.ensures.back in
+    (listed_range c.args.first.now c.args.second.now c.deref.result.now c.deref-2.result.now c.requires.first c.requires.second olds (c.deref-2.ensures.value ∙ c.in_ok-images.ensures)).1
+
+pub perms_of-requires-clause-few : goal.perms_of-requires-clause-few
+perms_of-requires-clause-few c =
+    let olds = olds_by (length c.args.first.now.images) c.args.second.now c.in_ok-olds.olds.items c.deref.result.now c.requires.second c.deref.ensures.value c.in_ok-olds.ensures.length c.in_ok-olds.ensures.back in
+    let long = (listed_range c.args.first.now c.args.second.now c.deref.result.now c.deref-2.result.now c.requires.first c.requires.second olds (c.deref-2.ensures.value ∙ c.in_ok-images.ensures)).0 in
+    let few = c.requires.few in
+    omega (arith, long, few)
+
+pub relabelling_of-requires-clause-relabelling : goal.relabelling_of-requires-clause-relabelling
+relabelling_of-requires-clause-relabelling c =
+    let olds = olds_by (length c.args.first.now.images) c.args.second.now c.in_ok-olds.olds.items c.deref.result.now c.requires.second c.deref.ensures.value c.in_ok-olds.ensures.length c.in_ok-olds.ensures.back in
+    let same : c.deref-2.result.now ≡ c.deref-3.result.now = c.deref-2.ensures.value ∙ sym c.deref-3.ensures.value in
+    (listed_between c.args.first.now c.args.second.now c.deref.result.now c.deref-3.result.now c.deref-4.result.now c.requires.first c.requires.second olds (c.deref-3.ensures.value ∙ c.in_ok-images.ensures)
+    (c.deref-4.ensures.value ∙ c.in_ok-perms.ensures ∙ ap (λ (xs : List ℕ). perms_between c.args.first.now c.args.second.now xs) same)).0
+
+pub relabelling_of-requires-clause-few : goal.relabelling_of-requires-clause-few
+relabelling_of-requires-clause-few c =
+    let olds = olds_by (length c.args.first.now.images) c.args.second.now c.in_ok-olds.olds.items c.deref.result.now c.requires.second c.deref.ensures.value c.in_ok-olds.ensures.length c.in_ok-olds.ensures.back in
+    let long = (listed_range c.args.first.now c.args.second.now c.deref.result.now c.deref-3.result.now c.requires.first c.requires.second olds (c.deref-3.ensures.value ∙ c.in_ok-images.ensures)).0 in
+    let few = c.requires.few in
+    omega (arith, long, few)
+
+pub returns : goal.returns
+returns c =
+    let olds = olds_by (length c.args.first.now.images) c.args.second.now c.in_ok-olds.olds.items c.deref.result.now c.requires.second c.deref.ensures.value c.in_ok-olds.ensures.length c.in_ok-olds.ensures.back in
+    let same : c.deref-2.result.now ≡ c.deref-3.result.now = c.deref-2.ensures.value ∙ sym c.deref-3.ensures.value in
+    c.in_ok-by.ensures
+    ∙ (listed_between c.args.first.now c.args.second.now c.deref.result.now c.deref-3.result.now c.deref-4.result.now c.requires.first c.requires.second olds (c.deref-3.ensures.value ∙ c.in_ok-images.ensures)
+    (c.deref-4.ensures.value ∙ c.in_ok-perms.ensures ∙ ap (λ (xs : List ℕ). perms_between c.args.first.now c.args.second.now xs) same)).1

@@ -1,0 +1,6 @@
+use Rattle.std.proofs.Common.{ℕ, ◌<◌}
+use Rattle.canonical_labelling.specs.Starts.{IsNoMatch}
+use Rattle.canonical_labelling.proofs.matches.first_match.Given as goal
+
+abbrev pub invariant-loop-number : goal.invariant-loop-number
+invariant-loop-number l = (i : ℕ) → i < l.number → IsNoMatch l.table l.target i

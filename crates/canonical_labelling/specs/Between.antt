@@ -1,0 +1,44 @@
+-- Relabellings by what stands for each tetrahedron: the way back of one, one after another, and one and back by another.
+use Rattle.std.specs.Prelude.{◌==◌, ℕ, List, [], length, map, slice_index}
+use Rattle.std.specs.List.{slice_index_or, position_or_len}
+use Rattle.table_definitions.specs.Lists.{below}
+use Rattle.table_definitions.specs.Permutation.{inverse, compose}
+use Rattle.table_definitions.specs.Table.{Gluing}
+use Rattle.table_definitions.specs.Relabelling.{Relabelling}
+
+-- the relabelling by which f t stands for tetrahedron t
+unfoldable pub made : ℕ → (ℕ → Gluing) → Relabelling
+made n f = record { images = map (λ t. (f t).tet) (below n); perms = map (λ t. (f t).perm) (below n) }
+
+-- the tetrahedron that goes to u
+unfoldable pub place_of : Relabelling → ℕ → ℕ
+place_of by u = position_or_len (λ v. v == u) by.images
+
+-- what stands for u on the way back
+abbrev pub back_of : Relabelling → ℕ → Gluing
+back_of by u = record { tet = place_of by u; perm = inverse (slice_index_or by.perms (place_of by u) []) }
+
+abbrev pub inverted : ℕ → Relabelling → Relabelling
+inverted n by = made n (back_of by)
+
+-- what stands for t by one relabelling and then another
+abbrev pub after_of : Relabelling → Relabelling → ℕ → Gluing
+after_of second first t = record {
+  tet = slice_index second.images (slice_index first.images t);
+  perm = compose (slice_index_or second.perms (slice_index first.images t) []) (slice_index_or first.perms t []);
+}
+
+abbrev pub after : ℕ → Relabelling → Relabelling → Relabelling
+after n second first = made n (after_of second first)
+
+-- by the first, and back by the second
+abbrev pub between : ℕ → Relabelling → Relabelling → Relabelling
+between n first second = after n (inverted n second) first
+
+-- the same, number by number
+abbrev pub images_between : Relabelling → List ℕ → List ℕ
+images_between first olds = map (λ t. slice_index olds (slice_index first.images t)) (below (length first.images))
+
+abbrev pub perms_between : Relabelling → Relabelling → List ℕ → List (List ℕ)
+perms_between first second images =
+    map (λ t. compose (inverse (slice_index_or second.perms (slice_index images t) [])) (slice_index_or first.perms t [])) (below (length first.images))

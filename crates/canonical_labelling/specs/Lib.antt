@@ -1,0 +1,3 @@
+pub mod Orders
+pub mod Starts
+pub mod Between

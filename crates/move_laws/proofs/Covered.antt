@@ -1,0 +1,140 @@
+-- Each face of the table to which a move leads stands for one of the old table, or lies between facets that are put in.
+use Rattle.std.proofs.Common.{◌≡◌, ℕ, zero, suc, ◌+◌, ◌-◌, ◌<◌, ◌≤◌, Bool, true, false, List, length, Some, None, refl, sym, ap, ◌∙◌, subst, arith, inl, inr}
+use Rattle.std.specs.Prelude.{◌⊎◌, ◌==◌, ◌≢◌, if◌then◌else◌}
+use Rattle.std.proofs.lemmas.Bool.{lt-ltb, le-ltb, cases_lt}
+use Rattle.table_definitions.specs.Lists.{has, in_place_of, closed_up}
+use Rattle.table_definitions.specs.Permutation.{image, preimage, identity}
+use Rattle.table_definitions.specs.Table.{Gluing, Row, Face, IsTable}
+use Rattle.table_definitions.specs.Relabelling.{face_under}
+use Rattle.move_definitions.specs.Moves.{Move, IsCore, Facet, opposite, facet, old_labels, new_length, new_facet, label_by_label, facet_stand_in, kept_stand_in, stand_in_of, stand_in_at, kept}
+use Rattle.move_laws.proofs.CoreTests.{core_size}
+use Rattle.move_laws.proofs.Labels.{ascending, new_labels, HasLabel, label_at, HasVertex, vertex_at, length-labels, image-map}
+use Rattle.move_laws.proofs.ListedFacets.{not_found, is_found, comes_from, stays-count}
+use Rattle.move_laws.proofs.Legal.{IsFacet, facet_is, HasNoFault, old_facet, old_label, facets_apart, gone, gone_distinct, length-gone, gone_below}
+
+abbrev pub face_at : ℕ → ℕ → Face
+face_at t v = record { tet = t; face = v }
+
+abbrev pub gluing_to : ℕ → List ℕ → Gluing
+gluing_to t p = record { tet = t; perm = p }
+
+-- what stands for a kept tetrahedron, and for an old facet
+
+pub stand_in-kept : (rows : List Row) (m : Move) (x : Face) → has (gone rows m) x.tet ≡ false → stand_in_at rows m x ≡ Some (kept_stand_in rows m x.tet)
+stand_in-kept rows m x h = ap (stand_in_of rows m x) (not_found (facet rows m) (old_labels m) x.tet h)
+
+pub stand_in-old : (rows : List Row) (m : Move) (i : ℕ) (f : Facet) (v : ℕ) → HasNoFault rows m → IsCore m.core → length m.core ≤ i → i < 5 → facet rows m i ≡ Some f
+    → stand_in_at rows m (face_at f.tet v) ≡ facet_stand_in rows m f (image f.labels v)
+stand_in-old rows m i f v h c low high e =
+    ap (stand_in_of rows m (face_at f.tet v)) (is_found (facet rows m) (old_labels m) i f (facets_apart rows m h c) (old_label (length m.core) i (core_size m.core c).1 low high) e)
+
+abbrev pub facet_gluing : List Row → Move → Facet → ℕ → Gluing
+facet_gluing rows m f j = record { tet = (new_facet rows m j).tet; perm = label_by_label f (new_facet rows m j) }
+
+pub facet_stand_in-new : (rows : List Row) (m : Move) (f : Facet) (j : ℕ) → j < length m.core → facet_stand_in rows m f j ≡ Some (facet_gluing rows m f j)
+facet_stand_in-new rows m f j l = ap (λ b. if b then Some (facet_gluing rows m f j) else None) (lt-ltb j (length m.core) l)
+
+pub facet_stand_in-old : (rows : List Row) (m : Move) (f : Facet) (j : ℕ) → length m.core ≤ j → facet_stand_in rows m f j ≡ None
+facet_stand_in-old rows m f j l = ap (λ b. if b then Some (facet_gluing rows m f j) else None) (le-ltb j (length m.core) l)
+
+pub image-identity : (v : ℕ) → v < 4 → image identity v ≡ v
+image-identity zero l = refl
+image-identity (suc zero) l = refl
+image-identity (suc (suc zero)) l = refl
+image-identity (suc (suc (suc zero))) l = refl
+image-identity (suc (suc (suc (suc v)))) l = absurd (omega arith)
+
+-- as many tetrahedra are kept as stay, and no fewer than those that are taken out were there
+pub kept-count : (rows : List Row) (m : Move) → IsTable rows → HasNoFault rows m → IsCore m.core → 5 - length m.core ≤ length rows
+kept-count rows m table h c =
+    omega (arith, length-gone rows m h c, stays-count (gone rows m) (length rows) (gone_distinct rows m h c) (gone_below rows m table h c))
+
+-- a face of the new table that stands for the old face x
+pub record StandsForOld (rows : List Row) (m : Move) (y : Face) : Type 0 where
+  pub old : Face
+  pub by : Gluing
+  pub tet : old.tet < length rows
+  pub face : old.face < 4
+  pub stands : stand_in_at rows m old ≡ Some by
+  pub is : face_under by old ≡ y
+
+-- a face between facets j and l that are put in
+pub record IsInner (rows : List Row) (m : Move) (y : Face) : Type 0 where
+  pub j : ℕ
+  pub l : ℕ
+  pub j_small : j < length m.core
+  pub l_small : l < length m.core
+  pub apart : j ≢ l
+  pub is : opposite (new_facet rows m j) l ≡ y
+
+pub in_place-same : (a b : ℕ) → in_place_of a b a ≡ b
+in_place-same a b = let t : (a == a) ≡ true = grind arith in ap (λ (c : Bool). if c then b else a) t
+
+pub in_place-other : (a b l : ℕ) → l ≢ a → in_place_of a b l ≡ l
+in_place-other a b l d = let t : (l == a) ≡ false = grind arith in ap (λ (c : Bool). if c then b else l) t
+
+-- the vertex of facet i with label j goes to that of the new facet j with label i
+pub crossed : (rows : List Row) (m : Move) (i j : ℕ) (f : Facet) → IsFacet rows i f → j < 5 → j ≢ i → image (label_by_label f (new_facet rows m j)) (preimage f.labels j) ≡ preimage (ascending j) i
+crossed rows m i j f is l apart =
+    let at : HasVertex f.labels j = vertex_at i f.labels is.labels j l apart in
+    image-map (λ l. preimage (ascending j) (in_place_of j f.missing l)) f.labels (preimage f.labels j) (rw (length-labels i f.labels is.labels) at.small)
+    ∙ ap (λ l. preimage (ascending j) (in_place_of j f.missing l)) at.label
+    ∙ ap (preimage (ascending j)) (in_place-same j f.missing ∙ is.missing)
+
+-- a face of a new facet opposite an old label
+pub facet_covered : (rows : List Row) (m : Move) (i j : ℕ) → IsTable rows → HasNoFault rows m → IsCore m.core → length m.core ≤ i → i < 5 → j < length m.core → StandsForOld rows m (face_at (kept rows m + j) (preimage (ascending j) i))
+facet_covered rows m i j table h c low high less =
+    let o : (f : Facet) × (facet rows m i ≡ Some f) = old_facet rows m i h c low high in
+    let f : Facet = o.0 in
+    let is : IsFacet rows i f = facet_is rows m i f table c h.in_range high o.1 in
+    let size : length m.core < 5 = (core_size m.core c).1 in
+    let small : j < 5 = omega arith in
+    let apart : j ≢ i = λ e. absurd (omega arith) in
+    let at : HasVertex f.labels j = vertex_at i f.labels is.labels j small apart in
+    record {
+      old = face_at f.tet (preimage f.labels j);
+      by = facet_gluing rows m f j;
+      tet = is.in_range;
+      face = at.small;
+      stands = stand_in-old rows m i f (preimage f.labels j) h c low high o.1 ∙ ap (facet_stand_in rows m f) at.label ∙ facet_stand_in-new rows m f j less;
+      is = ap (face_at (kept rows m + j)) (crossed rows m i j f is small apart);
+    }
+
+-- a face of a kept tetrahedron
+pub kept_covered : (rows : List Row) (m : Move) (y : Face) → IsTable rows → HasNoFault rows m → IsCore m.core → y.tet < kept rows m → y.face < 4 → StandsForOld rows m y
+kept_covered rows m y table h c lt lf = from (comes_from (gone rows m) (length rows) y.tet (gone_distinct rows m h c) (gone_below rows m table h c) few)
+  where
+    few : y.tet + length (gone rows m) < length rows
+    few = let size : length m.core < 5 = (core_size m.core c).1 in let k : 5 - length m.core ≤ length rows = kept-count rows m table h c in omega (arith, length-gone rows m h c)
+
+    from : (t : ℕ) × (t < length rows) × (has (gone rows m) t ≡ false) × (closed_up (gone rows m) t ≡ y.tet) → StandsForOld rows m y
+    from (t, l, stays, is) = record {
+      old = face_at t y.face;
+      by = kept_stand_in rows m t;
+      tet = l;
+      face = lf;
+      stands = stand_in-kept rows m (face_at t y.face) stays;
+      is = ap (λ v. face_at (closed_up (gone rows m) t) v) (image-identity y.face lf) ∙ ap (λ u. face_at u y.face) is;
+    }
+
+-- each face is one or the other
+pub covered : (rows : List Row) (m : Move) (y : Face) → IsTable rows → HasNoFault rows m → IsCore m.core → y.tet < new_length rows m → y.face < 4 → StandsForOld rows m y ⊎ IsInner rows m y
+covered rows m y table h c lt lf = by_tet (cases_lt y.tet (kept rows m))
+  where
+    size : length m.core < 5
+    size = (core_size m.core c).1
+
+    by_facet : (j : ℕ) → j < length m.core → kept rows m + j ≡ y.tet → StandsForOld rows m y ⊎ IsInner rows m y
+    by_facet j less at =
+        let l : ℕ = image (ascending j) y.face in
+        let here : HasLabel j (ascending j) y.face = label_at j (ascending j) (new_labels j (let most : length m.core < 5 = size in omega arith)) y.face lf in
+        let is : face_at (kept rows m + j) (preimage (ascending j) l) ≡ y = ap (face_at (kept rows m + j)) here.vertex ∙ ap (λ u. face_at u y.face) at in
+        by_label l here.small here.present is (cases_lt l (length m.core))
+      where
+        by_label : (l : ℕ) → l < 5 → l ≢ j → face_at (kept rows m + j) (preimage (ascending j) l) ≡ y → (l < length m.core) ⊎ (length m.core ≤ l) → StandsForOld rows m y ⊎ IsInner rows m y
+        by_label l small apart is (inl new) = inr (record { j = j; l = l; j_small = less; l_small = new; apart = λ e. apart (sym e); is = is })
+        by_label l small apart is (inr old) = inl (subst (λ (z : Face). StandsForOld rows m z) is (facet_covered rows m l j table h c old small less))
+
+    by_tet : (y.tet < kept rows m) ⊎ (kept rows m ≤ y.tet) → StandsForOld rows m y ⊎ IsInner rows m y
+    by_tet (inl low) = inl (kept_covered rows m y table h c low lf)
+    by_tet (inr high) = by_facet (y.tet - kept rows m) (omega arith) (omega arith)

@@ -1,0 +1,39 @@
+//! What follows from the definitions of moves alone, whatever the code: a legal move leads to one table, and its inverse
+//! leads back up to labels. Scripts of moves, descents and the generator end at one table.
+#![tactic(auto)]
+
+ghost use Rattle.move_definitions.specs.Laws.{LegalMovesLeadOn, MovesAgree, MovesMakeTables, InversesHaveCores, InversesLeadBackUpToLabels, InversesLeadOnlyBack, MoveLinesHaveCores, PlaysAgree, DescentsAgree, MakingsAgree};
+
+/// A legal move leads on, the limit of tetrahedra left aside.
+pub fn legal_moves_lead_on()
+    ensures { LegalMovesLeadOn }
+{}
+
+/// A move leads to at most one table.
+pub fn moves_agree()
+    ensures { MovesAgree }
+{}
+
+/// Within the limit of tetrahedra, the rows to which a move leads are a table.
+pub fn moves_make_tables()
+    ensures { MovesMakeTables }
+{}
+
+/// The inverse of a move leads from the new table to a relabelling of the old one.
+pub fn inverses_lead_back()
+    ensures cores { InversesHaveCores }
+    ensures tables { InversesLeadBackUpToLabels }
+    ensures alone { InversesLeadOnlyBack }
+{}
+
+/// Moves that are played one after another lead to one table, and moves that lines spell have the cores for it.
+pub fn plays_agree()
+    ensures tables { PlaysAgree }
+    ensures lines { MoveLinesHaveCores }
+{}
+
+/// A table has one descent, and a state of the generator one making.
+pub fn descents_and_makings_agree()
+    ensures descents { DescentsAgree }
+    ensures makings { MakingsAgree }
+{}

@@ -1,0 +1,5 @@
+pub mod Steps
+pub mod Written
+pub mod Records
+pub mod Sessions
+pub mod Faults

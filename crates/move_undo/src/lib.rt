@@ -1,0 +1,10 @@
+//! Scripts of moves: steps in text, and sessions that play, undo and redo moves.
+#![tactic(auto)]
+
+mod reader;
+mod session;
+mod writer;
+
+pub use reader::{Step, read_move, read_step};
+pub use session::{PlayFault, Session};
+pub use writer::write_move;

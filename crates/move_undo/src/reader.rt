@@ -1,0 +1,237 @@
+//! Moves and steps from text.
+
+ghost use Rattle.std.specs.Prelude.{◌≡◌, Some, None, option_map, slice_index};
+ghost use Rattle.table_definitions.specs.Permutation.{four, others};
+ghost use Rattle.table_definitions.specs.Places.{edge_ends};
+ghost use Rattle.text_definitions.specs.Reading.{Gives};
+ghost use Rattle.move_definitions.specs.MoveText as text;
+ghost use Rattle.move_undo.specs.Steps.{kind_value, step_value};
+
+use bench_io::{LexFault, Lexer};
+use pachner_moves::{Core, Move};
+
+/// A line of a script.
+#[derive(Clone, Copy, Debug, PartialEq, Eq)]
+pub enum Step {
+    /// A move is played.
+    Play(Move),
+    /// The last move that is played is taken back.
+    Undo,
+    /// The last move that was taken back is played once more.
+    Redo,
+}
+
+// The kinds of move, named by how many tetrahedra they take out and put in.
+#[derive(Clone, Copy)]
+enum MoveKind {
+    OneFour,
+    TwoThree,
+    ThreeTwo,
+    FourOne,
+}
+
+// The kind that a word names.
+fn kind_of(word: &[u8]) -> Option<MoveKind>
+    ensures { option_map kind_value result ≡ text.move_kind word.now }
+{
+    if word == b"14".as_slice() {
+        return Some(MoveKind::OneFour);
+    }
+    if word == b"23".as_slice() {
+        return Some(MoveKind::TwoThree);
+    }
+    if word == b"32".as_slice() {
+        return Some(MoveKind::ThreeTwo);
+    }
+    if word == b"41".as_slice() {
+        return Some(MoveKind::FourOne);
+    }
+    None
+}
+
+// The core of the one vertex that a word names.
+fn vertex_named(word: &[u8]) -> Option<Core>
+    ensures { result ≡ text.spelled text.single word.now }
+{
+    if word == b"0".as_slice() {
+        return Core::new(1);
+    }
+    if word == b"1".as_slice() {
+        return Core::new(2);
+    }
+    if word == b"2".as_slice() {
+        return Core::new(4);
+    }
+    if word == b"3".as_slice() {
+        return Core::new(8);
+    }
+    None
+}
+
+// The core of the two vertices that a word names.
+fn edge_named(word: &[u8]) -> Option<Core>
+    ensures { result ≡ text.spelled edge_ends word.now }
+{
+    if word == b"01".as_slice() {
+        return Core::new(3);
+    }
+    if word == b"02".as_slice() {
+        return Core::new(5);
+    }
+    if word == b"03".as_slice() {
+        return Core::new(9);
+    }
+    if word == b"12".as_slice() {
+        return Core::new(6);
+    }
+    if word == b"13".as_slice() {
+        return Core::new(10);
+    }
+    if word == b"23".as_slice() {
+        return Core::new(12);
+    }
+    None
+}
+
+// The core of the vertices of the face that a word names.
+fn face_named(word: &[u8]) -> Option<Core>
+    ensures { result ≡ option_map (λ f. others (slice_index f 0)) (text.spelled text.single word.now) }
+{
+    if word == b"0".as_slice() {
+        return Core::new(14);
+    }
+    if word == b"1".as_slice() {
+        return Core::new(13);
+    }
+    if word == b"2".as_slice() {
+        return Core::new(11);
+    }
+    if word == b"3".as_slice() {
+        return Core::new(7);
+    }
+    None
+}
+
+// The vertex that the next word names, as a core.
+#[tactic(auto, unfolding(move_definitions::specs::MoveText::vertices_at))]
+fn read_vertex(lexer: &mut Lexer<'_>) -> Result<Core, LexFault>
+    ensures { Gives (λ core. core) result lexer.new (text.vertices_at text.single lexer.old) }
+{
+    let word = lexer.word()?;
+    vertex_named(word).ok_or(lexer.bad_word())
+}
+
+// The vertices of the face that the next word names, as a core.
+#[tactic(auto, unfolding(move_definitions::specs::MoveText::core_at, move_definitions::specs::MoveText::vertices_at))]
+fn read_face(lexer: &mut Lexer<'_>) -> Result<Core, LexFault>
+    ensures { Gives (λ core. core) result lexer.new (text.core_at text.two_three lexer.old) }
+{
+    let word = lexer.word()?;
+    face_named(word).ok_or(lexer.bad_word())
+}
+
+// The ends of the edge that the next word names, as a core.
+#[tactic(auto, unfolding(move_definitions::specs::MoveText::vertices_at))]
+fn read_edge(lexer: &mut Lexer<'_>) -> Result<Core, LexFault>
+    ensures { Gives (λ core. core) result lexer.new (text.vertices_at edge_ends lexer.old) }
+{
+    let word = lexer.word()?;
+    edge_named(word).ok_or(lexer.bad_word())
+}
+
+// The core of all four vertices.
+fn all_vertices() -> Core
+    ensures { result ≡ four }
+{
+    match Core::new(15) {
+        Some(core) => core,
+        None => unreachable!(),
+    }
+}
+
+// The core of a move of this kind.
+#[tactic(auto, unfolding(move_definitions::specs::MoveText::core_at))]
+fn read_core(lexer: &mut Lexer<'_>, kind: MoveKind) -> Result<Core, LexFault>
+    ensures { Gives (λ core. core) result lexer.new (text.core_at (kind_value kind) lexer.old) }
+{
+    match kind {
+        MoveKind::OneFour => Ok(all_vertices()),
+        MoveKind::TwoThree => read_face(lexer),
+        MoveKind::ThreeTwo => read_edge(lexer),
+        MoveKind::FourOne => read_vertex(lexer),
+    }
+}
+
+// The move of this kind, to the end of the line.
+#[tactic(auto, unfolding(move_definitions::specs::MoveText::kind_at))]
+fn read_kind(lexer: &mut Lexer<'_>, kind: MoveKind) -> Result<Move, LexFault>
+    ensures { Gives (λ m. m) result lexer.new (text.kind_at (Some (kind_value kind)) lexer.old) }
+{
+    let tet = lexer.number(u128::from(u32::MAX))? as u32;
+    let core = read_core(lexer, kind)?;
+    lexer.end_line()?;
+    Ok(Move { tet, core })
+}
+
+// The move whose first word was taken, to the end of the line.
+#[tactic(auto, unfolding(move_definitions::specs::MoveText::kind_at))]
+fn read_named(lexer: &mut Lexer<'_>, word: &[u8]) -> Result<Move, LexFault>
+    ensures { Gives (λ m. m) result lexer.new (text.kind_at (text.move_kind word.now) lexer.old) }
+{
+    match kind_of(word) {
+        Some(kind) => read_kind(lexer, kind),
+        None => Err(lexer.bad_word()),
+    }
+}
+
+/// The move of the current line, of which no word was taken yet.
+#[tactic(auto, unfolding(move_definitions::specs::MoveText::move_at))]
+pub fn read_move(lexer: &mut Lexer<'_>) -> Result<Move, LexFault>
+    ensures { Gives (λ m. m) result lexer.new (text.move_at lexer.old) }
+{
+    let word = lexer.word()?;
+    read_named(lexer, word)
+}
+
+// The step that is no move and that a word names.
+fn step_named(word: &[u8]) -> Option<Step>
+    ensures { option_map step_value result ≡ text.step_word word.now }
+{
+    if word == b"undo".as_slice() {
+        return Some(Step::Undo);
+    }
+    if word == b"redo".as_slice() {
+        return Some(Step::Redo);
+    }
+    None
+}
+
+// The move whose first word was taken, as a step.
+#[tactic(auto, unfolding(move_definitions::specs::MoveText::named_step_at))]
+fn read_played(lexer: &mut Lexer<'_>, word: &[u8]) -> Result<Step, LexFault>
+    ensures { Gives step_value result lexer.new (text.named_step_at None word.now lexer.old) }
+{
+    let m = read_named(lexer, word)?;
+    Ok(Step::Play(m))
+}
+
+// The end of the line of a step.
+#[tactic(auto, unfolding(move_definitions::specs::MoveText::named_step_at))]
+fn end_step(lexer: &mut Lexer<'_>, word: &[u8], step: Step) -> Result<Step, LexFault>
+    ensures { Gives step_value result lexer.new (text.named_step_at (Some (step_value step)) word.now lexer.old) }
+{
+    lexer.end_line()?;
+    Ok(step)
+}
+
+/// The step of the current line, of which no word was taken yet.
+#[tactic(auto, unfolding(move_definitions::specs::MoveText::step_at))]
+pub fn read_step(lexer: &mut Lexer<'_>) -> Result<Step, LexFault>
+    ensures { Gives step_value result lexer.new (text.step_at lexer.old) }
+{
+    let word = lexer.word()?;
+    match step_named(word) {
+        Some(step) => end_step(lexer, word, step),
+        None => read_played(lexer, word),
+    }
+}

@@ -1,0 +1,128 @@
+-- Facets by their labels, and where vertices go label by label.
+use Rattle.std.proofs.Common.{◌≡◌, ℕ, ◌<◌, Bool, true, false, cond, List, length, get_or, refl, sym, ap, ◌∙◌, arith, inl, inr}
+use Rattle.std.specs.Prelude.{◌⊎◌, ◌==◌, ◌&&◌, ◌≢◌}
+use Rattle.std.proofs.lemmas.Bool.{eqb-true, eq-eqb}
+use Rattle.std.proofs.lemmas.List.{get_or-map, length-map}
+use Rattle.std.proofs.lemmas.List.Folds.{list_any_at}
+use Rattle.std.proofs.lemmas.List.Sums.{position_or_len_is}
+use Rattle.table_definitions.specs.Lists.{has, in_place_of}
+use Rattle.table_definitions.specs.Permutation.{image, preimage, inverse, IsPermutationOfFour}
+use Rattle.perm_four.proofs.Permutations.{is_permutation-four, same_images, image-inverse, preimage_at, inverse_permutes}
+use Rattle.gluing_table.proofs.Ranks.{unequal}
+use Rattle.move_definitions.specs.Moves.{Facet, vertex_of, label_by_label}
+use Rattle.pachner_moves.specs.Facets.{IsFacet}
+
+-- the first place of a number
+pub stands_first : (xs : List ℕ) (w l : ℕ) → w < length xs → get_or xs w 0 ≡ l → ((v : ℕ) → v < w → get_or xs v 0 ≢ l) → preimage xs l ≡ w
+unfolding preimage
+stands_first xs w l b e before = position_or_len_is (λ v. v == l) xs w 0 (omega arith) (λ k m. unequal (get_or xs k 0) l (before k m)) (λ _. eq-eqb _ l e)
+
+-- labels with a way back
+pub facet_from : (f : Facet) (back : ℕ → ℕ) → f.missing < 5 → length f.labels ≡ 4
+    → ((v : ℕ) → v < 4 → image f.labels v < 5)
+    → ((v : ℕ) → v < 4 → image f.labels v ≢ f.missing)
+    → ((v : ℕ) → v < 4 → back (image f.labels v) ≡ v)
+    → ((l : ℕ) → l < 5 → l ≢ f.missing → back l < 4)
+    → ((l : ℕ) → l < 5 → l ≢ f.missing → image f.labels (back l) ≡ l) → IsFacet f
+facet_from f back few long small other there inside here = record {
+  missing_below = few;
+  four_labels = long;
+  label_below = small;
+  label_other = other;
+  vertex_back = vertex_is;
+  vertex_below = λ l b d. (let e = place l b d in let i = inside l b d in omega arith);
+  label_back = λ l b d. ap (λ v. image f.labels v) (place l b d) ∙ here l b d;
+}
+  where
+    vertex_is : (v : ℕ) → v < 4 → preimage f.labels (image f.labels v) ≡ v
+    vertex_is v l = stands_first f.labels v (image f.labels v) (omega arith) refl (λ u m e. absurd (let a = there u (omega arith) in let b = there v l in let c : back (image f.labels u) ≡ back (image f.labels v) = ap back e in omega arith))
+
+    place : (l : ℕ) → l < 5 → l ≢ f.missing → preimage f.labels l ≡ back l
+    place l b d = ap (preimage f.labels) (sym (here l b d)) ∙ vertex_is (back l) (inside l b d)
+
+-- one label in the place of another
+pub in_place_same : (a b l : ℕ) → l ≡ a → in_place_of a b l ≡ b
+in_place_same a b l e = ap (λ t. cond t b l) (eq-eqb l a e)
+
+pub in_place_other : (a b l : ℕ) → l ≢ a → in_place_of a b l ≡ l
+in_place_other a b l d = ap (λ t. cond t b l) (unequal l a d)
+
+pub same_or_not : (a b : ℕ) → (a ≡ b) ⊎ (a ≢ b)
+same_or_not a b = by_test (a == b) refl
+  where
+    by_test : (t : Bool) → (a == b) ≡ t → (a ≡ b) ⊎ (a ≢ b)
+    by_test true e = inl (eqb-true a b e)
+    by_test false e = inr (λ s. (let q = eq-eqb a b s in let z : false ≡ true = sym e ∙ q in absurd cc))
+
+-- the label to which a label goes, where the labels a and b are missing on the two sides
+pub goes_below : (a b l : ℕ) → a < 5 → l < 5 → in_place_of b a l < 5
+goes_below a b l la ll = by_case (same_or_not l b)
+  where
+    by_case : (l ≡ b) ⊎ (l ≢ b) → in_place_of b a l < 5
+    by_case (inl e) = let q = in_place_same b a l e in omega arith
+    by_case (inr d) = let q = in_place_other b a l d in omega arith
+
+pub goes_other : (a b l : ℕ) → a ≢ b → in_place_of b a l ≢ b
+goes_other a b l apart s = by_case (same_or_not l b)
+  where
+    by_case : (l ≡ b) ⊎ (l ≢ b) → ⊥
+    by_case (inl e) = apart (sym (in_place_same b a l e) ∙ s)
+    by_case (inr d) = d (sym (in_place_other b a l d) ∙ s)
+
+pub goes_back : (a b l : ℕ) → l ≢ a → in_place_of a b (in_place_of b a l) ≡ l
+goes_back a b l other = by_case (same_or_not l b)
+  where
+    by_case : (l ≡ b) ⊎ (l ≢ b) → in_place_of a b (in_place_of b a l) ≡ l
+    by_case (inl e) = in_place_same a b (in_place_of b a l) (in_place_same b a l e) ∙ sym e
+    by_case (inr d) = ap (in_place_of a b) (in_place_other b a l d) ∙ in_place_other a b l other
+
+-- a list of four places on which each of the four numbers stands
+pub permutes_from : (p : List ℕ) (back : ℕ → ℕ) → length p ≡ 4 → ((w : ℕ) → w < 4 → back w < 4) → ((w : ℕ) → w < 4 → image p (back w) ≡ w) → IsPermutationOfFour p
+permutes_from p back long inside here = is_permutation-four p long ∙ all (at 0 (omega arith)) (at 1 (omega arith)) (at 2 (omega arith)) (at 3 (omega arith))
+  where
+    at : (w : ℕ) → w < 4 → has p w ≡ true
+    at w l = let i = inside w l in list_any_at (λ m. m == w) p (back w) 0 (omega arith) (eq-eqb (get_or p (back w) 0) w (here w l))
+
+    all : has p 0 ≡ true → has p 1 ≡ true → has p 2 ≡ true → has p 3 ≡ true → (has p 0 && has p 1 && has p 2 && has p 3) ≡ true
+    all a b c d = rw (a, b, c, d) refl
+
+-- label by label
+pub image_by : (f g : Facet) (v : ℕ) → IsFacet f → v < 4 → image (label_by_label f g) v ≡ vertex_of g (in_place_of g.missing f.missing (image f.labels v))
+image_by f g v F l = get_or-map (λ l. vertex_of g (in_place_of g.missing f.missing l)) f.labels v 0 0 (let e = F.four_labels in omega arith)
+
+pub length_by : (f g : Facet) → IsFacet f → length (label_by_label f g) ≡ 4
+length_by f g F = length-map f.labels (λ l. vertex_of g (in_place_of g.missing f.missing l)) ∙ F.four_labels
+
+pub vertex_by : (f g : Facet) (l : ℕ) → IsFacet f → l < 5 → l ≢ f.missing → image (label_by_label f g) (vertex_of f l) ≡ vertex_of g (in_place_of g.missing f.missing l)
+vertex_by f g l F b d = image_by f g (vertex_of f l) F (F.vertex_below l b d) ∙ ap (λ k. vertex_of g (in_place_of g.missing f.missing k)) (F.label_back l b d)
+
+-- the vertex that goes to w
+abbrev from_vertex : Facet → Facet → ℕ → ℕ
+from_vertex f g w = vertex_of f (in_place_of f.missing g.missing (image g.labels w))
+
+from_below : (f g : Facet) (w : ℕ) → IsFacet f → IsFacet g → f.missing ≢ g.missing → w < 4 → from_vertex f g w < 4
+from_below f g w F G apart l =
+    F.vertex_below (in_place_of f.missing g.missing (image g.labels w)) (goes_below g.missing f.missing (image g.labels w) G.missing_below (G.label_below w l))
+    (goes_other g.missing f.missing (image g.labels w) (λ e. apart (sym e)))
+
+to_vertex : (f g : Facet) (w : ℕ) → IsFacet f → IsFacet g → f.missing ≢ g.missing → w < 4 → image (label_by_label f g) (from_vertex f g w) ≡ w
+to_vertex f g w F G apart l =
+    let label : ℕ = in_place_of f.missing g.missing (image g.labels w) in
+    let small : label < 5 = goes_below g.missing f.missing (image g.labels w) G.missing_below (G.label_below w l) in
+    let other : label ≢ f.missing = goes_other g.missing f.missing (image g.labels w) (λ e. apart (sym e)) in
+    vertex_by f g label F small other ∙ ap (vertex_of g) (goes_back g.missing f.missing (image g.labels w) (G.label_other w l)) ∙ G.vertex_back w l
+
+pub by_permutes : (f g : Facet) → IsFacet f → IsFacet g → f.missing ≢ g.missing → IsPermutationOfFour (label_by_label f g)
+by_permutes f g F G apart = permutes_from (label_by_label f g) (from_vertex f g) (length_by f g F) (λ w l. from_below f g w F G apart l) (λ w l. to_vertex f g w F G apart l)
+
+pub by_back : (f g : Facet) → IsFacet f → IsFacet g → f.missing ≢ g.missing → inverse (label_by_label f g) ≡ label_by_label g f
+by_back f g F G apart =
+    let p = by_permutes f g F G apart in
+    same_images (inverse (label_by_label f g)) (label_by_label g f) (inverse_permutes (label_by_label f g) p) (by_permutes g f G F (λ e. apart (sym e)))
+    (λ w l. image-inverse (label_by_label f g) w l ∙ preimage_at (label_by_label f g) p w (from_vertex f g w) (from_below f g w F G apart l) (to_vertex f g w F G apart l) ∙ sym (image_by g f w G l))
+
+-- a permutation that keeps labels is the one label by label
+pub by_is : (f g : Facet) (p : List ℕ) → IsFacet f → IsFacet g → f.missing ≢ g.missing → IsPermutationOfFour p → ((v : ℕ) → v < 4 → image p v < 4)
+    → ((v : ℕ) → v < 4 → image g.labels (image p v) ≡ in_place_of g.missing f.missing (image f.labels v)) → p ≡ label_by_label f g
+by_is f g p F G apart permutes small labels =
+    same_images p (label_by_label f g) permutes (by_permutes f g F G apart) (λ v l. sym (G.vertex_back (image p v) (small v l)) ∙ ap (vertex_of g) (labels v l) ∙ sym (image_by f g v F l))

@@ -1,0 +1,310 @@
+-- The facets that a legal move takes out.
+use Rattle.std.proofs.Common.{◌≡◌, ℕ, ◌-◌, ◌<◌, ◌≤◌, Bool, true, false, cond, List, [], ◌∷◌, length, map, Option, Some, None, refl, sym, ap, ◌∙◌, subst, arith, inl, inr}
+use Rattle.std.specs.Prelude.{◌⊎◌, ◌==◌, ◌||◌, ◌≢◌, nat_lt, filter, filter_map, option_map, if◌then◌else◌}
+use Rattle.std.specs.List.{cons_option}
+use Rattle.std.specs.Option.{option_or}
+use Rattle.std.proofs.lemmas.Bool.{eqb-true, eq-eqb, lt-ltb, cases_lt}
+use Rattle.std.proofs.lemmas.List.{get_or-map}
+use Rattle.table_definitions.specs.Lists.{has, in_place_of, same_list, pairs_of}
+use Rattle.table_definitions.specs.Permutation.{image, compose}
+use Rattle.table_definitions.specs.Table.{Gluing, Row, glue, other_side, way_back, IsTable}
+use Rattle.table_definitions.proofs.TableLaws.{Among, Among-range, Among-pairs, first_some-none}
+use Rattle.perm_four.proofs.ListFacts.{both_true, same_list-true}
+use Rattle.perm_four.proofs.Permutations.{image_below, image-compose}
+use Rattle.gluing_table.proofs.Ranks.{unequal}
+use Rattle.move_definitions.specs.Moves.{Move, Facet, MoveFault, IsCore, own_facet, vertex_of, opposite, facet, facet_behind, facet_fault, found_labels, tets_before, pair_fault, is_matched, move_fault, not_matched, repeated, label_by_label}
+use Rattle.pachner_moves.specs.Facets.{IsFacet, IsOldFacet}
+use Rattle.pachner_moves.specs.Faults.{first_facet_fault}
+use Rattle.pachner_moves.proofs.FindLaws.{from_four, move_fault_is, pairs_first, some_facet, none_such}
+use Rattle.pachner_moves.proofs.LabelLaws.{by_back, by_is, vertex_by, in_place_same, same_or_not}
+use Rattle.pachner_moves.proofs.FacetLaws.{core_few, own_is_facet, behind_is_facet, behind_glued}
+
+pub record IsLegal (rows : List Row) (m : Move) : Type 0 where
+  pub table : IsTable rows
+  pub core : IsCore m.core
+  pub facet_at : (i : ℕ) → length m.core ≤ i → i < 5 → (f : Facet) × IsOldFacet rows m i f
+  pub apart : (i k : ℕ) (f g : Facet) → IsOldFacet rows m i f → IsOldFacet rows m k g → f.tet ≡ g.tet → i ≡ k
+  pub inner : (i k : ℕ) (f g : Facet) → IsOldFacet rows m i f → IsOldFacet rows m k g → i ≢ k → glue rows (opposite f k) ≡ Some (record { tet = g.tet; perm = label_by_label f g })
+
+both_none : {A : Type 0} (a b : Option A) → option_or a b ≡ None → (a ≡ None) × (b ≡ None)
+both_none None b e = (refl, e)
+both_none (Some x) b e = absurd cc
+
+-- lists of facets
+
+pub Among-filter : {A : Type 0} (p : A → Bool) (x : A) (xs : List A) → Among x xs → p x ≡ true → Among x (filter p xs)
+Among-filter p x [] a h = absurd a
+Among-filter {A} p x (y ∷ ys) a h = by_test (p y) refl a (λ b. Among-filter p x ys b h)
+  where
+    by_test : (t : Bool) → p y ≡ t → (x ≡ y) ⊎ Among x ys → (Among x ys → Among x (filter p ys)) → Among x (cond t (y ∷ filter p ys) (filter p ys))
+    by_test true e (inl s) later = inl s
+    by_test true e (inr b) later = inr (later b)
+    by_test false e (inl s) later = let z : true ≡ false = sym h ∙ ap p s ∙ e in absurd cc
+    by_test false e (inr b) later = later b
+
+pub Among-found : (h : ℕ → Option Facet) (i : ℕ) (ls : List ℕ) (f : Facet) → Among i ls → h i ≡ Some f → Among f (filter_map h ls)
+Among-found h i [] f a e = absurd a
+Among-found h i (l ∷ ls) f a e = by_head (h l) refl a (λ b. Among-found h i ls f b e)
+  where
+    by_head : (o : Option Facet) → h l ≡ o → (i ≡ l) ⊎ Among i ls → (Among i ls → Among f (filter_map h ls)) → Among f (cons_option o (filter_map h ls))
+    by_head None q (inl s) later = let z : None ≡ Some f = sym q ∙ ap h (sym s) ∙ e in absurd cc
+    by_head None q (inr b) later = later b
+    by_head (Some g) q (inl s) later = let z : Some g ≡ Some f = sym q ∙ ap h (sym s) ∙ e in let y : f ≡ g = cc in inl y
+    by_head (Some g) q (inr b) later = inr (later b)
+
+pub found-from : (h : ℕ → Option Facet) (ls : List ℕ) (f : Facet) → Among f (filter_map h ls) → (i : ℕ) × Among i ls × (h i ≡ Some f)
+found-from h [] f a = absurd a
+found-from h (l ∷ ls) f a = by_head (h l) refl a (λ b. found-from h ls f b)
+  where
+    Found : List ℕ → Type 0
+    Found ks = (i : ℕ) × Among i ks × (h i ≡ Some f)
+
+    further : Found ls → Found (l ∷ ls)
+    further x = (x.0, inr x.1, x.2)
+
+    by_head : (o : Option Facet) → h l ≡ o → Among f (cons_option o (filter_map h ls)) → (Among f (filter_map h ls) → Found ls) → Found (l ∷ ls)
+    by_head None q b later = further (later b)
+    by_head (Some g) q (inl s) later = (l, inl refl, q ∙ ap (λ (x : Facet). Some x) (sym s))
+    by_head (Some g) q (inr b) later = further (later b)
+
+pub has-among : (fs : List Facet) (f : Facet) → Among f fs → has (map (λ (f : Facet). f.tet) fs) f.tet ≡ true
+has-among [] f a = absurd a
+has-among (g ∷ fs) f (inl e) = ap (λ b. b || has (map (λ (f : Facet). f.tet) fs) f.tet) (eq-eqb g.tet f.tet (ap (λ (x : Facet). x.tet) (sym e)))
+has-among (g ∷ fs) f (inr a) = by_test (g.tet == f.tet) (has-among fs f a)
+  where
+    by_test : (b : Bool) → has (map (λ (f : Facet). f.tet) fs) f.tet ≡ true → (b || has (map (λ (f : Facet). f.tet) fs) f.tet) ≡ true
+    by_test true h = refl
+    by_test false h = h
+
+pub among-has : (fs : List Facet) (t : ℕ) → has (map (λ (f : Facet). f.tet) fs) t ≡ true → (f : Facet) × Among f fs × (f.tet ≡ t)
+among-has [] t h = absurd cc
+among-has (g ∷ fs) t h = by_test (g.tet == t) refl h (λ k. among-has fs t k)
+  where
+    Standing : List Facet → Type 0
+    Standing xs = (f : Facet) × Among f xs × (f.tet ≡ t)
+
+    further : Standing fs → Standing (g ∷ fs)
+    further x = (x.0, inr x.1, x.2)
+
+    by_test : (b : Bool) → (g.tet == t) ≡ b → (b || has (map (λ (f : Facet). f.tet) fs) t) ≡ true → (has (map (λ (f : Facet). f.tet) fs) t ≡ true → Standing fs) → Standing (g ∷ fs)
+    by_test true e k later = (g, inl refl, eqb-true g.tet t e)
+    by_test false e k later = further (later k)
+
+-- what stands behind a face of the move's tetrahedron
+
+pub found_behind : (rows : List Row) (m : Move) (i : ℕ) (f : Facet) → i < 4 → facet rows m i ≡ Some f
+    → (g : Gluing) × (glue rows (opposite (own_facet m) i) ≡ Some g) × (facet_behind (own_facet m) i g ≡ f)
+found_behind rows m i f small e = by_glue (glue rows (opposite (own_facet m) i)) refl
+  where
+    shown : option_map (facet_behind (own_facet m) i) (glue rows (opposite (own_facet m) i)) ≡ Some f
+    shown =
+        sym (ap (λ b. if◌then◌else◌ {A = Option Facet} b (Some (own_facet m)) (option_map (facet_behind (own_facet m) i) (glue rows (opposite (own_facet m) i)))) (unequal i 4 (λ q. absurd (omega arith)))) ∙ e
+
+    by_glue : (o : Option Gluing) → glue rows (opposite (own_facet m) i) ≡ o → (g : Gluing) × (glue rows (opposite (own_facet m) i) ≡ Some g) × (facet_behind (own_facet m) i g ≡ f)
+    by_glue None h = let z : None ≡ Some f = sym (ap (option_map (facet_behind (own_facet m) i)) h) ∙ shown in absurd cc
+    by_glue (Some g) h =
+        let z : Some (facet_behind (own_facet m) i g) ≡ Some f = sym (ap (option_map (facet_behind (own_facet m) i)) h) ∙ shown in
+        (g, h, cc)
+
+-- a legal move
+
+pub same_facet : (rows : List Row) (m : Move) (i : ℕ) (f g : Facet) → IsOldFacet rows m i f → IsOldFacet rows m i g → f ≡ g
+same_facet rows m i f g a b = let z : Some f ≡ Some g = sym a.found ∙ b.found in cc
+
+pub label_in : (rows : List Row) (m : Move) (i : ℕ) (f : Facet) → IsOldFacet rows m i f → i < 5
+label_in rows m i f a = let b = a.labelled.missing_below in let e = a.missing_is in omega arith
+
+-- faces that are glued label by label lead back so
+pub leads_by : (rows : List Row) → IsTable rows → (f g : Facet) → IsFacet f → IsFacet g → f.missing ≢ g.missing → glue rows (opposite f g.missing) ≡ Some (record { tet = g.tet; perm = label_by_label f g })
+    → glue rows (opposite g f.missing) ≡ Some (record { tet = f.tet; perm = label_by_label g f })
+leads_by rows table f g F G apart e =
+    let to : Gluing = record { tet = g.tet; perm = label_by_label f g } in
+    let back : glue rows (other_side (opposite f g.missing) to) ≡ Some (way_back (opposite f g.missing) to) = table.leads_back (opposite f g.missing) to e in
+    let at : image (label_by_label f g) (vertex_of f g.missing) ≡ vertex_of g f.missing =
+    vertex_by f g g.missing F G.missing_below (λ q. apart (sym q)) ∙ ap (vertex_of g) (in_place_same g.missing f.missing g.missing refl) in
+    ap (λ v. glue rows (record { tet = g.tet; face = v })) (sym at) ∙ back ∙ ap (λ (p : List ℕ). Some (record { tet = f.tet; perm = p })) (by_back f g F G apart)
+
+record Faultless (rows : List Row) (m : Move) : Type 0 where
+  in_range : m.tet < length rows
+  facets : first_facet_fault rows m ≡ None
+  pairs : pairs_first rows m (length m.core) ≡ None
+
+faultless : (rows : List Row) (m : Move) → move_fault rows m ≡ None → Faultless rows m
+faultless rows m none = by_size (cases_lt m.tet (length rows))
+  where
+    by_size : (m.tet < length rows) ⊎ (length rows ≤ m.tet) → Faultless rows m
+    by_size (inr l) = let z = none_such rows m l in absurd cc
+    by_size (inl l) =
+        let p = both_none (first_facet_fault rows m) (pairs_first rows m (length m.core)) (sym (move_fault_is rows m l) ∙ none) in
+        record { in_range = l; facets = p.0; pairs = p.1 }
+
+among_found : (m : Move) (i : ℕ) → IsCore m.core → length m.core ≤ i → i < 4 → Among i (found_labels m)
+among_found m i core low high =
+    subst (λ (ls : List ℕ). Among i ls) (sym (from_four (length m.core) (core_few m.core core))) (Among-range i (length m.core) (4 - length m.core) low (omega arith))
+
+fault_at : (rows : List Row) (m : Move) (i : ℕ) → IsCore m.core → Faultless rows m → length m.core ≤ i → i < 4 → facet_fault rows m i (facet rows m i) ≡ None
+fault_at rows m i core no_fault low high = first_some-none (λ k. facet_fault rows m k (facet rows m k)) i (found_labels m) no_fault.facets (among_found m i core low high)
+
+own_old : (rows : List Row) (m : Move) → IsCore m.core → Faultless rows m → IsOldFacet rows m 4 (own_facet m)
+own_old rows m core no_fault = record {
+  found = refl;
+  missing_is = refl;
+  old_label = (let b = core_few m.core core in omega arith);
+  labelled = own_is_facet m core;
+  in_range = no_fault.in_range;
+}
+
+behind_old : (rows : List Row) (m : Move) (i : ℕ) (f : Facet) → IsTable rows → IsCore m.core → length m.core ≤ i → i < 4 → facet rows m i ≡ Some f → IsOldFacet rows m i f
+behind_old rows m i f table core low high e =
+    let b = found_behind rows m i f high e in
+    let permutes = table.permutes (opposite (own_facet m) i) b.0 b.1 in
+    record {
+      found = e;
+      missing_is = ap (λ (x : Facet). x.missing) (sym b.2);
+      old_label = low;
+      labelled = subst (λ (x : Facet). IsFacet x) b.2 (behind_is_facet (own_facet m) i b.0 (own_is_facet m core) refl high permutes);
+      in_range = subst (λ (x : Facet). x.tet < length rows) b.2 (table.in_range (opposite (own_facet m) i) b.0 b.1);
+    }
+
+-- a facet that is found is of a tetrahedron of its own
+not_taken : (b : Bool) (e : MoveFault) → (if b then Some e else None) ≡ None → b ≡ false
+not_taken true e h = absurd cc
+not_taken false e h = refl
+
+free_tet : (rows : List Row) (m : Move) (i : ℕ) (f : Facet) → IsCore m.core → Faultless rows m → length m.core ≤ i → i < 4 → facet rows m i ≡ Some f → has (tets_before rows m i) f.tet ≡ false
+free_tet rows m i f core no_fault low high e =
+    not_taken (has (tets_before rows m i) f.tet) (repeated i) (ap (facet_fault rows m i) (sym e) ∙ fault_at rows m i core no_fault low high)
+
+either_false : (a b : Bool) → (a || b) ≡ false → (a ≡ false) × (b ≡ false)
+either_false true b h = absurd cc
+either_false false b h = (refl, h)
+
+apart_below : (rows : List Row) (m : Move) (i k : ℕ) (f g : Facet) → IsCore m.core → Faultless rows m → i < k → IsOldFacet rows m i f → IsOldFacet rows m k g → f.tet ≡ g.tet → ⊥
+apart_below rows m i k f g core no_fault less F G same = by_last (same_or_not k 4)
+  where
+    few : length m.core < 5
+    few = core_few m.core core
+
+    by_last : (k ≡ 4) ⊎ (k ≢ 4) → ⊥
+    by_last (inl e) =
+        let small : i < 4 = omega arith in
+        let free = free_tet rows m i f core no_fault F.old_label small F.found in
+        let first : (m.tet == f.tet) ≡ false = (either_false (m.tet == f.tet) _ free).0 in
+        let mine : own_facet m ≡ g = same_facet rows m 4 (own_facet m) g (own_old rows m core no_fault) (subst (λ j. IsOldFacet rows m j g) e G) in
+        let t : m.tet ≡ f.tet = ap (λ (x : Facet). x.tet) mine ∙ sym same in
+        let z : false ≡ true = sym first ∙ eq-eqb m.tet f.tet t in
+        absurd cc
+    by_last (inr d) =
+        let small : k < 4 = (let b = label_in rows m k g G in grind arith) in
+        let free = free_tet rows m k g core no_fault G.old_label small G.found in
+        let rest : has (map (λ (x : Facet). x.tet) (filter_map (facet rows m) (filter (λ l. nat_lt l k) (found_labels m)))) g.tet ≡ false = (either_false (m.tet == g.tet) _ free).1 in
+        let low = F.old_label in
+        let among : Among i (filter (λ l. nat_lt l k) (found_labels m)) =
+        Among-filter (λ l. nat_lt l k) i (found_labels m) (among_found m i core low (omega arith)) (lt-ltb i k less) in
+        let taken = has-among (filter_map (facet rows m) (filter (λ l. nat_lt l k) (found_labels m))) f (Among-found (facet rows m) i (filter (λ l. nat_lt l k) (found_labels m)) f among F.found) in
+        let z : false ≡ true = sym rest ∙ ap (has (map (λ (x : Facet). x.tet) (filter_map (facet rows m) (filter (λ l. nat_lt l k) (found_labels m))))) (sym same) ∙ taken in
+        absurd cc
+
+-- the move's tetrahedron is glued to a facet that is found, label by label
+own_glued : (rows : List Row) (m : Move) (k : ℕ) (g : Facet) → IsTable rows → IsCore m.core → k < 4 → IsOldFacet rows m k g → glue rows (opposite (own_facet m) k) ≡ Some (record { tet = g.tet; perm = label_by_label (own_facet m) g })
+own_glued rows m k g table core small G =
+    let b = found_behind rows m k g small G.found in
+    let permutes = table.permutes (opposite (own_facet m) k) b.0 b.1 in
+    let mk : ℕ → List ℕ → Option Gluing = λ t p. Some (record { tet = t; perm = p }) in
+    let p : b.0.perm ≡ label_by_label (own_facet m) g = behind_glued (own_facet m) k b.0 (own_is_facet m core) refl small permutes ∙ ap (label_by_label (own_facet m)) b.2 in
+    let t : b.0.tet ≡ g.tet = ap (λ (x : Facet). x.tet) b.2 in
+    b.1 ∙ ap (λ t. mk t b.0.perm) t ∙ ap (mk g.tet) p
+
+-- two facets that are found are glued to each other so
+pair_matched : (rows : List Row) (f g : Facet) → pair_fault rows (Some f) (Some g) ≡ None → is_matched f g (glue rows (opposite f g.missing)) ≡ true
+pair_matched rows f g h = by_test (is_matched f g (glue rows (opposite f g.missing))) h
+  where
+    by_test : (b : Bool) → (if b then None else Some (not_matched f.missing g.missing)) ≡ None → b ≡ true
+    by_test true h = refl
+    by_test false h = absurd cc
+
+matched_by : (rows : List Row) (f g : Facet) → IsTable rows → IsFacet f → IsFacet g → f.missing ≢ g.missing → (o : Option Gluing) → glue rows (opposite f g.missing) ≡ o → is_matched f g o ≡ true
+    → o ≡ Some (record { tet = g.tet; perm = label_by_label f g })
+matched_by rows f g table F G apart None e h = absurd cc
+matched_by rows f g table F G apart (Some p) e h =
+    let b = both_true (p.tet == g.tet) (same_list (compose g.labels p.perm) (map (in_place_of g.missing f.missing) f.labels)) h in
+    let labels : compose g.labels p.perm ≡ map (in_place_of g.missing f.missing) f.labels = same_list-true (compose g.labels p.perm) (map (in_place_of g.missing f.missing) f.labels) b.1 in
+    let permutes = table.permutes (opposite f g.missing) p e in
+    let perm : p.perm ≡ label_by_label f g =
+    by_is f g p.perm F G apart permutes (λ v l. image_below p.perm permutes v l) (λ v l. sym (image-compose g.labels p.perm permutes v l) ∙ ap (λ (xs : List ℕ). image xs v) labels ∙ image-labels v l) in
+    let mk : ℕ → List ℕ → Option Gluing = λ t q. Some (record { tet = t; perm = q }) in
+    ap (λ t. mk t p.perm) (eqb-true p.tet g.tet b.0) ∙ ap (mk g.tet) perm
+  where
+    image-labels : (v : ℕ) → v < 4 → image (map (in_place_of g.missing f.missing) f.labels) v ≡ in_place_of g.missing f.missing (image f.labels v)
+    image-labels v l = get_or-map (in_place_of g.missing f.missing) f.labels v 0 0 (let q = F.four_labels in omega arith)
+
+found_glued : (rows : List Row) (m : Move) (i k : ℕ) (f g : Facet) → IsTable rows → IsCore m.core → Faultless rows m → i < k → k < 4 → IsOldFacet rows m i f → IsOldFacet rows m k g
+    → glue rows (opposite f k) ≡ Some (record { tet = g.tet; perm = label_by_label f g })
+found_glued rows m i k f g table core no_fault less small F G =
+    let low = F.old_label in
+    let fm = F.missing_is in
+    let gm = G.missing_is in
+    let among : Among {A = ℕ × ℕ} (i, k) (filter (λ p. nat_lt p.0 p.1) (pairs_of (found_labels m) (found_labels m))) =
+    Among-filter (λ p. nat_lt p.0 p.1) (i, k) (pairs_of (found_labels m) (found_labels m))
+    (Among-pairs i k (found_labels m) (found_labels m) (among_found m i core low (omega arith)) (among_found m k core (omega arith) small)) (lt-ltb i k less) in
+    let none : pair_fault rows (facet rows m i) (facet rows m k) ≡ None =
+    first_some-none (λ p. pair_fault rows (facet rows m p.0) (facet rows m p.1)) (i, k) (filter (λ p. nat_lt p.0 p.1) (pairs_of (found_labels m) (found_labels m))) no_fault.pairs among in
+    let there : pair_fault rows (Some f) (Some g) ≡ None = ap (λ o. pair_fault rows (Some f) o) (sym G.found) ∙ ap (λ o. pair_fault rows o (facet rows m k)) (sym F.found) ∙ none in
+    ap (λ l. glue rows (opposite f l)) (sym gm)
+    ∙ matched_by rows f g table F.labelled G.labelled (λ e. absurd (omega arith)) (glue rows (opposite f g.missing)) refl (pair_matched rows f g there)
+
+glued_below : (rows : List Row) (m : Move) (i k : ℕ) (f g : Facet) → IsTable rows → IsCore m.core → Faultless rows m → i < k → IsOldFacet rows m i f → IsOldFacet rows m k g
+    → (glue rows (opposite f k) ≡ Some (record { tet = g.tet; perm = label_by_label f g })) × (glue rows (opposite g i) ≡ Some (record { tet = f.tet; perm = label_by_label g f }))
+glued_below rows m i k f g table core no_fault less F G = by_last (same_or_not k 4)
+  where
+    apart : f.missing ≢ g.missing
+    apart e = let fm = F.missing_is in let gm = G.missing_is in absurd (omega arith)
+
+    turned : (a b : Facet) → IsFacet a → IsFacet b → a.missing ≢ b.missing → (x y : ℕ) → a.missing ≡ x → b.missing ≡ y → glue rows (opposite a y) ≡ Some (record { tet = b.tet; perm = label_by_label a b })
+        → glue rows (opposite b x) ≡ Some (record { tet = a.tet; perm = label_by_label b a })
+    turned a b A B d x y ax by e = ap (λ l. glue rows (opposite b l)) (sym ax) ∙ leads_by rows table a b A B d (ap (λ l. glue rows (opposite a l)) by ∙ e)
+
+    by_last : (k ≡ 4) ⊎ (k ≢ 4) → (glue rows (opposite f k) ≡ Some (record { tet = g.tet; perm = label_by_label f g })) × (glue rows (opposite g i) ≡ Some (record { tet = f.tet; perm = label_by_label g f }))
+    by_last (inl e) =
+        let mine : own_facet m ≡ g = same_facet rows m 4 (own_facet m) g (own_old rows m core no_fault) (subst (λ j. IsOldFacet rows m j g) e G) in
+        let there : glue rows (opposite g i) ≡ Some (record { tet = f.tet; perm = label_by_label g f }) =
+        subst (λ (x : Facet). glue rows (opposite x i) ≡ Some (record { tet = f.tet; perm = label_by_label x f })) mine (own_glued rows m i f table core (omega arith) F) in
+        (turned g f G.labelled F.labelled (λ q. apart (sym q)) k i G.missing_is F.missing_is there, there)
+    by_last (inr d) =
+        let small : k < 4 = (let b = label_in rows m k g G in grind arith) in
+        let there = found_glued rows m i k f g table core no_fault less small F G in
+        (there, turned f g F.labelled G.labelled apart i k F.missing_is G.missing_is there)
+
+pub legal_from : (rows : List Row) (m : Move) → IsTable rows → IsCore m.core → move_fault rows m ≡ None → IsLegal rows m
+legal_from rows m table core none = record {
+  table = table;
+  core = core;
+  facet_at = at;
+  apart = λ i k f g F G e. pick_apart i k f g F G e (cases_lt i k);
+  inner = λ i k f g F G d. pick_inner i k f g F G d (cases_lt i k);
+}
+  where
+    no_fault : Faultless rows m
+    no_fault = faultless rows m none
+
+    at : (i : ℕ) → length m.core ≤ i → i < 5 → (f : Facet) × IsOldFacet rows m i f
+    at i low high = by_last (same_or_not i 4)
+      where
+        by_last : (i ≡ 4) ⊎ (i ≢ 4) → (f : Facet) × IsOldFacet rows m i f
+        by_last (inl e) = (own_facet m, subst (λ j. IsOldFacet rows m j (own_facet m)) (sym e) (own_old rows m core no_fault))
+        by_last (inr d) =
+            let small : i < 4 = grind arith in
+            let s = some_facet rows m i (facet rows m i) (fault_at rows m i core no_fault low small) in
+            (s.0, behind_old rows m i s.0 table core low small s.1)
+
+    pick_apart : (i k : ℕ) (f g : Facet) → IsOldFacet rows m i f → IsOldFacet rows m k g → f.tet ≡ g.tet → (i < k) ⊎ (k ≤ i) → i ≡ k
+    pick_apart i k f g F G e (inl l) = absurd (apart_below rows m i k f g core no_fault l F G e)
+    pick_apart i k f g F G e (inr l) = further (same_or_not i k)
+      where
+        further : (i ≡ k) ⊎ (i ≢ k) → i ≡ k
+        further (inl s) = s
+        further (inr d) = let less : k < i = grind arith in absurd (apart_below rows m k i g f core no_fault less G F (sym e))
+
+    pick_inner : (i k : ℕ) (f g : Facet) → IsOldFacet rows m i f → IsOldFacet rows m k g → i ≢ k → (i < k) ⊎ (k ≤ i) → glue rows (opposite f k) ≡ Some (record { tet = g.tet; perm = label_by_label f g })
+    pick_inner i k f g F G d (inl l) = (glued_below rows m i k f g table core no_fault l F G).0
+    pick_inner i k f g F G d (inr l) = let less : k < i = grind arith in (glued_below rows m k i g f table core no_fault less G F).1

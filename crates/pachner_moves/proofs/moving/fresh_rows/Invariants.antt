@@ -1,0 +1,9 @@
+-- The rows so far.
+use Rattle.std.proofs.Common.{◌≡◌, ◌-◌}
+use Rattle.std.specs.List.{range_with_len}
+use Rattle.move_definitions.specs.Moves.{kept}
+use Rattle.pachner_moves.specs.Facets.{numbered, put_row}
+use Rattle.pachner_moves.proofs.moving.fresh_rows.Given as goal
+
+abbrev pub invariant-loop-label : goal.invariant-loop-label
+invariant-loop-label l = l.rows.items ≡ numbered (λ u. put_row l.table l.m (u - kept l.table l.m)) (range_with_len (kept l.table l.m) l.label)

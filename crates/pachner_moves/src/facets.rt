@@ -1,0 +1,175 @@
+//! The facets that a move puts in, and what stands for the old faces.
+
+ghost use Rattle.std.specs.Prelude.{◌≡◌, ◌≢◌, ◌<◌, ◌≤◌, length, filter, find, not, ◌==◌, map, IfSome, All};
+ghost use Rattle.table_definitions.specs.Lists.{below, closed_up, in_place_of};
+ghost use Rattle.table_definitions.specs.Permutation.{IsPermutationOfFour, image, preimage, identity};
+ghost use Rattle.table_definitions.specs.Table.{IsTable};
+ghost use Rattle.table_definitions.specs.Relabelling.{gluing_under};
+ghost use Rattle.move_definitions.specs.Moves as moves;
+ghost use Rattle.pachner_moves.specs.Facets.{IsFacet, IsOldFacet, AreOldFacets};
+
+use crate::facet::{replace_label, vertex_of};
+use crate::{Facet, Move};
+use gluing_table::{Face, Glue, Table};
+use perm_four::Perm4;
+
+/// For each label the others, ascending.
+const OTHERS: [[u8; 4]; 5] = [
+    [1, 2, 3, 4],
+    [0, 2, 3, 4],
+    [0, 1, 3, 4],
+    [0, 1, 2, 4],
+    [0, 1, 2, 3],
+];
+
+/// The labels but one, ascending.
+pub fn other_labels(label: u8) -> [u8; 4]
+    requires { label < 5 }
+    ensures value { result ≡ filter (λ l. not (l == label)) (below 5) }
+    ensures other { All (λ l. (l < 5) × (l ≢ label)) result }
+{
+    OTHERS[label as usize]
+}
+
+/// The number of tetrahedra that a move keeps.
+pub fn kept(table: &Table, m: &Move) -> u32
+    ensures value { result ≡ moves.kept table.now m.now }
+    ensures few { result ≤ 1000 }
+    ensures is_table { IsTable table.now }
+{
+    (table.rows().len() as u32).saturating_sub(5 - m.core.size() as u32)
+}
+
+/// The facet that is put in for a label.
+pub fn new_facet(table: &Table, m: &Move, label: u8) -> Facet
+    requires { label < 5 }
+    ensures { result ≡ moves.new_facet table.now m.now label }
+{
+    Facet {
+        tet: kept(table, m) + label as u32,
+        missing: label,
+        labels: other_labels(label),
+    }
+}
+
+/// The vertex of a facet with a label, or with another one in place of the label that it lacks.
+fn vertex_beside(facet: Facet, missing: u8, label: u8) -> u8
+    ensures value { result ≡ moves.vertex_of facet (in_place_of facet.missing missing label) }
+{
+    vertex_of(&facet.labels, replace_label(label, facet.missing, missing))
+}
+
+/// Where the vertices of a facet go in another, label by label.
+pub fn label_by_label(f: Facet, g: Facet) -> Perm4
+    requires { IsPermutationOfFour (moves.label_by_label f g) }
+    ensures { result ≡ moves.label_by_label f g }
+{
+    let [a, b, c, d] = f.labels;
+    match Perm4::new(
+        vertex_beside(g, f.missing, a),
+        vertex_beside(g, f.missing, b),
+        vertex_beside(g, f.missing, c),
+        vertex_beside(g, f.missing, d),
+    ) {
+        Some(perm) => perm,
+        None => unreachable!(),
+    }
+}
+
+/// What stands for an old facet at its face opposite a label.
+fn facet_stand_in(table: &Table, m: &Move, f: Facet, label: u8) -> Option<Glue>
+    requires labelled { IsFacet f }
+    requires old { length m.now.core ≤ f.missing }
+    ensures { result ≡ moves.facet_stand_in table.now m.now f label }
+{
+    if label >= m.core.size() {
+        return None;
+    }
+    let new = new_facet(table, m, label);
+    Some(Glue {
+        tet: new.tet,
+        perm: label_by_label(f, new),
+    })
+}
+
+/// The number once the facets are taken out.
+fn closed_number(facets: &[Facet], tet: u32) -> u32
+    requires { length facets.now ≤ 5 }
+    ensures { result ≡ closed_up (map (λ f. f.tet) facets.now) tet }
+{
+    let before = facets.iter().filter(|f| f.tet < tet).count();
+    tet.saturating_sub(before as u32)
+}
+
+/// The permutation that leaves each vertex where it is.
+#[tactic(auto, unfolding(table_definitions::specs::Permutation::is_permutation))]
+fn unmoved() -> Perm4
+    ensures { result ≡ identity }
+{
+    match Perm4::new(0, 1, 2, 3) {
+        Some(perm) => perm,
+        None => unreachable!(),
+    }
+}
+
+/// What stands for a tetrahedron that is kept.
+fn kept_stand_in(table: &Table, m: &Move, facets: &[Facet], tet: u32) -> Glue
+    requires { AreOldFacets table.now m.now facets.now }
+    ensures { result ≡ moves.kept_stand_in table.now m.now tet }
+{
+    Glue {
+        tet: closed_number(facets, tet),
+        perm: unmoved(),
+    }
+}
+
+/// The facet of a tetrahedron.
+fn facet_of(facets: &[Facet], tet: u32) -> Option<Facet>
+    ensures { result ≡ find (λ f. f.tet == tet) facets.now }
+{
+    for facet in facets {
+        if facet.tet == tet {
+            return Some(*facet);
+        }
+    }
+    None
+}
+
+/// What stands for the tetrahedron of a face there.
+fn stand_in(table: &Table, m: &Move, facets: &[Facet], x: Face) -> Option<Glue>
+    requires old { AreOldFacets table.now m.now facets.now }
+    requires a_face { x.face < 4 }
+    ensures { result ≡ moves.stand_in_at table.now m.now x }
+{
+    match facet_of(facets, x.tet) {
+        Some(f) => facet_stand_in(table, m, f, f.labels[x.face as usize]),
+        None => Some(kept_stand_in(table, m, facets, x.tet)),
+    }
+}
+
+/// The gluing that stands for another, by what stands for both tetrahedra.
+fn glue_under(s: Glue, r: Glue, glue: Glue) -> Glue
+    ensures { result ≡ gluing_under s r glue }
+{
+    Glue {
+        tet: r.tet,
+        perm: r.perm.compose(glue.perm.compose(s.perm.inverse())),
+    }
+}
+
+/// The gluing that stands for that of a face, whose tetrahedron `s` stands for.
+pub fn moved_glue(
+    table: &Table,
+    m: &Move,
+    facets: &[Facet],
+    x: Face,
+    s: Glue,
+    glue: Glue,
+) -> Option<Glue>
+    requires old { AreOldFacets table.now m.now facets.now }
+    requires a_face { x.face < 4 }
+    ensures { result ≡ moves.moved_gluing table.now m.now x s glue }
+{
+    let r = stand_in(table, m, facets, glue.other_side(x))?;
+    Some(glue_under(s, r, glue))
+}
