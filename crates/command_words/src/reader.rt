@@ -167,6 +167,7 @@ fn is_built(request: &Request) -> bool
         Request::Surfaces(Coords::Standard | Coords::Octagon, _, _) => true,
         Request::Rays(_, _) => true,
         Request::Info => true,
+        Request::Sig | Request::Same | Request::Group => true,
         _ => false,
     }
 }

@@ -3,4 +3,6 @@ pub mod Enumerated
 pub mod Numbered
 pub mod Informed
 pub mod Scripted
+pub mod Labelled
+pub mod ReadPairs
 pub mod Agreement
