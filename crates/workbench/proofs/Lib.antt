@@ -7,3 +7,7 @@ pub mod RunClauses
 pub mod Answering
 pub mod ClassLines
 pub mod Headlines
+pub mod EachTable
+pub mod Grouping
+pub mod LabelLines
+pub mod LineCount

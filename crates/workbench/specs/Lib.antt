@@ -7,3 +7,4 @@ pub mod Verdicts
 pub mod Cones
 pub mod Requests
 pub mod Prints
+pub mod Groups

@@ -4,11 +4,15 @@
 mod dispatch;
 mod document;
 mod enumerations;
+mod group_command;
+mod groups;
 mod info_command;
 mod information;
 mod outcome;
 mod rays_command;
 mod refusals;
+mod same_command;
+mod sig_command;
 mod surfaces_command;
 mod vectors;
 mod verify_command;
