@@ -43,6 +43,7 @@ one_surfaces : (coords : Coordinates) (order : Order) (most : ℕ) (rows : List 
 one_surfaces coords order most rows o p some h k =
     one_enumeration (codes "surfaces") (table_enumeration coords order most rows h.0) o p some h.2
     (subst (λ equations. IsEnumerationAnswer (codes "surfaces") (table_enumeration coords order most rows equations) p) (sym (one_equations coords rows h.0 k.0 h.1 k.1)) k.2)
+
 -- the same, where what was read is known of
 one_found : {A : Type 0} (document : Result A InputFault) (IsAnswer : A → Outcome → Type 0) (o p : Outcome) →
     ((value : A) → document ≡ Ok value → IsAnswer value o → IsAnswer value p → o ≡ p) → IsReadOutcome document IsAnswer o → IsReadOutcome document IsAnswer p → o ≡ p

@@ -1,5 +1,7 @@
 // Rows of `play`.
-use crate::running::{Row, are_answered};
+use crate::running::{Row, STEADY, answered, are_answered};
+use std::alloc::Global;
+use std::process::Abort;
 use std::test::Fail;
 use workbench::Status;
 
@@ -135,4 +137,41 @@ const ROWS: [Row; 21] = [
 #[test]
 fn play_rows_are_answered(rt: HostRuntime) -> Result<(), Fail> {
     are_answered(&rt, rt.alloc(), &ROWS)
+}
+
+/// Appends the rows of tetrahedra without glued faces.
+fn push_loose(text: &mut Vec<u8>, count: u32) -> Result<(), Fail> {
+    for _tet in 0..count {
+        text.extend_from_slice(b"- - - -\n")?;
+    }
+    Ok(())
+}
+
+/// What is wanted for the move `14 0` on so many tetrahedra without glued faces.
+fn is_played_on_loose(
+    rt: &impl Abort,
+    alloc: Global,
+    count: u32,
+    first: &[u8],
+    wanted: &[u8],
+) -> Result<(), Fail> {
+    let mut input = first.to_vec(alloc)?;
+    push_loose(&mut input, count)?;
+    input.extend_from_slice(b"14 0\n")?;
+    let answer = answered(alloc, &["play"], &input, STEADY, STEADY, 1 << 16)?;
+    assert_eq!(rt; answer.status, Status::Done);
+    assert_eq!(rt; answer.text.as_slice(), wanted);
+    Ok(())
+}
+
+#[test]
+fn moves_keep_within_the_limit(rt: HostRuntime) -> Result<(), Fail> {
+    let mut refused = b"illegal too-many\ntri 998\n".to_vec(rt.alloc())?;
+    push_loose(&mut refused, 998)?;
+    is_played_on_loose(&rt, rt.alloc(), 998, b"tri 998\n", &refused)?;
+    let mut played = b"done\ntri 1000\n".to_vec(rt.alloc())?;
+    push_loose(&mut played, 996)?;
+    played.extend_from_slice(b"997:0123 998:1023 999:1203 -\n996:0123 998:0123 999:0213 -\n")?;
+    played.extend_from_slice(b"996:1023 997:0123 999:0123 -\n996:2013 997:0213 998:0123 -\n")?;
+    is_played_on_loose(&rt, rt.alloc(), 997, b"tri 997\n", &played)
 }

@@ -16,9 +16,9 @@ pub invariant_of-self-2 : goal.invariant_of-self-2
 invariant_of-self-2 c =
     let back = recorded-last _ _ _ _ _ _ c.in-Some.ensures.items c.self.invariant.recorded in
     let recorded : Recorded (first_table c.self.inside.undos.items c.self.inside.table) c.self.inside.moves.items c.pop.new.self.items c.take_back.new.table =
-    subst (λ (t : List Row). Recorded (first_table c.self.inside.undos.items c.self.inside.table) c.self.inside.moves.items c.pop.new.self.items t) (sym c.take_back.ensures) back.recorded in
+    subst (λ (t : List Row). Recorded (first_table c.self.inside.undos.items c.self.inside.table) c.self.inside.moves.items c.pop.new.self.items t) (sym c.take_back.ensures.former) back.recorded in
     record {
-      recorded = recorded-as _ c.self.inside.moves.items _ c.pop.new.self.items _ _ refl refl (first-last _ _ _ _ _ c.in-Some.ensures.items c.take_back.ensures) recorded;
+      recorded = recorded-as _ c.self.inside.moves.items _ c.pop.new.self.items _ _ refl refl (first-last _ _ _ _ _ c.in-Some.ensures.items c.take_back.ensures.former) recorded;
       few = c.self.invariant.few;
       room = subst (λ k. length c.self.inside.moves.items ≤ k) (sym c.in-Some.ensures.capacity) c.self.invariant.room;
     }
@@ -29,7 +29,7 @@ returns-clause-undone c =
     ap (λ (us : List Undo). length us) c.in-Some.ensures.items ∙ length_push c.pop.new.self.items c.in-Some.undo in
     let some : 0 < length c.self.inside.undos.items = omega arith in
     let less : length c.pop.new.self.items ≡ length c.self.inside.undos.items - 1 = omega arith in
-    let first = first-last _ _ _ _ _ c.in-Some.ensures.items c.take_back.ensures in (
+    let first = first-last _ _ _ _ _ c.in-Some.ensures.items c.take_back.ensures.former in (
       subst (λ (s : sessions.Session). 0 < s.played) c.self.view_is some,
       (λ i. record { first = first i; moves = c.self.inside.moves.items; played = less i }) ∙ ap (λ (s : sessions.Session). sessions.one_less s) c.self.view_is,
     )
