@@ -5,6 +5,7 @@
 
 ghost use Rattle.document_laws.specs.ConeLaws.{ConesAreRead, ConeDocumentsAreRead};
 ghost use Rattle.document_laws.specs.FaultLaws.{ConeFaultsLeave, TableFaultsLeave, TwoTablesFaultsLeave, TablesFaultsLeave, VectorsFaultsLeave, VectorsFaultsLeaveFirst, VectorFaultsLeave};
+ghost use Rattle.document_laws.specs.TextFaultLaws.{TableLinesAreText, TableFaultsStandFirst, VectorsFaultsStandFirst, VectorFaultsStandFirst, TwoTablesFaultsStandFirst, TablesFaultsStandFirst};
 ghost use Rattle.document_laws.specs.DocumentLaws.{TableDocumentsAreRead, VectorsDocumentsAreRead, VectorDocumentsAreRead, TwoTablesAreRead, TablesAreRead};
 
 /// Lines are read as a cone exactly where they are one, and so are the bytes of an input.
@@ -36,4 +37,15 @@ pub fn faults_leave_the_grammar()
     ensures vectors { VectorsFaultsLeave }
     ensures vectors_first { VectorsFaultsLeaveFirst }
     ensures vector { VectorFaultsLeave }
+{}
+
+/// Where the text of an input with tables is refused, the fault stands at the first sign with which nothing goes on to the
+/// text of such an input, whatever its rows glue and its signatures spell; and a table's lines are such a text.
+pub fn faults_stand_first()
+    ensures text { TableLinesAreText }
+    ensures table { TableFaultsStandFirst }
+    ensures vectors { VectorsFaultsStandFirst }
+    ensures vector { VectorFaultsStandFirst }
+    ensures two_tables { TwoTablesFaultsStandFirst }
+    ensures tables { TablesFaultsStandFirst }
 {}
