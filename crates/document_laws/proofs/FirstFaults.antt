@@ -1,12 +1,10 @@
 -- Where the text of a document with tables is refused, the fault stands at the first sign with which nothing goes on to such a text.
-use Rattle.std.proofs.Common.{◌≡◌, ◌≢◌, ◌≤◌, ◌+◌, ℕ, zero, suc, List, [], ◌∷◌, ◌++◌, length, Option, Some, Result, Ok, Err, inl, inr, refl, sym, ap, ◌∙◌, subst, arith}
+use Rattle.std.proofs.Common.{◌≡◌, ◌≢◌, ℕ, List, [], ◌∷◌, ◌++◌, Some, Ok, refl, sym, ap, ◌∙◌}
 use Rattle.std.specs.Prelude.{⊤}
-use Rattle.std.proofs.lemmas.List.{append-nil, length-append}
 use Rattle.text_definitions.specs.declared.Place.{Place}
-use Rattle.text_definitions.specs.declared.LexFault.{LexFault}
-use Rattle.text_definitions.specs.Text.{Token, word, stray, Line, lines_of, end_of}
-use Rattle.text_definitions.specs.Reading.{Reading, ◌>>=◌, start_of}
-use Rattle.document_definitions.specs.Signs.{Sign, line_end, Placed, line_signs, signs_of, plain, LeavesAt, FirstLeavesAt}
+use Rattle.text_definitions.specs.Text.{Token, Line, lines_of, end_of}
+use Rattle.text_definitions.specs.Reading.{Reading, start_of}
+use Rattle.document_definitions.specs.Signs.{Sign, line_end, Placed, line_signs, signs_of, plain, FirstLeavesAt}
 use Rattle.document_laws.proofs.Local.{left_signs, shows, opening, StopsAt}
 use Rattle.document_laws.proofs.LocalWords.{end_there}
 use Rattle.document_laws.proofs.Leaving.{start_with}

@@ -1,5 +1,5 @@
 -- A table and lines of one form: the first fault of their text.
-use Rattle.std.proofs.Common.{◌≡◌, ◌≢◌, ◌≤◌, ◌+◌, ℕ, suc, List, [], ◌∷◌, ◌++◌, length, Result, Ok, Err, refl, sym, ap, ◌∙◌, subst, arith}
+use Rattle.std.proofs.Common.{◌≡◌, ◌≤◌, ◌+◌, ℕ, List, [], ◌∷◌, ◌++◌, length, Result, Ok, Err, refl, sym, ap, ◌∙◌, subst, arith}
 use Rattle.std.specs.Prelude.{⊤}
 use Rattle.std.specs.List.{AllByRecursion}
 use Rattle.std.proofs.lemmas.List.{length-append}
@@ -7,7 +7,6 @@ use Rattle.text_definitions.specs.declared.LexFault.{LexFault}
 use Rattle.text_definitions.specs.Text.{Line, lines_of, end_of}
 use Rattle.text_definitions.specs.Reading.{Reading, ◌>>=◌, begun, start_of}
 use Rattle.table_definitions.specs.Table.{Row}
-use Rattle.signature_definitions.specs.SignatureText.{InputFault}
 use Rattle.signature_definitions.specs.Grammar.{AreTableLines}
 use Rattle.document_definitions.specs.Documents.{worded, each_line_from, next_table_at, table_and_lines}
 use Rattle.document_definitions.specs.Signs.{Sign, FirstLeavesAt}
@@ -22,7 +21,7 @@ use Rattle.document_laws.proofs.Ways.{From, Well, WellOpen, well_open}
 use Rattle.document_laws.proofs.TextReaders.{Read, next_text, left_only, Copies, copy_known, copy_then, copy_same, copy_worded, FaultsAs, faults_bind, copy_next_table}
 use Rattle.document_laws.proofs.TextWays.{goes_next_text, well_next_text}
 use Rattle.document_laws.proofs.TextGrammar.{text_blocks}
-use Rattle.document_laws.proofs.TextEnds.{AtEnd, nothing, each_from, go_each, each_none, each_more, alike_each_from, from_nothing, well_each, each_sound, each_complete}
+use Rattle.document_laws.proofs.TextEnds.{AtEnd, nothing, each_from, each_none, each_more, alike_each_from, from_nothing, well_each, each_sound, each_complete}
 use Rattle.document_laws.proofs.FirstFaults.{stands_first}
 
 -- what is made of a value has no fault of its own

@@ -1,5 +1,5 @@
 -- One table, two tables, and any number of tables: the first fault of their text.
-use Rattle.std.proofs.Common.{◌≡◌, ◌≢◌, ◌≤◌, ◌+◌, ℕ, zero, suc, List, [], ◌∷◌, ◌++◌, length, Result, Ok, Err, inl, inr, refl, sym, ap, ◌∙◌, subst}
+use Rattle.std.proofs.Common.{◌≡◌, ℕ, zero, suc, List, [], ◌∷◌, ◌++◌, Result, Ok, Err, inl, inr, refl, sym, ap, ◌∙◌, subst}
 use Rattle.std.specs.Prelude.{⊤}
 use Rattle.std.proofs.lemmas.List.{append-nil}
 use Rattle.text_definitions.specs.declared.LexKind.TheVariants.{BadByte, ExtraWord}
@@ -18,11 +18,11 @@ use Rattle.document_laws.proofs.Local.{shows}
 use Rattle.document_laws.proofs.LocalWords.{as_is}
 use Rattle.document_laws.proofs.LocalLines.{by_lines}
 use Rattle.document_laws.proofs.LocalTables.{in_text}
-use Rattle.document_laws.proofs.Ways.{Sat, From, Alike, alike_goes, Well, WellOpen, well_open, from_sat}
+use Rattle.document_laws.proofs.Ways.{From, Alike, alike_goes, Well, WellOpen, well_open, from_sat}
 use Rattle.document_laws.proofs.TextReaders.{Read, text_at, next_text, left_only, Copies, copy_bind, copy_then, FaultsAs, faults_bind, copy_table, copy_next_table}
 use Rattle.document_laws.proofs.TextWays.{SatBehind, behind_both, goes_text, goes_next_text, well_text, well_next_text, sat_next_text}
-use Rattle.document_laws.proofs.TextGrammar.{text_taken, text_given, IsText, text_blocks}
-use Rattle.document_laws.proofs.TextEnds.{first_fault, closed_from, closing, Any, closing_none, none_closing, alike_closing, well_closing, alike_chained, AtEnd, nothing, each_from, alike_each_from, from_nothing, well_each, each_sound, each_complete}
+use Rattle.document_laws.proofs.TextGrammar.{text_taken, text_given, text_blocks}
+use Rattle.document_laws.proofs.TextEnds.{first_fault, closed_from, closing, Any, closing_none, none_closing, alike_closing, well_closing, alike_chained, AtEnd, nothing, each_from, well_each, each_sound, each_complete}
 use Rattle.document_laws.proofs.FirstFaults.{stands_first}
 
 -- no further line

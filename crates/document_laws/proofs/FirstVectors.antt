@@ -1,29 +1,28 @@
 -- A table with vectors, and with one vector: the first fault of their text.
-use Rattle.std.proofs.Common.{◌≡◌, ◌≢◌, ℕ, List, [], ◌∷◌, ◌++◌, Result, Ok, Err, refl, sym, ap, ◌∙◌, subst}
+use Rattle.std.proofs.Common.{◌≡◌, ℕ, List, [], ◌∷◌, ◌++◌, Result, Ok, refl, sym, ap, ◌∙◌, subst}
 use Rattle.std.specs.Prelude.{⊤, codes}
 use Rattle.text_definitions.specs.declared.LexFault.{LexFault}
-use Rattle.text_definitions.specs.Text.{Token, word, Line, lines_of}
+use Rattle.text_definitions.specs.Text.{word, Line}
 use Rattle.text_definitions.specs.Reading.{Reading, ◌>>=◌, begun, start_of, need_line_at}
 use Rattle.table_definitions.specs.Table.{Row}
 use Rattle.table_definitions.proofs.ReadingLaws.{bind_ok}
 use Rattle.cone_text_definitions.specs.VectorText.{vector_at}
-use Rattle.signature_definitions.specs.SignatureText.{InputFault}
 use Rattle.surface_definitions.specs.Grammar.{IsVectorLine}
-use Rattle.document_definitions.specs.Documents.{worded, next_table_at, vectors_document, vector_document}
+use Rattle.document_definitions.specs.Documents.{worded, next_table_at, vector_document}
 use Rattle.document_definitions.specs.Signs.{Sign}
 use Rattle.document_laws.specs.TextForms.{AreTableText, IsVectorText, AreTableAndVectorText}
 use Rattle.document_laws.specs.TextFaultLaws.{VectorsFaultsStandFirst, VectorFaultsStandFirst}
-use Rattle.document_laws.proofs.LineLaws.{BeginsLine, line_begun, line_found}
+use Rattle.document_laws.proofs.LineLaws.{BeginsLine}
 use Rattle.document_laws.proofs.Documents.{reads_vectors, end_at}
-use Rattle.document_laws.proofs.Local.{shows, Goes, goes_chained, alone, alone_ok}
+use Rattle.document_laws.proofs.Local.{shows}
 use Rattle.document_laws.proofs.LocalWords.{as_is}
 use Rattle.document_laws.proofs.LocalLines.{next_line, goes_line}
 use Rattle.document_laws.proofs.LocalForms.{goes_vector}
 use Rattle.document_laws.proofs.LocalTables.{in_text}
-use Rattle.document_laws.proofs.Ways.{Sat, From, Alike, alike_goes, Well, WellOpen, well_goes, well_open, well_behind, sat_both, from_sat}
+use Rattle.document_laws.proofs.Ways.{Sat, From, Alike, alike_goes, Well, WellOpen, well_goes, well_open, well_behind, from_sat}
 use Rattle.document_laws.proofs.WordWays.{free_line, well_line}
 use Rattle.document_laws.proofs.VectorWays.{well_vector}
-use Rattle.document_laws.proofs.TextReaders.{Read, next_text, left_only, shown_only, Copies, copy_alone, copy_same, copy_worded, faults_bind, copy_next_table}
+use Rattle.document_laws.proofs.TextReaders.{Read, next_text, left_only, shown_only, copy_alone, copy_same, copy_worded, faults_bind, copy_next_table}
 use Rattle.document_laws.proofs.TextWays.{SatBehind, in_next_line, goes_next_text, well_next_text}
 use Rattle.document_laws.proofs.TextGrammar.{text_blocks, begins, next_found}
 use Rattle.document_laws.proofs.TextEnds.{closing, Any, closing_none, none_closing, alike_closing, well_closing, alike_chained, nothing}

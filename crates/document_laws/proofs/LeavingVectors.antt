@@ -1,11 +1,10 @@
 -- Where a vector behind a table is refused, the lines leave the grammar at the fault's place, and at none before.
-use Rattle.std.proofs.Common.{◌≡◌, ◌≢◌, ◌+◌, ℕ, suc, List, [], ◌∷◌, ◌++◌, length, Option, Some, None, Result, Ok, Err, ◌⊎◌, inl, inr, refl, sym, ap, ◌∙◌, subst, arith}
-use Rattle.std.specs.Prelude.{⊤, map}
+use Rattle.std.proofs.Common.{◌≡◌, ◌≢◌, ◌+◌, ℕ, suc, List, [], ◌∷◌, ◌++◌, length, Result, Ok, Err, ◌⊎◌, inl, inr, refl, sym, ap, ◌∙◌, subst, arith}
 use Rattle.std.specs.List.{AllZip}
-use Rattle.std.proofs.lemmas.List.{append-nil, append_assoc, length-append}
+use Rattle.std.proofs.lemmas.List.{append_assoc, length-append}
 use Rattle.text_definitions.specs.declared.Place.{Place}
 use Rattle.text_definitions.specs.declared.LexFault.{LexFault}
-use Rattle.text_definitions.specs.Text.{Token, Line, lines_of, end_of}
+use Rattle.text_definitions.specs.Text.{Line, lines_of, end_of}
 use Rattle.text_definitions.specs.Reading.{Reading, ◌>>=◌, begun, start_of}
 use Rattle.table_definitions.specs.Table.{Row}
 use Rattle.cone_text_definitions.specs.VectorText.{vector_at}
@@ -13,18 +12,18 @@ use Rattle.surface_definitions.specs.Grammar.{IsVectorLine}
 use Rattle.surface_definitions.proofs.VectorLaws.{VectorRead, vector_read}
 use Rattle.signature_definitions.specs.SignatureText.{InputFault, any_table_at}
 use Rattle.signature_definitions.specs.Grammar.{AreTableLines}
-use Rattle.document_definitions.specs.Documents.{worded, each_line_from, next_table_at, table_and_lines, vectors_document}
-use Rattle.document_definitions.specs.Signs.{Sign, Placed, token_sign, line_signs, signs_of, plain, FirstLeavesAt}
+use Rattle.document_definitions.specs.Documents.{worded, next_table_at, table_and_lines}
+use Rattle.document_definitions.specs.Signs.{Sign, Placed, signs_of, plain, FirstLeavesAt}
 use Rattle.document_laws.specs.FaultLaws.{SomeTableAndVectors, VectorsFaultsLeaveFirst}
 use Rattle.document_laws.proofs.Tables.{table_blocks, worded_ok}
 use Rattle.document_laws.proofs.Documents.{reads_vectors, lines_found_at}
 use Rattle.document_laws.proofs.AnyTables.{next_of_begun}
-use Rattle.document_laws.proofs.Local.{left_signs, shows, plain-append, GoesOn, StopsAt, bind_err, stops_early, stops_late}
+use Rattle.document_laws.proofs.Local.{left_signs, plain-append, GoesOn, StopsAt, bind_err, stops_early, stops_late}
 use Rattle.document_laws.proofs.LocalWords.{as_is}
 use Rattle.document_laws.proofs.LocalLines.{by_lines, in_line, rest_of_line, rest_here, line_split}
 use Rattle.document_laws.proofs.LocalForms.{goes_vector, stops_vector}
 use Rattle.document_laws.proofs.LocalTables.{in_text, goes_any_table}
-use Rattle.document_laws.proofs.Leaving.{behind_line, start_with, leaves, each_line, none, one, others_of, each_stepped, lines_never, begun_signs}
+use Rattle.document_laws.proofs.Leaving.{behind_line, start_with, leaves, each_line, none, one, others_of, each_stepped, begun_signs}
 use Rattle.document_laws.proofs.LeavingDocuments.{no_table, no_table_ends, table_by_line, vectors_on}
 use Rattle.document_laws.proofs.Ways.{Way}
 use Rattle.document_laws.proofs.ConeWays.{last_signs, of_lines, at_last}

@@ -29,3 +29,6 @@ pub mod FirstFaults
 pub mod FirstTables
 pub mod FirstLines
 pub mod FirstVectors
+pub mod MoveWays
+pub mod FirstMoves
+pub mod HaveText

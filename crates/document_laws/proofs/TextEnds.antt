@@ -1,5 +1,5 @@
 -- Readers to the end of an input: no further line, and blocks of lines one after another.
-use Rattle.std.proofs.Common.{◌≡◌, ◌≢◌, ◌≤◌, ℕ, List, [], ◌∷◌, ◌++◌, length, Option, Some, Result, Ok, Err, refl, sym, ap, ◌∙◌, subst, arith}
+use Rattle.std.proofs.Common.{◌≡◌, ◌≢◌, List, [], ◌∷◌, ◌++◌, Some, Result, Ok, Err, refl, sym, ap, ◌∙◌, subst}
 use Rattle.std.specs.Prelude.{⊤}
 use Rattle.std.proofs.lemmas.List.{append_assoc}
 use Rattle.text_definitions.specs.declared.Place.{Place}
@@ -7,7 +7,7 @@ use Rattle.text_definitions.specs.declared.LexKind.TheVariants.{BadByte, ExtraWo
 use Rattle.text_definitions.specs.declared.LexFault.{LexFault}
 use Rattle.text_definitions.specs.Text.{Token, word, stray, Line}
 use Rattle.text_definitions.specs.Reading.{Reading, ◌>>=◌, begun, fault_at}
-use Rattle.document_definitions.specs.Signs.{Sign, shown, strange, line_end, input_end, Placed, token_sign, line_signs, signs_of, plain}
+use Rattle.document_definitions.specs.Signs.{Sign, shown, strange, line_end, input_end, Placed, line_signs, signs_of, plain}
 use Rattle.table_definitions.proofs.ReadingLaws.{bind_ok, ok_parts, with_tokens}
 use Rattle.document_laws.proofs.Local.{left_signs, shows, opening, plain-append, StopsAt, Goes}
 use Rattle.document_laws.proofs.LocalWords.{as_is}

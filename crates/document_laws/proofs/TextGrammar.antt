@@ -1,16 +1,15 @@
 -- The text of a table is read exactly where the next lines have its form.
-use Rattle.std.proofs.Common.{◌≡◌, ℕ, zero, suc, Bool, true, false, List, [], ◌∷◌, ◌++◌, length, Option, Result, Ok, Err, inl, inr, refl, sym, ap, ◌∙◌, subst}
+use Rattle.std.proofs.Common.{◌≡◌, ℕ, zero, suc, Bool, true, false, List, [], ◌∷◌, ◌++◌, length, Result, Ok, inl, inr, refl, sym, ap, ◌∙◌, subst}
 use Rattle.std.specs.Prelude.{⊤, codes}
 use Rattle.std.specs.List.{AllZip, AllByRecursion}
 use Rattle.text_definitions.specs.declared.LexFault.{LexFault}
-use Rattle.text_definitions.specs.Text.{Token, word, Line, decimal_value}
+use Rattle.text_definitions.specs.Text.{Token, word, Line}
 use Rattle.text_definitions.specs.Reading.{Reading, ◌>>=◌, begun, number_at, need_line_at, end_line_at}
-use Rattle.table_definitions.specs.Table.{max_tets, Row, IsTable}
+use Rattle.table_definitions.specs.Table.{max_tets, Row}
 use Rattle.table_definitions.specs.Grammar.{AreWords, IsNumber, IsEntry, IsRowLine, AreTriLines}
-use Rattle.signature_definitions.specs.Grammar.{AreTableLines}
 use Rattle.table_definitions.proofs.ReadingLaws.{bind_ok, ok_parts, with_tokens, behind, TakesNumber, number_read, one_number}
-use Rattle.document_laws.specs.TextForms.{IsRowText, AreTriText, AreSigText, AreTableText}
-use Rattle.document_laws.specs.TextFaultLaws.{TableLinesAreText}
+use Rattle.document_laws.specs.TextForms.{IsRowText, AreTriText, AreTableText}
+use Rattle.document_laws.specs.TextFaultLaws.{TablesHaveText}
 use Rattle.document_laws.proofs.Blocks.{ReadsBlocks}
 use Rattle.document_laws.proofs.LineLaws.{BeginsLine, line_begun, line_found, line_ended, end_found, FirstWord, first_word, no_words}
 use Rattle.document_laws.proofs.Local.{alone, alone_ok}
@@ -267,8 +266,8 @@ tri_has_text (l ∷ lines) rows (n, a, value, z, table) =
     let m : AllByRecursion IsRowText lines × (length rows ≡ length lines) = rows_have_text lines rows z in
     (n, a, subst (λ (k : ℕ). IsNumber max_tets n k) m.1 (record { value = value; up_to = table.few }), m.0)
 
-pub table_lines_are_text : TableLinesAreText
-table_lines_are_text lines rows (inl h) = inl (tri_has_text lines rows h)
-table_lines_are_text [] rows (inr h) = absurd h
-table_lines_are_text (l ∷ []) rows (inr (text, a, spells)) = inr (text, a)
-table_lines_are_text (l ∷ m ∷ lines) rows (inr h) = absurd h
+pub tables_have_text : TablesHaveText
+tables_have_text lines rows (inl h) = inl (tri_has_text lines rows h)
+tables_have_text [] rows (inr h) = absurd h
+tables_have_text (l ∷ []) rows (inr (text, a, spells)) = inr (text, a)
+tables_have_text (l ∷ m ∷ lines) rows (inr h) = absurd h

@@ -1,18 +1,18 @@
 -- The text of a table, read without a look at what it means; and it is read so where a document's reader reads it.
-use Rattle.std.proofs.Common.{◌≡◌, ◌≢◌, ℕ, zero, suc, ◌^◌, ◌<◌, ◌≤◌, Bool, true, false, List, [], ◌∷◌, Option, Some, None, Result, Ok, Err, refl, sym, ap, ◌∙◌, subst, arith}
+use Rattle.std.proofs.Common.{◌≡◌, ℕ, zero, suc, ◌<◌, ◌≤◌, Bool, true, false, List, [], ◌∷◌, Option, Some, None, Result, Ok, Err, refl, sym, ap, subst, arith}
 use Rattle.std.specs.Prelude.{⊤, nat_lt, if◌then◌else◌}
 use Rattle.std.proofs.lemmas.Bool.{ltb-true, ltb-false}
 use Rattle.text_definitions.specs.declared.LexKind.{LexKind}
-use Rattle.text_definitions.specs.declared.LexKind.TheVariants.{BadByte, ExtraWord, NumberTooWide, BadWord}
+use Rattle.text_definitions.specs.declared.LexKind.TheVariants.{NumberTooWide, BadWord}
 use Rattle.text_definitions.specs.declared.LexFault.{LexFault}
-use Rattle.text_definitions.specs.Text.{Token, word, stray, Line, decimal_value}
+use Rattle.text_definitions.specs.Text.{decimal_value}
 use Rattle.text_definitions.specs.Written.{limit}
-use Rattle.text_definitions.specs.Reading.{Reading, ◌>>=◌, begun, fault_at, word_fault, word_at, number_up_to, number_at, need_line_at, end_line_at, end_from}
+use Rattle.text_definitions.specs.Reading.{Reading, ◌>>=◌, word_fault, word_at, number_up_to, number_at, need_line_at, end_line_at}
 use Rattle.table_definitions.specs.Table.{max_tets, Gluing, TableFault, too_many, table_fault}
 use Rattle.table_definitions.specs.Table as tables
-use Rattle.table_definitions.specs.TableText.{TextFault, lexical, no_table, lexed, entry_at, row_at, rows_at, checked, counted_rows_at, table_at}
+use Rattle.table_definitions.specs.TableText.{TextFault, lexical, lexed, entry_at, row_at, rows_at, checked, counted_rows_at, table_at}
 use Rattle.signature_definitions.specs.SignatureText.{SigFault, InputFault, texted, decoded, signature_table, signature_at, any_table_at}
-use Rattle.document_definitions.specs.Documents.{worded, no_line_from, next_table_at}
+use Rattle.document_definitions.specs.Documents.{worded, next_table_at}
 use Rattle.document_laws.proofs.Local.{alone}
 use Rattle.document_laws.proofs.LocalWords.{as_is, word_with, ending}
 use Rattle.document_laws.proofs.LocalLines.{next_line}

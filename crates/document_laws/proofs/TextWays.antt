@@ -1,10 +1,10 @@
 -- The text of a table: what stands before a fault can be gone on with to the text of one.
-use Rattle.std.proofs.Common.{◌≡◌, ℕ, zero, suc, Bool, true, false, List, [], ◌∷◌, Option, None, Result, Ok, Err, refl, sym, ap, ◌∙◌}
+use Rattle.std.proofs.Common.{◌≡◌, ℕ, zero, suc, Bool, true, false, List, [], ◌∷◌, Option, None, Result, Ok, refl, ap, ◌∙◌}
 use Rattle.std.specs.Prelude.{⊤, codes}
 use Rattle.text_definitions.specs.declared.LexKind.{LexKind}
 use Rattle.text_definitions.specs.declared.LexFault.{LexFault}
-use Rattle.text_definitions.specs.Text.{Line, decimal_value}
-use Rattle.text_definitions.specs.Reading.{Reading, ◌>>=◌, begun, number_at}
+use Rattle.text_definitions.specs.Text.{decimal_value}
+use Rattle.text_definitions.specs.Reading.{Reading, ◌>>=◌, number_at}
 use Rattle.table_definitions.specs.Table.{max_tets, Gluing}
 use Rattle.document_definitions.specs.Signs.{Sign}
 use Rattle.document_laws.proofs.LineLaws.{line_found}

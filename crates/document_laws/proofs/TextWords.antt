@@ -1,5 +1,5 @@
 -- Words that pass a test are read exactly where they stand to the end of a line; and the tests of entries and names.
-use Rattle.std.proofs.Common.{◌≡◌, ◌≢◌, ℕ, zero, suc, ◌^◌, ◌<◌, Bool, true, false, List, [], ◌∷◌, length, Option, Some, None, Result, Ok, Err, refl, sym, ap, ◌∙◌, subst, arith}
+use Rattle.std.proofs.Common.{◌≡◌, ℕ, zero, suc, ◌^◌, ◌<◌, Bool, true, false, List, [], ◌∷◌, length, Option, Some, None, Result, Ok, Err, refl, sym, ap, ◌∙◌, subst}
 use Rattle.std.specs.Prelude.{⊤, nat_lt, if◌then◌else◌, codes}
 use Rattle.std.specs.List.{AllZip, AllByRecursion}
 use Rattle.std.proofs.lemmas.Bool.{ltb-true, lt-ltb}
@@ -19,7 +19,7 @@ use Rattle.document_laws.proofs.LineLaws.{line_ended, end_found, FirstWord, firs
 use Rattle.document_laws.proofs.Local.{alone, alone_ok}
 use Rattle.document_laws.proofs.LocalWords.{tested, word_with, at_word, ending}
 use Rattle.document_laws.proofs.LocalTables.{gluing_test, entry_test, name_test}
-use Rattle.document_laws.proofs.TextReaders.{Read, words_at}
+use Rattle.document_laws.proofs.TextReaders.{words_at}
 
 -- a word that passed
 pub record Passes {A : Type 0} (test : List ℕ → Result A LexKind) (c : Reading) (x : A) (d : Reading) : Type 0 where

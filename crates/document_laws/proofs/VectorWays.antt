@@ -1,20 +1,20 @@
 -- Vectors: what stands before a fault can be gone on with to a vector line.
-use Rattle.std.proofs.Common.{◌≡◌, ◌≢◌, ℕ, List, [], ◌∷◌, ◌++◌, Option, Some, None, Result, Ok, Err, refl, sym, ap, ◌∙◌, subst}
-use Rattle.std.specs.Prelude.{⊤, codes, map}
+use Rattle.std.proofs.Common.{◌≡◌, ◌≢◌, ℕ, List, [], ◌∷◌, Result, Ok, Err, refl, sym, ap, ◌∙◌, subst}
+use Rattle.std.specs.Prelude.{⊤, codes}
 use Rattle.text_definitions.specs.declared.Place.{Place}
 use Rattle.text_definitions.specs.declared.LexKind.{LexKind}
 use Rattle.text_definitions.specs.declared.LexFault.{LexFault}
-use Rattle.text_definitions.specs.Text.{Token, word, Line, decimal_value}
+use Rattle.text_definitions.specs.Text.{Token, decimal_value}
 use Rattle.text_definitions.specs.Written.{limit}
 use Rattle.text_definitions.specs.Reading.{Reading, ◌>>=◌, word_at, number_at, exactly_at, numbers_from, numbers_at}
 use Rattle.cone_text_definitions.specs.VectorText.{vector_at}
-use Rattle.document_definitions.specs.Signs.{Sign, Placed, plain}
+use Rattle.document_definitions.specs.Signs.{Sign, Placed}
 use Rattle.table_definitions.proofs.ReadingLaws.{with_tokens}
 use Rattle.document_laws.proofs.Local.{shows, StopsAt, Goes, goes_chained, goes_pure, alone_bind}
 use Rattle.document_laws.proofs.LocalWords.{as_is, word_with}
 use Rattle.document_laws.proofs.LocalLines.{by_end, by_ends, end_stop}
-use Rattle.document_laws.proofs.LocalForms.{number_test, number_word, exact_test, exact_word, exactly, goes_number, goes_numbers, Numbers, others_with, one_more, numbers_stepped, tokens_after}
-use Rattle.document_laws.proofs.Ways.{Sat, From, alike_each, Way, Well, Free, well_free, well_mapped, free_same, well_same, from_sat}
+use Rattle.document_laws.proofs.LocalForms.{number_test, number_word, exact_test, exact_word, exactly, goes_numbers, Numbers, others_with, one_more, numbers_stepped, tokens_after}
+use Rattle.document_laws.proofs.Ways.{From, alike_each, Way, Well, Free, well_free, well_mapped, free_same, well_same}
 use Rattle.document_laws.proofs.WordWays.{free_word, sat_word, well_word}
 
 abbrev naught : List ℕ

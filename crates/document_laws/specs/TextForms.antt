@@ -1,10 +1,13 @@
 -- The text of documents with tables: what their lines look like, whatever the rows glue and whatever a signature spells.
 use Rattle.std.specs.Prelude.{◌≡◌, ℕ, zero, suc, List, [], ◌∷◌, ◌++◌, length, ◌⊎◌, codes}
-use Rattle.std.specs.List.{AllZip, AllByRecursion}
+use Rattle.std.specs.List.{AllByRecursion}
 use Rattle.text_definitions.specs.Text.{Line}
 use Rattle.table_definitions.specs.Table.{Row, max_tets}
 use Rattle.table_definitions.specs.Grammar.{AreWords, IsNumber, IsRowLine}
 use Rattle.surface_definitions.specs.Grammar.{IsVectorLine}
+use Rattle.move_definitions.specs.Moves.{Move}
+use Rattle.move_definitions.specs.MoveText.{Step}
+use Rattle.move_definitions.specs.Grammar.{IsMoveLine, IsStepLine}
 
 -- a line of four entries, whatever they glue
 abbrev pub IsRowText : Line → Type 0
@@ -29,13 +32,25 @@ AreTableText lines = AreTriText lines ⊎ AreSigText lines
 abbrev pub AreTextAndLines : (Line → Type 0) → List Line → Type 0
 AreTextAndLines form lines = (table : List Line) × (rest : List Line) × (lines ≡ table ++ rest) × AreTableText table × AllByRecursion form rest
 
--- a vector line, whatever the vector
+-- a vector line, a step line and a move line, whatever they say
 abbrev pub IsVectorText : Line → Type 0
 IsVectorText line = (vector : List ℕ) × IsVectorLine line vector
 
--- the text of a table and vectors; of a table and one vector
+abbrev pub IsStepText : Line → Type 0
+IsStepText line = (step : Step) × IsStepLine line step
+
+abbrev pub IsMoveText : Line → Type 0
+IsMoveText line = (move : Move) × IsMoveLine line move
+
+-- the text of a table and vectors, steps, or moves; of a table and one vector
 abbrev pub AreTableAndVectorsText : List Line → Type 0
 AreTableAndVectorsText lines = AreTextAndLines IsVectorText lines
+
+abbrev pub AreTableAndStepsText : List Line → Type 0
+AreTableAndStepsText lines = AreTextAndLines IsStepText lines
+
+abbrev pub AreTableAndMovesText : List Line → Type 0
+AreTableAndMovesText lines = AreTextAndLines IsMoveText lines
 
 abbrev pub AreTableAndVectorText : List Line → Type 0
 AreTableAndVectorText lines = (table : List Line) × (line : Line) × (lines ≡ table ++ line ∷ []) × AreTableText table × IsVectorText line
