@@ -4,7 +4,7 @@
 #![tactic(auto)]
 
 ghost use Rattle.document_laws.specs.ConeLaws.{ConesAreRead, ConeDocumentsAreRead};
-ghost use Rattle.document_laws.specs.FaultLaws.{ConeFaultsLeave, TableFaultsLeave, TwoTablesFaultsLeave, TablesFaultsLeave, VectorsFaultsLeave, VectorsFaultsLeaveFirst, VectorFaultsLeave};
+ghost use Rattle.document_laws.specs.FaultLaws.{ConeFaultsLeave, TableFaultsLeave, TwoTablesFaultsLeave, TablesFaultsLeave, VectorsFaultsLeave, VectorsFaultsLeaveFirst, VectorFaultsLeave, StepsFaultsLeave, MovesFaultsLeave};
 ghost use Rattle.document_laws.specs.TextFaultLaws.{TablesHaveText, VectorsHaveText, StepsHaveText, MovesHaveText, OneVectorHasText, TwoTablesHaveText, ManyTablesHaveText};
 ghost use Rattle.document_laws.specs.TextFaultLaws.{TableFaultsStandFirst, VectorsFaultsStandFirst, StepsFaultsStandFirst, MovesFaultsStandFirst, VectorFaultsStandFirst, TwoTablesFaultsStandFirst, TablesFaultsStandFirst};
 ghost use Rattle.document_laws.specs.DocumentLaws.{TableDocumentsAreRead, VectorsDocumentsAreRead, StepsDocumentsAreRead, MovesDocumentsAreRead, VectorDocumentsAreRead, TwoTablesAreRead, TablesAreRead};
@@ -38,6 +38,8 @@ pub fn faults_leave_the_grammar()
     ensures vectors { VectorsFaultsLeave }
     ensures vectors_first { VectorsFaultsLeaveFirst }
     ensures vector { VectorFaultsLeave }
+    ensures steps { StepsFaultsLeave }
+    ensures moves { MovesFaultsLeave }
 {}
 
 /// Inputs of a table and of steps, or of moves, are read exactly where their lines are these.
