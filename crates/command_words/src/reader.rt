@@ -166,7 +166,7 @@ fn is_built(request: &Request) -> bool
         Request::Surfaces(_, _, _) => true,
         Request::Rays(_, _) => true,
         Request::Info => true,
-        Request::Play => true,
+        Request::Play | Request::Sig | Request::Same | Request::Group => true,
         _ => false,
     }
 }

@@ -1,2 +1,3 @@
 pub mod Labellings
 pub mod Laws
+pub mod Census

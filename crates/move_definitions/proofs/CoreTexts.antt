@@ -1,15 +1,13 @@
 -- The words of moves and of steps, and the cores that they spell.
-use Rattle.std.proofs.Common.{◌≡◌, ℕ, zero, suc, ◌<◌, ◌≤◌, Bool, true, false, inl, inr, ⊎_elim, List, [], ◌∷◌, Option, Some, None, Result, Ok, Err, refl, sym, ap, ◌∙◌, subst, arith}
-use Rattle.std.specs.Prelude.{◌⊎◌, ◌&&◌, nat_lt, find, if◌then◌else◌, codes, slice_index}
+use Rattle.std.proofs.Common.{◌≡◌, ℕ, zero, suc, ◌<◌, Bool, true, false, inl, inr, ⊎_elim, List, [], ◌∷◌, Option, Some, None, refl, sym, subst, arith}
+use Rattle.std.specs.Prelude.{◌⊎◌, ◌&&◌, nat_lt, find, if◌then◌else◌, codes}
 use Rattle.std.specs.List.{list_all}
 use Rattle.std.proofs.lemmas.Bool.{and_parts, ltb-true, false≢true}
 use Rattle.table_definitions.specs.Lists.{same_list}
-use Rattle.table_definitions.specs.Permutation.{four, digits_of, others}
+use Rattle.table_definitions.specs.Permutation.{digits_of}
 use Rattle.table_definitions.specs.Places.{edge_ends}
 use Rattle.table_definitions.proofs.ListLaws.{same_list-true}
 use Rattle.move_definitions.specs.MoveText.{MoveKind, one_four, two_three, three_two, four_one, move_kind, digits_at, spelled, single, Step, undo, redo, step_word}
-use Rattle.move_definitions.specs.Grammar as grammar
-use Rattle.move_definitions.specs.Grammar.{IsCoreText}
 
 -- the word of each kind
 abbrev pub kind_word : MoveKind → List ℕ

@@ -1,5 +1,5 @@
 -- A line that is a move or a step is read as one.
-use Rattle.std.proofs.Common.{◌≡◌, ℕ, ◌<◌, ◌-◌, ◌^◌, List, [], ◌∷◌, Option, Some, None, Result, Ok, Err, refl, sym, ap, ◌∙◌, subst}
+use Rattle.std.proofs.Common.{◌≡◌, ℕ, ◌-◌, ◌^◌, List, [], ◌∷◌, Option, Some, None, Result, Ok, refl, sym, ap, ◌∙◌, subst}
 use Rattle.std.specs.Prelude.{slice_index, codes}
 use Rattle.table_definitions.specs.Permutation.{four, digits_of, others}
 use Rattle.table_definitions.specs.Places.{edge_ends}

@@ -1,12 +1,11 @@
 -- A line that is read as a move or a step is one.
-use Rattle.std.proofs.Common.{◌≡◌, ℕ, ◌<◌, ◌-◌, ◌^◌, List, [], ◌∷◌, ◌++◌, Option, Some, None, Result, Ok, Err, refl, sym, ap, ◌∙◌, subst}
+use Rattle.std.proofs.Common.{◌≡◌, ℕ, ◌-◌, ◌^◌, List, [], ◌∷◌, ◌++◌, Option, Some, None, Result, Ok, refl, sym, ap, ◌∙◌, subst}
 use Rattle.std.specs.Prelude.{slice_index, codes}
 use Rattle.table_definitions.specs.Permutation.{four, digits_of, others}
 use Rattle.table_definitions.specs.Places.{edge_ends}
 use Rattle.text_definitions.specs.Text.{Token, word, stray}
-use Rattle.text_definitions.specs.declared.LexKind.TheVariants.{BadWord}
 use Rattle.text_definitions.specs.declared.LexFault.{LexFault}
-use Rattle.text_definitions.specs.Reading.{Reading, ◌>>=◌, word_at, number_at, end_line_at, word_fault}
+use Rattle.text_definitions.specs.Reading.{Reading, ◌>>=◌, word_at, number_at, end_line_at}
 use Rattle.table_definitions.specs.Grammar.{AreWords, IsNumber}
 use Rattle.table_definitions.proofs.ReadingLaws.{bind_ok, ok_parts, with_tokens, behind, TakesWord, word_taken, TakesNumber, number_read}
 use Rattle.move_definitions.specs.Moves.{Move}

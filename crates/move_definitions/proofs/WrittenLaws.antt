@@ -1,6 +1,6 @@
 -- What is written for a move is one line, which is that move.
-use Rattle.std.proofs.Common.{◌*◌, None, ◌≡◌, ℕ, zero, suc, ◌+◌, ◌-◌, ◌^◌, ◌<◌, ◌≤◌, Bool, true, false, List, [], ◌∷◌, ◌++◌, length, take, drop, Some, refl, sym, ap, ap₂, ◌∙◌, subst, arith, append_assoc, append-nil, inl, inr}
-use Rattle.std.specs.Prelude.{fold, ◌&&◌, ◌||◌, ◌==◌, nat_lt, nat_le, not, filter, codes, decimal, if◌then◌else◌}
+use Rattle.std.proofs.Common.{◌*◌, None, ◌≡◌, ℕ, suc, ◌+◌, ◌-◌, ◌^◌, ◌<◌, Bool, true, false, List, [], ◌∷◌, ◌++◌, length, Some, refl, sym, ap, ap₂, ◌∙◌, subst, arith, append_assoc, append-nil}
+use Rattle.std.specs.Prelude.{fold, ◌&&◌, ◌||◌, ◌==◌, nat_lt, filter, decimal, if◌then◌else◌}
 use Rattle.std.specs.Char.{is_ascii_digit}
 use Rattle.std.specs.Str.{all_ascii_digits}
 use Rattle.std.specs.List.{AllByRecursion, list_all, prefix_len, onto_first}
@@ -10,9 +10,9 @@ use Rattle.std.proofs.lemmas.Bool.{cond-true, cond-false, and_from, and_parts, l
 use Rattle.std.proofs.lemmas.Fmt.{digits_decimal, digits_value-decimal, decimal_is_IsNumeral}
 use Rattle.std.proofs.lemmas.Str.Parse.{IsNumeralModel, numerals_by_fold, tells_all_ascii_digits}
 use Rattle.std.proofs.lemmas.List.Splits.{slice_split-cons_no}
-use Rattle.text_definitions.specs.Text.{Token, word, Line, is_blank, is_word_byte, is_line_feed, is_skipped, without_cr, pieces, line_of, lines_from, lines_of, tokens_from, digits_value, is_decimal, decimal_value}
+use Rattle.text_definitions.specs.Text.{Token, word, is_blank, is_word_byte, is_line_feed, is_skipped, without_cr, pieces, line_of, lines_from, lines_of, tokens_from, digits_value, is_decimal, decimal_value}
 use Rattle.text_definitions.specs.Written.{spaced}
-use Rattle.text_definitions.proofs.Tokens.{tokens_from-word, tokens_from-blank}
+use Rattle.text_definitions.proofs.Tokens.{tokens_from-word}
 use Rattle.table_definitions.specs.Grammar.{AreWords}
 use Rattle.table_definitions.specs.Lists.{same_list, has}
 use Rattle.table_definitions.specs.Permutation.{four}

@@ -1,11 +1,11 @@
 -- What is kept of moves, as they are played, taken back and played once more.
-use Rattle.std.proofs.Common.{◌≡◌, ℕ, zero, suc, ◌+◌, ◌≤◌, ◌<◌, get_or, length-take-le, List, [], ◌∷◌, ◌++◌, length, take, Some, refl, sym, ap, ◌∙◌, subst, arith}
+use Rattle.std.proofs.Common.{◌≡◌, ℕ, ◌+◌, ◌≤◌, ◌<◌, get_or, length-take-le, List, [], ◌∷◌, ◌++◌, length, take, Some, refl, sym, ap, ◌∙◌, subst, arith}
 use Rattle.std.specs.Prelude.{slice_get, None}
 use Rattle.std.proofs.lemmas.Option.{slice_get_read}
 use Rattle.std.proofs.lemmas.List.{length_push}
-use Rattle.table_definitions.specs.Table.{Row, IsTable}
-use Rattle.move_definitions.specs.Moves.{Move, IsCore, Plays, play_fault}
-use Rattle.move_definitions.specs.Undos.{Undo, undo_of, former, CanTakeBack, TakesBack}
+use Rattle.table_definitions.specs.Table.{Row}
+use Rattle.move_definitions.specs.Moves.{Move, play_fault}
+use Rattle.move_definitions.specs.Undos.{Undo, former, CanTakeBack, TakesBack}
 use Rattle.move_definitions.specs.Sessions.{IsTableOf, LeadsTo, LeadAllTo}
 use Rattle.move_laws.proofs.Agreement.{moves_agree_lem}
 use Rattle.pachner_moves.proofs.BackLaws as back

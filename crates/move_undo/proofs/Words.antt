@@ -1,5 +1,5 @@
 -- Words that are none of those that are known.
-use Rattle.std.proofs.Common.{◌≡◌, ℕ, ◌≤◌, ◌^◌, ◌-◌, Bool, true, false, List, [], ◌∷◌, Option, None, Result, Ok, refl, sym, ap, ◌∙◌, subst, eqb}
+use Rattle.std.proofs.Common.{◌≡◌, ℕ, ◌≤◌, false, List, None, Ok, refl, sym, ◌∙◌, subst, eqb}
 use Rattle.std.specs.Cmp.Lexicographic.{pointwise}
 use Rattle.std.specs.Prelude.{codes}
 use Rattle.perm_four.proofs.ListFacts.{pointwise-same_list}

@@ -1,6 +1,6 @@
 -- A written move is its parts.
-use Rattle.std.proofs.Common.{◌≡◌, ℕ, zero, suc, ◌<◌, ◌≤◌, Bool, true, List, [], ◌∷◌, ◌++◌, length, refl, sym, ap, ◌∙◌, subst, arith, append_assoc}
-use Rattle.std.specs.Prelude.{not, filter, ◌==◌, if◌then◌else◌, codes, decimal, nat_lt}
+use Rattle.std.proofs.Common.{◌≡◌, ℕ, zero, suc, ◌<◌, ◌≤◌, List, [], ◌∷◌, ◌++◌, length, sym, ap, ◌∙◌, subst, arith, append_assoc}
+use Rattle.std.specs.Prelude.{not, filter, ◌==◌, if◌then◌else◌, decimal, nat_lt}
 use Rattle.std.proofs.lemmas.Bool.{and_parts}
 use Rattle.table_definitions.specs.Lists.{has, same_list}
 use Rattle.table_definitions.proofs.ListLaws.{same_list-true}

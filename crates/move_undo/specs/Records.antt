@@ -1,5 +1,5 @@
 -- What a session keeps: its table, the moves, and for each played move what takes it back.
-use Rattle.std.specs.Prelude.{◌≡◌, ℕ, List, [], ◌∷◌}
+use Rattle.std.specs.Prelude.{◌≡◌, List, [], ◌∷◌}
 use Rattle.table_definitions.specs.Table.{Row, IsTable}
 use Rattle.move_definitions.specs.Moves.{Move, IsCore, Plays}
 use Rattle.move_definitions.specs.Sessions.{LeadAllTo}

@@ -1,5 +1,5 @@
 -- A session by its fields.
-use Rattle.std.specs.Prelude.{◌≡◌, ◌^◌, ◌<◌, ◌≤◌, length, vec_capacity}
+use Rattle.std.specs.Prelude.{◌^◌, ◌<◌, ◌≤◌, length, vec_capacity}
 use Rattle.move_definitions.specs.Sessions as sessions
 use Rattle.move_undo.specs.declared.session.Session.TheInside.{Inside}
 use Rattle.move_undo.specs.Records.{first_table, Recorded}

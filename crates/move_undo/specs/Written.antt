@@ -1,5 +1,5 @@
 -- The parts of a written move.
-use Rattle.std.specs.Prelude.{ℕ, Bool, true, false, not, List, [], ◌∷◌, ◌++◌, length, filter, ◌==◌, if◌then◌else◌, codes, decimal}
+use Rattle.std.specs.Prelude.{ℕ, Bool, true, false, not, List, [], ◌∷◌, ◌++◌, length, filter, ◌==◌, if◌then◌else◌, decimal}
 use Rattle.table_definitions.specs.Lists.{has}
 use Rattle.table_definitions.specs.Permutation.{four, digits_of}
 use Rattle.move_definitions.specs.MoveText.{core_words}

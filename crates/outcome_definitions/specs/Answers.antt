@@ -7,7 +7,7 @@ use Rattle.cone_definitions.specs.Rows.{Row as EquationRow}
 use Rattle.surface_definitions.specs.Coordinates.{Coordinates, columns, clash_list}
 use Rattle.surface_definitions.specs.QuadEquations.{AreEquations}
 use Rattle.surface_definitions.specs.Verdict.{Verdict, verdict}
-use Rattle.document_definitions.specs.Documents.{worded, table_document, vectors_document, steps_document, cone_document, verdicts_text}
+use Rattle.document_definitions.specs.Documents.{worded, table_document, two_tables_document, tables_document, vectors_document, steps_document, cone_document, verdicts_text}
 use Rattle.command_definitions.specs.Requests.{Request, verify, info, surfaces, rays, describe, lift, crush, play, sig, same, group, check, descend, make, bulk}
 use Rattle.command_definitions.specs.Words.{accepted_request}
 use Rattle.outcome_definitions.specs.declared.Status.TheVariants.{Done}
@@ -15,6 +15,7 @@ use Rattle.outcome_definitions.specs.Outcomes.{Outcome, usage_outcome, too_long_
 use Rattle.outcome_definitions.specs.Enumerations.{IsEnumerationAnswer, IsSurfacesAnswer, order_of, ray_enumeration}
 use Rattle.outcome_definitions.specs.Information.{IsInformationAnswer}
 use Rattle.outcome_definitions.specs.Scripts.{IsScriptAnswer}
+use Rattle.outcome_definitions.specs.Canonical.{IsSignatureAnswer, IsSameAnswer, IsGroupAnswer}
 
 -- an input has at most so many bytes
 abbrev pub most_bytes : ℕ
@@ -42,9 +43,9 @@ IsAnswerTo (describe coords) bytes o = ⊥
 IsAnswerTo lift bytes o = ⊥
 IsAnswerTo crush bytes o = ⊥
 IsAnswerTo play bytes o = IsReadOutcome (steps_document bytes) IsScriptAnswer o
-IsAnswerTo sig bytes o = ⊥
-IsAnswerTo same bytes o = ⊥
-IsAnswerTo group bytes o = ⊥
+IsAnswerTo sig bytes o = IsReadOutcome (table_document bytes) IsSignatureAnswer o
+IsAnswerTo same bytes o = IsReadOutcome (two_tables_document bytes) IsSameAnswer o
+IsAnswerTo group bytes o = IsReadOutcome (tables_document bytes) IsGroupAnswer o
 IsAnswerTo check bytes o = ⊥
 IsAnswerTo descend bytes o = ⊥
 IsAnswerTo (make seed moves) bytes o = ⊥

@@ -3,4 +3,5 @@ pub mod Outcomes
 pub mod Enumerations
 pub mod Information
 pub mod Scripts
+pub mod Canonical
 pub mod Answers

@@ -1,5 +1,5 @@
 -- Words and an input are due one outcome.
-use Rattle.std.proofs.Common.{◌≡◌, ◌≢◌, ℕ, Bool, true, false, List, length, sym, ap, ◌∙◌, subst}
+use Rattle.std.proofs.Common.{◌≡◌, ◌≢◌, ℕ, Bool, true, false, List, length, refl, sym, ap, ◌∙◌, subst}
 use Rattle.std.specs.Prelude.{Option, Some, None, Result, Ok, Err, nat_lt, codes}
 use Rattle.std.specs.Bool.{MatchBool}
 use Rattle.table_definitions.specs.Table.{Row}
@@ -7,18 +7,21 @@ use Rattle.surface_definitions.specs.Coordinates.{Coordinates}
 use Rattle.double_description.specs.declared.picker.Order.{Order}
 use Rattle.double_description.specs.declared.picker.Order.TheVariants.{Free}
 use Rattle.signature_definitions.specs.SignatureText.{InputFault}
-use Rattle.document_definitions.specs.Documents.{worded, table_document, vectors_document, steps_document, cone_document}
+use Rattle.document_definitions.specs.Documents.{worded, table_document, two_tables_document, tables_document, vectors_document, steps_document, cone_document}
 use Rattle.command_definitions.specs.Requests.{Request, verify, info, surfaces, rays, describe, lift, crush, play, sig, same, group, check, descend, make, bulk, Order as OrderName, given, short, zeros}
 use Rattle.command_definitions.specs.Words.{accepted_request}
 use Rattle.outcome_definitions.specs.Outcomes.{Outcome, too_long_outcome, IsReadOutcome}
 use Rattle.outcome_definitions.specs.Enumerations.{IsEnumerationAnswer, IsSurfacesAnswer, order_of, ray_enumeration, table_enumeration}
 use Rattle.outcome_definitions.specs.Information.{IsInformationAnswer}
 use Rattle.outcome_definitions.specs.Scripts.{IsScriptAnswer}
+use Rattle.outcome_definitions.specs.Canonical.{IsSignatureAnswer, IsSameAnswer, IsGroupAnswer}
 use Rattle.outcome_definitions.specs.Answers.{most_bytes, verify_outcome, IsVerdictsAnswer, IsAnswerTo, IsOutcomeOf, IsOutcome}
 use Rattle.outcome_laws.proofs.Enumerated.{one_enumeration}
 use Rattle.outcome_laws.proofs.Equated.{one_equations}
 use Rattle.outcome_laws.proofs.Informed.{one_information}
 use Rattle.outcome_laws.proofs.Scripted.{one_script}
+use Rattle.outcome_laws.proofs.Labelled.{one_signature_answer, one_same_answer, one_group_answer}
+use Rattle.outcome_laws.proofs.ReadPairs.{first_is_table}
 
 -- a word names an order
 named : (order : OrderName) → order_of order ≢ Free
@@ -40,6 +43,11 @@ one_surfaces : (coords : Coordinates) (order : Order) (most : ℕ) (rows : List 
 one_surfaces coords order most rows o p some h k =
     one_enumeration (codes "surfaces") (table_enumeration coords order most rows h.0) o p some h.2
     (subst (λ equations. IsEnumerationAnswer (codes "surfaces") (table_enumeration coords order most rows equations) p) (sym (one_equations coords rows h.0 k.0 h.1 k.1)) k.2)
+-- the same, where what was read is known of
+one_found : {A : Type 0} (document : Result A InputFault) (IsAnswer : A → Outcome → Type 0) (o p : Outcome) →
+    ((value : A) → document ≡ Ok value → IsAnswer value o → IsAnswer value p → o ≡ p) → IsReadOutcome document IsAnswer o → IsReadOutcome document IsAnswer p → o ≡ p
+one_found (Ok value) IsAnswer o p one h k = one value refl h k
+one_found (Err fault) IsAnswer o p one h k = h ∙ sym k
 
 one_answer : (request : Request) (bytes : List ℕ) (o p : Outcome) → IsAnswerTo request bytes o → IsAnswerTo request bytes p → o ≡ p
 one_answer (verify coords) bytes o p h k = one_read (vectors_document bytes) (IsVerdictsAnswer coords) o p (λ d. one_verdicts coords d o p) h k
@@ -53,9 +61,10 @@ one_answer (describe coords) bytes o p h k = absurd h
 one_answer lift bytes o p h k = absurd h
 one_answer crush bytes o p h k = absurd h
 one_answer play bytes o p h k = one_read (steps_document bytes) IsScriptAnswer o p (λ d. one_script d o p) h k
-one_answer sig bytes o p h k = absurd h
-one_answer same bytes o p h k = absurd h
-one_answer group bytes o p h k = absurd h
+one_answer sig bytes o p h k = one_read (table_document bytes) IsSignatureAnswer o p (λ rows. one_signature_answer rows o p) h k
+one_answer same bytes o p h k =
+    one_found (two_tables_document bytes) IsSameAnswer o p (λ pair read. one_same_answer pair o p (first_is_table bytes pair read)) h k
+one_answer group bytes o p h k = one_read (tables_document bytes) IsGroupAnswer o p (λ tables. one_group_answer tables o p) h k
 one_answer check bytes o p h k = absurd h
 one_answer descend bytes o p h k = absurd h
 one_answer (make seed moves) bytes o p h k = absurd h

@@ -4,4 +4,6 @@ pub mod Numbered
 pub mod Informed
 pub mod Scripted
 pub mod Equated
+pub mod Labelled
+pub mod ReadPairs
 pub mod Agreement

@@ -1,9 +1,9 @@
 -- A script has one answer: a session has one table, and a step one answer.
-use Rattle.std.proofs.Common.{◌≡◌, ℕ, ◌<◌, List, [], ◌∷◌, take, Option, Some, None, sym, ap, ap₂, ◌∙◌, subst, arith}
+use Rattle.std.proofs.Common.{◌≡◌, List, [], ◌∷◌, take, Some, None, sym, ap, ap₂, ◌∙◌, subst, arith}
 use Rattle.table_definitions.specs.Table.{Row}
 use Rattle.move_definitions.specs.Moves.{Move, MoveFault, play_fault}
 use Rattle.move_definitions.specs.MoveText.{Step, play, undo, redo}
-use Rattle.move_definitions.specs.Sessions.{Session, LeadAllTo, IsTableOf, begun, with_move, one_less, one_more, IsRefused, IsAccepted, StepAnswer, done, illegal, undone, redone, nothing, IsStep, AreSteps}
+use Rattle.move_definitions.specs.Sessions.{Session, LeadAllTo, IsTableOf, begun, IsRefused, IsAccepted, StepAnswer, done, illegal, undone, redone, nothing, IsStep, AreSteps}
 use Rattle.move_laws.proofs.Agreement.{moves_agree_lem}
 use Rattle.outcome_definitions.specs.Outcomes.{Outcome}
 use Rattle.outcome_definitions.specs.Scripts.{script_outcome, IsScriptAnswer}

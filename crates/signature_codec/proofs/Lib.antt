@@ -18,3 +18,4 @@ pub mod SpelledReads
 pub mod Following
 pub mod Followed
 pub mod SpelledTables
+pub mod AnyTables

@@ -8,3 +8,7 @@ pub mod Answering
 pub mod ClassLines
 pub mod ScriptLines
 pub mod Headlines
+pub mod EachTable
+pub mod Grouping
+pub mod LabelLines
+pub mod LineCount

@@ -8,3 +8,4 @@ pub mod Scripts
 pub mod Cones
 pub mod Requests
 pub mod Prints
+pub mod Groups

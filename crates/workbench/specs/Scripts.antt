@@ -1,5 +1,5 @@
 -- Steps, and the lines of a script's answers.
-use Rattle.std.specs.Prelude.{◌≡◌, ℕ, List, Option, Some, map, ◌++◌, codes, decimal, Vec}
+use Rattle.std.specs.Prelude.{◌≡◌, ℕ, List, map, ◌++◌, codes, decimal, Vec}
 use Rattle.std.specs.declared.alloc.Global.{Global}
 use Rattle.move_definitions.specs.MoveText as text
 use Rattle.move_definitions.specs.Sessions.{Session, StepAnswer, IsStep, AreSteps, step_answer_text}

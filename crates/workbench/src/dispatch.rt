@@ -14,10 +14,13 @@ ghost use Rattle.workbench.specs.Prints.{PrintsSurfaces, PrintsRays, PrintsVerdi
 ghost use Rattle.workbench.specs.Requests.{IsBuilt};
 ghost use Rattle.workbench.specs.Runs.{Answers, IsAnswered, IsCalm, IsWithin, IsResponse, IsWithoutMemory, IsCutOff, IsDue, IsDelivered};
 
+use crate::group_command::group;
 use crate::info_command::info;
 use crate::outcome::Outcome;
 use crate::play_command::play;
 use crate::rays_command::rays;
+use crate::same_command::same;
+use crate::sig_command::sig;
 use crate::surfaces_command::surfaces;
 use crate::verify_command::verify;
 use bench_io::{ReadEnd, Sink, Source, Words, read_all, write_all};
@@ -45,9 +48,9 @@ fn answer(alloc: Global, request: Request, bytes: &[u8]) -> Result<Outcome, NoMe
         Request::Describe(_) => unreachable!(),
         Request::Lift => unreachable!(),
         Request::Crush => unreachable!(),
-        Request::Sig => unreachable!(),
-        Request::Same => unreachable!(),
-        Request::Group => unreachable!(),
+        Request::Sig => sig(alloc, bytes),
+        Request::Same => same(alloc, bytes),
+        Request::Group => group(alloc, bytes),
         Request::Check => unreachable!(),
         Request::Descend => unreachable!(),
         Request::Make(_, _) => unreachable!(),

@@ -1,7 +1,7 @@
 // The documents of the commands.
 ghost use Rattle.std.specs.Prelude.{◌≡◌, ◌≤◌, ◌^◌, length};
 ghost use Rattle.text_definitions.specs.Reading.{Moves};
-ghost use Rattle.document_definitions.specs.Documents.{next_table_at, no_line_at, table_document, vectors_document, steps_document};
+ghost use Rattle.document_definitions.specs.Documents.{next_table_at, no_line_at, table_document, two_tables_document, vectors_document, steps_document};
 ghost use Rattle.signature_codec.specs.Inputs.{GivesInput, GivesDocument};
 ghost use Rattle.workbench.specs.Reads.{entries_of};
 ghost use Rattle.workbench.specs.Scripts.{steps_of};
@@ -13,6 +13,13 @@ use gluing_table::Table;
 use move_undo::Step;
 use signature_codec::{InputFault, read_any};
 use std::alloc::Global;
+
+/// Two tables.
+#[derive(Drop)]
+pub struct TwoTables {
+    pub first: Table,
+    pub second: Table,
+}
 
 /// A table, and vectors.
 #[derive(Drop)]
@@ -57,6 +64,19 @@ pub fn read_table_document(alloc: Global, bytes: &[u8]) -> Result<Table, InputFa
     let table = read_table(alloc, &mut lexer)?;
     end_document(&mut lexer)?;
     Ok(table)
+}
+
+/// The document of two tables.
+#[tactic(auto, unfolding(document_definitions::specs::Documents::two_tables_document))]
+pub fn read_two_tables(alloc: Global, bytes: &[u8]) -> Result<TwoTables, InputFault>
+    requires { length bytes.now ≤ 2 ^ 31 }
+    ensures { GivesDocument (λ d. (d.first, d.second)) result (two_tables_document bytes.now) }
+{
+    let mut lexer = Lexer::new(bytes);
+    let first = read_table(alloc, &mut lexer)?;
+    let second = read_table(alloc, &mut lexer)?;
+    end_document(&mut lexer)?;
+    Ok(TwoTables { first, second })
 }
 
 /// The document of a table and vectors.

@@ -2,6 +2,7 @@
 ghost use Rattle.std.specs.Prelude.{◌≡◌};
 ghost use Rattle.outcome_definitions.specs.Outcomes.{usage_outcome, too_long_outcome, read_outcome};
 ghost use Rattle.outcome_definitions.specs.Lines as lines;
+ghost use Rattle.outcome_definitions.specs.Canonical.{different_outcome};
 
 use outcome_definitions::Status;
 use std::marker::Model;
@@ -70,6 +71,17 @@ impl Outcome {
         Outcome {
             status: Status::Input,
             text: Text::Fixed(b"refused: input too-long\n"),
+        }
+    }
+
+    /// No relabelling carries the one table to the other.
+    #[tactic(auto, unfolding(outcome_definitions::specs::Canonical::different_text))]
+    pub fn different() -> Outcome
+        ensures { result ≡ different_outcome }
+    {
+        Outcome {
+            status: Status::Done,
+            text: Text::Fixed(b"different\n"),
         }
     }
 

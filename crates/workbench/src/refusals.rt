@@ -2,6 +2,7 @@
 ghost use Rattle.std.specs.Prelude.{◌≡◌, ◌++◌, codes, decimal, IfOk, OnOk};
 ghost use Rattle.outcome_definitions.specs.Lines.{kind_text, lex_line, face_line, place_line};
 ghost use Rattle.outcome_definitions.specs.Outcomes.{IsOwnStatus};
+ghost use Rattle.outcome_definitions.specs.Canonical as canonical;
 ghost use Rattle.workbench.specs.Refusals.{table_fault_line, signature_fault_line, IsTextOutcome, IsFaultOutcome};
 
 use crate::outcome::Outcome;
@@ -131,6 +132,29 @@ fn input_line(alloc: Global, fault: InputFault) -> Result<Vec<u8>, NoMemory>
         InputFault::Text(fault) => text_line(alloc, fault),
         InputFault::Signature(fault) => signature_line(alloc, fault),
     }
+}
+
+// Which table isn't connected, and its least tetrahedron that no chain joins to the first.
+#[tactic(auto, unfolding(outcome_definitions::specs::Canonical::not_connected_line))]
+fn not_connected_line(alloc: Global, table: u32, tet: u32) -> Result<Vec<u8>, NoMemory>
+    ensures { IfOk result (λ text. text.items ≡ canonical.not_connected_line table tet) }
+{
+    let mut text = Vec::new(alloc);
+    append(&mut text, b"refused: not-connected ")?;
+    append_decimal(alloc, &mut text, u128::from(table))?;
+    append(&mut text, b" ")?;
+    append_decimal(alloc, &mut text, u128::from(tet))?;
+    append(&mut text, b"\n")?;
+    Ok(text)
+}
+
+/// The outcome where a table, which are counted from 0, isn't connected.
+pub fn not_connected_outcome(alloc: Global, table: u32, tet: u32) -> Result<Outcome, NoMemory>
+    ensures told { IfOk result (λ o. o ≡ canonical.not_connected_outcome table tet) }
+    ensures own_status { IfOk result (λ o. IsOwnStatus o.status) }
+{
+    let text = not_connected_line(alloc, table, tet)?;
+    Ok(Outcome::built(Status::Refused, text))
 }
 
 /// The outcome of an input's fault.

@@ -2,6 +2,8 @@
 #![tactic(auto)]
 
 #[cfg(test)]
+mod group_rows;
+#[cfg(test)]
 mod hostile_rows;
 #[cfg(test)]
 mod info_rows;
@@ -11,6 +13,10 @@ mod play_rows;
 mod rays_rows;
 #[cfg(test)]
 mod running;
+#[cfg(test)]
+mod same_rows;
+#[cfg(test)]
+mod sig_rows;
 #[cfg(test)]
 mod surfaces_rows;
 #[cfg(test)]

@@ -1,5 +1,5 @@
 -- The parts are the text.
-use Rattle.std.proofs.Common.{ap, List, ℕ}
+use Rattle.std.proofs.Common.{ap}
 use Rattle.move_definitions.specs.Moves.{Move}
 use Rattle.move_undo.proofs.WrittenParts.{put_together}
 use Rattle.move_undo.proofs.writer.text_of.Goals as goal

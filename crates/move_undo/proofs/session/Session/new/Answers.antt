@@ -1,6 +1,5 @@
 -- Nothing is kept yet.
-use Rattle.std.proofs.Common.{◌≡◌, ◌≤◌, List, length, ap, arith}
-use Rattle.std.specs.Prelude.{vec_capacity}
+use Rattle.std.proofs.Common.{◌≡◌, List, length, ap, arith}
 use Rattle.move_definitions.specs.Moves.{Move}
 use Rattle.move_undo.proofs.RecordLaws.{recorded-begun, first-begun}
 use Rattle.move_undo.proofs.session.Session.new.Goals as goal

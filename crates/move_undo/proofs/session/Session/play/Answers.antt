@@ -1,6 +1,6 @@
 -- A move that is accepted is kept, and one that is refused changes nothing.
-use Rattle.std.proofs.Common.{◌≡◌, ◌≤◌, ◌<◌, ◌+◌, ◌-◌, length, take, ap, arith, refl, ◌∙◌, subst, sym}
-use Rattle.std.specs.Prelude.{List, [], ◌∷◌, ◌++◌, vec_capacity}
+use Rattle.std.proofs.Common.{◌≡◌, ◌≤◌, ◌<◌, ◌+◌, length, ap, arith, ◌∙◌, subst}
+use Rattle.std.specs.Prelude.{List, vec_capacity}
 use Rattle.std.proofs.lemmas.List.{length_push}
 use Rattle.std.proofs.lemmas.Result.{err_from_is_err_and}
 use Rattle.move_definitions.specs.Moves.{Move}

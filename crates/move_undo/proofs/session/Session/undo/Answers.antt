@@ -1,12 +1,12 @@
 -- What was kept of the last move takes it back.
 use Rattle.std.proofs.Common.{◌≡◌, ◌≤◌, ◌<◌, ◌+◌, ◌-◌, length, ap, arith, refl, ◌∙◌, subst, sym}
-use Rattle.std.specs.Prelude.{List, [], ◌∷◌, ◌++◌}
+use Rattle.std.specs.Prelude.{List}
 use Rattle.std.proofs.lemmas.List.{length_push}
 use Rattle.table_definitions.specs.Table.{Row}
 use Rattle.move_definitions.specs.Sessions as sessions
-use Rattle.move_definitions.specs.Undos.{Undo, former}
+use Rattle.move_definitions.specs.Undos.{Undo}
 use Rattle.move_undo.specs.Records.{first_table, Recorded}
-use Rattle.move_undo.proofs.RecordLaws.{LeadsBack, recorded-last, recorded-as, first-last}
+use Rattle.move_undo.proofs.RecordLaws.{recorded-last, recorded-as, first-last}
 use Rattle.move_undo.proofs.session.Session.undo.Goals as goal
 
 pub take_back-requires : goal.take_back-requires

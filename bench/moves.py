@@ -1,0 +1,43 @@
+#!/usr/bin/env python3
+"""Measures `trinorm play`: seconds for scripts of 1,000 steps on about 1,000 tetrahedra. It compares nothing.
+
+Usage: bench/moves.py [PROGRAM]
+"""
+import os
+import subprocess
+import sys
+import time
+
+from surfaces import layered_loop
+from verify import HERE
+
+
+def there_and_back(tetrahedra, steps):
+    """A 1-4 move and its inverse, over and over."""
+    return "".join(f"14 {k % tetrahedra}\n41 {tetrahedra + 2} 3\n" for k in range(steps // 2))
+
+
+def and_undone(tetrahedra, steps):
+    """A 1-4 move, taken back and played once more, and taken back."""
+    return "".join(f"14 {k % tetrahedra}\nundo\nredo\nundo\n" for k in range(steps // 4))
+
+
+def refused(tetrahedra, steps):
+    """Moves that are refused."""
+    return "".join(f"41 {k % tetrahedra} 0\n" for k in range(steps))
+
+
+def main():
+    program = sys.argv[1] if len(sys.argv) > 1 else os.path.join(HERE, "..", "trinorm")
+    subprocess.run([program], stdin=subprocess.DEVNULL, stdout=subprocess.DEVNULL)
+    for tetrahedra in (10, 100, 990):
+        for script in (there_and_back, and_undone, refused):
+            text = layered_loop(tetrahedra) + script(tetrahedra, 1000)
+            begun = time.time()
+            done = subprocess.run([program, "play"], input=text.encode(), stdout=subprocess.PIPE)
+            accepted = done.stdout.count(b"done\n")
+            print(f"{script.__doc__} 1000 steps on {tetrahedra} tetrahedra: {accepted} done, status {done.returncode}, {time.time() - begun:.2f} s")
+
+
+if __name__ == "__main__":
+    main()

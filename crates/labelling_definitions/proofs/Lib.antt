@@ -1,0 +1,2 @@
+pub mod CensusLaws
+pub mod OneCensus

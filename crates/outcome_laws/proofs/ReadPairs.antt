@@ -1,0 +1,26 @@
+-- The first of two tables that are read is a table.
+use Rattle.std.proofs.Common.{◌≡◌, List, ap, subst, Result, Ok}
+use Rattle.std.specs.Prelude.{ℕ}
+use Rattle.text_definitions.specs.Reading.{Reading, ◌>>=◌, start_of, need_line_at}
+use Rattle.text_definitions.proofs.Readers.{bind_ok}
+use Rattle.table_definitions.specs.Table.{Row, IsTable}
+use Rattle.signature_definitions.specs.SignatureText.{InputFault, any_table_at}
+use Rattle.signature_codec.proofs.AnyTables.{any_table_read}
+use Rattle.document_definitions.specs.Documents.{worded, next_table_at, no_line_at, two_tables_document}
+
+next_read : (c : Reading) (x : List Row × Reading) → next_table_at c ≡ Ok x → IsTable x.0
+unfolding next_table_at
+next_read c x e =
+    let line = bind_ok (worded (need_line_at c)) any_table_at x e in
+    (any_table_read line.0 x.0 x.1 line.2).table
+
+pub first_is_table : (bytes : List ℕ) (pair : List Row × List Row) → two_tables_document bytes ≡ Ok pair → IsTable pair.0
+unfolding two_tables_document
+first_is_table bytes pair e =
+    let first = bind_ok (next_table_at (start_of bytes)) (λ (a : List Row × Reading). next_table_at a.1 >>= λ (b : List Row × Reading). worded (no_line_at b.1) >>= λ (end : Reading). Ok (a.0, b.0)) pair e in
+    let second = bind_ok (next_table_at (first.0).1) (λ (b : List Row × Reading). worded (no_line_at b.1) >>= λ (end : Reading). Ok ((first.0).0, b.0)) pair first.2 in
+    let last = bind_ok (worded (no_line_at (second.0).1)) (λ (end : Reading). Ok ((first.0).0, (second.0).0)) pair second.2 in
+    subst IsTable (same_first (first.0).0 (second.0).0 pair last.2) (next_read (start_of bytes) first.0 first.1)
+  where
+    same_first : (a b : List Row) (p : List Row × List Row) → ◌≡◌ {A = Result (List Row × List Row) InputFault} (Ok (a, b)) (Ok p) → a ≡ p.0
+    same_first a b p e = let same : (a, b) ≡ p = cc in ap (λ (q : List Row × List Row). q.0) same

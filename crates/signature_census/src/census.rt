@@ -1,0 +1,85 @@
+//! A census of tables.
+
+ghost use Rattle.std.specs.Prelude.{◌≡◌, ◌≢◌, ◌<◌, ◌+◌, ◌^◌, ℕ, List, [], length, IfOk, IfErr, OnOk, OnErr};
+ghost use Rattle.table_definitions.specs.Places.{IsConnected, IsLeastUnreached};
+ghost use Rattle.signature_definitions.specs.Spelling.{IsSignature};
+ghost use Rattle.labelling_definitions.specs.Census.{signature_in, IsPlaced};
+ghost use Rattle.signature_census.specs.Texts.{texts_of};
+
+use canonical_labelling::{WalkFault, signature};
+use gluing_table::Table;
+use indexmap::IndexSet;
+use no_memory::NoMemory;
+use std::alloc::Global;
+use std::marker::Model;
+
+/// The signatures of the tables that were added, each once, in the order in which they were first met.
+#[derive(Drop)]
+pub struct Census {
+    alloc: Global,
+    signatures: IndexSet<Vec<u8>>,
+}
+
+impl Model for Census {
+    ghost use Rattle.std.specs.Prelude.{ℕ, List, length, ◌<◌, ◌^◌};
+    ghost use Rattle.signature_census.specs.Texts.{texts_of};
+
+    ghost Value = { List (List ℕ) };
+
+    ghost view = { λ c. texts_of c.signatures.keys };
+
+    ghost invariant = { λ c. length c.signatures.keys < 2 ^ 32 };
+}
+
+// The place of a text among texts, behind which it is put where it has none.
+fn place(texts: &mut IndexSet<Vec<u8>>, text: Vec<u8>) -> Result<usize, NoMemory>
+    ensures placed { IfOk result (λ class. IsPlaced (texts_of texts.old.keys) text.items class (texts_of texts.new.keys)) }
+    ensures kept { OnErr result (texts.new.keys ≡ texts.old.keys) }
+{
+    let (class, _) = texts.insert_full(text)?;
+    Ok(class)
+}
+
+impl Census {
+    /// No tables.
+    pub fn new(alloc: Global) -> Census
+        ensures { result ≡ [] }
+    {
+        Census {
+            alloc,
+            signatures: IndexSet::new(alloc),
+        }
+    }
+
+    /// The number of classes.
+    pub fn len(&self) -> u32
+        ensures { result ≡ length self.now }
+    {
+        self.signatures.len() as u32
+    }
+
+    /// The signature of a class.
+    pub fn signature_of(&self, class: u32) -> &[u8]
+        requires { class < length self.now }
+        ensures { result.now ≡ signature_in self.now class }
+    {
+        let text = &self.signatures.as_slice()[class as usize];
+        text.as_slice()
+    }
+
+    /// The class of a table: the place of its signature, which is put last where it has none. What isn't connected is
+    /// refused, and then the census stays.
+    pub fn add(&mut self, table: &Table) -> Result<u32, WalkFault>
+        requires { length self.old + 1 < 2 ^ 32 }
+        ensures class { IfOk result (λ class. (text : List ℕ) × IsSignature table.now text × IsPlaced self.old text class self.new) }
+        ensures in_range { IfOk result (λ class. class < length self.new) }
+        ensures signature { IfOk result (λ class. IsSignature table.now (signature_in self.new class)) }
+        ensures connected { OnOk result (IsConnected table.now) }
+        ensures fault { IfErr result (λ e. e ≢ WalkFault.NoMemory → (t : ℕ) × (e ≡ WalkFault.NotConnected t) × IsLeastUnreached table.now t) }
+        ensures kept { OnErr result (self.new ≡ self.old) }
+    {
+        let text = signature(self.alloc, table)?;
+        let class = place(&mut self.signatures, text)?;
+        Ok(class as u32)
+    }
+}

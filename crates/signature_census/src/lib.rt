@@ -1,0 +1,13 @@
+//! A census of tables: the signatures of what was added, each once, in the order in which they were first met. A table's
+//! class is its signature's place.
+#![tactic(auto)]
+
+mod census;
+mod laws;
+
+pub use canonical_labelling::WalkFault;
+pub use census::Census;
+pub use laws::{census_goes_on, one_census};
+
+#[cfg(test)]
+mod tests;

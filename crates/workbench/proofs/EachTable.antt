@@ -1,0 +1,139 @@
+-- Reading tables to the end of the input, table by table.
+use Rattle.std.proofs.Common.{◌≡◌, ◌+◌, ◌≤◌, List, [], ◌∷◌, ◌++◌, Result, Ok, Err, length, refl, sym, ap, ◌∙◌, arith, append_assoc, append-nil}
+use Rattle.table_definitions.specs.Table.{Row}
+use Rattle.text_definitions.specs.Text.{Line}
+use Rattle.text_definitions.specs.Reading.{Reading, ◌>>=◌, begun, line_from, need_line_at}
+use Rattle.signature_definitions.specs.SignatureText.{InputFault, any_table_at}
+use Rattle.signature_codec.proofs.AnyTables.{any_table_read}
+use Rattle.signature_codec.specs.declared.any.InputFault as answered
+use Rattle.signature_codec.specs.declared.any.InputFault.TheVariants.{NoMemory, Text, Signature}
+use Rattle.signature_codec.specs.declared.faults.SigFault.{SigFault}
+use Rattle.signature_codec.specs.declared.faults.SigFault.TheVariants as sig_faults
+use Rattle.gluing_table.specs.declared.reader.TextFault.{TextFault}
+use Rattle.gluing_table.specs.declared.reader.TextFault.TheVariants as text_faults
+use Rattle.signature_codec.specs.Inputs.{FailsText, FailsSignature, FailsInput}
+use Rattle.document_definitions.specs.Documents.{tables_on, tables_from}
+
+-- what tables are read as
+abbrev pub ReadTables : Type 0
+ReadTables = Result (List (List Row) × Reading) InputFault
+
+-- the tables so far, before those that a reading gives
+abbrev pub with_tables : List (List Row) → ReadTables → ReadTables
+with_tables front read = read >>= λ (others : List (List Row) × Reading). Ok (front ++ others.0, others.1)
+
+-- a table before the others
+abbrev first_and : List Row → ReadTables → ReadTables
+first_and rows read = read >>= λ (others : List (List Row) × Reading). Ok (rows ∷ others.0, others.1)
+
+with_tables-first : (front : List (List Row)) (rows : List Row) (r : ReadTables) → with_tables (front ++ rows ∷ []) r ≡ with_tables front (first_and rows r)
+with_tables-first front rows (Ok y) = ap (λ (ts : List (List Row)). Ok (ts, y.1)) (append_assoc front (rows ∷ []) y.0)
+with_tables-first front rows (Err e) = refl
+
+-- a table, and those behind it by this reader
+abbrev table_then : (Reading → ReadTables) → Result (List Row × Reading) InputFault → ReadTables
+table_then more read = read >>= λ (first : List Row × Reading). first_and first.0 (more first.1)
+
+same_then : (more other : Reading → ReadTables) (read : Result (List Row × Reading) InputFault) →
+    ((x : List Row × Reading) → read ≡ Ok x → more x.1 ≡ other x.1) → table_then more read ≡ table_then other read
+same_then more other (Ok x) h = ap (first_and x.0) (h x refl)
+same_then more other (Err e) h = refl
+
+fewer_left : (l : Line) (ls most : List Line) (c : Reading) (x : List Row × Reading) → any_table_at (begun l ls c) ≡ Ok x → length (l ∷ ls) ≤ length most + 1 → length x.1.later ≤ length most
+fewer_left l ls most c x e h = let f = (any_table_read (begun l ls c) x.0 x.1 e).fewer in omega arith
+
+-- how many tables are allowed for makes no difference, where there are as many as lines
+any_most : (most many : List Line) (c : Reading) → length c.later ≤ length most → length c.later ≤ length many → tables_from most c ≡ tables_from many c
+unfolding tables_from
+any_most [] [] c h k = refl
+any_most [] (m ∷ many) c h k = from_none c.later refl
+  where
+    from_none : (ls : List Line) → c.later ≡ ls → Ok ([], c) ≡ tables_on ls c (λ d. tables_from many d)
+    from_none [] same = refl
+    from_none (l ∷ ls) same = absurd (omega (arith, ap length same))
+any_most (m ∷ most) [] c h k = from_none c.later refl
+  where
+    from_none : (ls : List Line) → c.later ≡ ls → tables_on ls c (λ d. tables_from most d) ≡ Ok ([], c)
+    from_none [] same = refl
+    from_none (l ∷ ls) same = absurd (omega (arith, ap length same))
+any_most (m ∷ most) (n ∷ many) c h k = from_lines c.later refl (λ x f g. any_most most many x.1 f g)
+  where
+    from_lines : (ls : List Line) → c.later ≡ ls → ((x : List Row × Reading) → length x.1.later ≤ length most → length x.1.later ≤ length many → tables_from most x.1 ≡ tables_from many x.1)
+        → tables_on ls c (λ d. tables_from most d) ≡ tables_on ls c (λ d. tables_from many d)
+    from_lines [] same next = refl
+    from_lines (l ∷ ls) same next = same_then (tables_from most) (tables_from many) (any_table_at (begun l ls c))
+        (λ x e. next x (fewer_left l ls most c x e (omega (arith, ap length same))) (fewer_left l ls many c x e (omega (arith, ap length same))))
+
+-- the first of the lines that are left, and those behind it
+first_line : (c : Reading) (l : Line) (ls : List Line) → c.later ≡ l ∷ ls → tables_from c.later c ≡ table_then (λ d. tables_from ls d) (any_table_at (begun l ls c))
+unfolding tables_from
+first_line c l ls same = ap (λ (us : List Line). tables_from us c) same ∙ ap (λ (us : List Line). tables_on us c (λ d. tables_from ls d)) same
+
+-- a further line is begun
+next_begun : (c d : Reading) → need_line_at c ≡ Ok d → (l : Line) × (ls : List Line) × (c.later ≡ l ∷ ls) × (begun l ls c ≡ d)
+unfolding need_line_at
+next_begun c d e = from_lines c.later refl e
+  where
+    from_lines : (ls : List Line) → c.later ≡ ls → line_from ls c ≡ Ok d → (l : Line) × (rest : List Line) × (c.later ≡ l ∷ rest) × (begun l rest c ≡ d)
+    from_lines [] same e = cc
+    from_lines (l ∷ ls) same e = (l, ls, same, (let x : Ok (begun l ls c) ≡ Ok d = e in cc))
+
+pub table_taken : (front : List (List Row)) (c d : Reading) (x : List Row × Reading) → need_line_at c ≡ Ok d → any_table_at d ≡ Ok x
+    → with_tables (front ++ x.0 ∷ []) (tables_from x.1.later x.1) ≡ with_tables front (tables_from c.later c)
+table_taken front c d x e f =
+    let n = next_begun c d e in
+    let read : any_table_at (begun n.0 n.1 c) ≡ Ok x = rw n.3 f in
+    let fewer = fewer_left n.0 n.1 n.1 c x read (omega arith) in
+    with_tables-first front x.0 (tables_from x.1.later x.1)
+    ∙ ap (λ (r : ReadTables). with_tables front (first_and x.0 r)) (any_most x.1.later n.1 x.1 (omega arith) fewer)
+    ∙ ap (λ (r : Result (List Row × Reading) InputFault). with_tables front (table_then (λ d. tables_from n.1 d) r)) (sym read)
+    ∙ ap (with_tables front) (sym (first_line c n.0 n.1 n.2))
+
+pub tables_fewer : (c d : Reading) (x : List Row × Reading) → need_line_at c ≡ Ok d → any_table_at d ≡ Ok x → length x.1.later + 1 ≤ length c.later
+tables_fewer c d x e f =
+    let n = next_begun c d e in
+    let less = (any_table_read d x.0 x.1 f).fewer in
+    let there : n.1 ≡ d.later = ap (λ (r : Reading). r.later) n.3 in
+    omega (arith, ap length there, ap length n.2)
+
+pub table_faulty : (front : List (List Row)) (c d : Reading) (fault : InputFault) → need_line_at c ≡ Ok d → any_table_at d ≡ Err fault
+    → with_tables front (tables_from c.later c) ≡ Err fault
+table_faulty front c d fault e f =
+    let n = next_begun c d e in
+    let read : any_table_at (begun n.0 n.1 c) ≡ Err fault = rw n.3 f in
+    ap (with_tables front) (first_line c n.0 n.1 n.2) ∙ ap (λ (r : Result (List Row × Reading) InputFault). with_tables front (table_then (λ d. tables_from n.1 d) r)) read
+
+pub tables_ended : (front : List (List Row)) (c : Reading) → c.later ≡ [] → with_tables front (tables_from c.later c) ≡ Ok (front, c)
+unfolding tables_from
+tables_ended front c same = ap (λ (us : List Line). with_tables front (tables_from us c)) same ∙ ap (λ (ts : List (List Row)). Ok (ts, c)) (append-nil front)
+
+-- a fault of a table is one of the tables
+text_moved : {A B : Type 0} (f : TextFault) (read : Result A InputFault) (whole : Result B InputFault) → ((fault : InputFault) → read ≡ Err fault → whole ≡ Err fault) → FailsText f read → FailsText f whole
+text_moved text_faults.NoMemory read whole h e = absurd e
+text_moved (text_faults.Lex f) read whole h e = h _ e
+text_moved (text_faults.Table f) read whole h e = (e.0, h _ e.1, e.2)
+
+signature_moved : {A B : Type 0} (f : SigFault) (read : Result A InputFault) (whole : Result B InputFault) → ((fault : InputFault) → read ≡ Err fault → whole ≡ Err fault) → FailsSignature f read
+    → FailsSignature f whole
+signature_moved sig_faults.NoMemory read whole h e = absurd e
+signature_moved (sig_faults.BadChar at) read whole h e = h _ e
+signature_moved (sig_faults.Short at) read whole h e = h _ e
+signature_moved (sig_faults.BadType at) read whole h e = h _ e
+signature_moved (sig_faults.Leftover at) read whole h e = h _ e
+signature_moved (sig_faults.Destination at) read whole h e = h _ e
+signature_moved (sig_faults.Gluing at) read whole h e = h _ e
+signature_moved (sig_faults.FaceTaken at) read whole h e = h _ e
+signature_moved (sig_faults.Trailing at) read whole h e = h _ e
+signature_moved sig_faults.TooMany read whole h e = h _ e
+signature_moved sig_faults.Unreached read whole h e = h _ e
+signature_moved (sig_faults.Width at) read whole h e = h _ e
+
+input_moved : {A B : Type 0} (f : answered.InputFault) (read : Result A InputFault) (whole : Result B InputFault) → ((fault : InputFault) → read ≡ Err fault → whole ≡ Err fault) → FailsInput f read
+    → FailsInput f whole
+input_moved NoMemory read whole h e = tt
+input_moved (Text f) read whole h e = text_moved f read whole h e
+input_moved (Signature f) read whole h e = signature_moved f read whole h e
+
+pub table_fails : (front : List (List Row)) (c d : Reading) (f : answered.InputFault) (whole : ReadTables) → need_line_at c ≡ Ok d → FailsInput f (any_table_at d)
+    → with_tables front (tables_from c.later c) ≡ whole → FailsInput f whole
+table_fails front c d f whole e h same = input_moved f (any_table_at d) whole (λ fault g. sym same ∙ table_faulty front c d fault e g) h
