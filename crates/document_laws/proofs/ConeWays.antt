@@ -17,7 +17,7 @@ use Rattle.document_laws.proofs.Local.{shows, Goes, goes_chained, goes_pure, goe
 use Rattle.document_laws.proofs.LocalWords.{as_is, word_with, ending, ends_again, goes_end}
 use Rattle.document_laws.proofs.LocalLines.{next_line, ends_shown}
 use Rattle.document_laws.proofs.LocalForms.{number_test, number_word, signed_test, signed_word, exact_test, exact_word, exactly, goes_number, goes_coefficients, goes_closed, goes_row, goes_rows, goes_cone_rows, closed_row, row_on, cone_of, after_end, after_count, after_columns, after_name}
-use Rattle.document_laws.proofs.Ways.{Sat, From, Well, WellOpen, Free, sat_both, well_free, well_goes, well_open, well_behind, free_chained, free_pure, free_same, sat_same, well_same, well_open_same, from_sat, sat_mapped, well_mapped, well_open_mapped}
+use Rattle.document_laws.proofs.Ways.{Sat, From, alike_each, Well, WellOpen, Free, sat_both, well_free, well_goes, well_open, well_behind, free_chained, free_pure, free_same, sat_same, well_same, well_open_same, from_sat, sat_mapped, well_mapped, well_open_mapped}
 use Rattle.document_laws.proofs.WordWays.{free_word, sat_word, well_word, sat_end, well_end, free_line, well_line}
 
 abbrev naught : List ℕ
@@ -92,14 +92,14 @@ unfolding coefficients_at
 sat_coefficients zero Aim k a = record { start = k; value = []; next = k; reads = refl; aim = a [] }
 sat_coefficients (suc n) Aim k a =
     let more : Sat (more_coefficients n (pos 0)) Aim = sat_mapped (coefficients_at n) (λ r. pos 0 ∷ r) Aim (sat_coefficients n (λ r. Aim (pos 0 ∷ r)) k (λ row. a (pos 0 ∷ row))) in
-    sat_both as_is (signed_at 1000000) (more_coefficients n) Aim (goes_more n) (sat_signed (λ z ss. From (more_coefficients n z) Aim ss) more.start (from_sat (more_coefficients n (pos 0)) Aim more))
+    sat_both as_is (signed_at 1000000) (more_coefficients n) Aim (alike_each (more_coefficients n) (goes_more n)) (sat_signed (λ z ss. From (more_coefficients n z) Aim ss) more.start (from_sat (more_coefficients n (pos 0)) Aim more))
 
 well_coefficients : (n : ℕ) (Aim : List ℤ → List Sign → Type 0) (k : Reading) → ((row : List ℤ) → Aim row (shows k)) → (c : Reading) → Well as_is (coefficients_at n) Aim c
 unfolding coefficients_at
 well_coefficients zero Aim k a c = λ f e. absurd cc
 well_coefficients (suc n) Aim k a c =
     let more : Sat (more_coefficients n (pos 0)) Aim = sat_mapped (coefficients_at n) (λ r. pos 0 ∷ r) Aim (sat_coefficients n (λ r. Aim (pos 0 ∷ r)) k (λ row. a (pos 0 ∷ row))) in
-    well_free as_is (signed_at 1000000) (more_coefficients n) Aim (goes_more n) c (free_signed c)
+    well_free as_is (signed_at 1000000) (more_coefficients n) Aim (alike_each (more_coefficients n) (goes_more n)) c (free_signed c)
     (well_signed (λ z ss. From (more_coefficients n z) Aim ss) c more.start (from_sat (more_coefficients n (pos 0)) Aim more))
     (λ z d e. well_mapped (coefficients_at n) (λ r. z ∷ r) Aim d (well_coefficients n (λ r. Aim (z ∷ r)) k (λ row. a (z ∷ row)) d))
 
@@ -118,11 +118,11 @@ module _ (Aim : List ℤ → List Sign → Type 0) (k : Reading) (none : k.curre
   well_closed r c = well_same as_is (ended_row r) (closed_row r) Aim (row_ended r) c (well_mapped ending (λ u. r) Aim c (well_end (λ u. Aim r) c (sat_end (λ u. Aim r) k none (a r))))
 
   sat_row_on : (columns : ℕ) → Sat (row_on columns) Aim
-  sat_row_on columns = sat_both as_is (coefficients_at columns) closed_row Aim goes_closed (sat_coefficients columns (λ r ss. From (closed_row r) Aim ss) k from_closed)
+  sat_row_on columns = sat_both as_is (coefficients_at columns) closed_row Aim (alike_each closed_row goes_closed) (sat_coefficients columns (λ r ss. From (closed_row r) Aim ss) k from_closed)
 
   well_row_on : (columns : ℕ) (c : Reading) → Well as_is (row_on columns) Aim c
   well_row_on columns c =
-      well_free as_is (coefficients_at columns) closed_row Aim goes_closed c (free_coefficients columns c) (well_coefficients columns (λ r ss. From (closed_row r) Aim ss) k from_closed c) (λ r d e. well_closed r d)
+      well_free as_is (coefficients_at columns) closed_row Aim (alike_each closed_row goes_closed) c (free_coefficients columns c) (well_coefficients columns (λ r ss. From (closed_row r) Aim ss) k from_closed c) (λ r d e. well_closed r d)
 
   goes_row_on : (columns : ℕ) (u : ⊤) (c : Reading) → Goes (row_on columns) c
   goes_row_on columns u c = goes_chained (coefficients_at columns) closed_row c (goes_coefficients columns c) (λ r d q. goes_closed r d)
@@ -135,7 +135,7 @@ module _ (Aim : List ℤ → List Sign → Type 0) (k : Reading) (none : k.curre
   well_row columns c =
       let s : Sat (row_on columns) Aim = sat_row_on columns in
       well_open_same as_is (λ d. next_line d >>= λ (u : ⊤ × Reading). row_on columns u.1) (cone_row_at columns) Aim (row_on_line columns) c
-      (well_behind as_is next_line (λ u. row_on columns) Aim (goes_row_on columns) c (free_line c) (well_line (λ u ss. From (row_on columns) Aim ss) c s.start (from_sat (row_on columns) Aim s))
+      (well_behind as_is next_line (λ u. row_on columns) Aim (alike_each (λ u. row_on columns) (goes_row_on columns)) c (free_line c) (well_line (λ u ss. From (row_on columns) Aim ss) c s.start (from_sat (row_on columns) Aim s))
       (λ u d e. well_row_on columns d))
 
 -- so many rows of zeros
@@ -229,7 +229,7 @@ well_rows (suc n) columns Aim a c =
       reads = ap (λ (q : Result Rows LexFault). q >>= λ (rs : Rows). Ok (r ∷ rs.0, rs.1)) l.reads;
       aim = subst (λ (ss : List Sign). Aim (r ∷ l.value) ss) (sym l.last) (a (r ∷ l.value));
     } in
-    well_open as_is (cone_row_at columns) (more_rows n columns) Aim (goes_more_rows n columns) c (goes_row columns c) (well_row (λ r ss. From (more_rows n columns r) Aim ss) l.start l.none from columns c)
+    well_open as_is (cone_row_at columns) (more_rows n columns) Aim (alike_each (more_rows n columns) (goes_more_rows n columns)) c (goes_row columns c) (well_row (λ r ss. From (more_rows n columns r) Aim ss) l.start l.none from columns c)
     (λ r d e. well_open_mapped (cone_rows_at n columns) (λ rs. r ∷ rs) Aim d (well_rows n columns (λ rs. Aim (r ∷ rs)) (λ rows. a (r ∷ rows)) d))
 
 last_cone_rows : (columns n : ℕ) → RowsLast (rows_of_cone_at columns n)
@@ -280,34 +280,34 @@ sat_ending columns n = (let l : RowsLast (rows_of_cone_at columns n) = last_cone
 sat_count : (columns n : ℕ) → Sat (after_count columns n) IsLast
 sat_count columns n =
     sat_same (λ c. ending c >>= λ (u : ⊤ × Reading). after_end columns n u.1) (after_count columns n) IsLast (ended_count columns n)
-    (sat_both as_is ending (λ u. after_end columns n) IsLast (λ u k. goes_after_end columns n k) (sat_ending columns n))
+    (sat_both as_is ending (λ u. after_end columns n) IsLast (alike_each (λ u. after_end columns n) (λ u k. goes_after_end columns n k)) (sat_ending columns n))
 
 well_count : (columns n : ℕ) (c : Reading) → Well as_is (after_count columns n) IsLast c
 well_count columns n c =
     well_same as_is (λ d. ending d >>= λ (u : ⊤ × Reading). after_end columns n u.1) (after_count columns n) IsLast (ended_count columns n) c
-    (well_goes as_is ending (λ u. after_end columns n) IsLast (λ u k. goes_after_end columns n k) c (goes_end c) (well_end (λ u ss. From (after_end columns n) IsLast ss) c (sat_ending columns n))
+    (well_goes as_is ending (λ u. after_end columns n) IsLast (alike_each (λ u. after_end columns n) (λ u k. goes_after_end columns n k)) c (goes_end c) (well_end (λ u ss. From (after_end columns n) IsLast ss) c (sat_ending columns n))
     (λ u d e. well_open_mapped (rows_of_cone_at columns n) (λ rows. cone_of columns rows) IsLast d (well_cone_rows columns n (λ rows ss. ss ≡ last_signs) (λ rows. refl) d)))
 
 from_count : (columns : ℕ) → From (after_count columns 0) IsLast (shows (sat_count columns 0).start)
 from_count columns = from_sat (after_count columns 0) IsLast (sat_count columns 0)
 
 sat_columns : (columns : ℕ) → Sat (after_columns columns) IsLast
-sat_columns columns = sat_both as_is (number_at 10000) (after_count columns) IsLast (goes_after_count columns) (sat_number (λ n ss. From (after_count columns n) IsLast ss) (sat_count columns 0).start (from_count columns))
+sat_columns columns = sat_both as_is (number_at 10000) (after_count columns) IsLast (alike_each (after_count columns) (goes_after_count columns)) (sat_number (λ n ss. From (after_count columns n) IsLast ss) (sat_count columns 0).start (from_count columns))
 
 well_columns : (columns : ℕ) (c : Reading) → Well as_is (after_columns columns) IsLast c
 well_columns columns c =
-    well_free as_is (number_at 10000) (after_count columns) IsLast (goes_after_count columns) c (free_number c) (well_number (λ n ss. From (after_count columns n) IsLast ss) c (sat_count columns 0).start (from_count columns))
+    well_free as_is (number_at 10000) (after_count columns) IsLast (alike_each (after_count columns) (goes_after_count columns)) c (free_number c) (well_number (λ n ss. From (after_count columns n) IsLast ss) c (sat_count columns 0).start (from_count columns))
     (λ n d e. well_count columns n d)
 
 from_columns : From (after_columns 0) IsLast (shows (sat_columns 0).start)
 from_columns = from_sat (after_columns 0) IsLast (sat_columns 0)
 
 sat_name : Sat after_name IsLast
-sat_name = sat_both as_is (number_at 10000) after_columns IsLast goes_after_columns (sat_number (λ n ss. From (after_columns n) IsLast ss) (sat_columns 0).start from_columns)
+sat_name = sat_both as_is (number_at 10000) after_columns IsLast (alike_each after_columns goes_after_columns) (sat_number (λ n ss. From (after_columns n) IsLast ss) (sat_columns 0).start from_columns)
 
 well_name : (c : Reading) → Well as_is after_name IsLast c
 well_name c =
-    well_free as_is (number_at 10000) after_columns IsLast goes_after_columns c (free_number c) (well_number (λ n ss. From (after_columns n) IsLast ss) c (sat_columns 0).start from_columns) (λ n d e. well_columns n d)
+    well_free as_is (number_at 10000) after_columns IsLast (alike_each after_columns goes_after_columns) c (free_number c) (well_number (λ n ss. From (after_columns n) IsLast ss) c (sat_columns 0).start from_columns) (λ n d e. well_columns n d)
 
 from_name : From after_name IsLast (shows sat_name.start)
 from_name = from_sat after_name IsLast sat_name
@@ -319,9 +319,9 @@ cone_by_name c = alone_bind (exactly_at (codes "cone") c) after_name
 pub sat_cone : Sat cone_at IsLast
 sat_cone =
     sat_same (λ c. exactly (codes "cone") c >>= λ (u : ⊤ × Reading). after_name u.1) cone_at IsLast cone_by_name
-    (sat_both as_is (exactly (codes "cone")) (λ u. after_name) IsLast (λ u k. goes_after_name k) (sat_named (λ u ss. From after_name IsLast ss) sat_name.start from_name))
+    (sat_both as_is (exactly (codes "cone")) (λ u. after_name) IsLast (alike_each (λ u. after_name) (λ u k. goes_after_name k)) (sat_named (λ u ss. From after_name IsLast ss) sat_name.start from_name))
 
 pub well_cone : (c : Reading) → Well as_is cone_at IsLast c
 well_cone c =
     well_same as_is (λ d. exactly (codes "cone") d >>= λ (u : ⊤ × Reading). after_name u.1) cone_at IsLast cone_by_name c
-    (well_free as_is (exactly (codes "cone")) (λ u. after_name) IsLast (λ u k. goes_after_name k) c (free_named c) (well_named (λ u ss. From after_name IsLast ss) c sat_name.start from_name) (λ u d e. well_name d))
+    (well_free as_is (exactly (codes "cone")) (λ u. after_name) IsLast (alike_each (λ u. after_name) (λ u k. goes_after_name k)) c (free_named c) (well_named (λ u ss. From after_name IsLast ss) c sat_name.start from_name) (λ u d e. well_name d))

@@ -42,7 +42,7 @@ pub as_lines : (end : Place) (o : Reading) → plain (signs_of end (o.current �
 as_lines end o = same_signs end o.input_end (o.current ∷ o.later) ∙ opened o
 
 -- no line is left behind the last signs
-no_lines : (p : Place) (ls : List Line) → plain (signs_of p ls) ≡ input_end ∷ [] → ls ≡ []
+pub no_lines : (p : Place) (ls : List Line) → plain (signs_of p ls) ≡ input_end ∷ [] → ls ≡ []
 unfolding signs_of
 no_lines p [] e = refl
 no_lines p (l ∷ ls) e = absurd (no_input_end l.number l.tokens l.end (signs_of p ls) (ap opening e))
@@ -114,10 +114,10 @@ past_cone cone d f e =
     let closed : StopsPast (λ c. alone (no_line_at c) >>= λ (u : ⊤ × Reading). Ok cone) d f.place = (stops_early as_is (λ c. alone (no_line_at c)) (λ u c. Ok cone) d f.place alone_past.0, alone_past.1) in
     subst (λ (q : Reading → Result Cone LexFault). StopsPast q d f.place) (λ i c. alone_bind (no_line_at c) (λ last. Ok cone) i) closed
 
-abbrev cut : Reading → Reading
+abbrev pub cut : Reading → Reading
 cut d = record d { later = [] }
 
-cut_shows : (d : Reading) → shows (cut d) ≡ plain (rest_here d) ++ input_end ∷ []
+pub cut_shows : (d : Reading) → shows (cut d) ≡ plain (rest_here d) ++ input_end ∷ []
 unfolding signs_of
 cut_shows d = ap plain (line_split d.current.number d.current.tokens d.current.end ((d.input_end, input_end) ∷ [])) ∙ plain-append (rest_here d) ((d.input_end, input_end) ∷ [])
 

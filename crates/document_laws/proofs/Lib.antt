@@ -20,3 +20,15 @@ pub mod ConeWays
 pub mod LeavingCones
 pub mod VectorWays
 pub mod LeavingVectors
+pub mod TextReaders
+pub mod TextWays
+pub mod TextWords
+pub mod TextGrammar
+pub mod TextEnds
+pub mod FirstFaults
+pub mod FirstTables
+pub mod FirstLines
+pub mod FirstVectors
+pub mod MoveWays
+pub mod FirstMoves
+pub mod HaveText

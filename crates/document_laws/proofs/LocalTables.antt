@@ -64,7 +64,7 @@ worded_lift {X} = record { lowered = lowered; lifted = lifted; faults = faults }
     faults (Err g) f e = let same : g ≡ f = cc in cc
 
 -- a reader of the lexer that gives no value, as one with another kind of fault
-lexed_alone : (r : Result Reading LexFault) → lexed (alone r) ≡ alone (lexed r)
+pub lexed_alone : (r : Result Reading LexFault) → lexed (alone r) ≡ alone (lexed r)
 lexed_alone (Ok d) = refl
 lexed_alone (Err f) = refl
 
@@ -86,14 +86,14 @@ module _ (move : Reading → Result Reading LexFault) (c : Reading) (g : Goes (�
   stops_worded = stops_same in_text (λ d. worded (alone (move d))) (λ d. alone (worded (move d))) (λ d. worded_alone (move d)) c (stops_lifted as_is in_text (λ r. worded r) worded_lift (λ d. alone (move d)) c s)
 
 -- entries
-gluing_test : Option Gluing → Result (Option Gluing) LexKind
+unfoldable pub gluing_test : Option Gluing → Result (Option Gluing) LexKind
 gluing_test None = Err BadWord
 gluing_test (Some g) = if nat_lt g.tet (2 ^ 32) then Ok (Some g) else Err NumberTooWide
 
-entry_test : List ℕ → Result (Option Gluing) LexKind
+unfoldable pub entry_test : List ℕ → Result (Option Gluing) LexKind
 entry_test w = if same_list w (codes "-") then Ok None else gluing_test (gluing_of w)
 
-abbrev Entry : Type 0
+abbrev pub Entry : Type 0
 Entry = Option Gluing × Reading
 
 gluing_tested : (o : Option Gluing) (c : Reading) → tested (gluing_test o) c ≡ gluing_entry o c
@@ -113,7 +113,7 @@ entry_tested w c = by_test (same_list w (codes "-"))
     by_test true = refl
     by_test false = gluing_tested (gluing_of w) c
 
-entry_word : (c : Reading) → word_with entry_test c ≡ entry_at c
+pub entry_word : (c : Reading) → word_with entry_test c ≡ entry_at c
 unfolding entry_at
 entry_word c = by_word (word_at c)
   where
@@ -122,29 +122,29 @@ entry_word c = by_word (word_at c)
     by_word (Ok w) = entry_tested w.0 w.1
     by_word (Err f) = refl
 
-goes_entry : (c : Reading) → Goes entry_at c
+pub goes_entry : (c : Reading) → Goes entry_at c
 goes_entry c = goes_same (word_with entry_test) entry_at entry_word c (goes_word entry_test c)
 
 stops_entry : (c : Reading) → Stops as_is entry_at c
 stops_entry c = stops_same as_is (word_with entry_test) entry_at entry_word c (stops_word entry_test c)
 
 -- rows
-abbrev Row : Type 0
+abbrev pub Row : Type 0
 Row = tables.Row × Reading
 
-abbrev fourth : Option Gluing → Option Gluing → Option Gluing → Option Gluing → Reading → Result Row LexFault
+abbrev pub fourth : Option Gluing → Option Gluing → Option Gluing → Option Gluing → Reading → Result Row LexFault
 fourth e0 e1 e2 e3 c = end_line_at c >>= λ (end : Reading). Ok (e0 ∷ e1 ∷ e2 ∷ e3 ∷ [], end)
 
-abbrev third : Option Gluing → Option Gluing → Option Gluing → Reading → Result Row LexFault
+abbrev pub third : Option Gluing → Option Gluing → Option Gluing → Reading → Result Row LexFault
 third e0 e1 e2 c = entry_at c >>= λ (e : Entry). fourth e0 e1 e2 e.0 e.1
 
-abbrev second : Option Gluing → Option Gluing → Reading → Result Row LexFault
+abbrev pub second : Option Gluing → Option Gluing → Reading → Result Row LexFault
 second e0 e1 c = entry_at c >>= λ (e : Entry). third e0 e1 e.0 e.1
 
-abbrev first : Option Gluing → Reading → Result Row LexFault
+abbrev pub first : Option Gluing → Reading → Result Row LexFault
 first e0 c = entry_at c >>= λ (e : Entry). second e0 e.0 e.1
 
-abbrev entries : Reading → Result Row LexFault
+abbrev pub entries : Reading → Result Row LexFault
 entries c = entry_at c >>= λ (e : Entry). first e.0 e.1
 
 goes_row : (c : Reading) → Goes row_at c
@@ -167,7 +167,7 @@ stops_row c =
     (λ e2 c3 p3. stops_chained as_is entry_at (fourth e0 e1 e2) c3 (goes_entry c3) (stops_entry c3)
     (λ e3 c4 p4. stops_moved as_is end_line_at (λ end. Ok (e0 ∷ e1 ∷ e2 ∷ e3 ∷ [], end)) c4 (goes_end c4) (stops_end c4) (λ end p5. stops_pure (λ d. (e0 ∷ e1 ∷ e2 ∷ e3 ∷ [], d)) end))))))
 
-abbrev Rows : Type 0
+abbrev pub Rows : Type 0
 Rows = List tables.Row × Reading
 
 goes_rows : (n : ℕ) (c : Reading) → Goes (rows_at n) c
@@ -184,7 +184,7 @@ stops_rows (suc n) c =
     (λ r d e. stops_first as_is (rows_at n) (λ rs d'. Ok (r ∷ rs, d')) d (stops_rows n d) (λ y f q. absurd (ok_never (r ∷ y.0, y.1) f q)))
 
 -- rows that are looked at: what is wrong with them stands at no place of the text
-abbrev looked_at : List tables.Row → Reading → Result Rows TextFault
+abbrev pub looked_at : List tables.Row → Reading → Result Rows TextFault
 looked_at rows d = checked (table_fault rows) (rows, d)
 
 goes_checked : (o : Option TableFault) (rows : List tables.Row) (c : Reading) → Goes (λ d. checked o (rows, d)) c
@@ -195,7 +195,7 @@ checked_never : (o : Option TableFault) (x : Rows) (f : LexFault) → checked o 
 checked_never None x f e = absurd cc
 checked_never (Some g) x f e = absurd cc
 
-abbrev rows_on : ℕ → Reading → Result Rows TextFault
+abbrev pub rows_on : ℕ → Reading → Result Rows TextFault
 rows_on n d = lexed (rows_at n d) >>= λ (rows : Rows). looked_at rows.0 rows.1
 
 goes_counted : (n : ℕ) (c : Reading) → Goes (counted_rows_at n) c
@@ -211,7 +211,7 @@ stops_counted n c =
     (λ d e. stops_first lexical (λ b. lexed (rows_at n b)) looked_at d (stops_lifted as_is lexical (λ r. lexed r) lexed_lift (rows_at n) d (stops_rows n d)) (λ y f q. checked_never (table_fault y.0) y f q))
 
 -- what follows the word `tri`
-abbrev if_few : Bool → ℕ → Reading → Result Rows TextFault
+abbrev pub if_few : Bool → ℕ → Reading → Result Rows TextFault
 if_few b n d = if b then Err (no_table too_many) else counted_rows_at n d
 
 goes_few : (b : Bool) (n : ℕ) (c : Reading) → Goes (if_few b n) c
@@ -235,10 +235,10 @@ stops_table c =
     (stops_lifted as_is lexical (λ r. lexed r) lexed_lift (number_at limit) c (stops_number limit c)) (λ n d e. stops_few (nat_lt max_tets n) n d)
 
 -- what follows the word `sig`
-any_text : List ℕ → Result (List ℕ) LexKind
+unfoldable pub any_text : List ℕ → Result (List ℕ) LexKind
 any_text w = Ok w
 
-any_word : (c : Reading) → word_with any_text c ≡ word_at c
+pub any_word : (c : Reading) → word_with any_text c ≡ word_at c
 unfolding any_text
 any_word c = by_word (word_at c)
   where
@@ -246,7 +246,7 @@ any_word c = by_word (word_at c)
     by_word (Ok w) = refl
     by_word (Err f) = refl
 
-abbrev a_word : Reading → Result (List ℕ × Reading) InputFault
+abbrev pub a_word : Reading → Result (List ℕ × Reading) InputFault
 a_word c = worded (word_at c)
 
 goes_a_word : (c : Reading) → Goes a_word c
@@ -263,7 +263,7 @@ stops_decoded : (r : Result (List tables.Row) SigFault) (c : Reading) → Stops 
 stops_decoded (Ok rows) c = λ f e. absurd cc
 stops_decoded (Err f) c = λ g e. absurd cc
 
-abbrev text_on : List ℕ → Reading → Result Rows InputFault
+abbrev pub text_on : List ℕ → Reading → Result Rows InputFault
 text_on w d = worded (end_line_at d) >>= λ (end : Reading). decoded end (signature_table w)
 
 goes_signature : (c : Reading) → Goes signature_at c
@@ -280,17 +280,17 @@ stops_signature c =
     (λ end q. stops_decoded (signature_table w) end))
 
 -- a table by its first word: true for `tri`, false for `sig`
-name_test : List ℕ → Result Bool LexKind
+unfoldable pub name_test : List ℕ → Result Bool LexKind
 name_test w = if same_list w (codes "tri") then Ok true else (if same_list w (codes "sig") then Ok false else Err BadWord)
 
-by_name : Bool → Reading → Result Rows InputFault
+unfoldable pub by_name : Bool → Reading → Result Rows InputFault
 by_name true c = texted (table_at c)
 by_name false c = signature_at c
 
-abbrev a_name : Reading → Result (Bool × Reading) InputFault
+abbrev pub a_name : Reading → Result (Bool × Reading) InputFault
 a_name c = worded (word_with name_test c)
 
-table_named : (c : Reading) → (a_name c >>= λ (b : Bool × Reading). by_name b.0 b.1) ≡ any_table_at c
+pub table_named : (c : Reading) → (a_name c >>= λ (b : Bool × Reading). by_name b.0 b.1) ≡ any_table_at c
 unfolding any_table_at name_test by_name
 table_named c = by_word (word_at c)
   where

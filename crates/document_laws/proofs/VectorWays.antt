@@ -14,7 +14,7 @@ use Rattle.document_laws.proofs.Local.{shows, StopsAt, Goes, goes_chained, goes_
 use Rattle.document_laws.proofs.LocalWords.{as_is, word_with}
 use Rattle.document_laws.proofs.LocalLines.{by_end, by_ends, end_stop}
 use Rattle.document_laws.proofs.LocalForms.{number_test, number_word, exact_test, exact_word, exactly, goes_numbers, Numbers, others_with, one_more, numbers_stepped, tokens_after}
-use Rattle.document_laws.proofs.Ways.{From, Way, Well, Free, well_free, well_mapped, free_same, well_same}
+use Rattle.document_laws.proofs.Ways.{From, alike_each, Way, Well, Free, well_free, well_mapped, free_same, well_same}
 use Rattle.document_laws.proofs.WordWays.{free_word, sat_word, well_word}
 
 abbrev naught : List ℕ
@@ -73,7 +73,7 @@ module _ (k : Reading) (none : k.current.tokens ≡ []) where
   well_numbers_in [] c empty Aim a = λ f e. (let both : ◌≡◌ {A = Result Numbers LexFault} (Ok ([], c)) (Err f) = sym (no_numbers c empty) ∙ e in absurd cc)
   well_numbers_in (u ∷ us) c first Aim a =
       well_stepped Aim c u us first
-      (well_free as_is (number_at limit) (others_with limit) Aim goes_others c (free_number c) (well_number (λ n ss. From (others_with limit n) Aim ss) c k (from_numbers 0 Aim (a (0 ∷ []))))
+      (well_free as_is (number_at limit) (others_with limit) Aim (alike_each (others_with limit) goes_others) c (free_number c) (well_number (λ n ss. From (others_with limit n) Aim ss) c k (from_numbers 0 Aim (a (0 ∷ []))))
       (λ n d e. well_mapped (numbers_at limit) (λ xs. n ∷ xs) Aim d (well_numbers_in us d (sym (tokens_after limit c u us n d first e)) (λ xs. Aim (n ∷ xs)) (λ xs. a (n ∷ xs)))))
 
   -- a vector line
@@ -92,7 +92,7 @@ module _ (k : Reading) (none : k.current.tokens ≡ []) where
   well_vector Aim a c =
       let from : From (numbers_at limit) Aim (shows k) = record { start = k; there = refl; value = []; next = k; reads = no_numbers k none; aim = a [] } in
       well_same as_is (λ d. exactly (codes "vec") d >>= λ (u : ⊤ × Reading). numbers_at limit u.1) vector_at Aim vector_by_name c
-      (well_free as_is (exactly (codes "vec")) (λ u d. numbers_at limit d) Aim (λ u d. goes_numbers limit d) c
+      (well_free as_is (exactly (codes "vec")) (λ u d. numbers_at limit d) Aim (alike_each (λ (u : ⊤) d. numbers_at limit d) (λ u d. goes_numbers limit d)) c
       (free_same (word_with named) (exactly (codes "vec")) (exact_word (codes "vec")) c (free_word named c))
       (well_same as_is (word_with named) (exactly (codes "vec")) (λ u ss. From (numbers_at limit) Aim ss) (exact_word (codes "vec")) c
       (well_word named (λ u ss. From (numbers_at limit) Aim ss) c (sat_word named (codes "vec") tt vec_named (λ u ss. From (numbers_at limit) Aim ss) k from)))

@@ -114,17 +114,26 @@ pub graft : (c : Reading) (front : List Placed) (d : Reading) → left_signs c �
 graft c front d e k = graft_in front c.current.number c.current.tokens c.current.end c.later c.input_end (left_signs d) (some_left d) e k
 
 -- a reader reads the same where the same is shown
-pub again_from : {A E : Type 0} (read : Reading → Result (A × Reading) E) (Aim : A → List Sign → Type 0) → ((k : Reading) → Goes read k) → (ss : List Sign) → From read Aim ss → (c : Reading) → shows c ≡ ss
+abbrev pub Alike : {A E : Type 0} → (Reading → Result (A × Reading) E) → Type 0
+Alike {A} read = (c o : Reading) (x : A) (d : Reading) → read c ≡ Ok (x, d) → shows o ≡ shows c → (next : Reading) × (read o ≡ Ok (x, next)) × (shows next ≡ shows d)
+
+pub alike_goes : {A E : Type 0} (read : Reading → Result (A × Reading) E) → ((k : Reading) → Goes read k) → Alike read
+alike_goes read g c o x d e same =
+    let h : GoesOn read c x d = g c x d e in
+    h.same o (shows d) (same ∙ shows_split c d h.front h.split) refl
+
+pub alike_each : {A B E : Type 0} (second : A → Reading → Result (B × Reading) E) → ((x : A) (k : Reading) → Goes (second x) k) → (x : A) → Alike (second x)
+alike_each second g x = alike_goes (second x) (g x)
+
+pub again_from : {A E : Type 0} (read : Reading → Result (A × Reading) E) (Aim : A → List Sign → Type 0) → Alike read → (ss : List Sign) → From read Aim ss → (c : Reading) → shows c ≡ ss
     → (y : A) × (e : Reading) × (read c ≡ Ok (y, e)) × Aim y (shows e)
 again_from read Aim g ss f c e =
-    let h : GoesOn read f.start f.value f.next = g f.start f.value f.next f.reads in
-    let there : shows c ≡ plain h.front ++ shows f.next = e ∙ sym f.there ∙ shows_split f.start f.next h.front h.split in
-    let n : (next : Reading) × (read c ≡ Ok (f.value, next)) × (shows next ≡ shows f.next) = h.same c (shows f.next) there refl in
+    let n : (next : Reading) × (read c ≡ Ok (f.value, next)) × (shows next ≡ shows f.next) = g f.start c f.value f.next f.reads (e ∙ sym f.there) in
     (f.value, n.0, n.1, subst (λ (ts : List Sign). Aim f.value ts) (sym n.2) f.aim)
 
 -- one reader after another
 module _ {A B E : Type 0} (lexical : LexFault → E) (first : Reading → Result (A × Reading) E) (second : A → Reading → Result (B × Reading) E) (Aim : B → List Sign → Type 0)
-    (goes_second : (x : A) (k : Reading) → Goes (second x) k) where
+    (alike : (x : A) → Alike (second x)) where
   abbrev pub Then : A → List Sign → Type 0
   Then x ss = From (second x) Aim ss
 
@@ -136,19 +145,19 @@ module _ {A B E : Type 0} (lexical : LexFault → E) (first : Reading → Result
 
   pub sat_both : Sat first Then → Sat both Aim
   sat_both s =
-      let a : (y : B) × (e : Reading) × (second s.value s.next ≡ Ok (y, e)) × Aim y (shows e) = again_from (second s.value) Aim (goes_second s.value) (shows s.next) s.aim s.next refl in
+      let a : (y : B) × (e : Reading) × (second s.value s.next ≡ Ok (y, e)) × Aim y (shows e) = again_from (second s.value) Aim (alike s.value) (shows s.next) s.aim s.next refl in
       record { start = s.start; value = a.0; next = a.1; reads = on s.start s.value s.next a.0 a.1 s.reads a.2; aim = a.3 }
 
   way_early : (front : List Placed) → (w : Way first front Then) → (v : Way both front Aim) × (v.other ≡ w.other)
   way_early front w =
-      let a : (y : B) × (e : Reading) × (second w.value w.next ≡ Ok (y, e)) × Aim y (shows e) = again_from (second w.value) Aim (goes_second w.value) (shows w.next) w.aim w.next refl in
+      let a : (y : B) × (e : Reading) × (second w.value w.next ≡ Ok (y, e)) × Aim y (shows e) = again_from (second w.value) Aim (alike w.value) (shows w.next) w.aim w.next refl in
       (record { other = w.other; more = w.more; there = w.there; value = a.0; next = a.1; reads = on w.other w.value w.next a.0 a.1 w.reads a.2; aim = a.3 }, refl)
 
   way_late : (front back : List Placed) (x : A) (w : Way (second x) back Aim) (o next : Reading) → shows o ≡ plain front ++ shows w.other → first o ≡ Ok (x, next) → shows next ≡ shows w.other
       → (v : Way both (front ++ back) Aim) × (v.other ≡ o)
   way_late front back x w o next e r s =
       let from : From (second x) Aim (shows w.other) = record { start = w.other; there = refl; value = w.value; next = w.next; reads = w.reads; aim = w.aim } in
-      let a : (y : B) × (e : Reading) × (second x next ≡ Ok (y, e)) × Aim y (shows e) = again_from (second x) Aim (goes_second x) (shows w.other) from next s in (
+      let a : (y : B) × (e : Reading) × (second x next ≡ Ok (y, e)) × Aim y (shows e) = again_from (second x) Aim (alike x) (shows w.other) from next s in (
         record {
           other = o;
           more = w.more;

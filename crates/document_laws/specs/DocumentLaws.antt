@@ -4,8 +4,11 @@ use Rattle.text_definitions.specs.Text.{lines_of}
 use Rattle.table_definitions.specs.Table.{Row}
 use Rattle.signature_definitions.specs.Grammar.{AreTableLines}
 use Rattle.surface_definitions.specs.Grammar.{IsVectorLine}
+use Rattle.move_definitions.specs.Moves.{Move}
+use Rattle.move_definitions.specs.MoveText.{Step}
+use Rattle.move_definitions.specs.Grammar.{IsMoveLine, IsStepLine}
 use Rattle.document_definitions.specs.Grammar.{AreTableAndLines, AreTwoTables, AreTables}
-use Rattle.document_definitions.specs.Documents.{table_document, vectors_document, vector_document, two_tables_document, tables_document}
+use Rattle.document_definitions.specs.Documents.{table_document, vectors_document, steps_document, moves_document, vector_document, two_tables_document, tables_document}
 
 -- bytes are read as one table exactly where their lines are one
 abbrev pub TableDocumentsAreRead : Type 0
@@ -20,6 +23,13 @@ VectorsDocumentsAreRead =
 abbrev pub VectorDocumentsAreRead : Type 0
 VectorDocumentsAreRead =
     (bytes : List ℕ) (rows : List Row) (vector : List ℕ) → (vector_document bytes ≡ Ok (rows, vector)) ↔ AreTableAndLines IsVectorLine (lines_of bytes) rows (vector ∷ [])
+
+-- bytes are read as a table and steps, or moves, exactly where their lines are these
+abbrev pub StepsDocumentsAreRead : Type 0
+StepsDocumentsAreRead = (bytes : List ℕ) (rows : List Row) (steps : List Step) → (steps_document bytes ≡ Ok (rows, steps)) ↔ AreTableAndLines IsStepLine (lines_of bytes) rows steps
+
+abbrev pub MovesDocumentsAreRead : Type 0
+MovesDocumentsAreRead = (bytes : List ℕ) (rows : List Row) (moves : List Move) → (moves_document bytes ≡ Ok (rows, moves)) ↔ AreTableAndLines IsMoveLine (lines_of bytes) rows moves
 
 -- bytes are read as two tables exactly where their lines are these
 abbrev pub TwoTablesAreRead : Type 0

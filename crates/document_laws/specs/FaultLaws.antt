@@ -10,9 +10,12 @@ use Rattle.cone_text_definitions.specs.ConeText.{Cone}
 use Rattle.signature_definitions.specs.SignatureText.{bad_text}
 use Rattle.signature_definitions.specs.Grammar.{AreTableLines}
 use Rattle.surface_definitions.specs.Grammar.{IsVectorLine}
+use Rattle.move_definitions.specs.Moves.{Move}
+use Rattle.move_definitions.specs.MoveText.{Step}
+use Rattle.move_definitions.specs.Grammar.{IsMoveLine, IsStepLine}
 use Rattle.document_definitions.specs.ConeGrammar.{AreConeLines}
 use Rattle.document_definitions.specs.Grammar.{AreTableAndLines, AreTwoTables, AreTables}
-use Rattle.document_definitions.specs.Documents.{cone_document, next_table_at, table_document, vectors_document, vector_document, two_tables_document, tables_document}
+use Rattle.document_definitions.specs.Documents.{cone_document, next_table_at, table_document, vectors_document, steps_document, moves_document, vector_document, two_tables_document, tables_document}
 use Rattle.document_definitions.specs.Signs.{LeavesAt, FirstLeavesAt}
 
 -- lines that some cone, table or the like is read from
@@ -27,6 +30,12 @@ SomeTableAndVectors lines = (rows : List Row) × (vectors : List (List ℕ)) × 
 
 abbrev pub SomeTableAndVector : List Line → Type 0
 SomeTableAndVector lines = (rows : List Row) × (vector : List ℕ) × AreTableAndLines IsVectorLine lines rows (vector ∷ [])
+
+abbrev pub SomeTableAndSteps : List Line → Type 0
+SomeTableAndSteps lines = (rows : List Row) × (steps : List Step) × AreTableAndLines IsStepLine lines rows steps
+
+abbrev pub SomeTableAndMoves : List Line → Type 0
+SomeTableAndMoves lines = (rows : List Row) × (moves : List Move) × AreTableAndLines IsMoveLine lines rows moves
 
 abbrev pub SomeTwoTables : List Line → Type 0
 SomeTwoTables lines = (first : List Row) × (second : List Row) × AreTwoTables lines first second
@@ -52,6 +61,12 @@ VectorsFaultsLeave = (bytes : List ℕ) (f : LexFault) → vectors_document byte
 
 abbrev pub VectorFaultsLeave : Type 0
 VectorFaultsLeave = (bytes : List ℕ) (f : LexFault) → vector_document bytes ≡ Err (bad_text (lexical f)) → LeavesAt SomeTableAndVector (end_of bytes) (lines_of bytes) f.place
+
+abbrev pub StepsFaultsLeave : Type 0
+StepsFaultsLeave = (bytes : List ℕ) (f : LexFault) → steps_document bytes ≡ Err (bad_text (lexical f)) → LeavesAt SomeTableAndSteps (end_of bytes) (lines_of bytes) f.place
+
+abbrev pub MovesFaultsLeave : Type 0
+MovesFaultsLeave = (bytes : List ℕ) (f : LexFault) → moves_document bytes ≡ Err (bad_text (lexical f)) → LeavesAt SomeTableAndMoves (end_of bytes) (lines_of bytes) f.place
 
 -- where a table was read, and a vector behind it is refused, the fault's place is the first such
 abbrev pub VectorsFaultsLeaveFirst : Type 0

@@ -1,3 +1,5 @@
 pub mod ConeLaws
 pub mod DocumentLaws
 pub mod FaultLaws
+pub mod TextForms
+pub mod TextFaultLaws

@@ -4,8 +4,10 @@
 #![tactic(auto)]
 
 ghost use Rattle.document_laws.specs.ConeLaws.{ConesAreRead, ConeDocumentsAreRead};
-ghost use Rattle.document_laws.specs.FaultLaws.{ConeFaultsLeave, TableFaultsLeave, TwoTablesFaultsLeave, TablesFaultsLeave, VectorsFaultsLeave, VectorsFaultsLeaveFirst, VectorFaultsLeave};
-ghost use Rattle.document_laws.specs.DocumentLaws.{TableDocumentsAreRead, VectorsDocumentsAreRead, VectorDocumentsAreRead, TwoTablesAreRead, TablesAreRead};
+ghost use Rattle.document_laws.specs.FaultLaws.{ConeFaultsLeave, TableFaultsLeave, TwoTablesFaultsLeave, TablesFaultsLeave, VectorsFaultsLeave, VectorsFaultsLeaveFirst, VectorFaultsLeave, StepsFaultsLeave, MovesFaultsLeave};
+ghost use Rattle.document_laws.specs.TextFaultLaws.{TablesHaveText, VectorsHaveText, StepsHaveText, MovesHaveText, OneVectorHasText, TwoTablesHaveText, ManyTablesHaveText};
+ghost use Rattle.document_laws.specs.TextFaultLaws.{TableFaultsStandFirst, VectorsFaultsStandFirst, StepsFaultsStandFirst, MovesFaultsStandFirst, VectorFaultsStandFirst, TwoTablesFaultsStandFirst, TablesFaultsStandFirst};
+ghost use Rattle.document_laws.specs.DocumentLaws.{TableDocumentsAreRead, VectorsDocumentsAreRead, StepsDocumentsAreRead, MovesDocumentsAreRead, VectorDocumentsAreRead, TwoTablesAreRead, TablesAreRead};
 
 /// Lines are read as a cone exactly where they are one, and so are the bytes of an input.
 pub fn cones_are_read()
@@ -36,4 +38,35 @@ pub fn faults_leave_the_grammar()
     ensures vectors { VectorsFaultsLeave }
     ensures vectors_first { VectorsFaultsLeaveFirst }
     ensures vector { VectorFaultsLeave }
+    ensures steps { StepsFaultsLeave }
+    ensures moves { MovesFaultsLeave }
+{}
+
+/// Inputs of a table and of steps, or of moves, are read exactly where their lines are these.
+pub fn tables_with_moves_are_read()
+    ensures steps { StepsDocumentsAreRead }
+    ensures moves { MovesDocumentsAreRead }
+{}
+
+/// The lines of each document with tables have the form of its text, which says nothing of what rows glue and signatures spell.
+pub fn documents_have_text()
+    ensures table { TablesHaveText }
+    ensures vectors { VectorsHaveText }
+    ensures steps { StepsHaveText }
+    ensures moves { MovesHaveText }
+    ensures vector { OneVectorHasText }
+    ensures two_tables { TwoTablesHaveText }
+    ensures tables { ManyTablesHaveText }
+{}
+
+/// Where the text of an input with tables is refused, the fault stands at the first sign with which nothing goes on to the
+/// text of such an input.
+pub fn faults_stand_first()
+    ensures table { TableFaultsStandFirst }
+    ensures vectors { VectorsFaultsStandFirst }
+    ensures steps { StepsFaultsStandFirst }
+    ensures moves { MovesFaultsStandFirst }
+    ensures vector { VectorFaultsStandFirst }
+    ensures two_tables { TwoTablesFaultsStandFirst }
+    ensures tables { TablesFaultsStandFirst }
 {}

@@ -1,0 +1,145 @@
+-- A table with vectors, and with one vector: the first fault of their text.
+use Rattle.std.proofs.Common.{◌≡◌, ℕ, List, [], ◌∷◌, ◌++◌, Result, Ok, refl, sym, ap, ◌∙◌, subst}
+use Rattle.std.specs.Prelude.{⊤, codes}
+use Rattle.text_definitions.specs.declared.LexFault.{LexFault}
+use Rattle.text_definitions.specs.Text.{word, Line}
+use Rattle.text_definitions.specs.Reading.{Reading, ◌>>=◌, begun, start_of, need_line_at}
+use Rattle.table_definitions.specs.Table.{Row}
+use Rattle.table_definitions.proofs.ReadingLaws.{bind_ok}
+use Rattle.cone_text_definitions.specs.VectorText.{vector_at}
+use Rattle.surface_definitions.specs.Grammar.{IsVectorLine}
+use Rattle.document_definitions.specs.Documents.{worded, next_table_at, vector_document}
+use Rattle.document_definitions.specs.Signs.{Sign}
+use Rattle.document_laws.specs.TextForms.{AreTableText, IsVectorText, AreTableAndVectorText}
+use Rattle.document_laws.specs.TextFaultLaws.{VectorsFaultsStandFirst, VectorFaultsStandFirst}
+use Rattle.document_laws.proofs.LineLaws.{BeginsLine}
+use Rattle.document_laws.proofs.Documents.{reads_vectors, end_at}
+use Rattle.document_laws.proofs.Local.{shows}
+use Rattle.document_laws.proofs.LocalWords.{as_is}
+use Rattle.document_laws.proofs.LocalLines.{next_line, goes_line}
+use Rattle.document_laws.proofs.LocalForms.{goes_vector}
+use Rattle.document_laws.proofs.LocalTables.{in_text}
+use Rattle.document_laws.proofs.Ways.{Sat, From, Alike, alike_goes, Well, WellOpen, well_goes, well_open, well_behind, from_sat}
+use Rattle.document_laws.proofs.WordWays.{free_line, well_line}
+use Rattle.document_laws.proofs.VectorWays.{well_vector}
+use Rattle.document_laws.proofs.TextReaders.{Read, next_text, left_only, shown_only, copy_alone, copy_same, copy_worded, faults_bind, copy_next_table}
+use Rattle.document_laws.proofs.TextWays.{SatBehind, in_next_line, goes_next_text, well_next_text}
+use Rattle.document_laws.proofs.TextGrammar.{text_blocks, begins, next_found}
+use Rattle.document_laws.proofs.TextEnds.{closing, Any, closing_none, none_closing, alike_closing, well_closing, alike_chained, nothing}
+use Rattle.document_laws.proofs.FirstFaults.{stands_first}
+use Rattle.document_laws.proofs.FirstTables.{closing_faults, from_closing}
+use Rattle.document_laws.proofs.FirstLines.{lines_faults_stand_first}
+
+abbrev Vector : Type 0
+Vector = List ℕ × Reading
+
+well_vector_line : (Aim : List ℕ → List Sign → Type 0) (k : Reading) → k.current.tokens ≡ [] → ((xs : List ℕ) → Aim xs (shows k)) → (c : Reading) → Well as_is vector_at Aim c
+well_vector_line Aim k none a c = well_vector k none Aim a c
+
+pub vectors_faults_stand_first : VectorsFaultsStandFirst
+vectors_faults_stand_first bytes f e = lines_faults_stand_first vector_at IsVectorLine reads_vectors goes_vector well_vector_line bytes f e
+
+-- one vector, and nothing more
+abbrev last_vector : Reading → Read
+last_vector c = vector_at c >>= λ (v : Vector). closing v.1
+
+abbrev vector_line : Reading → Read
+vector_line c = next_line c >>= λ (u : ⊤ × Reading). last_vector u.1
+
+abbrev read : Reading → Read
+read c = next_text c >>= λ (u : ⊤ × Reading). vector_line u.1
+
+alike_last : Alike last_vector
+alike_last = alike_chained vector_at (λ v. closing) (alike_goes vector_at goes_vector) (λ v. alike_closing)
+
+alike_line : Alike vector_line
+alike_line = alike_chained next_line (λ u. last_vector) (alike_goes next_line goes_line) (λ u. alike_last)
+
+abbrev ThenClosing : List ℕ → List Sign → Type 0
+ThenClosing v ss = From closing Any ss
+
+well_last : (c : Reading) → Well as_is last_vector Any c
+well_last c = well_goes as_is vector_at (λ v. closing) Any (λ v. alike_closing) c (goes_vector c) (well_vector nothing refl ThenClosing (λ v. from_closing) c) (λ v d e. well_closing d)
+
+-- the line `vec`
+empty_vector : Reading
+empty_vector = record nothing { current = record { number = 0; tokens = word 0 (codes "vec") ∷ []; end = 0 } }
+
+empty_line : IsVectorLine empty_vector.current []
+unfolding empty_vector
+empty_line = record { ws = []; are_words = (refl, tt); entries = tt }
+
+empty_later : empty_vector.later ≡ []
+unfolding empty_vector
+empty_later = refl
+
+sat_last : Sat last_vector Any
+sat_last =
+    let v : (d : Reading) × (vector_at empty_vector ≡ Ok ([], d)) × (d.later ≡ empty_vector.later) = reads_vectors.complete empty_vector [] empty_line in
+    record {
+      start = empty_vector;
+      value = tt;
+      next = v.0;
+      reads = ap (λ (r : Result Vector LexFault). r >>= λ (x : Vector). closing x.1) v.1 ∙ closing_none v.0 (v.2 ∙ empty_later);
+      aim = tt;
+    }
+
+sat_line : SatBehind vector_line Any
+sat_line = in_next_line last_vector Any sat_last
+
+well_vector_behind : (c : Reading) → WellOpen as_is vector_line Any c
+well_vector_behind c =
+    well_behind as_is next_line (λ u. last_vector) Any (λ u. alike_last) c (free_line c) (well_line (λ u ss. From last_vector Any ss) c sat_last.start (from_sat last_vector Any sat_last)) (λ u d e. well_last d)
+
+well_read : (c : Reading) → WellOpen as_is read Any c
+well_read c =
+    well_open as_is next_text (λ u. vector_line) Any (λ u. alike_line) c (goes_next_text c) (well_next_text (λ u ss. From vector_line Any ss) sat_line.sat.start sat_line.none (from_sat vector_line Any sat_line.sat) c)
+    (λ u d e. well_vector_behind d)
+
+abbrev Given : (Reading → Read) → Reading → Type 0
+Given reader c = (y : ⊤ × Reading) × (reader c ≡ Ok y)
+
+last_given : (c : Reading) → c.later ≡ [] → IsVectorText c.current → Given last_vector c
+last_given c none (xs, h) =
+    let v : (d : Reading) × (vector_at c ≡ Ok (xs, d)) × (d.later ≡ c.later) = reads_vectors.complete c xs h in
+    ((tt, v.0), ap (λ (r : Result Vector LexFault). r >>= λ (x : Vector). closing x.1) v.1 ∙ closing_none v.0 (v.2 ∙ none))
+
+complete : (c : Reading) → AreTableAndVectorText c.later → Given read c
+complete c h =
+    let t : (d : Reading) × (next_text c ≡ Ok (tt, d)) × (d.later ≡ h.1 ∷ []) = text_blocks.complete c tt h.0 (h.1 ∷ []) h.2 h.3 in
+    let v : Given last_vector (begun h.1 [] t.0) = last_given (begun h.1 [] t.0) refl h.4 in
+    (v.0, ap (λ (r : Read). r >>= λ (u : ⊤ × Reading). vector_line u.1) t.1 ∙ ap (λ (r : Read). r >>= λ (u : ⊤ × Reading). last_vector u.1) (next_found t.0 h.1 [] t.2) ∙ v.1)
+
+last_taken : (b : Reading) (u : ⊤) (next : Reading) → last_vector b ≡ Ok (u, next) → (b.later ≡ []) × IsVectorText b.current
+last_taken b u next e =
+    let p : (v : Vector) × (vector_at b ≡ Ok v) × (closing v.1 ≡ Ok (u, next)) = bind_ok (vector_at b) (λ (v : Vector). closing v.1) (u, next) e in
+    let s : IsVectorLine b.current (p.0).0 × ((p.0).1.later ≡ b.later) = reads_vectors.sound b (p.0).0 (p.0).1 p.1 in
+    (sym s.1 ∙ (none_closing (p.0).1 u next p.2).0, ((p.0).0, s.0))
+
+line_taken : (c b : Reading) → BeginsLine c b → (b.later ≡ []) × IsVectorText b.current → (line : Line) × (c.later ≡ line ∷ []) × IsVectorText line
+line_taken c b l v = (
+  l.line,
+  l.lines ∙ ap (λ (ls : List Line). l.line ∷ ls) (ap (λ (q : Reading). q.later) (sym l.left) ∙ v.0),
+  subst (λ (q : Reading). IsVectorText q.current) l.left v.1,
+)
+
+sound : (o : Reading) (u : ⊤) (next : Reading) → read o ≡ Ok (u, next) → Any u (shows next) → AreTableAndVectorText o.later
+sound o u next e a =
+    let p : (x : ⊤ × Reading) × (next_text o ≡ Ok x) × (vector_line x.1 ≡ Ok (u, next)) = bind_ok (next_text o) (λ (x : ⊤ × Reading). vector_line x.1) (u, next) e in
+    let q : (x : ⊤ × Reading) × (next_line (p.0).1 ≡ Ok x) × (last_vector x.1 ≡ Ok (u, next)) = bind_ok (next_line (p.0).1) (λ (x : ⊤ × Reading). last_vector x.1) (u, next) p.2 in
+    let t : (lines : List Line) × (o.later ≡ lines ++ (p.0).1.later) × AreTableText lines = text_blocks.sound o (p.0).0 (p.0).1 p.1 in
+    let v = line_taken (p.0).1 (q.0).1 (begins (p.0).1 (q.0).0 (q.0).1 q.1) (last_taken (q.0).1 u next q.2) in
+    (t.0, v.0, t.1 ∙ ap (λ (ls : List Line). t.0 ++ ls) v.1, t.2, v.2)
+
+pub vector_faults_stand_first : VectorFaultsStandFirst
+unfolding vector_document
+vector_faults_stand_first bytes f e =
+    let c : Reading = start_of bytes in
+    stands_first read Any AreTableAndVectorText complete sound bytes f.place
+    (well_read c f
+    (faults_bind in_text left_only (next_table_at c) (next_text c)
+    (λ (t : List Row × Reading). worded (need_line_at t.1) >>= λ (line : Reading). worded (vector_at line) >>= λ (v : Vector). end_at v.1 >>= λ (last : Reading). Ok (t.0, v.0)) (λ (u : ⊤ × Reading). vector_line u.1) (copy_next_table c)
+    (λ t p. faults_bind in_text shown_only (worded (need_line_at t.1)) (next_line t.1) (λ (line : Reading). worded (vector_at line) >>= λ (v : Vector). end_at v.1 >>= λ (last : Reading). Ok (t.0, v.0)) (λ (u : ⊤ × Reading). last_vector u.1)
+    (copy_worded shown_only (need_line_at t.1) (next_line t.1) (copy_alone (need_line_at t.1)))
+    (λ line q. faults_bind in_text (λ (v : Vector). v) (worded (vector_at line)) (vector_at line) (λ (v : Vector). end_at v.1 >>= λ (last : Reading). Ok (t.0, v.0)) (λ (v : Vector). closing v.1)
+    (copy_worded (λ (v : Vector). v) (vector_at line) (vector_at line) (copy_same (vector_at line))) (λ v s. closing_faults (t.0, v.0) v.1))) f e))
