@@ -1,0 +1,90 @@
+-- What is written for vectors is a line for each.
+use Rattle.std.proofs.Common.{◌≡◌, ℕ, ◌+◌, ◌^◌, ◌<◌, ◌≤◌, true, false, List, [], ◌∷◌, ◌++◌, map, refl, sym, ap, ◌∙◌, subst, arith, append-nil}
+use Rattle.std.specs.Prelude.{◌==◌, codes, decimal}
+use Rattle.std.specs.Char.{is_ascii_digit}
+use Rattle.std.specs.List.{All, AllZip, AllByRecursion, list_all}
+use Rattle.std.proofs.lemmas.List.Elements.{recursion_from_All}
+use Rattle.std.proofs.lemmas.Bool.{cond-false, and_from, and_parts}
+use Rattle.std.proofs.lemmas.Bool.Decides.{nat_tests}
+use Rattle.text_definitions.specs.Text.{Line, is_blank, is_word_byte, is_skipped, pieces, line_of, lines_from, lines_of}
+use Rattle.text_definitions.specs.Written.{limit}
+use Rattle.table_definitions.specs.Grammar.{IsNumber}
+use Rattle.cone_text_definitions.specs.VectorText.{vector_text}
+use Rattle.surface_definitions.specs.Grammar.{IsVectorLine}
+use Rattle.ray_answers.specs.Lists.{list_text}
+use Rattle.written_laws.specs.Laws.{AreWithinLimit}
+use Rattle.written_laws.proofs.Decimals.{AreDigits, decimal_digits, decimal_value-decimal}
+use Rattle.written_laws.proofs.Words.{IsText, behind_spaces}
+use Rattle.written_laws.proofs.WrittenLines.{written_line, line_words, BeginsWith, each_line}
+
+-- digits are a word
+digit_byte : (b : ℕ) → is_ascii_digit b ≡ true → (is_word_byte b ≡ true) × (is_blank b ≡ false) × ((b == 35) ≡ false)
+digit_byte b d = (grind (arith, nat_tests), grind (arith, nat_tests), grind (arith, nat_tests))
+
+pub digits_bytes : (w : List ℕ) → list_all is_ascii_digit w ≡ true → list_all is_word_byte w ≡ true
+digits_bytes [] d = refl
+digits_bytes (b ∷ bs) d =
+    let parts : (is_ascii_digit b ≡ true) × (list_all is_ascii_digit bs ≡ true) = and_parts (is_ascii_digit b) (list_all is_ascii_digit bs) d in
+    and_from (is_word_byte b) (list_all is_word_byte bs) (digit_byte b parts.0).0 (digits_bytes bs parts.1)
+
+-- and they begin no comment
+pub digits_kept : (w : List ℕ) → AreDigits w → is_skipped w ≡ false
+digits_kept [] d = absurd (let s = d.some in omega arith)
+digits_kept (b ∷ bs) d =
+    let parts : (is_ascii_digit b ≡ true) × (list_all is_ascii_digit bs ≡ true) = and_parts (is_ascii_digit b) (list_all is_ascii_digit bs) d.digits in
+    let byte : (is_word_byte b ≡ true) × (is_blank b ≡ false) × ((b == 35) ≡ false) = digit_byte b parts.0 in
+    cond-false (is_blank b) (is_skipped bs) (b == 35) byte.1 ∙ byte.2
+
+pub decimal_is_text : (n : ℕ) → n < 10 ^ 64 → IsText (decimal n)
+decimal_is_text n l =
+    let d : AreDigits (decimal n) = decimal_digits n l in
+    record { bytes = digits_bytes (decimal n) d.digits; some = d.some }
+
+-- the entries of a vector
+abbrev pub AreEntries : List ℕ → Type 0
+AreEntries x = AllByRecursion (λ entry. entry ≤ limit) x
+
+entry_small : (entry : ℕ) → entry ≤ limit → entry < 10 ^ 64
+entry_small entry l = omega arith
+
+entries_are_texts : (x : List ℕ) → AreEntries x → AllByRecursion IsText (map decimal x)
+entries_are_texts [] h = tt
+entries_are_texts (entry ∷ x) h = (decimal_is_text entry (entry_small entry h.0), entries_are_texts x h.1)
+
+entries_are_numbers : (x : List ℕ) → AreEntries x → AllZip (IsNumber limit) (map decimal x) x
+entries_are_numbers [] h = tt
+entries_are_numbers (entry ∷ x) h = (record { value = decimal_value-decimal entry (entry_small entry h.0); up_to = h.0 }, entries_are_numbers x h.1)
+
+vec_is_text : IsText (codes "vec")
+vec_is_text = record { bytes = refl; some = omega arith }
+
+-- what is written for a vector is one line, which is the vector
+vector_line : (n : ℕ) (x : List ℕ) (rest : List ℕ) → AreEntries x
+    → (line : Line) × (lines_from n (pieces (vector_text x ++ rest)) ≡ line ∷ lines_from (n + 1) (pieces rest)) × IsVectorLine line x
+vector_line n x rest h =
+    let texts : AllByRecursion IsText (map decimal x) = entries_are_texts x h in (
+      line_of n (codes "vec" ++ behind_spaces (map decimal x)),
+      written_line n (codes "vec") (map decimal x) rest vec_is_text texts refl,
+      record { ws = map decimal x; are_words = line_words n (codes "vec") (map decimal x) vec_is_text texts; entries = entries_are_numbers x h },
+    )
+
+within_limit : (list : List (List ℕ)) → AllByRecursion (λ (x : List ℕ). All (λ entry. entry ≤ limit) x) list → AllByRecursion AreEntries list
+within_limit [] h = tt
+within_limit (x ∷ list) h = (recursion_from_All (λ entry. entry ≤ limit) x h.0, within_limit list h.1)
+
+-- the lines of a list begin with a line for each vector
+pub vector_lines : (n : ℕ) (list : List (List ℕ)) (rest : List ℕ) → AreWithinLimit list → BeginsWith IsVectorLine n (list_text list ++ rest) list rest
+vector_lines n list rest h =
+    each_line IsVectorLine vector_text AreEntries vector_line n list rest (within_limit list (recursion_from_All (λ (x : List ℕ). All (λ entry. entry ≤ limit) x) list h))
+
+-- from line n on there is nothing else
+pub only_vectors : (n : ℕ) (list : List (List ℕ)) → AreWithinLimit list → AllZip IsVectorLine (lines_from n (pieces (list_text list))) list
+unfolding lines_from
+only_vectors n list h =
+    let b : BeginsWith IsVectorLine n (list_text list ++ []) list [] = vector_lines n list [] h in
+    let all : lines_from n (pieces (list_text list)) ≡ b.lines =
+    ap (λ (bytes : List ℕ). lines_from n (pieces bytes)) (sym (append-nil (list_text list))) ∙ b.split ∙ append-nil b.lines in
+    subst (λ (ls : List Line). AllZip IsVectorLine ls list) (sym all) b.are
+
+pub written_vectors : (list : List (List ℕ)) → AreWithinLimit list → AllZip IsVectorLine (lines_of (list_text list)) list
+written_vectors list h = only_vectors 1 list h
