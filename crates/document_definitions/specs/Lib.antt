@@ -3,3 +3,4 @@ pub mod Grammar
 pub mod Laws
 pub mod ConeGrammar
 pub mod Signs
+pub mod TextForms

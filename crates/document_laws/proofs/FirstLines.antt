@@ -11,7 +11,7 @@ use Rattle.signature_definitions.specs.Grammar.{AreTableLines}
 use Rattle.document_definitions.specs.Documents.{worded, each_line_from, next_table_at, table_and_lines}
 use Rattle.document_definitions.specs.Signs.{Sign, FirstLeavesAt}
 use Rattle.table_definitions.proofs.ReadingLaws.{bind_ok}
-use Rattle.document_laws.specs.TextForms.{AreTableText, AreTextAndLines}
+use Rattle.document_definitions.specs.TextForms.{AreTableText, AreTextAndLines}
 use Rattle.document_laws.proofs.Blocks.{ReadsLine}
 use Rattle.document_laws.proofs.Tables.{table_blocks}
 use Rattle.document_laws.proofs.Local.{shows, Goes}

@@ -10,7 +10,7 @@ use Rattle.move_definitions.proofs.MoveFoundLaws.{move_found, step_found}
 use Rattle.document_definitions.specs.Signs.{LeavesAt}
 use Rattle.document_laws.specs.DocumentLaws.{StepsDocumentsAreRead, MovesDocumentsAreRead}
 use Rattle.document_laws.specs.FaultLaws.{SomeTableAndSteps, SomeTableAndMoves, StepsFaultsLeave, MovesFaultsLeave}
-use Rattle.document_laws.specs.TextForms.{AreTableAndStepsText, AreTableAndMovesText}
+use Rattle.document_definitions.specs.TextForms.{AreTableAndStepsText, AreTableAndMovesText}
 use Rattle.document_laws.specs.TextFaultLaws.{StepsFaultsStandFirst, MovesFaultsStandFirst}
 use Rattle.document_laws.proofs.HaveText.{steps_have_text, moves_have_text}
 use Rattle.document_laws.proofs.Blocks.{ReadsLine}

@@ -11,7 +11,7 @@ use Rattle.signature_definitions.specs.SignatureText.{InputFault, any_table_at}
 use Rattle.document_definitions.specs.Documents.{worded, no_line_from, next_table_at, tables_on, tables_from, table_document, two_tables_document, tables_document}
 use Rattle.document_definitions.specs.Signs.{Sign}
 use Rattle.table_definitions.proofs.ReadingLaws.{bind_ok}
-use Rattle.document_laws.specs.TextForms.{AreTableText, AreTwoTablesText, AreManyTablesText, AreTablesText}
+use Rattle.document_definitions.specs.TextForms.{AreTableText, AreTwoTablesText, AreManyTablesText, AreTablesText}
 use Rattle.document_laws.specs.TextFaultLaws.{TableFaultsStandFirst, TwoTablesFaultsStandFirst, TablesFaultsStandFirst}
 use Rattle.document_laws.proofs.Documents.{end_at}
 use Rattle.document_laws.proofs.Local.{shows}

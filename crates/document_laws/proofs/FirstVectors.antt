@@ -10,7 +10,7 @@ use Rattle.cone_text_definitions.specs.VectorText.{vector_at}
 use Rattle.surface_definitions.specs.Grammar.{IsVectorLine}
 use Rattle.document_definitions.specs.Documents.{worded, next_table_at, vector_document}
 use Rattle.document_definitions.specs.Signs.{Sign}
-use Rattle.document_laws.specs.TextForms.{AreTableText, IsVectorText, AreTableAndVectorText}
+use Rattle.document_definitions.specs.TextForms.{AreTableText, IsVectorText, AreTableAndVectorText}
 use Rattle.document_laws.specs.TextFaultLaws.{VectorsFaultsStandFirst, VectorFaultsStandFirst}
 use Rattle.document_laws.proofs.LineLaws.{BeginsLine}
 use Rattle.document_laws.proofs.Documents.{reads_vectors, end_at}

@@ -6,7 +6,7 @@ use Rattle.table_definitions.specs.Table.{Row}
 use Rattle.surface_definitions.specs.Grammar.{IsVectorLine}
 use Rattle.move_definitions.specs.Grammar.{IsMoveLine, IsStepLine}
 use Rattle.document_definitions.specs.Grammar.{AreTableAndLines}
-use Rattle.document_laws.specs.TextForms.{IsVectorText, AreTextAndLines, AreTablesText}
+use Rattle.document_definitions.specs.TextForms.{IsVectorText, AreTextAndLines, AreTablesText}
 use Rattle.document_laws.specs.TextFaultLaws.{VectorsHaveText, StepsHaveText, MovesHaveText, OneVectorHasText, TwoTablesHaveText, ManyTablesHaveText}
 use Rattle.document_laws.proofs.TextGrammar.{tables_have_text}
 

@@ -8,7 +8,7 @@ use Rattle.text_definitions.specs.Reading.{Reading, ◌>>=◌, begun, number_at,
 use Rattle.table_definitions.specs.Table.{max_tets, Row}
 use Rattle.table_definitions.specs.Grammar.{AreWords, IsNumber, IsEntry, IsRowLine, AreTriLines}
 use Rattle.table_definitions.proofs.ReadingLaws.{bind_ok, ok_parts, with_tokens, behind, TakesNumber, number_read, one_number}
-use Rattle.document_laws.specs.TextForms.{IsRowText, AreTriText, AreTableText}
+use Rattle.document_definitions.specs.TextForms.{IsRowText, AreTriText, AreTableText}
 use Rattle.document_laws.specs.TextFaultLaws.{TablesHaveText}
 use Rattle.document_laws.proofs.Blocks.{ReadsBlocks}
 use Rattle.document_laws.proofs.LineLaws.{BeginsLine, line_begun, line_found, line_ended, end_found, FirstWord, first_word, no_words}

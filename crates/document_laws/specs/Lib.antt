@@ -1,5 +1,4 @@
 pub mod ConeLaws
 pub mod DocumentLaws
 pub mod FaultLaws
-pub mod TextForms
 pub mod TextFaultLaws

@@ -14,7 +14,7 @@ use Rattle.move_definitions.specs.Grammar.{IsMoveLine, IsStepLine}
 use Rattle.document_definitions.specs.Grammar.{AreTableAndLines, AreTwoTables, AreTables}
 use Rattle.document_definitions.specs.Documents.{table_document, vectors_document, steps_document, moves_document, vector_document, two_tables_document, tables_document}
 use Rattle.document_definitions.specs.Signs.{FirstLeavesAt}
-use Rattle.document_laws.specs.TextForms.{AreTableText, AreTableAndVectorsText, AreTableAndStepsText, AreTableAndMovesText, AreTableAndVectorText, AreTwoTablesText, AreTablesText}
+use Rattle.document_definitions.specs.TextForms.{AreTableText, AreTableAndVectorsText, AreTableAndStepsText, AreTableAndMovesText, AreTableAndVectorText, AreTwoTablesText, AreTablesText}
 
 -- each document is in the form of its text
 abbrev pub TablesHaveText : Type 0
