@@ -116,5 +116,8 @@ fn commands_that_are_built(rt: HostRuntime) {
     assert!(rt; words.push("verify").is_ok());
     assert!(rt; read_words(alloc, &words) == Ok(Request::Verify(Coords::Standard)));
     assert!(rt; words.push("--coords=quad").is_ok());
+    assert!(rt; read_words(alloc, &words) == Ok(Request::Verify(Coords::Quad)));
+    let mut words = Words::new(alloc);
+    assert!(rt; words.push("lift").is_ok());
     assert!(rt; read_words(alloc, &words) == Err(WordsFault::Usage));
 }
