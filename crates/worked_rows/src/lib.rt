@@ -2,6 +2,8 @@
 #![tactic(auto)]
 
 #[cfg(test)]
+mod answering_calls;
+#[cfg(test)]
 mod group_rows;
 #[cfg(test)]
 mod hostile_rows;
