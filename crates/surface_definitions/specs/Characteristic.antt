@@ -1,5 +1,5 @@
 -- The Euler characteristic of a surface: points less arcs plus pieces. Coordinates are standard or octagons.
-use Rattle.std.specs.Prelude.{ℕ, ◌+◌, ◌/◌, ◌%◌, Bool, ◌&&◌, not, ℤ, pos, ◌-ℤ◌, List, [], ◌∷◌, length, map, filter, ◌==◌, nat_lt, Option, Some, None, sum_by, slice_index, if◌then◌else◌}
+use Rattle.std.specs.Prelude.{ℕ, ◌+◌, ◌/◌, ◌%◌, Bool, ◌&&◌, not, ℤ, pos, ◌-ℤ◌, List, [], ◌∷◌, length, map, filter, ◌==◌, nat_lt, sum_by, slice_index, if◌then◌else◌}
 use Rattle.std.specs.List.{list_all, list_any}
 use Rattle.table_definitions.specs.Lists.{below}
 use Rattle.table_definitions.specs.Table.{Row, Face, glue, faces}
@@ -50,14 +50,3 @@ is_linking coords xs = list_all (λ c. not (is_quad_or_octagon coords c && nat_l
 -- whether a boundary face has an arc
 abbrev pub meets_boundary : List Row → Coordinates → List ℕ → Bool
 meets_boundary rows coords xs = list_any (λ x. is_boundary rows x && nat_lt 0 (arcs_in coords xs x)) (faces (length rows))
-
--- a sum that passes a limit
-pub data Sum : Type 0 where
-  of_points : Sum
-  of_arcs : Sum
-  of_points_and_pieces : Sum
-
--- the first of the sums that passes max
-abbrev pub large_sum : ℕ → ℕ → ℕ → ℕ → Option Sum
-large_sum max points arcs pieces =
-    if nat_lt max points then Some of_points else (if nat_lt max arcs then Some of_arcs else (if nat_lt max (points + pieces) then Some of_points_and_pieces else None))

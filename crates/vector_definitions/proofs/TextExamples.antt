@@ -1,0 +1,44 @@
+-- Texts of described vectors, of lifts and of refusals, computed.
+use Rattle.surface_definitions.proofs.Computed.{computed}
+use Rattle.std.proofs.Common.{◌≡◌, ℕ, true, false, List, [], ◌∷◌, ◌++◌, refl}
+use Rattle.std.specs.Prelude.{codes}
+use Rattle.table_definitions.proofs.Tables.{sphere, table_jj}
+use Rattle.surface_definitions.specs.Coordinates.{standard, octagons}
+use Rattle.surface_definitions.specs.Equations.{matching_rows}
+use Rattle.surface_definitions.specs.Verdict.{fails, clash, wrong_length, large}
+use Rattle.vector_definitions.specs.Components.{Component}
+use Rattle.vector_definitions.specs.declared.Sum.TheVariants.{Points}
+use Rattle.vector_definitions.specs.Answers.{Description, verdict_in, unfit, large_sum, too_many_pieces, large_lift, no_lift}
+use Rattle.vector_definitions.specs.Texts.{line, description_text, lifts_text, refusal_line, invalid_edge_line}
+use Rattle.vector_definitions.proofs.Evaluators.{skeleton_of, properties_of}
+
+of_one_component : List ℕ → Component → Description
+of_one_component xs c = record { vector = xs; properties = properties_of (skeleton_of table_jj) standard xs; components = c ∷ [] }
+
+one_sided : description_text (skeleton_of table_jj) standard (of_one_component (0 ∷ 0 ∷ 0 ∷ 0 ∷ 0 ∷ 1 ∷ 0 ∷ []) (record { vector = 0 ∷ 0 ∷ 0 ∷ 0 ∷ 0 ∷ 1 ∷ 0 ∷ []; two_sided = false; orientable = false }))
+    ≡ line (codes "vec 0 0 0 0 0 1 0") ++ line (codes "euler 0 linking no boundary no components 1") ++ line (codes "component euler 0 sides one orientable no vec 0 0 0 0 0 1 0")
+unfolding computed description_text of_one_component
+one_sided = refl
+
+link : description_text (skeleton_of table_jj) standard (of_one_component (1 ∷ 1 ∷ 1 ∷ 1 ∷ 0 ∷ 0 ∷ 0 ∷ []) (record { vector = 1 ∷ 1 ∷ 1 ∷ 1 ∷ 0 ∷ 0 ∷ 0 ∷ []; two_sided = true; orientable = true }))
+    ≡ line (codes "vec 1 1 1 1 0 0 0") ++ line (codes "euler 2 linking yes boundary no components 1") ++ line (codes "component euler 2 sides two orientable yes vec 1 1 1 1 0 0 0")
+unfolding computed description_text of_one_component
+link = refl
+
+lifts : lifts_text ((1 ∷ 1 ∷ 0 ∷ 0 ∷ 1 ∷ 0 ∷ 0 ∷ []) ∷ []) ≡ line (codes "vec 1 1 0 0 1 0 0")
+unfolding computed lifts_text
+lifts = refl
+
+refusals : (refusal_line 0 (unfit (fails 0)) ≡ line (codes "refused: vector 0 fails 0")) × (refusal_line 0 (unfit (clash 1 2)) ≡ line (codes "refused: vector 0 clash 1 2"))
+    × (refusal_line 3 (unfit (wrong_length 6)) ≡ line (codes "refused: vector 3 length 6")) × (refusal_line 0 (unfit (large 4)) ≡ line (codes "refused: vector 0 large 4"))
+    × (refusal_line 0 (large_sum Points) ≡ line (codes "refused: vector 0 large-sum points")) × (refusal_line 0 (too_many_pieces 100004) ≡ line (codes "refused: vector 0 too-many-pieces 100004"))
+    × (refusal_line 0 large_lift ≡ line (codes "refused: vector 0 large-lift")) × (refusal_line 0 (no_lift 0) ≡ line (codes "refused: vector 0 no-lift 0"))
+    × (invalid_edge_line 3 ≡ line (codes "refused: invalid-edge 3"))
+unfolding computed refusal_line invalid_edge_line
+refusals = (refl, refl, refl, refl, refl, refl, refl, refl, refl)
+
+-- the verdicts before them
+verdicts : (verdict_in standard sphere (matching_rows standard sphere) (1 ∷ 0 ∷ 0 ∷ 0 ∷ 0 ∷ 0 ∷ 0 ∷ []) ≡ fails 0)
+    × (verdict_in octagons sphere (matching_rows octagons sphere) (0 ∷ 0 ∷ 1 ∷ 1 ∷ 0 ∷ 0 ∷ 0 ∷ 1 ∷ 1 ∷ 0 ∷ []) ≡ fails 1)
+unfolding computed
+verdicts = (refl, refl)

@@ -1,0 +1,109 @@
+//! What one vector gives: its properties, its pieces and their components, and its lift, each with the refusals that may come
+//! in its place. The definitions stand in `specs/`. The functions here have no code: their contracts are laws over the
+//! definitions. `proofs/` has worked examples of the definitions too.
+#![tactic(auto)]
+
+ghost use Rattle.std.specs.Prelude.{◌≡◌};
+ghost use Rattle.vector_definitions.specs.Laws.{OnePropertyAnswer, OnePiecesAnswer, OneDescriptionEach};
+ghost use Rattle.vector_definitions.specs.declared.LiftFault.TheVariants as lift_faults;
+ghost use Rattle.vector_definitions.specs.declared.PiecesFault.TheVariants as pieces_faults;
+
+use no_memory::NoMemory;
+use std::alloc::{AllocError, AllocFailed};
+
+/// What is counted of a surface.
+#[derive(Clone, Copy, Debug, PartialEq, Eq)]
+pub struct Properties {
+    /// The points in which the surface meets edges.
+    pub points: u128,
+    /// The arcs in which it meets faces.
+    pub arcs: u128,
+    /// Its triangles, quadrilaterals and octagons.
+    pub pieces: u128,
+    /// Its Euler characteristic: points minus arcs plus pieces.
+    pub euler: i128,
+    /// Whether it has triangles alone.
+    pub linking: bool,
+    /// Whether a boundary face has an arc.
+    pub boundary: bool,
+}
+
+/// A sum of a surface.
+#[derive(Clone, Copy, Debug, PartialEq, Eq)]
+pub enum Sum {
+    Points,
+    Arcs,
+    PointsAndPieces,
+}
+
+/// Why no properties of a vector are told.
+#[derive(Clone, Copy, Debug, PartialEq, Eq)]
+pub enum PropertyFault {
+    /// This sum is the first that passes the maximum.
+    Large { sum: Sum },
+}
+
+/// Why no lift of a quad vector is told.
+#[derive(Clone, Copy, Debug, PartialEq, Eq)]
+pub enum LiftFault {
+    NoMemory,
+    /// Four times the sum of the entries passes the maximum.
+    Large,
+    /// There is no lift at this vertex class, and one at each class before it.
+    NoLift { class: u32 },
+}
+
+impl From<AllocError> for LiftFault {
+    ghost from_gives = { λ _ e. e ≡ lift_faults.NoMemory };
+
+    fn from(_error: AllocError) -> LiftFault {
+        LiftFault::NoMemory
+    }
+}
+
+impl From<NoMemory> for LiftFault {
+    ghost from_gives = { λ _ e. e ≡ lift_faults.NoMemory };
+
+    fn from(_error: NoMemory) -> LiftFault {
+        LiftFault::NoMemory
+    }
+}
+
+/// Why the pieces of a vector are not built.
+#[derive(Clone, Copy, Debug, PartialEq, Eq)]
+pub enum PiecesFault {
+    NoMemory,
+    /// There are more than 100,000 pieces: this many.
+    TooManyPieces { count: u128 },
+}
+
+impl From<AllocError> for PiecesFault {
+    ghost from_gives = { λ _ e. e ≡ pieces_faults.NoMemory };
+
+    fn from(_error: AllocError) -> PiecesFault {
+        PiecesFault::NoMemory
+    }
+}
+
+impl From<NoMemory> for PiecesFault {
+    ghost from_gives = { λ _ e. e ≡ pieces_faults.NoMemory };
+
+    fn from(_error: NoMemory) -> PiecesFault {
+        PiecesFault::NoMemory
+    }
+}
+
+/// A vector has one record of properties, or one first sum that is large.
+pub fn properties_are_determined()
+    ensures { OnePropertyAnswer }
+{}
+
+/// A vector has one list of components, or is refused for its pieces, and not both.
+pub fn components_are_determined()
+    ensures { OnePiecesAnswer }
+{}
+
+/// Vectors are described in one way, or one of them is the first that is refused, for one reason.
+pub fn descriptions_are_determined()
+    ensures { OneDescriptionEach }
+{}
