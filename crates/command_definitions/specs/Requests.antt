@@ -1,6 +1,6 @@
 -- The commands with the values of their options.
 use Rattle.std.specs.Prelude.{ℕ, Bool, true, false}
-use Rattle.surface_definitions.specs.Coordinates.{Coordinates}
+use Rattle.surface_definitions.specs.declared.Coords.{Coords}
 
 -- in which order the rows are taken: as they are given, those with fewest entries first, or by their leading zeros
 pub data Order : Type 0 where
@@ -10,11 +10,11 @@ pub data Order : Type 0 where
 
 -- A command with the values of its options: coordinates, an order, the greatest entry, a seed, a number of moves.
 pub data Request : Type 0 where
-  verify : Coordinates → Request
+  verify : Coords → Request
   info : Request
-  surfaces : Coordinates → Order → ℕ → Request
+  surfaces : Coords → Order → ℕ → Request
   rays : Order → ℕ → Request
-  describe : Coordinates → Request
+  describe : Coords → Request
   lift : Request
   crush : Request
   play : Request

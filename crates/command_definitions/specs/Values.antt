@@ -4,7 +4,8 @@ use Rattle.std.specs.Option.{option_map, option_and_then}
 use Rattle.text_definitions.specs.Reading.{same_word}
 use Rattle.text_definitions.specs.Text.{is_decimal, digits_value}
 use Rattle.text_definitions.specs.Written.{limit}
-use Rattle.surface_definitions.specs.Coordinates.{Coordinates, standard, quads, octagons}
+use Rattle.surface_definitions.specs.declared.Coords.{Coords}
+use Rattle.surface_definitions.specs.declared.Coords.TheVariants.{Standard, Quad, Octagon}
 use Rattle.command_definitions.specs.Options.{Given, value_of}
 use Rattle.command_definitions.specs.Requests.{Order, given, short, zeros, Request, verify, info, surfaces, rays, describe, lift, crush, play, sig, same, group, check, descend, make, bulk}
 
@@ -35,20 +36,20 @@ abbrev pub needed : {A : Type 0} → (List ℕ → Option A) → Option (List �
 needed read None = None
 needed read (Some w) = read w
 
-abbrev pub coordinates_named : List ℕ → Option Coordinates
+abbrev pub coordinates_named : List ℕ → Option Coords
 coordinates_named w =
-    if same_word w (codes "standard") then Some standard
-    else if same_word w (codes "quad") then Some quads
-    else if same_word w (codes "octagon") then Some octagons
+    if same_word w (codes "standard") then Some Standard
+    else if same_word w (codes "quad") then Some Quad
+    else if same_word w (codes "octagon") then Some Octagon
     else None
 
-abbrev pub has_pieces : Coordinates → Option Coordinates
-has_pieces standard = Some standard
-has_pieces quads = None
-has_pieces octagons = Some octagons
+abbrev pub has_pieces : Coords → Option Coords
+has_pieces Standard = Some Standard
+has_pieces Quad = None
+has_pieces Octagon = Some Octagon
 
 -- coordinates in which surfaces have pieces
-abbrev pub piece_coordinates_named : List ℕ → Option Coordinates
+abbrev pub piece_coordinates_named : List ℕ → Option Coords
 piece_coordinates_named w = option_and_then has_pieces (coordinates_named w)
 
 abbrev pub order_named : List ℕ → Option Order
@@ -83,11 +84,11 @@ most_moves = 1000
 abbrev pub most_bulk_moves : ℕ
 most_bulk_moves = 5
 
-abbrev pub coordinates_in : Values → Option Coordinates
-coordinates_in v = or_default standard coordinates_named v.coords
+abbrev pub coordinates_in : Values → Option Coords
+coordinates_in v = or_default Standard coordinates_named v.coords
 
-abbrev pub piece_coordinates_in : Values → Option Coordinates
-piece_coordinates_in v = or_default standard piece_coordinates_named v.coords
+abbrev pub piece_coordinates_in : Values → Option Coords
+piece_coordinates_in v = or_default Standard piece_coordinates_named v.coords
 
 abbrev pub order_in : Values → Option Order
 order_in v = or_default given order_named v.order

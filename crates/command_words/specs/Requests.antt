@@ -3,7 +3,6 @@ use Rattle.std.specs.Prelude.{◌≡◌, Option, Some, None, Result, Ok, Err, �
 use Rattle.std.specs.Option.{option_map}
 use Rattle.command_definitions.specs.Requests as requests
 use Rattle.command_definitions.specs.Values as values
-use Rattle.matching_equations.specs.Columns.{coordinates_of}
 use Rattle.clap.specs.declared.error.kind.ErrorKind.{ErrorKind}
 use Rattle.clap.specs.declared.error.kind.ErrorKind.TheVariants as kinds
 use Rattle.command_words.specs.declared.request.Order.{Order}
@@ -20,11 +19,11 @@ order_of Short = requests.short
 order_of Zeros = requests.zeros
 
 abbrev pub request : Request → requests.Request
-request (Verify coords) = requests.verify (coordinates_of coords)
+request (Verify coords) = requests.verify coords
 request Info = requests.info
-request (Surfaces coords order most) = requests.surfaces (coordinates_of coords) (order_of order) most
+request (Surfaces coords order most) = requests.surfaces coords (order_of order) most
 request (Rays order most) = requests.rays (order_of order) most
-request (Describe coords) = requests.describe (coordinates_of coords)
+request (Describe coords) = requests.describe coords
 request Lift = requests.lift
 request Crush = requests.crush
 request Play = requests.play

@@ -6,10 +6,10 @@ mod reader;
 mod request;
 mod values;
 
-pub use matching_equations::Coords;
 pub use reader::read_words;
 pub use request::{Order, Request};
 use std::alloc::AllocError;
+pub use surface_definitions::Coords;
 
 /// Why words give no request.
 #[derive(Clone, Copy, Debug, PartialEq, Eq)]

@@ -1,5 +1,5 @@
 // What the words ask for.
-use matching_equations::Coords;
+use surface_definitions::Coords;
 
 /// In which order rows are taken: as they are given, the shortest first, or by their leading zeros.
 #[derive(Clone, Copy, Debug, PartialEq, Eq)]

@@ -3,12 +3,11 @@ ghost use Rattle.std.specs.Prelude.{◌≡◌, ◌≤◌, ◌^◌, ◌<◌};
 ghost use Rattle.std.specs.Option.{option_map};
 ghost use Rattle.command_definitions.specs.Requests as requests;
 ghost use Rattle.command_definitions.specs.Values as spec;
-ghost use Rattle.matching_equations.specs.Columns.{coordinates_of};
 ghost use Rattle.command_words.specs.Requests.{order_of, request, texts_of};
 
 use crate::request::{Order, Request};
 use bench_io::{is_decimal_word, value_up_to};
-use matching_equations::Coords;
+use surface_definitions::Coords;
 
 /// The greatest number that an option may name.
 const LIMIT: u128 = 170_141_183_460_469_231_731_687_303_715_884_105_727;
@@ -24,7 +23,7 @@ pub struct Values<'a> {
 }
 
 fn coords_named(word: &str) -> Option<Coords>
-    ensures { option_map coordinates_of result ≡ spec.coordinates_named word.now }
+    ensures { result ≡ spec.coordinates_named word.now }
 {
     if word == "standard" {
         return Some(Coords::Standard);
@@ -39,7 +38,7 @@ fn coords_named(word: &str) -> Option<Coords>
 }
 
 fn piece_coords_named(word: &str) -> Option<Coords>
-    ensures { option_map coordinates_of result ≡ spec.piece_coordinates_named word.now }
+    ensures { result ≡ spec.piece_coordinates_named word.now }
 {
     match coords_named(word) {
         Some(Coords::Standard) => Some(Coords::Standard),
@@ -88,7 +87,7 @@ fn limit_named(word: &str) -> Option<u128>
 }
 
 fn coords_in(values: &Values<'_>) -> Option<Coords>
-    ensures { option_map coordinates_of result ≡ spec.coordinates_in (texts_of values.now) }
+    ensures { result ≡ spec.coordinates_in (texts_of values.now) }
 {
     match values.coords {
         Some(word) => coords_named(word),
@@ -97,7 +96,7 @@ fn coords_in(values: &Values<'_>) -> Option<Coords>
 }
 
 fn piece_coords_in(values: &Values<'_>) -> Option<Coords>
-    ensures { option_map coordinates_of result ≡ spec.piece_coordinates_in (texts_of values.now) }
+    ensures { result ≡ spec.piece_coordinates_in (texts_of values.now) }
 {
     match values.coords {
         Some(word) => piece_coords_named(word),

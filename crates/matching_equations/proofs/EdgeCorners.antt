@@ -15,7 +15,8 @@ use Rattle.table_definitions.proofs.ClassLaws.{least_is_least}
 use Rattle.skeleton_definitions.specs.Corners.{Corner, corner_of, first_corner, AreCorners, IsWalk, inner_edges}
 use Rattle.skeleton_definitions.specs.Skeleton.{Skeleton, IsSkeleton, IsAround}
 use Rattle.cone_definitions.specs.Rows.{Row as EquationRow}
-use Rattle.surface_definitions.specs.Coordinates.{quads, columns}
+use Rattle.surface_definitions.specs.Coordinates.{columns}
+use Rattle.surface_definitions.specs.declared.Coords.TheVariants.{Quad}
 use Rattle.surface_definitions.specs.Equations.{row_of}
 use Rattle.surface_definitions.specs.QuadEquations.{quad_equation, IsQuadRow}
 use Rattle.matching_equations.specs.Quads.{IsCornerIn, AreCornersIn, IsRowAppended}
@@ -104,7 +105,7 @@ round_of s c corners skeleton l inner around =
 
 -- the row of these corners is that of the class
 pub row_appended : (s : Skeleton) (c n : ℕ) (corners : List Corner) (before now : List EquationRow) → is_boundary_edge s.rows s.edges.classes c ≡ false → IsRound s c corners
-    → n ≡ columns quads (length s.rows) → now ≡ before ++ row_of n (quad_equation corners) ∷ [] → IsRowAppended s.rows s.edges.classes c before now
+    → n ≡ columns Quad (length s.rows) → now ≡ before ++ row_of n (quad_equation corners) ∷ [] → IsRowAppended s.rows s.edges.classes c before now
 row_appended s c n corners before now inner round e f =
     subst (λ (b : Bool). MatchBool b (now ≡ before) ((row : EquationRow) × IsQuadRow s.rows s.edges.classes c row × (now ≡ before ++ row ∷ []))) (sym inner)
     (row_of n (quad_equation corners), (corners, round.all, ap (λ m. row_of m (quad_equation corners)) e), f)

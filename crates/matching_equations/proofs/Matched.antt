@@ -8,7 +8,8 @@ use Rattle.std.proofs.lemmas.Grind.{flat_map-append}
 use Rattle.table_definitions.specs.Lists.{below}
 use Rattle.table_definitions.specs.Permutation.{four, others}
 use Rattle.table_definitions.specs.Table.{Gluing, Row, Face, glue, other_side, faces, is_face_before}
-use Rattle.surface_definitions.specs.Coordinates.{Coordinates, columns}
+use Rattle.surface_definitions.specs.Coordinates.{columns}
+use Rattle.surface_definitions.specs.declared.Coords.{Coords}
 use Rattle.surface_definitions.specs.Equations.{Equation, matching, matching_equations, matching_rows, row_of, lesser_side, glued_pairs}
 use Rattle.matching_equations.specs.Matching.{glued_rows, face_rows, face_of, rows_if_lesser, tet_rows}
 use Rattle.matching_equations.proofs.Ranges.{filter-more, flat_map-more}
@@ -17,10 +18,10 @@ abbrev pub Rows : Type 0
 Rows = List (List (ℕ × ℤ))
 
 -- the rows round the vertices below v
-abbrev pub glued_before : Coordinates → ℕ → Face → Gluing → ℕ → Rows
+abbrev pub glued_before : Coords → ℕ → Face → Gluing → ℕ → Rows
 glued_before coords n x g v = map (row_of n) (map (matching coords x g) (filter (λ w. not (w == x.face)) (below v)))
 
-glued_if : (coords : Coordinates) (n : ℕ) (x : Face) (g : Gluing) (v : ℕ) (b : Bool) → not (v == x.face) ≡ b
+glued_if : (coords : Coords) (n : ℕ) (x : Face) (g : Gluing) (v : ℕ) (b : Bool) → not (v == x.face) ≡ b
     → glued_before coords n x g (v + 1) ≡ glued_before coords n x g v ++ map (row_of n) (map (matching coords x g) (cond b (v ∷ []) []))
 glued_if coords n x g v b e =
     let f : List ℕ → Rows = λ vs. map (row_of n) (map (matching coords x g) vs) in
@@ -29,31 +30,31 @@ glued_if coords n x g v b e =
     ∙ ap (map (row_of n)) (map-append (matching coords x g) vs (cond b (v ∷ []) []))
     ∙ map-append (row_of n) (map (matching coords x g) vs) (map (matching coords x g) (cond b (v ∷ []) []))
 
-pub glued_push : (coords : Coordinates) (n : ℕ) (x : Face) (g : Gluing) (v : ℕ) (old now new : Rows) → v ≢ x.face → now ≡ old ++ glued_before coords n x g v
+pub glued_push : (coords : Coords) (n : ℕ) (x : Face) (g : Gluing) (v : ℕ) (old now new : Rows) → v ≢ x.face → now ≡ old ++ glued_before coords n x g v
     → new ≡ now ++ row_of n (matching coords x g v) ∷ [] → new ≡ old ++ glued_before coords n x g (v + 1)
 glued_push coords n x g v old now new ne e f =
     f ∙ ap (λ r. r ++ row_of n (matching coords x g v) ∷ []) e ∙ append_assoc old (glued_before coords n x g v) (row_of n (matching coords x g v) ∷ [])
     ∙ ap (λ r. old ++ r) (sym (glued_if coords n x g v true (ap not (ne_eqb v x.face ne))))
 
-pub glued_skip : (coords : Coordinates) (n : ℕ) (x : Face) (g : Gluing) (v : ℕ) (old now : Rows) → v ≡ x.face → now ≡ old ++ glued_before coords n x g v
+pub glued_skip : (coords : Coords) (n : ℕ) (x : Face) (g : Gluing) (v : ℕ) (old now : Rows) → v ≡ x.face → now ≡ old ++ glued_before coords n x g v
     → now ≡ old ++ glued_before coords n x g (v + 1)
 glued_skip coords n x g v old now same e =
     e ∙ ap (λ r. old ++ r) (sym (glued_if coords n x g v false (ap not (eq-eqb v x.face same)) ∙ append-nil (glued_before coords n x g v)))
 
-pub glued_whole : (coords : Coordinates) (n : ℕ) (x : Face) (g : Gluing) → glued_before coords n x g 4 ≡ glued_rows coords n x g
+pub glued_whole : (coords : Coords) (n : ℕ) (x : Face) (g : Gluing) → glued_before coords n x g 4 ≡ glued_rows coords n x g
 unfolding glued_rows
 glued_whole coords n x g = refl
 
 -- the rows of a face
-pub face_rows-lesser : (coords : Coordinates) (rows : List Row) (n : ℕ) (x : Face) (g : Gluing) → Some g ≡ glue rows x → is_face_before x (other_side x g) ≡ true → face_rows coords rows n x ≡ glued_rows coords n x g
+pub face_rows-lesser : (coords : Coords) (rows : List Row) (n : ℕ) (x : Face) (g : Gluing) → Some g ≡ glue rows x → is_face_before x (other_side x g) ≡ true → face_rows coords rows n x ≡ glued_rows coords n x g
 unfolding face_rows
 face_rows-lesser coords rows n x g e b = ap (rows_if_lesser coords n x) (sym e) ∙ ap (λ c. if c then glued_rows coords n x g else []) b
 
-pub face_rows-greater : (coords : Coordinates) (rows : List Row) (n : ℕ) (x : Face) (g : Gluing) → Some g ≡ glue rows x → is_face_before x (other_side x g) ≡ false → face_rows coords rows n x ≡ []
+pub face_rows-greater : (coords : Coords) (rows : List Row) (n : ℕ) (x : Face) (g : Gluing) → Some g ≡ glue rows x → is_face_before x (other_side x g) ≡ false → face_rows coords rows n x ≡ []
 unfolding face_rows
 face_rows-greater coords rows n x g e b = ap (rows_if_lesser coords n x) (sym e) ∙ ap (λ c. if c then glued_rows coords n x g else []) b
 
-pub face_rows-boundary : (coords : Coordinates) (rows : List Row) (n : ℕ) (x : Face) → None ≡ glue rows x → face_rows coords rows n x ≡ []
+pub face_rows-boundary : (coords : Coords) (rows : List Row) (n : ℕ) (x : Face) → None ≡ glue rows x → face_rows coords rows n x ≡ []
 unfolding face_rows
 face_rows-boundary coords rows n x e = ap (rows_if_lesser coords n x) (sym e)
 
@@ -61,18 +62,18 @@ face_rows-boundary coords rows n x e = ap (rows_if_lesser coords n x) (sym e)
 pub appended_more : (f : ℕ → Rows) (k : ℕ) (old now new : Rows) → now ≡ old ++ flat_map f (below k) → new ≡ now ++ f k → new ≡ old ++ flat_map f (below (k + 1))
 appended_more f k old now new e g = g ∙ ap (λ r. r ++ f k) e ∙ append_assoc old (flat_map f (below k)) (f k) ∙ ap (λ r. old ++ r) (sym (flat_map-more f k))
 
-pub tet_whole : (coords : Coordinates) (rows : List Row) (n t : ℕ) → flat_map (λ f. face_rows coords rows n (face_of t f)) (below 4) ≡ tet_rows coords rows n t
+pub tet_whole : (coords : Coords) (rows : List Row) (n t : ℕ) → flat_map (λ f. face_rows coords rows n (face_of t f)) (below 4) ≡ tet_rows coords rows n t
 unfolding tet_rows
 tet_whole coords rows n t = refl
 
 -- all rows
-abbrev equations_of : Coordinates → Face × Gluing → List Equation
+abbrev equations_of : Coords → Face × Gluing → List Equation
 equations_of coords y = map (matching coords y.0 y.1) (others (y.0).face)
 
-abbrev rows_of_pairs : Coordinates → ℕ → List (Face × Gluing) → Rows
+abbrev rows_of_pairs : Coords → ℕ → List (Face × Gluing) → Rows
 rows_of_pairs coords n ys = map (row_of n) (flat_map (equations_of coords) ys)
 
-one_face : (coords : Coordinates) (n : ℕ) (x : Face) (g : Option Gluing) (ys : List (Face × Gluing))
+one_face : (coords : Coords) (n : ℕ) (x : Face) (g : Option Gluing) (ys : List (Face × Gluing))
     → rows_of_pairs coords n (cons_option (lesser_side x g) ys) ≡ rows_if_lesser coords n x g ++ rows_of_pairs coords n ys
 unfolding glued_rows
 one_face coords n x None ys = refl
@@ -82,7 +83,7 @@ one_face coords n x (Some g) ys = go (is_face_before x (other_side x g))
     go true = map-append (row_of n) (equations_of coords (x, g)) (flat_map (equations_of coords) ys)
     go false = refl
 
-all_faces : (coords : Coordinates) (rows : List Row) (n : ℕ) (xs : List Face) → rows_of_pairs coords n (filter_map (λ x. lesser_side x (glue rows x)) xs) ≡ flat_map (face_rows coords rows n) xs
+all_faces : (coords : Coords) (rows : List Row) (n : ℕ) (xs : List Face) → rows_of_pairs coords n (filter_map (λ x. lesser_side x (glue rows x)) xs) ≡ flat_map (face_rows coords rows n) xs
 unfolding face_rows
 all_faces coords rows n [] = refl
 all_faces coords rows n (x ∷ xs) =
@@ -93,7 +94,7 @@ by_tets F g h [] = refl
 by_tets F g h (t ∷ ts) =
     ap (flat_map F) (map-append g (h t) (flat_map h ts)) ∙ flat_map-append F (map g (h t)) (map g (flat_map h ts)) ∙ ap (λ r. flat_map F (map g (h t)) ++ r) (by_tets F g h ts)
 
-pub all_rows : (coords : Coordinates) (rows : List Row) → flat_map (tet_rows coords rows (columns coords (length rows))) (below (length rows)) ≡ matching_rows coords rows
+pub all_rows : (coords : Coords) (rows : List Row) → flat_map (tet_rows coords rows (columns coords (length rows))) (below (length rows)) ≡ matching_rows coords rows
 unfolding matching_equations glued_pairs tet_rows
 all_rows coords rows =
     let n : ℕ = columns coords (length rows) in

@@ -2,28 +2,12 @@
 
 ghost use Rattle.std.specs.Prelude.{◌≡◌, ◌+◌, ◌*◌, ◌<◌, ◌≤◌, nat_lt, IfSome, if◌then◌else◌};
 ghost use Rattle.surface_definitions.specs.Coordinates as coordinates;
-ghost use Rattle.matching_equations.specs.Columns.{coordinates_of, piece_of, column_of};
 
-/// Standard coordinates count triangles and quads, quad coordinates quads alone, octagon coordinates octagons
-/// too (Haken; Tollefson; Rubinstein and Thompson).
-#[derive(Clone, Copy, Debug, PartialEq, Eq)]
-pub enum Coords {
-    Standard,
-    Quad,
-    Octagon,
-}
-
-/// A triangle round a vertex; a quad or an octagon of a type, 0 for 01/23, 1 for 02/13 and 2 for 03/12.
-#[derive(Clone, Copy, Debug, PartialEq, Eq)]
-pub enum Piece {
-    Tri(u8),
-    Quad(u8),
-    Oct(u8),
-}
+use surface_definitions::{Coords, Piece};
 
 /// The columns of one tetrahedron.
 pub fn columns_each(coords: Coords) -> u32
-    ensures value { result ≡ coordinates.columns_each (coordinates_of coords) }
+    ensures value { result ≡ coordinates.columns_each coords }
     ensures some { 1 ≤ result }
     ensures few { result ≤ 10 }
 {
@@ -36,7 +20,7 @@ pub fn columns_each(coords: Coords) -> u32
 
 /// How many columns of a tetrahedron stand before its quads.
 pub fn triangles_each(coords: Coords) -> u32
-    ensures value { result ≡ coordinates.triangles_each (coordinates_of coords) }
+    ensures value { result ≡ coordinates.triangles_each coords }
     ensures few { result ≤ 4 }
 {
     match coords {
@@ -49,7 +33,7 @@ pub fn triangles_each(coords: Coords) -> u32
 /// The columns of so many tetrahedra.
 pub fn columns(coords: Coords, tets: u32) -> u32
     requires { tets ≤ 1000 }
-    ensures value { result ≡ coordinates.columns (coordinates_of coords) tets }
+    ensures value { result ≡ coordinates.columns coords tets }
     ensures few { result ≤ 10000 }
 {
     columns_each(coords) * tets
@@ -69,8 +53,8 @@ fn place(number: u8, count: u8, before: u32) -> Option<u32>
 
 /// The place of a piece among the columns of its tetrahedron.
 fn local_column(coords: Coords, piece: Piece) -> Option<u32>
-    ensures value { result ≡ coordinates.local_column (coordinates_of coords) (piece_of piece) }
-    ensures in_range { IfSome result (λ place. place < coordinates.columns_each (coordinates_of coords)) }
+    ensures value { result ≡ coordinates.local_column coords piece }
+    ensures in_range { IfSome result (λ place. place < coordinates.columns_each coords) }
 {
     match piece {
         Piece::Tri(vertex) => match coords {
@@ -90,8 +74,8 @@ fn local_column(coords: Coords, piece: Piece) -> Option<u32>
 /// The column of a piece of a tetrahedron; nothing exactly where the coordinates have no such piece.
 pub fn column(coords: Coords, tet: u32, piece: Piece) -> Option<u32>
     requires { tet ≤ 1000 }
-    ensures value { result ≡ column_of (coordinates_of coords) tet (piece_of piece) }
-    ensures in_range { IfSome result (λ column. column < coordinates.columns (coordinates_of coords) (tet + 1)) }
+    ensures value { result ≡ coordinates.column_of coords tet piece }
+    ensures in_range { IfSome result (λ column. column < coordinates.columns coords (tet + 1)) }
 {
     let place = local_column(coords, piece)?;
     Some(columns_each(coords) * tet + place)

@@ -6,14 +6,14 @@ ghost use Rattle.surface_definitions.specs.Coordinates.{three};
 ghost use Rattle.table_definitions.specs.Lists as lists;
 ghost use Rattle.surface_definitions.specs.Equations as equations;
 ghost use Rattle.cone_core.specs.Sparse.{IsInRange};
-ghost use Rattle.matching_equations.specs.Columns.{coordinates_of};
 
-use crate::coords::{Coords, columns_each, triangles_each};
+use crate::coords::{columns_each, triangles_each};
 use arrayvec::ArrayVec;
 use cone_core::SparseRow;
 use no_memory::NoMemory;
 use smallvec::SmallVec;
 use std::alloc::Global;
+use surface_definitions::Coords;
 
 /// The quad type that keeps two vertices on one side.
 pub fn keeping(vertex: u8, face: u8) -> u8
@@ -48,7 +48,7 @@ pub fn arc_columns(coords: Coords, tet: u32, face: u8, vertex: u8) -> ArrayVec<u
     requires a_vertex { vertex < 4 }
     requires a_face { face < 4 }
     requires apart { vertex ≢ face }
-    ensures { result.items ≡ coordinates.arc_columns (coordinates_of coords) tet face vertex }
+    ensures { result.items ≡ coordinates.arc_columns coords tet face vertex }
 {
     let kind = keeping(vertex, face);
     let start = columns_each(coords) * tet;

@@ -7,8 +7,9 @@ mod matching;
 mod quads;
 mod table_equations;
 
-pub use coords::{Coords, Piece, column, columns, columns_each, triangles_each};
+pub use coords::{column, columns, columns_each, triangles_each};
 pub use matching::matching_system;
+pub use surface_definitions::{Coords, Piece};
 pub use table_equations::equations;
 
 #[cfg(test)]

@@ -7,15 +7,15 @@ ghost use Rattle.surface_definitions.specs.Equations as equations;
 ghost use Rattle.table_definitions.specs.Permutation.{IsPermutationOfFour};
 ghost use Rattle.table_definitions.specs.Table as gluings;
 ghost use Rattle.table_definitions.specs.Table.{IsTable, is_face_before};
-ghost use Rattle.matching_equations.specs.Columns.{coordinates_of};
 ghost use Rattle.matching_equations.specs.Matching.{glued_rows, face_rows, tet_rows};
 
-use crate::coords::{Coords, columns};
+use crate::coords::columns;
 use crate::equation::{arc_columns, row_of};
 use cone_core::System;
 use gluing_table::{Face, Glue, Table};
 use no_memory::NoMemory;
 use std::alloc::Global;
+use surface_definitions::Coords;
 
 /// Whether one face comes before another.
 fn is_before(face: Face, other: Face) -> bool
@@ -42,7 +42,7 @@ fn push_equation(
     requires permutes { IsPermutationOfFour glue.perm }
     requires room { length system.old.rows + 1 < 2 ^ 32 }
     ensures columns { OnOk result (system.new.columns ≡ system.old.columns) }
-    ensures rows { OnOk result (system.new.rows ≡ system.old.rows ++ equations.row_of system.old.columns (matching (coordinates_of coords) face glue vertex) ∷ []) }
+    ensures rows { OnOk result (system.new.rows ≡ system.old.rows ++ equations.row_of system.old.columns (matching coords face glue vertex) ∷ []) }
     ensures one_more { OnOk result (length system.new.rows ≡ length system.old.rows + 1) }
 {
     let left = arc_columns(coords, face.tet, face.face, vertex);
@@ -69,7 +69,7 @@ fn push_glued(
     requires permutes { IsPermutationOfFour glue.perm }
     requires room { length system.old.rows + 4 < 2 ^ 32 }
     ensures columns { OnOk result (system.new.columns ≡ system.old.columns) }
-    ensures rows { OnOk result (system.new.rows ≡ system.old.rows ++ glued_rows (coordinates_of coords) system.old.columns face glue) }
+    ensures rows { OnOk result (system.new.rows ≡ system.old.rows ++ glued_rows coords system.old.columns face glue) }
     ensures few { OnOk result (length system.new.rows ≤ length system.old.rows + 4) }
 {
     let opposite = face.face;
@@ -95,7 +95,7 @@ fn push_face(
     requires a_face { face.face < 4 }
     requires room { length system.old.rows + 4 < 2 ^ 32 }
     ensures columns { OnOk result (system.new.columns ≡ system.old.columns) }
-    ensures rows { OnOk result (system.new.rows ≡ system.old.rows ++ face_rows (coordinates_of coords) table.now system.old.columns face) }
+    ensures rows { OnOk result (system.new.rows ≡ system.old.rows ++ face_rows coords table.now system.old.columns face) }
     ensures few { OnOk result (length system.new.rows ≤ length system.old.rows + 4) }
 {
     if let Some(glue) = table.glue(face) {
@@ -119,7 +119,7 @@ fn push_tet(
     requires in_range { tet < length table.now }
     requires room { length system.old.rows + 16 < 2 ^ 32 }
     ensures columns { OnOk result (system.new.columns ≡ system.old.columns) }
-    ensures rows { OnOk result (system.new.rows ≡ system.old.rows ++ tet_rows (coordinates_of coords) table.now system.old.columns tet) }
+    ensures rows { OnOk result (system.new.rows ≡ system.old.rows ++ tet_rows coords table.now system.old.columns tet) }
     ensures few { OnOk result (length system.new.rows ≤ length system.old.rows + 16) }
 {
     for face in 0..4 {
@@ -132,8 +132,8 @@ fn push_tet(
 /// vertex of the lesser side, as many arcs round the vertex on the one side as on the other (Haken 1961).
 pub fn matching_system(alloc: Global, coords: Coords, table: &Table) -> Result<System, NoMemory>
     requires { coords ≢ Coords.Quad }
-    ensures columns { IfOk result (λ s. s.columns ≡ coordinates.columns (coordinates_of coords) (length table.now)) }
-    ensures rows { IfOk result (λ s. s.rows ≡ matching_rows (coordinates_of coords) table.now) }
+    ensures columns { IfOk result (λ s. s.columns ≡ coordinates.columns coords (length table.now)) }
+    ensures rows { IfOk result (λ s. s.rows ≡ matching_rows coords table.now) }
     ensures few { IfOk result (λ s. length s.rows ≤ 16000) }
 {
     let tets = table.rows().len() as u32;

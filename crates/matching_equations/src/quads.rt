@@ -2,18 +2,18 @@
 
 ghost use Rattle.std.specs.Prelude.{◌≡◌, ◌≢◌, ◌+◌, ◌*◌, ◌<◌, ◌≤◌, ◌^◌, [], ◌∷◌, ◌++◌, length, IfOk, OnOk};
 ghost use Rattle.surface_definitions.specs.Coordinates as coordinates;
-ghost use Rattle.surface_definitions.specs.Coordinates.{quads};
 ghost use Rattle.surface_definitions.specs.Equations as equations;
 ghost use Rattle.surface_definitions.specs.QuadEquations.{AreQuadRows, quad_equation};
 ghost use Rattle.skeleton_definitions.specs.Skeleton.{IsSkeleton};
 ghost use Rattle.matching_equations.specs.Quads.{AreCornersIn, IsRowAppended};
 
-use crate::coords::{Coords, columns, columns_each};
+use crate::coords::{columns, columns_each};
 use crate::equation::{keeping, row_of};
 use cone_core::System;
 use no_memory::NoMemory;
 use skeleton::{Corner, Skeleton};
 use std::alloc::Global;
+use surface_definitions::Coords;
 
 /// The column of the quad that keeps two vertices of a tetrahedron on one side.
 fn quad_column(tet: u32, vertex: u8, other: u8) -> u32
@@ -21,7 +21,7 @@ fn quad_column(tet: u32, vertex: u8, other: u8) -> u32
     requires a_vertex { vertex < 4 }
     requires another { other < 4 }
     requires apart { vertex ≢ other }
-    ensures { result ≡ coordinates.quad_column quads tet (coordinates.keeping vertex other) }
+    ensures { result ≡ coordinates.quad_column Coords.Quad tet (coordinates.keeping vertex other) }
 {
     columns_each(Coords::Quad) * tet + u32::from(keeping(vertex, other))
 }
@@ -74,7 +74,7 @@ fn push_edge(
 ) -> Result<(), NoMemory>
     requires skeleton { IsSkeleton skeleton.now }
     requires class { class < skeleton.now.edges.count }
-    requires columns { system.old.columns ≡ coordinates.columns quads (length skeleton.now.rows) }
+    requires columns { system.old.columns ≡ coordinates.columns Coords.Quad (length skeleton.now.rows) }
     requires room { length system.old.rows + 1 < 2 ^ 32 }
     ensures columns { OnOk result (system.new.columns ≡ system.old.columns) }
     ensures rows { OnOk result (IsRowAppended skeleton.now.rows skeleton.now.edges.classes class system.old.rows system.new.rows) }
@@ -89,7 +89,7 @@ fn push_edge(
 /// The equations of a table in quad coordinates: one for each inner edge class, the quads that rise along the edge at
 /// its corners as many as those that fall (Tollefson 1998).
 pub fn quad_system(alloc: Global, skeleton: &Skeleton) -> Result<System, NoMemory>
-    ensures columns { IfOk result (λ s. s.columns ≡ coordinates.columns quads (length skeleton.now.rows)) }
+    ensures columns { IfOk result (λ s. s.columns ≡ coordinates.columns Coords.Quad (length skeleton.now.rows)) }
     ensures rows { IfOk result (λ s. AreQuadRows skeleton.now.rows skeleton.now.edges.classes skeleton.now.edges.count s.rows) }
     ensures skeleton { IsSkeleton skeleton.now }
 {

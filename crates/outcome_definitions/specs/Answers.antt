@@ -4,7 +4,8 @@ use Rattle.std.specs.Bool.{MatchBool}
 use Rattle.text_definitions.specs.Written.{limit}
 use Rattle.table_definitions.specs.Table.{Row}
 use Rattle.cone_definitions.specs.Rows.{Row as EquationRow}
-use Rattle.surface_definitions.specs.Coordinates.{Coordinates, columns, clash_list}
+use Rattle.surface_definitions.specs.Coordinates.{columns, clash_list}
+use Rattle.surface_definitions.specs.declared.Coords.{Coords}
 use Rattle.surface_definitions.specs.QuadEquations.{AreEquations}
 use Rattle.surface_definitions.specs.Verdict.{Verdict, verdict}
 use Rattle.document_definitions.specs.Documents.{worded, table_document, two_tables_document, tables_document, vectors_document, steps_document, cone_document, verdicts_text}
@@ -22,15 +23,15 @@ abbrev pub most_bytes : ℕ
 most_bytes = 1048576
 
 -- the verdict on a vector under the equations of a table
-abbrev pub verdict_on : Coordinates → List Row → List EquationRow → List ℕ → Verdict
+abbrev pub verdict_on : Coords → List Row → List EquationRow → List ℕ → Verdict
 verdict_on coords rows equations x = verdict limit (columns coords (length rows)) equations (clash_list coords (length rows)) x
 
 -- a verdict on each vector
-abbrev pub verify_outcome : Coordinates → List Row → List EquationRow → List (List ℕ) → Outcome
+abbrev pub verify_outcome : Coords → List Row → List EquationRow → List (List ℕ) → Outcome
 verify_outcome coords rows equations vectors = record { status = Done; text = verdicts_text (map (verdict_on coords rows equations) vectors) }
 
 -- the answer to a table and vectors: a verdict on each vector, under the equations of the table
-abbrev pub IsVerdictsAnswer : Coordinates → List Row × List (List ℕ) → Outcome → Type 0
+abbrev pub IsVerdictsAnswer : Coords → List Row × List (List ℕ) → Outcome → Type 0
 IsVerdictsAnswer coords d o = (equations : List EquationRow) × AreEquations coords d.0 equations × (o ≡ verify_outcome coords d.0 equations d.1)
 
 -- The outcome of a command on an input that isn't too long. A command that isn't built has none.

@@ -11,7 +11,8 @@ use Rattle.cone_text_definitions.specs.ConeText.{Cone as ConeText}
 use Rattle.double_description.specs.declared.picker.Order.{Order}
 use Rattle.double_description.specs.declared.picker.Order.TheVariants.{Given, Short, Zeros}
 use Rattle.table_definitions.specs.Table.{Row}
-use Rattle.surface_definitions.specs.Coordinates.{Coordinates, columns, clash_list}
+use Rattle.surface_definitions.specs.Coordinates.{columns, clash_list}
+use Rattle.surface_definitions.specs.declared.Coords.{Coords}
 use Rattle.surface_definitions.specs.QuadEquations.{AreEquations}
 use Rattle.command_definitions.specs.Requests.{Order as OrderName, given, short, zeros}
 use Rattle.double_description.specs.Enumerated.{AreWithin}
@@ -74,7 +75,7 @@ abbrev pub ray_enumeration : OrderName → ℕ → ConeText → Enumeration
 ray_enumeration order limit cone = record { system = system_of cone; pairs = []; order = order_of order; limit = limit }
 
 -- the vertex surfaces of a table, by its equations
-abbrev pub table_enumeration : Coordinates → Order → ℕ → List Row → List EquationRow → Enumeration
+abbrev pub table_enumeration : Coords → Order → ℕ → List Row → List EquationRow → Enumeration
 table_enumeration coords order limit rows equations = record {
   system = record { columns = columns coords (length rows); rows = equations };
   pairs = clash_list coords (length rows);
@@ -83,6 +84,6 @@ table_enumeration coords order limit rows equations = record {
 }
 
 -- the answer to a table: its vertex surfaces, under the equations of the table
-abbrev pub IsSurfacesAnswer : Coordinates → Order → ℕ → List Row → Outcome → Type 0
+abbrev pub IsSurfacesAnswer : Coords → Order → ℕ → List Row → Outcome → Type 0
 IsSurfacesAnswer coords order limit rows o =
     (equations : List EquationRow) × AreEquations coords rows equations × IsEnumerationAnswer (codes "surfaces") (table_enumeration coords order limit rows equations) o

@@ -3,7 +3,7 @@ use Rattle.std.proofs.Common.{◌≡◌, ◌≢◌, ℕ, Bool, true, false, List
 use Rattle.std.specs.Prelude.{Option, Some, None, Result, Ok, Err, nat_lt, codes}
 use Rattle.std.specs.Bool.{MatchBool}
 use Rattle.table_definitions.specs.Table.{Row}
-use Rattle.surface_definitions.specs.Coordinates.{Coordinates}
+use Rattle.surface_definitions.specs.declared.Coords.{Coords}
 use Rattle.double_description.specs.declared.picker.Order.{Order}
 use Rattle.double_description.specs.declared.picker.Order.TheVariants.{Free}
 use Rattle.signature_definitions.specs.SignatureText.{InputFault}
@@ -36,10 +36,10 @@ one_read (Ok value) IsAnswer o p one h k = one value h k
 one_read (Err fault) IsAnswer o p one h k = h ∙ sym k
 
 -- the equations of a table are one list
-one_verdicts : (coords : Coordinates) (d : List Row × List (List ℕ)) (o p : Outcome) → IsVerdictsAnswer coords d o → IsVerdictsAnswer coords d p → o ≡ p
+one_verdicts : (coords : Coords) (d : List Row × List (List ℕ)) (o p : Outcome) → IsVerdictsAnswer coords d o → IsVerdictsAnswer coords d p → o ≡ p
 one_verdicts coords d o p h k = h.2 ∙ ap (λ equations. verify_outcome coords d.0 equations d.1) (one_equations coords d.0 h.0 k.0 h.1 k.1) ∙ sym k.2
 
-one_surfaces : (coords : Coordinates) (order : Order) (most : ℕ) (rows : List Row) (o p : Outcome) → order ≢ Free → IsSurfacesAnswer coords order most rows o → IsSurfacesAnswer coords order most rows p → o ≡ p
+one_surfaces : (coords : Coords) (order : Order) (most : ℕ) (rows : List Row) (o p : Outcome) → order ≢ Free → IsSurfacesAnswer coords order most rows o → IsSurfacesAnswer coords order most rows p → o ≡ p
 one_surfaces coords order most rows o p some h k =
     one_enumeration (codes "surfaces") (table_enumeration coords order most rows h.0) o p some h.2
     (subst (λ equations. IsEnumerationAnswer (codes "surfaces") (table_enumeration coords order most rows equations) p) (sym (one_equations coords rows h.0 k.0 h.1 k.1)) k.2)

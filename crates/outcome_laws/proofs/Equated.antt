@@ -9,7 +9,9 @@ use Rattle.table_definitions.specs.Classes.{IsNumbering, least}
 use Rattle.table_definitions.specs.Places.{SameEdge}
 use Rattle.skeleton_definitions.specs.Corners.{Corner, AreCorners, first_corner, inner_edges}
 use Rattle.cone_definitions.specs.Rows.{Row as EquationRow}
-use Rattle.surface_definitions.specs.Coordinates.{Coordinates, standard, quads, octagons, columns}
+use Rattle.surface_definitions.specs.Coordinates.{columns}
+use Rattle.surface_definitions.specs.declared.Coords.{Coords}
+use Rattle.surface_definitions.specs.declared.Coords.TheVariants.{Standard, Quad, Octagon}
 use Rattle.surface_definitions.specs.Equations.{Equation, row_of}
 use Rattle.surface_definitions.specs.QuadEquations.{quad_equation, IsQuadRow, AreQuadRows, AreQuadEquations, AreEquations}
 use Rattle.outcome_laws.proofs.Numbered.{one_classes, one_count}
@@ -115,7 +117,7 @@ same_row n e f left right = λ i. filter_map (λ c. term_by (left c i) (right c 
 one_row : (rows : List Row) (classes : List ℕ) (c : ℕ) (row other : EquationRow) → IsQuadRow rows classes c row → IsQuadRow rows classes c other → row ≡ other
 one_row rows classes c row other h k =
     let count = corners_count rows (first_corner (least classes c)) h.0 k.0 h.1 k.1 in
-    h.2 ∙ same_row (columns quads (length rows)) (quad_equation h.0) (quad_equation k.0) (λ x. count _ x) (λ x. count _ x) ∙ sym k.2
+    h.2 ∙ same_row (columns Quad (length rows)) (quad_equation h.0) (quad_equation k.0) (λ x. count _ x) (λ x. count _ x) ∙ sym k.2
 
 one_rows : (rows : List Row) (classes cs : List ℕ) (one other : List EquationRow) → AllZip (IsQuadRow rows classes) cs one → AllZip (IsQuadRow rows classes) cs other → one ≡ other
 one_rows rows classes [] [] [] h k = refl
@@ -137,7 +139,7 @@ one_quad_list rows one other h k = one_rows rows k.classes (inner_edges rows k.c
     moved : AreQuadRows rows k.classes k.count one
     moved = subst₂ (λ (xs : List ℕ) (n : ℕ). AreQuadRows rows xs n one) classes count h.each
 
-pub one_equations : (coords : Coordinates) (rows : List Row) (one other : List EquationRow) → AreEquations coords rows one → AreEquations coords rows other → one ≡ other
-one_equations standard rows one other h k = h ∙ sym k
-one_equations quads rows one other h k = one_quad_list rows one other h k
-one_equations octagons rows one other h k = h ∙ sym k
+pub one_equations : (coords : Coords) (rows : List Row) (one other : List EquationRow) → AreEquations coords rows one → AreEquations coords rows other → one ≡ other
+one_equations Standard rows one other h k = h ∙ sym k
+one_equations Quad rows one other h k = one_quad_list rows one other h k
+one_equations Octagon rows one other h k = h ∙ sym k

@@ -10,7 +10,9 @@ use Rattle.std.proofs.lemmas.List.Elements.{All-map, All-append, All-cons}
 use Rattle.std.proofs.lemmas.List.FromFn.{get_or-range_with_len, length-range_with_len}
 use Rattle.support_bits.specs.Words.{bit_of, AreWordsOf}
 use Rattle.table_definitions.specs.Lists.{below, pairs_of}
-use Rattle.surface_definitions.specs.Coordinates.{Coordinates, standard, quads, octagons, columns, columns_each, triangles_each, is_octagon, is_quad_or_octagon, clash_test, clash_list}
+use Rattle.surface_definitions.specs.Coordinates.{columns, columns_each, triangles_each, is_octagon, is_quad_or_octagon, clash_test, clash_list}
+use Rattle.surface_definitions.specs.declared.Coords.{Coords}
+use Rattle.surface_definitions.specs.declared.Coords.TheVariants.{Standard, Quad, Octagon}
 use Rattle.double_description.specs.Clashes.{AreClashes, IsInUnion, IsClashFree}
 use Rattle.quad_condition.specs.Partners.{is_clash, partners}
 use Rattle.quad_condition.specs.Bits.{IsOfEither, IsMarkedIn, HasTwo}
@@ -72,7 +74,7 @@ all_suffix P (x ∷ xs) ys h = all_suffix P xs ys (λ j e m. h (suc j) e (omega 
 all_of_prefix : (P : ℕ × ℕ → Type 0) (xs ys : Pairs) → IsPrefix xs ys → All P ys → All P xs
 all_of_prefix P xs ys p h = all_prefix P xs p.rest (subst (All P) p.is h)
 
-pub pair_of_all : (P : ℕ × ℕ → Type 0) (coords : Coordinates) (n : ℕ) → All P (clash_list coords n) → (c e : ℕ) → c < e → e < columns coords n → clash_test coords c e ≡ true → P (c, e)
+pub pair_of_all : (P : ℕ × ℕ → Type 0) (coords : Coords) (n : ℕ) → All P (clash_list coords n) → (c e : ℕ) → c < e → e < columns coords n → clash_test coords c e ≡ true → P (c, e)
 unfolding partners
 pair_of_all P coords n h c e less within clashes =
     let all : (c + 1) + (columns coords n - (c + 1)) ≡ columns coords n = omega arith in
@@ -103,7 +105,7 @@ all_below P n h k d l =
     let e : 0 + k ≡ k = omega arith in
     subst P (sym (get_or-range_with_len 0 n k d in_range ∙ e)) (h k in_range)
 
-pub all_of_pairs : (P : ℕ × ℕ → Type 0) (coords : Coordinates) (n : ℕ) → ((c e : ℕ) → c < e → e < columns coords n → clash_test coords c e ≡ true → P (c, e)) → All P (clash_list coords n)
+pub all_of_pairs : (P : ℕ × ℕ → Type 0) (coords : Coords) (n : ℕ) → ((c e : ℕ) → c < e → e < columns coords n → clash_test coords c e ≡ true → P (c, e)) → All P (clash_list coords n)
 unfolding clash_list
 all_of_pairs P coords n h =
     filter_all P (is_clash coords) (pairs_of (below (columns coords n)) (below (columns coords n)))
@@ -115,59 +117,59 @@ all_of_pairs P coords n h =
     h c e (ltb-true c e parts.0) le parts.1)))))
 
 -- what a mark says of a column
-record IsAt (coords : Coordinates) (n least distance column : ℕ) : Type 0 where
+record IsAt (coords : Coords) (n least distance column : ℕ) : Type 0 where
   within : column < columns coords n
   low : least ≤ column % columns_each coords
   room : column % columns_each coords + distance < columns_each coords
 
-marked_is_at : (coords : Coordinates) (n least distance column : ℕ) (words : List ℕ) → AreMarks coords n least distance words → bit_of words column ≡ true → IsAt coords n least distance column
+marked_is_at : (coords : Coords) (n least distance column : ℕ) (words : List ℕ) → AreMarks coords n least distance words → bit_of words column ≡ true → IsAt coords n least distance column
 marked_is_at coords n least distance column words marks set =
     let place : ℕ = column % columns_each coords in
     let p : (nat_lt column (columns coords n) ≡ true) × (is_marked coords least distance column ≡ true) = and_parts (nat_lt column (columns coords n)) (is_marked coords least distance column) (sym (marks.bits column) ∙ set) in
     let q : (nat_le least place ≡ true) × (nat_lt (place + distance) (columns_each coords) ≡ true) = and_parts (nat_le least place) (nat_lt (place + distance) (columns_each coords)) p.1 in
     record { within = ltb-true column (columns coords n) p.0; low = leb-true least place q.0; room = ltb-true (place + distance) (columns_each coords) q.1 }
 
-at_is_marked : (coords : Coordinates) (n least distance column : ℕ) (words : List ℕ) → AreMarks coords n least distance words → IsAt coords n least distance column → bit_of words column ≡ true
+at_is_marked : (coords : Coords) (n least distance column : ℕ) (words : List ℕ) → AreMarks coords n least distance words → IsAt coords n least distance column → bit_of words column ≡ true
 at_is_marked coords n least distance column words marks h =
     let place : ℕ = column % columns_each coords in
     marks.bits column ∙ and_from (nat_lt column (columns coords n)) (is_marked coords least distance column) (lt-ltb column (columns coords n) h.within)
     (and_from (nat_le least place) (nat_lt (place + distance) (columns_each coords)) (le-leb least place h.low) (lt-ltb (place + distance) (columns_each coords) h.room))
 
 -- two places of one tetrahedron
-record IsPairOfOne (coords : Coordinates) (n c e : ℕ) : Type 0 where
+record IsPairOfOne (coords : Coords) (n c e : ℕ) : Type 0 where
   within : e < columns coords n
   same : c / columns_each coords ≡ e / columns_each coords
   low : triangles_each coords ≤ e % columns_each coords
 
-pair_ahead : (coords : Coordinates) (n c d : ℕ) → IsAt coords n (triangles_each coords) d c → IsPairOfOne coords n c (c + d)
-pair_ahead standard n c d h =
+pair_ahead : (coords : Coords) (n c d : ℕ) → IsAt coords n (triangles_each coords) d c → IsPairOfOne coords n c (c + d)
+pair_ahead Standard n c d h =
     let w : c < 7 * n = h.within in let l : 4 ≤ c % 7 = h.low in let r : c % 7 + d < 7 = h.room in
     let same : c / 7 ≡ (c + d) / 7 = omega arith in let place : (c + d) % 7 ≡ c % 7 + d = omega arith in
     record { within = omega arith; same = same; low = omega arith }
-pair_ahead quads n c d h =
+pair_ahead Quad n c d h =
     let w : c < 3 * n = h.within in let r : c % 3 + d < 3 = h.room in
     let same : c / 3 ≡ (c + d) / 3 = omega arith in let place : (c + d) % 3 ≡ c % 3 + d = omega arith in
     record { within = omega arith; same = same; low = omega arith }
-pair_ahead octagons n c d h =
+pair_ahead Octagon n c d h =
     let w : c < 10 * n = h.within in let l : 4 ≤ c % 10 = h.low in let r : c % 10 + d < 10 = h.room in
     let same : c / 10 ≡ (c + d) / 10 = omega arith in let place : (c + d) % 10 ≡ c % 10 + d = omega arith in
     record { within = omega arith; same = same; low = omega arith }
 
-ahead_of_pair : (coords : Coordinates) (n c e k : ℕ) → c < e → e < columns coords n → c / columns_each coords ≡ e / columns_each coords → triangles_each coords ≤ c % columns_each coords → e ≡ c + (k + 1)
+ahead_of_pair : (coords : Coords) (n c e k : ℕ) → c < e → e < columns coords n → c / columns_each coords ≡ e / columns_each coords → triangles_each coords ≤ c % columns_each coords → e ≡ c + (k + 1)
     → IsAt coords n (triangles_each coords) (k + 1) c × (k + 2 ≤ columns_each coords - triangles_each coords)
-ahead_of_pair standard n c e k less w same low is = (record { within = omega arith; low = low; room = omega arith }, omega arith)
-ahead_of_pair quads n c e k less w same low is = (record { within = omega arith; low = low; room = omega arith }, omega arith)
-ahead_of_pair octagons n c e k less w same low is = (record { within = omega arith; low = low; room = omega arith }, omega arith)
+ahead_of_pair Standard n c e k less w same low is = (record { within = omega arith; low = low; room = omega arith }, omega arith)
+ahead_of_pair Quad n c e k less w same low is = (record { within = omega arith; low = low; room = omega arith }, omega arith)
+ahead_of_pair Octagon n c e k less w same low is = (record { within = omega arith; low = low; room = omega arith }, omega arith)
 
 -- clashes
-near_clash : (coords : Coordinates) (c e : ℕ) → c / columns_each coords ≡ e / columns_each coords → triangles_each coords ≤ c % columns_each coords → triangles_each coords ≤ e % columns_each coords → clash_test coords c e ≡ true
+near_clash : (coords : Coords) (c e : ℕ) → c / columns_each coords ≡ e / columns_each coords → triangles_each coords ≤ c % columns_each coords → triangles_each coords ≤ e % columns_each coords → clash_test coords c e ≡ true
 near_clash coords c e same low_c low_e =
     or_right (is_octagon coords c && is_octagon coords e) (((c / columns_each coords == e / columns_each coords) && is_quad_or_octagon coords c) && is_quad_or_octagon coords e)
     (and_from ((c / columns_each coords == e / columns_each coords) && is_quad_or_octagon coords c) (is_quad_or_octagon coords e)
     (and_from (c / columns_each coords == e / columns_each coords) (is_quad_or_octagon coords c) (eq-eqb (c / columns_each coords) (e / columns_each coords) same) (le-leb (triangles_each coords) (c % columns_each coords) low_c))
     (le-leb (triangles_each coords) (e % columns_each coords) low_e))
 
-octagon_clash : (coords : Coordinates) (c e : ℕ) → 7 ≤ c % columns_each coords → 7 ≤ e % columns_each coords → clash_test coords c e ≡ true
+octagon_clash : (coords : Coords) (c e : ℕ) → 7 ≤ c % columns_each coords → 7 ≤ e % columns_each coords → clash_test coords c e ≡ true
 octagon_clash coords c e low_c low_e =
     or_left (is_octagon coords c && is_octagon coords e) (((c / columns_each coords == e / columns_each coords) && is_quad_or_octagon coords c) && is_quad_or_octagon coords e)
     (and_from (is_octagon coords c) (is_octagon coords e) (le-leb 7 (c % columns_each coords) low_c) (le-leb 7 (e % columns_each coords) low_e))
@@ -185,7 +187,7 @@ of_either : (sa sb : List Bool) (a b : List ℕ) (column : ℕ) → AreWordsOf s
 of_either sa sb a b column p q (inl h) = inl (p.bits column ∙ h)
 of_either sa sb a b column p q (inr h) = inr (q.bits column ∙ h)
 
-pub near_is_clash : (coords : Coordinates) (n : ℕ) (near : List (Vec ℕ Global)) (sa sb : List Bool) (a b : List ℕ) → AreNear coords n near → AreWordsOf sa a → AreWordsOf sb b → HasNear near a b
+pub near_is_clash : (coords : Coords) (n : ℕ) (near : List (Vec ℕ Global)) (sa sb : List Bool) (a b : List ℕ) → AreNear coords n near → AreWordsOf sa a → AreWordsOf sb b → HasNear near a b
     → IsClashFree (clash_list coords n) sa sb → ⊥
 near_is_clash coords n near sa sb a b marks p q h free =
     let c : ℕ = h.pair.column in
@@ -196,7 +198,7 @@ near_is_clash coords n near sa sb a b marks p q h free =
     pair_of_all (λ x. ¬ (IsInUnion sa sb x.0 × IsInUnion sa sb x.1)) coords n free c (c + d) (omega arith) pair.within (near_clash coords c (c + d) pair.same at.low pair.low)
     (in_union sa sb a b c p q h.pair.here, in_union sa sb a b (c + d) p q h.pair.ahead)
 
-pub two_is_clash : (coords : Coordinates) (n : ℕ) (mask : List ℕ) (sa sb : List Bool) (a b : List ℕ) → AreMarks coords n 7 0 mask → AreWordsOf sa a → AreWordsOf sb b → HasTwo mask a b
+pub two_is_clash : (coords : Coords) (n : ℕ) (mask : List ℕ) (sa sb : List Bool) (a b : List ℕ) → AreMarks coords n 7 0 mask → AreWordsOf sa a → AreWordsOf sb b → HasTwo mask a b
     → IsClashFree (clash_list coords n) sa sb → ⊥
 two_is_clash coords n mask sa sb a b marks p q h free = go (cases_order h.first h.second)
   where
@@ -218,17 +220,17 @@ element_at [] k l = absurd (omega arith)
 element_at (x ∷ xs) zero l = (x, λ d. refl)
 element_at (x ∷ xs) (suc k) l = element_at xs k (omega arith)
 
-pub free_of_clashes : (coords : Coordinates) (n : ℕ) (near : List (Vec ℕ Global)) (mask : List ℕ) (sa sb : List Bool) (a b : List ℕ) → AreMasks coords n near mask → AreWordsOf sa a → AreWordsOf sb b
+pub free_of_clashes : (coords : Coords) (n : ℕ) (near : List (Vec ℕ Global)) (mask : List ℕ) (sa sb : List Bool) (a b : List ℕ) → AreMasks coords n near mask → AreWordsOf sa a → AreWordsOf sb b
     → (HasNear near a b → ⊥) → (HasTwo mask a b → ⊥) → IsClashFree (clash_list coords n) sa sb
 free_of_clashes coords n near mask sa sb a b marks p q no_near no_two =
     all_of_pairs (λ x. ¬ (IsInUnion sa sb x.0 × IsInUnion sa sb x.1)) coords n (λ c e less within clashes both.
     ⊎_elim (octagon c e less within both) (one_tet c e less within both)
     (or_parts_true (is_octagon coords c && is_octagon coords e) (((c / columns_each coords == e / columns_each coords) && is_quad_or_octagon coords c) && is_quad_or_octagon coords e) clashes))
   where
-    place_below : (coords : Coordinates) (c : ℕ) → c % columns_each coords + 0 < columns_each coords
-    place_below standard c = omega arith
-    place_below quads c = omega arith
-    place_below octagons c = omega arith
+    place_below : (coords : Coords) (c : ℕ) → c % columns_each coords + 0 < columns_each coords
+    place_below Standard c = omega arith
+    place_below Quad c = omega arith
+    place_below Octagon c = omega arith
 
     octagon : (c e : ℕ) → c < e → e < columns coords n → IsInUnion sa sb c × IsInUnion sa sb e → (is_octagon coords c && is_octagon coords e) ≡ true → ⊥
     octagon c e less within both h =
@@ -276,14 +278,14 @@ any_default [] k x l e d = absurd (omega arith)
 any_default (y ∷ ys) zero x l e d = e
 any_default (y ∷ ys) (suc k) x l e d = any_default ys k x (omega arith) e d
 
-pub decides_two : (coords : Coordinates) (n : ℕ) (near : List (Vec ℕ Global)) (mask : List ℕ) (sa sb : List Bool) (a b : List ℕ) (r : Bool) → AreMasks coords n near mask → AreWordsOf sa a → AreWordsOf sb b
+pub decides_two : (coords : Coords) (n : ℕ) (near : List (Vec ℕ Global)) (mask : List ℕ) (sa sb : List Bool) (a b : List ℕ) (r : Bool) → AreMasks coords n near mask → AreWordsOf sa a → AreWordsOf sb b
     → (HasNear near a b → ⊥) → (IsTrue r ↔ HasTwo mask a b) → IsTrue (not r) ↔ IsClashFree (clash_list coords n) sa sb
 decides_two coords n near mask sa sb a b r marks p q no_near two = (
   (λ t. free_of_clashes coords n near mask sa sb a b marks p q no_near (λ h. false≢true (sym (ap not (two.1 h)) ∙ t))),
   (λ free. ap not (false_from_ne_true r (λ t. two_is_clash coords n mask sa sb a b marks.octagon_marks p q (two.0 t) free))),
 )
 
-pub decides_near : (coords : Coordinates) (n : ℕ) (near : List (Vec ℕ Global)) (mask : List ℕ) (sa sb : List Bool) (a b : List ℕ) (r : Bool) → AreMasks coords n near mask → AreWordsOf sa a → AreWordsOf sb b
+pub decides_near : (coords : Coords) (n : ℕ) (near : List (Vec ℕ Global)) (mask : List ℕ) (sa sb : List Bool) (a b : List ℕ) (r : Bool) → AreMasks coords n near mask → AreWordsOf sa a → AreWordsOf sb b
     → r ≡ true → (IsTrue r ↔ HasNear near a b) → IsTrue (not r) ↔ IsClashFree (clash_list coords n) sa sb
 decides_near coords n near mask sa sb a b r marks p q is close = (
   (λ t. absurd (false≢true (sym (ap not is) ∙ t))),
@@ -291,7 +293,7 @@ decides_near coords n near mask sa sb a b r marks p q is close = (
 )
 
 -- the listed pairs are of two different columns
-pub are_clashes : (coords : Coordinates) (n : ℕ) → AreClashes (columns coords n) (clash_list coords n)
+pub are_clashes : (coords : Coords) (n : ℕ) → AreClashes (columns coords n) (clash_list coords n)
 are_clashes coords n =
     all_of_pairs (λ pair. (pair.0 < columns coords n) × (pair.1 < columns coords n) × (pair.0 ≢ pair.1)) coords n
     (λ c e less within clashes. let low : c < columns coords n = omega arith in let apart : c ≢ e = λ same. omega arith in (low, within, apart))

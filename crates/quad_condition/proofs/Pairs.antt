@@ -9,7 +9,8 @@ use Rattle.std.proofs.lemmas.List.Folds.{find-append}
 use Rattle.std.proofs.lemmas.List.FromFn.{filter_of_map_range_with_len_more}
 use Rattle.matching_equations.proofs.Ranges.{flat_map-more}
 use Rattle.table_definitions.specs.Lists.{below}
-use Rattle.surface_definitions.specs.Coordinates.{Coordinates, columns, clash_test, clash_list}
+use Rattle.surface_definitions.specs.Coordinates.{columns, clash_test, clash_list}
+use Rattle.surface_definitions.specs.declared.Coords.{Coords}
 use Rattle.surface_definitions.specs.Verdict.{both_nonzero}
 use Rattle.quad_condition.specs.Partners.{is_clash, partners}
 
@@ -17,14 +18,14 @@ abbrev pub Pairs : Type 0
 Pairs = List (ℕ × ℕ)
 
 -- the pairs of a column with the clashing ones between it and another
-abbrev pub partners_before : Coordinates → ℕ → ℕ → Pairs
+abbrev pub partners_before : Coords → ℕ → ℕ → Pairs
 partners_before coords first second = filter (is_clash coords) (map (λ k. (first, k)) (below second))
 
-pub partners_more : (coords : Coordinates) (first second : ℕ) → partners_before coords first (second + 1) ≡ partners_before coords first second ++ cond (is_clash coords (first, second)) ((first, second) ∷ []) []
+pub partners_more : (coords : Coords) (first second : ℕ) → partners_before coords first (second + 1) ≡ partners_before coords first second ++ cond (is_clash coords (first, second)) ((first, second) ∷ []) []
 partners_more coords first second = let e : 0 + second ≡ second = omega arith in filter_of_map_range_with_len_more (is_clash coords) (λ k. (first, k)) 0 second second e
 
 -- columns without a clash add nothing
-quiet : (coords : Coordinates) (first a d : ℕ) → ((k : ℕ) → a ≤ k → k < a + d → is_clash coords (first, k) ≡ false) → partners_before coords first (a + d) ≡ partners_before coords first a
+quiet : (coords : Coords) (first a d : ℕ) → ((k : ℕ) → a ≤ k → k < a + d → is_clash coords (first, k) ≡ false) → partners_before coords first (a + d) ≡ partners_before coords first a
 quiet coords first a zero none = ap (partners_before coords first) (add-zero a)
 quiet coords first a (suc d) none =
     let e : a + suc d ≡ (a + d) + 1 = omega arith in
@@ -33,15 +34,15 @@ quiet coords first a (suc d) none =
     ∙ ap (λ b. partners_before coords first (a + d) ++ cond b ((first, a + d) ∷ []) []) here
     ∙ append-nil (partners_before coords first (a + d)) ∙ quiet coords first a d (λ k low high. none k low (omega arith))
 
-not_before : (coords : Coordinates) (first k : ℕ) → k ≤ first → is_clash coords (first, k) ≡ false
+not_before : (coords : Coords) (first k : ℕ) → k ≤ first → is_clash coords (first, k) ≡ false
 not_before coords first k h = and_left (nat_lt first k) (clash_test coords first k) (le-ltb first k h)
 
-pub partners_start : (coords : Coordinates) (first : ℕ) → partners_before coords first (first + 1) ≡ []
+pub partners_start : (coords : Coords) (first : ℕ) → partners_before coords first (first + 1) ≡ []
 partners_start coords first =
     let e : 0 + (first + 1) ≡ first + 1 = omega arith in
     ap (partners_before coords first) (sym e) ∙ quiet coords first 0 (first + 1) (λ k low high. not_before coords first k (omega arith))
 
-pub partners_whole : (coords : Coordinates) (n first last : ℕ) → last ≤ columns coords n → ((k : ℕ) → last ≤ k → k < columns coords n → clash_test coords first k ≡ false)
+pub partners_whole : (coords : Coords) (n first last : ℕ) → last ≤ columns coords n → ((k : ℕ) → last ≤ k → k < columns coords n → clash_test coords first k ≡ false)
     → partners_before coords first last ≡ partners coords n first
 unfolding partners
 partners_whole coords n first last within none =
@@ -54,7 +55,7 @@ pub record IsPrefix (xs ys : Pairs) : Type 0 where
   pub rest : Pairs
   pub is : ys ≡ xs ++ rest
 
-pub prefix_by : (coords : Coordinates) (first a d : ℕ) → IsPrefix (partners_before coords first a) (partners_before coords first (a + d))
+pub prefix_by : (coords : Coords) (first a d : ℕ) → IsPrefix (partners_before coords first a) (partners_before coords first (a + d))
 prefix_by coords first a zero = record { rest = []; is = ap (partners_before coords first) (add-zero a) ∙ sym (append-nil (partners_before coords first a)) }
 prefix_by coords first a (suc d) =
     let e : a + suc d ≡ (a + d) + 1 = omega arith in
@@ -68,19 +69,19 @@ prefix_by coords first a (suc d) =
 find-prefix : (p : ℕ × ℕ → Bool) (xs ys : Pairs) (v : ℕ × ℕ) → IsPrefix xs ys → find p xs ≡ Some v → find p ys ≡ Some v
 find-prefix p xs ys v h e = ap (find p) h.is ∙ find-append p xs h.rest ∙ ap (λ o. option_or o (find p h.rest)) e
 
-one_more : (p : ℕ × ℕ → Bool) (coords : Coordinates) (first second : ℕ) → find p (partners_before coords first second) ≡ None
+one_more : (p : ℕ × ℕ → Bool) (coords : Coords) (first second : ℕ) → find p (partners_before coords first second) ≡ None
     → find p (partners_before coords first (second + 1)) ≡ find p (cond (is_clash coords (first, second)) ((first, second) ∷ []) [])
 one_more p coords first second none =
     ap (find p) (partners_more coords first second) ∙ find-append p (partners_before coords first second) (cond (is_clash coords (first, second)) ((first, second) ∷ []) [])
     ∙ ap (λ o. option_or o (find p (cond (is_clash coords (first, second)) ((first, second) ∷ []) []))) none
 
-pub found_none : (x : List ℕ) (coords : Coordinates) (first second : ℕ) → find (both_nonzero x) (partners_before coords first second) ≡ None → clash_test coords first second ≡ false
+pub found_none : (x : List ℕ) (coords : Coords) (first second : ℕ) → find (both_nonzero x) (partners_before coords first second) ≡ None → clash_test coords first second ≡ false
     → find (both_nonzero x) (partners_before coords first (second + 1)) ≡ None
 found_none x coords first second none no_clash =
     one_more (both_nonzero x) coords first second none
     ∙ ap (λ b. find (both_nonzero x) (cond b ((first, second) ∷ []) [])) (and_right (nat_lt first second) (clash_test coords first second) no_clash)
 
-pub found_zero : (x : List ℕ) (coords : Coordinates) (first second : ℕ) → find (both_nonzero x) (partners_before coords first second) ≡ None → slice_index x second ≡ 0
+pub found_zero : (x : List ℕ) (coords : Coords) (first second : ℕ) → find (both_nonzero x) (partners_before coords first second) ≡ None → slice_index x second ≡ 0
     → find (both_nonzero x) (partners_before coords first (second + 1)) ≡ None
 found_zero x coords first second none z = one_more (both_nonzero x) coords first second none ∙ go (is_clash coords (first, second))
   where
@@ -91,7 +92,7 @@ found_zero x coords first second none z = one_more (both_nonzero x) coords first
     go true = ap (λ b. cond b (Some (first, second)) None) both
     go false = refl
 
-pub found_one : (x : List ℕ) (coords : Coordinates) (n first second : ℕ) → find (both_nonzero x) (partners_before coords first second) ≡ None → first < second → second < columns coords n
+pub found_one : (x : List ℕ) (coords : Coords) (n first second : ℕ) → find (both_nonzero x) (partners_before coords first second) ≡ None → first < second → second < columns coords n
     → slice_index x first ≢ 0 → slice_index x second ≢ 0 → clash_test coords first second ≡ true → find (both_nonzero x) (partners coords n first) ≡ Some (first, second)
 unfolding partners
 found_one x coords n first second none less within some_first some_second clashes =
@@ -119,7 +120,7 @@ zero_first : (x : List ℕ) (first : ℕ) (p : ℕ × ℕ → Bool) (ks : List �
 zero_first x first p [] z = refl
 zero_first x first p (k ∷ ks) z = zero_step x first k (filter p (map (λ m. (first, m)) ks)) (p (first, k)) z (zero_first x first p ks z)
 
-pub found_no_first : (x : List ℕ) (coords : Coordinates) (n first : ℕ) → slice_index x first ≡ 0 → find (both_nonzero x) (partners coords n first) ≡ None
+pub found_no_first : (x : List ℕ) (coords : Coords) (n first : ℕ) → slice_index x first ≡ 0 → find (both_nonzero x) (partners coords n first) ≡ None
 unfolding partners
 found_no_first x coords n first z = zero_first x first (is_clash coords) (below (columns coords n)) z
 
@@ -128,25 +129,25 @@ filter-flat_map : (p : ℕ × ℕ → Bool) (h : ℕ → Pairs) (ks : List ℕ) 
 filter-flat_map p h [] = refl
 filter-flat_map p h (k ∷ ks) = filter-append p (h k) (flat_map h ks) ∙ ap (λ xs. filter p (h k) ++ xs) (filter-flat_map p h ks)
 
-pub all_pairs : (coords : Coordinates) (n : ℕ) → flat_map (partners coords n) (below (columns coords n)) ≡ clash_list coords n
+pub all_pairs : (coords : Coords) (n : ℕ) → flat_map (partners coords n) (below (columns coords n)) ≡ clash_list coords n
 unfolding partners clash_list
 all_pairs coords n = sym (filter-flat_map (is_clash coords) (λ first. map (λ second. (first, second)) (below (columns coords n))) (below (columns coords n)))
 
-abbrev pub pairs_before : Coordinates → ℕ → ℕ → Pairs
+abbrev pub pairs_before : Coords → ℕ → ℕ → Pairs
 pairs_before coords n first = flat_map (partners coords n) (below first)
 
-pub pairs_more : (coords : Coordinates) (n first : ℕ) (old new : Pairs) → old ≡ pairs_before coords n first → new ≡ old ++ partners coords n first → new ≡ pairs_before coords n (first + 1)
+pub pairs_more : (coords : Coords) (n first : ℕ) (old new : Pairs) → old ≡ pairs_before coords n first → new ≡ old ++ partners coords n first → new ≡ pairs_before coords n (first + 1)
 pairs_more coords n first old new e f = f ∙ ap (λ r. r ++ partners coords n first) e ∙ sym (flat_map-more (partners coords n) first)
 
-find_more : (p : ℕ × ℕ → Bool) (coords : Coordinates) (n first : ℕ) → find p (pairs_before coords n first) ≡ None → find p (pairs_before coords n (first + 1)) ≡ find p (partners coords n first)
+find_more : (p : ℕ × ℕ → Bool) (coords : Coords) (n first : ℕ) → find p (pairs_before coords n first) ≡ None → find p (pairs_before coords n (first + 1)) ≡ find p (partners coords n first)
 find_more p coords n first none =
     ap (find p) (flat_map-more (partners coords n) first) ∙ find-append p (pairs_before coords n first) (partners coords n first) ∙ ap (λ o. option_or o (find p (partners coords n first))) none
 
-pub passed_column : (x : List ℕ) (coords : Coordinates) (n first : ℕ) → find (both_nonzero x) (pairs_before coords n first) ≡ None → None ≡ find (both_nonzero x) (partners coords n first)
+pub passed_column : (x : List ℕ) (coords : Coords) (n first : ℕ) → find (both_nonzero x) (pairs_before coords n first) ≡ None → None ≡ find (both_nonzero x) (partners coords n first)
     → find (both_nonzero x) (pairs_before coords n (first + 1)) ≡ None
 passed_column x coords n first none here = find_more (both_nonzero x) coords n first none ∙ sym here
 
-pub pairs_prefix : (coords : Coordinates) (n a d : ℕ) → IsPrefix (pairs_before coords n a) (pairs_before coords n (a + d))
+pub pairs_prefix : (coords : Coords) (n a d : ℕ) → IsPrefix (pairs_before coords n a) (pairs_before coords n (a + d))
 pairs_prefix coords n a zero = record { rest = []; is = ap (pairs_before coords n) (add-zero a) ∙ sym (append-nil (pairs_before coords n a)) }
 pairs_prefix coords n a (suc d) =
     let e : a + suc d ≡ (a + d) + 1 = omega arith in
@@ -157,7 +158,7 @@ pairs_prefix coords n a (suc d) =
           ∙ append_assoc (pairs_before coords n a) before.rest (partners coords n (a + d));
     }
 
-pub found_pair : (x : List ℕ) (coords : Coordinates) (n first second : ℕ) → find (both_nonzero x) (pairs_before coords n first) ≡ None → Some (first, second) ≡ find (both_nonzero x) (partners coords n first)
+pub found_pair : (x : List ℕ) (coords : Coords) (n first second : ℕ) → find (both_nonzero x) (pairs_before coords n first) ≡ None → Some (first, second) ≡ find (both_nonzero x) (partners coords n first)
     → first < columns coords n → Some (first, second) ≡ find (both_nonzero x) (clash_list coords n)
 found_pair x coords n first second none here within =
     let e : (first + 1) + (columns coords n - (first + 1)) ≡ columns coords n = omega arith in
@@ -165,11 +166,11 @@ found_pair x coords n first second none here within =
     let one : find (both_nonzero x) (pairs_before coords n (first + 1)) ≡ Some (first, second) = find_more (both_nonzero x) coords n first none ∙ sym here in
     sym (ap (find (both_nonzero x)) (sym (all_pairs coords n) ∙ ap (pairs_before coords n) (sym e)) ∙ find-prefix (both_nonzero x) _ _ (first, second) p one)
 
-pub found_no_pair : (x : List ℕ) (coords : Coordinates) (n last : ℕ) → find (both_nonzero x) (pairs_before coords n last) ≡ None → last ≡ columns coords n → None ≡ find (both_nonzero x) (clash_list coords n)
+pub found_no_pair : (x : List ℕ) (coords : Coords) (n last : ℕ) → find (both_nonzero x) (pairs_before coords n last) ≡ None → last ≡ columns coords n → None ≡ find (both_nonzero x) (clash_list coords n)
 found_no_pair x coords n last none e = sym (ap (find (both_nonzero x)) (sym (all_pairs coords n) ∙ ap (pairs_before coords n) (sym e)) ∙ none)
 
 -- a column more of a list of pairs
-pub pushed : (coords : Coordinates) (first second : ℕ) (old now new : Pairs) → first < second → clash_test coords first second ≡ true → now ≡ old ++ partners_before coords first second
+pub pushed : (coords : Coords) (first second : ℕ) (old now new : Pairs) → first < second → clash_test coords first second ≡ true → now ≡ old ++ partners_before coords first second
     → new ≡ now ++ (first, second) ∷ [] → new ≡ old ++ partners_before coords first (second + 1)
 pushed coords first second old now new less clashes e f =
     let is : is_clash coords (first, second) ≡ true = ap (λ b. b && clash_test coords first second) (lt-ltb first second less) ∙ clashes in
@@ -177,7 +178,7 @@ pushed coords first second old now new less clashes e f =
     f ∙ ap (λ r. r ++ one) e ∙ append_assoc old (partners_before coords first second) one
     ∙ ap (λ r. old ++ r) (sym (partners_more coords first second ∙ ap (λ b. partners_before coords first second ++ cond b one []) is))
 
-pub skipped : (coords : Coordinates) (first second : ℕ) (old now : Pairs) → clash_test coords first second ≡ false → now ≡ old ++ partners_before coords first second
+pub skipped : (coords : Coords) (first second : ℕ) (old now : Pairs) → clash_test coords first second ≡ false → now ≡ old ++ partners_before coords first second
     → now ≡ old ++ partners_before coords first (second + 1)
 skipped coords first second old now no_clash e =
     let is : is_clash coords (first, second) ≡ false = and_right (nat_lt first second) (clash_test coords first second) no_clash in

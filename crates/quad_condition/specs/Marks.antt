@@ -1,8 +1,8 @@
 -- Masks of columns.
 use Rattle.std.specs.Prelude.{◌≡◌, ℕ, ◌+◌, ◌-◌, ◌/◌, ◌%◌, ◌<◌, List, Bool, ◌&&◌, Vec, length, nat_lt, nat_le, slice_index_or}
 use Rattle.std.specs.declared.alloc.Global.{Global}
-use Rattle.surface_definitions.specs.Coordinates.{Coordinates, columns, columns_each, triangles_each}
-use Rattle.matching_equations.specs.declared.coords.Coords.{Coords}
+use Rattle.surface_definitions.specs.Coordinates.{columns, columns_each, triangles_each}
+use Rattle.surface_definitions.specs.declared.Coords.{Coords}
 use Rattle.support_bits.specs.Words.{bit_of}
 use Rattle.quad_condition.specs.Bits.{HasPairAhead}
 
@@ -12,21 +12,21 @@ pub record Masked : Type 0 where
   pub tets : ℕ
 
 -- whether the place of a column in its tetrahedron is `least` or later and has so many places behind it
-abbrev pub is_marked : Coordinates → ℕ → ℕ → ℕ → Bool
+abbrev pub is_marked : Coords → ℕ → ℕ → ℕ → Bool
 is_marked coords least distance column =
     nat_le least (column % columns_each coords) && nat_lt (column % columns_each coords + distance) (columns_each coords)
 
 -- the words of the marked columns of n tetrahedra
-pub record AreMarks (coords : Coordinates) (n least distance : ℕ) (words : List ℕ) : Type 0 where
+pub record AreMarks (coords : Coords) (n least distance : ℕ) (words : List ℕ) : Type 0 where
   pub count : length words ≡ (columns coords n + 63) / 64
   pub bits : (column : ℕ) → bit_of words column ≡ (nat_lt column (columns coords n) && is_marked coords least distance column)
 
 -- a mask of quads and octagons for each distance within a tetrahedron, from 1 on
-pub record AreNear (coords : Coordinates) (n : ℕ) (near : List (Vec ℕ Global)) : Type 0 where
+pub record AreNear (coords : Coords) (n : ℕ) (near : List (Vec ℕ Global)) : Type 0 where
   pub reach : length near + 1 ≡ columns_each coords - triangles_each coords
   pub each : (k : ℕ) (d : Vec ℕ Global) → k < length near → AreMarks coords n (triangles_each coords) (k + 1) (slice_index_or near k d).items
 
-pub record AreMasks (coords : Coordinates) (n : ℕ) (near : List (Vec ℕ Global)) (octagons : List ℕ) : Type 0 where
+pub record AreMasks (coords : Coords) (n : ℕ) (near : List (Vec ℕ Global)) (octagons : List ℕ) : Type 0 where
   pub near_marks : AreNear coords n near
   pub octagon_marks : AreMarks coords n 7 0 octagons
 

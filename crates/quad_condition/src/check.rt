@@ -4,7 +4,6 @@ ghost use Rattle.std.specs.Prelude.{◌≡◌, ◌↔◌, ◌≤◌, length, IsO
 ghost use Rattle.surface_definitions.specs.Coordinates as coordinates;
 ghost use Rattle.surface_definitions.specs.Verdict.{verdict};
 ghost use Rattle.surface_definitions.specs.Laws.{IsAccepted};
-ghost use Rattle.matching_equations.specs.Columns.{coordinates_of};
 ghost use Rattle.quad_condition.specs.Faults.{answer_of};
 
 use crate::clashes::first_clash;
@@ -46,9 +45,9 @@ pub fn check_vector(
     x: &[u128],
 ) -> Result<(), VectorFault>
     requires tets { tets ≤ 1000 }
-    requires columns { system.now.columns ≡ coordinates.columns (coordinates_of coords) tets }
-    ensures verdict { result ≡ answer_of (verdict MAX_ENTRY system.now.columns system.now.rows (coordinates.clash_list (coordinates_of coords) tets) x.now) }
-    ensures accepts { IsOk result ↔ IsAccepted MAX_ENTRY system.now.columns system.now.rows (coordinates.clash_list (coordinates_of coords) tets) x.now }
+    requires columns { system.now.columns ≡ coordinates.columns coords tets }
+    ensures verdict { result ≡ answer_of (verdict MAX_ENTRY system.now.columns system.now.rows (coordinates.clash_list coords tets) x.now) }
+    ensures accepts { IsOk result ↔ IsAccepted MAX_ENTRY system.now.columns system.now.rows (coordinates.clash_list coords tets) x.now }
 {
     if x.len() != system.columns() as usize {
         return Err(VectorFault::Length { got: x.len() });

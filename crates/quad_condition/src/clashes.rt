@@ -3,7 +3,6 @@
 ghost use Rattle.std.specs.Prelude.{◌≡◌, ℕ, ◌+◌, ◌<◌, ◌≤◌, ◌++◌, false, find, length, OnOk, IfOk, option_map};
 ghost use Rattle.surface_definitions.specs.Coordinates as coordinates;
 ghost use Rattle.surface_definitions.specs.Verdict.{both_nonzero};
-ghost use Rattle.matching_equations.specs.Columns.{coordinates_of};
 ghost use Rattle.double_description.specs.Clashes.{AreClashes};
 ghost use Rattle.quad_condition.specs.Partners.{partners};
 
@@ -13,21 +12,21 @@ use std::alloc::Global;
 
 /// Whether a column counts a quad or an octagon.
 fn is_quad_or_octagon(coords: Coords, column: u32) -> bool
-    ensures { result ≡ coordinates.is_quad_or_octagon (coordinates_of coords) column }
+    ensures { result ≡ coordinates.is_quad_or_octagon coords column }
 {
     column % columns_each(coords) >= triangles_each(coords)
 }
 
 /// Whether a column counts an octagon.
 fn is_octagon(coords: Coords, column: u32) -> bool
-    ensures { result ≡ coordinates.is_octagon (coordinates_of coords) column }
+    ensures { result ≡ coordinates.is_octagon coords column }
 {
     column % columns_each(coords) >= 7
 }
 
 /// Whether two columns clash.
 fn do_clash(coords: Coords, first: u32, second: u32) -> bool
-    ensures { result ≡ coordinates.clash_test (coordinates_of coords) first second }
+    ensures { result ≡ coordinates.clash_test coords first second }
 {
     if is_octagon(coords, first) && is_octagon(coords, second) {
         return true;
@@ -42,10 +41,10 @@ fn do_clash(coords: Coords, first: u32, second: u32) -> bool
 /// an octagon.
 fn partners_end(coords: Coords, tets: u32, first: u32) -> u32
     requires tets { tets ≤ 1000 }
-    requires in_range { first < coordinates.columns (coordinates_of coords) tets }
+    requires in_range { first < coordinates.columns coords tets }
     ensures above { first + 1 ≤ result }
-    ensures within { result ≤ coordinates.columns (coordinates_of coords) tets }
-    ensures beyond { (k : ℕ) → result ≤ k → k < coordinates.columns (coordinates_of coords) tets → coordinates.clash_test (coordinates_of coords) first k ≡ false }
+    ensures within { result ≤ coordinates.columns coords tets }
+    ensures beyond { (k : ℕ) → result ≤ k → k < coordinates.columns coords tets → coordinates.clash_test coords first k ≡ false }
 {
     if is_octagon(coords, first) {
         columns(coords, tets)
@@ -63,8 +62,8 @@ fn push_partners(
     clashes: &mut Vec<(u32, u32)>,
 ) -> Result<(), NoMemory>
     requires tets { tets ≤ 1000 }
-    requires in_range { first < coordinates.columns (coordinates_of coords) tets }
-    ensures { OnOk result (clashes.new.items ≡ clashes.old.items ++ partners (coordinates_of coords) tets first) }
+    requires in_range { first < coordinates.columns coords tets }
+    ensures { OnOk result (clashes.new.items ≡ clashes.old.items ++ partners coords tets first) }
 {
     for second in first + 1..partners_end(coords, tets, first) {
         if do_clash(coords, first, second) {
@@ -77,8 +76,8 @@ fn push_partners(
 /// All clashing pairs of columns, the lesser column first, ascending.
 pub fn clash_list(alloc: Global, coords: Coords, tets: u32) -> Result<Vec<(u32, u32)>, NoMemory>
     requires { tets ≤ 1000 }
-    ensures pairs { IfOk result (λ clashes. clashes.items ≡ coordinates.clash_list (coordinates_of coords) tets) }
-    ensures apart { IfOk result (λ clashes. AreClashes (coordinates.columns (coordinates_of coords) tets) clashes.items) }
+    ensures pairs { IfOk result (λ clashes. clashes.items ≡ coordinates.clash_list coords tets) }
+    ensures apart { IfOk result (λ clashes. AreClashes (coordinates.columns coords tets) clashes.items) }
 {
     let mut clashes = Vec::new(alloc);
     for first in 0..columns(coords, tets) {
@@ -90,9 +89,9 @@ pub fn clash_list(alloc: Global, coords: Coords, tets: u32) -> Result<Vec<(u32, 
 /// The least later column that isn't 0 and clashes with a column that isn't 0.
 fn first_partner(coords: Coords, tets: u32, x: &[u128], first: u32) -> Option<u32>
     requires tets { tets ≤ 1000 }
-    requires width { length x.now ≡ coordinates.columns (coordinates_of coords) tets }
+    requires width { length x.now ≡ coordinates.columns coords tets }
     requires in_range { first < length x.now }
-    ensures { option_map (λ second. (first, second)) result ≡ find (both_nonzero x.now) (partners (coordinates_of coords) tets first) }
+    ensures { option_map (λ second. (first, second)) result ≡ find (both_nonzero x.now) (partners coords tets first) }
 {
     if x[first as usize] == 0 {
         return None;
@@ -109,8 +108,8 @@ fn first_partner(coords: Coords, tets: u32, x: &[u128], first: u32) -> Option<u3
 /// octagons of other tetrahedra: where it has no partner, there is no later octagon.
 pub fn first_clash(coords: Coords, tets: u32, x: &[u128]) -> Option<(u32, u32)>
     requires tets { tets ≤ 1000 }
-    requires width { length x.now ≡ coordinates.columns (coordinates_of coords) tets }
-    ensures { result ≡ find (both_nonzero x.now) (coordinates.clash_list (coordinates_of coords) tets) }
+    requires width { length x.now ≡ coordinates.columns coords tets }
+    ensures { result ≡ find (both_nonzero x.now) (coordinates.clash_list coords tets) }
 {
     for first in 0..columns(coords, tets) {
         if let Some(second) = first_partner(coords, tets, x, first) {

@@ -4,7 +4,6 @@ ghost use Rattle.std.specs.Prelude.{◌≡◌, ℕ, ◌+◌, ◌<◌, ◌≤◌,
 ghost use Rattle.std.specs.declared.alloc.Global.{Global};
 ghost use Rattle.surface_definitions.specs.Coordinates as coordinates;
 ghost use Rattle.double_description.specs.Clashes.{IsClashFree};
-ghost use Rattle.matching_equations.specs.Columns.{coordinates_of};
 ghost use Rattle.quad_condition.specs.Marks as marks;
 ghost use Rattle.quad_condition.specs.Marks.{AreMarks, AreNear, HasNear};
 
@@ -30,18 +29,17 @@ impl Model for Masks {
 
     ghost Value = { Masked };
 
-    ghost use Rattle.matching_equations.specs.Columns.{coordinates_of};
     ghost use Rattle.quad_condition.specs.Marks.{AreMasks};
 
     ghost view = { λ m. record { coords = m.coords; tets = m.tets } };
 
-    ghost invariant = { λ m. AreMasks (coordinates_of m.coords) m.tets m.near.items m.octagons.items };
+    ghost invariant = { λ m. AreMasks m.coords m.tets m.near.items m.octagons.items };
 }
 
 /// Whether the place of a column in its tetrahedron is `least` or later and has so many places behind it.
 fn is_marked(coords: Coords, least: u32, distance: u32, column: u32) -> bool
     requires { distance ≤ 10 }
-    ensures { result ≡ marks.is_marked (coordinates_of coords) least distance column }
+    ensures { result ≡ marks.is_marked coords least distance column }
 {
     let each = columns_each(coords);
     let place = column % each;
@@ -58,7 +56,7 @@ fn mask(
 ) -> Result<Vec<u64>, NoMemory>
     requires tets { tets ≤ 1000 }
     requires distance { distance ≤ 10 }
-    ensures { IfOk result (λ words. AreMarks (coordinates_of coords) tets least distance words.items) }
+    ensures { IfOk result (λ words. AreMarks coords tets least distance words.items) }
 {
     let count = columns(coords, tets);
     let mut words = vec![in alloc; 0u64; (count as usize).div_ceil(64)]?;
@@ -73,7 +71,7 @@ fn mask(
 /// The masks of the distances within a tetrahedron, from 1 on.
 fn near_masks(alloc: Global, coords: Coords, tets: u32) -> Result<Vec<Vec<u64>>, NoMemory>
     requires { tets ≤ 1000 }
-    ensures { IfOk result (λ near. AreNear (coordinates_of coords) tets near.items) }
+    ensures { IfOk result (λ near. AreNear coords tets near.items) }
 {
     let least = triangles_each(coords);
     let mut near = Vec::new(alloc);
@@ -116,9 +114,9 @@ impl Masks {
 
     /// Whether no clashing pair has both columns in the union of two supports.
     pub fn allows(&self, a: &Support, b: &Support) -> bool
-        requires first { length a.now ≡ coordinates.columns (coordinates_of self.now.coords) self.now.tets }
-        requires second { length b.now ≡ coordinates.columns (coordinates_of self.now.coords) self.now.tets }
-        ensures { IsTrue result ↔ IsClashFree (coordinates.clash_list (coordinates_of self.now.coords) self.now.tets) a.now b.now }
+        requires first { length a.now ≡ coordinates.columns self.now.coords self.now.tets }
+        requires second { length b.now ≡ coordinates.columns self.now.coords self.now.tets }
+        ensures { IsTrue result ↔ IsClashFree (coordinates.clash_list self.now.coords self.now.tets) a.now b.now }
     {
         let first = a.words();
         let second = b.words();

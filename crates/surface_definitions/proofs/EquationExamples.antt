@@ -2,14 +2,15 @@
 use Rattle.surface_definitions.proofs.Computed.{computed}
 use Rattle.std.proofs.Common.{◌≡◌, ℕ, pos, negsuc, List, [], ◌∷◌, ◌++◌, refl}
 use Rattle.std.specs.Prelude.{codes}
-use Rattle.surface_definitions.specs.Coordinates.{standard, quads, octagons, columns, clash_list}
+use Rattle.surface_definitions.specs.Coordinates.{columns, clash_list}
+use Rattle.surface_definitions.specs.declared.Coords.TheVariants.{Standard, Quad, Octagon}
 use Rattle.surface_definitions.specs.Equations.{matching_rows}
 use Rattle.surface_definitions.specs.Verdict.{Verdict, verdict, verdict_text, solution, wrong_length, large, fails, clash}
 use Rattle.text_definitions.specs.Written.{limit}
 use Rattle.table_definitions.proofs.Tables.{sphere}
 
 -- the columns are t0 t1 t2 t3 q0 q1 q2
-sphere_rows : matching_rows standard sphere ≡
+sphere_rows : matching_rows Standard sphere ≡
     ((0, negsuc 0) ∷ (1, pos 1) ∷ [])
     ∷ ((5, pos 1) ∷ (6, negsuc 0) ∷ [])
     ∷ ((5, negsuc 0) ∷ (6, pos 1) ∷ [])
@@ -20,7 +21,7 @@ unfolding computed
 sphere_rows = refl
 
 sphere_verdict : List ℕ → Verdict
-sphere_verdict xs = verdict limit 7 (matching_rows standard sphere) (clash_list standard 1) xs
+sphere_verdict xs = verdict limit 7 (matching_rows Standard sphere) (clash_list Standard 1) xs
 
 verdicts : (sphere_verdict (1 ∷ 1 ∷ 0 ∷ 0 ∷ 1 ∷ 0 ∷ 0 ∷ []) ≡ solution)
     × (sphere_verdict (1 ∷ 0 ∷ 0 ∷ 0 ∷ 0 ∷ 0 ∷ 0 ∷ []) ≡ fails 0)
@@ -28,7 +29,7 @@ verdicts : (sphere_verdict (1 ∷ 1 ∷ 0 ∷ 0 ∷ 1 ∷ 0 ∷ 0 ∷ []) ≡ so
     × (sphere_verdict (1 ∷ 1 ∷ 0 ∷ 0 ∷ 1 ∷ 0 ∷ []) ≡ wrong_length 6)
     × (sphere_verdict (0 ∷ 0 ∷ 0 ∷ 0 ∷ 0 ∷ 0 ∷ 0 ∷ []) ≡ solution)
     × (sphere_verdict (limit ∷ limit ∷ 0 ∷ 0 ∷ 0 ∷ limit ∷ limit ∷ []) ≡ large 4)
-    × (verdict limit (columns standard 0) (matching_rows standard []) (clash_list standard 0) [] ≡ solution)
+    × (verdict limit (columns Standard 0) (matching_rows Standard []) (clash_list Standard 0) [] ≡ solution)
 unfolding computed sphere_verdict
 verdicts = (refl, refl, refl, refl, refl, refl, refl)
 
@@ -37,17 +38,17 @@ unfolding computed
 lines = (refl, refl)
 
 -- octagons of two tetrahedra clash
-octagon_clash : verdict limit (columns octagons 2) [] (clash_list octagons 2)
+octagon_clash : verdict limit (columns Octagon 2) [] (clash_list Octagon 2)
     (0 ∷ 0 ∷ 0 ∷ 0 ∷ 0 ∷ 0 ∷ 0 ∷ 1 ∷ 0 ∷ 0 ∷ 0 ∷ 0 ∷ 0 ∷ 0 ∷ 0 ∷ 0 ∷ 0 ∷ 1 ∷ 0 ∷ 0 ∷ []) ≡ clash 7 17
 unfolding computed
 octagon_clash = refl
 
 -- an octagon with two triangles solves the octagon equations of the standard sphere
-octagon_solution : verdict limit 10 (matching_rows octagons sphere) (clash_list octagons 1)
+octagon_solution : verdict limit 10 (matching_rows Octagon sphere) (clash_list Octagon 1)
     (0 ∷ 0 ∷ 1 ∷ 1 ∷ 0 ∷ 0 ∷ 0 ∷ 1 ∷ 0 ∷ 0 ∷ []) ≡ solution
 unfolding computed
 octagon_solution = refl
 
-pairs_of_one : (clash_list standard 1 ≡ (4, 5) ∷ (4, 6) ∷ (5, 6) ∷ []) × (clash_list quads 1 ≡ (0, 1) ∷ (0, 2) ∷ (1, 2) ∷ [])
+pairs_of_one : (clash_list Standard 1 ≡ (4, 5) ∷ (4, 6) ∷ (5, 6) ∷ []) × (clash_list Quad 1 ≡ (0, 1) ∷ (0, 2) ∷ (1, 2) ∷ [])
 unfolding computed
 pairs_of_one = (refl, refl)

@@ -5,29 +5,29 @@ use Rattle.std.specs.List.{flat_map, list_all}
 use Rattle.table_definitions.specs.Lists.{below}
 use Rattle.table_definitions.specs.Permutation.{four, is_odd, others}
 use Rattle.table_definitions.specs.Table.{Gluing, Row, Face, glue, faces}
-use Rattle.surface_definitions.specs.Coordinates.{Coordinates}
+use Rattle.surface_definitions.specs.declared.Coords.{Coords}
 use Rattle.surface_definitions.specs.Pieces.{Arc, arcs_round, pieces_of, piece_of, arc_across, piece_number, keeps_sides}
 use Rattle.surface_definitions.specs.Crushing.{is_removed, passed, number_kept}
 use Rattle.skeleton_definitions.proofs.Evaluators.{classes_of}
 
 -- all arcs in glued faces, each with the gluing
-abbrev pub arcs_at : Coordinates → List ℕ → Face → Option Gluing → List (Arc × Gluing)
+abbrev pub arcs_at : Coords → List ℕ → Face → Option Gluing → List (Arc × Gluing)
 arcs_at coords xs x None = []
 arcs_at coords xs x (Some g) =
     flat_map (λ v. map (λ k. (record { tet = x.tet; face = x.face; vertex = v; place = k }, g)) (below (arcs_round coords xs x.tet x.face v))) (others x.face)
 
-abbrev pub meeting_arcs : List Row → Coordinates → List ℕ → List (Arc × Gluing)
+abbrev pub meeting_arcs : List Row → Coords → List ℕ → List (Arc × Gluing)
 meeting_arcs rows coords xs = flat_map (λ x. arcs_at coords xs x (glue rows x)) (faces (length rows))
 
 -- a meeting as the numbers of the two pieces and a test of the arc
-abbrev pub meetings : List Row → Coordinates → List ℕ → (Arc → Gluing → Bool) → List (ℕ × ℕ × Bool)
+abbrev pub meetings : List Row → Coords → List ℕ → (Arc → Gluing → Bool) → List (ℕ × ℕ × Bool)
 meetings rows coords xs stays =
     map (λ (m : Arc × Gluing). (piece_number xs (piece_of coords xs m.0), piece_number xs (piece_of coords xs (arc_across m.1 m.0)), stays m.0 m.1)) (meeting_arcs rows coords xs)
 
 abbrev pub neighbours_in : List (ℕ × ℕ × Bool) → ℕ → List ℕ
 neighbours_in ms i = filter_map (λ (m : ℕ × ℕ × Bool). if m.0 == i then Some m.1 else None) ms
 
-abbrev pub component_classes : List Row → Coordinates → List ℕ → List ℕ
+abbrev pub component_classes : List Row → Coords → List ℕ → List ℕ
 component_classes rows coords xs = classes_of (neighbours_in ms) (length (pieces_of xs))
   where
     ms : List (ℕ × ℕ × Bool)
@@ -37,17 +37,17 @@ abbrev pub signed_neighbours : List (ℕ × ℕ × Bool) → ℕ → List ℕ
 signed_neighbours ms i = filter_map (λ (m : ℕ × ℕ × Bool). if m.0 == i / 2 then Some (2 * m.1 + (if m.2 then i % 2 else 1 - i % 2)) else None) ms
 
 -- no chain of meeting arcs joins a piece of the component with the one sign to itself with the other
-abbrev pub has_signs : List Row → Coordinates → List ℕ → List ℕ → ℕ → (Arc → Gluing → Bool) → Bool
+abbrev pub has_signs : List Row → Coords → List ℕ → List ℕ → ℕ → (Arc → Gluing → Bool) → Bool
 has_signs rows coords xs components component stays =
     list_all (λ i. not (slice_index components i == component) || not (slice_index doubled (2 * i) == slice_index doubled (2 * i + 1))) (below (length components))
   where
     doubled : List ℕ
     doubled = classes_of (signed_neighbours (meetings rows coords xs stays)) (2 * length components)
 
-abbrev pub is_two_sided : List Row → Coordinates → List ℕ → List ℕ → ℕ → Bool
+abbrev pub is_two_sided : List Row → Coords → List ℕ → List ℕ → ℕ → Bool
 is_two_sided rows coords xs components component = has_signs rows coords xs components component (keeps_sides coords xs)
 
-abbrev pub is_orientable_component : List Row → Coordinates → List ℕ → List ℕ → ℕ → Bool
+abbrev pub is_orientable_component : List Row → Coords → List ℕ → List ℕ → ℕ → Bool
 is_orientable_component rows coords xs components component =
     has_signs rows coords xs components component (λ a g. if is_odd g.perm then keeps_sides coords xs a g else not (keeps_sides coords xs a g))
 

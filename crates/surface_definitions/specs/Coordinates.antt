@@ -1,57 +1,53 @@
 -- The columns of a vector: triangles, quads and octagons of each tetrahedron.
-use Rattle.std.specs.Prelude.{ℕ, ◌+◌, ◌*◌, ◌/◌, ◌%◌, Bool, ◌&&◌, ◌||◌, not, List, [], ◌∷◌, map, filter, ◌==◌, nat_lt, nat_le, Option, Some, None, if◌then◌else◌}
+use Rattle.std.specs.Prelude.{ℕ, ◌+◌, ◌*◌, ◌/◌, ◌%◌, Bool, ◌&&◌, ◌||◌, not, List, [], ◌∷◌, map, filter, ◌==◌, nat_lt, nat_le, Option, Some, None, option_map, if◌then◌else◌}
 use Rattle.std.specs.List.{position_or_len, slice_index_or}
 use Rattle.table_definitions.specs.Lists.{below, pairs_of}
 use Rattle.table_definitions.specs.Permutation.{image}
-
--- which pieces have columns
-pub data Coordinates : Type 0 where
-  standard : Coordinates
-  quads : Coordinates
-  octagons : Coordinates
-
--- a triangle round a vertex, or a quad or an octagon of type 0, 1 or 2
-pub data Piece : Type 0 where
-  tri : ℕ → Piece
-  quad : ℕ → Piece
-  oct : ℕ → Piece
+use Rattle.surface_definitions.specs.declared.Coords.{Coords}
+use Rattle.surface_definitions.specs.declared.Coords.TheVariants.{Standard, Quad, Octagon}
+use Rattle.surface_definitions.specs.declared.Piece.{Piece}
+use Rattle.surface_definitions.specs.declared.Piece.TheVariants as pieces
 
 -- the columns of one tetrahedron
-abbrev pub columns_each : Coordinates → ℕ
-columns_each standard = 7
-columns_each quads = 3
-columns_each octagons = 10
+abbrev pub columns_each : Coords → ℕ
+columns_each Standard = 7
+columns_each Quad = 3
+columns_each Octagon = 10
 
 -- the columns of n tetrahedra
-abbrev pub columns : Coordinates → ℕ → ℕ
+abbrev pub columns : Coords → ℕ → ℕ
 columns coords n = columns_each coords * n
 
 -- how many columns of a tetrahedron stand before its quads
-abbrev pub triangles_each : Coordinates → ℕ
-triangles_each standard = 4
-triangles_each quads = 0
-triangles_each octagons = 4
+abbrev pub triangles_each : Coords → ℕ
+triangles_each Standard = 4
+triangles_each Quad = 0
+triangles_each Octagon = 4
 
 -- the place of a piece among the columns of its tetrahedron, where it has one
-abbrev pub local_column : Coordinates → Piece → Option ℕ
-local_column standard (tri v) = if nat_lt v 4 then Some v else None
-local_column standard (quad k) = if nat_lt k 3 then Some (4 + k) else None
-local_column standard (oct k) = None
-local_column quads (tri v) = None
-local_column quads (quad k) = if nat_lt k 3 then Some k else None
-local_column quads (oct k) = None
-local_column octagons (tri v) = if nat_lt v 4 then Some v else None
-local_column octagons (quad k) = if nat_lt k 3 then Some (4 + k) else None
-local_column octagons (oct k) = if nat_lt k 3 then Some (7 + k) else None
+abbrev pub local_column : Coords → Piece → Option ℕ
+local_column Standard (pieces.Tri v) = if nat_lt v 4 then Some v else None
+local_column Standard (pieces.Quad k) = if nat_lt k 3 then Some (4 + k) else None
+local_column Standard (pieces.Oct k) = None
+local_column Quad (pieces.Tri v) = None
+local_column Quad (pieces.Quad k) = if nat_lt k 3 then Some k else None
+local_column Quad (pieces.Oct k) = None
+local_column Octagon (pieces.Tri v) = if nat_lt v 4 then Some v else None
+local_column Octagon (pieces.Quad k) = if nat_lt k 3 then Some (4 + k) else None
+local_column Octagon (pieces.Oct k) = if nat_lt k 3 then Some (7 + k) else None
 
--- the column of a piece of tetrahedron t
-abbrev pub tri_column : Coordinates → ℕ → ℕ → ℕ
+-- the column of a piece of tetrahedron t, where the coordinates have such a piece
+abbrev pub column_of : Coords → ℕ → Piece → Option ℕ
+column_of coords t piece = option_map (λ place. columns_each coords * t + place) (local_column coords piece)
+
+-- the columns of the pieces by name
+abbrev pub tri_column : Coords → ℕ → ℕ → ℕ
 tri_column coords t v = columns_each coords * t + v
 
-abbrev pub quad_column : Coordinates → ℕ → ℕ → ℕ
+abbrev pub quad_column : Coords → ℕ → ℕ → ℕ
 quad_column coords t k = columns_each coords * t + triangles_each coords + k
 
-abbrev pub oct_column : Coordinates → ℕ → ℕ → ℕ
+abbrev pub oct_column : Coords → ℕ → ℕ → ℕ
 oct_column coords t k = columns_each coords * t + 7 + k
 
 -- which vertices the types 01/23, 02/13 and 03/12 keep on one side
@@ -70,29 +66,29 @@ abbrev pub three : List ℕ
 three = 0 ∷ 1 ∷ 2 ∷ []
 
 -- the columns of the octagons with an arc round v in face f
-abbrev pub octagon_arcs : Coordinates → ℕ → ℕ → ℕ → List ℕ
-octagon_arcs standard t f v = []
-octagon_arcs quads t f v = []
-octagon_arcs octagons t f v = map (oct_column octagons t) (filter (λ k. not (k == keeping v f)) three)
+abbrev pub octagon_arcs : Coords → ℕ → ℕ → ℕ → List ℕ
+octagon_arcs Standard t f v = []
+octagon_arcs Quad t f v = []
+octagon_arcs Octagon t f v = map (oct_column Octagon t) (filter (λ k. not (k == keeping v f)) three)
 
 -- the columns of the pieces with an arc round v in face f of tetrahedron t
-abbrev pub arc_columns : Coordinates → ℕ → ℕ → ℕ → List ℕ
+abbrev pub arc_columns : Coords → ℕ → ℕ → ℕ → List ℕ
 arc_columns coords t f v = tri_column coords t v ∷ quad_column coords t (keeping v f) ∷ octagon_arcs coords t f v
 
 -- whether a column is that of a quad or an octagon, and whether of an octagon
-abbrev pub is_quad_or_octagon : Coordinates → ℕ → Bool
+abbrev pub is_quad_or_octagon : Coords → ℕ → Bool
 is_quad_or_octagon coords c = nat_le (triangles_each coords) (c % columns_each coords)
 
-abbrev pub is_octagon : Coordinates → ℕ → Bool
+abbrev pub is_octagon : Coords → ℕ → Bool
 is_octagon coords c = nat_le 7 (c % columns_each coords)
 
 -- whether two columns clash: quads or octagons of one tetrahedron, or any two octagons
-abbrev pub clash_test : Coordinates → ℕ → ℕ → Bool
+abbrev pub clash_test : Coords → ℕ → ℕ → Bool
 clash_test coords a b =
     (is_octagon coords a && is_octagon coords b)
     || ((a / columns_each coords == b / columns_each coords) && is_quad_or_octagon coords a && is_quad_or_octagon coords b)
 
 -- all clashing pairs of n tetrahedra, the lesser column first, ascending
-unfoldable pub clash_list : Coordinates → ℕ → List (ℕ × ℕ)
+unfoldable pub clash_list : Coords → ℕ → List (ℕ × ℕ)
 clash_list coords n =
     filter (λ p. nat_lt p.0 p.1 && clash_test coords p.0 p.1) (pairs_of (below (columns coords n)) (below (columns coords n)))

@@ -4,11 +4,12 @@ use Rattle.std.specs.List.{list_any, position_or_len}
 use Rattle.table_definitions.specs.Lists.{below, in_place_of}
 use Rattle.table_definitions.specs.Permutation.{four, image, compose}
 use Rattle.table_definitions.specs.Table.{Gluing, Row, Face, glue}
-use Rattle.surface_definitions.specs.Coordinates.{standard, quad_column, partner, three}
+use Rattle.surface_definitions.specs.Coordinates.{quad_column, partner, three}
+use Rattle.surface_definitions.specs.declared.Coords.TheVariants.{Standard}
 
 -- whether a type has quads in tetrahedron t
 abbrev pub has_quad : List ℕ → ℕ → ℕ → Bool
-has_quad xs t k = nat_lt 0 (slice_index xs (quad_column standard t k))
+has_quad xs t k = nat_lt 0 (slice_index xs (quad_column Standard t k))
 
 -- whether tetrahedron t is taken out
 abbrev pub is_removed : List ℕ → ℕ → Bool

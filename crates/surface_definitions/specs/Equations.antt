@@ -4,7 +4,8 @@ use Rattle.std.specs.List.{filter_map, flat_map}
 use Rattle.table_definitions.specs.Lists.{below, times_in}
 use Rattle.table_definitions.specs.Permutation.{image, others}
 use Rattle.table_definitions.specs.Table.{Gluing, Row, Face, glue, other_side, faces, is_face_before}
-use Rattle.surface_definitions.specs.Coordinates.{Coordinates, columns, arc_columns}
+use Rattle.surface_definitions.specs.Coordinates.{columns, arc_columns}
+use Rattle.surface_definitions.specs.declared.Coords.{Coords}
 use Rattle.cone_definitions.specs.Rows.{Row as EquationRow}
 
 -- an equation: the entries in the columns of the one list add up to those of the other, a column as often as it stands there
@@ -36,16 +37,16 @@ unfoldable pub glued_pairs : List Row → List (Face × Gluing)
 glued_pairs rows = filter_map (λ x. lesser_side x (glue rows x)) (faces (length rows))
 
 -- as many arcs round v on the one side of a glued face as round its image on the other
-abbrev pub matching : Coordinates → Face → Gluing → ℕ → Equation
+abbrev pub matching : Coords → Face → Gluing → ℕ → Equation
 matching coords x g v = record {
   left = arc_columns coords x.tet x.face v;
   right = arc_columns coords g.tet (image g.perm x.face) (image g.perm v);
 }
 
 -- one equation for each glued pair and each vertex of the lesser face, ascending; in standard and octagon coordinates
-unfoldable pub matching_equations : Coordinates → List Row → List Equation
+unfoldable pub matching_equations : Coords → List Row → List Equation
 matching_equations coords rows =
     flat_map (λ (y : Face × Gluing). map (matching coords y.0 y.1) (others (y.0).face)) (glued_pairs rows)
 
-abbrev pub matching_rows : Coordinates → List Row → List EquationRow
+abbrev pub matching_rows : Coords → List Row → List EquationRow
 matching_rows coords rows = map (row_of (columns coords (length rows))) (matching_equations coords rows)

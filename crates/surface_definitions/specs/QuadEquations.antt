@@ -2,7 +2,9 @@
 use Rattle.std.specs.Prelude.{◌≡◌, ℕ, ◌*◌, List, length, map}
 use Rattle.std.specs.List.{AllZip}
 use Rattle.table_definitions.specs.Table.{Row}
-use Rattle.surface_definitions.specs.Coordinates.{Coordinates, standard, quads, octagons, columns, quad_column, keeping}
+use Rattle.surface_definitions.specs.Coordinates.{columns, quad_column, keeping}
+use Rattle.surface_definitions.specs.declared.Coords.{Coords}
+use Rattle.surface_definitions.specs.declared.Coords.TheVariants.{Standard, Quad, Octagon}
 use Rattle.surface_definitions.specs.Equations.{Equation, row_of, matching_rows}
 use Rattle.table_definitions.specs.Classes.{IsNumbering, least}
 use Rattle.table_definitions.specs.Places.{SameEdge}
@@ -12,15 +14,15 @@ use Rattle.cone_definitions.specs.Rows.{Row as EquationRow}
 -- the sum over corners of the quad [ac] less the quad [ad]
 abbrev pub quad_equation : List Corner → Equation
 quad_equation corners = record {
-  left = map (λ (k : Corner). quad_column quads k.tet (keeping k.a k.c)) corners;
-  right = map (λ (k : Corner). quad_column quads k.tet (keeping k.a k.d)) corners;
+  left = map (λ (k : Corner). quad_column Quad k.tet (keeping k.a k.c)) corners;
+  right = map (λ (k : Corner). quad_column Quad k.tet (keeping k.a k.d)) corners;
 }
 
 -- the row of an edge class
 abbrev pub IsQuadRow : List Row → List ℕ → ℕ → EquationRow → Type 0
 IsQuadRow rows classes c row =
     (corners : List Corner) × AreCorners rows (first_corner (least classes c)) corners
-    × (row ≡ row_of (columns quads (length rows)) (quad_equation corners))
+    × (row ≡ row_of (columns Quad (length rows)) (quad_equation corners))
 
 -- one row for each inner edge class, ascending, by the numbering of the edges
 abbrev pub AreQuadRows : List Row → List ℕ → ℕ → List EquationRow → Type 0
@@ -34,7 +36,7 @@ pub record AreQuadEquations (rows : List Row) (quad_rows : List EquationRow) : T
   pub each : AreQuadRows rows classes count quad_rows
 
 -- the equations of a table: matching equations, and in quad coordinates those of the inner edges
-abbrev pub AreEquations : Coordinates → List Row → List EquationRow → Type 0
-AreEquations standard rows equations = equations ≡ matching_rows standard rows
-AreEquations quads rows equations = AreQuadEquations rows equations
-AreEquations octagons rows equations = equations ≡ matching_rows octagons rows
+abbrev pub AreEquations : Coords → List Row → List EquationRow → Type 0
+AreEquations Standard rows equations = equations ≡ matching_rows Standard rows
+AreEquations Quad rows equations = AreQuadEquations rows equations
+AreEquations Octagon rows equations = equations ≡ matching_rows Octagon rows

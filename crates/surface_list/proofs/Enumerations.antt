@@ -3,7 +3,8 @@ use Rattle.std.proofs.Common.{◌≡◌, ℕ, List, length, subst}
 use Rattle.std.specs.Prelude.{Result, Ok, Err, IfOk, IfErr}
 use Rattle.std.proofs.lemmas.List.Sorted.{IsPermutation-refl}
 use Rattle.table_definitions.specs.Table.{Row}
-use Rattle.surface_definitions.specs.Coordinates.{Coordinates, columns, clash_list}
+use Rattle.surface_definitions.specs.Coordinates.{columns, clash_list}
+use Rattle.surface_definitions.specs.declared.Coords.{Coords}
 use Rattle.surface_definitions.specs.QuadEquations.{AreEquations}
 use Rattle.cone_definitions.specs.Surfaces.{Clash}
 use Rattle.cone_definitions.proofs.Next.{one_surface_list_lem}
@@ -40,10 +41,10 @@ are_refused limit system pairs others order other post (Err (Large taken kind)) 
     (subst (λ o. AreRefused limit system pairs o (Large taken kind)) f
     (record { step = h.step; count = h.count; named = named_turns order post system taken.items h.turns; large = h.large }))
 
-cone_is : (coords : Coordinates) (rows : List Row) (system : Cone) → system.columns ≡ columns coords (length rows) → system ≡ cone_of coords rows system.rows
+cone_is : (coords : Coords) (rows : List Row) (system : Cone) → system.columns ≡ columns coords (length rows) → system ≡ cone_of coords rows system.rows
 cone_is coords rows system e = λ i. record { columns = e i; rows = system.rows }
 
-pub surfaces_by : (limit : ℕ) (coords : Coordinates) (rows : List Row) (system : Cone) (n : ℕ) (order : Order) (rays : Rays) → system.columns ≡ columns coords (length rows) → AreEquations coords rows system.rows
+pub surfaces_by : (limit : ℕ) (coords : Coords) (rows : List Row) (system : Cone) (n : ℕ) (order : Order) (rays : Rays) → system.columns ≡ columns coords (length rows) → AreEquations coords rows system.rows
     → n ≡ length rows → AreSurfacesIn limit system (clash_list coords n) order rays → AreTableSurfaces limit coords rows order rays.list.items
 surfaces_by limit coords rows system n order rays e f g h =
     let there : AreSurfacesIn limit (cone_of coords rows system.rows) (clash_list coords (length rows)) order rays =
@@ -62,7 +63,7 @@ surfaces_by limit coords rows system n order rays e f g h =
       },
     )
 
-pub refused_by : (limit : ℕ) (coords : Coordinates) (rows : List Row) (system : Cone) (n : ℕ) (order : Order) (fault : EnumFault) → system.columns ≡ columns coords (length rows) → AreEquations coords rows system.rows
+pub refused_by : (limit : ℕ) (coords : Coords) (rows : List Row) (system : Cone) (n : ℕ) (order : Order) (fault : EnumFault) → system.columns ≡ columns coords (length rows) → AreEquations coords rows system.rows
     → n ≡ length rows → AreRefused limit system (clash_list coords n) order fault → IsTableRefused limit coords rows order fault
 refused_by limit coords rows system n order NoMemory e f g h = tt
 refused_by limit coords rows system n order (Large taken kind) e f g h = (

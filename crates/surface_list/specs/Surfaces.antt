@@ -3,7 +3,8 @@ use Rattle.std.specs.Prelude.{◌≡◌, ℕ, ◌+◌, List, length}
 use Rattle.std.specs.List.{range_with_len}
 use Rattle.std.specs.List.Sorted.{IsPermutation}
 use Rattle.table_definitions.specs.Table.{Row}
-use Rattle.surface_definitions.specs.Coordinates.{Coordinates, columns, clash_list}
+use Rattle.surface_definitions.specs.Coordinates.{columns, clash_list}
+use Rattle.surface_definitions.specs.declared.Coords.{Coords}
 use Rattle.surface_definitions.specs.QuadEquations.{AreEquations}
 use Rattle.cone_definitions.specs.Rows.{Row as EquationRow}
 use Rattle.cone_definitions.specs.Surfaces.{Clash, IsSurfaceList}
@@ -18,7 +19,7 @@ use Rattle.ray_answers.specs.Answers.{AreNamed}
 use Rattle.double_description.specs.Enumerated.{AreWithin}
 
 -- the columns of a table and its equations
-abbrev pub cone_of : Coordinates → List Row → List EquationRow → Cone
+abbrev pub cone_of : Coords → List Row → List EquationRow → Cone
 cone_of coords rows equations = record { columns = columns coords (length rows); rows = equations }
 
 -- the surface list of the rows and pairs, and the rows in the order's own order, in which no number of a step passes the limit
@@ -50,12 +51,12 @@ AreRefused limit system pairs order (Large taken kind) = IsLargeIn limit system 
 AreRefused limit system pairs order NoMemory = Unit {0}
 
 -- the surface list of a table's equations
-abbrev pub AreTableSurfaces : ℕ → Coordinates → List Row → Order → List (List ℕ) → Type 0
+abbrev pub AreTableSurfaces : ℕ → Coords → List Row → Order → List (List ℕ) → Type 0
 AreTableSurfaces limit coords rows order surfaces =
     (equations : List EquationRow) × AreEquations coords rows equations × AreSurfaces limit (cone_of coords rows equations) (clash_list coords (length rows)) order surfaces
 
 -- why a table has no list
-abbrev pub IsTableRefused : ℕ → Coordinates → List Row → Order → EnumFault → Type 0
+abbrev pub IsTableRefused : ℕ → Coords → List Row → Order → EnumFault → Type 0
 IsTableRefused limit coords rows order (Large taken kind) =
     (equations : List EquationRow) × AreEquations coords rows equations × IsLargeIn limit (cone_of coords rows equations) (clash_list coords (length rows)) order taken.items (named_of kind)
 IsTableRefused limit coords rows order NoMemory = Unit {0}

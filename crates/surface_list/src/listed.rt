@@ -2,7 +2,6 @@
 
 ghost use Rattle.std.specs.Prelude.{◌≡◌, ◌≢◌, ◌≤◌, IfOk, IfErr};
 ghost use Rattle.surface_definitions.specs.Coordinates as coordinates;
-ghost use Rattle.matching_equations.specs.Columns.{coordinates_of};
 ghost use Rattle.surface_list.specs.Surfaces.{AreSurfacesIn, AreRefused, AreTableSurfaces, IsTableRefused};
 
 use cone_core::{MAX_ENTRY, Ray, System};
@@ -23,12 +22,12 @@ fn enumerated(
     limit: u128,
 ) -> Result<Rays, EnumFault>
     requires tets { tets ≤ 1000 }
-    requires columns { system.now.columns ≡ coordinates.columns (coordinates_of coords) tets }
+    requires columns { system.now.columns ≡ coordinates.columns coords tets }
     requires named { order ≢ Order.Free }
     requires some_limit { 1 ≤ limit }
     requires most_limit { limit ≤ MAX_ENTRY }
-    ensures ok { IfOk result (AreSurfacesIn limit system.now (coordinates.clash_list (coordinates_of coords) tets) order) }
-    ensures err { IfErr result (AreRefused limit system.now (coordinates.clash_list (coordinates_of coords) tets) order) }
+    ensures ok { IfOk result (AreSurfacesIn limit system.now (coordinates.clash_list coords tets) order) }
+    ensures err { IfErr result (AreRefused limit system.now (coordinates.clash_list coords tets) order) }
 {
     let clashes = clash_list(alloc, coords, tets)?;
     let masks = Masks::new(alloc, coords, tets)?;
@@ -51,8 +50,8 @@ pub fn surfaces(
     requires named { order ≢ Order.Free }
     requires some_limit { 1 ≤ limit }
     requires most_limit { limit ≤ MAX_ENTRY }
-    ensures ok { IfOk result (λ rays. AreTableSurfaces limit (coordinates_of coords) skeleton.now.rows order rays.items) }
-    ensures err { IfErr result (IsTableRefused limit (coordinates_of coords) skeleton.now.rows order) }
+    ensures ok { IfOk result (λ rays. AreTableSurfaces limit coords skeleton.now.rows order rays.items) }
+    ensures err { IfErr result (IsTableRefused limit coords skeleton.now.rows order) }
 {
     let system = equations(alloc, skeleton, coords)?;
     let tets = skeleton.table().len();

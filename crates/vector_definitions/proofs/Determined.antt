@@ -7,7 +7,7 @@ use Rattle.table_definitions.specs.Classes.{IsNumbering}
 use Rattle.table_definitions.specs.Lists.{below}
 use Rattle.table_definitions.specs.Table.{Row}
 use Rattle.table_definitions.proofs.ClassLaws.{numberings_agree}
-use Rattle.surface_definitions.specs.Coordinates.{Coordinates}
+use Rattle.surface_definitions.specs.declared.Coords.{Coords}
 use Rattle.surface_definitions.specs.Pieces.{pieces_of, SamePiece}
 use Rattle.vector_definitions.specs.Components.{Component, IsComponent, AreListedComponents, IsPiecesAnswer}
 use Rattle.vector_definitions.specs.declared.PiecesFault.{PiecesFault}
@@ -41,7 +41,7 @@ one_truth true false P f g = absurd (false≢true (g.1 (f.0 refl)))
 one_truth false true P f g = absurd (false≢true (f.1 (g.0 refl)))
 one_truth false false P f g = refl
 
-one_component : (rows : List Row) (coords : Coordinates) (xs classes : List ℕ) (i : ℕ) (c d : Component) → IsComponent rows coords xs classes i c → IsComponent rows coords xs classes i d → c ≡ d
+one_component : (rows : List Row) (coords : Coords) (xs classes : List ℕ) (i : ℕ) (c d : Component) → IsComponent rows coords xs classes i c → IsComponent rows coords xs classes i d → c ≡ d
 one_component rows coords xs classes i c d f g =
     let v : c.vector ≡ d.vector = f.vector ∙ sym g.vector in
     let t : c.two_sided ≡ d.two_sided = one_truth c.two_sided d.two_sided _ f.two_sided g.two_sided in
@@ -56,7 +56,7 @@ one_list R one (i ∷ is) [] ds a b = absurd a
 one_list R one (i ∷ is) (c ∷ cs) [] a b = absurd b
 one_list R one (i ∷ is) (c ∷ cs) (d ∷ ds) a b = ap (λ x. x ∷ cs) (one i c d a.0 b.0) ∙ ap (λ xs. d ∷ xs) (one_list R one is cs ds a.1 b.1)
 
-one_listing : (rows : List Row) (coords : Coordinates) (xs : List ℕ) (cs ds : List Component) → AreListedComponents rows coords xs cs → AreListedComponents rows coords xs ds → cs ≡ ds
+one_listing : (rows : List Row) (coords : Coords) (xs : List ℕ) (cs ds : List Component) → AreListedComponents rows coords xs cs → AreListedComponents rows coords xs ds → cs ≡ ds
 one_listing rows coords xs cs ds f g =
     let n : ℕ = length (pieces_of xs) in
     let counts : f.count ≡ g.count = counts_agree n (SamePiece rows coords xs) f.classes g.classes f.count g.count f.numbered g.numbered in
@@ -65,7 +65,7 @@ one_listing rows coords xs cs ds f g =
     subst (λ (k : ℕ). AllZip (IsComponent rows coords xs f.classes) (below k) ds) (sym counts) (subst (λ (l : List ℕ). AllZip (IsComponent rows coords xs l) (below g.count) ds) (sym classes) g.each) in
     one_list (IsComponent rows coords xs f.classes) (one_component rows coords xs f.classes) (below f.count) cs ds f.each again
 
-pub one_answer : (rows : List Row) (coords : Coordinates) (xs : List ℕ) (a b : Result (List Component) PiecesFault) → IsPiecesAnswer rows coords xs a → IsPiecesAnswer rows coords xs b → a ≡ b
+pub one_answer : (rows : List Row) (coords : Coords) (xs : List ℕ) (a b : Result (List Component) PiecesFault) → IsPiecesAnswer rows coords xs a → IsPiecesAnswer rows coords xs b → a ≡ b
 one_answer rows coords xs (Ok cs) (Ok ds) f g = ap Ok (one_listing rows coords xs cs ds f.1 g.1)
 one_answer rows coords xs (Ok cs) (Err NoMemory) f g = absurd g
 one_answer rows coords xs (Ok cs) (Err (TooManyPieces m)) f g = absurd (omega (arith, f.0, g.0))

@@ -2,7 +2,7 @@
 use Rattle.std.proofs.Common.{◌≡◌, ℕ, List, Option, Some, None, Result, Ok, Err, refl}
 use Rattle.std.specs.Prelude.{sum}
 use Rattle.table_definitions.specs.Table.{Row}
-use Rattle.surface_definitions.specs.Coordinates.{Coordinates}
+use Rattle.surface_definitions.specs.declared.Coords.{Coords}
 use Rattle.surface_definitions.specs.Characteristic.{points, arcs, euler, is_linking, meets_boundary}
 use Rattle.skeleton_definitions.specs.Skeleton.{Skeleton}
 use Rattle.skeleton_definitions.proofs.Evaluators.{vertex_classes, edge_classes, face_classes, count_of}
@@ -20,7 +20,7 @@ skeleton_of rows = record {
   faces = record { classes = face_classes rows; count = count_of (face_classes rows) };
 }
 
-abbrev pub properties_of : Skeleton → Coordinates → List ℕ → Properties
+abbrev pub properties_of : Skeleton → Coords → List ℕ → Properties
 properties_of s coords xs = record {
   points = points coords xs s.edges.classes s.edges.count;
   arcs = arcs s.rows coords xs;
@@ -34,11 +34,11 @@ abbrev pub answer_by : Option Sum → Properties → Result Properties PropertyF
 answer_by None p = Ok p
 answer_by (Some sum) p = Err (Large sum)
 
-abbrev pub answer : ℕ → Skeleton → Coordinates → List ℕ → Result Properties PropertyFault
+abbrev pub answer : ℕ → Skeleton → Coords → List ℕ → Result Properties PropertyFault
 answer max s coords xs = answer_by (first_large max s coords xs) (properties_of s coords xs)
 
 -- what is computed is what is told
-pub answer_is : (max : ℕ) (s : Skeleton) (coords : Coordinates) (xs : List ℕ) → IsPropertyAnswer max s coords xs (answer max s coords xs)
+pub answer_is : (max : ℕ) (s : Skeleton) (coords : Coords) (xs : List ℕ) → IsPropertyAnswer max s coords xs (answer max s coords xs)
 answer_is max s coords xs = go (first_large max s coords xs) refl
   where
     go : (o : Option Sum) → first_large max s coords xs ≡ o → IsPropertyAnswer max s coords xs (answer_by o (properties_of s coords xs))

@@ -8,7 +8,7 @@ use Rattle.text_definitions.specs.Written.{limit}
 use Rattle.table_definitions.specs.Permutation.{others}
 use Rattle.table_definitions.specs.Table.{Gluing, Row, Face}
 use Rattle.table_definitions.proofs.Tables.{sphere, figure_eight}
-use Rattle.surface_definitions.specs.Coordinates.{standard}
+use Rattle.surface_definitions.specs.declared.Coords.TheVariants.{Standard}
 use Rattle.surface_definitions.specs.Equations.{glued_pairs, matching, Holds}
 use Rattle.surface_definitions.specs.Lift.{IsLiftAt}
 use Rattle.vector_definitions.specs.Lifting.{HasLiftAt, IsLiftAnswer}
@@ -22,14 +22,14 @@ contains_test t (y ∷ ys) x h (suc k, l, e) = contains_test t ys x (and_parts (
 
 -- whether each matching equation holds
 abbrev holds_there : List ℕ → Face × Gluing → Bool
-holds_there ys y = list_all (λ v. sum_by (slice_index ys) (matching standard y.0 y.1 v).left == sum_by (slice_index ys) (matching standard y.0 y.1 v).right) (others (y.0).face)
+holds_there ys y = list_all (λ v. sum_by (slice_index ys) (matching Standard y.0 y.1 v).left == sum_by (slice_index ys) (matching Standard y.0 y.1 v).right) (others (y.0).face)
 
 each_holds : (rows : List Row) (ys : List ℕ) → list_all (holds_there ys) (glued_pairs rows) ≡ true
-    → (y : Face × Gluing) (v : ℕ) → Contains (glued_pairs rows) y → Contains (others (y.0).face) v → Holds (matching standard y.0 y.1 v) ys
+    → (y : Face × Gluing) (v : ℕ) → Contains (glued_pairs rows) y → Contains (others (y.0).face) v → Holds (matching Standard y.0 y.1 v) ys
 each_holds rows ys h y v cy cv =
     let there : holds_there ys y ≡ true = contains_test (holds_there ys) (glued_pairs rows) y h cy in
-    eqb-true (sum_by (slice_index ys) (matching standard y.0 y.1 v).left) (sum_by (slice_index ys) (matching standard y.0 y.1 v).right)
-    (contains_test (λ w. sum_by (slice_index ys) (matching standard y.0 y.1 w).left == sum_by (slice_index ys) (matching standard y.0 y.1 w).right) (others (y.0).face) v there cv)
+    eqb-true (sum_by (slice_index ys) (matching Standard y.0 y.1 v).left) (sum_by (slice_index ys) (matching Standard y.0 y.1 v).right)
+    (contains_test (λ w. sum_by (slice_index ys) (matching Standard y.0 y.1 w).left == sum_by (slice_index ys) (matching Standard y.0 y.1 w).right) (others (y.0).face) v there cv)
 
 sphere_lift : List ℕ
 sphere_lift = 1 ∷ 1 ∷ 0 ∷ 0 ∷ 1 ∷ 0 ∷ 0 ∷ []

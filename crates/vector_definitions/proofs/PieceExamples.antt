@@ -6,7 +6,7 @@ use Rattle.std.proofs.lemmas.Bool.{false≢true, ltb-true, leb-true}
 use Rattle.table_definitions.specs.Classes.{IsNumbering}
 use Rattle.table_definitions.specs.Table.{Gluing}
 use Rattle.table_definitions.proofs.Tables.{sphere, table_jj}
-use Rattle.surface_definitions.specs.Coordinates.{standard}
+use Rattle.surface_definitions.specs.declared.Coords.TheVariants.{Standard}
 use Rattle.surface_definitions.specs.Pieces.{Arc, Meets, SamePiece, IsTwoSided, IsOrientableComponent}
 use Rattle.vector_definitions.specs.Components.{IsComponent, IsPiecesAnswer}
 use Rattle.vector_definitions.specs.declared.PiecesFault.TheVariants.{TooManyPieces}
@@ -48,7 +48,7 @@ arc = record { tet = 0; face = 0; vertex = 2; place = 0 }
 across : Gluing
 across = record { tet = 0; perm = 1 ∷ 2 ∷ 3 ∷ 0 ∷ [] }
 
-meets : Meets table_jj standard one_quad arc across
+meets : Meets table_jj Standard one_quad arc across
 unfolding computed arc across
 meets = record { in_range = ltb-true 0 1 refl; is_vertex = ltb-true 2 4 refl; off_vertex = λ e. absurd (omega arith); there = ltb-true 0 1 refl; glued = refl }
 
@@ -56,15 +56,15 @@ not_itself : (b : Bool) → b ≡ not b → ⊥
 not_itself true e = false≢true (sym e)
 not_itself false e = false≢true e
 
-one_sided : IsTwoSided table_jj standard one_quad (0 ∷ []) 0 → ⊥
+one_sided : IsTwoSided table_jj Standard one_quad (0 ∷ []) 0 → ⊥
 unfolding computed arc across
 one_sided h = not_itself (h.0 0) (h.1 arc across meets refl)
 
-not_orientable : IsOrientableComponent table_jj standard one_quad (0 ∷ []) 0 → ⊥
+not_orientable : IsOrientableComponent table_jj Standard one_quad (0 ∷ []) 0 → ⊥
 unfolding computed arc across
 not_orientable h = not_itself (h.0 0) (h.1 arc across meets refl)
 
-the_component : IsComponent table_jj standard one_quad (0 ∷ []) 0 (record { vector = one_quad; two_sided = false; orientable = false })
+the_component : IsComponent table_jj Standard one_quad (0 ∷ []) 0 (record { vector = one_quad; two_sided = false; orientable = false })
 unfolding computed
 the_component = record {
   vector = refl;
@@ -72,18 +72,18 @@ the_component = record {
   orientable = ((λ e. absurd (false≢true e)), (λ h. absurd (not_orientable h)));
 }
 
-one_component : IsPiecesAnswer table_jj standard one_quad (Ok (record { vector = one_quad; two_sided = false; orientable = false } ∷ []))
+one_component : IsPiecesAnswer table_jj Standard one_quad (Ok (record { vector = one_quad; two_sided = false; orientable = false } ∷ []))
 unfolding computed
 one_component = (
   leb-true 1 100000 refl,
   record {
     classes = 0 ∷ [];
     count = 1;
-    numbered = one_class (SamePiece table_jj standard one_quad) ([], refl);
+    numbered = one_class (SamePiece table_jj Standard one_quad) ([], refl);
     each = (the_component, tt);
   },
 )
 
-too_many : IsPiecesAnswer sphere standard (25001 ∷ 25001 ∷ 25001 ∷ 25001 ∷ 0 ∷ 0 ∷ 0 ∷ []) (Err (TooManyPieces 100004))
+too_many : IsPiecesAnswer sphere Standard (25001 ∷ 25001 ∷ 25001 ∷ 25001 ∷ 0 ∷ 0 ∷ 0 ∷ []) (Err (TooManyPieces 100004))
 unfolding computed
 too_many = (ltb-true 100000 100004 refl, refl)

@@ -3,7 +3,7 @@ use Rattle.surface_definitions.proofs.Computed.{computed}
 use Rattle.std.proofs.Common.{◌≡◌, ℕ, true, false, List, [], ◌∷◌, ◌++◌, refl}
 use Rattle.std.specs.Prelude.{codes}
 use Rattle.table_definitions.proofs.Tables.{sphere, table_jj}
-use Rattle.surface_definitions.specs.Coordinates.{standard, octagons}
+use Rattle.surface_definitions.specs.declared.Coords.TheVariants.{Standard, Octagon}
 use Rattle.surface_definitions.specs.Equations.{matching_rows}
 use Rattle.surface_definitions.specs.Verdict.{fails, clash, wrong_length, large}
 use Rattle.vector_definitions.specs.Components.{Component}
@@ -13,14 +13,14 @@ use Rattle.vector_definitions.specs.Texts.{line, description_text, lifts_text, r
 use Rattle.vector_definitions.proofs.Evaluators.{skeleton_of, properties_of}
 
 of_one_component : List ℕ → Component → Description
-of_one_component xs c = record { vector = xs; properties = properties_of (skeleton_of table_jj) standard xs; components = c ∷ [] }
+of_one_component xs c = record { vector = xs; properties = properties_of (skeleton_of table_jj) Standard xs; components = c ∷ [] }
 
-one_sided : description_text (skeleton_of table_jj) standard (of_one_component (0 ∷ 0 ∷ 0 ∷ 0 ∷ 0 ∷ 1 ∷ 0 ∷ []) (record { vector = 0 ∷ 0 ∷ 0 ∷ 0 ∷ 0 ∷ 1 ∷ 0 ∷ []; two_sided = false; orientable = false }))
+one_sided : description_text (skeleton_of table_jj) Standard (of_one_component (0 ∷ 0 ∷ 0 ∷ 0 ∷ 0 ∷ 1 ∷ 0 ∷ []) (record { vector = 0 ∷ 0 ∷ 0 ∷ 0 ∷ 0 ∷ 1 ∷ 0 ∷ []; two_sided = false; orientable = false }))
     ≡ line (codes "vec 0 0 0 0 0 1 0") ++ line (codes "euler 0 linking no boundary no components 1") ++ line (codes "component euler 0 sides one orientable no vec 0 0 0 0 0 1 0")
 unfolding computed description_text of_one_component
 one_sided = refl
 
-link : description_text (skeleton_of table_jj) standard (of_one_component (1 ∷ 1 ∷ 1 ∷ 1 ∷ 0 ∷ 0 ∷ 0 ∷ []) (record { vector = 1 ∷ 1 ∷ 1 ∷ 1 ∷ 0 ∷ 0 ∷ 0 ∷ []; two_sided = true; orientable = true }))
+link : description_text (skeleton_of table_jj) Standard (of_one_component (1 ∷ 1 ∷ 1 ∷ 1 ∷ 0 ∷ 0 ∷ 0 ∷ []) (record { vector = 1 ∷ 1 ∷ 1 ∷ 1 ∷ 0 ∷ 0 ∷ 0 ∷ []; two_sided = true; orientable = true }))
     ≡ line (codes "vec 1 1 1 1 0 0 0") ++ line (codes "euler 2 linking yes boundary no components 1") ++ line (codes "component euler 2 sides two orientable yes vec 1 1 1 1 0 0 0")
 unfolding computed description_text of_one_component
 link = refl
@@ -38,7 +38,7 @@ unfolding computed refusal_line invalid_edge_line
 refusals = (refl, refl, refl, refl, refl, refl, refl, refl, refl)
 
 -- the verdicts before them
-verdicts : (verdict_in standard sphere (matching_rows standard sphere) (1 ∷ 0 ∷ 0 ∷ 0 ∷ 0 ∷ 0 ∷ 0 ∷ []) ≡ fails 0)
-    × (verdict_in octagons sphere (matching_rows octagons sphere) (0 ∷ 0 ∷ 1 ∷ 1 ∷ 0 ∷ 0 ∷ 0 ∷ 1 ∷ 1 ∷ 0 ∷ []) ≡ fails 1)
+verdicts : (verdict_in Standard sphere (matching_rows Standard sphere) (1 ∷ 0 ∷ 0 ∷ 0 ∷ 0 ∷ 0 ∷ 0 ∷ []) ≡ fails 0)
+    × (verdict_in Octagon sphere (matching_rows Octagon sphere) (0 ∷ 0 ∷ 1 ∷ 1 ∷ 0 ∷ 0 ∷ 0 ∷ 1 ∷ 1 ∷ 0 ∷ []) ≡ fails 1)
 unfolding computed
 verdicts = (refl, refl)

@@ -6,7 +6,7 @@ use Rattle.std.proofs.lemmas.Bool.{cases_order}
 use Rattle.cone_definitions.specs.Rows.{Row as EquationRow}
 use Rattle.text_definitions.specs.Written.{limit}
 use Rattle.skeleton_definitions.specs.Skeleton.{Skeleton}
-use Rattle.surface_definitions.specs.Coordinates.{Coordinates}
+use Rattle.surface_definitions.specs.declared.Coords.{Coords}
 use Rattle.surface_definitions.specs.Verdict.{Verdict, solution}
 use Rattle.surface_definitions.specs.Characteristic.{euler as euler_of}
 use Rattle.vector_definitions.specs.Properties.{AreProperties, IsPropertyAnswer}
@@ -61,7 +61,7 @@ module _ {A : Type 0} (IsTold : List ℕ → Result A VectorFault → Type 0) (o
   told_once vectors (Err p) (Ok ds) f g = absurd (told_not_refused vectors p.0 p.1 (told_at vectors ds p.0 f.in_range g) f.refused)
   told_once vectors (Err p) (Err q) f g = ap Err (one_refusal vectors p.0 q.0 p.1 q.1 f g)
 
-one_record : (s : Skeleton) (coords : Coordinates) (xs : List ℕ) (p q : Properties) → AreProperties s coords xs p → AreProperties s coords xs q → p ≡ q
+one_record : (s : Skeleton) (coords : Coords) (xs : List ℕ) (p q : Properties) → AreProperties s coords xs p → AreProperties s coords xs q → p ≡ q
 one_record s coords xs p q f g =
     let points : p.points ≡ q.points = f.points ∙ sym g.points in
     let arcs : p.arcs ≡ q.arcs = f.arcs ∙ sym g.arcs in
@@ -71,7 +71,7 @@ one_record s coords xs p q f g =
     let euler : p.euler ≡ q.euler = f.euler ∙ (λ i. euler_of (points i) (arcs i) (pieces i)) ∙ sym g.euler in
     λ i. record { points = points i; arcs = arcs i; pieces = pieces i; euler = euler i; linking = linking i; boundary = boundary i }
 
-pub one_property_answer : (max : ℕ) (s : Skeleton) (coords : Coordinates) (xs : List ℕ) (a b : Result Properties PropertyFault) → IsPropertyAnswer max s coords xs a → IsPropertyAnswer max s coords xs b → a ≡ b
+pub one_property_answer : (max : ℕ) (s : Skeleton) (coords : Coords) (xs : List ℕ) (a b : Result Properties PropertyFault) → IsPropertyAnswer max s coords xs a → IsPropertyAnswer max s coords xs b → a ≡ b
 one_property_answer max s coords xs (Ok p) (Ok q) f g = ap Ok (one_record s coords xs p q f.1 g.1)
 one_property_answer max s coords xs (Ok p) (Err (Large t)) f g = absurd (let z : None ≡ Some t = sym f.0 ∙ g in cc)
 one_property_answer max s coords xs (Err (Large t)) (Ok q) f g = absurd (let z : None ≡ Some t = sym g.0 ∙ f in cc)
@@ -83,7 +83,7 @@ same_lists cs ds e = cc
 same_properties : (p q : Properties) → (let r : Result Properties PropertyFault = Ok p in r ≡ Ok q) → p ≡ q
 same_properties p q e = cc
 
-module _ (s : Skeleton) (coords : Coordinates) (equations : List EquationRow) (xs : List ℕ) where
+module _ (s : Skeleton) (coords : Coords) (equations : List EquationRow) (xs : List ℕ) where
   fit_or_not : (v : Verdict) → verdict_in coords s.rows equations xs ≡ solution → (verdict_in coords s.rows equations xs ≡ v) × (v ≡ solution → ⊥) → ⊥
   fit_or_not v f g = g.1 (sym g.0 ∙ f)
 
@@ -119,6 +119,6 @@ module _ (s : Skeleton) (coords : Coordinates) (equations : List EquationRow) (x
   one_description (Err large_lift) b f g = absurd f
   one_description (Err (no_lift c)) b f g = absurd f
 
-pub one_description_each : (s : Skeleton) (coords : Coordinates) (equations : List EquationRow) (vectors : List (List ℕ)) (a b : Result (List Description) (ℕ × VectorFault))
+pub one_description_each : (s : Skeleton) (coords : Coords) (equations : List EquationRow) (vectors : List (List ℕ)) (a b : Result (List Description) (ℕ × VectorFault))
     → AreTold (IsDescription s coords equations) vectors a → AreTold (IsDescription s coords equations) vectors b → a ≡ b
 one_description_each s coords equations vectors a b f g = told_once (IsDescription s coords equations) (one_description s coords equations) vectors a b f g

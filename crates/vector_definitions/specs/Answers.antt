@@ -5,7 +5,9 @@ use Rattle.text_definitions.specs.Written.{limit}
 use Rattle.cone_definitions.specs.Rows.{Row as EquationRow}
 use Rattle.table_definitions.specs.Table.{Row}
 use Rattle.skeleton_definitions.specs.Skeleton.{Skeleton}
-use Rattle.surface_definitions.specs.Coordinates.{Coordinates, standard, quads, columns, clash_list}
+use Rattle.surface_definitions.specs.Coordinates.{columns, clash_list}
+use Rattle.surface_definitions.specs.declared.Coords.{Coords}
+use Rattle.surface_definitions.specs.declared.Coords.TheVariants.{Standard, Quad}
 use Rattle.surface_definitions.specs.Verdict.{Verdict, verdict, solution}
 use Rattle.surface_definitions.specs.Crushing.{IsCrushed}
 use Rattle.vector_definitions.specs.Properties.{first_large, IsPropertyAnswer}
@@ -26,14 +28,14 @@ pub data VectorFault : Type 0 where
   no_lift : ℕ → VectorFault
 
 -- the verdict on a vector, by the equations of the table in its coordinates
-abbrev pub verdict_in : Coordinates → List Row → List EquationRow → List ℕ → Verdict
+abbrev pub verdict_in : Coords → List Row → List EquationRow → List ℕ → Verdict
 verdict_in coords rows equations xs = verdict limit (columns coords (length rows)) equations (clash_list coords (length rows)) xs
 
 -- the verdict is this one, and no solution
-abbrev pub IsUnfit : Coordinates → List Row → List EquationRow → List ℕ → Verdict → Type 0
+abbrev pub IsUnfit : Coords → List Row → List EquationRow → List ℕ → Verdict → Type 0
 IsUnfit coords rows equations xs v = (verdict_in coords rows equations xs ≡ v) × (v ≡ solution → ⊥)
 
-abbrev pub IsFit : Coordinates → List Row → List EquationRow → List ℕ → Type 0
+abbrev pub IsFit : Coords → List Row → List EquationRow → List ℕ → Type 0
 IsFit coords rows equations xs = verdict_in coords rows equations xs ≡ solution
 
 -- all that is told of a vector
@@ -43,7 +45,7 @@ pub record Description : Type 0 where
   pub components : List Component
 
 -- a vector is described where it is fit, no sum is large and the pieces are not too many
-abbrev pub IsDescription : Skeleton → Coordinates → List EquationRow → List ℕ → Result Description VectorFault → Type 0
+abbrev pub IsDescription : Skeleton → Coords → List EquationRow → List ℕ → Result Description VectorFault → Type 0
 IsDescription s coords equations xs (Ok d) =
     IsFit coords s.rows equations xs × (d.vector ≡ xs) × IsPropertyAnswer limit s coords xs (Ok d.properties) × IsPiecesAnswer s.rows coords xs (Ok d.components)
 IsDescription s coords equations xs (Err (unfit v)) = IsUnfit coords s.rows equations xs v
@@ -55,17 +57,17 @@ IsDescription s coords equations xs (Err (no_lift c)) = ⊥
 
 -- a quad vector is lifted where it is fit and has a lift that is told
 abbrev pub IsLifted : Skeleton → List EquationRow → List ℕ → Result (List ℕ) VectorFault → Type 0
-IsLifted s equations xs (Ok ys) = IsFit quads s.rows equations xs × IsLiftAnswer limit s xs (Ok ys)
-IsLifted s equations xs (Err (unfit v)) = IsUnfit quads s.rows equations xs v
-IsLifted s equations xs (Err large_lift) = IsFit quads s.rows equations xs × IsLiftAnswer limit s xs (Err LargeLift)
-IsLifted s equations xs (Err (no_lift c)) = IsFit quads s.rows equations xs × IsLiftAnswer limit s xs (Err (NoLift c))
+IsLifted s equations xs (Ok ys) = IsFit Quad s.rows equations xs × IsLiftAnswer limit s xs (Ok ys)
+IsLifted s equations xs (Err (unfit v)) = IsUnfit Quad s.rows equations xs v
+IsLifted s equations xs (Err large_lift) = IsFit Quad s.rows equations xs × IsLiftAnswer limit s xs (Err LargeLift)
+IsLifted s equations xs (Err (no_lift c)) = IsFit Quad s.rows equations xs × IsLiftAnswer limit s xs (Err (NoLift c))
 IsLifted s equations xs (Err (large_sum sum)) = ⊥
 IsLifted s equations xs (Err (too_many_pieces n)) = ⊥
 
 -- a table is crushed along a vector that is fit
 abbrev pub IsCrushedAlong : List Row → List EquationRow → List ℕ → Result (List Row) VectorFault → Type 0
-IsCrushedAlong rows equations xs (Ok new) = IsFit standard rows equations xs × IsCrushed rows xs new
-IsCrushedAlong rows equations xs (Err (unfit v)) = IsUnfit standard rows equations xs v
+IsCrushedAlong rows equations xs (Ok new) = IsFit Standard rows equations xs × IsCrushed rows xs new
+IsCrushedAlong rows equations xs (Err (unfit v)) = IsUnfit Standard rows equations xs v
 IsCrushedAlong rows equations xs (Err (large_sum sum)) = ⊥
 IsCrushedAlong rows equations xs (Err (too_many_pieces n)) = ⊥
 IsCrushedAlong rows equations xs (Err large_lift) = ⊥

@@ -3,7 +3,7 @@ use Rattle.std.specs.Prelude.{◌≡◌, ℕ, ◌<◌, ◌≤◌, ◌↔◌, Boo
 use Rattle.std.specs.List.{AllZip}
 use Rattle.table_definitions.specs.Lists.{below}
 use Rattle.table_definitions.specs.Table.{Row}
-use Rattle.surface_definitions.specs.Coordinates.{Coordinates}
+use Rattle.surface_definitions.specs.declared.Coords.{Coords}
 use Rattle.vector_definitions.specs.declared.PiecesFault.{PiecesFault}
 use Rattle.vector_definitions.specs.declared.PiecesFault.TheVariants.{NoMemory, TooManyPieces}
 use Rattle.surface_definitions.specs.Pieces.{AreComponents, component_vector, IsTwoSided, IsOrientableComponent}
@@ -18,20 +18,20 @@ pub record Component : Type 0 where
   pub orientable : Bool
 
 -- what is told of component i, by the component of each piece
-pub record IsComponent (rows : List Row) (coords : Coordinates) (xs classes : List ℕ) (i : ℕ) (c : Component) : Type 0 where
+pub record IsComponent (rows : List Row) (coords : Coords) (xs classes : List ℕ) (i : ℕ) (c : Component) : Type 0 where
   pub vector : c.vector ≡ component_vector xs classes i
   pub two_sided : IsTrue c.two_sided ↔ IsTwoSided rows coords xs classes i
   pub orientable : IsTrue c.orientable ↔ IsOrientableComponent rows coords xs classes i
 
 -- the components of a vector, numbered by their least pieces
-pub record AreListedComponents (rows : List Row) (coords : Coordinates) (xs : List ℕ) (listed : List Component) : Type 0 where
+pub record AreListedComponents (rows : List Row) (coords : Coords) (xs : List ℕ) (listed : List Component) : Type 0 where
   pub classes : List ℕ
   pub count : ℕ
   pub numbered : AreComponents rows coords xs classes count
   pub each : AllZip (IsComponent rows coords xs classes) (below count) listed
 
 -- what is told of a vector: its components, and of more pieces than are looked at their number
-abbrev pub IsPiecesAnswer : List Row → Coordinates → List ℕ → Result (List Component) PiecesFault → Type 0
+abbrev pub IsPiecesAnswer : List Row → Coords → List ℕ → Result (List Component) PiecesFault → Type 0
 IsPiecesAnswer rows coords xs (Ok listed) = (sum xs ≤ most_pieces) × AreListedComponents rows coords xs listed
 IsPiecesAnswer rows coords xs (Err NoMemory) = ⊥
 IsPiecesAnswer rows coords xs (Err (TooManyPieces count)) = (most_pieces < sum xs) × (count ≡ sum xs)

@@ -1,7 +1,7 @@
 -- What is told of a vector is determined.
 use Rattle.std.specs.Prelude.{◌≡◌, ℕ, List, Result}
 use Rattle.table_definitions.specs.Table.{Row}
-use Rattle.surface_definitions.specs.Coordinates.{Coordinates}
+use Rattle.surface_definitions.specs.declared.Coords.{Coords}
 use Rattle.vector_definitions.specs.declared.Properties.{Properties}
 use Rattle.vector_definitions.specs.declared.PropertyFault.{PropertyFault}
 use Rattle.vector_definitions.specs.declared.PiecesFault.{PiecesFault}
@@ -13,16 +13,16 @@ use Rattle.vector_definitions.specs.Answers.{Description, VectorFault, IsDescrip
 
 abbrev pub OnePropertyAnswer : Type 0
 OnePropertyAnswer =
-    (max : ℕ) (s : Skeleton) (coords : Coordinates) (xs : List ℕ) (a b : Result Properties PropertyFault)
+    (max : ℕ) (s : Skeleton) (coords : Coords) (xs : List ℕ) (a b : Result Properties PropertyFault)
     → IsPropertyAnswer max s coords xs a → IsPropertyAnswer max s coords xs b → a ≡ b
 
 abbrev pub OnePiecesAnswer : Type 0
 OnePiecesAnswer =
-    (rows : List Row) (coords : Coordinates) (xs : List ℕ) (a b : Result (List Component) PiecesFault)
+    (rows : List Row) (coords : Coords) (xs : List ℕ) (a b : Result (List Component) PiecesFault)
     → IsPiecesAnswer rows coords xs a → IsPiecesAnswer rows coords xs b → a ≡ b
 
 -- so is what is told of all vectors of a document
 abbrev pub OneDescriptionEach : Type 0
 OneDescriptionEach =
-    (s : Skeleton) (coords : Coordinates) (equations : List EquationRow) (vectors : List (List ℕ)) (a b : Result (List Description) (ℕ × VectorFault))
+    (s : Skeleton) (coords : Coords) (equations : List EquationRow) (vectors : List (List ℕ)) (a b : Result (List Description) (ℕ × VectorFault))
     → AreTold (IsDescription s coords equations) vectors a → AreTold (IsDescription s coords equations) vectors b → a ≡ b

@@ -1,6 +1,6 @@
 -- All properties of a vector at once, or the first sum that is large. Coordinates are standard or octagons.
 use Rattle.std.specs.Prelude.{◌≡◌, ℕ, ◌+◌, List, Option, Some, None, Result, Ok, Err, sum, nat_lt, if◌then◌else◌}
-use Rattle.surface_definitions.specs.Coordinates.{Coordinates}
+use Rattle.surface_definitions.specs.declared.Coords.{Coords}
 use Rattle.surface_definitions.specs.Characteristic.{points as points_of, arcs as arcs_of, euler as euler_of, is_linking, meets_boundary}
 use Rattle.skeleton_definitions.specs.Skeleton.{Skeleton}
 use Rattle.vector_definitions.specs.declared.Properties.{Properties}
@@ -10,7 +10,7 @@ use Rattle.vector_definitions.specs.declared.PropertyFault.{PropertyFault}
 use Rattle.vector_definitions.specs.declared.PropertyFault.TheVariants.{Large}
 
 -- the properties of a vector of the table
-pub record AreProperties (s : Skeleton) (coords : Coordinates) (xs : List ℕ) (p : Properties) : Type 0 where
+pub record AreProperties (s : Skeleton) (coords : Coords) (xs : List ℕ) (p : Properties) : Type 0 where
   pub points : p.points ≡ points_of coords xs s.edges.classes s.edges.count
   pub arcs : p.arcs ≡ arcs_of s.rows coords xs
   pub pieces : p.pieces ≡ sum xs
@@ -24,10 +24,10 @@ large_sum max points arcs pieces =
     if nat_lt max points then Some Points else (if nat_lt max arcs then Some Arcs else (if nat_lt max (points + pieces) then Some PointsAndPieces else None))
 
 -- the first of the vector's sums that passes max
-abbrev pub first_large : ℕ → Skeleton → Coordinates → List ℕ → Option Sum
+abbrev pub first_large : ℕ → Skeleton → Coords → List ℕ → Option Sum
 first_large max s coords xs = large_sum max (points_of coords xs s.edges.classes s.edges.count) (arcs_of s.rows coords xs) (sum xs)
 
 -- what is told of a vector: its properties where no sum passes max, and else the first sum that does
-abbrev pub IsPropertyAnswer : ℕ → Skeleton → Coordinates → List ℕ → Result Properties PropertyFault → Type 0
+abbrev pub IsPropertyAnswer : ℕ → Skeleton → Coords → List ℕ → Result Properties PropertyFault → Type 0
 IsPropertyAnswer max s coords xs (Ok p) = (first_large max s coords xs ≡ None) × AreProperties s coords xs p
 IsPropertyAnswer max s coords xs (Err (Large sum)) = first_large max s coords xs ≡ Some sum

@@ -4,7 +4,7 @@ use Rattle.std.specs.Fmt.{signed_decimal}
 use Rattle.std.specs.List.{flat_map}
 use Rattle.cone_text_definitions.specs.VectorText.{vector_text}
 use Rattle.skeleton_definitions.specs.Skeleton.{Skeleton}
-use Rattle.surface_definitions.specs.Coordinates.{Coordinates}
+use Rattle.surface_definitions.specs.declared.Coords.{Coords}
 use Rattle.surface_definitions.specs.Verdict.{verdict_text}
 use Rattle.surface_definitions.specs.Characteristic.{points, arcs, euler}
 use Rattle.vector_definitions.specs.declared.Properties.{Properties}
@@ -26,7 +26,7 @@ sides_word true = codes "two"
 sides_word false = codes "one"
 
 -- the Euler characteristic of a vector
-abbrev pub characteristic : Skeleton → Coordinates → List ℕ → ℤ
+abbrev pub characteristic : Skeleton → Coords → List ℕ → ℤ
 characteristic s coords xs = euler (points coords xs s.edges.classes s.edges.count) (arcs s.rows coords xs) (sum xs)
 
 -- the line of a vector's properties, with the number of its components
@@ -35,12 +35,12 @@ properties_line p components = line (codes "euler " ++ signed_decimal p.euler ++
     ++ codes " components " ++ decimal components)
 
 -- the line of a component, with the Euler characteristic of its vector
-abbrev pub component_line : Skeleton → Coordinates → Component → List ℕ
+abbrev pub component_line : Skeleton → Coords → Component → List ℕ
 component_line s coords c = codes "component euler " ++ signed_decimal (characteristic s coords c.vector) ++ codes " sides " ++ sides_word c.two_sided
     ++ codes " orientable " ++ yes_or_no c.orientable ++ codes " " ++ vector_text c.vector
 
 -- the lines of a described vector
-unfoldable pub description_text : Skeleton → Coordinates → Description → List ℕ
+unfoldable pub description_text : Skeleton → Coords → Description → List ℕ
 description_text s coords d =
     vector_text d.vector ++ properties_line d.properties (length d.components) ++ flat_map (component_line s coords) d.components
 

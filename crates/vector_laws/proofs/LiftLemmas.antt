@@ -13,7 +13,8 @@ use Rattle.table_definitions.specs.Places.{SameVertex}
 use Rattle.table_definitions.proofs.TableLaws.{Among, Among-below, Among-pairs}
 use Rattle.skeleton_definitions.specs.Links.{vertex_number}
 use Rattle.skeleton_definitions.specs.Skeleton.{Skeleton, IsSkeleton}
-use Rattle.surface_definitions.specs.Coordinates.{standard, quads, columns, quad_column, clash_list, clash_test, is_quad_or_octagon, is_octagon}
+use Rattle.surface_definitions.specs.Coordinates.{columns, quad_column, clash_list, clash_test, is_quad_or_octagon, is_octagon}
+use Rattle.surface_definitions.specs.declared.Coords.TheVariants.{Standard, Quad}
 use Rattle.surface_definitions.specs.Equations.{matching_rows}
 use Rattle.surface_definitions.specs.Lift.{projected, IsLift}
 use Rattle.vector_definitions.specs.Lifting.{IsLeastWithoutLift, IsLiftAnswer}
@@ -27,8 +28,8 @@ use Rattle.vector_laws.proofs.Solved.{rows_zero, other_is}
 use Rattle.vector_laws.proofs.Listed.{among_contains, Among-filter, filter-among, pairs-among, below-among, all_from, all_at}
 
 module _ (rows : List Row) (table : IsTable rows) (classes : List ℕ) (count : ℕ) (numbered : IsNumbering (4 * length rows) (SameVertex rows) classes count) where
-  pub lift_solves : (xs ys : List ℕ) → IsLift rows classes count xs ys → IsSolution (columns standard (length rows)) (matching_rows standard rows) ys
-  lift_solves xs ys f = rows_zero rows standard ys table tt
+  pub lift_solves : (xs ys : List ℕ) → IsLift rows classes count xs ys → IsSolution (columns Standard (length rows)) (matching_rows Standard rows) ys
+  lift_solves xs ys f = rows_zero rows Standard ys table tt
       (λ y v cy cv.
       let a : IsGlued rows y.0 y.1 = glued_is rows y.0 y.1 table (pair_glued rows y (among_contains y _ cy)) in
       let o : (v < 4) × (v ≡ (y.0).face → ⊥) = other_is (y.0).face v (among_contains v _ cv) in
@@ -37,7 +38,7 @@ module _ (rows : List Row) (table : IsTable rows) (classes : List ℕ) (count : 
       f.width
 
   -- the lift of a vector of quads projects to it, also where there is no tetrahedron
-  pub lift_projects : (xs ys : List ℕ) → length xs ≡ columns quads (length rows) → IsLift rows classes count xs ys → projected (length rows) ys ≡ xs
+  pub lift_projects : (xs ys : List ℕ) → length xs ≡ columns Quad (length rows) → IsLift rows classes count xs ys → projected (length rows) ys ≡ xs
   lift_projects xs ys w f = elim (cases_lt 0 (length rows)) [
     | inl some ↦ (let l : 0 < 4 * length rows = omega arith in (f.each (slice_index classes 0) (numbered.in_range 0 l)).quads_are)
     | inr none ↦ ext_get_or 0 (projected (length rows) ys) xs (length-projected ys (length rows) ∙ sym w) (λ i l. absurd (let e : length (projected (length rows) ys) ≡ 3 * length rows = length-projected ys (length rows) in omega arith))
@@ -51,27 +52,27 @@ record IsQuadPair (n a b : ℕ) : Type 0 where
   first : 4 ≤ a % 7
   second : 4 ≤ b % 7
 
-quad_pair : (n a b : ℕ) → Among {A = ℕ × ℕ} (a, b) (clash_list standard n) → IsQuadPair n a b
+quad_pair : (n a b : ℕ) → Among {A = ℕ × ℕ} (a, b) (clash_list Standard n) → IsQuadPair n a b
 unfolding clash_list
 quad_pair n a b h =
-    let m : Among {A = ℕ × ℕ} (a, b) (pairs_of (below (7 * n)) (below (7 * n))) × ((nat_lt a b && clash_test standard a b) ≡ true) =
-    filter-among (λ (p : ℕ × ℕ). nat_lt p.0 p.1 && clash_test standard p.0 p.1) (a, b) (pairs_of (below (7 * n)) (below (7 * n))) h in
+    let m : Among {A = ℕ × ℕ} (a, b) (pairs_of (below (7 * n)) (below (7 * n))) × ((nat_lt a b && clash_test Standard a b) ≡ true) =
+    filter-among (λ (p : ℕ × ℕ). nat_lt p.0 p.1 && clash_test Standard p.0 p.1) (a, b) (pairs_of (below (7 * n)) (below (7 * n))) h in
     let ab : Among a (below (7 * n)) × Among b (below (7 * n)) = pairs-among {A = ℕ} {B = ℕ} (a, b) (below (7 * n)) (below (7 * n)) m.0 in
-    let t : (nat_lt a b ≡ true) × (clash_test standard a b ≡ true) = and_parts (nat_lt a b) (clash_test standard a b) m.1 in
-    by_kind (ltb-true a b t.0) (below-among b (7 * n) ab.1) (or_cases (is_octagon standard a && is_octagon standard b) (((a / 7 == b / 7) && is_quad_or_octagon standard a) && is_quad_or_octagon standard b) t.1)
+    let t : (nat_lt a b ≡ true) × (clash_test Standard a b ≡ true) = and_parts (nat_lt a b) (clash_test Standard a b) m.1 in
+    by_kind (ltb-true a b t.0) (below-among b (7 * n) ab.1) (or_cases (is_octagon Standard a && is_octagon Standard b) (((a / 7 == b / 7) && is_quad_or_octagon Standard a) && is_quad_or_octagon Standard b) t.1)
   where
-    by_kind : a < b → b < 7 * n → ((is_octagon standard a && is_octagon standard b) ≡ true) ⊎ ((((a / 7 == b / 7) && is_quad_or_octagon standard a) && is_quad_or_octagon standard b) ≡ true) → IsQuadPair n a b
-    by_kind l lb (inl o) = absurd (let seven : 7 ≤ a % 7 = leb-true 7 (a % 7) (and_parts (is_octagon standard a) (is_octagon standard b) o).0 in omega arith)
+    by_kind : a < b → b < 7 * n → ((is_octagon Standard a && is_octagon Standard b) ≡ true) ⊎ ((((a / 7 == b / 7) && is_quad_or_octagon Standard a) && is_quad_or_octagon Standard b) ≡ true) → IsQuadPair n a b
+    by_kind l lb (inl o) = absurd (let seven : 7 ≤ a % 7 = leb-true 7 (a % 7) (and_parts (is_octagon Standard a) (is_octagon Standard b) o).0 in omega arith)
     by_kind l lb (inr q) =
-        let two : (((a / 7 == b / 7) && is_quad_or_octagon standard a) ≡ true) × (is_quad_or_octagon standard b ≡ true) = and_parts ((a / 7 == b / 7) && is_quad_or_octagon standard a) (is_quad_or_octagon standard b) q in
-        let one : ((a / 7 == b / 7) ≡ true) × (is_quad_or_octagon standard a ≡ true) = and_parts (a / 7 == b / 7) (is_quad_or_octagon standard a) two.0 in
+        let two : (((a / 7 == b / 7) && is_quad_or_octagon Standard a) ≡ true) × (is_quad_or_octagon Standard b ≡ true) = and_parts ((a / 7 == b / 7) && is_quad_or_octagon Standard a) (is_quad_or_octagon Standard b) q in
+        let one : ((a / 7 == b / 7) ≡ true) × (is_quad_or_octagon Standard a ≡ true) = and_parts (a / 7 == b / 7) (is_quad_or_octagon Standard a) two.0 in
         record { less = l; in_range = lb; one_tet = eqb-true (a / 7) (b / 7) one.0; first = leb-true 4 (a % 7) one.1; second = leb-true 4 (b % 7) two.1 }
 
 -- the column of a quad among the quads alone
 abbrev quad_alone : ℕ → ℕ
 quad_alone a = 3 * (a / 7) + (a % 7 - 4)
 
-pair_alone : (n a b : ℕ) → IsQuadPair n a b → Among {A = ℕ × ℕ} (quad_alone a, quad_alone b) (clash_list quads n)
+pair_alone : (n a b : ℕ) → IsQuadPair n a b → Among {A = ℕ × ℕ} (quad_alone a, quad_alone b) (clash_list Quad n)
 unfolding clash_list
 pair_alone n a b h =
     let l : a < b = h.less in
@@ -83,35 +84,35 @@ pair_alone n a b h =
     let in_a : quad_alone a < 3 * n = omega arith in
     let in_b : quad_alone b < 3 * n = omega arith in
     let tets : quad_alone a / 3 ≡ quad_alone b / 3 = omega arith in
-    Among-filter (λ (p : ℕ × ℕ). nat_lt p.0 p.1 && clash_test quads p.0 p.1) (quad_alone a, quad_alone b) (pairs_of (below (3 * n)) (below (3 * n)))
+    Among-filter (λ (p : ℕ × ℕ). nat_lt p.0 p.1 && clash_test Quad p.0 p.1) (quad_alone a, quad_alone b) (pairs_of (below (3 * n)) (below (3 * n)))
     (Among-pairs (quad_alone a) (quad_alone b) (below (3 * n)) (below (3 * n)) (Among-below (quad_alone a) (3 * n) in_a) (Among-below (quad_alone b) (3 * n) in_b))
-    (and_from (nat_lt (quad_alone a) (quad_alone b)) (clash_test quads (quad_alone a) (quad_alone b)) (lt-ltb (quad_alone a) (quad_alone b) less)
-    (or_right (is_octagon quads (quad_alone a) && is_octagon quads (quad_alone b)) (((quad_alone a / 3 == quad_alone b / 3) && is_quad_or_octagon quads (quad_alone a)) && is_quad_or_octagon quads (quad_alone b))
-    (and_from ((quad_alone a / 3 == quad_alone b / 3) && is_quad_or_octagon quads (quad_alone a)) (is_quad_or_octagon quads (quad_alone b))
-    (and_from (quad_alone a / 3 == quad_alone b / 3) (is_quad_or_octagon quads (quad_alone a)) (eq-eqb (quad_alone a / 3) (quad_alone b / 3) tets) (le-leb 0 (quad_alone a % 3) (omega arith)))
+    (and_from (nat_lt (quad_alone a) (quad_alone b)) (clash_test Quad (quad_alone a) (quad_alone b)) (lt-ltb (quad_alone a) (quad_alone b) less)
+    (or_right (is_octagon Quad (quad_alone a) && is_octagon Quad (quad_alone b)) (((quad_alone a / 3 == quad_alone b / 3) && is_quad_or_octagon Quad (quad_alone a)) && is_quad_or_octagon Quad (quad_alone b))
+    (and_from ((quad_alone a / 3 == quad_alone b / 3) && is_quad_or_octagon Quad (quad_alone a)) (is_quad_or_octagon Quad (quad_alone b))
+    (and_from (quad_alone a / 3 == quad_alone b / 3) (is_quad_or_octagon Quad (quad_alone a)) (eq-eqb (quad_alone a / 3) (quad_alone b / 3) tets) (le-leb 0 (quad_alone a % 3) (omega arith)))
     (le-leb 0 (quad_alone b % 3) (omega arith)))))
 
 -- a standard vector is admissible where its quads are
-pub quads_admissible : (n : ℕ) (xs ys : List ℕ) → projected n ys ≡ xs → IsAdmissible (clash_list quads n) xs → IsAdmissible (clash_list standard n) ys
+pub quads_admissible : (n : ℕ) (xs ys : List ℕ) → projected n ys ≡ xs → IsAdmissible (clash_list Quad n) xs → IsAdmissible (clash_list Standard n) ys
 quads_admissible n xs ys e h =
-    All-from_recursion (λ (p : ℕ × ℕ). (slice_index ys p.0 ≡ 0) ⊎ (slice_index ys p.1 ≡ 0)) (clash_list standard n)
-    (all_from (λ (p : ℕ × ℕ). (slice_index ys p.0 ≡ 0) ⊎ (slice_index ys p.1 ≡ 0)) (clash_list standard n) (λ p m. at_pair p.0 p.1 (quad_pair n p.0 p.1 m)))
+    All-from_recursion (λ (p : ℕ × ℕ). (slice_index ys p.0 ≡ 0) ⊎ (slice_index ys p.1 ≡ 0)) (clash_list Standard n)
+    (all_from (λ (p : ℕ × ℕ). (slice_index ys p.0 ≡ 0) ⊎ (slice_index ys p.1 ≡ 0)) (clash_list Standard n) (λ p m. at_pair p.0 p.1 (quad_pair n p.0 p.1 m)))
   where
-    alone : AllByRecursion (λ (p : ℕ × ℕ). (slice_index xs p.0 ≡ 0) ⊎ (slice_index xs p.1 ≡ 0)) (clash_list quads n)
-    alone = recursion_from_All (λ (p : ℕ × ℕ). (slice_index xs p.0 ≡ 0) ⊎ (slice_index xs p.1 ≡ 0)) (clash_list quads n) h
+    alone : AllByRecursion (λ (p : ℕ × ℕ). (slice_index xs p.0 ≡ 0) ⊎ (slice_index xs p.1 ≡ 0)) (clash_list Quad n)
+    alone = recursion_from_All (λ (p : ℕ × ℕ). (slice_index xs p.0 ≡ 0) ⊎ (slice_index xs p.1 ≡ 0)) (clash_list Quad n) h
 
     same_entry : (a : ℕ) → a < 7 * n → 4 ≤ a % 7 → slice_index xs (quad_alone a) ≡ slice_index ys a
     same_entry a la fa =
         let lt : a / 7 < n = omega arith in
         let lk : a % 7 - 4 < 3 = omega arith in
-        let at : quad_column standard (a / 7) (a % 7 - 4) ≡ a = omega arith in
+        let at : quad_column Standard (a / 7) (a % 7 - 4) ≡ a = omega arith in
         ap (λ w. slice_index w (quad_alone a)) (sym e) ∙ projected_at ys n (a / 7) (a % 7 - 4) lt lk ∙ ap (slice_index ys) at
 
     at_pair : (a b : ℕ) → IsQuadPair n a b → (slice_index ys a ≡ 0) ⊎ (slice_index ys b ≡ 0)
     at_pair a b p =
         let l : a < b = p.less in
         let lb : b < 7 * n = p.in_range in
-        elim (all_at (λ (q : ℕ × ℕ). (slice_index xs q.0 ≡ 0) ⊎ (slice_index xs q.1 ≡ 0)) (clash_list quads n) (quad_alone a, quad_alone b) alone (pair_alone n a b p)) [
+        elim (all_at (λ (q : ℕ × ℕ). (slice_index xs q.0 ≡ 0) ⊎ (slice_index xs q.1 ≡ 0)) (clash_list Quad n) (quad_alone a, quad_alone b) alone (pair_alone n a b p)) [
           | inl z ↦ inl (sym (same_entry a (omega arith) p.first) ∙ z)
           | inr z ↦ inr (sym (same_entry b lb p.second) ∙ z)
         ]

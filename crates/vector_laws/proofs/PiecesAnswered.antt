@@ -8,7 +8,7 @@ use Rattle.table_definitions.specs.Permutation.{is_odd, inverse}
 use Rattle.table_definitions.specs.Table.{Gluing, Row, way_back}
 use Rattle.table_definitions.proofs.TableLaws.{Among}
 use Rattle.perm_four.proofs.Permutations.{is_odd-inverse}
-use Rattle.surface_definitions.specs.Coordinates.{Coordinates}
+use Rattle.surface_definitions.specs.declared.Coords.{Coords}
 use Rattle.surface_definitions.specs.Pieces.{Arc, arc_across, Meets, looks_positive, keeps_sides, component_vector, AreComponents, IsTwoSided, IsOrientableComponent}
 use Rattle.vector_definitions.specs.Components.{most_pieces, Component, IsComponent, IsPiecesAnswer}
 use Rattle.vector_definitions.specs.declared.PiecesFault.{PiecesFault}
@@ -42,7 +42,7 @@ listed_each R (i ∷ is) each =
     let rest : (cs : List Component) × AllZip R is cs = listed_each R is (λ j m. each j (inr m)) in
     (here.0 ∷ rest.0, (here.1, rest.1))
 
-module _ (rows : List Row) (coords : Coordinates) (xs : List ℕ) (s : IsSurface rows coords xs) where
+module _ (rows : List Row) (coords : Coords) (xs : List ℕ) (s : IsSurface rows coords xs) where
   -- whether sides are kept is the same from either side of a gluing
   sides_back : (a : Arc) (g : Gluing) → Meets rows coords xs a g → keeps_sides coords xs (arc_across g a) (way_back (face_of_arc a) g) ≡ keeps_sides coords xs a g
   sides_back a g m =

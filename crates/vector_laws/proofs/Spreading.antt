@@ -12,7 +12,8 @@ use Rattle.table_definitions.proofs.TableLaws.{Among, Among-faces}
 use Rattle.table_definitions.proofs.PermutationLaws.{image_below}
 use Rattle.skeleton_definitions.specs.Links.{vertex_number}
 use Rattle.skeleton_definitions.specs.Skeleton.{Skeleton, IsSkeleton}
-use Rattle.surface_definitions.specs.Coordinates.{quads, quad_column, keeping}
+use Rattle.surface_definitions.specs.Coordinates.{quad_column, keeping}
+use Rattle.surface_definitions.specs.declared.Coords.TheVariants.{Quad}
 use Rattle.vector_definitions.specs.Lifting.{HasLiftAt, IsLeastWithoutLift, IsLiftAnswer}
 use Rattle.vector_definitions.specs.declared.LiftFault.{LiftFault}
 use Rattle.vector_definitions.specs.declared.LiftFault.TheVariants.{Large, NoLift}
@@ -54,7 +55,7 @@ module _ (s : Skeleton) (k : IsSkeleton s) (xs : List ℕ) (width : length xs �
   class_of i = slice_index s.vertices.classes i
 
   abbrev quad_there : ℕ → ℕ → ℕ → ℕ
-  quad_there t v f = slice_index xs (quad_column quads t (keeping v f))
+  quad_there t v f = slice_index xs (quad_column Quad t (keeping v f))
 
   -- by how much any heights rise and fall from vertex a to vertex b
   record Rise (a b : ℕ) : Type 0 where

@@ -10,7 +10,8 @@ use Rattle.table_definitions.specs.Places.{ends}
 use Rattle.table_definitions.specs.Classes.{least}
 use Rattle.table_definitions.specs.Table.{Row, Face, glue, faces}
 use Rattle.skeleton_definitions.specs.Links.{is_first_side}
-use Rattle.surface_definitions.specs.Coordinates.{Coordinates, arc_columns}
+use Rattle.surface_definitions.specs.Coordinates.{arc_columns}
+use Rattle.surface_definitions.specs.declared.Coords.{Coords}
 use Rattle.surface_definitions.specs.Pieces.{arcs_round}
 use Rattle.surface_definitions.specs.Characteristic.{crossings, weight, points, arcs_in, arcs, euler}
 use Rattle.vector_definitions.specs.Properties.{AreProperties}
@@ -39,7 +40,7 @@ sum-sum_of (a ∷ x) (b ∷ y) e =
     let more : sum (sum_of x y) ≡ sum x + sum y = sum-sum_of x y (omega arith) in
     omega (arith, sum_by-cons (λ (k : ℕ). k) (a + b) (sum_of x y), sum_by-cons (λ (k : ℕ). k) a x, sum_by-cons (λ (k : ℕ). k) b y)
 
-module _ (coords : Coordinates) (x y : List ℕ) (widths : length x ≡ length y) where
+module _ (coords : Coords) (x y : List ℕ) (widths : length x ≡ length y) where
   over_columns : (cs : List ℕ) → sum_by (slice_index (sum_of x y)) cs ≡ sum_by (slice_index x) cs + sum_by (slice_index y) cs
   over_columns cs = sum_by_plus (slice_index x) (slice_index y) (slice_index (sum_of x y)) (λ c. entry-sum_of x y c widths) cs
 
@@ -61,7 +62,7 @@ module _ (coords : Coordinates) (x y : List ℕ) (widths : length x ≡ length y
 euler_adds : (p q r s a b : ℕ) → euler (p + q) (a + b) (r + s) ≡ euler p a r +ℤ euler q b s
 euler_adds p q r s a b = omega (arith, ints)
 
-pub eulers_add : (s : Skeleton) (coords : Coordinates) (x y : List ℕ) (p q r : Properties) → length x ≡ length y
+pub eulers_add : (s : Skeleton) (coords : Coords) (x y : List ℕ) (p q r : Properties) → length x ≡ length y
     → AreProperties s coords x p → AreProperties s coords y q → AreProperties s coords (sum_of x y) r → r.euler ≡ p.euler +ℤ q.euler
 eulers_add s coords x y p q r w f g h =
     let u : AddUp s.rows coords s.edges.classes s.edges.count x y = add_up coords x y w s.rows s.edges.classes s.edges.count in

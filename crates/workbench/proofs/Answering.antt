@@ -3,7 +3,8 @@ use Rattle.std.proofs.Common.{◌≡◌, ℕ, inl, inr, List, length, Result, Ok
 use Rattle.std.specs.declared.alloc.Global.{Global}
 use Rattle.std.specs.Prelude.{IfOk, codes}
 use Rattle.table_definitions.specs.Table.{Row}
-use Rattle.surface_definitions.specs.Coordinates.{Coordinates, clash_list}
+use Rattle.surface_definitions.specs.Coordinates.{clash_list}
+use Rattle.surface_definitions.specs.declared.Coords.{Coords}
 use Rattle.cone_definitions.specs.Surfaces.{Clash}
 use Rattle.cone_definitions.specs.Elimination.{Named}
 use Rattle.cone_core.specs.Systems.{Cone}
@@ -32,7 +33,7 @@ module _ (name : List ℕ) (limit : ℕ) (system : Cone) (pairs : List Clash) (o
   surfaces_large taken kind o a same = inr (taken, kind, record { step = a.step; count = a.count; named = a.named; large = a.large }, same)
 
 -- the same of a table's equations
-module _ (limit : ℕ) (coords : Coordinates) (rows : List Row) (order : Order) where
+module _ (limit : ℕ) (coords : Coords) (rows : List Row) (order : Order) where
   pub table_listed : (list : List (List ℕ)) (o : Outcome) → AreTableSurfaces limit coords rows order list → o ≡ list_outcome (codes "surfaces") list → IsSurfacesAnswer coords order limit rows o
   table_listed list o a same = (a.0, a.1, surfaces_listed (codes "surfaces") limit (cone_of coords rows a.0) (clash_list coords (length rows)) order list o a.2 same)
 

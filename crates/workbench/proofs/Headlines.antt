@@ -5,7 +5,7 @@ use Rattle.std.specs.Bool.{MatchBool}
 use Rattle.bench_io.specs.Causes.{Grows}
 use Rattle.signature_definitions.specs.SignatureText.{InputFault}
 use Rattle.table_definitions.specs.Table.{Row}
-use Rattle.surface_definitions.specs.Coordinates.{Coordinates}
+use Rattle.surface_definitions.specs.declared.Coords.{Coords}
 use Rattle.document_definitions.specs.Documents.{worded, table_document, vectors_document, cone_document}
 use Rattle.command_definitions.specs.Requests.{Request, verify, surfaces, rays, Order}
 use Rattle.command_definitions.specs.Words.{accepted_request}
@@ -45,13 +45,13 @@ module _ (words : List (List ℕ)) (bytes : List ℕ) (o : Outcome) (held grown 
   printed : (p : Outcome) → o ≡ p → Grows held grown p.text
   printed p same = subst (λ (q : Outcome). Grows held grown q.text) same grows
 
-  surfaces_from : (coords : Coordinates) (order : Order) (most : ℕ) (rows : List Row) → table_document bytes ≡ Ok rows → IsSurfacesAnswer coords (order_of order) most rows o → PrintsSurfaces coords bytes held grown
+  surfaces_from : (coords : Coords) (order : Order) (most : ℕ) (rows : List Row) → table_document bytes ≡ Ok rows → IsSurfacesAnswer coords (order_of order) most rows o → PrintsSurfaces coords bytes held grown
   surfaces_from coords order most rows spelled h = elim h.2 [
     | inl g ↦ record { rows = rows; spelled = spelled; equations = h.0; of_table = h.1; list = g.1; surfaces = (g.2).surfaces; printed = printed (list_outcome (codes "surfaces") g.1) g.3 }
     | inr g ↦ apart o (large_outcome g.0 g.1) done g.3 not_large
   ]
 
-  pub prints_surfaces : (coords : Coordinates) (order : Order) (most : ℕ) → accepted_request words ≡ Some (surfaces coords order most) → PrintsSurfaces coords bytes held grown
+  pub prints_surfaces : (coords : Coords) (order : Order) (most : ℕ) → accepted_request words ≡ Some (surfaces coords order most) → PrintsSurfaces coords bytes held grown
   prints_surfaces coords order most e =
       told (table_document bytes) (IsSurfacesAnswer coords (order_of order) most) o
       (was_read (table_document bytes) (IsSurfacesAnswer coords (order_of order) most) o done (answered (surfaces coords order most) e))
@@ -65,11 +65,11 @@ module _ (words : List (List ℕ)) (bytes : List ℕ) (o : Outcome) (held grown 
         | inr h ↦ apart o (large_outcome h.0 h.1) done h.3 not_large
       ]
 
-  verdicts_from : (coords : Coordinates) (d : List Row × List (List ℕ)) → vectors_document bytes ≡ Ok d → IsVerdictsAnswer coords d o → PrintsVerdicts coords bytes held grown
+  verdicts_from : (coords : Coords) (d : List Row × List (List ℕ)) → vectors_document bytes ≡ Ok d → IsVerdictsAnswer coords d o → PrintsVerdicts coords bytes held grown
   verdicts_from coords d spelled h =
       record { rows = d.0; vectors = d.1; spelled = spelled; equations = h.0; of_table = h.1; printed = printed (verify_outcome coords d.0 h.0 d.1) h.2 }
 
-  pub prints_verdicts : (coords : Coordinates) → accepted_request words ≡ Some (verify coords) → PrintsVerdicts coords bytes held grown
+  pub prints_verdicts : (coords : Coords) → accepted_request words ≡ Some (verify coords) → PrintsVerdicts coords bytes held grown
   prints_verdicts coords e =
       told (vectors_document bytes) (IsVerdictsAnswer coords) o (was_read (vectors_document bytes) (IsVerdictsAnswer coords) o done (answered (verify coords) e)) (verdicts_from coords)
 
@@ -78,7 +78,7 @@ abbrev Tells : List (List ℕ) → Status → Option (List ℕ) → Option (List
 Tells words status held grown bytes = (o : Outcome) × IsOutcome words bytes o × (status ≡ o.status) × Grows held grown o.text
 
 pub told_surfaces : (words : List (List ℕ)) (status : Status) (held grown left : Option (List ℕ)) → status ≡ Done → IfSome left (Tells words status held grown)
-    → (coords : Coordinates) (order : Order) (most : ℕ) → accepted_request words ≡ Some (surfaces coords order most) → IfSome left (λ bytes. PrintsSurfaces coords bytes held grown)
+    → (coords : Coords) (order : Order) (most : ℕ) → accepted_request words ≡ Some (surfaces coords order most) → IfSome left (λ bytes. PrintsSurfaces coords bytes held grown)
 told_surfaces words status held grown None done h coords order most e = tt
 told_surfaces words status held grown (Some bytes) done h coords order most e = prints_surfaces words bytes h.0 held grown h.1 (sym h.2 ∙ done) h.3 coords order most e
 
@@ -88,7 +88,7 @@ told_rays words status held grown None done h order most e = tt
 told_rays words status held grown (Some bytes) done h order most e = prints_rays words bytes h.0 held grown h.1 (sym h.2 ∙ done) h.3 order most e
 
 pub told_verdicts : (words : List (List ℕ)) (status : Status) (held grown left : Option (List ℕ)) → status ≡ Done → IfSome left (Tells words status held grown)
-    → (coords : Coordinates) → accepted_request words ≡ Some (verify coords) → IfSome left (λ bytes. PrintsVerdicts coords bytes held grown)
+    → (coords : Coords) → accepted_request words ≡ Some (verify coords) → IfSome left (λ bytes. PrintsVerdicts coords bytes held grown)
 told_verdicts words status held grown None done h coords e = tt
 told_verdicts words status held grown (Some bytes) done h coords e = prints_verdicts words bytes h.0 held grown h.1 (sym h.2 ∙ done) h.3 coords e
 

@@ -2,7 +2,8 @@
 use Rattle.std.proofs.Common.{◌≡◌, ℕ, List, Result, refl, ◌∙◌, ap}
 use Rattle.cone_definitions.specs.Rows as cones
 use Rattle.surface_definitions.specs.Verdict.{Verdict, solution, wrong_length, large, fails, clash, verdict, verdict_text}
-use Rattle.surface_definitions.specs.Coordinates.{Coordinates, clash_list}
+use Rattle.surface_definitions.specs.Coordinates.{clash_list}
+use Rattle.surface_definitions.specs.declared.Coords.{Coords}
 use Rattle.text_definitions.specs.Written.{limit}
 use Rattle.quad_condition.specs.Faults.{answer_of}
 use Rattle.quad_condition.specs.declared.check.VectorFault.{VectorFault}
@@ -17,7 +18,7 @@ line_of (fails i) = refl
 line_of (clash a b) = refl
 
 -- the line of the verdict under the columns of a system
-pub checked_line : (checked : Result (Unit {0}) VectorFault) (coords : Coordinates) (n m tets k : ℕ) (rows : List cones.Row) (x : List ℕ)
+pub checked_line : (checked : Result (Unit {0}) VectorFault) (coords : Coords) (n m tets k : ℕ) (rows : List cones.Row) (x : List ℕ)
     → checked ≡ answer_of (verdict limit n rows (clash_list coords tets) x) → n ≡ m → tets ≡ k
     → check_line checked ≡ verdict_text (verdict limit m rows (clash_list coords k) x)
 checked_line checked coords n m tets k rows x same columns count = ap check_line same ∙ line_of (verdict limit n rows (clash_list coords tets) x)

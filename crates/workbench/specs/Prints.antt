@@ -6,7 +6,8 @@ use Rattle.cone_definitions.specs.Rows.{Row as EquationRow}
 use Rattle.cone_definitions.specs.Surfaces.{IsSurfaceList}
 use Rattle.cone_text_definitions.specs.ConeText.{Cone as ConeText}
 use Rattle.cone_core.specs.ConeReads.{system_of}
-use Rattle.surface_definitions.specs.Coordinates.{Coordinates, columns, clash_list}
+use Rattle.surface_definitions.specs.Coordinates.{columns, clash_list}
+use Rattle.surface_definitions.specs.declared.Coords.{Coords}
 use Rattle.surface_definitions.specs.QuadEquations.{AreEquations}
 use Rattle.document_definitions.specs.Documents.{worded, table_document, vectors_document, cone_document, verdicts_text}
 use Rattle.ray_answers.specs.Lists.{list_text}
@@ -19,7 +20,7 @@ listing name list = line (codes "# " ++ name ++ codes " " ++ decimal (length lis
 
 -- The input spells a table, and exactly the primitive vectors that lie on extreme rays of the solution cone of its
 -- equations and meet the quadrilateral condition were printed, each once, in lexicographic order.
-pub record PrintsSurfaces (coords : Coordinates) (bytes : List ℕ) (before now : Option (List ℕ)) : Type 0 where
+pub record PrintsSurfaces (coords : Coords) (bytes : List ℕ) (before now : Option (List ℕ)) : Type 0 where
   pub rows : List Row
   pub spelled : table_document bytes ≡ Ok rows
   pub equations : List EquationRow
@@ -37,7 +38,7 @@ pub record PrintsRays (bytes : List ℕ) (before now : Option (List ℕ)) : Type
   pub printed : Grows before now (listing (codes "rays") list)
 
 -- The input is a table and vectors, and the verdict on each vector under the table's equations was printed.
-pub record PrintsVerdicts (coords : Coordinates) (bytes : List ℕ) (before now : Option (List ℕ)) : Type 0 where
+pub record PrintsVerdicts (coords : Coords) (bytes : List ℕ) (before now : Option (List ℕ)) : Type 0 where
   pub rows : List Row
   pub vectors : List (List ℕ)
   pub spelled : vectors_document bytes ≡ Ok (rows, vectors)

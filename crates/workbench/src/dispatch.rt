@@ -9,7 +9,7 @@ ghost use Rattle.command_words.specs.Requests as words;
 ghost use Rattle.command_definitions.specs.Words.{accepted_request};
 ghost use Rattle.command_definitions.specs.Requests as requests;
 ghost use Rattle.command_definitions.specs.Requests.{Order as OrderName};
-ghost use Rattle.surface_definitions.specs.Coordinates.{Coordinates};
+ghost use Rattle.surface_definitions.specs.declared.Coords.{Coords};
 ghost use Rattle.workbench.specs.Prints.{PrintsSurfaces, PrintsRays, PrintsVerdicts};
 ghost use Rattle.workbench.specs.Requests.{IsBuilt};
 ghost use Rattle.workbench.specs.Runs.{Answers, IsAnswered, IsCalm, IsWithin, IsResponse, IsWithoutMemory, IsCutOff, IsDue, IsDelivered};
@@ -112,14 +112,14 @@ pub fn run<S: Source, K: Sink>(alloc: Global, words: &Words, source: &mut S, sin
     // For every input that spells a gluing table, `surfaces` prints exactly the primitive integer vectors that lie on
     // extreme rays of its solution cone, in the coordinates asked for, and meet the quadrilateral condition, each once,
     // in lexicographic order.
-    ensures surfaces { result ≡ Status.Done → (coords : Coordinates) → (order : OrderName) → (most : ℕ)
+    ensures surfaces { result ≡ Status.Done → (coords : Coords) → (order : OrderName) → (most : ℕ)
         → accepted_request words.now ≡ Some (requests.surfaces coords order most)
         → IfSome (S.left source.old) (λ bytes. PrintsSurfaces coords bytes (K.held sink.old) (K.held sink.new)) }
 
     // `rays` prints exactly the primitive extreme rays of a cone, and `verify` a verdict for each vector.
     ensures rays { result ≡ Status.Done → (order : OrderName) → (most : ℕ) → accepted_request words.now ≡ Some (requests.rays order most)
         → IfSome (S.left source.old) (λ bytes. PrintsRays bytes (K.held sink.old) (K.held sink.new)) }
-    ensures verify { result ≡ Status.Done → (coords : Coordinates) → accepted_request words.now ≡ Some (requests.verify coords)
+    ensures verify { result ≡ Status.Done → (coords : Coords) → accepted_request words.now ≡ Some (requests.verify coords)
         → IfSome (S.left source.old) (λ bytes. PrintsVerdicts coords bytes (K.held sink.old) (K.held sink.new)) }
 
     // Where neither count rose, the words and the input are answered, or memory ran out.

@@ -2,7 +2,6 @@
 ghost use Rattle.std.specs.Prelude.{◌≡◌, ◌≢◌, ◌≤◌, ◌^◌, length, IfOk};
 ghost use Rattle.command_words.specs.Requests as words;
 ghost use Rattle.document_definitions.specs.Documents.{table_document};
-ghost use Rattle.matching_equations.specs.Columns.{coordinates_of};
 ghost use Rattle.outcome_definitions.specs.Outcomes.{IsReadOutcome, IsOwnStatus};
 ghost use Rattle.outcome_definitions.specs.Enumerations.{IsSurfacesAnswer, order_of};
 
@@ -29,7 +28,7 @@ fn listed(
     requires named { order ≢ Order.Free }
     requires some_limit { 1 ≤ limit }
     requires most_limit { limit ≤ MAX_ENTRY }
-    ensures answer { IfOk result (IsSurfacesAnswer (coordinates_of coords) order limit skeleton.now.rows) }
+    ensures answer { IfOk result (IsSurfacesAnswer coords order limit skeleton.now.rows) }
     ensures own_status { IfOk result (λ o. IsOwnStatus o.status) }
 {
     match surface_list::surfaces(alloc, skeleton, coords, order, limit) {
@@ -50,7 +49,7 @@ fn answer(
     requires named { order ≢ Order.Free }
     requires some_limit { 1 ≤ limit }
     requires most_limit { limit ≤ MAX_ENTRY }
-    ensures answer { IfOk result (IsSurfacesAnswer (coordinates_of coords) order limit table.now) }
+    ensures answer { IfOk result (IsSurfacesAnswer coords order limit table.now) }
     ensures own_status { IfOk result (λ o. IsOwnStatus o.status) }
 {
     let skeleton = Skeleton::of(alloc, table)?;
@@ -68,7 +67,7 @@ pub fn surfaces(
     requires size { length bytes.now ≤ 2 ^ 31 }
     requires some_limit { 1 ≤ limit }
     requires most_limit { limit ≤ MAX_ENTRY }
-    ensures answer { IfOk result (IsReadOutcome (table_document bytes.now) (IsSurfacesAnswer (coordinates_of coords) (order_of (words.order_of order)) limit)) }
+    ensures answer { IfOk result (IsReadOutcome (table_document bytes.now) (IsSurfacesAnswer coords (order_of (words.order_of order)) limit)) }
     ensures own_status { IfOk result (λ o. IsOwnStatus o.status) }
 {
     match read_table_document(alloc, bytes) {

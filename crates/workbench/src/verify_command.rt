@@ -2,7 +2,6 @@
 ghost use Rattle.std.specs.Prelude.{◌≡◌, ◌≤◌, ◌++◌, ◌^◌, length, map, codes, decimal, IfOk, OnOk};
 ghost use Rattle.surface_definitions.specs.Coordinates as coordinates;
 ghost use Rattle.document_definitions.specs.Documents.{vectors_document, verdicts_text};
-ghost use Rattle.matching_equations.specs.Columns.{coordinates_of};
 ghost use Rattle.workbench.specs.Reads.{all_entries};
 ghost use Rattle.outcome_definitions.specs.Lines.{line};
 ghost use Rattle.surface_definitions.specs.Verdict.{verdict_text};
@@ -89,8 +88,8 @@ fn append_verdict(
     system: &System,
     vector: &[u128],
 ) -> Result<(), NoMemory>
-    requires { system.now.columns ≡ coordinates.columns (coordinates_of coords) (length table.now) }
-    ensures { OnOk result (out.new.items ≡ out.old.items ++ verdict_text (verdict_on (coordinates_of coords) table.now system.now.rows vector.now)) }
+    requires { system.now.columns ≡ coordinates.columns coords (length table.now) }
+    ensures { OnOk result (out.new.items ≡ out.old.items ++ verdict_text (verdict_on coords table.now system.now.rows vector.now)) }
 {
     let checked = check_vector(coords, table.len(), system, vector);
     append_checked(alloc, out, checked)
@@ -104,8 +103,8 @@ fn verdicts(
     system: &System,
     vectors: &[Vec<u128>],
 ) -> Result<Vec<u8>, NoMemory>
-    requires { system.now.columns ≡ coordinates.columns (coordinates_of coords) (length table.now) }
-    ensures { IfOk result (λ text. text.items ≡ verdicts_text (map (verdict_on (coordinates_of coords) table.now system.now.rows) (all_entries vectors.now))) }
+    requires { system.now.columns ≡ coordinates.columns coords (length table.now) }
+    ensures { IfOk result (λ text. text.items ≡ verdicts_text (map (verdict_on coords table.now system.now.rows) (all_entries vectors.now))) }
 {
     let mut text = Vec::new(alloc);
     for vector in vectors {
@@ -121,7 +120,7 @@ fn answer(
     table: &Table,
     vectors: &[Vec<u128>],
 ) -> Result<Outcome, NoMemory>
-    ensures answer { IfOk result (IsVerdictsAnswer (coordinates_of coords) (table.now, all_entries vectors.now)) }
+    ensures answer { IfOk result (IsVerdictsAnswer coords (table.now, all_entries vectors.now)) }
     ensures own_status { IfOk result (λ o. IsOwnStatus o.status) }
 {
     let skeleton = Skeleton::of(alloc, table)?;
@@ -133,7 +132,7 @@ fn answer(
 /// The outcome of `verify` on an input that isn't too long.
 pub fn verify(alloc: Global, coords: Coords, bytes: &[u8]) -> Result<Outcome, NoMemory>
     requires { length bytes.now ≤ 2 ^ 31 }
-    ensures answer { IfOk result (IsReadOutcome (vectors_document bytes.now) (IsVerdictsAnswer (coordinates_of coords))) }
+    ensures answer { IfOk result (IsReadOutcome (vectors_document bytes.now) (IsVerdictsAnswer coords)) }
     ensures own_status { IfOk result (λ o. IsOwnStatus o.status) }
 {
     match read_table_and_vectors(alloc, bytes) {

@@ -1,11 +1,10 @@
 use Rattle.std.proofs.Common.{◌≡◌, ◌+◌, ◌≤◌, ◌++◌, length}
-use Rattle.matching_equations.specs.Columns.{coordinates_of}
 use Rattle.matching_equations.proofs.Matched.{glued_before}
 use Rattle.matching_equations.proofs.matching.push_glued.Given as goal
 
 abbrev pub invariant-loop-vertex : goal.invariant-loop-vertex
 invariant-loop-vertex l = record {
   columns : l.system.columns ≡ l.fn.system.columns;
-  rows : l.system.rows ≡ l.fn.system.rows ++ glued_before (coordinates_of l.coords) l.fn.system.columns l.face l.glue l.vertex;
+  rows : l.system.rows ≡ l.fn.system.rows ++ glued_before l.coords l.fn.system.columns l.face l.glue l.vertex;
   few : length l.system.rows ≤ length l.fn.system.rows + l.vertex;
 }

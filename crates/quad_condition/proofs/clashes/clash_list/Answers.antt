@@ -1,19 +1,18 @@
 use Rattle.std.proofs.Common.{◌≡◌, ap, sym, subst, ◌∙◌, arith}
 use Rattle.surface_definitions.specs.Coordinates.{columns}
-use Rattle.matching_equations.specs.Columns.{coordinates_of}
 use Rattle.double_description.specs.Clashes.{AreClashes}
 use Rattle.quad_condition.proofs.MarkLemmas.{are_clashes}
 use Rattle.quad_condition.proofs.Pairs.{pairs_before, pairs_more, all_pairs}
 use Rattle.quad_condition.proofs.clashes.clash_list.Goals as goal
 
 pub loop-first-preserved : goal.loop-first-preserved
-loop-first-preserved c = pairs_more (coordinates_of c.args.coords) c.args.tets c.loop-first.first _ _ c.loop-first.invariant c.in_ok-push_partners.ensures
+loop-first-preserved c = pairs_more c.args.coords c.args.tets c.loop-first.first _ _ c.loop-first.invariant c.in_ok-push_partners.ensures
 
 pub returns-clause-pairs : goal.returns-clause-pairs
 returns-clause-pairs c =
-    let all : c.loop-first.first ≡ columns (coordinates_of c.args.coords) c.args.tets = omega arith in
-    c.loop-first.invariant ∙ ap (pairs_before (coordinates_of c.args.coords) c.args.tets) all ∙ all_pairs (coordinates_of c.args.coords) c.args.tets
+    let all : c.loop-first.first ≡ columns c.args.coords c.args.tets = omega arith in
+    c.loop-first.invariant ∙ ap (pairs_before c.args.coords c.args.tets) all ∙ all_pairs c.args.coords c.args.tets
 
 pub returns-clause-apart : goal.returns-clause-apart
 returns-clause-apart c =
-    subst (AreClashes (columns (coordinates_of c.args.coords) c.args.tets)) (sym (returns-clause-pairs c)) (are_clashes (coordinates_of c.args.coords) c.args.tets)
+    subst (AreClashes (columns c.args.coords c.args.tets)) (sym (returns-clause-pairs c)) (are_clashes c.args.coords c.args.tets)

@@ -1,9 +1,8 @@
 use Rattle.std.proofs.Common.{◌≡◌, None}
 use Rattle.std.specs.List.{find}
 use Rattle.surface_definitions.specs.Verdict.{both_nonzero}
-use Rattle.matching_equations.specs.Columns.{coordinates_of}
 use Rattle.quad_condition.proofs.Pairs.{pairs_before}
 use Rattle.quad_condition.proofs.clashes.first_clash.Given as goal
 
 abbrev pub invariant-loop-first : goal.invariant-loop-first
-invariant-loop-first l = find (both_nonzero l.x) (pairs_before (coordinates_of l.coords) l.tets l.first) ≡ None
+invariant-loop-first l = find (both_nonzero l.x) (pairs_before l.coords l.tets l.first) ≡ None

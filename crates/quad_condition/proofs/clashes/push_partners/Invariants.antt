@@ -1,7 +1,6 @@
 use Rattle.std.proofs.Common.{◌≡◌, ◌++◌}
-use Rattle.matching_equations.specs.Columns.{coordinates_of}
 use Rattle.quad_condition.proofs.Pairs.{partners_before}
 use Rattle.quad_condition.proofs.clashes.push_partners.Given as goal
 
 abbrev pub invariant-loop-second : goal.invariant-loop-second
-invariant-loop-second l = l.clashes.items ≡ l.fn.clashes.items ++ partners_before (coordinates_of l.coords) l.first l.second
+invariant-loop-second l = l.clashes.items ≡ l.fn.clashes.items ++ partners_before l.coords l.first l.second

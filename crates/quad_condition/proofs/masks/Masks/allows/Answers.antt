@@ -4,7 +4,6 @@ use Rattle.std.specs.declared.alloc.Global.{Global}
 use Rattle.std.proofs.lemmas.Bool.{false≢true}
 use Rattle.surface_definitions.specs.Coordinates.{clash_list}
 use Rattle.double_description.specs.Clashes.{IsClashFree}
-use Rattle.matching_equations.specs.Columns.{coordinates_of}
 use Rattle.quad_condition.specs.Bits.{HasTwo}
 use Rattle.quad_condition.specs.Marks.{Masked, HasNear}
 use Rattle.quad_condition.proofs.MarkLemmas.{decides_two, decides_near}
@@ -14,8 +13,8 @@ pub returns-then-not-has_near : goal.returns-then-not-has_near
 returns-then-not-has_near c =
     let a : List ℕ = c.words-first.result.now in
     let b : List ℕ = c.words-second.result.now in
-    subst (λ (m : Masked). IsTrue (not c.has_two.result) ↔ IsClashFree (clash_list (coordinates_of m.coords) m.tets) c.args.a.now c.args.b.now) c.self.view_is
-    (decides_two (coordinates_of c.self.inside.coords) c.self.inside.tets c.self.inside.near.items c.self.inside.octagons.items c.args.a.now c.args.b.now a b c.has_two.result
+    subst (λ (m : Masked). IsTrue (not c.has_two.result) ↔ IsClashFree (clash_list m.coords m.tets) c.args.a.now c.args.b.now) c.self.view_is
+    (decides_two c.self.inside.coords c.self.inside.tets c.self.inside.near.items c.self.inside.octagons.items c.args.a.now c.args.b.now a b c.has_two.result
     c.self.invariant c.words-first.ensures c.words-second.ensures
     (λ h. false≢true (c.if-not-has_near.ensures.1 (subst (λ (v : List (Vec ℕ Global)). HasNear v a b) (sym c.deref.ensures.value) h)))
     (subst (λ (mask : List ℕ). IsTrue c.has_two.result ↔ HasTwo mask a b) c.deref-then-not-has_near.ensures.value c.has_two.ensures))
@@ -24,7 +23,7 @@ pub returns-else-not-has_near : goal.returns-else-not-has_near
 returns-else-not-has_near c =
     let a : List ℕ = c.words-first.result.now in
     let b : List ℕ = c.words-second.result.now in
-    subst (λ (m : Masked). IsTrue (not c.has_near.result) ↔ IsClashFree (clash_list (coordinates_of m.coords) m.tets) c.args.a.now c.args.b.now) c.self.view_is
-    (decides_near (coordinates_of c.self.inside.coords) c.self.inside.tets c.self.inside.near.items c.self.inside.octagons.items c.args.a.now c.args.b.now a b c.has_near.result
+    subst (λ (m : Masked). IsTrue (not c.has_near.result) ↔ IsClashFree (clash_list m.coords m.tets) c.args.a.now c.args.b.now) c.self.view_is
+    (decides_near c.self.inside.coords c.self.inside.tets c.self.inside.near.items c.self.inside.octagons.items c.args.a.now c.args.b.now a b c.has_near.result
     c.self.invariant c.words-first.ensures c.words-second.ensures c.if-not-has_near.false
     (subst (λ (v : List (Vec ℕ Global)). IsTrue c.has_near.result ↔ HasNear v a b) c.deref.ensures.value c.has_near.ensures))
