@@ -1,0 +1,12 @@
+-- Each chain from the face has the end that was found.
+use Rattle.std.proofs.Common.{◌∙◌, ap, sym, length}
+use Rattle.crushing.specs.Rows.{renumbered}
+use Rattle.crushing.proofs.NewRows.{end_renumbered}
+use Rattle.crushing.proofs.crushed.crushed_glue.Goals as goal
+
+pub returns-in_err-end : goal.returns-in_err-end
+returns-in_err-end c = λ end h. c.from_residual.ensures ∙ sym (ap (renumbered c.args.x.now) (c.in_err-end.ensures.only end h))
+
+pub returns : goal.returns
+returns c = λ end h.
+    end_renumbered c.args.x.now c.args.numbers.now (length c.args.table.now) _ c.in_ok-end.end end c.requires.numbers c.end.view_is c.in_ok-end.ensures.in_range (c.in_ok-end.ensures.only end h)

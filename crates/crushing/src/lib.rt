@@ -1,0 +1,11 @@
+//! Crushing a table along a normal surface: tetrahedra with quads are taken out, and faces are followed through them.
+#![tactic(auto)]
+
+mod chain;
+mod crushed;
+mod quads;
+
+pub use crushed::crush;
+
+#[cfg(test)]
+mod tests;

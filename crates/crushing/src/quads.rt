@@ -1,0 +1,81 @@
+//! The quads of a tetrahedron, and what its faces become where it is taken out.
+
+ghost use Rattle.std.specs.Prelude.{◌≡◌, ◌≢◌, ◌+◌, ◌*◌, ◌<◌, ◌≤◌, length, true, false, IsNone, IfNone, IfSome, if◌then◌else◌, ◌==◌};
+ghost use Rattle.table_definitions.specs.Lists.{in_place_of};
+ghost use Rattle.std.specs.List.{position_or_len};
+ghost use Rattle.table_definitions.specs.Permutation.{IsPermutationOfFour};
+ghost use Rattle.surface_definitions.specs.Coordinates.{three, partner as partner_of};
+ghost use Rattle.surface_definitions.specs.Crushing.{has_quad, is_removed as is_taken, exchange as exchange_of};
+
+use perm_four::Perm4;
+
+/// The type 0, 1 or 2 of the quads of a tetrahedron; nothing exactly where it has none.
+pub fn quad_type(x: &[u128], tet: u32) -> Option<u8>
+    requires { 7 * tet + 7 ≤ length x.now }
+    ensures kept { IfNone result (is_taken x.now tet ≡ false) }
+    ensures removed { IfSome result (λ k. is_taken x.now tet ≡ true) }
+    ensures first { IfSome result (λ k. k ≡ position_or_len (has_quad x.now tet) three) }
+    ensures in_range { IfSome result (λ k. k < 3) }
+{
+    let quads = 7 * tet as usize + 4;
+    if x[quads] > 0 {
+        Some(0)
+    } else if x[quads + 1] > 0 {
+        Some(1)
+    } else if x[quads + 2] > 0 {
+        Some(2)
+    } else {
+        None
+    }
+}
+
+/// Whether a tetrahedron has quads, and so is taken out.
+pub fn is_removed(x: &[u128], tet: u32) -> bool
+    requires { 7 * tet + 7 ≤ length x.now }
+    ensures { result ≡ is_taken x.now tet }
+{
+    quad_type(x, tet).is_some()
+}
+
+/// The vertex that quads of a type keep on the side of v.
+pub fn partner(kind: u8, v: u8) -> u8
+    requires one_of_three { kind < 3 }
+    requires a_vertex { v < 4 }
+    ensures value { result ≡ partner_of kind v }
+    ensures in_range { result < 4 }
+    ensures other { result ≢ v }
+{
+    PARTNERS[kind as usize][v as usize]
+}
+
+// For each type of quads the other vertex on the side of each.
+const PARTNERS: [[u8; 4]; 3] = [[1, 0, 3, 2], [2, 3, 0, 1], [3, 2, 1, 0]];
+
+/// Where the exchange of v and w takes a vertex.
+fn exchanged(v: u8, w: u8, u: u8) -> u8
+    ensures { result ≡ (if u == v then w else in_place_of w v u) }
+{
+    if u == v {
+        w
+    } else if u == w {
+        v
+    } else {
+        u
+    }
+}
+
+/// The permutation that exchanges two vertices.
+pub fn exchange(v: u8, w: u8) -> Perm4
+    requires first { v < 4 }
+    requires second { w < 4 }
+    ensures value { result ≡ exchange_of v w }
+    ensures permutes { IsPermutationOfFour result }
+{
+    Perm4::new(
+        exchanged(v, w, 0),
+        exchanged(v, w, 1),
+        exchanged(v, w, 2),
+        exchanged(v, w, 3),
+    )
+    .unwrap()
+}
