@@ -2,7 +2,8 @@
 
 ghost use Rattle.std.specs.Prelude.{◌≡◌, ◌*◌, ◌<◌, length, false, Option, None, IfOk};
 ghost use Rattle.table_definitions.specs.Table.{Gluing, IsTable};
-ghost use Rattle.surface_definitions.specs.Coordinates.{standard, columns};
+ghost use Rattle.surface_definitions.specs.Coordinates.{columns};
+ghost use Rattle.surface_definitions.specs.declared.Coords.TheVariants.{Standard};
 ghost use Rattle.surface_definitions.specs.Crushing.{is_removed as is_taken, CrushesTo, IsCrushed};
 ghost use Rattle.crushing.specs.Rows.{renumbered, IsCrushedRow, AreCrushedBefore, AreNewNumbers};
 
@@ -88,7 +89,7 @@ fn crushed_rows(
 /// taken out leads from one to the other, and a face from which a chain leads to a boundary face becomes one. (Burton,
 /// on crushing; Jaco and Rubinstein, on 0-efficient triangulations.)
 pub fn crush(alloc: Global, table: &Table, x: &[u128]) -> Result<Table, NoMemory>
-    requires { length x.now ≡ columns standard (length table.now) }
+    requires { length x.now ≡ columns Standard (length table.now) }
     ensures crushed { IfOk result (λ new. IsCrushed table.now x.now new) }
     ensures is_table { IfOk result (λ new. IsTable new) }
 {

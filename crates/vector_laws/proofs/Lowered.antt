@@ -5,7 +5,8 @@ use Rattle.table_definitions.specs.Permutation.{image}
 use Rattle.table_definitions.proofs.PermutationLaws.{image_below}
 use Rattle.skeleton_definitions.specs.Links.{vertex_number}
 use Rattle.skeleton_definitions.specs.Skeleton.{Skeleton, IsSkeleton}
-use Rattle.surface_definitions.specs.Coordinates.{quads, quad_column, keeping}
+use Rattle.surface_definitions.specs.declared.Coords.TheVariants.{Quad}
+use Rattle.surface_definitions.specs.Coordinates.{quad_column, keeping}
 use Rattle.vector_laws.specs.LiftLaws.{AreHeights, IsLiftOf}
 use Rattle.vector_laws.proofs.Glued.{IsGlued, glued_is}
 use Rattle.vector_laws.proofs.Vertices.{class_across}
@@ -36,10 +37,10 @@ module _ (s : Skeleton) (k : IsSkeleton s) (xs : List ℕ) (w : length xs ≡ 3 
       let li : vertex_number x.tet v < 4 * length s.rows = omega (arith, into.tet) in
       let lj : vertex_number g.tet u < 4 * length s.rows = omega (arith, into.other_tet) in
       let cu : class_of (vertex_number g.tet u) ≡ c = sym (class_across s.rows k.table s.vertices.classes s.vertices.count k.vertices x g v e lv off) ∙ ch in
-      ap (λ d. (h (vertex_number x.tet v) - low d) + slice_index xs (quad_column quads x.tet (keeping v x.face))) ch
-      ∙ lowered (h (vertex_number x.tet v)) (h (vertex_number g.tet u)) (slice_index xs (quad_column quads x.tet (keeping v x.face))) (slice_index xs (quad_column quads g.tet (keeping u f))) (low c)
+      ap (λ d. (h (vertex_number x.tet v) - low d) + slice_index xs (quad_column Quad x.tet (keeping v x.face))) ch
+      ∙ lowered (h (vertex_number x.tet v)) (h (vertex_number g.tet u)) (slice_index xs (quad_column Quad x.tet (keeping v x.face))) (slice_index xs (quad_column Quad g.tet (keeping u f))) (low c)
       (m.least (vertex_number x.tet v) li ch) (m.least (vertex_number g.tet u) lj cu) (a x g v e lv off ch)
-      ∙ ap (λ d. (h (vertex_number g.tet u) - low d) + slice_index xs (quad_column quads g.tet (keeping u f))) (sym cu)
+      ∙ ap (λ d. (h (vertex_number g.tet u) - low d) + slice_index xs (quad_column Quad g.tet (keeping u f))) (sym cu)
 
   pub lowered_lift : ((c : ℕ) → c < s.vertices.count → AreHeights s xs c h) → ((c : ℕ) → c < s.vertices.count → IsLow s h c (low c)) → IsLiftOf s xs (vector_of (length s.rows) above xs)
   lowered_lift heights lows = record {
