@@ -1,5 +1,6 @@
 use super::*;
-use gluing_table::Table;
+use gluing_table::{Probe, Table};
+use perm_four::Perm4;
 use signature_codec::read_signature;
 use std::test::Fail;
 
@@ -54,5 +55,34 @@ fn loose_tables_are_refused(rt: HostRuntime) -> Result<(), Fail> {
         same(rt.alloc(), &one, &loose).err(),
         Some(SameFault::Second { tet: 1 })
     );
+    Ok(())
+}
+
+#[test]
+fn walks_are_compared_with_a_bound(rt: HostRuntime) -> Result<(), Fail> {
+    // the table, the bound, whether the text stands before it, and the most faces that may be read
+    let compared: [(&[u8], &[u8], bool, u64); 9] = [
+        (b"bkaagn", b"bkaagj", false, 4),
+        (b"bkaagn", b"bkaagn", false, 4),
+        (b"bkaagn", b"bkaagz", true, 4),
+        (b"bkaagn", b"bkaagnn", true, 4),
+        (b"bkaagn", b"bkaag", false, 4),
+        (b"bkaagn", b"c", true, 0),
+        (b"bkaagn", b"", false, 0),
+        (b"cPcbbbiht", b"cA", false, 3),
+        (b"cPcbbbiht", b"b", false, 0),
+    ];
+    for (text, bound, before, most) in compared {
+        let table = read_signature(rt.alloc(), text)?;
+        if table.len() > 0 {
+            let mut probe = Probe::new(&table);
+            let start = Start {
+                tet: 0,
+                perm: Perm4::of_index(0).expect(&rt, "the identity"),
+            };
+            assert_eq!(rt; lesser(rt.alloc(), &mut probe, start, bound)?, before);
+            assert!(rt; probe.taken() <= most);
+        }
+    }
     Ok(())
 }
