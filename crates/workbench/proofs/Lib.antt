@@ -1,14 +1,3 @@
-pub mod EachLine
-pub mod RefusalLines
-pub mod VerdictLines
-pub mod LastLine
 pub mod Accepted
 pub mod RunClauses
-pub mod Answering
-pub mod ClassLines
-pub mod ScriptLines
 pub mod Headlines
-pub mod EachTable
-pub mod Grouping
-pub mod LabelLines
-pub mod LineCount

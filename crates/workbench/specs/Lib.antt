@@ -1,11 +1,4 @@
-pub mod Texts
 pub mod Runs
-pub mod Reads
-pub mod Refusals
 pub mod Codes
-pub mod Verdicts
-pub mod Scripts
-pub mod Cones
 pub mod Requests
 pub mod Prints
-pub mod Groups

@@ -14,20 +14,15 @@ ghost use Rattle.workbench.specs.Prints.{PrintsSurfaces, PrintsRays, PrintsVerdi
 ghost use Rattle.workbench.specs.Requests.{IsBuilt};
 ghost use Rattle.workbench.specs.Runs.{Answers, IsAnswered, IsCalm, IsWithin, IsResponse, IsWithoutMemory, IsCutOff, IsDue, IsDelivered};
 
-use crate::group_command::group;
-use crate::info_command::info;
-use crate::outcome::Outcome;
-use crate::play_command::play;
-use crate::rays_command::rays;
-use crate::same_command::same;
-use crate::sig_command::sig;
-use crate::surfaces_command::surfaces;
-use crate::verify_command::verify;
 use bench_io::{ReadEnd, Sink, Source, Words, read_all, write_all};
+use command_answers::Outcome;
 use command_words::{Request, WordsFault, read_words};
+use enumeration_commands::{rays, surfaces, verify};
+use move_commands::play;
 use no_memory::NoMemory;
 use outcome_definitions::Status;
 use std::alloc::Global;
+use table_commands::{group, info, same, sig};
 
 /// An input has at most so many bytes.
 const MOST_BYTES: u64 = 1_048_576;

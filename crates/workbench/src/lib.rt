@@ -2,23 +2,6 @@
 #![tactic(auto)]
 
 mod dispatch;
-mod document;
-mod enumerations;
-mod group_command;
-mod groups;
-mod info_command;
-mod information;
-mod outcome;
-mod play_command;
-mod rays_command;
-mod refusals;
-mod same_command;
-mod script;
-mod sig_command;
-mod steps;
-mod surfaces_command;
-mod vectors;
-mod verify_command;
 
 ghost use Rattle.std.specs.Prelude.{◌≡◌};
 ghost use Rattle.workbench.specs.Codes.{code_of};

@@ -1,0 +1,4 @@
+pub mod EachLine
+pub mod RefusalLines
+pub mod Results
+pub mod LastLine

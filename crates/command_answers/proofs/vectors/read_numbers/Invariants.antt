@@ -1,0 +1,12 @@
+-- The numbers so far with those that are left are those of the line.
+use Rattle.std.proofs.Common.{◌≡◌, length}
+use Rattle.text_definitions.specs.Reading.{numbers_at}
+use Rattle.text_definitions.proofs.Readers.{with_front}
+use Rattle.text_definitions.specs.Written.{limit}
+use Rattle.command_answers.proofs.vectors.read_numbers.Given as goal
+
+abbrev pub invariant-loop-lexer : goal.invariant-loop-lexer
+invariant-loop-lexer l = with_front l.numbers.items (numbers_at limit l.lexer) ≡ numbers_at limit l.fn.lexer
+
+abbrev pub decreases-loop-lexer : goal.decreases-loop-lexer
+decreases-loop-lexer l = length l.lexer.current.tokens

@@ -1,0 +1,82 @@
+// The documents of the commands.
+ghost use Rattle.std.specs.Prelude.{◌≡◌, ◌≤◌, ◌^◌, length};
+ghost use Rattle.text_definitions.specs.Reading.{Moves};
+ghost use Rattle.document_definitions.specs.Documents.{next_table_at, no_line_at, table_document, two_tables_document, vectors_document};
+ghost use Rattle.signature_codec.specs.Inputs.{GivesInput, GivesDocument};
+ghost use Rattle.command_answers.specs.Reads.{entries_of};
+
+use crate::vectors::read_vectors;
+use bench_io::{LexFault, Lexer};
+use gluing_table::Table;
+use signature_codec::{InputFault, read_any};
+use std::alloc::Global;
+
+/// Two tables.
+#[derive(Drop)]
+pub struct TwoTables {
+    pub first: Table,
+    pub second: Table,
+}
+
+/// A table, and vectors.
+#[derive(Drop)]
+pub struct TableAndVectors {
+    pub table: Table,
+    pub vectors: Vec<Vec<u128>>,
+}
+
+/// No further line may stand: its first word is one too many.
+pub fn end_document(lexer: &mut Lexer<'_>) -> Result<(), LexFault>
+    ensures { Moves result lexer.new (no_line_at lexer.old) }
+{
+    if !lexer.next_line() {
+        return Ok(());
+    }
+    lexer.end_line()
+}
+
+/// A table on the next lines, as rows or as a signature.
+#[tactic(auto, unfolding(document_definitions::specs::Documents::next_table_at))]
+pub fn read_table(alloc: Global, lexer: &mut Lexer<'_>) -> Result<Table, InputFault>
+    ensures { GivesInput result lexer.new (next_table_at lexer.old) }
+{
+    lexer.need_line()?;
+    read_any(alloc, lexer)
+}
+
+/// The document of one table.
+#[tactic(auto, unfolding(document_definitions::specs::Documents::table_document))]
+pub fn read_table_document(alloc: Global, bytes: &[u8]) -> Result<Table, InputFault>
+    requires { length bytes.now ≤ 2 ^ 31 }
+    ensures { GivesDocument (λ table. table) result (table_document bytes.now) }
+{
+    let mut lexer = Lexer::new(bytes);
+    let table = read_table(alloc, &mut lexer)?;
+    end_document(&mut lexer)?;
+    Ok(table)
+}
+
+/// The document of two tables.
+#[tactic(auto, unfolding(document_definitions::specs::Documents::two_tables_document))]
+pub fn read_two_tables(alloc: Global, bytes: &[u8]) -> Result<TwoTables, InputFault>
+    requires { length bytes.now ≤ 2 ^ 31 }
+    ensures { GivesDocument (λ d. (d.first, d.second)) result (two_tables_document bytes.now) }
+{
+    let mut lexer = Lexer::new(bytes);
+    let first = read_table(alloc, &mut lexer)?;
+    let second = read_table(alloc, &mut lexer)?;
+    end_document(&mut lexer)?;
+    Ok(TwoTables { first, second })
+}
+
+/// The document of a table and vectors.
+#[tactic(auto, unfolding(document_definitions::specs::Documents::table_and_lines))]
+pub fn read_table_and_vectors(alloc: Global, bytes: &[u8]) -> Result<TableAndVectors, InputFault>
+    requires { length bytes.now ≤ 2 ^ 31 }
+    ensures { GivesDocument (λ d. (d.table, entries_of d.vectors)) result (vectors_document bytes.now) }
+{
+    let mut lexer = Lexer::new(bytes);
+    let table = read_table(alloc, &mut lexer)?;
+    let vectors = read_vectors(alloc, &mut lexer)?;
+    Ok(TableAndVectors { table, vectors })
+}

@@ -1,0 +1,14 @@
+//! What the commands share: outcomes, the one line of each refusal, and documents of tables and vectors.
+#![tactic(auto)]
+
+mod document;
+mod outcome;
+mod refusals;
+mod vectors;
+
+pub use document::{
+    TableAndVectors, TwoTables, end_document, read_table, read_table_and_vectors,
+    read_table_document, read_two_tables,
+};
+pub use outcome::Outcome;
+pub use refusals::{fault_outcome, not_connected_outcome};

@@ -1,0 +1,102 @@
+// What is to be written, and the exit status.
+ghost use Rattle.std.specs.Prelude.{◌≡◌};
+ghost use Rattle.outcome_definitions.specs.Outcomes.{usage_outcome, too_long_outcome, read_outcome};
+ghost use Rattle.outcome_definitions.specs.Lines as lines;
+ghost use Rattle.outcome_definitions.specs.Canonical.{different_outcome};
+
+use outcome_definitions::Status;
+use std::marker::Model;
+
+/// A text that is to be written. The fixed ones need no memory.
+#[derive(Drop)]
+pub enum Text {
+    Fixed(&'static [u8]),
+    Built(Vec<u8>),
+}
+
+/// An exit status and what is to be written with it.
+#[derive(Drop)]
+pub struct Outcome {
+    status: Status,
+    text: Text,
+}
+
+impl Model for Outcome {
+    ghost use Rattle.command_answers.specs.Texts.{text_bytes};
+    ghost use Rattle.outcome_definitions.specs.Outcomes as outcomes;
+
+    ghost Value = { outcomes.Outcome };
+
+    ghost view = { λ o. record { status = o.status; text = text_bytes o.text } };
+}
+
+impl Outcome {
+    /// A text that was built.
+    pub fn built(status: Status, text: Vec<u8>) -> Outcome
+        ensures { result ≡ record { status = status; text = text.items } }
+    {
+        Outcome {
+            status,
+            text: Text::Built(text),
+        }
+    }
+
+    /// The words are not accepted.
+    #[tactic(auto, unfolding(outcome_definitions::specs::Lines::usage_line))]
+    pub fn usage() -> Outcome
+        ensures { result ≡ usage_outcome }
+    {
+        Outcome {
+            status: Status::Usage,
+            text: Text::Fixed(b"refused: usage\n"),
+        }
+    }
+
+    /// The source failed.
+    #[tactic(auto, unfolding(outcome_definitions::specs::Lines::read_line))]
+    pub fn read_fault() -> Outcome
+        ensures { result ≡ read_outcome }
+    {
+        Outcome {
+            status: Status::ReadFault,
+            text: Text::Fixed(b"refused: read\n"),
+        }
+    }
+
+    /// The input is too long.
+    #[tactic(auto, unfolding(outcome_definitions::specs::Lines::too_long_line))]
+    pub fn too_long() -> Outcome
+        ensures { result ≡ too_long_outcome }
+    {
+        Outcome {
+            status: Status::Input,
+            text: Text::Fixed(b"refused: input too-long\n"),
+        }
+    }
+
+    /// No relabelling carries the one table to the other.
+    #[tactic(auto, unfolding(outcome_definitions::specs::Canonical::different_text))]
+    pub fn different() -> Outcome
+        ensures { result ≡ different_outcome }
+    {
+        Outcome {
+            status: Status::Done,
+            text: Text::Fixed(b"different\n"),
+        }
+    }
+
+    pub fn status(&self) -> Status
+        ensures { result ≡ self.now.status }
+    {
+        self.status
+    }
+
+    pub fn text(&self) -> &[u8]
+        ensures { result.now ≡ self.now.text }
+    {
+        match &self.text {
+            Text::Fixed(text) => *text,
+            Text::Built(text) => text.as_slice(),
+        }
+    }
+}

@@ -1,0 +1,167 @@
+// The one line of each refusal.
+ghost use Rattle.std.specs.Prelude.{◌≡◌, ◌++◌, codes, decimal, IfOk, OnOk};
+ghost use Rattle.outcome_definitions.specs.Lines.{kind_text, lex_line, face_line, place_line};
+ghost use Rattle.outcome_definitions.specs.Outcomes.{IsOwnStatus};
+ghost use Rattle.outcome_definitions.specs.Canonical as canonical;
+ghost use Rattle.command_answers.specs.Refusals.{table_fault_line, signature_fault_line, IsTextOutcome, IsFaultOutcome};
+
+use crate::outcome::Outcome;
+use bench_io::{LexFault, LexKind};
+use gluing_table::{TableFault, TextFault};
+use no_memory::NoMemory;
+use outcome_definitions::Status;
+use signature_codec::{InputFault, SigFault};
+use text_writing::{append, append_decimal};
+use std::alloc::Global;
+
+fn kind_word(kind: LexKind) -> &'static [u8]
+    ensures { result.now ≡ kind_text kind }
+{
+    match kind {
+        LexKind::BadByte => b"bad-byte",
+        LexKind::MissingWord => b"missing-word",
+        LexKind::NumberTooWide => b"too-wide",
+        LexKind::ExtraWord => b"extra-word",
+        LexKind::BadWord => b"bad-word",
+    }
+}
+
+// The place and the kind of the first fault of an input's words.
+#[tactic(auto, unfolding(outcome_definitions::specs::Lines::lex_line))]
+fn lex_fault_line(alloc: Global, fault: LexFault) -> Result<Vec<u8>, NoMemory>
+    ensures { IfOk result (λ text. text.items ≡ lex_line fault) }
+{
+    let mut text = Vec::new(alloc);
+    append(&mut text, b"refused: input ")?;
+    append_decimal(alloc, &mut text, u128::from(fault.place.line))?;
+    append(&mut text, b" ")?;
+    append_decimal(alloc, &mut text, u128::from(fault.place.column))?;
+    append(&mut text, b" ")?;
+    append(&mut text, kind_word(fault.kind))?;
+    append(&mut text, b"\n")?;
+    Ok(text)
+}
+
+// What is wrong at a face.
+fn face_fault_line(alloc: Global, kind: &[u8], tet: u32, face: u8) -> Result<Vec<u8>, NoMemory>
+    ensures { IfOk result (λ text. text.items ≡ face_line kind.now (record { tet = tet; face = face })) }
+{
+    let mut text = Vec::new(alloc);
+    append(&mut text, b"refused: table ")?;
+    append(&mut text, kind)?;
+    append(&mut text, b" ")?;
+    append_decimal(alloc, &mut text, u128::from(tet))?;
+    append(&mut text, b" ")?;
+    append_decimal(alloc, &mut text, u128::from(face))?;
+    append(&mut text, b"\n")?;
+    Ok(text)
+}
+
+// Why rows are no table.
+#[tactic(auto, unfolding(crate::specs::Refusals::table_fault_line))]
+fn table_line(alloc: Global, fault: TableFault) -> Result<Vec<u8>, NoMemory>
+    ensures { IfOk result (λ text. text.items ≡ table_fault_line fault) }
+{
+    match fault {
+        TableFault::NoMemory => Err(NoMemory),
+        TableFault::TooMany => fixed_line(alloc, b"refused: table too-many\n"),
+        TableFault::NoSuchTet { tet, face } => face_fault_line(alloc, b"no-such-tet", tet, face),
+        TableFault::SelfGlued { tet, face } => face_fault_line(alloc, b"self-glued", tet, face),
+        TableFault::NotMutual { tet, face } => face_fault_line(alloc, b"not-mutual", tet, face),
+    }
+}
+
+// A kind and a place in a signature.
+fn place_fault_line(alloc: Global, kind: &[u8], at: usize) -> Result<Vec<u8>, NoMemory>
+    ensures { IfOk result (λ text. text.items ≡ place_line kind.now at) }
+{
+    let mut text = Vec::new(alloc);
+    append(&mut text, b"refused: signature ")?;
+    append(&mut text, kind)?;
+    append(&mut text, b" ")?;
+    append_decimal(alloc, &mut text, at as u128)?;
+    append(&mut text, b"\n")?;
+    Ok(text)
+}
+
+fn fixed_line(alloc: Global, line: &[u8]) -> Result<Vec<u8>, NoMemory>
+    ensures { IfOk result (λ text. text.items ≡ line.now) }
+{
+    let mut text = Vec::new(alloc);
+    append(&mut text, line)?;
+    Ok(text)
+}
+
+// Why a text is no signature.
+#[tactic(auto, unfolding(crate::specs::Refusals::signature_fault_line))]
+fn signature_line(alloc: Global, fault: SigFault) -> Result<Vec<u8>, NoMemory>
+    ensures { IfOk result (λ text. text.items ≡ signature_fault_line fault) }
+{
+    match fault {
+        SigFault::NoMemory => Err(NoMemory),
+        SigFault::BadChar { at } => place_fault_line(alloc, b"bad-char", at),
+        SigFault::Short { at } => place_fault_line(alloc, b"short", at),
+        SigFault::BadType { at } => place_fault_line(alloc, b"bad-type", at),
+        SigFault::Leftover { at } => place_fault_line(alloc, b"leftover", at),
+        SigFault::Destination { at } => place_fault_line(alloc, b"destination", at),
+        SigFault::Gluing { at } => place_fault_line(alloc, b"gluing", at),
+        SigFault::FaceTaken { at } => place_fault_line(alloc, b"face-taken", at),
+        SigFault::Trailing { at } => place_fault_line(alloc, b"trailing", at),
+        SigFault::TooMany => fixed_line(alloc, b"refused: signature too-many\n"),
+        SigFault::Unreached => fixed_line(alloc, b"refused: signature unreached\n"),
+        SigFault::Width { at } => place_fault_line(alloc, b"width", at),
+    }
+}
+
+// Why a text has no table in the form `tri`.
+fn text_line(alloc: Global, fault: TextFault) -> Result<Vec<u8>, NoMemory>
+    ensures { IfOk result (λ text. IsTextOutcome fault (record { status = Status.Input; text = text.items })) }
+{
+    match fault {
+        TextFault::NoMemory => Err(NoMemory),
+        TextFault::Lex(fault) => lex_fault_line(alloc, fault),
+        TextFault::Table(fault) => table_line(alloc, fault),
+    }
+}
+
+fn input_line(alloc: Global, fault: InputFault) -> Result<Vec<u8>, NoMemory>
+    ensures { IfOk result (λ text. IsFaultOutcome fault (record { status = Status.Input; text = text.items })) }
+{
+    match fault {
+        InputFault::NoMemory => Err(NoMemory),
+        InputFault::Text(fault) => text_line(alloc, fault),
+        InputFault::Signature(fault) => signature_line(alloc, fault),
+    }
+}
+
+// Which table isn't connected, and its least tetrahedron that no chain joins to the first.
+#[tactic(auto, unfolding(outcome_definitions::specs::Canonical::not_connected_line))]
+fn not_connected_line(alloc: Global, table: u32, tet: u32) -> Result<Vec<u8>, NoMemory>
+    ensures { IfOk result (λ text. text.items ≡ canonical.not_connected_line table tet) }
+{
+    let mut text = Vec::new(alloc);
+    append(&mut text, b"refused: not-connected ")?;
+    append_decimal(alloc, &mut text, u128::from(table))?;
+    append(&mut text, b" ")?;
+    append_decimal(alloc, &mut text, u128::from(tet))?;
+    append(&mut text, b"\n")?;
+    Ok(text)
+}
+
+/// The outcome where a table, which are counted from 0, isn't connected.
+pub fn not_connected_outcome(alloc: Global, table: u32, tet: u32) -> Result<Outcome, NoMemory>
+    ensures told { IfOk result (λ o. o ≡ canonical.not_connected_outcome table tet) }
+    ensures own_status { IfOk result (λ o. IsOwnStatus o.status) }
+{
+    let text = not_connected_line(alloc, table, tet)?;
+    Ok(Outcome::built(Status::Refused, text))
+}
+
+/// The outcome of an input's fault.
+pub fn fault_outcome(alloc: Global, fault: InputFault) -> Result<Outcome, NoMemory>
+    ensures fault { IfOk result (IsFaultOutcome fault) }
+    ensures own_status { IfOk result (λ o. IsOwnStatus o.status) }
+{
+    let text = input_line(alloc, fault)?;
+    Ok(Outcome::built(Status::Input, text))
+}

@@ -1,0 +1,50 @@
+// Vectors from text.
+ghost use Rattle.std.specs.Prelude.{◌≡◌, map};
+ghost use Rattle.text_definitions.specs.Written.{limit};
+ghost use Rattle.cone_text_definitions.specs.VectorText.{vector_at};
+ghost use Rattle.document_definitions.specs.Documents.{each_line_from};
+ghost use Rattle.text_definitions.specs.Reading.{numbers_at};
+ghost use Rattle.command_answers.specs.Reads.{GivesLine, entries_of};
+
+use bench_io::Lexer;
+use gluing_table::TextFault;
+use std::alloc::Global;
+
+/// The greatest number that a document may name.
+pub const LIMIT: u128 = 170141183460469231731687303715884105727;
+
+// The decimals to the end of the line.
+fn read_numbers(alloc: Global, lexer: &mut Lexer<'_>) -> Result<Vec<u128>, TextFault>
+    ensures { GivesLine (λ v. v.items) result lexer.new (numbers_at limit lexer.old) }
+{
+    let mut numbers = Vec::new(alloc);
+    while !lexer.at_end() {
+        let number = lexer.number(LIMIT)?;
+        numbers.push(number)?;
+    }
+    Ok(numbers)
+}
+
+// The vector of the current line, of which no word was taken yet.
+#[tactic(auto, unfolding(cone_text_definitions::specs::VectorText::vector_at, text_definitions::specs::Reading::exactly_at))]
+fn read_vector(alloc: Global, lexer: &mut Lexer<'_>) -> Result<Vec<u128>, TextFault>
+    ensures { GivesLine (λ v. v.items) result lexer.new (vector_at lexer.old) }
+{
+    let word = lexer.word()?;
+    if word != b"vec".as_slice() {
+        return Err(TextFault::Lex(lexer.bad_word()));
+    }
+    read_numbers(alloc, lexer)
+}
+
+/// The vectors of all lines that are left.
+pub fn read_vectors(alloc: Global, lexer: &mut Lexer<'_>) -> Result<Vec<Vec<u128>>, TextFault>
+    ensures { GivesLine entries_of result lexer.new (each_line_from vector_at lexer.old.later lexer.old) }
+{
+    let mut vectors = Vec::new(alloc);
+    while lexer.next_line() {
+        let vector = read_vector(alloc, lexer)?;
+        vectors.push(vector)?;
+    }
+    Ok(vectors)
+}

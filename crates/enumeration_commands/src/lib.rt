@@ -1,0 +1,11 @@
+//! The commands `verify`, `surfaces` and `rays`: what the equations of a table, or the rows of a cone, decide.
+#![tactic(auto)]
+
+mod enumerations;
+mod rays_command;
+mod surfaces_command;
+mod verify_command;
+
+pub use rays_command::rays;
+pub use surfaces_command::surfaces;
+pub use verify_command::verify;

@@ -1,0 +1,65 @@
+// The command `rays`: all primitive extreme rays of a cone.
+ghost use Rattle.std.specs.Prelude.{◌≡◌, ◌≢◌, ◌≤◌, ◌^◌, [], length, codes, IfOk};
+ghost use Rattle.command_words.specs.Requests as words;
+ghost use Rattle.document_definitions.specs.Documents.{worded, cone_document};
+ghost use Rattle.outcome_definitions.specs.Outcomes.{IsReadOutcome, IsOwnStatus};
+ghost use Rattle.outcome_definitions.specs.Enumerations.{IsEnumerationAnswer, ray_enumeration};
+ghost use Rattle.enumeration_commands.specs.Cones.{GivesConeDocument};
+
+use crate::enumerations::{large_outcome, list_outcome, row_order};
+use bench_io::Lexer;
+use command_answers::{Outcome, end_document, fault_outcome};
+use cone_core::{ConeFault, MAX_ENTRY, System, read_cone};
+use double_description::{EnumFault, Order};
+use gluing_table::TextFault;
+use no_memory::NoMemory;
+use signature_codec::InputFault;
+use std::alloc::Global;
+
+// The document of a cone.
+#[tactic(auto, unfolding(document_definitions::specs::Documents::cone_document))]
+fn read_cone_document(alloc: Global, bytes: &[u8]) -> Result<System, ConeFault>
+    requires { length bytes.now ≤ 2 ^ 31 }
+    ensures { GivesConeDocument result (cone_document bytes.now) }
+{
+    let mut lexer = Lexer::new(bytes);
+    lexer.need_line()?;
+    let system = read_cone(alloc, &mut lexer)?;
+    end_document(&mut lexer)?;
+    Ok(system)
+}
+
+// The answer to a cone.
+fn answer(alloc: Global, system: &System, order: Order, limit: u128) -> Result<Outcome, NoMemory>
+    requires named { order ≢ Order.Free }
+    requires some_limit { 1 ≤ limit }
+    requires most_limit { limit ≤ MAX_ENTRY }
+    ensures answer { IfOk result (IsEnumerationAnswer (codes "rays") (record { system = system.now; pairs = []; order = order; limit = limit })) }
+    ensures own_status { IfOk result (λ o. IsOwnStatus o.status) }
+{
+    match ray_answers::rays(alloc, system, order, limit) {
+        Ok(rays) => list_outcome(alloc, b"rays", &rays.list),
+        Err(EnumFault::Large { order, kind }) => large_outcome(alloc, &order, &kind),
+        Err(EnumFault::NoMemory) => Err(NoMemory),
+    }
+}
+
+/// The outcome of `rays` on an input that isn't too long.
+pub fn rays(
+    alloc: Global,
+    order: command_words::Order,
+    limit: u128,
+    bytes: &[u8],
+) -> Result<Outcome, NoMemory>
+    requires size { length bytes.now ≤ 2 ^ 31 }
+    requires some_limit { 1 ≤ limit }
+    requires most_limit { limit ≤ MAX_ENTRY }
+    ensures answer { IfOk result (IsReadOutcome (worded (cone_document bytes.now)) (λ cone. IsEnumerationAnswer (codes "rays") (ray_enumeration (words.order_of order) limit cone))) }
+    ensures own_status { IfOk result (λ o. IsOwnStatus o.status) }
+{
+    match read_cone_document(alloc, bytes) {
+        Ok(system) => answer(alloc, &system, row_order(order), limit),
+        Err(ConeFault::Lex(fault)) => fault_outcome(alloc, InputFault::Text(TextFault::Lex(fault))),
+        Err(ConeFault::NoMemory) => Err(NoMemory),
+    }
+}

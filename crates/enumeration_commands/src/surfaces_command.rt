@@ -1,0 +1,75 @@
+// The command `surfaces`: all vertex surfaces of a table.
+ghost use Rattle.std.specs.Prelude.{◌≡◌, ◌≢◌, ◌≤◌, ◌^◌, length, IfOk};
+ghost use Rattle.command_words.specs.Requests as words;
+ghost use Rattle.document_definitions.specs.Documents.{table_document};
+ghost use Rattle.outcome_definitions.specs.Outcomes.{IsReadOutcome, IsOwnStatus};
+ghost use Rattle.outcome_definitions.specs.Enumerations.{IsSurfacesAnswer, order_of};
+
+use crate::enumerations::{large_outcome, list_outcome, row_order};
+use command_answers::{Outcome, fault_outcome, read_table_document};
+use cone_core::MAX_ENTRY;
+use double_description::{EnumFault, Order};
+use gluing_table::Table;
+use matching_equations::Coords;
+use no_memory::NoMemory;
+use skeleton::Skeleton;
+use std::alloc::Global;
+
+// The answer to a table, by its skeleton.
+fn listed(
+    alloc: Global,
+    skeleton: &Skeleton,
+    coords: Coords,
+    order: Order,
+    limit: u128,
+) -> Result<Outcome, NoMemory>
+    requires named { order ≢ Order.Free }
+    requires some_limit { 1 ≤ limit }
+    requires most_limit { limit ≤ MAX_ENTRY }
+    ensures answer { IfOk result (IsSurfacesAnswer coords order limit skeleton.now.rows) }
+    ensures own_status { IfOk result (λ o. IsOwnStatus o.status) }
+{
+    match surface_list::surfaces(alloc, skeleton, coords, order, limit) {
+        Ok(surfaces) => list_outcome(alloc, b"surfaces", &surfaces),
+        Err(EnumFault::Large { order, kind }) => large_outcome(alloc, &order, &kind),
+        Err(EnumFault::NoMemory) => Err(NoMemory),
+    }
+}
+
+// The answer to a table.
+fn answer(
+    alloc: Global,
+    table: &Table,
+    coords: Coords,
+    order: Order,
+    limit: u128,
+) -> Result<Outcome, NoMemory>
+    requires named { order ≢ Order.Free }
+    requires some_limit { 1 ≤ limit }
+    requires most_limit { limit ≤ MAX_ENTRY }
+    ensures answer { IfOk result (IsSurfacesAnswer coords order limit table.now) }
+    ensures own_status { IfOk result (λ o. IsOwnStatus o.status) }
+{
+    let skeleton = Skeleton::of(alloc, table)?;
+    listed(alloc, &skeleton, coords, order, limit)
+}
+
+/// The outcome of `surfaces` on an input that isn't too long.
+pub fn surfaces(
+    alloc: Global,
+    coords: Coords,
+    order: command_words::Order,
+    limit: u128,
+    bytes: &[u8],
+) -> Result<Outcome, NoMemory>
+    requires size { length bytes.now ≤ 2 ^ 31 }
+    requires some_limit { 1 ≤ limit }
+    requires most_limit { limit ≤ MAX_ENTRY }
+    ensures answer { IfOk result (IsReadOutcome (table_document bytes.now) (IsSurfacesAnswer coords (order_of (words.order_of order)) limit)) }
+    ensures own_status { IfOk result (λ o. IsOwnStatus o.status) }
+{
+    match read_table_document(alloc, bytes) {
+        Ok(table) => answer(alloc, &table, coords, row_order(order), limit),
+        Err(fault) => fault_outcome(alloc, fault),
+    }
+}

@@ -1,0 +1,140 @@
+// The command `verify`: a verdict for each vector.
+ghost use Rattle.std.specs.Prelude.{◌≡◌, ◌≤◌, ◌++◌, ◌^◌, length, map, codes, decimal, IfOk, OnOk};
+ghost use Rattle.surface_definitions.specs.Coordinates as coordinates;
+ghost use Rattle.document_definitions.specs.Documents.{vectors_document, verdicts_text};
+ghost use Rattle.command_answers.specs.Reads.{all_entries};
+ghost use Rattle.outcome_definitions.specs.Lines.{line};
+ghost use Rattle.surface_definitions.specs.Verdict.{verdict_text};
+ghost use Rattle.outcome_definitions.specs.Outcomes.{IsReadOutcome, IsOwnStatus};
+ghost use Rattle.outcome_definitions.specs.Answers.{IsVerdictsAnswer, verdict_on};
+ghost use Rattle.enumeration_commands.specs.Verdicts.{check_line};
+
+use command_answers::{Outcome, fault_outcome, read_table_and_vectors};
+use cone_core::System;
+use gluing_table::Table;
+use matching_equations::{Coords, equations};
+use no_memory::NoMemory;
+use outcome_definitions::Status;
+use quad_condition::{VectorFault, check_vector};
+use skeleton::Skeleton;
+use std::alloc::Global;
+use text_writing::{append, append_decimal};
+
+// A line of a word and a number.
+fn append_numbered(
+    alloc: Global,
+    out: &mut Vec<u8>,
+    word: &[u8],
+    number: u128,
+) -> Result<(), NoMemory>
+    ensures { OnOk result (out.new.items ≡ out.old.items ++ line (word.now ++ decimal number)) }
+{
+    append(out, word)?;
+    append_decimal(alloc, out, number)?;
+    append(out, b"\n")?;
+    Ok(())
+}
+
+// A line of a clash.
+fn append_clash(alloc: Global, out: &mut Vec<u8>, first: u32, second: u32) -> Result<(), NoMemory>
+    ensures { OnOk result (out.new.items ≡ out.old.items ++ line (codes "clash " ++ decimal first ++ codes " " ++ decimal second)) }
+{
+    append(out, b"clash ")?;
+    append_decimal(alloc, out, u128::from(first))?;
+    append(out, b" ")?;
+    append_decimal(alloc, out, u128::from(second))?;
+    append(out, b"\n")?;
+    Ok(())
+}
+
+fn append_solution(out: &mut Vec<u8>) -> Result<(), NoMemory>
+    ensures { OnOk result (out.new.items ≡ out.old.items ++ line (codes "solution")) }
+{
+    append(out, b"solution\n")?;
+    Ok(())
+}
+
+// The line of what the check of a vector answered.
+#[tactic(auto, unfolding(crate::specs::Verdicts::check_line))]
+fn append_checked(
+    alloc: Global,
+    out: &mut Vec<u8>,
+    checked: Result<(), VectorFault>,
+) -> Result<(), NoMemory>
+    ensures { OnOk result (out.new.items ≡ out.old.items ++ check_line checked) }
+{
+    match checked {
+        Ok(()) => append_solution(out),
+        Err(VectorFault::Length { got }) => append_numbered(alloc, out, b"length ", got as u128),
+        Err(VectorFault::Large { row }) => append_numbered(alloc, out, b"large ", u128::from(row)),
+        Err(VectorFault::NotSolution { row }) => append_numbered(
+            alloc,
+            out,
+            b"fails ",
+            u128::from(row),
+        ),
+        Err(VectorFault::Clash { first, second }) => append_clash(alloc, out, first, second),
+    }
+}
+
+// The line of the verdict on a vector.
+fn append_verdict(
+    alloc: Global,
+    out: &mut Vec<u8>,
+    coords: Coords,
+    table: &Table,
+    system: &System,
+    vector: &[u128],
+) -> Result<(), NoMemory>
+    requires { system.now.columns ≡ coordinates.columns coords (length table.now) }
+    ensures { OnOk result (out.new.items ≡ out.old.items ++ verdict_text (verdict_on coords table.now system.now.rows vector.now)) }
+{
+    let checked = check_vector(coords, table.len(), system, vector);
+    append_checked(alloc, out, checked)
+}
+
+// The lines of the verdicts on vectors.
+fn verdicts(
+    alloc: Global,
+    coords: Coords,
+    table: &Table,
+    system: &System,
+    vectors: &[Vec<u128>],
+) -> Result<Vec<u8>, NoMemory>
+    requires { system.now.columns ≡ coordinates.columns coords (length table.now) }
+    ensures { IfOk result (λ text. text.items ≡ verdicts_text (map (verdict_on coords table.now system.now.rows) (all_entries vectors.now))) }
+{
+    let mut text = Vec::new(alloc);
+    for vector in vectors {
+        append_verdict(alloc, &mut text, coords, table, system, vector)?;
+    }
+    Ok(text)
+}
+
+// The answer to a table and vectors.
+fn answer(
+    alloc: Global,
+    coords: Coords,
+    table: &Table,
+    vectors: &[Vec<u128>],
+) -> Result<Outcome, NoMemory>
+    ensures answer { IfOk result (IsVerdictsAnswer coords (table.now, all_entries vectors.now)) }
+    ensures own_status { IfOk result (λ o. IsOwnStatus o.status) }
+{
+    let skeleton = Skeleton::of(alloc, table)?;
+    let system = equations(alloc, &skeleton, coords)?;
+    let text = verdicts(alloc, coords, table, &system, vectors)?;
+    Ok(Outcome::built(Status::Done, text))
+}
+
+/// The outcome of `verify` on an input that isn't too long.
+pub fn verify(alloc: Global, coords: Coords, bytes: &[u8]) -> Result<Outcome, NoMemory>
+    requires { length bytes.now ≤ 2 ^ 31 }
+    ensures answer { IfOk result (IsReadOutcome (vectors_document bytes.now) (IsVerdictsAnswer coords)) }
+    ensures own_status { IfOk result (λ o. IsOwnStatus o.status) }
+{
+    match read_table_and_vectors(alloc, bytes) {
+        Ok(document) => answer(alloc, coords, &document.table, &document.vectors),
+        Err(fault) => fault_outcome(alloc, fault),
+    }
+}

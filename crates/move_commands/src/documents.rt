@@ -1,0 +1,32 @@
+// The document of a table and steps.
+ghost use Rattle.std.specs.Prelude.{◌≤◌, ◌^◌, length};
+ghost use Rattle.document_definitions.specs.Documents.{steps_document};
+ghost use Rattle.signature_codec.specs.Inputs.{GivesDocument};
+ghost use Rattle.move_commands.specs.Scripts.{steps_of};
+
+use crate::steps::read_steps;
+use bench_io::Lexer;
+use command_answers::read_table;
+use gluing_table::Table;
+use move_undo::Step;
+use signature_codec::InputFault;
+use std::alloc::Global;
+
+/// A table, and steps.
+#[derive(Drop)]
+pub struct TableAndSteps {
+    pub table: Table,
+    pub steps: Vec<Step>,
+}
+
+/// The document of a table and steps.
+#[tactic(auto, unfolding(document_definitions::specs::Documents::table_and_lines))]
+pub fn read_table_and_steps(alloc: Global, bytes: &[u8]) -> Result<TableAndSteps, InputFault>
+    requires { length bytes.now ≤ 2 ^ 31 }
+    ensures { GivesDocument (λ d. (d.table, steps_of d.steps)) result (steps_document bytes.now) }
+{
+    let mut lexer = Lexer::new(bytes);
+    let table = read_table(alloc, &mut lexer)?;
+    let steps = read_steps(alloc, &mut lexer)?;
+    Ok(TableAndSteps { table, steps })
+}

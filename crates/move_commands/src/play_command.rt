@@ -1,0 +1,38 @@
+// The command `play`: a line for each step of a script, and the table then.
+ghost use Rattle.std.specs.Prelude.{◌≡◌, ◌≤◌, ◌^◌, length, IfOk};
+ghost use Rattle.document_definitions.specs.Documents.{steps_document};
+ghost use Rattle.outcome_definitions.specs.Outcomes.{IsReadOutcome, IsOwnStatus};
+ghost use Rattle.outcome_definitions.specs.Scripts.{IsScriptAnswer};
+ghost use Rattle.move_commands.specs.Scripts.{all_steps};
+
+use crate::documents::read_table_and_steps;
+use crate::script::take_steps;
+use command_answers::{Outcome, fault_outcome};
+use gluing_table::{Table, write_table};
+use move_undo::{Session, Step};
+use no_memory::NoMemory;
+use outcome_definitions::Status;
+use std::alloc::Global;
+
+// The answer to a table and steps.
+fn answer(alloc: Global, table: Table, steps: &[Step]) -> Result<Outcome, NoMemory>
+    ensures answer { IfOk result (IsScriptAnswer (table, all_steps steps.now)) }
+    ensures own_status { IfOk result (λ o. IsOwnStatus o.status) }
+{
+    let mut session = Session::new(alloc, table);
+    let mut text = take_steps(alloc, &mut session, steps)?;
+    write_table(alloc, session.table(), &mut text)?;
+    Ok(Outcome::built(Status::Done, text))
+}
+
+/// The outcome of `play` on an input that isn't too long.
+pub fn play(alloc: Global, bytes: &[u8]) -> Result<Outcome, NoMemory>
+    requires { length bytes.now ≤ 2 ^ 31 }
+    ensures answer { IfOk result (IsReadOutcome (steps_document bytes.now) IsScriptAnswer) }
+    ensures own_status { IfOk result (λ o. IsOwnStatus o.status) }
+{
+    match read_table_and_steps(alloc, bytes) {
+        Ok(document) => answer(alloc, document.table, &document.steps),
+        Err(fault) => fault_outcome(alloc, fault),
+    }
+}

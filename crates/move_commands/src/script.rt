@@ -1,0 +1,128 @@
+// The answers to the steps of a script.
+ghost use Rattle.std.specs.Prelude.{◌≡◌, ◌++◌, codes, decimal, IfOk, OnOk};
+ghost use Rattle.move_definitions.specs.MoveText as text;
+ghost use Rattle.outcome_definitions.specs.Lines.{line};
+ghost use Rattle.move_undo.specs.Steps.{step_value};
+ghost use Rattle.move_commands.specs.Scripts.{all_steps, fault_text, Steps, Plays};
+
+use move_undo::{PlayFault, Session, Step};
+use no_memory::NoMemory;
+use pachner_moves::{Move, MoveFault};
+use text_writing::{append, append_decimal};
+use std::alloc::Global;
+
+// Two labels.
+fn append_labels(alloc: Global, out: &mut Vec<u8>, first: u8, second: u8) -> Result<(), NoMemory>
+    ensures { OnOk result (out.new.items ≡ out.old.items ++ codes "not-matched " ++ decimal first ++ codes " " ++ decimal second) }
+{
+    append(out, b"not-matched ")?;
+    append_decimal(alloc, out, u128::from(first))?;
+    append(out, b" ")?;
+    append_decimal(alloc, out, u128::from(second))?;
+    Ok(())
+}
+
+// A word and a label.
+fn append_label(alloc: Global, out: &mut Vec<u8>, word: &[u8], label: u8) -> Result<(), NoMemory>
+    ensures { OnOk result (out.new.items ≡ out.old.items ++ word.now ++ decimal label) }
+{
+    append(out, word)?;
+    append_decimal(alloc, out, u128::from(label))?;
+    Ok(())
+}
+
+fn append_word(out: &mut Vec<u8>, word: &[u8]) -> Result<(), NoMemory>
+    ensures { OnOk result (out.new.items ≡ out.old.items ++ word.now) }
+{
+    append(out, word)?;
+    Ok(())
+}
+
+// Why a move can't be made.
+#[tactic(auto, unfolding(crate::specs::Scripts::fault_text))]
+fn append_fault(alloc: Global, out: &mut Vec<u8>, fault: MoveFault) -> Result<(), NoMemory>
+    ensures { OnOk result (out.new.items ≡ out.old.items ++ fault_text fault) }
+{
+    match fault {
+        MoveFault::NoSuchTet => append_word(out, b"no-such-tet"),
+        MoveFault::Boundary { label } => append_label(alloc, out, b"boundary ", label),
+        MoveFault::Repeated { label } => append_label(alloc, out, b"repeated ", label),
+        MoveFault::NotMatched { first, second } => append_labels(alloc, out, first, second),
+        MoveFault::TooMany => append_word(out, b"too-many"),
+    }
+}
+
+// The line of a refused move.
+fn append_illegal(alloc: Global, out: &mut Vec<u8>, fault: MoveFault) -> Result<(), NoMemory>
+    ensures { OnOk result (out.new.items ≡ out.old.items ++ line (codes "illegal " ++ fault_text fault)) }
+{
+    append(out, b"illegal ")?;
+    append_fault(alloc, out, fault)?;
+    append(out, b"\n")?;
+    Ok(())
+}
+
+// Plays a move, and writes the line of the answer.
+fn play_move(
+    alloc: Global,
+    out: &mut Vec<u8>,
+    session: &mut Session,
+    m: Move,
+) -> Result<(), NoMemory>
+    ensures { OnOk result (Steps session.old (text.play m) session.new out.old.items out.new.items) }
+{
+    match session.play(m) {
+        Ok(()) => append_word(out, b"done\n"),
+        Err(PlayFault::Illegal(fault)) => append_illegal(alloc, out, fault),
+        Err(PlayFault::NoMemory) => Err(NoMemory),
+    }
+}
+
+// Takes the last move back, and writes the line of the answer.
+fn undo_move(out: &mut Vec<u8>, session: &mut Session) -> Result<(), NoMemory>
+    ensures { OnOk result (Steps session.old text.undo session.new out.old.items out.new.items) }
+{
+    if session.undo() {
+        append_word(out, b"undone\n")
+    } else {
+        append_word(out, b"nothing\n")
+    }
+}
+
+// Plays a move once more, and writes the line of the answer.
+fn redo_move(out: &mut Vec<u8>, session: &mut Session) -> Result<(), NoMemory>
+    ensures { OnOk result (Steps session.old text.redo session.new out.old.items out.new.items) }
+{
+    if session.redo() {
+        append_word(out, b"redone\n")
+    } else {
+        append_word(out, b"nothing\n")
+    }
+}
+
+// Takes a step, and writes the line of the answer.
+fn take_step(
+    alloc: Global,
+    out: &mut Vec<u8>,
+    session: &mut Session,
+    step: Step,
+) -> Result<(), NoMemory>
+    ensures { OnOk result (Steps session.old (step_value step) session.new out.old.items out.new.items) }
+{
+    match step {
+        Step::Play(m) => play_move(alloc, out, session, m),
+        Step::Undo => undo_move(out, session),
+        Step::Redo => redo_move(out, session),
+    }
+}
+
+/// The lines of the answers to steps.
+pub fn take_steps(alloc: Global, session: &mut Session, steps: &[Step]) -> Result<Vec<u8>, NoMemory>
+    ensures { IfOk result (λ text. Plays session.old (all_steps steps.now) session.new text.items) }
+{
+    let mut text = Vec::new(alloc);
+    for step in steps {
+        take_step(alloc, &mut text, session, *step)?;
+    }
+    Ok(text)
+}

@@ -1,0 +1,23 @@
+// Steps from text.
+ghost use Rattle.std.specs.Prelude.{◌≡◌};
+ghost use Rattle.move_definitions.specs.MoveText.{step_at};
+ghost use Rattle.document_definitions.specs.Documents.{each_line_from};
+ghost use Rattle.command_answers.specs.Reads.{GivesLine};
+ghost use Rattle.move_commands.specs.Scripts.{steps_of};
+
+use bench_io::Lexer;
+use gluing_table::TextFault;
+use move_undo::{Step, read_step};
+use std::alloc::Global;
+
+/// The steps of all lines that are left.
+pub fn read_steps(alloc: Global, lexer: &mut Lexer<'_>) -> Result<Vec<Step>, TextFault>
+    ensures { GivesLine steps_of result lexer.new (each_line_from step_at lexer.old.later lexer.old) }
+{
+    let mut steps = Vec::new(alloc);
+    while lexer.next_line() {
+        let step = read_step(lexer)?;
+        steps.push(step)?;
+    }
+    Ok(steps)
+}

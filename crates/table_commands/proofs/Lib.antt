@@ -1,0 +1,5 @@
+pub mod ClassLines
+pub mod EachTable
+pub mod Grouping
+pub mod LabelLines
+pub mod LineCount

@@ -1,0 +1,56 @@
+-- What is known of tables that are read and not kept.
+use Rattle.std.specs.Prelude.{◌≡◌, ℕ, ◌<◌, ◌≤◌, List, [], ◌∷◌, ◌++◌, length, Option, Some, None, Result, Ok, Err}
+use Rattle.text_definitions.specs.Reading.{Reading}
+use Rattle.table_definitions.specs.Table.{Row, IsTable}
+use Rattle.table_definitions.specs.Places.{IsConnected, IsLeastUnreached}
+use Rattle.signature_definitions.specs.SignatureText as signatures
+use Rattle.labelling_definitions.specs.Census.{table_in, IsCensus}
+use Rattle.signature_codec.specs.declared.any.InputFault.{InputFault}
+use Rattle.signature_codec.specs.Inputs.{FailsInput}
+use Rattle.table_commands.specs.declared.groups.NotConnected.{NotConnected}
+use Rattle.table_commands.specs.declared.groups.Groups.{Groups}
+
+-- the first k tables are connected
+abbrev pub AreConnected : List (List Row) → ℕ → Type 0
+AreConnected tables n = (k : ℕ) → k < n → IsConnected (table_in tables k)
+
+-- all tables are connected, with these classes and signatures
+pub record AreClassed (tables : List (List Row)) (classes : List ℕ) (signatures : List (List ℕ)) : Type 0 where
+  pub connected : AreConnected tables (length tables)
+  pub census : IsCensus tables classes signatures
+
+-- the first table that isn't connected, and its least unreached tetrahedron
+pub record IsFirstFound (tables : List (List Row)) (found : NotConnected) : Type 0 where
+  pub in_range : found.table < length tables
+  pub before : AreConnected tables found.table
+  pub unreached : IsLeastUnreached (table_in tables found.table) found.tet
+
+abbrev pub AreGroupedBy : List (List Row) → List ℕ → List (List ℕ) → Option NotConnected → Type 0
+AreGroupedBy tables classes signatures None = AreClassed tables classes signatures
+AreGroupedBy tables classes signatures (Some found) = IsFirstFound tables found
+
+-- what is known of the tables
+pub record AreGrouped (tables : List (List Row)) (groups : Groups) : Type 0 where
+  pub are_tables : (k : ℕ) → k < length tables → IsTable (table_in tables k)
+  pub few_classes : length groups.classes.items ≤ length tables
+  pub few_signatures : length groups.census ≤ length tables
+  pub grouped : AreGroupedBy tables groups.classes.items groups.census groups.found
+
+-- one more table was read, and is known of
+pub record GroupsOneMore (read : Result (List Row × Reading) signatures.InputFault) (left : Reading) (before now : Groups) : Type 0 where
+  pub rows : List Row
+  pub read_so : read ≡ Ok (rows, left)
+  pub grows : (tables : List (List Row)) → AreGrouped tables before → AreGrouped (tables ++ rows ∷ []) now
+
+abbrev pub GivesOneMore : Result (Unit {0}) InputFault → Result (List Row × Reading) signatures.InputFault → Reading → Groups → Groups → Type 0
+GivesOneMore (Ok u) read left before now = GroupsOneMore read left before now
+GivesOneMore (Err e) read left before now = FailsInput e read
+
+-- all tables were read, and are known of
+abbrev pub GivesGroups : Result Groups InputFault → Reading → Result (List (List Row) × Reading) signatures.InputFault → Type 0
+GivesGroups (Ok groups) left read = (tables : List (List Row)) × (read ≡ Ok (tables, left)) × AreGrouped tables groups
+GivesGroups (Err e) left read = FailsInput e read
+
+abbrev pub GivesGroupsDocument : Result Groups InputFault → Result (List (List Row)) signatures.InputFault → Type 0
+GivesGroupsDocument (Ok groups) read = (tables : List (List Row)) × (read ≡ Ok tables) × AreGrouped tables groups
+GivesGroupsDocument (Err e) read = FailsInput e read

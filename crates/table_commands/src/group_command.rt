@@ -1,0 +1,109 @@
+// The command `group`: the classes of tables.
+ghost use Rattle.std.specs.Prelude.{◌≡◌, ◌≤◌, ◌++◌, ◌^◌, List, length, slice_index, IfOk, OnOk};
+ghost use Rattle.table_definitions.specs.Table.{Row};
+ghost use Rattle.labelling_definitions.specs.Census.{signature_in};
+ghost use Rattle.document_definitions.specs.Documents.{tables_document};
+ghost use Rattle.outcome_definitions.specs.Outcomes.{IsReadOutcome, IsOwnStatus};
+ghost use Rattle.outcome_definitions.specs.Information.{classes_text};
+ghost use Rattle.outcome_definitions.specs.Canonical as canonical;
+ghost use Rattle.outcome_definitions.specs.Canonical.{done, IsGroupAnswer};
+ghost use Rattle.table_commands.specs.Groups.{AreGrouped};
+
+use crate::groups::{Groups, NotConnected, read_groups_document};
+use command_answers::{Outcome, fault_outcome, not_connected_outcome};
+use no_memory::NoMemory;
+use outcome_definitions::Status;
+use signature_census::Census;
+use text_writing::{append, append_decimal};
+use std::alloc::Global;
+
+// The class of a table.
+fn append_class(alloc: Global, text: &mut Vec<u8>, table: usize, class: u32) -> Result<(), NoMemory>
+    ensures { OnOk result (text.new.items ≡ text.old.items ++ canonical.class_line table class) }
+{
+    append(text, b"table ")?;
+    append_decimal(alloc, text, table as u128)?;
+    append(text, b" class ")?;
+    append_decimal(alloc, text, u128::from(class))?;
+    append(text, b"\n")?;
+    Ok(())
+}
+
+// The signature of a class.
+fn append_signature(
+    alloc: Global,
+    text: &mut Vec<u8>,
+    class: u32,
+    signature: &[u8],
+) -> Result<(), NoMemory>
+    ensures { OnOk result (text.new.items ≡ text.old.items ++ canonical.class_signature_line class signature.now) }
+{
+    append(text, b"class ")?;
+    append_decimal(alloc, text, u128::from(class))?;
+    append(text, b" ")?;
+    append(text, signature)?;
+    append(text, b"\n")?;
+    Ok(())
+}
+
+// The classes of all tables.
+fn append_classes(alloc: Global, text: &mut Vec<u8>, classes: &[u32]) -> Result<(), NoMemory>
+    ensures { OnOk result (text.new.items ≡ text.old.items ++ classes_text (λ k. canonical.class_line k (slice_index classes.now k)) (length classes.now)) }
+{
+    for table in 0..classes.len() {
+        append_class(alloc, text, table, classes[table])?;
+    }
+    Ok(())
+}
+
+// The signatures of all classes.
+fn append_signatures(alloc: Global, text: &mut Vec<u8>, census: &Census) -> Result<(), NoMemory>
+    ensures { OnOk result (text.new.items ≡ text.old.items ++ classes_text (λ c. canonical.class_signature_line c (signature_in census.now c)) (length census.now)) }
+{
+    for class in 0..census.len() {
+        append_signature(alloc, text, class, census.signature_of(class))?;
+    }
+    Ok(())
+}
+
+// Classes and signatures as a text.
+fn census_text(alloc: Global, classes: &[u32], census: &Census) -> Result<Vec<u8>, NoMemory>
+    ensures { IfOk result (λ text. text.items ≡ canonical.census_text classes.now census.now) }
+{
+    let mut text = Vec::new(alloc);
+    append_classes(alloc, &mut text, classes)?;
+    append_signatures(alloc, &mut text, census)?;
+    Ok(text)
+}
+
+// The outcome of a census.
+fn told(alloc: Global, classes: &[u32], census: &Census) -> Result<Outcome, NoMemory>
+    ensures told { IfOk result (λ o. o ≡ done (canonical.census_text classes.now census.now)) }
+    ensures own_status { IfOk result (λ o. IsOwnStatus o.status) }
+{
+    let text = census_text(alloc, classes, census)?;
+    Ok(Outcome::built(Status::Done, text))
+}
+
+// The answer to tables of which this is known.
+fn answer(alloc: Global, groups: &Groups) -> Result<Outcome, NoMemory>
+    ensures answer { IfOk result (λ o. (tables : List (List Row)) → AreGrouped tables groups.now → IsGroupAnswer tables o) }
+    ensures own_status { IfOk result (λ o. IsOwnStatus o.status) }
+{
+    match groups.found {
+        Some(NotConnected { table, tet }) => not_connected_outcome(alloc, table, tet),
+        None => told(alloc, &groups.classes, &groups.census),
+    }
+}
+
+/// The outcome of `group` on an input that isn't too long.
+pub fn group(alloc: Global, bytes: &[u8]) -> Result<Outcome, NoMemory>
+    requires { length bytes.now ≤ 2 ^ 31 }
+    ensures answer { IfOk result (IsReadOutcome (tables_document bytes.now) IsGroupAnswer) }
+    ensures own_status { IfOk result (λ o. IsOwnStatus o.status) }
+{
+    match read_groups_document(alloc, bytes) {
+        Ok(groups) => answer(alloc, &groups),
+        Err(fault) => fault_outcome(alloc, fault),
+    }
+}

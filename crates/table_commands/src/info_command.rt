@@ -1,0 +1,93 @@
+// The command `info`: the skeleton of a table and the links of its vertices.
+ghost use Rattle.std.specs.Prelude.{◌≡◌, ◌≤◌, ◌^◌, ◌↔◌, length, IsTrue, IfOk};
+ghost use Rattle.table_definitions.specs.Places.{IsConnected};
+ghost use Rattle.skeleton_definitions.specs.Orientation.{IsOrientable};
+ghost use Rattle.skeleton_definitions.specs.Skeleton.{IsSkeleton};
+ghost use Rattle.vertex_links.specs.Shown.{AreLinks};
+ghost use Rattle.document_definitions.specs.Documents.{table_document};
+ghost use Rattle.outcome_definitions.specs.Outcomes.{IsReadOutcome, IsOwnStatus};
+ghost use Rattle.outcome_definitions.specs.Information.{IsInformationAnswer, AreValid};
+
+use crate::information::information_text;
+use command_answers::{Outcome, fault_outcome, read_table_document};
+use gluing_table::Table;
+use no_memory::NoMemory;
+use outcome_definitions::Status;
+use skeleton::Skeleton;
+use vertex_links::{Link, links};
+use std::alloc::Global;
+
+// Which edge classes are valid.
+fn valid_edges(alloc: Global, skeleton: &Skeleton) -> Result<Vec<bool>, NoMemory>
+    ensures one_each { IfOk result (λ valid. length valid.items ≡ skeleton.now.edges.count) }
+    ensures valid { IfOk result (λ valid. AreValid skeleton.now skeleton.now.edges.count valid.items) }
+{
+    let mut valid = Vec::new(alloc);
+    for class in 0..skeleton.edges() {
+        valid.push(skeleton.is_valid_edge(class))?;
+    }
+    Ok(valid)
+}
+
+// Whether every two tetrahedra are joined.
+fn is_connected(alloc: Global, table: &Table) -> Result<bool, NoMemory>
+    ensures { IfOk result (λ connected. IsTrue connected ↔ IsConnected table.now) }
+{
+    match table.unreached(alloc)? {
+        Some(_) => Ok(false),
+        None => Ok(true),
+    }
+}
+
+// Whether there are signs that stay across odd gluings and change across even ones.
+fn is_orientable(skeleton: &Skeleton) -> bool
+    ensures { IsTrue result ↔ IsOrientable skeleton.now.rows }
+{
+    skeleton.orientation().is_some()
+}
+
+// The answer, from what is known of the table.
+fn informed(
+    alloc: Global,
+    skeleton: &Skeleton,
+    links: &[Link],
+    valid: &[bool],
+    connected: bool,
+) -> Result<Outcome, NoMemory>
+    requires skeleton { IsSkeleton skeleton.now }
+    requires one_each { length links.now ≡ skeleton.now.vertices.count }
+    requires links { AreLinks skeleton.now (length links.now) links.now }
+    requires valid_each { length valid.now ≡ skeleton.now.edges.count }
+    requires valid { AreValid skeleton.now skeleton.now.edges.count valid.now }
+    requires connected { IsTrue connected ↔ IsConnected skeleton.now.rows }
+    ensures answer { IfOk result (IsInformationAnswer skeleton.now.rows) }
+    ensures own_status { IfOk result (λ o. IsOwnStatus o.status) }
+{
+    let orientable = is_orientable(skeleton);
+    let text = information_text(alloc, skeleton, links, valid, connected, orientable)?;
+    Ok(Outcome::built(Status::Done, text))
+}
+
+// The answer to a table.
+fn answer(alloc: Global, table: &Table) -> Result<Outcome, NoMemory>
+    ensures answer { IfOk result (IsInformationAnswer table.now) }
+    ensures own_status { IfOk result (λ o. IsOwnStatus o.status) }
+{
+    let skeleton = Skeleton::of(alloc, table)?;
+    let connected = is_connected(alloc, skeleton.table())?;
+    let links = links(alloc, &skeleton)?;
+    let valid = valid_edges(alloc, &skeleton)?;
+    informed(alloc, &skeleton, &links, &valid, connected)
+}
+
+/// The outcome of `info` on an input that isn't too long.
+pub fn info(alloc: Global, bytes: &[u8]) -> Result<Outcome, NoMemory>
+    requires { length bytes.now ≤ 2 ^ 31 }
+    ensures answer { IfOk result (IsReadOutcome (table_document bytes.now) IsInformationAnswer) }
+    ensures own_status { IfOk result (λ o. IsOwnStatus o.status) }
+{
+    match read_table_document(alloc, bytes) {
+        Ok(table) => answer(alloc, &table),
+        Err(fault) => fault_outcome(alloc, fault),
+    }
+}

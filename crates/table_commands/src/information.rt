@@ -1,0 +1,227 @@
+// The text of `info`.
+ghost use Rattle.std.specs.Prelude.{◌≡◌, ◌++◌, IfOk, OnOk, codes, length};
+ghost use Rattle.std.specs.Fmt.{signed_decimal};
+ghost use Rattle.outcome_definitions.specs.Lines.{line};
+ghost use Rattle.outcome_definitions.specs.Information as information;
+ghost use Rattle.outcome_definitions.specs.Information.{classes_text};
+ghost use Rattle.vertex_links.specs.Shown.{kind_shown, link_shown};
+
+use no_memory::NoMemory;
+use skeleton::Skeleton;
+use text_writing::{append, append_decimal, append_signed};
+use vertex_links::{Link, LinkKind};
+use std::alloc::Global;
+
+fn yes_or_no(value: bool) -> &'static [u8]
+    ensures { result.now ≡ information.yes_or_no value }
+{
+    if value { b"yes" } else { b"no" }
+}
+
+fn place_word(in_boundary: bool) -> &'static [u8]
+    ensures { result.now ≡ information.place_word in_boundary }
+{
+    if in_boundary { b"boundary" } else { b"inner" }
+}
+
+fn kind_word(kind: LinkKind) -> &'static [u8]
+    ensures { result.now ≡ information.kind_word (kind_shown kind) }
+{
+    match kind {
+        LinkKind::Sphere => b"sphere",
+        LinkKind::Disc => b"disc",
+        LinkKind::Torus => b"torus",
+        LinkKind::Klein => b"klein",
+        LinkKind::Other => b"other",
+    }
+}
+
+// A name and a count, as a line.
+fn append_counted(
+    alloc: Global,
+    text: &mut Vec<u8>,
+    name: &[u8],
+    count: u32,
+) -> Result<(), NoMemory>
+    ensures { OnOk result (text.new.items ≡ text.old.items ++ information.counted name.now count) }
+{
+    append(text, name)?;
+    append_decimal(alloc, text, u128::from(count))?;
+    append(text, b"\n")?;
+    Ok(())
+}
+
+// A name and a truth value, as a line.
+fn append_told(text: &mut Vec<u8>, name: &[u8], value: bool) -> Result<(), NoMemory>
+    ensures { OnOk result (text.new.items ≡ text.old.items ++ information.told name.now value) }
+{
+    append(text, name)?;
+    append(text, yes_or_no(value))?;
+    append(text, b"\n")?;
+    Ok(())
+}
+
+// The line of a vertex class.
+fn append_vertex(
+    alloc: Global,
+    text: &mut Vec<u8>,
+    class: u32,
+    degree: u32,
+    link: &Link,
+) -> Result<(), NoMemory>
+    ensures { OnOk result (text.new.items ≡ text.old.items ++ information.vertex_line class degree (link_shown link.now)) }
+{
+    append(text, b"vertex ")?;
+    append_decimal(alloc, text, u128::from(class))?;
+    append(text, b" degree ")?;
+    append_decimal(alloc, text, u128::from(degree))?;
+    append(text, b" euler ")?;
+    append_signed(alloc, text, link.euler)?;
+    append(text, b" closed ")?;
+    append(text, yes_or_no(link.closed))?;
+    append(text, b" kind ")?;
+    append(text, kind_word(link.kind))?;
+    append(text, b"\n")?;
+    Ok(())
+}
+
+// The line of an edge class.
+fn append_edge(
+    alloc: Global,
+    text: &mut Vec<u8>,
+    class: u32,
+    degree: u32,
+    in_boundary: bool,
+    valid: bool,
+) -> Result<(), NoMemory>
+    ensures { OnOk result (text.new.items ≡ text.old.items ++ information.edge_line class degree in_boundary valid) }
+{
+    append(text, b"edge ")?;
+    append_decimal(alloc, text, u128::from(class))?;
+    append(text, b" degree ")?;
+    append_decimal(alloc, text, u128::from(degree))?;
+    append(text, b" place ")?;
+    append(text, place_word(in_boundary))?;
+    append(text, b" valid ")?;
+    append(text, yes_or_no(valid))?;
+    append(text, b"\n")?;
+    Ok(())
+}
+
+// The lines of the vertex classes.
+fn append_vertices(
+    alloc: Global,
+    text: &mut Vec<u8>,
+    skeleton: &Skeleton,
+    links: &[Link],
+) -> Result<(), NoMemory>
+    requires { length links.now ≡ skeleton.now.vertices.count }
+    ensures { OnOk result (text.new.items ≡ text.old.items ++ classes_text (information.vertex_text skeleton.now links.now) skeleton.now.vertices.count) }
+{
+    for class in 0..skeleton.vertices() {
+        append_vertex(
+            alloc,
+            text,
+            class,
+            skeleton.vertex_degree(class),
+            &links[class as usize],
+        )?;
+    }
+    Ok(())
+}
+
+// The lines of the edge classes.
+fn append_edges(
+    alloc: Global,
+    text: &mut Vec<u8>,
+    skeleton: &Skeleton,
+    valid: &[bool],
+) -> Result<(), NoMemory>
+    requires { length valid.now ≡ skeleton.now.edges.count }
+    ensures { OnOk result (text.new.items ≡ text.old.items ++ classes_text (information.edge_text skeleton.now valid.now) skeleton.now.edges.count) }
+{
+    for class in 0..skeleton.edges() {
+        append_edge(
+            alloc,
+            text,
+            class,
+            skeleton.edge_degree(class),
+            skeleton.is_boundary_edge(class),
+            valid[class as usize],
+        )?;
+    }
+    Ok(())
+}
+
+fn tetrahedra(skeleton: &Skeleton) -> u32
+    ensures { result ≡ length skeleton.now.rows }
+{
+    skeleton.table().len()
+}
+
+// The number of tetrahedra, and what holds of the whole table.
+fn append_flags(
+    alloc: Global,
+    text: &mut Vec<u8>,
+    skeleton: &Skeleton,
+    connected: bool,
+    orientable: bool,
+) -> Result<(), NoMemory>
+    ensures { OnOk result (text.new.items ≡ text.old.items ++ information.flags_text skeleton.now connected orientable) }
+{
+    append_counted(alloc, text, b"tetrahedra ", tetrahedra(skeleton))?;
+    append_told(text, b"connected ", connected)?;
+    append_told(text, b"orientable ", orientable)?;
+    append_told(text, b"closed ", skeleton.is_closed())?;
+    Ok(())
+}
+
+// The numbers of classes, and the Euler characteristic.
+fn append_counts(alloc: Global, text: &mut Vec<u8>, skeleton: &Skeleton) -> Result<(), NoMemory>
+    ensures { OnOk result (text.new.items ≡ text.old.items ++ information.counts_text skeleton.now) }
+{
+    append_counted(alloc, text, b"vertices ", skeleton.vertices())?;
+    append_counted(alloc, text, b"edges ", skeleton.edges())?;
+    append_counted(alloc, text, b"faces ", skeleton.faces())?;
+    append_euler(alloc, text, characteristic(skeleton))?;
+    Ok(())
+}
+
+fn append_euler(alloc: Global, text: &mut Vec<u8>, euler: i64) -> Result<(), NoMemory>
+    ensures { OnOk result (text.new.items ≡ text.old.items ++ line (codes "euler " ++ signed_decimal euler)) }
+{
+    append(text, b"euler ")?;
+    append_signed(alloc, text, euler)?;
+    append(text, b"\n")?;
+    Ok(())
+}
+
+// Vertices minus edges plus faces minus tetrahedra.
+fn characteristic(skeleton: &Skeleton) -> i64
+    ensures { result ≡ information.characteristic skeleton.now }
+{
+    let more = i64::from(skeleton.vertices()) + i64::from(skeleton.faces());
+    let less = i64::from(skeleton.edges()) + i64::from(skeleton.table().len());
+    more - less
+}
+
+/// The text of `info`.
+pub fn information_text(
+    alloc: Global,
+    skeleton: &Skeleton,
+    links: &[Link],
+    valid: &[bool],
+    connected: bool,
+    orientable: bool,
+) -> Result<Vec<u8>, NoMemory>
+    requires links { length links.now ≡ skeleton.now.vertices.count }
+    requires valid { length valid.now ≡ skeleton.now.edges.count }
+    ensures { IfOk result (λ text. text.items ≡ information.information_text (record { skeleton = skeleton.now; links = links.now; valid = valid.now; connected = connected; orientable = orientable })) }
+{
+    let mut text = Vec::new(alloc);
+    append_flags(alloc, &mut text, skeleton, connected, orientable)?;
+    append_counts(alloc, &mut text, skeleton)?;
+    append_vertices(alloc, &mut text, skeleton, links)?;
+    append_edges(alloc, &mut text, skeleton, valid)?;
+    Ok(text)
+}

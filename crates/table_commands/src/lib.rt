@@ -1,0 +1,14 @@
+//! The commands `info`, `sig`, `same` and `group`: what the gluings of a table decide.
+#![tactic(auto)]
+
+mod group_command;
+mod groups;
+mod info_command;
+mod information;
+mod same_command;
+mod sig_command;
+
+pub use group_command::group;
+pub use info_command::info;
+pub use same_command::same;
+pub use sig_command::sig;

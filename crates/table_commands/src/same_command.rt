@@ -1,0 +1,100 @@
+// The command `same`: the least relabelling that carries the one table to the other.
+ghost use Rattle.std.specs.Prelude.{◌≡◌, ◌≤◌, ◌++◌, ◌^◌, length, IfOk, OnOk};
+ghost use Rattle.table_definitions.specs.Relabelling.{stand_in};
+ghost use Rattle.labelling_definitions.specs.Labellings.{IsLeastRelabelling};
+ghost use Rattle.document_definitions.specs.Documents.{two_tables_document};
+ghost use Rattle.outcome_definitions.specs.Outcomes.{IsReadOutcome, IsOwnStatus};
+ghost use Rattle.outcome_definitions.specs.Information.{classes_text};
+ghost use Rattle.outcome_definitions.specs.Canonical as canonical;
+ghost use Rattle.outcome_definitions.specs.Canonical.{done, IsCompared, IsSameAnswer};
+
+use canonical_labelling::{SameFault, same as least_relabelling};
+use command_answers::{Outcome, fault_outcome, not_connected_outcome, read_two_tables};
+use gluing_table::{Relabelling, Table};
+use no_memory::NoMemory;
+use outcome_definitions::Status;
+use perm_four::Perm4;
+use text_writing::{append, append_decimal};
+use std::alloc::Global;
+
+// The line of a tetrahedron: its number, its number in the second table, and where its vertices go.
+fn append_image(
+    alloc: Global,
+    text: &mut Vec<u8>,
+    tet: u32,
+    image: u32,
+    perm: Perm4,
+) -> Result<(), NoMemory>
+    ensures { OnOk result (text.new.items ≡ text.old.items ++ canonical.image_line tet (record { tet = image; perm = perm })) }
+{
+    append_decimal(alloc, text, u128::from(tet))?;
+    append(text, b" ")?;
+    append_decimal(alloc, text, u128::from(image))?;
+    append(text, b" ")?;
+    append(text, &perm.word())?;
+    append(text, b"\n")?;
+    Ok(())
+}
+
+// The lines of all tetrahedra.
+fn append_images(
+    alloc: Global,
+    text: &mut Vec<u8>,
+    tets: u32,
+    by: &Relabelling,
+) -> Result<(), NoMemory>
+    requires { tets ≡ length by.now.images }
+    ensures { OnOk result (text.new.items ≡ text.old.items ++ classes_text (λ tet. canonical.image_line tet (stand_in by.now tet)) (length by.now.images)) }
+{
+    for tet in 0..tets {
+        append_image(alloc, text, tet, by.image(tet), by.perm(tet))?;
+    }
+    Ok(())
+}
+
+// A relabelling as a text.
+fn relabelling_text(alloc: Global, tets: u32, by: &Relabelling) -> Result<Vec<u8>, NoMemory>
+    requires { tets ≡ length by.now.images }
+    ensures { IfOk result (λ text. text.items ≡ canonical.relabelling_text by.now) }
+{
+    let mut text = Vec::new(alloc);
+    append(&mut text, b"same\n")?;
+    append_images(alloc, &mut text, tets, by)?;
+    Ok(text)
+}
+
+// The outcome of a relabelling.
+fn told(alloc: Global, tets: u32, by: &Relabelling) -> Result<Outcome, NoMemory>
+    requires { tets ≡ length by.now.images }
+    ensures told { IfOk result (λ o. o ≡ done (canonical.relabelling_text by.now)) }
+    ensures own_status { IfOk result (λ o. IsOwnStatus o.status) }
+{
+    let text = relabelling_text(alloc, tets, by)?;
+    Ok(Outcome::built(Status::Done, text))
+}
+
+// The answer to two tables.
+fn answer(alloc: Global, first: &Table, second: &Table) -> Result<Outcome, NoMemory>
+    ensures answer { IfOk result (IsSameAnswer (first.now, second.now)) }
+    ensures own_status { IfOk result (λ o. IsOwnStatus o.status) }
+{
+    match least_relabelling(alloc, first, second) {
+        Ok(Some(by)) => told(alloc, first.len(), &by),
+        Ok(None) => Ok(Outcome::different()),
+        Err(SameFault::First { tet }) => not_connected_outcome(alloc, 0, tet),
+        Err(SameFault::Second { tet }) => not_connected_outcome(alloc, 1, tet),
+        Err(SameFault::NoMemory) => Err(NoMemory),
+    }
+}
+
+/// The outcome of `same` on an input that isn't too long.
+pub fn same(alloc: Global, bytes: &[u8]) -> Result<Outcome, NoMemory>
+    requires { length bytes.now ≤ 2 ^ 31 }
+    ensures answer { IfOk result (IsReadOutcome (two_tables_document bytes.now) IsSameAnswer) }
+    ensures own_status { IfOk result (λ o. IsOwnStatus o.status) }
+{
+    match read_two_tables(alloc, bytes) {
+        Ok(tables) => answer(alloc, &tables.first, &tables.second),
+        Err(fault) => fault_outcome(alloc, fault),
+    }
+}

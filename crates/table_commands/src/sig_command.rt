@@ -1,0 +1,47 @@
+// The command `sig`: the signature of a table.
+ghost use Rattle.std.specs.Prelude.{◌≡◌, ◌≤◌, ◌^◌, length, IfOk};
+ghost use Rattle.document_definitions.specs.Documents.{table_document};
+ghost use Rattle.outcome_definitions.specs.Lines.{line};
+ghost use Rattle.outcome_definitions.specs.Outcomes.{IsReadOutcome, IsOwnStatus};
+ghost use Rattle.outcome_definitions.specs.Canonical.{done, IsSignatureAnswer};
+
+use canonical_labelling::{WalkFault, signature};
+use command_answers::{Outcome, fault_outcome, not_connected_outcome, read_table_document};
+use gluing_table::Table;
+use no_memory::NoMemory;
+use outcome_definitions::Status;
+use text_writing::append;
+use std::alloc::Global;
+
+// A signature as a line.
+fn told(mut text: Vec<u8>) -> Result<Outcome, NoMemory>
+    ensures told { IfOk result (λ o. o ≡ done (line text.items)) }
+    ensures own_status { IfOk result (λ o. IsOwnStatus o.status) }
+{
+    append(&mut text, b"\n")?;
+    Ok(Outcome::built(Status::Done, text))
+}
+
+// The answer to a table.
+fn answer(alloc: Global, table: &Table) -> Result<Outcome, NoMemory>
+    ensures answer { IfOk result (IsSignatureAnswer table.now) }
+    ensures own_status { IfOk result (λ o. IsOwnStatus o.status) }
+{
+    match signature(alloc, table) {
+        Ok(text) => told(text),
+        Err(WalkFault::NotConnected { tet }) => not_connected_outcome(alloc, 0, tet),
+        Err(WalkFault::NoMemory) => Err(NoMemory),
+    }
+}
+
+/// The outcome of `sig` on an input that isn't too long.
+pub fn sig(alloc: Global, bytes: &[u8]) -> Result<Outcome, NoMemory>
+    requires { length bytes.now ≤ 2 ^ 31 }
+    ensures answer { IfOk result (IsReadOutcome (table_document bytes.now) IsSignatureAnswer) }
+    ensures own_status { IfOk result (λ o. IsOwnStatus o.status) }
+{
+    match read_table_document(alloc, bytes) {
+        Ok(table) => answer(alloc, &table),
+        Err(fault) => fault_outcome(alloc, fault),
+    }
+}

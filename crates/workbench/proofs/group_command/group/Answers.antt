@@ -1,7 +1,0 @@
--- The fault that was answered is that of the input.
-use Rattle.workbench.proofs.Answering.{if_ok}
-use Rattle.workbench.proofs.RefusalLines.{input_refused}
-use Rattle.workbench.proofs.group_command.group.Goals as goal
-
-pub returns-in-Err-clause-answer : goal.returns-in-Err-clause-answer
-returns-in-Err-clause-answer c = if_ok c.fault_outcome.result _ _ (λ o h. input_refused _ c.in-Err.fault _ o c.in-Err.ensures h) c.fault_outcome.ensures.fault
