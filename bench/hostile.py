@@ -1,0 +1,259 @@
+#!/usr/bin/env python3
+"""Runs the built program on many mutated inputs, and checks what needs no second program.
+
+    bench/hostile.py [--inputs N] [--seed S] [--program PROGRAM]
+
+Each input is one of bench/hostile_inputs.json with some bytes changed, dropped or doubled, numbers made wide, words or lines
+exchanged. Checked of each run: the status is one of those told; a refusal is one line of the grammar of refusals and
+nothing else; what was answered is read again as itself; the program ends within a time and a size. Prints the first that fails,
+with its words and input, and ends with inputs, statuses and seconds.
+"""
+import argparse
+import collections
+import json
+import multiprocessing
+import os
+import random
+import re
+import resource
+import subprocess
+import time
+
+HERE = os.path.dirname(os.path.realpath(__file__))
+SECONDS = 30
+BYTES = 2 << 30
+
+FAULT = r"(no-such-tet|boundary \d|repeated \d|not-matched \d \d|too-many)"
+RAY = r"\d+( \d+)*"
+REFUSALS = {
+    2: r"usage",
+    3: r"input (too-long|\d+ \d+ (bad-byte|missing-word|too-wide|extra-word|bad-word))"
+    r"|table (too-many|(no-such-tet|self-glued|not-mutual) \d+ [0-3])"
+    r"|signature (too-many|unreached|(bad-char|short|bad-type|leftover|destination|gluing|face-taken|trailing|width) \d+)",
+    4: r"not-connected \d+ \d+|invalid-edge \d+|vector \d+ (length \d+|fails \d+|clash \d+ \d+|too-many-pieces \d+|no-lift \d+)"
+    rf"|check (illegal \d+ {FAULT}|not-standard \S+)|cover too-many"
+    r"|vector \d+ (term \d+ (length \d+|fails \d+|clash \d+ \d+)|zero-times|not-equal \d+)",
+    5: rf"large step \d+ row \d+ (value {RAY}|pair {RAY} and {RAY})"
+    r"|vector \d+ (large \d+|large-sum (points|arcs|points-and-pieces)|large-lift|large-times \d+ \d+|large-equation \d+|term \d+ large \d+)",
+    6: r"read",
+}
+
+
+class Wrong(Exception):
+    """What was wrong with a run."""
+
+
+def run(program, words, text):
+    try:
+        done = subprocess.run([program] + words, input=text, stdout=subprocess.PIPE, stderr=subprocess.PIPE, timeout=SECONDS, check=False)
+    except subprocess.TimeoutExpired as late:
+        raise Wrong(f"no answer in {SECONDS} s") from late
+    if done.stderr:
+        raise Wrong(f"standard error: {done.stderr[:200]!r}")
+    return done.returncode, done.stdout
+
+
+def refusal(status, answer):
+    if status == 8:
+        if answer:
+            raise Wrong("no memory, and something was written")
+    elif status not in REFUSALS:
+        raise Wrong(f"status {status}")
+    elif not re.fullmatch(rf"refused: ({REFUSALS[status]})\n", answer.decode("latin-1")):
+        raise Wrong(f"status {status} with {answer[:200]!r}")
+
+
+def again(program, words, text, wanted, what):
+    status, answer = run(program, words, text)
+    if status != 0 or (wanted is not None and answer != wanted):
+        raise Wrong(f"{what}: {' '.join(words)} on {text[:300]!r} has status {status} and answers {answer[:300]!r}")
+
+
+def option(words, name):
+    for place, word in enumerate(words):
+        if word == f"--{name}":
+            return words[place + 1]
+        if word.startswith(f"--{name}="):
+            return word.partition("=")[2]
+    return None
+
+
+def table_text(program, table):
+    """A table that was written is read as itself: a script without steps writes it once more."""
+    again(program, ["play"], table, table, "a table that was written")
+
+
+def lists(program, words, text, answer):
+    lines = answer.split(b"\n")[:-1]
+    vectors = [tuple(map(int, it.split()[1:])) for it in lines[1:]]
+    if lines[0] != b"# %s %d" % (words[0].encode(), len(vectors)) or any(not it.startswith(b"vec") for it in lines[1:]):
+        raise Wrong(f"a list that is none: {answer[:200]!r}")
+    if any(one >= other for one, other in zip(vectors, vectors[1:])):
+        raise Wrong("a list that doesn't ascend")
+    if words[0] == "surfaces":
+        coords = option(words, "coords") or "standard"
+        document = text + (b"" if text.endswith(b"\n") else b"\n") + answer
+        if len(document) <= 1048576:
+            again(program, ["verify", "--coords", coords], document, b"solution\n" * len(vectors), "a list behind its table")
+
+
+def signed(program, words, text, answer):
+    again(program, ["sig"], b"sig " + answer, answer, "a signature")
+
+
+def compared(program, words, text, answer):
+    if answer != b"different\n" and not re.fullmatch(rb"same\n(\d+ \d+ [0-3]{4}\n)*", answer):
+        raise Wrong(f"no comparison: {answer[:200]!r}")
+
+
+def grouped(program, words, text, answer):
+    for signature in re.findall(rb"^class \d+ (\S+)$", answer, re.M):
+        again(program, ["sig"], b"sig " + signature + b"\n", signature + b"\n", "a class's signature")
+
+
+def played(program, words, text, answer):
+    match = re.fullmatch(rb"(?:(?:done|undone|redone|nothing|illegal %s)\n)*(tri \d+\n(?s:.*))" % FAULT.encode(), answer)
+    if not match:
+        raise Wrong(f"no answer to a script: {answer[:200]!r}")
+    table_text(program, match[2])
+
+
+def informed(program, words, text, answer):
+    head = rb"tetrahedra \d+\n(?:(?:connected|orientable|closed) (?:yes|no)\n){3}vertices \d+\nedges \d+\nfaces \d+\neuler -?\d+\n"
+    vertex = rb"vertex \d+ degree \d+ euler -?\d+ closed (?:yes|no) kind (?:sphere|disc|torus|klein|other)\n"
+    edge = rb"edge \d+ degree \d+ place (?:inner|boundary) valid (?:yes|no)\n"
+    if not re.fullmatch(head + rb"(?:%s)*(?:%s)*" % (vertex, edge), answer):
+        raise Wrong(f"no information: {answer[:200]!r}")
+
+
+def judged(program, words, text, answer):
+    if not re.fullmatch(rb"(?:(?:solution|(?:length|large|fails) \d+|clash \d+ \d+)\n)*", answer):
+        raise Wrong(f"no verdicts: {answer[:200]!r}")
+
+
+def written_table(program, words, text, answer):
+    table_text(program, answer)
+
+
+def certified(program, words, text, answer):
+    again(program, ["check"], answer, b"accepted\n", "a certificate")
+
+
+def descended(program, words, text, answer):
+    match = re.fullmatch(rb"(reached|stuck) \d+\n((?:(?:41|32) \d+ \d+\n)*)(tri (?s:.*))", answer)
+    if not match:
+        raise Wrong(f"no descent: {answer[:200]!r}")
+    table_text(program, match[3])
+
+
+def lifted(program, words, text, answer):
+    if not re.fullmatch(rb"(?:vec(?: \d+)*\n)*", answer):
+        raise Wrong(f"no lifts: {answer[:200]!r}")
+
+
+def decomposed(program, words, text, answer):
+    coords = option(words, "coords") or "standard"
+    again(program, ["addup", "--coords", coords], answer, b"accepted\n", "a sum")
+
+
+def covered(program, words, text, answer):
+    again(program, ["info"], answer, None, "a cover")
+
+
+def any_answer(program, words, text, answer):
+    """Nothing beyond the status is asked."""
+
+
+CHECKS = {
+    "surfaces": lists, "rays": lists, "sig": signed, "same": compared, "group": grouped, "play": played, "info": informed,
+    "verify": judged, "crush": written_table, "make": certified, "descend": descended, "lift": lifted, "decompose": decomposed,
+    "cover": covered, "csame": compared,
+}
+
+
+def mutate(draw, text):
+    """One change of a text."""
+    if not text:
+        return bytes([draw.choice(b"tvs-#\n 0\xff")])
+    at = draw.randrange(len(text))
+    kind = draw.randrange(8)
+    if kind == 0:
+        return text[:at] + bytes([draw.choice(b"0123456789:- \n\r\t#abctrisgvecone\xff\x00")]) + text[at + 1:]
+    if kind == 1:
+        return text[:at] + text[at + draw.randrange(1, 4):]
+    if kind == 2:
+        return text[:at] + text[at:at + draw.randrange(1, 6)] + text[at:]
+    if kind == 3:
+        return re.sub(rb"\d+", lambda it: it[0] * draw.choice([1, 1, 1, 2, 45]), text)
+    words = re.split(rb"(\s+)", text)
+    if kind == 4 and len(words) > 4:
+        one, other = draw.randrange(0, len(words), 2), draw.randrange(0, len(words), 2)
+        words[one], words[other] = words[other], words[one]
+        return b"".join(words)
+    lines = text.split(b"\n")
+    one, other = draw.randrange(len(lines)), draw.randrange(len(lines))
+    if kind == 5:
+        lines[one], lines[other] = lines[other], lines[one]
+        return b"\n".join(lines)
+    if kind == 6:
+        return b"\n".join(lines[:one] + [lines[other]] + lines[one:])
+    return text[:at]
+
+
+def try_one(program, inputs, seed, number):
+    """The status of one run; raises Wrong with words and input where something is wrong."""
+    draw = random.Random(seed * 1000003 + number)
+    words, text = draw.choice(inputs)
+    text = text.encode("latin-1")
+    if draw.randrange(10) == 0:
+        text = draw.choice(inputs)[1].encode("latin-1")
+    for _ in range(draw.choice([0, 1, 1, 1, 2, 3])):
+        text = mutate(draw, text)
+    try:
+        status, answer = run(program, words, text)
+        if status == 0:
+            CHECKS.get(words[0], any_answer)(program, words, text, answer)
+        else:
+            refusal(status, answer)
+    except Wrong as wrong:
+        return None, f"input {number}: {' '.join(words)} on {text[:1000]!r}: {wrong}"
+    return status, None
+
+
+def work(given):
+    program, inputs, seed, numbers = given
+    resource.setrlimit(resource.RLIMIT_AS, (BYTES, BYTES))
+    statuses = collections.Counter()
+    for number in numbers:
+        status, wrong = try_one(program, inputs, seed, number)
+        if wrong:
+            return statuses, wrong
+        statuses[status] += 1
+    return statuses, None
+
+
+def main():
+    reader = argparse.ArgumentParser(description=__doc__.split("\n")[0])
+    reader.add_argument("--inputs", type=int, default=100000)
+    reader.add_argument("--seed", type=int, default=1)
+    reader.add_argument("--program", default=os.path.join(HERE, "..", "crates", "trinorm", "out", "trinorm"))
+    given = reader.parse_args()
+    with open(os.path.join(HERE, "hostile_inputs.json"), encoding="utf8") as file:
+        inputs = json.load(file)
+    begun = time.time()
+    shares = [range(it, min(it + 500, given.inputs)) for it in range(0, given.inputs, 500)]
+    statuses = collections.Counter()
+    with multiprocessing.Pool() as pool:
+        for counted, wrong in pool.imap(work, [(given.program, inputs, given.seed, it) for it in shares]):
+            statuses += counted
+            if wrong:
+                print(wrong)
+                pool.terminate()
+                return 1
+    told = ", ".join(f"status {it}: {statuses[it]}" for it in sorted(statuses))
+    print(f"{sum(statuses.values())} inputs, seed {given.seed}: {told}; {time.time() - begun:.0f} s")
+    return 0
+
+
+if __name__ == "__main__":
+    raise SystemExit(main())

@@ -1,0 +1,118 @@
+#!/usr/bin/env python3
+"""Puts crates.txt into the order of the floors, and writes the floors into docs/ARCHITECTURE.md and docs/floors.svg.
+
+    tools/floors.py [--check]
+
+A crate stands one floor above the highest crate that it names. With --check nothing is written, and the status is 1 where
+something would be.
+"""
+import os
+import re
+import sys
+
+TOP = os.path.dirname(os.path.dirname(os.path.realpath(__file__)))
+BEGIN, END = "<!-- floors: tools/floors.py -->", "<!-- end of floors -->"
+COLOURS = {"definitions": "#dbe9f6", "laws": "#fde8c8", "code": "#e3f1dc", "program": "#f5d9e2"}
+
+
+def read(path):
+    try:
+        with open(os.path.join(TOP, path), encoding="utf8") as file:
+            return file.read()
+    except OSError:
+        return ""
+
+
+def crates():
+    """Each crate with the crates that its line names, those of the kit too."""
+    lines = (it.split("#")[0].strip() for it in read("crates.txt").split("\n"))
+    return {name.strip(): below.split() for name, _, below in (it.partition(":") for it in lines if it)}
+
+
+def floors(known):
+    levels = {}
+
+    def level(name):
+        if name not in levels:
+            levels[name] = 1 + max((level(it) for it in known[name] if it in known), default=-1)
+        return levels[name]
+
+    return {name: level(name) for name in known}
+
+
+def kind(name):
+    if name.endswith("_definitions"):
+        return "definitions"
+    if name.endswith("_laws"):
+        return "laws"
+    return "program" if name in ("trinorm", "worked_rows") else "code"
+
+
+def what(name):
+    """The first sentence of the crate's own words."""
+    root = read(f"crates/{name}/src/lib.rt") or read(f"crates/{name}/src/main.rt")
+    said = " ".join(it[3:].strip() for it in root.split("\n") if it.startswith("//!"))
+    return re.split(r"(?<=\.)\s", said)[0]
+
+
+def by_floor(levels):
+    kinds = ["definitions", "laws", "code", "program"]
+    return [
+        sorted((it for it in levels if levels[it] == floor), key=lambda it: (kinds.index(kind(it)), it))
+        for floor in range(max(levels.values()) + 1)
+    ]
+
+
+def list_text(known, storeys):
+    text = "# The crates from the ground up; tools/floors.py keeps the order.\n"
+    for floor, names in enumerate(storeys):
+        text += f"# floor {floor}\n" + "".join(f"{it}: {' '.join(known[it])}".rstrip() + "\n" for it in names)
+    return text
+
+
+def page_text(storeys):
+    lines = ["| Floor | Crate | What it does |", "|---|---|---|"]
+    for floor in reversed(range(len(storeys))):
+        lines += [f"| {floor} | `{it}` | {what(it)} |" for it in storeys[floor]]
+    return "\n".join(lines)
+
+
+def picture(storeys):
+    wide, high, gap = 172, 24, 6
+    columns = max(len(it) for it in storeys)
+    across, down = columns * (wide + gap) + 40, len(storeys) * (high + 14) + 60
+    parts = [f'<svg xmlns="http://www.w3.org/2000/svg" width="{across}" height="{down}" font-family="sans-serif" font-size="12">']
+    for floor, names in enumerate(storeys):
+        y = down - 50 - (floor + 1) * (high + 14)
+        parts.append(f'<text x="8" y="{y + 16}">{floor}</text>')
+        for place, name in enumerate(names):
+            x = 30 + place * (wide + gap)
+            parts.append(f'<rect x="{x}" y="{y}" width="{wide}" height="{high}" rx="4" fill="{COLOURS[kind(name)]}" stroke="#888"/>')
+            parts.append(f'<text x="{x + wide / 2}" y="{y + 16}" text-anchor="middle">{name}</text>')
+    for place, (name, colour) in enumerate(COLOURS.items()):
+        parts.append(f'<rect x="{30 + place * 120}" y="{down - 36}" width="16" height="16" fill="{colour}" stroke="#888"/>')
+        parts.append(f'<text x="{52 + place * 120}" y="{down - 23}">{name}</text>')
+    return "\n".join(parts + ["</svg>"]) + "\n"
+
+
+def main(checking):
+    known = crates()
+    storeys = by_floor(floors(known))
+    page = read("docs/ARCHITECTURE.md")
+    table = f"{BEGIN}\n{page_text(storeys)}\n{END}"
+    wanted = {
+        "crates.txt": list_text(known, storeys),
+        "docs/ARCHITECTURE.md": re.sub(rf"{BEGIN}.*?{END}", lambda _: table, page, flags=re.S),
+        "docs/floors.svg": picture(storeys),
+    }
+    stale = [path for path, text in wanted.items() if read(path) != text]
+    for path in stale:
+        if not checking:
+            with open(os.path.join(TOP, path), "w", encoding="utf8") as file:
+                file.write(wanted[path])
+        print(("stale: " if checking else "written: ") + path)
+    return 1 if checking and stale else 0
+
+
+if __name__ == "__main__":
+    sys.exit(main("--check" in sys.argv[1:]))
