@@ -205,9 +205,11 @@ def try_one(program, inputs, seed, number):
     draw = random.Random(seed * 1000003 + number)
     words, text = draw.choice(inputs)
     text = text.encode("latin-1")
-    if draw.randrange(10) == 0:
-        text = draw.choice(inputs)[1].encode("latin-1")
-    for _ in range(draw.choice([0, 1, 1, 1, 2, 3])):
+    other = draw.choice(inputs)[1].encode("latin-1")
+    # a large table is left to the commands that it was written for: an enumeration of it doesn't end
+    if draw.randrange(10) == 0 and b"sig -" not in other:
+        text = other
+    for _ in range(draw.choice([0, 0, 1, 1, 1, 2, 3])):
         text = mutate(draw, text)
     try:
         status, answer = run(program, words, text)

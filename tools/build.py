@@ -87,6 +87,21 @@ def copy_sources(names, to):
         shutil.copyfile(handles, os.path.join(to, "HANDLES"))
 
 
+def park(names, to):
+    """Takes crates out of the copy, with what was kept of them: rt wants each source that it sees to be listed."""
+    os.makedirs(f"{to}.parked", exist_ok=True)
+    for name in names:
+        if os.path.isdir(os.path.join(to, "crates", name)):
+            shutil.rmtree(f"{to}.parked/{name}", ignore_errors=True)
+            os.rename(os.path.join(to, "crates", name), f"{to}.parked/{name}")
+
+
+def bring_back(names, to):
+    for name in names:
+        if os.path.isdir(f"{to}.parked/{name}"):
+            os.rename(f"{to}.parked/{name}", os.path.join(to, "crates", name))
+
+
 def write_list(known, names, to):
     with open(os.path.join(to, "crates.txt"), "w", encoding="utf8") as file:
         file.writelines(known[name][0] + "\n" for name in names)
@@ -190,7 +205,7 @@ def main(arguments):
     jobs = int(arguments[1]) if arguments[:1] == ["--jobs"] else jobs_that_fit()
     to = folder_of_build()
     os.makedirs(os.path.join(to, "crates"), exist_ok=True)
-    with open(os.path.join(to, "lock"), "w", encoding="utf8") as lock:
+    with open(f"{to}.lock", "w", encoding="utf8") as lock:
         try:
             fcntl.flock(lock, fcntl.LOCK_EX | fcntl.LOCK_NB)
         except BlockingIOError:
@@ -200,13 +215,16 @@ def main(arguments):
         known = crates()
         names = all_below(known, PROGRAM, [])
         progress = Progress({it: size_of(it) for it in names})
-        copy_sources(names, to)
         # what nothing stands beside goes last, with all processors at one crate
         last = [it for it in names if len(all_below(known, it, [])) >= len(names) - 1]
         first = [it for it in names if it not in last]
         progress.say("reading what is kept")
+        park(last, to)
+        copy_sources(first, to)
         write_list(known, first, to)
         prove_libraries(to, os.path.join(to, "libraries.log"), jobs, progress)
+        bring_back(last, to)
+        copy_sources(last, to)
         write_list(known, names, to)
         progress.say(" and ".join(last))
         program = build_program(to, os.path.join(to, "program.log"), progress)
