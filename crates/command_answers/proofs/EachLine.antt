@@ -5,11 +5,11 @@ use Rattle.cone_text_definitions.specs.VectorText.{vector_at}
 use Rattle.std.proofs.lemmas.List.{map-append}
 use Rattle.text_definitions.specs.Text.{Line}
 use Rattle.text_definitions.specs.declared.LexFault.{LexFault}
-use Rattle.text_definitions.specs.Reading.{Reading, ◌>>=◌, begun, line_from, need_line_at}
+use Rattle.text_definitions.specs.Reading.{Reading, ◌>>=◌, begun, line_from, need_line_at, Fails}
 use Rattle.document_definitions.specs.Documents.{each_line_from}
-use Rattle.gluing_table.specs.declared.reader.TextFault.{TextFault}
-use Rattle.gluing_table.specs.declared.reader.TextFault.TheVariants.{NoMemory, Lex, Table}
-use Rattle.command_answers.specs.Reads.{FailsLine}
+use Rattle.table_definitions.specs.declared.TextFault.{TextFault}
+use Rattle.table_definitions.specs.declared.TextFault.TheVariants.{NoMemory, Lex}
+use Rattle.table_definitions.specs.TableText.{lexed}
 
 -- the values so far, before those that a reading gives
 abbrev pub with_fronts : {A : Type 0} → List A → Result (List A × Reading) LexFault → Result (List A × Reading) LexFault
@@ -22,6 +22,10 @@ with_first {A} x read = read >>= λ (others : List A × Reading). Ok (x ∷ othe
 with_fronts-first : {A : Type 0} (front : List A) (x : A) (r : Result (List A × Reading) LexFault) → with_fronts (front ++ x ∷ []) r ≡ with_fronts front (with_first x r)
 with_fronts-first {A} front x (Ok y) = ap (λ (zs : List A). Ok (zs, y.1)) (append_assoc front (x ∷ []) y.0)
 with_fronts-first front x (Err e) = refl
+
+-- a fault of a line is one of the text
+pub fault_lexed : {A : Type 0} (r : Result A LexFault) (f : LexFault) → r ≡ Err f → lexed r ≡ Err (Lex f)
+fault_lexed {A} r f same = ap (λ (q : Result A LexFault). lexed q) same
 
 module _ {A : Type 0} (form : Reading → Result (A × Reading) LexFault) where
   -- what a line and the later lines give
@@ -71,11 +75,15 @@ module _ {A : Type 0} (form : Reading → Result (A × Reading) LexFault) where
       omega (arith, ap length rest, ap length n.2)
 
   -- a fault of a line is one of the lines
-  pub line_fails : (front : List A) (c d : Reading) (fault : TextFault) (whole : Result (List A × Reading) LexFault) → need_line_at c ≡ Ok d → FailsLine fault (form d)
-      → with_fronts front (each_line_from form c.later c) ≡ whole → FailsLine fault whole
-  line_fails front c d NoMemory whole e f same = tt
-  line_fails front c d (Lex fault) whole e f same = sym same ∙ line_faulty front c d fault e f
-  line_fails front c d (Table fault) whole e f same = absurd f
+  pub line_fails : (front : List A) (c d : Reading) (fault : TextFault) (whole : Result (List A × Reading) LexFault) → need_line_at c ≡ Ok d → Fails NoMemory fault (lexed (form d))
+      → with_fronts front (each_line_from form c.later c) ≡ whole → Fails NoMemory fault (lexed whole)
+  line_fails front c d fault whole e fails same = λ other. moved (form d) refl (fails other)
+    where
+      moved : (read : Result (A × Reading) LexFault) → form d ≡ read → lexed read ≡ Err fault → lexed whole ≡ Err fault
+      moved (Ok x) is h = absurd cc
+      moved (Err found) is h =
+          let wrapped : Lex found ≡ fault = cc in
+          fault_lexed whole found (sym same ∙ line_faulty front c d found e is) ∙ ap (λ (f : TextFault). Err f) wrapped
 
 -- a further vector
 pub entries_push : (before now : List (Vec ℕ Global)) (v : Vec ℕ Global) (d : Reading) (whole : Result (List (List ℕ) × Reading) LexFault)

@@ -1,8 +1,7 @@
 // The documents of the commands.
 ghost use Rattle.std.specs.Prelude.{◌≡◌, ◌≤◌, ◌^◌, length};
-ghost use Rattle.text_definitions.specs.Reading.{Moves};
+ghost use Rattle.text_definitions.specs.Reading.{Moves, Reads, ReadsFrom};
 ghost use Rattle.document_definitions.specs.Documents.{next_table_at, no_line_at, table_document, two_tables_document, vectors_document};
-ghost use Rattle.signature_codec.specs.Inputs.{GivesInput, GivesDocument};
 ghost use Rattle.command_answers.specs.Reads.{entries_of};
 
 use crate::vectors::read_vectors;
@@ -38,7 +37,7 @@ pub fn end_document(lexer: &mut Lexer<'_>) -> Result<(), LexFault>
 /// A table on the next lines, as rows or as a signature.
 #[tactic(auto, unfolding(document_definitions::specs::Documents::next_table_at))]
 pub fn read_table(alloc: Global, lexer: &mut Lexer<'_>) -> Result<Table, InputFault>
-    ensures { GivesInput result lexer.new (next_table_at lexer.old) }
+    ensures { ReadsFrom InputFault.NoMemory (λ table. table) result lexer.new (next_table_at lexer.old) }
 {
     lexer.need_line()?;
     read_any(alloc, lexer)
@@ -48,7 +47,7 @@ pub fn read_table(alloc: Global, lexer: &mut Lexer<'_>) -> Result<Table, InputFa
 #[tactic(auto, unfolding(document_definitions::specs::Documents::table_document))]
 pub fn read_table_document(alloc: Global, bytes: &[u8]) -> Result<Table, InputFault>
     requires { length bytes.now ≤ 2 ^ 31 }
-    ensures { GivesDocument (λ table. table) result (table_document bytes.now) }
+    ensures { Reads InputFault.NoMemory (λ table. table) result (table_document bytes.now) }
 {
     let mut lexer = Lexer::new(bytes);
     let table = read_table(alloc, &mut lexer)?;
@@ -60,7 +59,7 @@ pub fn read_table_document(alloc: Global, bytes: &[u8]) -> Result<Table, InputFa
 #[tactic(auto, unfolding(document_definitions::specs::Documents::two_tables_document))]
 pub fn read_two_tables(alloc: Global, bytes: &[u8]) -> Result<TwoTables, InputFault>
     requires { length bytes.now ≤ 2 ^ 31 }
-    ensures { GivesDocument (λ d. (d.first, d.second)) result (two_tables_document bytes.now) }
+    ensures { Reads InputFault.NoMemory (λ d. (d.first, d.second)) result (two_tables_document bytes.now) }
 {
     let mut lexer = Lexer::new(bytes);
     let first = read_table(alloc, &mut lexer)?;
@@ -73,7 +72,7 @@ pub fn read_two_tables(alloc: Global, bytes: &[u8]) -> Result<TwoTables, InputFa
 #[tactic(auto, unfolding(document_definitions::specs::Documents::table_and_lines))]
 pub fn read_table_and_vectors(alloc: Global, bytes: &[u8]) -> Result<TableAndVectors, InputFault>
     requires { length bytes.now ≤ 2 ^ 31 }
-    ensures { GivesDocument (λ d. (d.table, entries_of d.vectors)) result (vectors_document bytes.now) }
+    ensures { Reads InputFault.NoMemory (λ d. (d.table, entries_of d.vectors)) result (vectors_document bytes.now) }
 {
     let mut lexer = Lexer::new(bytes);
     let table = read_table(alloc, &mut lexer)?;

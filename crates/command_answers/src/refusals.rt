@@ -1,9 +1,9 @@
 // The one line of each refusal.
-ghost use Rattle.std.specs.Prelude.{◌≡◌, ◌++◌, codes, decimal, IfOk, OnOk};
-ghost use Rattle.outcome_definitions.specs.Lines.{kind_text, lex_line, face_line, place_line};
+ghost use Rattle.std.specs.Prelude.{◌≡◌, ◌≢◌, codes, decimal, IfOk, OnOk};
+ghost use Rattle.outcome_definitions.specs.Lines as lines;
 ghost use Rattle.outcome_definitions.specs.Outcomes.{IsOwnStatus};
 ghost use Rattle.outcome_definitions.specs.Canonical as canonical;
-ghost use Rattle.command_answers.specs.Refusals.{table_fault_line, signature_fault_line, IsTextOutcome, IsFaultOutcome};
+ghost use Rattle.command_answers.specs.Refusals.{IsFaultOutcome};
 
 use crate::outcome::Outcome;
 use bench_io::{LexFault, LexKind};
@@ -11,11 +11,11 @@ use gluing_table::{TableFault, TextFault};
 use no_memory::NoMemory;
 use outcome_definitions::Status;
 use signature_codec::{InputFault, SigFault};
-use text_writing::{append, append_decimal};
 use std::alloc::Global;
+use text_writing::{append, append_decimal};
 
 fn kind_word(kind: LexKind) -> &'static [u8]
-    ensures { result.now ≡ kind_text kind }
+    ensures { result.now ≡ lines.kind_text kind }
 {
     match kind {
         LexKind::BadByte => b"bad-byte",
@@ -29,7 +29,7 @@ fn kind_word(kind: LexKind) -> &'static [u8]
 // The place and the kind of the first fault of an input's words.
 #[tactic(auto, unfolding(outcome_definitions::specs::Lines::lex_line))]
 fn lex_fault_line(alloc: Global, fault: LexFault) -> Result<Vec<u8>, NoMemory>
-    ensures { IfOk result (λ text. text.items ≡ lex_line fault) }
+    ensures { IfOk result (λ text. text.items ≡ lines.lex_line fault) }
 {
     let mut text = Vec::new(alloc);
     append(&mut text, b"refused: input ")?;
@@ -44,7 +44,7 @@ fn lex_fault_line(alloc: Global, fault: LexFault) -> Result<Vec<u8>, NoMemory>
 
 // What is wrong at a face.
 fn face_fault_line(alloc: Global, kind: &[u8], tet: u32, face: u8) -> Result<Vec<u8>, NoMemory>
-    ensures { IfOk result (λ text. text.items ≡ face_line kind.now (record { tet = tet; face = face })) }
+    ensures { IfOk result (λ text. text.items ≡ lines.face_line kind.now (record { tet = tet; face = face })) }
 {
     let mut text = Vec::new(alloc);
     append(&mut text, b"refused: table ")?;
@@ -58,9 +58,9 @@ fn face_fault_line(alloc: Global, kind: &[u8], tet: u32, face: u8) -> Result<Vec
 }
 
 // Why rows are no table.
-#[tactic(auto, unfolding(crate::specs::Refusals::table_fault_line))]
+#[tactic(auto, unfolding(outcome_definitions::specs::Lines::table_line))]
 fn table_line(alloc: Global, fault: TableFault) -> Result<Vec<u8>, NoMemory>
-    ensures { IfOk result (λ text. text.items ≡ table_fault_line fault) }
+    ensures { IfOk result (λ text. text.items ≡ lines.table_line fault) }
 {
     match fault {
         TableFault::NoMemory => Err(NoMemory),
@@ -73,7 +73,7 @@ fn table_line(alloc: Global, fault: TableFault) -> Result<Vec<u8>, NoMemory>
 
 // A kind and a place in a signature.
 fn place_fault_line(alloc: Global, kind: &[u8], at: usize) -> Result<Vec<u8>, NoMemory>
-    ensures { IfOk result (λ text. text.items ≡ place_line kind.now at) }
+    ensures { IfOk result (λ text. text.items ≡ lines.place_line kind.now at) }
 {
     let mut text = Vec::new(alloc);
     append(&mut text, b"refused: signature ")?;
@@ -93,9 +93,9 @@ fn fixed_line(alloc: Global, line: &[u8]) -> Result<Vec<u8>, NoMemory>
 }
 
 // Why a text is no signature.
-#[tactic(auto, unfolding(crate::specs::Refusals::signature_fault_line))]
+#[tactic(auto, unfolding(outcome_definitions::specs::Lines::signature_line))]
 fn signature_line(alloc: Global, fault: SigFault) -> Result<Vec<u8>, NoMemory>
-    ensures { IfOk result (λ text. text.items ≡ signature_fault_line fault) }
+    ensures { IfOk result (λ text. text.items ≡ lines.signature_line fault) }
 {
     match fault {
         SigFault::NoMemory => Err(NoMemory),
@@ -115,7 +115,7 @@ fn signature_line(alloc: Global, fault: SigFault) -> Result<Vec<u8>, NoMemory>
 
 // Why a text has no table in the form `tri`.
 fn text_line(alloc: Global, fault: TextFault) -> Result<Vec<u8>, NoMemory>
-    ensures { IfOk result (λ text. IsTextOutcome fault (record { status = Status.Input; text = text.items })) }
+    ensures { IfOk result (λ text. text.items ≡ lines.text_line fault) }
 {
     match fault {
         TextFault::NoMemory => Err(NoMemory),
@@ -125,7 +125,8 @@ fn text_line(alloc: Global, fault: TextFault) -> Result<Vec<u8>, NoMemory>
 }
 
 fn input_line(alloc: Global, fault: InputFault) -> Result<Vec<u8>, NoMemory>
-    ensures { IfOk result (λ text. IsFaultOutcome fault (record { status = Status.Input; text = text.items })) }
+    ensures line { IfOk result (λ text. text.items ≡ lines.input_line fault) }
+    ensures no_memory { OnOk result (fault ≢ InputFault.NoMemory) }
 {
     match fault {
         InputFault::NoMemory => Err(NoMemory),

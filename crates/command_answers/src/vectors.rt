@@ -3,8 +3,9 @@ ghost use Rattle.std.specs.Prelude.{◌≡◌, map};
 ghost use Rattle.text_definitions.specs.Written.{limit};
 ghost use Rattle.cone_text_definitions.specs.VectorText.{vector_at};
 ghost use Rattle.document_definitions.specs.Documents.{each_line_from};
-ghost use Rattle.text_definitions.specs.Reading.{numbers_at};
-ghost use Rattle.command_answers.specs.Reads.{GivesLine, entries_of};
+ghost use Rattle.text_definitions.specs.Reading.{ReadsFrom, numbers_at};
+ghost use Rattle.table_definitions.specs.TableText.{lexed};
+ghost use Rattle.command_answers.specs.Reads.{entries_of};
 
 use bench_io::Lexer;
 use gluing_table::TextFault;
@@ -15,7 +16,7 @@ pub const LIMIT: u128 = 170141183460469231731687303715884105727;
 
 // The decimals to the end of the line.
 fn read_numbers(alloc: Global, lexer: &mut Lexer<'_>) -> Result<Vec<u128>, TextFault>
-    ensures { GivesLine (λ v. v.items) result lexer.new (numbers_at limit lexer.old) }
+    ensures { ReadsFrom TextFault.NoMemory (λ v. v.items) result lexer.new (lexed (numbers_at limit lexer.old)) }
 {
     let mut numbers = Vec::new(alloc);
     while !lexer.at_end() {
@@ -28,7 +29,7 @@ fn read_numbers(alloc: Global, lexer: &mut Lexer<'_>) -> Result<Vec<u128>, TextF
 // The vector of the current line, of which no word was taken yet.
 #[tactic(auto, unfolding(cone_text_definitions::specs::VectorText::vector_at, text_definitions::specs::Reading::exactly_at))]
 fn read_vector(alloc: Global, lexer: &mut Lexer<'_>) -> Result<Vec<u128>, TextFault>
-    ensures { GivesLine (λ v. v.items) result lexer.new (vector_at lexer.old) }
+    ensures { ReadsFrom TextFault.NoMemory (λ v. v.items) result lexer.new (lexed (vector_at lexer.old)) }
 {
     let word = lexer.word()?;
     if word != b"vec".as_slice() {
@@ -39,7 +40,7 @@ fn read_vector(alloc: Global, lexer: &mut Lexer<'_>) -> Result<Vec<u128>, TextFa
 
 /// The vectors of all lines that are left.
 pub fn read_vectors(alloc: Global, lexer: &mut Lexer<'_>) -> Result<Vec<Vec<u128>>, TextFault>
-    ensures { GivesLine entries_of result lexer.new (each_line_from vector_at lexer.old.later lexer.old) }
+    ensures { ReadsFrom TextFault.NoMemory entries_of result lexer.new (lexed (each_line_from vector_at lexer.old.later lexer.old)) }
 {
     let mut vectors = Vec::new(alloc);
     while lexer.next_line() {

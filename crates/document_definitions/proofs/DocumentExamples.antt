@@ -4,8 +4,10 @@ use Rattle.std.proofs.Common.{◌≡◌, ℕ, pos, negsuc, List, [], ◌∷◌, 
 use Rattle.std.specs.Prelude.{codes}
 use Rattle.text_definitions.specs.declared.LexKind.{LexKind}
 use Rattle.text_definitions.specs.declared.LexKind.TheVariants.{MissingWord, NumberTooWide, ExtraWord, BadWord}
-use Rattle.table_definitions.specs.TableText.{lexical}
-use Rattle.signature_definitions.specs.SignatureText.{InputFault, bad_text, bad_signature, unreached}
+use Rattle.table_definitions.specs.declared.TextFault.TheVariants.{Lex}
+use Rattle.signature_definitions.specs.declared.InputFault.{InputFault}
+use Rattle.signature_definitions.specs.declared.InputFault.TheVariants.{Text, Signature}
+use Rattle.signature_definitions.specs.declared.SigFault.TheVariants.{Unreached}
 use Rattle.cone_text_definitions.specs.ConeText.{sparse}
 use Rattle.document_definitions.specs.Documents.{table_document, vectors_document, vector_document, two_tables_document, tables_document, cone_document}
 use Rattle.text_definitions.specs.Text.{lines_of, end_of}
@@ -17,7 +19,7 @@ abbrev line : List ℕ → List ℕ → List ℕ
 line text rest = text ++ 10 ∷ rest
 
 place : {A : Type 0} → ℕ → ℕ → LexKind → Result A InputFault
-place l c kind = Err (bad_text (lexical (record { place = record { line = l; column = c }; kind = kind })))
+place l c kind = Err (Text (Lex (record { place = record { line = l; column = c }; kind = kind })))
 
 read : (vectors_document (line (codes "sig bkaagj") (line (codes "vec 1 1 0 0 1 0 0") (codes "vec"))) ≡ Ok (sphere, (1 ∷ 1 ∷ 0 ∷ 0 ∷ 1 ∷ 0 ∷ 0 ∷ []) ∷ [] ∷ []))
     × (tables_document (line (codes "sig bkaagn") (line (codes "sig bkaagb") (codes "sig bkaagj"))) ≡ Ok (other_sphere ∷ table_gb ∷ sphere ∷ []))
@@ -28,7 +30,7 @@ read = (refl, refl, refl, refl)
 
 refused : (table_document (codes "sig bkaagj x") ≡ place 1 12 ExtraWord) × (table_document (line (codes "tri 1") []) ≡ place 2 1 MissingWord)
     × (table_document (line (codes "sig bkaagj") (codes "vec")) ≡ place 2 1 ExtraWord) × (vector_document (codes "sig bkaagj") ≡ place 1 11 MissingWord)
-    × (vectors_document (line (codes "sig bkaagj") (codes "vex")) ≡ place 2 1 BadWord) × (table_document (codes "sig cQc") ≡ Err (bad_signature unreached))
+    × (vectors_document (line (codes "sig bkaagj") (codes "vex")) ≡ place 2 1 BadWord) × (table_document (codes "sig cQc") ≡ Err (Signature Unreached))
     × (table_document (codes "tri 63") ≡ place 1 7 MissingWord)
 unfolding computed place
 refused = (refl, refl, refl, refl, refl, refl, refl)

@@ -5,7 +5,8 @@ use Rattle.table_definitions.specs.Table.{Row}
 use Rattle.text_definitions.specs.Text.{Line, lines_of}
 use Rattle.text_definitions.specs.declared.LexFault.{LexFault}
 use Rattle.text_definitions.specs.Reading.{Reading, ◌>>=◌, begun, start_of}
-use Rattle.table_definitions.specs.TableText.{TextFault, lexed, tri_table_at}
+use Rattle.table_definitions.specs.declared.TextFault.{TextFault}
+use Rattle.table_definitions.specs.TableText.{lexed, tri_table_at}
 use Rattle.cone_text_definitions.specs.VectorText.{vector_at}
 use Rattle.document_definitions.specs.Documents.{each_line_from, tri_and_vectors}
 use Rattle.surface_definitions.specs.Grammar.{IsVectorLine}

@@ -2,13 +2,16 @@
 use Rattle.document_definitions.proofs.Computed.{computed}
 use Rattle.std.proofs.Common.{◌≡◌, ℕ, List, [], ◌∷◌, ◌++◌, Option, Some, None, Result, Ok, Err, take, refl}
 use Rattle.std.specs.Prelude.{codes}
-use Rattle.table_definitions.specs.Table.{Row, self_glued, not_mutual, no_such_tet, too_many}
+use Rattle.table_definitions.specs.declared.TableFault.TheVariants.{SelfGlued, NotMutual, NoSuchTet, TooMany}
+use Rattle.table_definitions.specs.Table.{Row}
 use Rattle.text_definitions.specs.Text.{lines_of}
 use Rattle.text_definitions.specs.declared.LexKind.{LexKind}
 use Rattle.text_definitions.specs.declared.LexKind.TheVariants.{BadByte, MissingWord, NumberTooWide, ExtraWord, BadWord}
 use Rattle.text_definitions.specs.Reading.{start_of, ◌>>=◌, exactly_at, need_line_at}
 use Rattle.document_definitions.specs.Documents.{each_line_from}
-use Rattle.table_definitions.specs.TableText.{TextFault, lexical, no_table, lexed, table_at}
+use Rattle.table_definitions.specs.declared.TextFault.{TextFault}
+use Rattle.table_definitions.specs.declared.TextFault.TheVariants.{Lex, Table}
+use Rattle.table_definitions.specs.TableText.{lexed, table_at}
 use Rattle.cone_text_definitions.specs.VectorText.{vector_at}
 use Rattle.table_definitions.proofs.Tables.{sphere}
 use Rattle.table_definitions.proofs.TextExamples.{sphere_text}
@@ -37,7 +40,7 @@ fault_of (Ok x) = None
 fault_of (Err e) = Some e
 
 at : ℕ → ℕ → LexKind → Option TextFault
-at line column kind = Some (lexical (record { place = record { line = line; column = column }; kind = kind }))
+at line column kind = Some (Lex (record { place = record { line = line; column = column }; kind = kind }))
 
 -- the first L bytes of the text of a table, and the fault of each
 cuts : (fault_of (document []) ≡ at 1 1 MissingWord)
@@ -58,12 +61,12 @@ unfolding computed document fault_of at sphere_text
 cuts = (refl, refl, refl, refl, refl, refl, refl, refl, refl, refl, refl, refl, refl, refl)
 
 -- the faults of a table
-faults : (fault_of (document (codes "tri 1" ++ 10 ∷ codes "0:1023 - - -")) ≡ Some (no_table (not_mutual (record { tet = 0; face = 0 }))))
-    × (fault_of (document (codes "tri 1" ++ 10 ∷ codes "0:0123 - - -")) ≡ Some (no_table (self_glued (record { tet = 0; face = 0 }))))
-    × (fault_of (document (codes "tri 1" ++ 10 ∷ codes "4294967295:0123 - - -")) ≡ Some (no_table (no_such_tet (record { tet = 0; face = 0 }))))
+faults : (fault_of (document (codes "tri 1" ++ 10 ∷ codes "0:1023 - - -")) ≡ Some (Table (NotMutual 0 0)))
+    × (fault_of (document (codes "tri 1" ++ 10 ∷ codes "0:0123 - - -")) ≡ Some (Table (SelfGlued 0 0)))
+    × (fault_of (document (codes "tri 1" ++ 10 ∷ codes "4294967295:0123 - - -")) ≡ Some (Table (NoSuchTet 0 0)))
     × (fault_of (document (codes "tri 1" ++ 10 ∷ codes "4294967296:0123 - - -")) ≡ at 2 1 NumberTooWide)
-    × (fault_of (document (codes "tri 1001")) ≡ Some (no_table too_many))
-    × (fault_of (document (codes "tri 4294967296 x")) ≡ Some (no_table too_many))
+    × (fault_of (document (codes "tri 1001")) ≡ Some (Table TooMany))
+    × (fault_of (document (codes "tri 4294967296 x")) ≡ Some (Table TooMany))
     × (fault_of (document (codes "tri 340282366920938463463374607431768211456")) ≡ at 1 5 NumberTooWide)
     × (fault_of (document (codes "tri 1" ++ 10 ∷ codes "0:1023 0:1023 0:1230")) ≡ at 2 21 MissingWord)
     × (fault_of (document (codes "tri 0 x")) ≡ at 1 7 ExtraWord)

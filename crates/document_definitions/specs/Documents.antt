@@ -5,11 +5,13 @@ use Rattle.table_definitions.specs.Table.{Row}
 use Rattle.text_definitions.specs.Text.{Line}
 use Rattle.text_definitions.specs.declared.LexFault.{LexFault}
 use Rattle.text_definitions.specs.Reading.{Reading, ◌>>=◌, start_of, begun, need_line_at, end_line_at}
-use Rattle.table_definitions.specs.TableText.{TextFault, lexed, tri_table_at}
+use Rattle.table_definitions.specs.declared.TextFault.{TextFault}
+use Rattle.table_definitions.specs.TableText.{lexed, tri_table_at}
 use Rattle.cone_text_definitions.specs.VectorText.{vector_at}
 use Rattle.move_definitions.specs.Moves.{Move}
 use Rattle.move_definitions.specs.MoveText.{Step, move_at, step_at}
-use Rattle.signature_definitions.specs.SignatureText.{InputFault, texted, any_table_at}
+use Rattle.signature_definitions.specs.declared.InputFault.{InputFault}
+use Rattle.signature_definitions.specs.SignatureText.{texted, any_table_at}
 use Rattle.cone_text_definitions.specs.ConeText.{Cone, cone_at}
 use Rattle.surface_definitions.specs.Verdict.{Verdict, verdict_text}
 

@@ -5,7 +5,8 @@ use Rattle.std.proofs.lemmas.List.{length-append}
 use Rattle.text_definitions.specs.Text.{Line, lines_of}
 use Rattle.text_definitions.specs.Reading.{Reading, ◌>>=◌, begun, need_line_at, start_of}
 use Rattle.table_definitions.specs.Table.{Row}
-use Rattle.signature_definitions.specs.SignatureText.{InputFault, any_table_at}
+use Rattle.signature_definitions.specs.declared.InputFault.{InputFault}
+use Rattle.signature_definitions.specs.SignatureText.{any_table_at}
 use Rattle.signature_definitions.specs.Grammar.{AreTableLines}
 use Rattle.document_definitions.specs.Documents.{next_table_at, tables_on, tables_from, tables_document}
 use Rattle.document_definitions.specs.Grammar.{AreTables}

@@ -7,7 +7,7 @@ use Rattle.text_definitions.specs.declared.LexFault.{LexFault}
 use Rattle.text_definitions.specs.Reading.{Reading, ◌>>=◌, begun, need_line_at, start_of}
 use Rattle.table_definitions.specs.Table.{Row}
 use Rattle.cone_text_definitions.specs.VectorText.{vector_at}
-use Rattle.signature_definitions.specs.SignatureText.{InputFault}
+use Rattle.signature_definitions.specs.declared.InputFault.{InputFault}
 use Rattle.signature_definitions.specs.Grammar.{AreTableLines}
 use Rattle.surface_definitions.specs.Grammar.{IsVectorLine}
 use Rattle.surface_definitions.specs.Laws.{ReadsVector}

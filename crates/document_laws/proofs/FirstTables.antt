@@ -7,7 +7,8 @@ use Rattle.text_definitions.specs.declared.LexFault.{LexFault}
 use Rattle.text_definitions.specs.Text.{Token, word, stray, Line, lines_of}
 use Rattle.text_definitions.specs.Reading.{Reading, ◌>>=◌, begun, fault_at, start_of, end_from, end_line_at}
 use Rattle.table_definitions.specs.Table.{Row}
-use Rattle.signature_definitions.specs.SignatureText.{InputFault, any_table_at}
+use Rattle.signature_definitions.specs.declared.InputFault.{InputFault}
+use Rattle.signature_definitions.specs.SignatureText.{any_table_at}
 use Rattle.document_definitions.specs.Documents.{worded, no_line_from, next_table_at, tables_on, tables_from, table_document, two_tables_document, tables_document}
 use Rattle.document_definitions.specs.Signs.{Sign}
 use Rattle.table_definitions.proofs.ReadingLaws.{bind_ok}

@@ -8,7 +8,8 @@ use Rattle.table_definitions.specs.Table.{Row}
 use Rattle.cone_text_definitions.specs.ConeText.{Cone, cone_at}
 use Rattle.cone_text_definitions.specs.VectorText.{vector_at}
 use Rattle.surface_definitions.specs.Grammar.{IsVectorLine}
-use Rattle.signature_definitions.specs.SignatureText.{InputFault, any_table_at}
+use Rattle.signature_definitions.specs.declared.InputFault.{InputFault}
+use Rattle.signature_definitions.specs.SignatureText.{any_table_at}
 use Rattle.signature_definitions.specs.Grammar.{AreTableLines}
 use Rattle.document_definitions.specs.Documents.{worded, no_line_at, each_line_from, next_table_at, tables_on, tables_from, table_document, vector_document, two_tables_document, tables_document, table_and_lines}
 use Rattle.document_definitions.specs.Grammar.{AreTables}

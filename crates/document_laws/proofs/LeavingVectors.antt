@@ -10,7 +10,8 @@ use Rattle.table_definitions.specs.Table.{Row}
 use Rattle.cone_text_definitions.specs.VectorText.{vector_at}
 use Rattle.surface_definitions.specs.Grammar.{IsVectorLine}
 use Rattle.surface_definitions.proofs.VectorLaws.{VectorRead, vector_read}
-use Rattle.signature_definitions.specs.SignatureText.{InputFault, any_table_at}
+use Rattle.signature_definitions.specs.declared.InputFault.{InputFault}
+use Rattle.signature_definitions.specs.SignatureText.{any_table_at}
 use Rattle.signature_definitions.specs.Grammar.{AreTableLines}
 use Rattle.document_definitions.specs.Documents.{worded, next_table_at, table_and_lines}
 use Rattle.document_definitions.specs.Signs.{Sign, Placed, signs_of, plain, FirstLeavesAt}

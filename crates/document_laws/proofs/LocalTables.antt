@@ -7,10 +7,17 @@ use Rattle.text_definitions.specs.declared.LexFault.{LexFault}
 use Rattle.text_definitions.specs.Written.{limit}
 use Rattle.text_definitions.specs.Reading.{Reading, ◌>>=◌, word_at, number_at, need_line_at, end_line_at, word_fault}
 use Rattle.table_definitions.specs.Lists.{same_list}
-use Rattle.table_definitions.specs.Table.{max_tets, Gluing, TableFault, too_many, table_fault}
+use Rattle.table_definitions.specs.declared.TableFault.{TableFault}
+use Rattle.table_definitions.specs.declared.TableFault.TheVariants.{TooMany}
+use Rattle.table_definitions.specs.Table.{max_tets, Gluing, table_fault}
 use Rattle.table_definitions.specs.Table as tables
-use Rattle.table_definitions.specs.TableText.{TextFault, lexical, no_table, lexed, gluing_of, gluing_entry, entry_at, row_at, rows_at, checked, counted_rows_at, table_at}
-use Rattle.signature_definitions.specs.SignatureText.{SigFault, InputFault, bad_text, texted, decoded, signature_table, signature_at, named_table_at, any_table_at}
+use Rattle.table_definitions.specs.declared.TextFault.{TextFault}
+use Rattle.table_definitions.specs.declared.TextFault.TheVariants.{Lex, Table}
+use Rattle.table_definitions.specs.TableText.{lexed, gluing_of, gluing_entry, entry_at, row_at, rows_at, checked, counted_rows_at, table_at}
+use Rattle.signature_definitions.specs.declared.InputFault.{InputFault}
+use Rattle.signature_definitions.specs.declared.InputFault.TheVariants.{Text}
+use Rattle.signature_definitions.specs.declared.SigFault.{SigFault}
+use Rattle.signature_definitions.specs.SignatureText.{texted, decoded, signature_table, signature_at, named_table_at, any_table_at}
 use Rattle.document_definitions.specs.Documents.{worded, next_table_at}
 use Rattle.document_laws.proofs.Local.{Goes, Stops, goes_chained, stops_chained, stops_first, goes_pure, goes_same, stops_same, alone, goes_moved, stops_moved, Lift, goes_lifted, stops_lifted}
 use Rattle.document_laws.proofs.LocalWords.{as_is, tested, word_with, goes_word, stops_word, goes_end, stops_end}
@@ -19,9 +26,9 @@ use Rattle.document_laws.proofs.LocalForms.{ok_never, stops_pure, goes_number, s
 
 -- the kinds of fault
 abbrev pub in_text : LexFault → InputFault
-in_text f = bad_text (lexical f)
+in_text f = Text (Lex f)
 
-lexed_lift : {X : Type 0} → Lift {X = X} as_is lexical (λ r. lexed r)
+lexed_lift : {X : Type 0} → Lift {X = X} as_is Lex (λ r. lexed r)
 lexed_lift {X} = record { lowered = lowered; lifted = lifted; faults = faults }
   where
     lowered : (r : Result X LexFault) (x : X) → lexed r ≡ Ok x → r ≡ Ok x
@@ -31,11 +38,11 @@ lexed_lift {X} = record { lowered = lowered; lifted = lifted; faults = faults }
     lifted : (r : Result X LexFault) (x : X) → r ≡ Ok x → lexed r ≡ Ok x
     lifted r x e = ap (λ (q : Result X LexFault). lexed q) e
 
-    faults : (r : Result X LexFault) (f : LexFault) → lexed r ≡ Err (lexical f) → r ≡ Err f
+    faults : (r : Result X LexFault) (f : LexFault) → lexed r ≡ Err (Lex f) → r ≡ Err f
     faults (Ok y) f e = absurd cc
     faults (Err g) f e = let same : g ≡ f = cc in cc
 
-texted_lift : {X : Type 0} → Lift {X = X} lexical in_text (λ r. texted r)
+texted_lift : {X : Type 0} → Lift {X = X} Lex in_text (λ r. texted r)
 texted_lift {X} = record { lowered = lowered; lifted = lifted; faults = faults }
   where
     lowered : (r : Result X TextFault) (x : X) → texted r ≡ Ok x → r ≡ Ok x
@@ -45,9 +52,9 @@ texted_lift {X} = record { lowered = lowered; lifted = lifted; faults = faults }
     lifted : (r : Result X TextFault) (x : X) → r ≡ Ok x → texted r ≡ Ok x
     lifted r x e = ap (λ (q : Result X TextFault). texted q) e
 
-    faults : (r : Result X TextFault) (f : LexFault) → texted r ≡ Err (in_text f) → r ≡ Err (lexical f)
+    faults : (r : Result X TextFault) (f : LexFault) → texted r ≡ Err (in_text f) → r ≡ Err (Lex f)
     faults (Ok y) f e = absurd cc
-    faults (Err g) f e = let same : g ≡ lexical f = cc in cc
+    faults (Err g) f e = let same : g ≡ Lex f = cc in cc
 
 pub worded_lift : {X : Type 0} → Lift {X = X} as_is in_text (λ r. worded r)
 worded_lift {X} = record { lowered = lowered; lifted = lifted; faults = faults }
@@ -74,10 +81,10 @@ worded_alone (Err f) = refl
 
 module _ (move : Reading → Result Reading LexFault) (c : Reading) (g : Goes (λ d. alone (move d)) c) (s : Stops as_is (λ d. alone (move d)) c) where
   goes_lexed : Goes (λ d. alone (lexed (move d))) c
-  goes_lexed = goes_same (λ d. lexed (alone (move d))) (λ d. alone (lexed (move d))) (λ d. lexed_alone (move d)) c (goes_lifted as_is lexical (λ r. lexed r) lexed_lift (λ d. alone (move d)) c g)
+  goes_lexed = goes_same (λ d. lexed (alone (move d))) (λ d. alone (lexed (move d))) (λ d. lexed_alone (move d)) c (goes_lifted as_is Lex (λ r. lexed r) lexed_lift (λ d. alone (move d)) c g)
 
-  stops_lexed : Stops lexical (λ d. alone (lexed (move d))) c
-  stops_lexed = stops_same lexical (λ d. lexed (alone (move d))) (λ d. alone (lexed (move d))) (λ d. lexed_alone (move d)) c (stops_lifted as_is lexical (λ r. lexed r) lexed_lift (λ d. alone (move d)) c s)
+  stops_lexed : Stops Lex (λ d. alone (lexed (move d))) c
+  stops_lexed = stops_same Lex (λ d. lexed (alone (move d))) (λ d. alone (lexed (move d))) (λ d. lexed_alone (move d)) c (stops_lifted as_is Lex (λ r. lexed r) lexed_lift (λ d. alone (move d)) c s)
 
   pub goes_worded : Goes (λ d. alone (worded (move d))) c
   goes_worded = goes_same (λ d. worded (alone (move d))) (λ d. alone (worded (move d))) (λ d. worded_alone (move d)) c (goes_lifted as_is in_text (λ r. worded r) worded_lift (λ d. alone (move d)) c g)
@@ -191,7 +198,7 @@ goes_checked : (o : Option TableFault) (rows : List tables.Row) (c : Reading) �
 goes_checked None rows c = goes_pure rows c
 goes_checked (Some f) rows c = λ x d e. absurd cc
 
-checked_never : (o : Option TableFault) (x : Rows) (f : LexFault) → checked o x ≢ Err (lexical f)
+checked_never : (o : Option TableFault) (x : Rows) (f : LexFault) → checked o x ≢ Err (Lex f)
 checked_never None x f e = absurd cc
 checked_never (Some g) x f e = absurd cc
 
@@ -201,38 +208,38 @@ rows_on n d = lexed (rows_at n d) >>= λ (rows : Rows). looked_at rows.0 rows.1
 goes_counted : (n : ℕ) (c : Reading) → Goes (counted_rows_at n) c
 unfolding counted_rows_at
 goes_counted n c =
-    goes_moved lexical (λ d. lexed (end_line_at d)) (rows_on n) c (goes_lexed end_line_at c (goes_end c) (stops_end c))
-    (λ d e. goes_chained (λ b. lexed (rows_at n b)) looked_at d (goes_lifted as_is lexical (λ r. lexed r) lexed_lift (rows_at n) d (goes_rows n d)) (λ rows last q. goes_checked (table_fault rows) rows last))
+    goes_moved Lex (λ d. lexed (end_line_at d)) (rows_on n) c (goes_lexed end_line_at c (goes_end c) (stops_end c))
+    (λ d e. goes_chained (λ b. lexed (rows_at n b)) looked_at d (goes_lifted as_is Lex (λ r. lexed r) lexed_lift (rows_at n) d (goes_rows n d)) (λ rows last q. goes_checked (table_fault rows) rows last))
 
-stops_counted : (n : ℕ) (c : Reading) → Stops lexical (counted_rows_at n) c
+stops_counted : (n : ℕ) (c : Reading) → Stops Lex (counted_rows_at n) c
 unfolding counted_rows_at
 stops_counted n c =
-    stops_moved lexical (λ d. lexed (end_line_at d)) (rows_on n) c (goes_lexed end_line_at c (goes_end c) (stops_end c)) (stops_lexed end_line_at c (goes_end c) (stops_end c))
-    (λ d e. stops_first lexical (λ b. lexed (rows_at n b)) looked_at d (stops_lifted as_is lexical (λ r. lexed r) lexed_lift (rows_at n) d (stops_rows n d)) (λ y f q. checked_never (table_fault y.0) y f q))
+    stops_moved Lex (λ d. lexed (end_line_at d)) (rows_on n) c (goes_lexed end_line_at c (goes_end c) (stops_end c)) (stops_lexed end_line_at c (goes_end c) (stops_end c))
+    (λ d e. stops_first Lex (λ b. lexed (rows_at n b)) looked_at d (stops_lifted as_is Lex (λ r. lexed r) lexed_lift (rows_at n) d (stops_rows n d)) (λ y f q. checked_never (table_fault y.0) y f q))
 
 -- what follows the word `tri`
 abbrev pub if_few : Bool → ℕ → Reading → Result Rows TextFault
-if_few b n d = if b then Err (no_table too_many) else counted_rows_at n d
+if_few b n d = if b then Err (Table TooMany) else counted_rows_at n d
 
 goes_few : (b : Bool) (n : ℕ) (c : Reading) → Goes (if_few b n) c
 goes_few true n c = λ x d e. absurd cc
 goes_few false n c = goes_counted n c
 
-stops_few : (b : Bool) (n : ℕ) (c : Reading) → Stops lexical (if_few b n) c
+stops_few : (b : Bool) (n : ℕ) (c : Reading) → Stops Lex (if_few b n) c
 stops_few true n c = λ f e. absurd cc
 stops_few false n c = stops_counted n c
 
 goes_table : (c : Reading) → Goes table_at c
 unfolding table_at
 goes_table c =
-    goes_chained (λ d. lexed (number_at limit d)) (λ n d. if_few (nat_lt max_tets n) n d) c (goes_lifted as_is lexical (λ r. lexed r) lexed_lift (number_at limit) c (goes_number limit c))
+    goes_chained (λ d. lexed (number_at limit d)) (λ n d. if_few (nat_lt max_tets n) n d) c (goes_lifted as_is Lex (λ r. lexed r) lexed_lift (number_at limit) c (goes_number limit c))
     (λ n d e. goes_few (nat_lt max_tets n) n d)
 
-stops_table : (c : Reading) → Stops lexical table_at c
+stops_table : (c : Reading) → Stops Lex table_at c
 unfolding table_at
 stops_table c =
-    stops_chained lexical (λ d. lexed (number_at limit d)) (λ n d. if_few (nat_lt max_tets n) n d) c (goes_lifted as_is lexical (λ r. lexed r) lexed_lift (number_at limit) c (goes_number limit c))
-    (stops_lifted as_is lexical (λ r. lexed r) lexed_lift (number_at limit) c (stops_number limit c)) (λ n d e. stops_few (nat_lt max_tets n) n d)
+    stops_chained Lex (λ d. lexed (number_at limit d)) (λ n d. if_few (nat_lt max_tets n) n d) c (goes_lifted as_is Lex (λ r. lexed r) lexed_lift (number_at limit) c (goes_number limit c))
+    (stops_lifted as_is Lex (λ r. lexed r) lexed_lift (number_at limit) c (stops_number limit c)) (λ n d e. stops_few (nat_lt max_tets n) n d)
 
 -- what follows the word `sig`
 unfoldable pub any_text : List ℕ → Result (List ℕ) LexKind
@@ -307,12 +314,12 @@ table_named c = by_word (word_at c)
 
 goes_by_name : (b : Bool) (c : Reading) → Goes (by_name b) c
 unfolding by_name
-goes_by_name true c = goes_lifted lexical in_text (λ r. texted r) texted_lift table_at c (goes_table c)
+goes_by_name true c = goes_lifted Lex in_text (λ r. texted r) texted_lift table_at c (goes_table c)
 goes_by_name false c = goes_signature c
 
 stops_by_name : (b : Bool) (c : Reading) → Stops in_text (by_name b) c
 unfolding by_name
-stops_by_name true c = stops_lifted lexical in_text (λ r. texted r) texted_lift table_at c (stops_table c)
+stops_by_name true c = stops_lifted Lex in_text (λ r. texted r) texted_lift table_at c (stops_table c)
 stops_by_name false c = stops_signature c
 
 goes_a_name : (c : Reading) → Goes a_name c

@@ -7,10 +7,13 @@ use Rattle.text_definitions.specs.declared.LexFault.{LexFault}
 use Rattle.text_definitions.specs.Reading.{Reading, ◌>>=◌, begun, need_line_at, word_at, end_line_at, exactly_at, same_word, word_fault}
 use Rattle.table_definitions.specs.Lists.{same_list}
 use Rattle.table_definitions.specs.Table.{Row}
-use Rattle.table_definitions.specs.TableText.{TextFault, lexed, table_at, tri_table_at}
+use Rattle.table_definitions.specs.declared.TextFault.{TextFault}
+use Rattle.table_definitions.specs.TableText.{lexed, table_at, tri_table_at}
 use Rattle.table_definitions.specs.Grammar.{AreWords}
 use Rattle.table_definitions.specs.Laws.{ReadsTriTable}
-use Rattle.signature_definitions.specs.SignatureText.{SigFault, InputFault, texted, decoded, signature_table, signature_at, named_table_at, any_table_at}
+use Rattle.signature_definitions.specs.declared.InputFault.{InputFault}
+use Rattle.signature_definitions.specs.declared.SigFault.{SigFault}
+use Rattle.signature_definitions.specs.SignatureText.{texted, decoded, signature_table, signature_at, named_table_at, any_table_at}
 use Rattle.signature_definitions.specs.Grammar.{AreTableLines}
 use Rattle.document_definitions.specs.Documents.{worded, no_line_at, next_table_at}
 use Rattle.table_definitions.proofs.ListLaws.{same_list-true}

@@ -8,10 +8,16 @@ use Rattle.text_definitions.specs.declared.LexFault.{LexFault}
 use Rattle.text_definitions.specs.Text.{decimal_value}
 use Rattle.text_definitions.specs.Written.{limit}
 use Rattle.text_definitions.specs.Reading.{Reading, ◌>>=◌, word_fault, word_at, number_up_to, number_at, need_line_at, end_line_at}
-use Rattle.table_definitions.specs.Table.{max_tets, Gluing, TableFault, too_many, table_fault}
+use Rattle.table_definitions.specs.declared.TableFault.{TableFault}
+use Rattle.table_definitions.specs.declared.TableFault.TheVariants.{TooMany}
+use Rattle.table_definitions.specs.Table.{max_tets, Gluing, table_fault}
 use Rattle.table_definitions.specs.Table as tables
-use Rattle.table_definitions.specs.TableText.{TextFault, lexical, lexed, entry_at, row_at, rows_at, checked, counted_rows_at, table_at}
-use Rattle.signature_definitions.specs.SignatureText.{SigFault, InputFault, texted, decoded, signature_table, signature_at, any_table_at}
+use Rattle.table_definitions.specs.declared.TextFault.{TextFault}
+use Rattle.table_definitions.specs.declared.TextFault.TheVariants.{Lex}
+use Rattle.table_definitions.specs.TableText.{lexed, entry_at, row_at, rows_at, checked, counted_rows_at, table_at}
+use Rattle.signature_definitions.specs.declared.InputFault.{InputFault}
+use Rattle.signature_definitions.specs.declared.SigFault.{SigFault}
+use Rattle.signature_definitions.specs.SignatureText.{texted, decoded, signature_table, signature_at, any_table_at}
 use Rattle.document_definitions.specs.Documents.{worded, next_table_at}
 use Rattle.document_laws.proofs.Local.{alone}
 use Rattle.document_laws.proofs.LocalWords.{as_is, word_with, ending}
@@ -106,13 +112,13 @@ pub copy_alone : (r : Result Reading LexFault) → Copies as_is shown_only r (al
 copy_alone (Ok d) = refl
 copy_alone (Err e) = λ f p. ap (λ (g : LexFault). Err g) p
 
-copy_lexed : {X Y : Type 0} (view : X → Y) (r : Result X LexFault) (s : Result Y LexFault) → Copies as_is view r s → Copies lexical view (lexed r) s
+copy_lexed : {X Y : Type 0} (view : X → Y) (r : Result X LexFault) (s : Result Y LexFault) → Copies as_is view r s → Copies Lex view (lexed r) s
 copy_lexed view (Ok x) s c = c
 copy_lexed view (Err e) s c = λ f p. (let same : e ≡ f = cc in c f same)
 
-copy_texted : {X Y : Type 0} (view : X → Y) (r : Result X TextFault) (s : Result Y LexFault) → Copies lexical view r s → Copies in_text view (texted r) s
+copy_texted : {X Y : Type 0} (view : X → Y) (r : Result X TextFault) (s : Result Y LexFault) → Copies Lex view r s → Copies in_text view (texted r) s
 copy_texted view (Ok x) s c = c
-copy_texted view (Err e) s c = λ f p. (let same : e ≡ lexical f = cc in c f same)
+copy_texted view (Err e) s c = λ f p. (let same : e ≡ Lex f = cc in c f same)
 
 pub copy_worded : {X Y : Type 0} (view : X → Y) (r : Result X LexFault) (s : Result Y LexFault) → Copies as_is view r s → Copies in_text view (worded r) s
 copy_worded view r s c = copy_texted view (lexed r) s (copy_lexed view r s c)
@@ -163,15 +169,15 @@ copy_rows (suc n) c =
     (λ r. copy_then as_is left_only left_only (rows_at n r.1) (rows_text n r.1) (λ (rs : Rows). Ok (r.0 ∷ rs.0, rs.1)) (copy_rows n r.1) (λ rs. refl))
 
 -- what is wrong with the rows is no fault of the lexer
-copy_checked : (o : Option TableFault) (x : Rows) → Copies lexical left_only (checked o x) (Ok (left_only x))
+copy_checked : (o : Option TableFault) (x : Rows) → Copies Lex left_only (checked o x) (Ok (left_only x))
 copy_checked None x = refl
 copy_checked (Some g) x = λ f p. absurd cc
 
-copy_counted : (n : ℕ) (c : Reading) → Copies lexical left_only (counted_rows_at n c) (counted_text n c)
+copy_counted : (n : ℕ) (c : Reading) → Copies Lex left_only (counted_rows_at n c) (counted_text n c)
 unfolding counted_rows_at
 copy_counted n c =
-    copy_bind lexical shown_only left_only (lexed (end_line_at c)) (ending c) (rows_on n) (λ (u : ⊤ × Reading). rows_text n u.1) (copy_lexed shown_only (end_line_at c) (ending c) (copy_alone (end_line_at c)))
-    (λ d. copy_then lexical left_only left_only (lexed (rows_at n d)) (rows_text n d) (λ (rows : Rows). looked_at rows.0 rows.1) (copy_lexed left_only (rows_at n d) (rows_text n d) (copy_rows n d))
+    copy_bind Lex shown_only left_only (lexed (end_line_at c)) (ending c) (rows_on n) (λ (u : ⊤ × Reading). rows_text n u.1) (copy_lexed shown_only (end_line_at c) (ending c) (copy_alone (end_line_at c)))
+    (λ d. copy_then Lex left_only left_only (lexed (rows_at n d)) (rows_text n d) (λ (rows : Rows). looked_at rows.0 rows.1) (copy_lexed left_only (rows_at n d) (rows_text n d) (copy_rows n d))
     (λ rows. copy_checked (table_fault rows.0) rows))
 
 -- a number up to the greatest, where one of tetrahedra is wanted
@@ -184,7 +190,7 @@ counted_on n = counted_text n.0 n.1
 abbrev upto : Bool → ℕ → Reading → Result (ℕ × Reading) LexFault
 upto wide n c = if wide then Err (word_fault c NumberTooWide) else Ok (n, c)
 
-copy_upto : (n : ℕ) (c : Reading) (wide many : Bool) → nat_lt limit n ≡ wide → nat_lt max_tets n ≡ many → Copies lexical left_only (lexed (upto wide n c) >>= λ (m : ℕ × Reading). if_few many m.0 m.1) (upto many n c >>= counted_on)
+copy_upto : (n : ℕ) (c : Reading) (wide many : Bool) → nat_lt limit n ≡ wide → nat_lt max_tets n ≡ many → Copies Lex left_only (lexed (upto wide n c) >>= λ (m : ℕ × Reading). if_few many m.0 m.1) (upto many n c >>= counted_on)
 copy_upto n c false true p q = λ f e. absurd cc
 copy_upto n c true true p q = λ f e. (let same : word_fault c NumberTooWide ≡ f = cc in ap (λ (g : LexFault). Err g) same)
 copy_upto n c false false p q = copy_counted n c
@@ -193,20 +199,20 @@ copy_upto n c true false p q =
     let few : n ≤ max_tets = ltb-false max_tets n q in
     absurd (omega (arith, above, few))
 
-copy_value : (o : Option ℕ) (c : Reading) → Copies lexical left_only (lexed (number_up_to limit o c) >>= few_on) (number_up_to max_tets o c >>= counted_on)
+copy_value : (o : Option ℕ) (c : Reading) → Copies Lex left_only (lexed (number_up_to limit o c) >>= few_on) (number_up_to max_tets o c >>= counted_on)
 copy_value None c = λ f e. (let same : word_fault c BadWord ≡ f = cc in ap (λ (g : LexFault). Err g) same)
 copy_value (Some n) c = by_test (nat_lt limit n) refl
   where
-    by_test : (wide : Bool) → nat_lt limit n ≡ wide → Copies lexical left_only (lexed (upto wide n c) >>= few_on) (number_up_to max_tets (Some n) c >>= counted_on)
+    by_test : (wide : Bool) → nat_lt limit n ≡ wide → Copies Lex left_only (lexed (upto wide n c) >>= few_on) (number_up_to max_tets (Some n) c >>= counted_on)
     by_test false p = copy_upto n c false (nat_lt max_tets n) p refl
     by_test true p = copy_upto n c true (nat_lt max_tets n) p refl
 
 copy_number : (r : Result (List ℕ × Reading) LexFault)
-    → Copies lexical left_only (lexed (r >>= λ (w : List ℕ × Reading). number_up_to limit (decimal_value w.0) w.1) >>= few_on) (r >>= (λ (w : List ℕ × Reading). number_up_to max_tets (decimal_value w.0) w.1) >>= counted_on)
+    → Copies Lex left_only (lexed (r >>= λ (w : List ℕ × Reading). number_up_to limit (decimal_value w.0) w.1) >>= few_on) (r >>= (λ (w : List ℕ × Reading). number_up_to max_tets (decimal_value w.0) w.1) >>= counted_on)
 copy_number (Ok w) = copy_value (decimal_value w.0) w.1
 copy_number (Err g) = λ f e. (let same : g ≡ f = cc in ap (λ (g : LexFault). Err g) same)
 
-copy_tri : (c : Reading) → Copies lexical left_only (table_at c) (tri_text c)
+copy_tri : (c : Reading) → Copies Lex left_only (table_at c) (tri_text c)
 unfolding table_at number_at
 copy_tri c = copy_number (word_at c)
 

@@ -5,9 +5,9 @@ use Rattle.text_definitions.specs.Text.{Line, lines_of, end_of}
 use Rattle.text_definitions.specs.Reading.{Reading, start_of}
 use Rattle.text_definitions.specs.declared.LexFault.{LexFault}
 use Rattle.table_definitions.specs.Table.{Row}
-use Rattle.table_definitions.specs.TableText.{lexical}
+use Rattle.table_definitions.specs.declared.TextFault.TheVariants.{Lex}
 use Rattle.cone_text_definitions.specs.ConeText.{Cone}
-use Rattle.signature_definitions.specs.SignatureText.{bad_text}
+use Rattle.signature_definitions.specs.declared.InputFault.TheVariants.{Text}
 use Rattle.signature_definitions.specs.Grammar.{AreTableLines}
 use Rattle.surface_definitions.specs.Grammar.{IsVectorLine}
 use Rattle.move_definitions.specs.Moves.{Move}
@@ -48,28 +48,28 @@ abbrev pub ConeFaultsLeave : Type 0
 ConeFaultsLeave = (bytes : List ℕ) (f : LexFault) → cone_document bytes ≡ Err f → FirstLeavesAt SomeCone (end_of bytes) (lines_of bytes) f.place
 
 abbrev pub TableFaultsLeave : Type 0
-TableFaultsLeave = (bytes : List ℕ) (f : LexFault) → table_document bytes ≡ Err (bad_text (lexical f)) → LeavesAt SomeTable (end_of bytes) (lines_of bytes) f.place
+TableFaultsLeave = (bytes : List ℕ) (f : LexFault) → table_document bytes ≡ Err (Text (Lex f)) → LeavesAt SomeTable (end_of bytes) (lines_of bytes) f.place
 
 abbrev pub TwoTablesFaultsLeave : Type 0
-TwoTablesFaultsLeave = (bytes : List ℕ) (f : LexFault) → two_tables_document bytes ≡ Err (bad_text (lexical f)) → LeavesAt SomeTwoTables (end_of bytes) (lines_of bytes) f.place
+TwoTablesFaultsLeave = (bytes : List ℕ) (f : LexFault) → two_tables_document bytes ≡ Err (Text (Lex f)) → LeavesAt SomeTwoTables (end_of bytes) (lines_of bytes) f.place
 
 abbrev pub TablesFaultsLeave : Type 0
-TablesFaultsLeave = (bytes : List ℕ) (f : LexFault) → tables_document bytes ≡ Err (bad_text (lexical f)) → LeavesAt SomeTables (end_of bytes) (lines_of bytes) f.place
+TablesFaultsLeave = (bytes : List ℕ) (f : LexFault) → tables_document bytes ≡ Err (Text (Lex f)) → LeavesAt SomeTables (end_of bytes) (lines_of bytes) f.place
 
 abbrev pub VectorsFaultsLeave : Type 0
-VectorsFaultsLeave = (bytes : List ℕ) (f : LexFault) → vectors_document bytes ≡ Err (bad_text (lexical f)) → LeavesAt SomeTableAndVectors (end_of bytes) (lines_of bytes) f.place
+VectorsFaultsLeave = (bytes : List ℕ) (f : LexFault) → vectors_document bytes ≡ Err (Text (Lex f)) → LeavesAt SomeTableAndVectors (end_of bytes) (lines_of bytes) f.place
 
 abbrev pub VectorFaultsLeave : Type 0
-VectorFaultsLeave = (bytes : List ℕ) (f : LexFault) → vector_document bytes ≡ Err (bad_text (lexical f)) → LeavesAt SomeTableAndVector (end_of bytes) (lines_of bytes) f.place
+VectorFaultsLeave = (bytes : List ℕ) (f : LexFault) → vector_document bytes ≡ Err (Text (Lex f)) → LeavesAt SomeTableAndVector (end_of bytes) (lines_of bytes) f.place
 
 abbrev pub StepsFaultsLeave : Type 0
-StepsFaultsLeave = (bytes : List ℕ) (f : LexFault) → steps_document bytes ≡ Err (bad_text (lexical f)) → LeavesAt SomeTableAndSteps (end_of bytes) (lines_of bytes) f.place
+StepsFaultsLeave = (bytes : List ℕ) (f : LexFault) → steps_document bytes ≡ Err (Text (Lex f)) → LeavesAt SomeTableAndSteps (end_of bytes) (lines_of bytes) f.place
 
 abbrev pub MovesFaultsLeave : Type 0
-MovesFaultsLeave = (bytes : List ℕ) (f : LexFault) → moves_document bytes ≡ Err (bad_text (lexical f)) → LeavesAt SomeTableAndMoves (end_of bytes) (lines_of bytes) f.place
+MovesFaultsLeave = (bytes : List ℕ) (f : LexFault) → moves_document bytes ≡ Err (Text (Lex f)) → LeavesAt SomeTableAndMoves (end_of bytes) (lines_of bytes) f.place
 
 -- where a table was read, and a vector behind it is refused, the fault's place is the first such
 abbrev pub VectorsFaultsLeaveFirst : Type 0
 VectorsFaultsLeaveFirst =
-    (bytes : List ℕ) (rows : List Row) (left : Reading) (f : LexFault) → next_table_at (start_of bytes) ≡ Ok (rows, left) → vectors_document bytes ≡ Err (bad_text (lexical f))
+    (bytes : List ℕ) (rows : List Row) (left : Reading) (f : LexFault) → next_table_at (start_of bytes) ≡ Ok (rows, left) → vectors_document bytes ≡ Err (Text (Lex f))
     → FirstLeavesAt SomeTableAndVectors (end_of bytes) (lines_of bytes) f.place

@@ -4,8 +4,8 @@ use Rattle.std.specs.Prelude.{◌≡◌, ℕ, List, [], ◌∷◌, Err}
 use Rattle.text_definitions.specs.Text.{Line, lines_of, end_of}
 use Rattle.text_definitions.specs.declared.LexFault.{LexFault}
 use Rattle.table_definitions.specs.Table.{Row}
-use Rattle.table_definitions.specs.TableText.{lexical}
-use Rattle.signature_definitions.specs.SignatureText.{bad_text}
+use Rattle.table_definitions.specs.declared.TextFault.TheVariants.{Lex}
+use Rattle.signature_definitions.specs.declared.InputFault.TheVariants.{Text}
 use Rattle.signature_definitions.specs.Grammar.{AreTableLines}
 use Rattle.surface_definitions.specs.Grammar.{IsVectorLine}
 use Rattle.move_definitions.specs.Moves.{Move}
@@ -40,22 +40,22 @@ ManyTablesHaveText = (lines : List Line) (tables : List (List Row)) → AreTable
 
 -- where the text of a document is refused, the fault stands at the first sign with which nothing goes on to such a text
 abbrev pub TableFaultsStandFirst : Type 0
-TableFaultsStandFirst = (bytes : List ℕ) (f : LexFault) → table_document bytes ≡ Err (bad_text (lexical f)) → FirstLeavesAt AreTableText (end_of bytes) (lines_of bytes) f.place
+TableFaultsStandFirst = (bytes : List ℕ) (f : LexFault) → table_document bytes ≡ Err (Text (Lex f)) → FirstLeavesAt AreTableText (end_of bytes) (lines_of bytes) f.place
 
 abbrev pub VectorsFaultsStandFirst : Type 0
-VectorsFaultsStandFirst = (bytes : List ℕ) (f : LexFault) → vectors_document bytes ≡ Err (bad_text (lexical f)) → FirstLeavesAt AreTableAndVectorsText (end_of bytes) (lines_of bytes) f.place
+VectorsFaultsStandFirst = (bytes : List ℕ) (f : LexFault) → vectors_document bytes ≡ Err (Text (Lex f)) → FirstLeavesAt AreTableAndVectorsText (end_of bytes) (lines_of bytes) f.place
 
 abbrev pub StepsFaultsStandFirst : Type 0
-StepsFaultsStandFirst = (bytes : List ℕ) (f : LexFault) → steps_document bytes ≡ Err (bad_text (lexical f)) → FirstLeavesAt AreTableAndStepsText (end_of bytes) (lines_of bytes) f.place
+StepsFaultsStandFirst = (bytes : List ℕ) (f : LexFault) → steps_document bytes ≡ Err (Text (Lex f)) → FirstLeavesAt AreTableAndStepsText (end_of bytes) (lines_of bytes) f.place
 
 abbrev pub MovesFaultsStandFirst : Type 0
-MovesFaultsStandFirst = (bytes : List ℕ) (f : LexFault) → moves_document bytes ≡ Err (bad_text (lexical f)) → FirstLeavesAt AreTableAndMovesText (end_of bytes) (lines_of bytes) f.place
+MovesFaultsStandFirst = (bytes : List ℕ) (f : LexFault) → moves_document bytes ≡ Err (Text (Lex f)) → FirstLeavesAt AreTableAndMovesText (end_of bytes) (lines_of bytes) f.place
 
 abbrev pub VectorFaultsStandFirst : Type 0
-VectorFaultsStandFirst = (bytes : List ℕ) (f : LexFault) → vector_document bytes ≡ Err (bad_text (lexical f)) → FirstLeavesAt AreTableAndVectorText (end_of bytes) (lines_of bytes) f.place
+VectorFaultsStandFirst = (bytes : List ℕ) (f : LexFault) → vector_document bytes ≡ Err (Text (Lex f)) → FirstLeavesAt AreTableAndVectorText (end_of bytes) (lines_of bytes) f.place
 
 abbrev pub TwoTablesFaultsStandFirst : Type 0
-TwoTablesFaultsStandFirst = (bytes : List ℕ) (f : LexFault) → two_tables_document bytes ≡ Err (bad_text (lexical f)) → FirstLeavesAt AreTwoTablesText (end_of bytes) (lines_of bytes) f.place
+TwoTablesFaultsStandFirst = (bytes : List ℕ) (f : LexFault) → two_tables_document bytes ≡ Err (Text (Lex f)) → FirstLeavesAt AreTwoTablesText (end_of bytes) (lines_of bytes) f.place
 
 abbrev pub TablesFaultsStandFirst : Type 0
-TablesFaultsStandFirst = (bytes : List ℕ) (f : LexFault) → tables_document bytes ≡ Err (bad_text (lexical f)) → FirstLeavesAt AreTablesText (end_of bytes) (lines_of bytes) f.place
+TablesFaultsStandFirst = (bytes : List ℕ) (f : LexFault) → tables_document bytes ≡ Err (Text (Lex f)) → FirstLeavesAt AreTablesText (end_of bytes) (lines_of bytes) f.place

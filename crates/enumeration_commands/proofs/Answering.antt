@@ -13,7 +13,7 @@ use Rattle.double_description.specs.declared.kept.LargeKind.{LargeKind}
 use Rattle.double_description.specs.declared.engine.EnumFault.TheVariants.{Large}
 use Rattle.double_description.specs.Faults.{named_of}
 use Rattle.surface_list.specs.Surfaces.{AreSurfaces, IsLargeIn, cone_of, AreTableSurfaces, IsTableRefused}
-use Rattle.signature_definitions.specs.SignatureText.{InputFault}
+use Rattle.signature_definitions.specs.declared.InputFault.{InputFault}
 use Rattle.outcome_definitions.specs.Outcomes.{Outcome, IsReadOutcome}
 use Rattle.outcome_definitions.specs.Enumerations.{Enumeration, list_outcome, large_outcome, IsEnumerationAnswer, IsSurfacesAnswer}
 

@@ -1,6 +1,6 @@
 -- The first that gives something, and fresh rows by their numbers.
-use Rattle.std.proofs.Common.{◌≡◌, ℕ, zero, suc, ◌+◌, ◌<◌, ◌≤◌, Bool, true, false, cond, List, [], ◌∷◌, ◌++◌, length, get_or, map, Option, Some, None, refl, sym, ap, ◌∙◌, subst, arith, inl, inr}
-use Rattle.std.specs.Prelude.{◌⊎◌, ◌==◌, ◌≢◌, not, option_and_then, is_some, if◌then◌else◌}
+use Rattle.std.proofs.Common.{◌≡◌, ℕ, zero, suc, ◌<◌, ◌≤◌, true, false, List, [], ◌∷◌, length, get_or, map, Option, Some, None, refl, sym, ap, ◌∙◌, arith}
+use Rattle.std.specs.Prelude.{◌==◌, option_and_then, is_some, if◌then◌else◌}
 use Rattle.std.specs.List.{slice_index_or, position_or_len, flat_map}
 use Rattle.std.specs.Option.{option_or}
 use Rattle.std.proofs.lemmas.List.{get_or-map}
@@ -10,7 +10,7 @@ use Rattle.std.proofs.lemmas.Bool.{eq-eqb}
 use Rattle.table_definitions.specs.Lists.{has, first_some, below}
 use Rattle.table_definitions.specs.Permutation.{four}
 use Rattle.table_definitions.specs.Table.{Gluing, Row, Face}
-use Rattle.table_definitions.specs.Replacing.{Replacement, leads_to, fresh_faces, fresh_row, back_to_fresh}
+use Rattle.table_definitions.specs.Replacing.{Replacement, leads_to, fresh_row, back_to_fresh}
 use Rattle.perm_four.proofs.ListFacts.{first_some-append, first_some-map, first_some-below, first_some-none_below}
 use Rattle.gluing_table.specs.Replaceable.{numbers_of, fresh_numbers, row_back}
 use Rattle.gluing_table.proofs.FreshRows.{gives_back}

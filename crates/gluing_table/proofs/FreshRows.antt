@@ -1,14 +1,14 @@
 -- Fresh rows, and what leads back to them.
-use Rattle.std.proofs.Common.{◌≡◌, ℕ, zero, suc, ◌+◌, ◌<◌, ◌≤◌, Bool, true, false, cond, List, [], ◌∷◌, ◌++◌, length, get_or, map, Option, Some, None, refl, sym, ap, ◌∙◌, subst, arith, inl, inr}
-use Rattle.std.specs.Prelude.{◌⊎◌, ◌==◌, not, All, option_and_then, if◌then◌else◌}
+use Rattle.std.proofs.Common.{◌≡◌, ℕ, zero, suc, ◌<◌, ◌≤◌, Bool, true, false, List, [], ◌∷◌, ◌++◌, length, get_or, map, Option, Some, None, refl, sym, ap, ◌∙◌, subst, arith, inl, inr}
+use Rattle.std.specs.Prelude.{◌⊎◌, ◌==◌, option_and_then, if◌then◌else◌}
 use Rattle.std.specs.List.{slice_index_or, position_or_len, flat_map}
 use Rattle.std.specs.Option.{option_or}
 use Rattle.std.proofs.lemmas.List.{get_or-map, get_or_past}
 use Rattle.std.proofs.lemmas.List.Elements.{All-get_or}
-use Rattle.std.proofs.lemmas.Bool.{eqb-true, eq-eqb, cases_lt}
+use Rattle.std.proofs.lemmas.Bool.{eqb-true, cases_lt}
 use Rattle.table_definitions.specs.Lists.{has, first_some}
 use Rattle.table_definitions.specs.Permutation.{four}
-use Rattle.table_definitions.specs.Table.{Gluing, Row, Face, glue, other_side, way_back, same_face}
+use Rattle.table_definitions.specs.Table.{Gluing, Row, Face, other_side, way_back, same_face}
 use Rattle.table_definitions.specs.Replacing.{Replacement, leads_to, fresh_faces, fresh_row, back_to_fresh}
 use Rattle.table_definitions.proofs.TableLaws.{Among, Among-left, Among-right, Among-map, Among-four}
 use Rattle.gluing_table.specs.Replaceable.{fresh_numbers, fresh_glue, CanReplace}

@@ -1,17 +1,17 @@
 -- Where the rows stand in a table in which some were taken out and fresh ones put in.
-use Rattle.std.proofs.Common.{◌≡◌, ℕ, zero, suc, ◌+◌, ◌-◌, ◌<◌, ◌≤◌, Bool, true, false, cond, List, [], ◌∷◌, ◌++◌, length, get_or, map, Option, Some, None, refl, sym, ap, ◌∙◌, subst, arith, inl, inr}
-use Rattle.std.specs.Prelude.{◌⊎◌, ◌==◌, not, All, slice_index}
-use Rattle.std.specs.List.{slice_index_or, position_or_len}
-use Rattle.std.proofs.lemmas.List.{get_or-map, length-map, get_or_past}
+use Rattle.std.proofs.Common.{◌≡◌, ℕ, zero, suc, ◌+◌, ◌<◌, Bool, true, false, cond, List, [], length, get_or, map, Option, None, refl, sym, ap, ◌∙◌, subst, arith}
+use Rattle.std.specs.Prelude.{◌==◌, not, slice_index}
+use Rattle.std.specs.List.{position_or_len}
+use Rattle.std.proofs.lemmas.List.{length-map}
 use Rattle.std.proofs.lemmas.List.FromFn.{get_or-map-range_with_len, length-map-range_with_len}
-use Rattle.std.proofs.lemmas.List.Elements.{All-get_or, All-from_get_or}
+use Rattle.std.proofs.lemmas.List.Elements.{All-get_or}
 use Rattle.std.proofs.lemmas.List.Kept.{AllPairs-from_increasing}
-use Rattle.table_definitions.specs.Lists.{below, has, closed_up}
+use Rattle.table_definitions.specs.Lists.{has}
 use Rattle.table_definitions.specs.Permutation.{four}
-use Rattle.table_definitions.specs.Table.{Gluing, Row, Face, glue, IsTable}
+use Rattle.table_definitions.specs.Table.{Gluing, Row, Face, glue}
 use Rattle.table_definitions.specs.Replacing.{Replacement, replaced_length, kept_numbers, free_numbers, number_of_kept, fresh_row, kept_gluing, kept_row, replaced_row, replaced}
 use Rattle.gluing_table.specs.Replaceable.{fresh_numbers, fresh_glue, CanReplace}
-use Rattle.gluing_table.proofs.Ranks.{picked, rank, length-picked, at_rank, of_rank, ranks_apart, position_is_rank, Ascends, stays, closed_up-rank, stays-count}
+use Rattle.gluing_table.proofs.Ranks.{rank, at_rank, of_rank, position_is_rank, Ascends, stays, closed_up-rank, stays-count}
 
 -- the old number of the row at u
 abbrev pub kept_at : List Row → Replacement → ℕ → ℕ

@@ -1,18 +1,17 @@
 -- What the calls give for the rows that are kept.
-use Rattle.std.proofs.Common.{◌≡◌, ℕ, zero, suc, ◌+◌, ◌^◌, ◌<◌, ◌≤◌, Bool, true, false, cond, List, [], ◌∷◌, ◌++◌, map, length, get_or, Option, Some, None, refl, sym, ap, ◌∙◌, subst, arith, inl, inr}
+use Rattle.std.proofs.Common.{◌≡◌, ℕ, zero, suc, ◌+◌, ◌^◌, ◌<◌, ◌≤◌, Bool, true, false, cond, List, [], ◌∷◌, ◌++◌, map, length, Option, Some, None, refl, sym, ap, ◌∙◌, arith, inl, inr}
 use Rattle.std.specs.Prelude.{◌⊎◌, not, if◌then◌else◌}
 use Rattle.std.proofs.lemmas.Bool.{cases_lt}
 use Rattle.table_definitions.specs.Lists.{has, first_some, below, closed_up}
 use Rattle.table_definitions.specs.Table.{Gluing, Row, Face, glue, IsTable}
 use Rattle.table_definitions.specs.Replacing.{Replacement, replaced_length, number_of_kept, kept_gluing, kept_row, replaced_row, fresh_row, back_to_fresh, replaced}
-use Rattle.gluing_table.specs.Replaceable.{numbers_of, fresh_numbers, gone_before, row_back, CanReplace}
+use Rattle.gluing_table.specs.Replaceable.{fresh_numbers, gone_before, row_back, CanReplace}
 use Rattle.std.proofs.lemmas.List.{map-append}
 use Rattle.std.proofs.lemmas.List.FromFn.{length-map-range_with_len}
 use Rattle.gluing_table.proofs.Bijections.{below-push}
 use Rattle.gluing_table.proofs.Ranks.{rank, rank-suc, stays, opened_up, closed_up-rank, at_rank}
 use Rattle.gluing_table.proofs.Kept.{IsKeptAs, kept_at, kept_by, as_many, fewer_removed, removed_up, fresh_up}
 use Rattle.gluing_table.proofs.FirstBack.{back_by_rows}
-use Rattle.gluing_table.proofs.Opened.{length-numbers_of}
 
 -- no fewer pass below a greater number
 rank-le : (p : ℕ → Bool) (n m : ℕ) → n ≤ m → rank p n ≤ rank p m

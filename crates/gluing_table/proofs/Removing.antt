@@ -1,9 +1,9 @@
 -- Rows that are only taken out.
-use Rattle.std.proofs.Common.{◌≡◌, ℕ, zero, suc, ◌+◌, ◌-◌, ◌<◌, ◌≤◌, List, [], ◌∷◌, length, Option, Some, None, refl, arith}
+use Rattle.std.proofs.Common.{◌≡◌, ℕ, zero, suc, ◌<◌, ◌≤◌, List, [], ◌∷◌, length, Some, None, refl, arith}
 use Rattle.std.specs.Prelude.{All}
 use Rattle.std.specs.List.{slice_index_or}
 use Rattle.std.specs.List.Sorted.{IsStrictlyIncreasing}
-use Rattle.table_definitions.specs.Table.{Gluing, Row, Face, IsTable}
+use Rattle.table_definitions.specs.Table.{Gluing, Row, Face}
 use Rattle.table_definitions.specs.Replacing.{Replacement}
 use Rattle.gluing_table.specs.Replaceable.{fresh_glue, CanReplace}
 

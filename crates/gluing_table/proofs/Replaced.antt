@@ -1,14 +1,13 @@
 -- A table in which rows are replaced is a table.
-use Rattle.std.proofs.Common.{◌≡◌, ℕ, zero, suc, ◌+◌, ◌<◌, ◌≤◌, Bool, true, false, cond, List, [], ◌∷◌, length, get_or, map, Option, Some, None, refl, sym, ap, ◌∙◌, subst, arith, inl, inr}
-use Rattle.std.specs.Prelude.{◌⊎◌, ◌==◌, ◌&&◌, not, All, IsTrue, ◌≢◌}
-use Rattle.std.specs.List.{slice_index_or}
+use Rattle.std.proofs.Common.{◌≡◌, ℕ, ◌<◌, Bool, true, false, cond, List, [], length, get_or, Option, Some, None, refl, sym, ap, ◌∙◌, subst, inl, inr}
+use Rattle.std.specs.Prelude.{◌⊎◌, All}
 use Rattle.std.proofs.lemmas.List.Elements.{All-from_get_or, All-get_or}
 use Rattle.table_definitions.specs.Lists.{has}
-use Rattle.table_definitions.specs.Permutation.{four, IsPermutationOfFour, image, inverse}
+use Rattle.table_definitions.specs.Permutation.{IsPermutationOfFour, image, inverse}
 use Rattle.table_definitions.specs.Table.{Gluing, Row, Face, glue, other_side, way_back, same_face, IsTable}
-use Rattle.table_definitions.specs.Replacing.{Replacement, replaced_length, number_of_kept, fresh_row, back_to_fresh, kept_gluing, kept_row, replaced}
-use Rattle.perm_four.proofs.Permutations.{image_below, preimage_below, image-preimage, preimage-image, image-inverse, inverse_permutes, inverse-inverse}
-use Rattle.gluing_table.specs.Replaceable.{fresh_numbers, fresh_glue, IsFreed, CanReplace}
+use Rattle.table_definitions.specs.Replacing.{Replacement, replaced_length, number_of_kept, back_to_fresh, kept_gluing, replaced}
+use Rattle.perm_four.proofs.Permutations.{image_below, preimage-image, image-inverse, inverse_permutes, inverse-inverse}
+use Rattle.gluing_table.specs.Replaceable.{fresh_numbers, fresh_glue, CanReplace}
 use Rattle.gluing_table.proofs.TableFaults.{glued_tet, glue_face}
 use Rattle.gluing_table.proofs.Bijections.{there}
 use Rattle.gluing_table.proofs.Carried.{IsGood, not_from, same_from, same_to}

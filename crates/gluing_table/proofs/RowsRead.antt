@@ -1,8 +1,10 @@
 -- Rows that are read one by one.
-use Rattle.std.proofs.Common.{◌≡◌, ℕ, zero, suc, ◌+◌, ◌-◌, ◌<◌, ◌≤◌, List, [], ◌∷◌, ◌++◌, Option, Some, None, Result, Ok, Err, refl, sym, ap, subst, ◌∙◌, arith, append_assoc, append-nil}
+use Rattle.std.proofs.Common.{◌≡◌, ℕ, zero, suc, ◌<◌, List, [], ◌∷◌, ◌++◌, Option, None, Result, Ok, Err, refl, sym, ap, subst, ◌∙◌, arith, append_assoc, append-nil}
 use Rattle.text_definitions.specs.declared.LexFault.{LexFault}
 use Rattle.text_definitions.specs.Reading.{Reading, ◌>>=◌, end_line_at}
-use Rattle.table_definitions.specs.Table.{Row, IsTable, TableFault, table_fault}
+use Rattle.table_definitions.specs.declared.TableFault.{TableFault}
+use Rattle.table_definitions.specs.declared.TextFault.{TextFault}
+use Rattle.table_definitions.specs.Table.{Row, IsTable, table_fault}
 use Rattle.table_definitions.specs.TableText.{row_at, rows_at, lexed, checked, counted_rows_at}
 use Rattle.table_definitions.proofs.TableLaws.{table_fault-IsTable}
 
@@ -41,11 +43,11 @@ with_rows-fault front (suc m) c fault some read =
     ap (λ r. with_rows front (r >>= λ (first : Row × Reading). rows_at m first.1 >>= λ (others : List Row × Reading). Ok (first.0 ∷ others.0, others.1))) read
 
 -- the rows that were read are a table
-pub counted : (n : ℕ) (c d e : Reading) (rows slice table : List Row) → end_line_at c ≡ Ok d → rows_at n d ≡ Ok (rows, e) → slice ≡ rows → table ≡ slice → IsTable slice
+pub counted : (n : ℕ) (c d e : Reading) (rows slice table : List Row) → end_line_at c ≡ Ok d → lexed (rows_at n d) ≡ Ok (rows, e) → slice ≡ rows → table ≡ slice → IsTable slice
     → counted_rows_at n c ≡ Ok (table, e)
 unfolding counted_rows_at
 counted n c d e rows slice table ended read same is h =
     ap (λ r. lexed r >>= λ (end : Reading). lexed (rows_at n end) >>= λ (x : List Row × Reading). checked (table_fault x.0) x) ended
-    ∙ ap (λ r. lexed r >>= λ (x : List Row × Reading). checked (table_fault x.0) x) read
+    ∙ ap (λ (r : Result (List Row × Reading) TextFault). r >>= λ (x : List Row × Reading). checked (table_fault x.0) x) read
     ∙ ap (λ (o : Option TableFault). checked o (rows, e)) (subst (λ (xs : List Row). table_fault xs ≡ None) same (table_fault-IsTable slice h))
     ∙ ap (λ (xs : List Row). Ok (xs, e)) (sym same ∙ sym is)

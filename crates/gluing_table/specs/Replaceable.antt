@@ -1,5 +1,5 @@
 -- When rows of a table can be taken out and fresh rows put in.
-use Rattle.std.specs.Prelude.{count_by, nat_lt, option_and_then, ◌≡◌, ℕ, ◌<◌, ◌≤◌, Bool, true, false, not, List, length, map, Option, Some, None, All, IsTrue}
+use Rattle.std.specs.Prelude.{count_by, nat_lt, option_and_then, ◌≡◌, ℕ, ◌<◌, ◌≤◌, true, false, not, List, length, map, Option, Some, None, All, IsTrue}
 use Rattle.std.specs.List.{slice_index_or}
 use Rattle.std.specs.List.Sorted.{IsStrictlyIncreasing}
 use Rattle.table_definitions.specs.Lists.{has, first_some}

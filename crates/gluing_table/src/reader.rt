@@ -2,61 +2,14 @@
 
 ghost use Rattle.std.specs.Prelude.{◌≡◌, ◌==◌, ◌<◌, ◌≤◌, length, Some, if◌then◌else◌, nat_lt};
 ghost use Rattle.std.specs.List.{position_or_len, before_first, after_first};
-ghost use Rattle.text_definitions.specs.Reading.{Gives};
-ghost use Rattle.table_definitions.specs.TableText.{gluing_of, gluing_entry, entry_at, row_at, rows_at, counted_rows_at, table_at};
-ghost use Rattle.gluing_table.specs.declared.reader.TextFault.TheVariants as TheVariants;
-ghost use Rattle.gluing_table.specs.TextFaults.{as_text_fault, GivesRows, GivesTable};
+ghost use Rattle.text_definitions.specs.Reading.{Gives, ReadsFrom};
+ghost use Rattle.table_definitions.specs.TableText.{lexed, gluing_of, gluing_entry, entry_at, row_at, rows_at, counted_rows_at, table_at};
 
 use crate::digits::number_of_digits;
-use crate::{Glue, MAX_TETS, Row, Table, TableFault};
+use crate::{Glue, MAX_TETS, Row, Table, TableFault, TextFault};
 use bench_io::{LexFault, LexKind, Lexer, is_decimal_word};
 use perm_four::Perm4;
-use std::alloc::{AllocError, AllocFailed, Global};
-
-/// Why a text is no table.
-#[derive(Clone, Copy, Debug, PartialEq, Eq)]
-pub enum TextFault {
-    NoMemory,
-    /// A line or a word hasn't the form that is wanted.
-    Lex(LexFault),
-    /// The rows are no table. It is never want of memory.
-    Table(TableFault),
-}
-
-impl From<LexFault> for TextFault {
-    ghost from_gives = { λ f e. e ≡ TheVariants.Lex f };
-
-    fn from(fault: LexFault) -> TextFault {
-        TextFault::Lex(fault)
-    }
-}
-
-impl From<TableFault> for TextFault {
-    ghost from_gives = { λ f e. e ≡ as_text_fault f };
-
-    fn from(fault: TableFault) -> TextFault {
-        match fault {
-            TableFault::NoMemory => TextFault::NoMemory,
-            other => TextFault::Table(other),
-        }
-    }
-}
-
-impl From<AllocError> for TextFault {
-    ghost from_gives = { λ _ e. e ≡ TheVariants.NoMemory };
-
-    fn from(_error: AllocError) -> TextFault {
-        TextFault::NoMemory
-    }
-}
-
-impl<T: Drop> From<AllocFailed<T>> for TextFault {
-    ghost from_gives = { λ _ e. e ≡ TheVariants.NoMemory };
-
-    fn from(_failed: AllocFailed<T>) -> TextFault {
-        TextFault::NoMemory
-    }
-}
+use std::alloc::Global;
 
 /// The position of the first colon, or the length.
 fn colon_in(word: &[u8]) -> usize
@@ -133,7 +86,7 @@ fn read_row(lexer: &mut Lexer<'_>) -> Result<Row, LexFault>
 
 /// The rows of so many lines.
 fn read_lines(alloc: Global, lexer: &mut Lexer<'_>, count: u32) -> Result<Vec<Row>, TextFault>
-    ensures { GivesRows (λ rows. rows.items) result lexer.new (rows_at count lexer.old) }
+    ensures { ReadsFrom TextFault.NoMemory (λ rows. rows.items) result lexer.new (lexed (rows_at count lexer.old)) }
 {
     let mut rows = Vec::with_capacity(alloc, count as usize)?;
     for _line in 0..count {
@@ -146,7 +99,7 @@ fn read_lines(alloc: Global, lexer: &mut Lexer<'_>, count: u32) -> Result<Vec<Ro
 /// The table of so many rows, from the end of this line on.
 #[tactic(auto, unfolding(table_definitions::specs::TableText::counted_rows_at))]
 fn read_counted(alloc: Global, lexer: &mut Lexer<'_>, count: u32) -> Result<Table, TextFault>
-    ensures { GivesTable result lexer.new (counted_rows_at count lexer.old) }
+    ensures { ReadsFrom TextFault.NoMemory (λ table. table) result lexer.new (counted_rows_at count lexer.old) }
 {
     lexer.end_line()?;
     let rows = read_lines(alloc, lexer, count)?;
@@ -161,7 +114,7 @@ const LIMIT: u128 = 170141183460469231731687303715884105727;
 /// more than 1,000 rows are one before the rest of the line is read.
 #[tactic(auto, unfolding(table_definitions::specs::TableText::table_at))]
 pub fn read_rows(alloc: Global, lexer: &mut Lexer<'_>) -> Result<Table, TextFault>
-    ensures { GivesTable result lexer.new (table_at lexer.old) }
+    ensures { ReadsFrom TextFault.NoMemory (λ table. table) result lexer.new (table_at lexer.old) }
 {
     let count = lexer.number(LIMIT)?;
     if count > u128::from(MAX_TETS) {

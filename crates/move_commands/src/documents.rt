@@ -1,7 +1,7 @@
 // The document of a table and steps.
 ghost use Rattle.std.specs.Prelude.{◌≤◌, ◌^◌, length};
 ghost use Rattle.document_definitions.specs.Documents.{steps_document};
-ghost use Rattle.signature_codec.specs.Inputs.{GivesDocument};
+ghost use Rattle.text_definitions.specs.Reading.{Reads};
 ghost use Rattle.move_commands.specs.Scripts.{steps_of};
 
 use crate::steps::read_steps;
@@ -23,7 +23,7 @@ pub struct TableAndSteps {
 #[tactic(auto, unfolding(document_definitions::specs::Documents::table_and_lines))]
 pub fn read_table_and_steps(alloc: Global, bytes: &[u8]) -> Result<TableAndSteps, InputFault>
     requires { length bytes.now ≤ 2 ^ 31 }
-    ensures { GivesDocument (λ d. (d.table, steps_of d.steps)) result (steps_document bytes.now) }
+    ensures { Reads InputFault.NoMemory (λ d. (d.table, steps_of d.steps)) result (steps_document bytes.now) }
 {
     let mut lexer = Lexer::new(bytes);
     let table = read_table(alloc, &mut lexer)?;

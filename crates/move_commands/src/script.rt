@@ -8,8 +8,8 @@ ghost use Rattle.move_commands.specs.Scripts.{all_steps, fault_text, Steps, Play
 use move_undo::{PlayFault, Session, Step};
 use no_memory::NoMemory;
 use pachner_moves::{Move, MoveFault};
-use text_writing::{append, append_decimal};
 use std::alloc::Global;
+use text_writing::{append, append_decimal};
 
 // Two labels.
 fn append_labels(alloc: Global, out: &mut Vec<u8>, first: u8, second: u8) -> Result<(), NoMemory>

@@ -2,7 +2,8 @@
 ghost use Rattle.std.specs.Prelude.{◌≡◌};
 ghost use Rattle.move_definitions.specs.MoveText.{step_at};
 ghost use Rattle.document_definitions.specs.Documents.{each_line_from};
-ghost use Rattle.command_answers.specs.Reads.{GivesLine};
+ghost use Rattle.text_definitions.specs.Reading.{ReadsFrom};
+ghost use Rattle.table_definitions.specs.TableText.{lexed};
 ghost use Rattle.move_commands.specs.Scripts.{steps_of};
 
 use bench_io::Lexer;
@@ -12,7 +13,7 @@ use std::alloc::Global;
 
 /// The steps of all lines that are left.
 pub fn read_steps(alloc: Global, lexer: &mut Lexer<'_>) -> Result<Vec<Step>, TextFault>
-    ensures { GivesLine steps_of result lexer.new (each_line_from step_at lexer.old.later lexer.old) }
+    ensures { ReadsFrom TextFault.NoMemory steps_of result lexer.new (lexed (each_line_from step_at lexer.old.later lexer.old)) }
 {
     let mut steps = Vec::new(alloc);
     while lexer.next_line() {

@@ -3,7 +3,7 @@ use Rattle.std.specs.Prelude.{◌≡◌, ℕ, List, Result, Ok, Err, ⊤}
 use Rattle.outcome_definitions.specs.declared.Status.{Status}
 use Rattle.outcome_definitions.specs.declared.Status.TheVariants.{Done, Usage, Input, Refused, Large, ReadFault, WriteFault, NoMemory}
 use Rattle.outcome_definitions.specs.Lines.{usage_line, read_line, too_long_line, input_line}
-use Rattle.signature_definitions.specs.SignatureText.{InputFault}
+use Rattle.signature_definitions.specs.declared.InputFault.{InputFault}
 
 pub record Outcome : Type 0 where
   pub status : Status

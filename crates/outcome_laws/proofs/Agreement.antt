@@ -6,7 +6,7 @@ use Rattle.table_definitions.specs.Table.{Row}
 use Rattle.surface_definitions.specs.declared.Coords.{Coords}
 use Rattle.double_description.specs.declared.picker.Order.{Order}
 use Rattle.double_description.specs.declared.picker.Order.TheVariants.{Free}
-use Rattle.signature_definitions.specs.SignatureText.{InputFault}
+use Rattle.signature_definitions.specs.declared.InputFault.{InputFault}
 use Rattle.document_definitions.specs.Documents.{worded, table_document, two_tables_document, tables_document, vectors_document, steps_document, cone_document}
 use Rattle.command_definitions.specs.Requests.{Request, verify, info, surfaces, rays, describe, lift, crush, play, sig, same, group, check, descend, make, bulk, Order as OrderName, given, short, zeros}
 use Rattle.command_definitions.specs.Words.{accepted_request}

@@ -4,7 +4,8 @@ use Rattle.std.specs.Prelude.{ℕ}
 use Rattle.text_definitions.specs.Reading.{Reading, ◌>>=◌, start_of, need_line_at}
 use Rattle.text_definitions.proofs.Readers.{bind_ok}
 use Rattle.table_definitions.specs.Table.{Row, IsTable}
-use Rattle.signature_definitions.specs.SignatureText.{InputFault, any_table_at}
+use Rattle.signature_definitions.specs.declared.InputFault.{InputFault}
+use Rattle.signature_definitions.specs.SignatureText.{any_table_at}
 use Rattle.signature_codec.proofs.AnyTables.{any_table_read}
 use Rattle.document_definitions.specs.Documents.{worded, next_table_at, no_line_at, two_tables_document}
 

@@ -7,6 +7,7 @@ use Rattle.std.proofs.lemmas.List.Sums.{sum_by-cons, sum_by-append}
 use Rattle.table_definitions.specs.Lists.{below, times_in}
 use Rattle.table_definitions.specs.Permutation.{identity, words, index, IsPermutationOfFour}
 use Rattle.table_definitions.specs.Table.{Gluing, Row, Face, IsTable, glue, other_side, same_face, is_face_before}
+use Rattle.signature_definitions.specs.declared.SigFault.TheVariants as sig_faults
 use Rattle.signature_definitions.specs.WalkOrder.{is_seen, is_ordered_at, IsWalkOrdered}
 use Rattle.signature_definitions.specs.Spelling.{type_of, seen_gluing}
 use Rattle.signature_definitions.specs.SignatureText as signatures
@@ -74,7 +75,7 @@ next_stays x [] s e = refl
 next_stays x (t ∷ ts) s e = rw e refl
 
 face_goes : (k : ℕ) (s : Slots) → k / 4 < s.seen → slot_face (face_at k) s ≡ slot_next (face_at k) s.parts.types s
-face_goes k s l = unless_of (nat_le s.seen (k / 4)) signatures.unreached (slot_next (face_at k) s.parts.types s) (not_le s.seen (k / 4) l)
+face_goes k s l = unless_of (nat_le s.seen (k / 4)) sig_faults.Unreached (slot_next (face_at k) s.parts.types s) (not_le s.seen (k / 4) l)
   where
     not_le : (a b : ℕ) → b < a → nat_le a b ≡ false
     not_le a b h = grind arith
@@ -186,11 +187,11 @@ follow_step rows k m w v s table l walk f r hx (took_old g e late old same) =
         let h : Gluing = record { tet = d.0; perm = slice_index_or words i.0 [] } in
         let perm : slice_index_or words i.0 [] ≡ g.perm = ap (λ m. slice_index_or words m []) hi ∙ words_at g.perm permutes in
         let same : g ≡ h = λ j. record { tet = sym hd j; perm = sym perm j } in
-        let P : Gluing → Type 0 = λ x. signatures.unless {A = Slots} (nat_le seen x.tet) (signatures.destination d.1) (signatures.unless {A = Slots} (same_face (other_side (face_at k) x) (face_at k) || is_some (slot met (other_side (face_at k) x))) (signatures.face_taken i.1)
+        let P : Gluing → Type 0 = λ x. signatures.unless {A = Slots} (nat_le seen x.tet) (sig_faults.Destination d.1) (signatures.unless {A = Slots} (same_face (other_side (face_at k) x) (face_at k) || is_some (slot met (other_side (face_at k) x))) (sig_faults.FaceTaken i.1)
         (Ok (record { met = meet_at met (face_at k) x; seen = seen; parts = parts }))) ≡ Ok (record { met = meet_at met (face_at k) g; seen = seen; parts = parts }) in
         subst P same
-        (unless_of (nat_le seen g.tet) (signatures.destination d.1) _ (not_le seen g.tet lt)
-        ∙ unless_of (same_face (other_side (face_at k) g) (face_at k) || is_some (slot met (other_side (face_at k) g))) (signatures.face_taken i.1) _ (or_of _ _ apart (ap is_some free_other)))
+        (unless_of (nat_le seen g.tet) (sig_faults.Destination d.1) _ (not_le seen g.tet lt)
+        ∙ unless_of (same_face (other_side (face_at k) g) (face_at k) || is_some (slot met (other_side (face_at k) g))) (sig_faults.FaceTaken i.1) _ (or_of _ _ apart (ap is_some free_other)))
       where
         not_le : (a b : ℕ) → b < a → nat_le a b ≡ false
         not_le a b h = grind arith

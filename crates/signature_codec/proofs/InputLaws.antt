@@ -6,11 +6,12 @@ use Rattle.perm_four.proofs.ListFacts.{pointwise-same_list}
 use Rattle.text_definitions.specs.declared.LexKind.TheVariants.{BadWord}
 use Rattle.text_definitions.specs.Reading.{Reading, word_at, word_fault}
 use Rattle.table_definitions.specs.Lists.{same_list}
-use Rattle.table_definitions.specs.TableText.{lexical}
-use Rattle.signature_definitions.specs.SignatureText.{any_table_at, bad_text}
+use Rattle.table_definitions.specs.declared.TextFault.TheVariants.{Lex}
+use Rattle.signature_definitions.specs.declared.InputFault.TheVariants.{Text}
+use Rattle.signature_definitions.specs.SignatureText.{any_table_at}
 
 pub other_word : (c d : Reading) (w tri sig : List ℕ) → word_at c ≡ Ok (w, d) → tri ≡ codes "tri" → sig ≡ codes "sig" → false ≡ pointwise eqb w tri → false ≡ pointwise eqb w sig
-    → any_table_at c ≡ Err (bad_text (lexical (word_fault d BadWord)))
+    → any_table_at c ≡ Err (Text (Lex (word_fault d BadWord)))
 unfolding any_table_at
 other_word c d w tri sig e a b f g =
     let no_tri : same_list w (codes "tri") ≡ false = ap (same_list w) (sym a) ∙ sym (pointwise-same_list w tri) ∙ sym f in

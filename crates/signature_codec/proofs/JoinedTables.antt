@@ -8,6 +8,7 @@ use Rattle.std.proofs.lemmas.List.FromFn.{get_or-map-range_with_len, length-map-
 use Rattle.std.proofs.lemmas.List.Elements.{All-from_get_or}
 use Rattle.table_definitions.specs.Permutation.{four}
 use Rattle.table_definitions.specs.Table.{Gluing, Face, Row, IsTable, glue, other_side, way_back, faces}
+use Rattle.signature_definitions.specs.declared.SigFault.{SigFault}
 use Rattle.signature_definitions.specs.SignatureText as signatures
 use Rattle.signature_definitions.specs.SignatureText.{join_faces, Joining}
 use Rattle.signature_codec.specs.Slots.{Slots, face_at, slot_face, slots_begun, IsSlots}
@@ -16,7 +17,7 @@ use Rattle.signature_codec.proofs.TypeLaws.{bind_ok}
 use Rattle.signature_codec.proofs.Simulation.{known_in, glued-known, Agree, Agrees, face_step, begun_agrees, faces-places}
 use Rattle.signature_codec.proofs.SoundJoins.{IsSound, face_sound}
 
-pub agrees_back : (n : ℕ) (r : Result Slots signatures.SigFault) (q : Result Joining signatures.SigFault) (v : Joining) → Agrees n r q → q ≡ Ok v → (t : Slots) × (r ≡ Ok t) × Agree n t v
+pub agrees_back : (n : ℕ) (r : Result Slots SigFault) (q : Result Joining SigFault) (v : Joining) → Agrees n r q → q ≡ Ok v → (t : Slots) × (r ≡ Ok t) × Agree n t v
 agrees_back n (Ok t) (Ok w) v a e = (t, refl, subst (Agree n t) (ok_same w v e) a)
 agrees_back n (Ok t) (Err f) v a e = absurd a
 agrees_back n (Err f) (Ok w) v a e = absurd a

@@ -5,107 +5,79 @@ use Rattle.std.proofs.Math.Nat.{pow-succ'}
 use Rattle.text_definitions.specs.Reading.{◌>>=◌}
 use Rattle.signature_definitions.specs.SignatureText as signatures
 use Rattle.signature_definitions.specs.SignatureText.{value_at, number_in, numbers_in, character_types, types_from, unless}
-use Rattle.signature_codec.specs.declared.faults.SigFault.{SigFault}
-use Rattle.signature_codec.specs.declared.faults.SigFault.TheVariants.{NoMemory, BadChar, Short, BadType, Leftover, Destination, Gluing, FaceTaken, Trailing, TooMany, Unreached, Width}
+use Rattle.signature_definitions.specs.declared.SigFault.{SigFault}
 use Rattle.signature_codec.specs.declared.numbers.Part.{Part}
 use Rattle.signature_codec.specs.declared.numbers.Part.TheVariants.{Destinations, Gluings}
-use Rattle.signature_codec.specs.Faults.{FailsAs, fault_of_part, answer_of_part}
+use Rattle.signature_codec.specs.Faults.{Fails}
 
 -- what is read is mapped and keeps its fault
-abbrev pub fronted : {A : Type 0} → List A → Result (List A) signatures.SigFault → Result (List A) signatures.SigFault
+abbrev pub fronted : {A : Type 0} → List A → Result (List A) SigFault → Result (List A) SigFault
 fronted xs (Ok ys) = Ok (xs ++ ys)
 fronted xs (Err e) = Err e
 
 -- a fault stays where further steps follow
-pub fails_on : {A B : Type 0} (e : SigFault) (r : Result A signatures.SigFault) (f : A → Result B signatures.SigFault) → FailsAs e r → FailsAs e (r >>= f)
-fails_on NoMemory r f h = tt
-fails_on (BadChar at) r f h = rw h refl
-fails_on (Short at) r f h = rw h refl
-fails_on (BadType at) r f h = rw h refl
-fails_on (Leftover at) r f h = rw h refl
-fails_on (Destination at) r f h = rw h refl
-fails_on (Gluing at) r f h = rw h refl
-fails_on (FaceTaken at) r f h = rw h refl
-fails_on (Trailing at) r f h = rw h refl
-fails_on TooMany r f h = rw h refl
-fails_on Unreached r f h = rw h refl
-fails_on (Width at) r f h = rw h refl
+pub fails_on : {A B : Type 0} (e : SigFault) (r : Result A SigFault) (f : A → Result B SigFault) → Fails e r → Fails e (r >>= f)
+fails_on {A} e r f h = λ other. ap (λ (q : Result A SigFault). q >>= f) (h other)
 
-pub fails_fronted : {A : Type 0} (e : SigFault) (xs : List A) (r : Result (List A) signatures.SigFault) → FailsAs e r → FailsAs e (fronted xs r)
-fails_fronted NoMemory xs r h = tt
-fails_fronted (BadChar at) xs r h = rw h refl
-fails_fronted (Short at) xs r h = rw h refl
-fails_fronted (BadType at) xs r h = rw h refl
-fails_fronted (Leftover at) xs r h = rw h refl
-fails_fronted (Destination at) xs r h = rw h refl
-fails_fronted (Gluing at) xs r h = rw h refl
-fails_fronted (FaceTaken at) xs r h = rw h refl
-fails_fronted (Trailing at) xs r h = rw h refl
-fails_fronted TooMany xs r h = rw h refl
-fails_fronted Unreached xs r h = rw h refl
-fails_fronted (Width at) xs r h = rw h refl
+pub fails_fronted : {A : Type 0} (e : SigFault) (xs : List A) (r : Result (List A) SigFault) → Fails e r → Fails e (fronted xs r)
+fails_fronted e xs r h = λ other. ap (fronted xs) (h other)
 
-fronted-fronted : {A : Type 0} (xs ys : List A) (r : Result (List A) signatures.SigFault) → fronted (xs ++ ys) r ≡ fronted xs (fronted ys r)
+fronted-fronted : {A : Type 0} (xs ys : List A) (r : Result (List A) SigFault) → fronted (xs ++ ys) r ≡ fronted xs (fronted ys r)
 fronted-fronted xs ys (Ok zs) = ap Ok append_assoc_at
   where
     append_assoc_at : (xs ++ ys) ++ zs ≡ xs ++ (ys ++ zs)
     append_assoc_at = append_assoc xs ys zs
 fronted-fronted xs ys (Err e) = refl
 
-pub fronted-nil : {A : Type 0} (r : Result (List A) signatures.SigFault) → fronted [] r ≡ r
+pub fronted-nil : {A : Type 0} (r : Result (List A) SigFault) → fronted [] r ≡ r
 fronted-nil (Ok ys) = refl
 fronted-nil (Err e) = refl
 
-front-step : (v at : ℕ) (r : Result (List (ℕ × ℕ)) signatures.SigFault) → (r >>= (λ others. Ok ((v, at) ∷ others))) ≡ fronted ((v, at) ∷ []) r
+front-step : (v at : ℕ) (r : Result (List (ℕ × ℕ)) SigFault) → (r >>= (λ others. Ok ((v, at) ∷ others))) ≡ fronted ((v, at) ∷ []) r
 front-step v at (Ok ys) = refl
 front-step v at (Err e) = refl
 
 -- the first of some numbers
-pub numbers_in-first : (j k : ℕ) (text : List ℕ) (w bound : ℕ) (fault : ℕ → signatures.SigFault) (at v : ℕ) → j ≡ suc k → number_in text w at ≡ Ok v → v < bound
+pub numbers_in-first : (j k : ℕ) (text : List ℕ) (w bound : ℕ) (fault : ℕ → SigFault) (at v : ℕ) → j ≡ suc k → number_in text w at ≡ Ok v → v < bound
     → numbers_in j text w bound fault at ≡ fronted ((v, at) ∷ []) (numbers_in k text w bound fault (at + w))
 unfolding numbers_in
 numbers_in-first j k text w bound fault at v e read l = let t : nat_le bound v ≡ false = grind arith in rw (e, read, t) (front-step v at (numbers_in k text w bound fault (at + w)))
 
 -- one more number is read
-pub numbers_in-more : (j k : ℕ) (text : List ℕ) (w bound : ℕ) (fault : ℕ → signatures.SigFault) (at next v : ℕ) (xs : List (ℕ × ℕ)) → j ≡ suc k → next ≡ at + w → number_in text w at ≡ Ok v → v < bound
+pub numbers_in-more : (j k : ℕ) (text : List ℕ) (w bound : ℕ) (fault : ℕ → SigFault) (at next v : ℕ) (xs : List (ℕ × ℕ)) → j ≡ suc k → next ≡ at + w → number_in text w at ≡ Ok v → v < bound
     → fronted (xs ++ (v, at) ∷ []) (numbers_in k text w bound fault next) ≡ fronted xs (numbers_in j text w bound fault at)
 numbers_in-more j k text w bound fault at next v xs e there read l =
     ap (λ m. fronted (xs ++ (v, at) ∷ []) (numbers_in k text w bound fault m)) there
     ∙ fronted-fronted xs ((v, at) ∷ []) (numbers_in k text w bound fault (at + w)) ∙ ap (fronted xs) (sym (numbers_in-first j k text w bound fault at v e read l))
 
-pub numbers_in-none : (text : List ℕ) (w bound : ℕ) (fault : ℕ → signatures.SigFault) (at : ℕ) → numbers_in 0 text w bound fault at ≡ Ok []
+pub numbers_in-none : (text : List ℕ) (w bound : ℕ) (fault : ℕ → SigFault) (at : ℕ) → numbers_in 0 text w bound fault at ≡ Ok []
 unfolding numbers_in
 numbers_in-none text w bound fault at = refl
 
-pub numbers_in-end : (j : ℕ) (text : List ℕ) (w bound : ℕ) (fault : ℕ → signatures.SigFault) (at : ℕ) (xs : List (ℕ × ℕ)) → j ≡ 0 → fronted xs (numbers_in j text w bound fault at) ≡ Ok xs
+pub numbers_in-end : (j : ℕ) (text : List ℕ) (w bound : ℕ) (fault : ℕ → SigFault) (at : ℕ) (xs : List (ℕ × ℕ)) → j ≡ 0 → fronted xs (numbers_in j text w bound fault at) ≡ Ok xs
 numbers_in-end j text w bound fault at xs e = ap (λ m. fronted xs (numbers_in m text w bound fault at)) e ∙ ap (fronted xs) (numbers_in-none text w bound fault at) ∙ ap Ok (append-nil xs)
 
--- the fault of a part
-pub fails_part : {A : Type 0} (part : Part) (at : ℕ) (r : Result A signatures.SigFault) → r ≡ Err (fault_of_part part at) → FailsAs (answer_of_part part at) r
-fails_part Destinations at r h = h
-fails_part Gluings at r h = h
-
 -- the first number is no number, or too great
-pub numbers_in-unread : (j k : ℕ) (text : List ℕ) (w bound : ℕ) (fault : ℕ → signatures.SigFault) (at : ℕ) (e : SigFault) → j ≡ suc k → FailsAs e (number_in text w at)
-    → FailsAs e (numbers_in j text w bound fault at)
+pub numbers_in-unread : (j k : ℕ) (text : List ℕ) (w bound : ℕ) (fault : ℕ → SigFault) (at : ℕ) (e : SigFault) → j ≡ suc k → Fails e (number_in text w at)
+    → Fails e (numbers_in j text w bound fault at)
 unfolding numbers_in
 numbers_in-unread j k text w bound fault at e same h = rw same (fails_on e (number_in text w at) _ h)
 
-pub numbers_in-great : (j k : ℕ) (text : List ℕ) (w bound : ℕ) (fault : ℕ → signatures.SigFault) (at v : ℕ) → j ≡ suc k → number_in text w at ≡ Ok v → bound ≤ v
+pub numbers_in-great : (j k : ℕ) (text : List ℕ) (w bound : ℕ) (fault : ℕ → SigFault) (at v : ℕ) → j ≡ suc k → number_in text w at ≡ Ok v → bound ≤ v
     → numbers_in j text w bound fault at ≡ Err (fault at)
 unfolding numbers_in
 numbers_in-great j k text w bound fault at v e read l = let t : nat_le bound v ≡ true = grind arith in rw (e, read, t) refl
 
 -- a number of one more character
-pub number_in-low : (w : ℕ) (text : List ℕ) (at : ℕ) (e : SigFault) → (w ≡ 0 → ⊥) → FailsAs e (value_at text at) → FailsAs e (number_in text w at)
+pub number_in-low : (w : ℕ) (text : List ℕ) (at : ℕ) (e : SigFault) → (w ≡ 0 → ⊥) → Fails e (value_at text at) → Fails e (number_in text w at)
 number_in-low zero text at e some h = absurd (some refl)
 number_in-low (suc w) text at e some h = fails_on e (value_at text at) _ h
 
-pub number_in-high : (w : ℕ) (text : List ℕ) (at v : ℕ) (e : SigFault) → (w ≡ 0 → ⊥) → value_at text at ≡ Ok v → FailsAs e (number_in text (w - 1) (at + 1)) → FailsAs e (number_in text w at)
+pub number_in-high : (w : ℕ) (text : List ℕ) (at v : ℕ) (e : SigFault) → (w ≡ 0 → ⊥) → value_at text at ≡ Ok v → Fails e (number_in text (w - 1) (at + 1)) → Fails e (number_in text w at)
 number_in-high zero text at v e some low h = absurd (some refl)
 number_in-high (suc w) text at v e some low h =
     let same : suc w - 1 ≡ w = omega arith in
-    let P : ℕ → Type 0 = λ k. FailsAs e (number_in text k (at + 1)) in
+    let P : ℕ → Type 0 = λ k. Fails e (number_in text k (at + 1)) in
     rw low (fails_on e (number_in text w (at + 1)) _ (subst P same h))
 
 pub number_in-both : (w : ℕ) (text : List ℕ) (at v high : ℕ) → (w ≡ 0 → ⊥) → value_at text at ≡ Ok v → number_in text (w - 1) (at + 1) ≡ Ok high → number_in text w at ≡ Ok (v + 64 * high)
@@ -133,7 +105,7 @@ narrow (suc (suc (suc zero))) high l h = omega arith
 narrow (suc (suc (suc (suc w)))) high l h = absurd (omega arith)
 
 -- types are read on: with enough turns left, what is read behind them is the target
-abbrev pub ReadsOn : List ℕ → ℕ → ℕ → signatures.Types → Result (signatures.Types × ℕ) signatures.SigFault → Type 0
+abbrev pub ReadsOn : List ℕ → ℕ → ℕ → signatures.Types → Result (signatures.Types × ℕ) SigFault → Type 0
 ReadsOn text n at s target = (m : ℕ) × (s.left ≤ m) × (types_from m text n at s ≡ target)
 
 not_none : (n : ℕ) → 0 < n → (n == 0) ≡ false
@@ -142,14 +114,14 @@ not_none n h = grind arith
 is_none : (n : ℕ) → n ≤ 0 → (n == 0) ≡ true
 is_none n h = grind arith
 
-pub next_ok : {A B : Type 0} (r : Result A signatures.SigFault) (x : A) (f : A → Result B signatures.SigFault) → r ≡ Ok x → (r >>= f) ≡ f x
-next_ok {A} r x f h = ap (λ (q : Result A signatures.SigFault). q >>= f) h
+pub next_ok : {A B : Type 0} (r : Result A SigFault) (x : A) (f : A → Result B SigFault) → r ≡ Ok x → (r >>= f) ≡ f x
+next_ok {A} r x f h = ap (λ (q : Result A SigFault). q >>= f) h
 
 pub else_of : {A : Type 0} (b : Bool) (x y : A) → b ≡ false → (if b then x else y) ≡ y
 else_of b x y h = rw h refl
 
 -- what a character's types are followed by
-abbrev pub behind_character : List ℕ → ℕ → ℕ → ℕ → signatures.Types → ℕ → Result (signatures.Types × ℕ) signatures.SigFault
+abbrev pub behind_character : List ℕ → ℕ → ℕ → ℕ → signatures.Types → ℕ → Result (signatures.Types × ℕ) SigFault
 behind_character text n at m s v = character_types n at v s >>= (λ t. types_from m text n (at + 1) t)
 
 pub types_from-some : (m : ℕ) (text : List ℕ) (n at : ℕ) (s : signatures.Types) → 0 < s.left → types_from (suc m) text n at s ≡ (value_at text at >>= behind_character text n at m s)
@@ -161,7 +133,7 @@ unfolding types_from
 types_from-none zero text n at s none = refl
 types_from-none (suc m) text n at s none = rw (is_none s.left none) refl
 
-pub reads_on-more : (text : List ℕ) (n at : ℕ) (s t : signatures.Types) (target : Result (signatures.Types × ℕ) signatures.SigFault) (v : ℕ) → 0 < s.left → value_at text at ≡ Ok v
+pub reads_on-more : (text : List ℕ) (n at : ℕ) (s t : signatures.Types) (target : Result (signatures.Types × ℕ) SigFault) (v : ℕ) → 0 < s.left → value_at text at ≡ Ok v
     → character_types n at v s ≡ Ok t → t.left ≤ s.left - 1 → ReadsOn text n at s target → ReadsOn text n (at + 1) t target
 reads_on-more text n at s t target v some read taken less (zero, l, h) = absurd (omega arith)
 reads_on-more text n at s t target v some read taken less (suc m, l, h) = (
@@ -172,20 +144,20 @@ reads_on-more text n at s t target v some read taken less (suc m, l, h) = (
       ∙ sym (types_from-some m text n at s some) ∙ h,
 )
 
-pub reads_on-done : (text : List ℕ) (n at : ℕ) (s : signatures.Types) (target : Result (signatures.Types × ℕ) signatures.SigFault) → s.left ≤ 0 → ReadsOn text n at s target → target ≡ Ok (s, at)
+pub reads_on-done : (text : List ℕ) (n at : ℕ) (s : signatures.Types) (target : Result (signatures.Types × ℕ) SigFault) → s.left ≤ 0 → ReadsOn text n at s target → target ≡ Ok (s, at)
 reads_on-done text n at s target none (m, l, h) = sym h ∙ types_from-none m text n at s none
 
-pub reads_on-unread : (text : List ℕ) (n at : ℕ) (s : signatures.Types) (target : Result (signatures.Types × ℕ) signatures.SigFault) (e : SigFault) → 0 < s.left → FailsAs e (value_at text at)
-    → ReadsOn text n at s target → FailsAs e target
+pub reads_on-unread : (text : List ℕ) (n at : ℕ) (s : signatures.Types) (target : Result (signatures.Types × ℕ) SigFault) (e : SigFault) → 0 < s.left → Fails e (value_at text at)
+    → ReadsOn text n at s target → Fails e target
 reads_on-unread text n at s target e some h (zero, l, r) = absurd (omega arith)
 reads_on-unread text n at s target e some h (suc m, l, r) =
-    let P : Result (signatures.Types × ℕ) signatures.SigFault → Type 0 = λ q. FailsAs e q in
+    let P : Result (signatures.Types × ℕ) SigFault → Type 0 = λ q. Fails e q in
     subst P (sym (types_from-some m text n at s some) ∙ r) (fails_on e (value_at text at) (behind_character text n at m s) h)
 
-pub reads_on-wrong : (text : List ℕ) (n at : ℕ) (s : signatures.Types) (target : Result (signatures.Types × ℕ) signatures.SigFault) (v : ℕ) (e : SigFault) → 0 < s.left → value_at text at ≡ Ok v
-    → FailsAs e (character_types n at v s) → ReadsOn text n at s target → FailsAs e target
+pub reads_on-wrong : (text : List ℕ) (n at : ℕ) (s : signatures.Types) (target : Result (signatures.Types × ℕ) SigFault) (v : ℕ) (e : SigFault) → 0 < s.left → value_at text at ≡ Ok v
+    → Fails e (character_types n at v s) → ReadsOn text n at s target → Fails e target
 reads_on-wrong text n at s target v e some read h (zero, l, r) = absurd (omega arith)
 reads_on-wrong text n at s target v e some read h (suc m, l, r) =
-    let P : Result (signatures.Types × ℕ) signatures.SigFault → Type 0 = λ q. FailsAs e q in
+    let P : Result (signatures.Types × ℕ) SigFault → Type 0 = λ q. Fails e q in
     subst P (sym (next_ok (value_at text at) v (behind_character text n at m s) read) ∙ sym (types_from-some m text n at s some) ∙ r)
     (fails_on e (character_types n at v s) (λ t. types_from m text n (at + 1) t) h)

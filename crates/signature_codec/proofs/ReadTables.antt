@@ -7,10 +7,11 @@ use borrow.Author.Tests.{ltb-false}
 use Rattle.text_definitions.specs.Reading.{◌>>=◌}
 use Rattle.table_definitions.specs.Lists.{times_in}
 use Rattle.table_definitions.specs.Table.{Gluing, Row, IsTable}
+use Rattle.signature_definitions.specs.declared.SigFault.TheVariants as sig_faults
 use Rattle.signature_definitions.specs.Spelling.{character, in_values, head_values, width, packed, joined, face_types, seen_gluings, spelling, spelling_values, Spells}
 use Rattle.signature_definitions.specs.SignatureText as signatures
 use Rattle.signature_definitions.specs.SignatureText.{Types, Head, Parts, numbers_in, types_from, head_of, signature_table, faces_of_type}
-use Rattle.signature_codec.specs.declared.faults.SigFault.{SigFault}
+use Rattle.signature_definitions.specs.declared.SigFault.{SigFault}
 use Rattle.signature_codec.specs.Faults.{Reads}
 use Rattle.signature_codec.specs.Parts.{parts_of, types_begun}
 use Rattle.signature_codec.specs.Slots.{Slots, slot_faces, slots_begun, slot_row, slot_rows, IsSlots}
@@ -37,19 +38,19 @@ parts_hold : (text : List ℕ) (h : Head) (s : Types) (at : ℕ) (p : Parts) →
 parts_hold text h s at p parts =
     let twos : ℕ = times_in s.read 2 in
     let gluings_at : ℕ = at + h.width * twos in
-    let ds : Result (List (ℕ × ℕ)) signatures.SigFault = numbers_in twos text h.width h.count signatures.destination at in
-    let gs : Result (List (ℕ × ℕ)) signatures.SigFault = numbers_in twos text 1 24 signatures.gluing gluings_at in
+    let ds : Result (List (ℕ × ℕ)) SigFault = numbers_in twos text h.width h.count sig_faults.Destination at in
+    let gs : Result (List (ℕ × ℕ)) SigFault = numbers_in twos text 1 24 sig_faults.Gluing gluings_at in
     let late : Bool = nat_lt (s.ones + 1) h.count in
     let more : Bool = nat_lt (gluings_at + twos) (length text) in
     let made : List (ℕ × ℕ) → List (ℕ × ℕ) → Parts = λ d g. record { types = s.read; destinations = d; gluings = g } in
-    let a = bind_ok (signatures.unless late signatures.unreached ds) (λ d. gs >>= (λ g. signatures.unless more (signatures.trailing (gluings_at + twos)) (Ok (made d g)))) p parts in
-    let b = bind_ok gs (λ g. signatures.unless more (signatures.trailing (gluings_at + twos)) (Ok (made a.0 g))) p a.2 in
-    let c = unless_ok more (signatures.trailing (gluings_at + twos)) (Ok (made a.0 b.0)) p b.2 in
-    let d_read = (unless_ok late signatures.unreached ds a.0 a.1).1 in
-    let d = numbers_read twos text h.width h.count signatures.destination at a.0 d_read in
-    let g = numbers_read twos text 1 24 signatures.gluing gluings_at b.0 b.1 in
-    let d_holds = numbers_hold twos text h.width h.count signatures.destination at a.0 d_read in
-    let g_holds = numbers_hold twos text 1 24 signatures.gluing gluings_at b.0 b.1 in
+    let a = bind_ok (signatures.unless late sig_faults.Unreached ds) (λ d. gs >>= (λ g. signatures.unless more (sig_faults.Trailing (gluings_at + twos)) (Ok (made d g)))) p parts in
+    let b = bind_ok gs (λ g. signatures.unless more (sig_faults.Trailing (gluings_at + twos)) (Ok (made a.0 g))) p a.2 in
+    let c = unless_ok more (sig_faults.Trailing (gluings_at + twos)) (Ok (made a.0 b.0)) p b.2 in
+    let d_read = (unless_ok late sig_faults.Unreached ds a.0 a.1).1 in
+    let d = numbers_read twos text h.width h.count sig_faults.Destination at a.0 d_read in
+    let g = numbers_read twos text 1 24 sig_faults.Gluing gluings_at b.0 b.1 in
+    let d_holds = numbers_hold twos text h.width h.count sig_faults.Destination at a.0 d_read in
+    let g_holds = numbers_hold twos text 1 24 sig_faults.Gluing gluings_at b.0 b.1 in
     let single = single_values b.0 g.1 in
     let e : length (map (λ (d : ℕ × ℕ). d.0) b.0) ≡ twos = (let f = ap (λ (xs : List ℕ). length xs) single in let k = g_holds.1 in omega (arith, f, k)) in
     subst (PartsHold text h s at) (ok_same (made a.0 b.0) p c.1) (record {

@@ -7,6 +7,8 @@ use Rattle.std.proofs.lemmas.List.{map-append, length-append}
 use Rattle.std.proofs.lemmas.List.Sums.{prefix_len_stops}
 use borrow.Author.Tests.{ltb-true, ltb-false}
 use Rattle.text_definitions.specs.Reading.{◌>>=◌}
+use Rattle.signature_definitions.specs.declared.SigFault.{SigFault}
+use Rattle.signature_definitions.specs.declared.SigFault.TheVariants as sig_faults
 use Rattle.signature_definitions.specs.Spelling.{alphabet, character, value_of, in_values, head_values, width}
 use Rattle.signature_definitions.specs.SignatureText as signatures
 use Rattle.signature_definitions.specs.SignatureText.{Types, Head, value_at, number_in, numbers_in, types_from, head_of, faces_of_type}
@@ -61,7 +63,7 @@ spelled_value b v h = cases (nat_lt (position_or_len (λ c. c == b) alphabet) 64
 pub holds_value : (text : List ℕ) (at v : ℕ) → value_at text at ≡ Ok v → Holds text at (v ∷ [])
 holds_value text at v h = cases (slice_get text at) refl h
   where
-    valued : (b : ℕ) (o : Option ℕ) → value_of b ≡ o → slice_get text at ≡ Some b → signatures.value_or o (signatures.bad_char at) ≡ Ok v → Holds text at (v ∷ [])
+    valued : (b : ℕ) (o : Option ℕ) → value_of b ≡ o → slice_get text at ≡ Some b → signatures.value_or o (sig_faults.BadChar at) ≡ Ok v → Holds text at (v ∷ [])
     valued b None e g k = absurd cc
     valued b (Some w) e g k =
         let same : w ≡ v = ok_same w v k in
@@ -119,11 +121,11 @@ not_parts false h = cc
 
 wide_read : (text : List ℕ) (w : ℕ) (h : Head) → value_at text 0 ≡ Ok 63 → value_at text 1 ≡ Ok w → signatures.wide_head text w ≡ Ok h → HeadHolds text h
 wide_read text w h first second e =
-    let a = bind_ok (number_in text w 2) (λ n. signatures.unless (nat_lt 1000 n) signatures.too_many (signatures.unless (nat_lt n 63 || not (w == width n)) (signatures.bad_width 1) (Ok (record { count = n; width = w; next = w + 2 })))) h e in
+    let a = bind_ok (number_in text w 2) (λ n. signatures.unless (nat_lt 1000 n) sig_faults.TooMany (signatures.unless (nat_lt n 63 || not (w == width n)) (sig_faults.Width 1) (Ok (record { count = n; width = w; next = w + 2 })))) h e in
     let n : ℕ = a.0 in
     let made : Head = record { count = n; width = w; next = w + 2 } in
-    let b = unless_ok (nat_lt 1000 n) signatures.too_many (signatures.unless (nat_lt n 63 || not (w == width n)) (signatures.bad_width 1) (Ok made)) h a.2 in
-    let c = unless_ok (nat_lt n 63 || not (w == width n)) (signatures.bad_width 1) (Ok made) h b.1 in
+    let b = unless_ok (nat_lt 1000 n) sig_faults.TooMany (signatures.unless (nat_lt n 63 || not (w == width n)) (sig_faults.Width 1) (Ok made)) h a.2 in
+    let c = unless_ok (nat_lt n 63 || not (w == width n)) (sig_faults.Width 1) (Ok made) h b.1 in
     let parts = or_parts (nat_lt n 63) (not (w == width n)) c.0 in
     let same : w ≡ width n = eqb-true w (width n) (not_parts (w == width n) parts.1) in
     let head : head_values n ≡ 63 ∷ w ∷ in_values w n = rw parts.0 (ap (λ k. 63 ∷ k ∷ in_values k n) (sym same)) in
@@ -146,19 +148,19 @@ head_holds text h e =
     let same : a.0 ≡ 63 = eqb-true a.0 63 long in
     let first : value_at text 0 ≡ Ok 63 = a.1 ∙ ap (λ v. Ok v) same in
     let k = if_first (a.0 == 63) (signatures.long_head text) (Ok (record { count = a.0; width = 1; next = 1 })) h long a.2 in
-    let b = bind_ok (value_at text 1) (λ w. signatures.unless (w == 0) (signatures.bad_width 1) (signatures.unless (nat_le 3 w) signatures.too_many (signatures.wide_head text w))) h k in
-    let c = unless_ok (b.0 == 0) (signatures.bad_width 1) (signatures.unless (nat_le 3 b.0) signatures.too_many (signatures.wide_head text b.0)) h b.2 in
-    let d = unless_ok (nat_le 3 b.0) signatures.too_many (signatures.wide_head text b.0) h c.1 in
+    let b = bind_ok (value_at text 1) (λ w. signatures.unless (w == 0) (sig_faults.Width 1) (signatures.unless (nat_le 3 w) sig_faults.TooMany (signatures.wide_head text w))) h k in
+    let c = unless_ok (b.0 == 0) (sig_faults.Width 1) (signatures.unless (nat_le 3 b.0) sig_faults.TooMany (signatures.wide_head text b.0)) h b.2 in
+    let d = unless_ok (nat_le 3 b.0) sig_faults.TooMany (signatures.wide_head text b.0) h c.1 in
     wide_read text b.0 h first b.1 d.1)
     (λ short.
     let made : Head = record { count = a.0; width = 1; next = 1 } in
     let k = if_second (a.0 == 63) (signatures.long_head text) (Ok made) h short a.2 in
     subst (HeadHolds text) (ok_same made h k) (short_head text a.0 a.1 short))
   where
-    if_first : {A : Type 0} (b : Bool) (r q : Result A signatures.SigFault) (t : A) → b ≡ true → (if b then r else q) ≡ Ok t → r ≡ Ok t
+    if_first : {A : Type 0} (b : Bool) (r q : Result A SigFault) (t : A) → b ≡ true → (if b then r else q) ≡ Ok t → r ≡ Ok t
     if_first true r q t e h = h
     if_first false r q t e h = absurd cc
 
-    if_second : {A : Type 0} (b : Bool) (r q : Result A signatures.SigFault) (t : A) → b ≡ false → (if b then r else q) ≡ Ok t → q ≡ Ok t
+    if_second : {A : Type 0} (b : Bool) (r q : Result A SigFault) (t : A) → b ≡ false → (if b then r else q) ≡ Ok t → q ≡ Ok t
     if_second true r q t e h = absurd cc
     if_second false r q t e h = h

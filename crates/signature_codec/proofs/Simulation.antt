@@ -9,6 +9,8 @@ use Rattle.text_definitions.specs.Reading.{◌>>=◌}
 use Rattle.table_definitions.specs.Lists.{below, pairs_of}
 use Rattle.table_definitions.specs.Permutation.{four, identity, words, image}
 use Rattle.table_definitions.specs.Table.{Gluing, Face, other_side, way_back, same_face, faces}
+use Rattle.signature_definitions.specs.declared.SigFault.{SigFault}
+use Rattle.signature_definitions.specs.declared.SigFault.TheVariants as sig_faults
 use Rattle.signature_definitions.specs.SignatureText as signatures
 use Rattle.signature_definitions.specs.SignatureText.{join_faces}
 use Rattle.perm_four.proofs.Permutations.{image_below, words_permute}
@@ -28,7 +30,7 @@ pub record Agree (n : ℕ) (s : Slots) (j : signatures.Joining) : Type 0 where
   pub parts : s.parts ≡ j.parts
   pub met : Shown n s.met j.met
 
-abbrev pub Agrees : ℕ → Result Slots signatures.SigFault → Result signatures.Joining signatures.SigFault → Type 0
+abbrev pub Agrees : ℕ → Result Slots SigFault → Result signatures.Joining SigFault → Type 0
 Agrees n (Ok s) (Ok j) = Agree n s j
 Agrees n (Ok s) (Err f) = ⊥
 Agrees n (Err e) (Ok j) = ⊥
@@ -92,17 +94,17 @@ pub met_same : (n : ℕ) (slots : List (Option (Option Gluing))) (met : List (Fa
 met_same n slots met x shown ht hf = ap is_some (shown x ht hf) ∙ is_some-known met x
 
 -- the same step on both sides
-unless_agrees : (n : ℕ) (b : Bool) (e : signatures.SigFault) (r : Result Slots signatures.SigFault) (q : Result signatures.Joining signatures.SigFault) → (b ≡ false → Agrees n r q)
+unless_agrees : (n : ℕ) (b : Bool) (e : SigFault) (r : Result Slots SigFault) (q : Result signatures.Joining SigFault) → (b ≡ false → Agrees n r q)
     → Agrees n (signatures.unless b e r) (signatures.unless b e q)
 unless_agrees n true e r q h = refl
 unless_agrees n false e r q h = h refl
 
-if_agrees : (n : ℕ) (b : Bool) (r r' : Result Slots signatures.SigFault) (q q' : Result signatures.Joining signatures.SigFault) → (b ≡ true → Agrees n r q) → (b ≡ false → Agrees n r' q')
+if_agrees : (n : ℕ) (b : Bool) (r r' : Result Slots SigFault) (q q' : Result signatures.Joining SigFault) → (b ≡ true → Agrees n r q) → (b ≡ false → Agrees n r' q')
     → Agrees n (if b then r else r') (if b then q else q')
 if_agrees n true r r' q q' h k = h refl
 if_agrees n false r r' q q' h k = k refl
 
-bind_agrees : (n : ℕ) (r : Result Slots signatures.SigFault) (q : Result signatures.Joining signatures.SigFault) (f : Slots → Result Slots signatures.SigFault) (h : signatures.Joining → Result signatures.Joining signatures.SigFault)
+bind_agrees : (n : ℕ) (r : Result Slots SigFault) (q : Result signatures.Joining SigFault) (f : Slots → Result Slots SigFault) (h : signatures.Joining → Result signatures.Joining SigFault)
     → Agrees n r q → ((t : Slots) (u : signatures.Joining) → r ≡ Ok t → Agree n t u → Agrees n (f t) (h u)) → Agrees n (r >>= f) (q >>= h)
 bind_agrees n (Ok t) (Ok u) f h a next = next t u refl a
 bind_agrees n (Ok t) (Err e) f h a next = absurd a
@@ -122,14 +124,14 @@ glued_agrees : (n : ℕ) (x : Face) (d i : ℕ × ℕ) (slots : List (Option (Op
 glued_agrees n x d i slots met seen parts shown size room small ht hf =
     let g : Gluing = record { tet = d.0; perm = slice_index_or words i.0 [] } in
     let ho : image g.perm x.face < 4 = image_below (slice_index_or words i.0 []) (words_permute i.0 small) x.face hf in
-    unless_agrees n (nat_le seen d.0) (signatures.destination d.1) _ _ (λ late.
+    unless_agrees n (nat_le seen d.0) (sig_faults.Destination d.1) _ _ (λ late.
     let below_seen : d.0 < seen = not_le seen d.0 late in
     let lt : d.0 < n = omega arith in
     let e = met_same n slots met (other_side x g) shown lt ho in
     let P : Bool → Type 0 = λ b. Agrees n
-    (signatures.unless (same_face (other_side x g) x || is_some (slot slots (other_side x g))) (signatures.face_taken i.1) (Ok (record { met = meet_at slots x g; seen = seen; parts = parts })))
-    (signatures.unless (same_face (other_side x g) x || b) (signatures.face_taken i.1) (Ok (signatures.meet x g (record { met = met; seen = seen; parts = parts })))) in
-    subst P e (unless_agrees n (same_face (other_side x g) x || is_some (slot slots (other_side x g))) (signatures.face_taken i.1) _ _
+    (signatures.unless (same_face (other_side x g) x || is_some (slot slots (other_side x g))) (sig_faults.FaceTaken i.1) (Ok (record { met = meet_at slots x g; seen = seen; parts = parts })))
+    (signatures.unless (same_face (other_side x g) x || b) (sig_faults.FaceTaken i.1) (Ok (signatures.meet x g (record { met = met; seen = seen; parts = parts })))) in
+    subst P e (unless_agrees n (same_face (other_side x g) x || is_some (slot slots (other_side x g))) (sig_faults.FaceTaken i.1) _ _
     (λ free. record { seen = refl; parts = refl; met = meet_shown n slots met x g hf (place_inside n x slots size ht hf) ho (place_inside n (other_side x g) slots size lt ho) shown })))
 
 -- a face of a type
@@ -176,7 +178,7 @@ face_agrees : (n : ℕ) (x : Face) (slots : List (Option (Option Gluing))) (met 
     → Shown n slots met → IsSlots n (record { met = slots; seen = seen; parts = parts }) → x.tet < n → x.face < 4
     → Agrees n (slot_face x (record { met = slots; seen = seen; parts = parts })) (signatures.join_face x (record { met = met; seen = seen; parts = parts }))
 face_agrees n x slots met seen parts shown h ht hf =
-    unless_agrees n (nat_le seen x.tet) signatures.unreached _ _ (λ late. next_agrees n x parts.types slots met seen parts shown h ht hf (not_le seen x.tet late))
+    unless_agrees n (nat_le seen x.tet) sig_faults.Unreached _ _ (λ late. next_agrees n x parts.types slots met seen parts shown h ht hf (not_le seen x.tet late))
 
 pub face_step : (n : ℕ) (x : Face) (s : Slots) (j : signatures.Joining) → Agree n s j → IsSlots n s → x.tet < n → x.face < 4 → Agrees n (slot_face x s) (signatures.join_face x j)
 face_step n x s j a h ht hf =
@@ -247,7 +249,7 @@ begun_agrees n parts = record { seen = refl; parts = refl; met = λ x ht hf. get
     place_below : (x : Face) → x.tet < n → x.face < 4 → place_of x < 4 * n
     place_below x ht hf = omega arith
 
-same_rows : (n : ℕ) (r : Result Slots signatures.SigFault) (q : Result signatures.Joining signatures.SigFault) → Agrees n r q
+same_rows : (n : ℕ) (r : Result Slots SigFault) (q : Result signatures.Joining SigFault) → Agrees n r q
     → (r >>= (λ s. Ok (slot_rows n s.met))) ≡ (q >>= (λ j. Ok (signatures.rows_of n j.met)))
 same_rows n (Ok s) (Ok j) a = ap Ok (rows_shown n s.met j.met a.met)
 same_rows n (Ok s) (Err f) a = absurd a

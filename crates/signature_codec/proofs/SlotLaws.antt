@@ -10,9 +10,10 @@ use Rattle.std.proofs.lemmas.List.FromFn.{map-range_with_len_more}
 use Rattle.table_definitions.specs.Lists.{times_in}
 use Rattle.table_definitions.specs.Permutation.{identity, words}
 use Rattle.table_definitions.specs.Table.{Gluing, Face, other_side, same_face}
+use Rattle.signature_definitions.specs.declared.SigFault.TheVariants as sig_faults
 use Rattle.signature_definitions.specs.SignatureText as signatures
-use Rattle.signature_codec.specs.declared.faults.SigFault.{SigFault}
-use Rattle.signature_codec.specs.Faults.{FailsAs, Leaves}
+use Rattle.signature_definitions.specs.declared.SigFault.{SigFault}
+use Rattle.signature_codec.specs.Faults.{Fails, Leaves}
 use Rattle.signature_codec.specs.Slots.{Slots, place_of, face_at, slot, meet_at, slot_boundary, slot_new, slot_glued, slot_type, with_types, slot_next, slot_face, slot_faces, slot_row, slot_rows, IsSlots, IsTaking}
 use Rattle.signature_codec.proofs.ReadLaws.{fails_on, next_ok}
 
@@ -23,17 +24,17 @@ times-other a b xs h = grind (arith, common_steps)
 pub times-same : (a : ℕ) (xs : List ℕ) → times_in (a ∷ xs) a ≡ 1 + times_in xs a
 times-same a xs = grind (arith, common_steps)
 
-pub unless_ok : {A : Type 0} (wrong : Bool) (fault : signatures.SigFault) (next : Result A signatures.SigFault) (t : A) → signatures.unless wrong fault next ≡ Ok t → (wrong ≡ false) × (next ≡ Ok t)
+pub unless_ok : {A : Type 0} (wrong : Bool) (fault : SigFault) (next : Result A SigFault) (t : A) → signatures.unless wrong fault next ≡ Ok t → (wrong ≡ false) × (next ≡ Ok t)
 unless_ok true fault next t h = cc
 unless_ok false fault next t h = (refl, h)
 
-abbrev pub ok_of : {A : Type 0} → A → Result A signatures.SigFault
+abbrev pub ok_of : {A : Type 0} → A → Result A SigFault
 ok_of x = Ok x
 
 pub ok_same : {A : Type 0} (v t : A) → ok_of v ≡ ok_of t → v ≡ t
 ok_same v t h = cc
 
-pub unless_same : {A : Type 0} (v t : A) (wrong : Bool) (fault : signatures.SigFault) → signatures.unless wrong fault (Ok v) ≡ Ok t → v ≡ t
+pub unless_same : {A : Type 0} (v t : A) (wrong : Bool) (fault : SigFault) → signatures.unless wrong fault (Ok v) ≡ Ok t → v ≡ t
 unless_same v t true fault h = cc
 unless_same v t false fault h = ok_same v t h
 
@@ -93,8 +94,8 @@ glued_kept : (n : ℕ) (x : Face) (d i : ℕ × ℕ) (s t : Slots) → IsTaking 
 glued_kept n x d i s t h e =
     let g : Gluing = record { tet = d.0; perm = slice_index_or words i.0 [] } in
     let taken : Bool = same_face (other_side x g) x || is_some (slot s.met (other_side x g)) in
-    let first = unless_ok (nat_le s.seen d.0) (signatures.destination d.1) (signatures.unless taken (signatures.face_taken i.1) (Ok (used_one (meet_at s.met x g) s))) t e in
-    let same : used_one (meet_at s.met x g) s ≡ t = unless_same (used_one (meet_at s.met x g) s) t taken (signatures.face_taken i.1) first.1 in
+    let first = unless_ok (nat_le s.seen d.0) (sig_faults.Destination d.1) (signatures.unless taken (sig_faults.FaceTaken i.1) (Ok (used_one (meet_at s.met x g) s))) t e in
+    let same : used_one (meet_at s.met x g) s ≡ t = unless_same (used_one (meet_at s.met x g) s) t taken (sig_faults.FaceTaken i.1) first.1 in
     subst (IsSlots n) same (seen_kept n (meet_at s.met x g) s (meet_size s.met x g) h)
 
 pub taken_kept : (n : ℕ) (x : Face) (type : ℕ) (s t : Slots) → IsTaking n type s → slot_type x type s ≡ Ok t → IsSlots n t
@@ -114,10 +115,10 @@ pub slot_faces-end : (j p : ℕ) (s : Slots) → j ≡ 0 → slot_faces j p s �
 unfolding slot_faces
 slot_faces-end j p s e = ap (λ m. slot_faces m p s) e
 
-pub slot_faces-wrong : (j k p : ℕ) (s : Slots) (e : SigFault) → j ≡ suc k → FailsAs e (slot_face (face_at p) s) → FailsAs e (slot_faces j p s)
+pub slot_faces-wrong : (j k p : ℕ) (s : Slots) (e : SigFault) → j ≡ suc k → Fails e (slot_face (face_at p) s) → Fails e (slot_faces j p s)
 unfolding slot_faces
 slot_faces-wrong j k p s e same h =
-    let P : ℕ → Type 0 = λ m. FailsAs e (slot_faces m p s) in
+    let P : ℕ → Type 0 = λ m. Fails e (slot_faces m p s) in
     subst P (sym same) (fails_on e (slot_face (face_at p) s) (λ t. slot_faces k (p + 1) t) h)
 
 -- one more row
@@ -136,15 +137,15 @@ next_kept : (n : ℕ) (x : Face) (ts : List ℕ) (s t : Slots) → IsSlots n (wi
 next_kept n x [] s t h e = let same : with_types [] s ≡ t = cc in subst (IsSlots n) same h
 next_kept n x (type ∷ types) s t h e = cases (is_some (slot s.met x)) (slot_type x type (with_types types s)) e (λ e'. taken_kept n x type (with_types types s) t h e')
   where
-    cases : (b : Bool) (r : Result Slots signatures.SigFault) → (if b then Ok (with_types (type ∷ types) s) else r) ≡ Ok t → (r ≡ Ok t → IsSlots n t) → IsSlots n t
+    cases : (b : Bool) (r : Result Slots SigFault) → (if b then Ok (with_types (type ∷ types) s) else r) ≡ Ok t → (r ≡ Ok t → IsSlots n t) → IsSlots n t
     cases true r e next = let same : with_types (type ∷ types) s ≡ t = cc in subst (IsSlots n) same h
     cases false r e next = next e
 
 -- joining a face keeps them
 pub face_kept : (n : ℕ) (x : Face) (s t : Slots) → IsSlots n s → slot_face x s ≡ Ok t → IsSlots n t
-face_kept n x s t h e = next_kept n x s.parts.types s t h (unless_ok (nat_le s.seen x.tet) signatures.unreached (slot_next x s.parts.types s) t e).1
+face_kept n x s t h e = next_kept n x s.parts.types s t h (unless_ok (nat_le s.seen x.tet) sig_faults.Unreached (slot_next x s.parts.types s) t e).1
 
 -- an answer that leaves what a step gives
-pub kept_on_ok : {X : Type 0} (r : Result X SigFault) (n : ℕ) (t : Slots) (read : Result Slots signatures.SigFault) → Leaves t r read → ((k : Slots) → read ≡ Ok k → IsSlots n k) → OnOk r (IsSlots n t)
+pub kept_on_ok : {X : Type 0} (r : Result X SigFault) (n : ℕ) (t : Slots) (read : Result Slots SigFault) → Leaves t r read → ((k : Slots) → read ≡ Ok k → IsSlots n k) → OnOk r (IsSlots n t)
 kept_on_ok (Ok u) n t read h keeps = keeps t h
 kept_on_ok (Err e) n t read h keeps = tt

@@ -6,6 +6,8 @@ use Rattle.std.proofs.lemmas.Bool.{eq-eqb, and_from, false≢true}
 use Rattle.table_definitions.specs.Lists.{times_in}
 use Rattle.table_definitions.specs.Permutation.{identity, words, image, inverse, IsPermutationOfFour}
 use Rattle.table_definitions.specs.Table.{Gluing, Face, other_side, way_back, same_face}
+use Rattle.signature_definitions.specs.declared.SigFault.{SigFault}
+use Rattle.signature_definitions.specs.declared.SigFault.TheVariants as sig_faults
 use Rattle.signature_definitions.specs.SignatureText as signatures
 use Rattle.signature_definitions.specs.SignatureText.{join_faces, Joining}
 use Rattle.perm_four.proofs.Permutations.{image_below, words_permute, inverse_permutes, image-inverse, preimage-image, inverse-inverse}
@@ -165,7 +167,7 @@ unseen met seen y h late = cases (known_in met y) refl
     cases None e = refl
     cases (Some o) e = absurd (let r = h.range y o e in omega (arith, r.0))
 
-if_left : {A : Type 0} (b : Bool) (r q : Result A signatures.SigFault) (t : A) → (if b then r else q) ≡ Ok t → ((b ≡ true) × (r ≡ Ok t)) ⊎ ((b ≡ false) × (q ≡ Ok t))
+if_left : {A : Type 0} (b : Bool) (r q : Result A SigFault) (t : A) → (if b then r else q) ≡ Ok t → ((b ≡ true) × (r ≡ Ok t)) ⊎ ((b ≡ false) × (q ≡ Ok t))
 if_left true r q t h = inl (refl, h)
 if_left false r q t h = inr (refl, h)
 
@@ -190,8 +192,8 @@ type_sound x (suc (suc zero)) rest j u small index hf hx free h e =
     let rest' : signatures.Parts = record rest { destinations = drop 1 rest.destinations; gluings = drop 1 rest.gluings } in
     let k : Joining = record j { parts = rest' } in
     let taken : Bool = same_face (other_side x g) x || signatures.is_met k (other_side x g) in
-    let first = unless_ok (nat_le j.seen d.0) (signatures.destination d.1) (signatures.unless taken (signatures.face_taken i.1) (Ok (signatures.meet x g k))) u e in
-    let second = unless_ok taken (signatures.face_taken i.1) (Ok (signatures.meet x g k)) u first.1 in
+    let first = unless_ok (nat_le j.seen d.0) (sig_faults.Destination d.1) (signatures.unless taken (sig_faults.FaceTaken i.1) (Ok (signatures.meet x g k))) u e in
+    let second = unless_ok taken (sig_faults.FaceTaken i.1) (Ok (signatures.meet x g k)) u first.1 in
     let same : signatures.meet x g k ≡ u = ok_same (signatures.meet x g k) u second.1 in
     let parts = or_false (same_face (other_side x g) x) (signatures.is_met k (other_side x g)) second.0 in
     let P : Joining → Type 0 = λ v. IsSound v.met v.seen in
@@ -234,5 +236,5 @@ next_sound n x (type ∷ types) j u t m same fit hf hx h e =
 
 pub face_sound : (n : ℕ) (x : Face) (s : Slots) (j u : Joining) → s.parts ≡ j.parts → IsSlots n s → x.face < 4 → IsSound j.met j.seen → signatures.join_face x j ≡ Ok u → IsSound u.met u.seen
 face_sound n x s j u same fit hf h e =
-    let first = unless_ok (nat_le j.seen x.tet) signatures.unreached (signatures.join_next x j.parts.types j) u e in
+    let first = unless_ok (nat_le j.seen x.tet) sig_faults.Unreached (signatures.join_next x j.parts.types j) u e in
     next_sound n x j.parts.types j u refl s same fit hf (not_le j.seen x.tet first.0) h first.1

@@ -9,6 +9,8 @@ use Rattle.std.proofs.lemmas.List.Sums.{sum_by-cons}
 use Rattle.text_definitions.specs.Reading.{◌>>=◌}
 use Rattle.table_definitions.specs.Lists.{below, times_in}
 use Rattle.perm_four.proofs.ListFacts.{list_all-below}
+use Rattle.signature_definitions.specs.declared.SigFault.{SigFault}
+use Rattle.signature_definitions.specs.declared.SigFault.TheVariants as sig_faults
 use Rattle.signature_definitions.specs.Spelling.{character, value_of, in_values, head_values, width, packed, joined}
 use Rattle.signature_definitions.specs.SignatureText as signatures
 use Rattle.signature_definitions.specs.SignatureText.{Types, Head, value_at, number_in, numbers_in, types_from, head_of, faces_of_type}
@@ -54,7 +56,7 @@ value_of-character v l = cases (value_of (character v)) (eqb-true (unwrap_or (va
 pub reads_value : (text : List ℕ) (at v : ℕ) (vs : List ℕ) → v < 64 → Holds text at (v ∷ vs) → value_at text at ≡ Ok v
 reads_value text at v vs l h =
     let here : slice_get text at ≡ Some (character v) = get_front text at (character v) (map character vs ++ drop (at + length (v ∷ vs)) text) h in
-    ap (λ o. signatures.value_in o (length text) at) here ∙ ap (λ o. signatures.value_or o (signatures.bad_char at)) (value_of-character v l)
+    ap (λ o. signatures.value_in o (length text) at) here ∙ ap (λ o. signatures.value_or o (sig_faults.BadChar at)) (value_of-character v l)
 
 -- a number
 pub reads_number : (w : ℕ) (text : List ℕ) (at v : ℕ) → v < 64 ^ w → Holds text at (in_values w v) → number_in text w at ≡ Ok v
@@ -82,7 +84,7 @@ short_head text n l h =
     ∙ else_of (n == 63) (signatures.long_head text) (Ok (record { count = n; width = 1; next = 1 })) ne
     ∙ (λ i. Ok (record { count = n; width = w i; next = long i }))
 
-pub unless_of : {A : Type 0} (b : Bool) (e : signatures.SigFault) (r : Result A signatures.SigFault) → b ≡ false → signatures.unless b e r ≡ r
+pub unless_of : {A : Type 0} (b : Bool) (e : SigFault) (r : Result A SigFault) → b ≡ false → signatures.unless b e r ≡ r
 unless_of b e r h = else_of b (Err e) r h
 
 long_head : (text : List ℕ) (n w : ℕ) → 63 ≤ n → n ≤ 1000 → w ≡ width n → 1 ≤ w → w ≤ 2 → n < 64 ^ w → Holds text 0 (63 ∷ w ∷ in_values w n) → head_of text ≡ Ok (record { count = n; width = w; next = w + 2 })
@@ -99,12 +101,12 @@ long_head text n w low high same some small fits h =
     let right : (nat_lt n 63 || not (w == width n)) ≡ false = or_of (nat_lt n 63) (not (w == width n)) (le-ltb n 63 low) (ap not (eq-eqb w (width n) same)) in
     let made : Head = record { count = n; width = w; next = w + 2 } in
     next_ok (value_at text 0) 63 (λ v. if v == 63 then signatures.long_head text else Ok (record { count = v; width = 1; next = 1 })) first
-    ∙ next_ok (value_at text 1) w (λ w. signatures.unless (w == 0) (signatures.bad_width 1) (signatures.unless (nat_le 3 w) signatures.too_many (signatures.wide_head text w))) second
-    ∙ unless_of (w == 0) (signatures.bad_width 1) (signatures.unless (nat_le 3 w) signatures.too_many (signatures.wide_head text w)) w0
-    ∙ unless_of (nat_le 3 w) signatures.too_many (signatures.wide_head text w) w3
-    ∙ next_ok (number_in text w 2) n (λ n. signatures.unless (nat_lt 1000 n) signatures.too_many (signatures.unless (nat_lt n 63 || not (w == width n)) (signatures.bad_width 1) (Ok (record { count = n; width = w; next = w + 2 })))) third
-    ∙ unless_of (nat_lt 1000 n) signatures.too_many (signatures.unless (nat_lt n 63 || not (w == width n)) (signatures.bad_width 1) (Ok made)) few
-    ∙ unless_of (nat_lt n 63 || not (w == width n)) (signatures.bad_width 1) (Ok made) right
+    ∙ next_ok (value_at text 1) w (λ w. signatures.unless (w == 0) (sig_faults.Width 1) (signatures.unless (nat_le 3 w) sig_faults.TooMany (signatures.wide_head text w))) second
+    ∙ unless_of (w == 0) (sig_faults.Width 1) (signatures.unless (nat_le 3 w) sig_faults.TooMany (signatures.wide_head text w)) w0
+    ∙ unless_of (nat_le 3 w) sig_faults.TooMany (signatures.wide_head text w) w3
+    ∙ next_ok (number_in text w 2) n (λ n. signatures.unless (nat_lt 1000 n) sig_faults.TooMany (signatures.unless (nat_lt n 63 || not (w == width n)) (sig_faults.Width 1) (Ok (record { count = n; width = w; next = w + 2 })))) third
+    ∙ unless_of (nat_lt 1000 n) sig_faults.TooMany (signatures.unless (nat_lt n 63 || not (w == width n)) (sig_faults.Width 1) (Ok made)) few
+    ∙ unless_of (nat_lt n 63 || not (w == width n)) (sig_faults.Width 1) (Ok made) right
   where
     or_of : (a b : Bool) → a ≡ false → b ≡ false → (a || b) ≡ false
     or_of a b e f = rw (e, f) refl
@@ -168,13 +170,13 @@ type_taken : (n at type : ℕ) (s : Types) → type < 3 → faces_of_type type �
 type_taken n at type s l enough few =
     let some = faces_some type in
     let ne : (s.left == 0) ≡ false = by_bool (s.left == 0) (λ e. absurd (let f = eqb-true s.left 0 e in omega (arith, f, some))) (λ e. e) in
-    else_of (s.left == 0) (signatures.unless (not (type == 0)) (signatures.leftover at) (Ok s)) (signatures.unless (signatures.is_wrong_type n type s) (signatures.bad_type at) (Ok (signatures.counted type s))) ne
-    ∙ unless_of (signatures.is_wrong_type n type s) (signatures.bad_type at) (Ok (signatures.counted type s)) (right_type n type s l enough few)
+    else_of (s.left == 0) (signatures.unless (not (type == 0)) (sig_faults.Leftover at) (Ok s)) (signatures.unless (signatures.is_wrong_type n type s) (sig_faults.BadType at) (Ok (signatures.counted type s))) ne
+    ∙ unless_of (signatures.is_wrong_type n type s) (sig_faults.BadType at) (Ok (signatures.counted type s)) (right_type n type s l enough few)
 
 type_none : (n at : ℕ) (s : Types) → s.left ≡ 0 → signatures.type_at n at 0 s ≡ Ok s
-type_none n at s e = let z : (s.left == 0) ≡ true = eq-eqb s.left 0 e in first_of (s.left == 0) (Ok s) (signatures.unless (signatures.is_wrong_type n 0 s) (signatures.bad_type at) (Ok (signatures.counted 0 s))) z
+type_none n at s e = let z : (s.left == 0) ≡ true = eq-eqb s.left 0 e in first_of (s.left == 0) (Ok s) (signatures.unless (signatures.is_wrong_type n 0 s) (sig_faults.BadType at) (Ok (signatures.counted 0 s))) z
   where
-    first_of : (b : Bool) (r q : Result Types signatures.SigFault) → b ≡ true → (if b then r else q) ≡ r
+    first_of : (b : Bool) (r q : Result Types SigFault) → b ≡ true → (if b then r else q) ≡ r
     first_of true r q h = refl
     first_of false r q h = absurd cc
 
@@ -312,7 +314,7 @@ placed_below w at bound (v ∷ vs) h = both (h 0 0 (omega arith)) (placed_below 
     both l k zero d m = l
     both l k (suc i) d m = k i d (omega arith)
 
-pub numbers_reads : (text : List ℕ) (w bound : ℕ) (fault : ℕ → signatures.SigFault) (at : ℕ) (vs : List ℕ) → Holds text at (joined (map (in_values w) vs)) → All (λ v. v < bound) vs → bound ≤ 64 ^ w
+pub numbers_reads : (text : List ℕ) (w bound : ℕ) (fault : ℕ → SigFault) (at : ℕ) (vs : List ℕ) → Holds text at (joined (map (in_values w) vs)) → All (λ v. v < bound) vs → bound ≤ 64 ^ w
     → numbers_in (length vs) text w bound fault at ≡ Ok (placed w at vs)
 unfolding numbers_in placed
 numbers_reads text w bound fault at [] h small wide = refl
@@ -323,7 +325,7 @@ numbers_reads text w bound fault at (v ∷ vs) h small wide =
     let behind : Holds text (at + w) (joined (map (in_values w) vs)) = subst (λ (k : ℕ). Holds text k (joined (map (in_values w) vs))) there parts.1 in
     let l : v < bound = small 0 0 (omega arith) in
     let others = numbers_reads text w bound fault (at + w) vs behind (λ k d m. small (suc k) d (omega arith)) wide in
-    let others' : Result (List (ℕ × ℕ)) signatures.SigFault = numbers_in (length vs) text w bound fault (at + w) in
+    let others' : Result (List (ℕ × ℕ)) SigFault = numbers_in (length vs) text w bound fault (at + w) in
     next_ok (number_in text w at) v (λ v. signatures.unless (nat_le bound v) (fault at) others' >>= (λ ys. Ok ((v, at) ∷ ys))) (reads_number w text at v (omega arith) parts.0)
     ∙ ap (λ r. r >>= (λ ys. Ok ((v, at) ∷ ys))) (unless_of (nat_le bound v) (fault at) others' (not_le bound v l) ∙ others)
   where

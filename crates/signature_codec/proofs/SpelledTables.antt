@@ -10,14 +10,15 @@ use Rattle.text_definitions.specs.Reading.{◌>>=◌}
 use Rattle.table_definitions.specs.Lists.{times_in}
 use Rattle.table_definitions.specs.Permutation.{index}
 use Rattle.table_definitions.specs.Table.{Gluing, Row, Face, IsTable, glue, other_side, is_face_before, faces}
+use Rattle.signature_definitions.specs.declared.SigFault.TheVariants as sig_faults
 use Rattle.signature_definitions.specs.WalkOrder.{is_seen, is_ordered_gluing, IsWalkOrdered}
 use Rattle.signature_definitions.specs.Spelling.{character, in_values, head_values, width, packed, joined, type_of, seen_gluing, face_types, seen_gluings, spelling, spelling_values, Spells}
 use Rattle.signature_definitions.specs.SignatureText as signatures
 use Rattle.signature_definitions.specs.SignatureText.{Types, Head, Parts, numbers_in, types_from, head_of, signature_table, faces_of_type}
 use Rattle.perm_four.proofs.Permutations.{index_below}
-use Rattle.signature_codec.specs.declared.faults.SigFault.{SigFault}
-use Rattle.signature_codec.specs.declared.faults.SigFault.TheVariants.{NoMemory, BadChar, Short, BadType, Leftover, Destination, Gluing as GluingFault, FaceTaken, Trailing, TooMany, Unreached, Width}
-use Rattle.signature_codec.specs.Faults.{FailsAs, Reads, SpellsNothing}
+use Rattle.signature_definitions.specs.declared.SigFault.{SigFault}
+use Rattle.signature_definitions.specs.declared.SigFault.TheVariants.{NoMemory}
+use Rattle.signature_codec.specs.Faults.{Fails, Reads, SpellsNothing}
 use Rattle.signature_codec.specs.Parts.{parts_of, types_begun}
 use Rattle.signature_codec.specs.Slots.{Slots, face_at, slot, slot_faces, slots_begun, slot_row, slot_rows, IsSlots}
 use Rattle.signature_codec.specs.Walks.{Walking, walk_begun, IsWalk}
@@ -308,23 +309,23 @@ spelled_parts text rows table ordered s =
     let twos : times_in (face_types rows) 2 ≡ length tets = (let e = twos_of rows (faces n) in omega (arith, e, d')) in
     let same : length (indices_of rows) ≡ length tets = omega (arith, d', g') in
     let late : nat_lt (0 + times_in (face_types rows) 1 + 1) n ≡ false = late_not n (times_in (face_types rows) 1) c.ones in
-    let ds : numbers_in (times_in (face_types rows) 2) text w n signatures.destination at ≡ Ok (placed w at tets) =
-    ap (λ k. numbers_in k text w n signatures.destination at) twos ∙ numbers_reads text w n signatures.destination at tets s.destinations (tets_small rows table) (omega (arith, fits.2)) in
+    let ds : numbers_in (times_in (face_types rows) 2) text w n sig_faults.Destination at ≡ Ok (placed w at tets) =
+    ap (λ k. numbers_in k text w n sig_faults.Destination at) twos ∙ numbers_reads text w n sig_faults.Destination at tets s.destinations (tets_small rows table) (omega (arith, fits.2)) in
     let gluings_at : at + w * times_in (face_types rows) 2 ≡ at + w * length tets = ap (λ k. at + w * k) twos in
     let single : Holds text (at + w * length tets) (joined (map (in_values 1) (indices_of rows))) = subst (λ (xs : List ℕ). Holds text (at + w * length tets) xs) (sym (single_spelled (indices_of rows) (indices_small rows table))) s.gluings in
-    let gs : numbers_in (times_in (face_types rows) 2) text 1 24 signatures.gluing (at + w * times_in (face_types rows) 2) ≡ Ok (placed 1 (at + w * length tets) (indices_of rows)) =
-    ap (λ k. numbers_in k text 1 24 signatures.gluing (at + w * times_in (face_types rows) 2)) (twos ∙ sym same) ∙ ap (λ k. numbers_in (length (indices_of rows)) text 1 24 signatures.gluing k) gluings_at
-    ∙ numbers_reads text 1 24 signatures.gluing (at + w * length tets) (indices_of rows) single (indices_small rows table) (omega arith) in
+    let gs : numbers_in (times_in (face_types rows) 2) text 1 24 sig_faults.Gluing (at + w * times_in (face_types rows) 2) ≡ Ok (placed 1 (at + w * length tets) (indices_of rows)) =
+    ap (λ k. numbers_in k text 1 24 sig_faults.Gluing (at + w * times_in (face_types rows) 2)) (twos ∙ sym same) ∙ ap (λ k. numbers_in (length (indices_of rows)) text 1 24 sig_faults.Gluing k) gluings_at
+    ∙ numbers_reads text 1 24 sig_faults.Gluing (at + w * length tets) (indices_of rows) single (indices_small rows table) (omega arith) in
     let end = s.end in
     let more : nat_lt (at + w * times_in (face_types rows) 2 + times_in (face_types rows) 2) (length text) ≡ false = le-ltb (at + w * times_in (face_types rows) 2 + times_in (face_types rows) 2) (length text) (omega (arith, end, gluings_at, twos, same)) in
     let made : List (ℕ × ℕ) → List (ℕ × ℕ) → Parts = λ d g. record { types = face_types rows; destinations = d; gluings = g } in
-    let trailing : signatures.SigFault = signatures.trailing (at + w * times_in (face_types rows) 2 + times_in (face_types rows) 2) in
-    let behind_d : List (ℕ × ℕ) → Result Parts signatures.SigFault = λ d. numbers_in (times_in (face_types rows) 2) text 1 24 signatures.gluing (at + w * times_in (face_types rows) 2)
+    let trailing : SigFault = sig_faults.Trailing (at + w * times_in (face_types rows) 2 + times_in (face_types rows) 2) in
+    let behind_d : List (ℕ × ℕ) → Result Parts SigFault = λ d. numbers_in (times_in (face_types rows) 2) text 1 24 sig_faults.Gluing (at + w * times_in (face_types rows) 2)
     >>= (λ g. signatures.unless (nat_lt (at + w * times_in (face_types rows) 2 + times_in (face_types rows) 2) (length text)) trailing (Ok (made d g))) in
-    let first : signatures.unless (nat_lt (0 + times_in (face_types rows) 1 + 1) n) signatures.unreached (numbers_in (times_in (face_types rows) 2) text w n signatures.destination at) ≡ Ok (placed w at tets) =
-    unless_of (nat_lt (0 + times_in (face_types rows) 1 + 1) n) signatures.unreached (numbers_in (times_in (face_types rows) 2) text w n signatures.destination at) late ∙ ds in
-    next_ok (signatures.unless (nat_lt (0 + times_in (face_types rows) 1 + 1) n) signatures.unreached (numbers_in (times_in (face_types rows) 2) text w n signatures.destination at)) (placed w at tets) behind_d first
-    ∙ next_ok (numbers_in (times_in (face_types rows) 2) text 1 24 signatures.gluing (at + w * times_in (face_types rows) 2)) (placed 1 (at + w * length tets) (indices_of rows))
+    let first : signatures.unless (nat_lt (0 + times_in (face_types rows) 1 + 1) n) sig_faults.Unreached (numbers_in (times_in (face_types rows) 2) text w n sig_faults.Destination at) ≡ Ok (placed w at tets) =
+    unless_of (nat_lt (0 + times_in (face_types rows) 1 + 1) n) sig_faults.Unreached (numbers_in (times_in (face_types rows) 2) text w n sig_faults.Destination at) late ∙ ds in
+    next_ok (signatures.unless (nat_lt (0 + times_in (face_types rows) 1 + 1) n) sig_faults.Unreached (numbers_in (times_in (face_types rows) 2) text w n sig_faults.Destination at)) (placed w at tets) behind_d first
+    ∙ next_ok (numbers_in (times_in (face_types rows) 2) text 1 24 sig_faults.Gluing (at + w * times_in (face_types rows) 2)) (placed 1 (at + w * length tets) (indices_of rows))
     (λ g. signatures.unless (nat_lt (at + w * times_in (face_types rows) 2 + times_in (face_types rows) 2) (length text)) trailing (Ok (made (placed w at tets) g))) gs
     ∙ unless_of (nat_lt (at + w * times_in (face_types rows) 2 + times_in (face_types rows) 2) (length text)) trailing (Ok (made (placed w at tets) (placed 1 (at + w * length tets) (indices_of rows)))) more
   where
@@ -344,19 +345,8 @@ spelled_read text rows h =
     ∙ spelled_joins rows (width n) at gluings_at h.table h.ordered
 
 -- a text that is refused spells no table
-fails_not : (e : SigFault) (rows : List Row) (r : Result (List Row) signatures.SigFault) → r ≡ Ok rows → FailsAs e r → e ≢ NoMemory → ⊥
-fails_not NoMemory rows r h f ne = ne refl
-fails_not (BadChar at) rows r h f ne = cc
-fails_not (Short at) rows r h f ne = cc
-fails_not (BadType at) rows r h f ne = cc
-fails_not (Leftover at) rows r h f ne = cc
-fails_not (Destination at) rows r h f ne = cc
-fails_not (GluingFault at) rows r h f ne = cc
-fails_not (FaceTaken at) rows r h f ne = cc
-fails_not (Trailing at) rows r h f ne = cc
-fails_not TooMany rows r h f ne = cc
-fails_not Unreached rows r h f ne = cc
-fails_not (Width at) rows r h f ne = cc
+fails_not : (e : SigFault) (rows : List Row) (r : Result (List Row) SigFault) → r ≡ Ok rows → Fails e r → e ≢ NoMemory → ⊥
+fails_not e rows r h f ne = let fault : r ≡ Err e = f ne in cc
 
 pub refused_on_err : (r : Result (List Row) SigFault) (text : List ℕ) → Reads (λ t. t) r (signature_table text) → IfErr r (SpellsNothing text)
 refused_on_err (Ok rows) text h = tt

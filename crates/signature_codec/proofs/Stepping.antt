@@ -6,6 +6,8 @@ use Rattle.std.proofs.lemmas.List.Sums.{sum_by-cons}
 use Rattle.table_definitions.specs.Lists.{times_in}
 use Rattle.table_definitions.specs.Permutation.{words}
 use Rattle.table_definitions.specs.Table.{Gluing, Face, other_side, same_face}
+use Rattle.signature_definitions.specs.declared.SigFault.{SigFault}
+use Rattle.signature_definitions.specs.declared.SigFault.TheVariants as sig_faults
 use Rattle.signature_definitions.specs.SignatureText as signatures
 use Rattle.signature_definitions.specs.SignatureText.{faces_of_type}
 use Rattle.signature_codec.specs.Slots.{Slots, place_of, face_at, slot, meet_at, slot_boundary, slot_new, slot_seen, slot_type, with_types, slot_next, slot_face, IsSlots}
@@ -73,8 +75,8 @@ seen_stepped n k s t ts fit free_k types e =
     let g : Gluing = record { tet = d.0; perm = slice_index_or words i.0 [] } in
     let made : Slots = record { met = meet_at s.met (face_at k) g; seen = s.seen; parts = record { types = ts; destinations = drop 1 s.parts.destinations; gluings = drop 1 s.parts.gluings } } in
     let taken : Bool = same_face (other_side (face_at k) g) (face_at k) || is_some (slot s.met (other_side (face_at k) g)) in
-    let first = unless_ok (nat_le s.seen d.0) (signatures.destination d.1) (signatures.unless taken (signatures.face_taken i.1) (Ok made)) t e in
-    let second = unless_ok taken (signatures.face_taken i.1) (Ok made) t first.1 in
+    let first = unless_ok (nat_le s.seen d.0) (sig_faults.Destination d.1) (signatures.unless taken (sig_faults.FaceTaken i.1) (Ok made)) t e in
+    let second = unless_ok taken (sig_faults.FaceTaken i.1) (Ok made) t first.1 in
     let parts = or_parts (same_face (other_side (face_at k) g) (face_at k)) (is_some (slot s.met (other_side (face_at k) g))) second.0 in
     let twos : times_in s.parts.types 2 ≡ 1 + times_in ts 2 = ap (λ xs. times_in xs 2) types ∙ times-same 2 ts in
     let some_d : 0 < length s.parts.destinations = (let l = fit.destinations in omega (arith, l, twos)) in
@@ -84,7 +86,7 @@ seen_stepped n k s t ts fit free_k types e =
 
 pub stepped : (n k : ℕ) (s t : Slots) → k < 4 * n → IsJoined n k s → slot_face (face_at k) s ≡ Ok t → ((face_at k).tet < s.seen) × Stepped k s t
 stepped n k s t inside j e =
-    let first = unless_ok (nat_le s.seen (face_at k).tet) signatures.unreached (slot_next (face_at k) s.parts.types s) t e in
+    let first = unless_ok (nat_le s.seen (face_at k).tet) sig_faults.Unreached (slot_next (face_at k) s.parts.types s) t e in
     (not_le s.seen (face_at k).tet first.0, next s.parts.types refl first.1)
   where
     fit : IsSlots n s
@@ -108,10 +110,10 @@ stepped n k s t inside j e =
         (λ not_met. by_type type ts types (let P : List ℕ → Type 0 = λ xs. All (λ u. u < 3) xs in subst P types fit.small 0 0 (omega arith)) (sym here ∙ not_some (slot s.met (face_at k)) not_met)
         (if_second (is_some (slot s.met (face_at k))) (Ok s) (slot_type (face_at k) type (with_types ts s)) not_met e))
       where
-        if_first : (b : Bool) (r q : Result Slots signatures.SigFault) → b ≡ true → (if b then r else q) ≡ Ok t → r ≡ Ok t
+        if_first : (b : Bool) (r q : Result Slots SigFault) → b ≡ true → (if b then r else q) ≡ Ok t → r ≡ Ok t
         if_first true r q a h = h
         if_first false r q a h = absurd cc
 
-        if_second : (b : Bool) (r q : Result Slots signatures.SigFault) → b ≡ false → (if b then r else q) ≡ Ok t → q ≡ Ok t
+        if_second : (b : Bool) (r q : Result Slots SigFault) → b ≡ false → (if b then r else q) ≡ Ok t → q ≡ Ok t
         if_second true r q a h = absurd cc
         if_second false r q a h = h

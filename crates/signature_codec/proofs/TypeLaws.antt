@@ -8,6 +8,8 @@ use Rattle.std.proofs.lemmas.List.{length-replicate}
 use Rattle.text_definitions.specs.Reading.{◌>>=◌}
 use Rattle.table_definitions.specs.Lists.{times_in}
 use Rattle.table_definitions.specs.Table.{Row}
+use Rattle.signature_definitions.specs.declared.SigFault.{SigFault}
+use Rattle.signature_definitions.specs.declared.SigFault.TheVariants as sig_faults
 use Rattle.signature_definitions.specs.Spelling.{value_of, alphabet}
 use Rattle.signature_definitions.specs.SignatureText as signatures
 use Rattle.signature_definitions.specs.SignatureText.{numbers_in, types_from, Types, signature_table}
@@ -17,7 +19,7 @@ use Rattle.signature_codec.proofs.ReadLaws.{behind_character, next_ok}
 use Rattle.signature_codec.proofs.SlotLaws.{unless_ok, ok_of, ok_same, unless_same}
 
 -- the steps of an answer that is Ok
-pub bind_ok : {A B : Type 0} (r : Result A signatures.SigFault) (f : A → Result B signatures.SigFault) (t : B) → (r >>= f) ≡ Ok t → (x : A) × (r ≡ Ok x) × (f x ≡ Ok t)
+pub bind_ok : {A B : Type 0} (r : Result A SigFault) (f : A → Result B SigFault) (t : B) → (r >>= f) ≡ Ok t → (x : A) × (r ≡ Ok x) × (f x ≡ Ok t)
 bind_ok (Ok x) f t h = (x, refl, h)
 bind_ok (Err e) f t h = absurd cc
 
@@ -35,7 +37,7 @@ value_of_below b v h = position_below (λ c. c == b) alphabet v h
 pub value_at_below : (text : List ℕ) (at v : ℕ) → signatures.value_at text at ≡ Ok v → v < 64
 value_at_below text at v h = cases (slice_get text at) h
   where
-    valued : (b : ℕ) (o : Option ℕ) → value_of b ≡ o → signatures.value_or o (signatures.bad_char at) ≡ Ok v → v < 64
+    valued : (b : ℕ) (o : Option ℕ) → value_of b ≡ o → signatures.value_or o (sig_faults.BadChar at) ≡ Ok v → v < 64
     valued b None e h = absurd cc
     valued b (Some w) e h = let same : w ≡ v = ok_same w v h in let P : ℕ → Type 0 = λ k. k < 64 in subst P same (value_of_below b w e)
 
@@ -77,11 +79,11 @@ type_read n at type s t h l e = cases (s.left == 0) e
         one_more : 0 < n → (type ≡ 1 → s.ones < n - 1) → s.ones + (if type == 1 then 1 else 0) < n
         one_more some lt = let f = h.few some in grind (arith, f, lt)
 
-    cases : (b : Bool) → (if b then signatures.unless (not (type == 0)) (signatures.leftover at) (Ok s) else signatures.unless (signatures.is_wrong_type n type s) (signatures.bad_type at) (Ok (signatures.counted type s))) ≡ Ok t → AreTypes n t
-    cases true e = subst (AreTypes n) (unless_same s t (not (type == 0)) (signatures.leftover at) e) h
+    cases : (b : Bool) → (if b then signatures.unless (not (type == 0)) (sig_faults.Leftover at) (Ok s) else signatures.unless (signatures.is_wrong_type n type s) (sig_faults.BadType at) (Ok (signatures.counted type s))) ≡ Ok t → AreTypes n t
+    cases true e = subst (AreTypes n) (unless_same s t (not (type == 0)) (sig_faults.Leftover at) e) h
     cases false e =
-        subst (AreTypes n) (unless_same (signatures.counted type s) t (signatures.is_wrong_type n type s) (signatures.bad_type at) e)
-        (added (unless_ok (signatures.is_wrong_type n type s) (signatures.bad_type at) (Ok (signatures.counted type s)) t e).0)
+        subst (AreTypes n) (unless_same (signatures.counted type s) t (signatures.is_wrong_type n type s) (sig_faults.BadType at) e)
+        (added (unless_ok (signatures.is_wrong_type n type s) (sig_faults.BadType at) (Ok (signatures.counted type s)) t e).0)
 
 character_read : (n at v : ℕ) (s t : Types) → AreTypes n s → v < 64 → signatures.character_types n at v s ≡ Ok t → AreTypes n t
 character_read n at v s t h l e =
@@ -102,17 +104,17 @@ types_read (suc m) text n at s t next h e = cases (s.left == 0) (signatures.valu
     let b = bind_ok (signatures.character_types n at a.0 s) (λ t. types_from m text n (at + 1) t) (t, next) a.2 in
     types_read m text n (at + 1) b.0 t next (character_read n at a.0 s b.0 h (value_at_below text at a.0 a.1) b.1) b.2)
   where
-    cases : (b : Bool) (r : Result (Types × ℕ) signatures.SigFault) → (if b then Ok (s, at) else r) ≡ Ok (t, next) → (r ≡ Ok (t, next) → AreTypes n t) → AreTypes n t
+    cases : (b : Bool) (r : Result (Types × ℕ) SigFault) → (if b then Ok (s, at) else r) ≡ Ok (t, next) → (r ≡ Ok (t, next) → AreTypes n t) → AreTypes n t
     cases true r e f = let same : s ≡ t = first_same s t at next e in subst (AreTypes n) same h
     cases false r e f = f e
 
 -- what is known of the numbers that were read
-pub numbers_read : (k : ℕ) (text : List ℕ) (w bound : ℕ) (fault : ℕ → signatures.SigFault) (at : ℕ) (xs : List (ℕ × ℕ)) → numbers_in k text w bound fault at ≡ Ok xs
+pub numbers_read : (k : ℕ) (text : List ℕ) (w bound : ℕ) (fault : ℕ → SigFault) (at : ℕ) (xs : List (ℕ × ℕ)) → numbers_in k text w bound fault at ≡ Ok xs
     → (length xs ≡ k) × All (λ (p : ℕ × ℕ). p.0 < bound) xs
 unfolding numbers_in
 numbers_read zero text w bound fault at xs e = let same : [] ≡ xs = cc in subst (λ (ys : List (ℕ × ℕ)). (length ys ≡ 0) × All (λ (p : ℕ × ℕ). p.0 < bound) ys) same (refl, λ i d l. absurd (omega arith))
 numbers_read (suc k) text w bound fault at xs e =
-    let others : Result (List (ℕ × ℕ)) signatures.SigFault = numbers_in k text w bound fault (at + w) in
+    let others : Result (List (ℕ × ℕ)) SigFault = numbers_in k text w bound fault (at + w) in
     let a = bind_ok (signatures.number_in text w at) (λ v. signatures.unless (nat_le bound v) (fault at) others >>= (λ ys. Ok ((v, at) ∷ ys))) xs e in
     let b = bind_ok (signatures.unless (nat_le bound a.0) (fault at) others) (λ ys. Ok ((a.0, at) ∷ ys)) xs a.2 in
     let u = unless_ok (nat_le bound a.0) (fault at) others b.0 b.1 in
@@ -134,16 +136,16 @@ parts_fit text h s at p few types parts some =
     let known = types_read (4 * h.count) text h.count h.next (types_begun h.count) s at begun types in
     let twos : ℕ = times_in s.read 2 in
     let gluings_at : ℕ = at + h.width * twos in
-    let ds : Result (List (ℕ × ℕ)) signatures.SigFault = numbers_in twos text h.width h.count signatures.destination at in
-    let gs : Result (List (ℕ × ℕ)) signatures.SigFault = numbers_in twos text 1 24 signatures.gluing gluings_at in
+    let ds : Result (List (ℕ × ℕ)) SigFault = numbers_in twos text h.width h.count sig_faults.Destination at in
+    let gs : Result (List (ℕ × ℕ)) SigFault = numbers_in twos text 1 24 sig_faults.Gluing gluings_at in
     let late : Bool = nat_lt (s.ones + 1) h.count in
     let more : Bool = nat_lt (gluings_at + twos) (length text) in
     let made : List (ℕ × ℕ) → List (ℕ × ℕ) → signatures.Parts = λ d g. record { types = s.read; destinations = d; gluings = g } in
-    let a = bind_ok (signatures.unless late signatures.unreached ds) (λ d. gs >>= (λ g. signatures.unless more (signatures.trailing (gluings_at + twos)) (Ok (made d g)))) p parts in
-    let b = bind_ok gs (λ g. signatures.unless more (signatures.trailing (gluings_at + twos)) (Ok (made a.0 g))) p a.2 in
-    let same : made a.0 b.0 ≡ p = unless_same (made a.0 b.0) p more (signatures.trailing (gluings_at + twos)) b.2 in
-    let d = numbers_read twos text h.width h.count signatures.destination at a.0 (unless_ok late signatures.unreached ds a.0 a.1).1 in
-    let g = numbers_read twos text 1 24 signatures.gluing gluings_at b.0 b.1 in
+    let a = bind_ok (signatures.unless late sig_faults.Unreached ds) (λ d. gs >>= (λ g. signatures.unless more (sig_faults.Trailing (gluings_at + twos)) (Ok (made d g)))) p parts in
+    let b = bind_ok gs (λ g. signatures.unless more (sig_faults.Trailing (gluings_at + twos)) (Ok (made a.0 g))) p a.2 in
+    let same : made a.0 b.0 ≡ p = unless_same (made a.0 b.0) p more (sig_faults.Trailing (gluings_at + twos)) b.2 in
+    let d = numbers_read twos text h.width h.count sig_faults.Destination at a.0 (unless_ok late sig_faults.Unreached ds a.0 a.1).1 in
+    let g = numbers_read twos text 1 24 sig_faults.Gluing gluings_at b.0 b.1 in
     let P : signatures.Parts → Type 0 = λ q. IsSlots h.count (slots_begun h.count q) in
     subst P same (record {
       size = length-replicate (4 * h.count) None;
@@ -160,7 +162,7 @@ parts_fit text h s at p few types parts some =
 
 -- the phases up to the last one
 
-split : {D G P R : Type 0} (r : Result D signatures.SigFault) (q : Result G signatures.SigFault) (b : Bool) (f : signatures.SigFault) (make : D → G → P) (k : P → Result R signatures.SigFault)
+split : {D G P R : Type 0} (r : Result D SigFault) (q : Result G SigFault) (b : Bool) (f : SigFault) (make : D → G → P) (k : P → Result R SigFault)
     → ((r >>= (λ d. q >>= (λ g. signatures.unless b f (Ok (make d g))))) >>= k) ≡ (r >>= (λ d. q >>= (λ g. signatures.unless b f (k (make d g)))))
 split (Ok d) (Ok g) true f make k = refl
 split (Ok d) (Ok g) false f make k = refl
@@ -171,12 +173,12 @@ pub after_types-parts : (text : List ℕ) (h : signatures.Head) (s : Types) (at 
 after_types-parts text h s at =
     let twos : ℕ = times_in s.read 2 in
     let gluings_at : ℕ = at + h.width * twos in
-    split (signatures.unless (nat_lt (s.ones + 1) h.count) signatures.unreached (numbers_in twos text h.width h.count signatures.destination at))
-    (numbers_in twos text 1 24 signatures.gluing gluings_at) (nat_lt (gluings_at + twos) (length text)) (signatures.trailing (gluings_at + twos))
+    split (signatures.unless (nat_lt (s.ones + 1) h.count) sig_faults.Unreached (numbers_in twos text h.width h.count sig_faults.Destination at))
+    (numbers_in twos text 1 24 sig_faults.Gluing gluings_at) (nat_lt (gluings_at + twos) (length text)) (sig_faults.Trailing (gluings_at + twos))
     (λ d g. record { types = s.read; destinations = d; gluings = g }) (signatures.table_of h.count)
 
 -- what a text spells where its head and its types are read
-abbrev pub behind_head : List ℕ → signatures.Head → Result (List Row) signatures.SigFault
+abbrev pub behind_head : List ℕ → signatures.Head → Result (List Row) SigFault
 behind_head text h = types_from (4 * h.count) text h.count h.next (types_begun h.count) >>= (λ s. signatures.after_types text h s.0 s.1)
 
 pub signature_table-head : (text : List ℕ) → signature_table text ≡ (signatures.head_of text >>= behind_head text)

@@ -6,6 +6,8 @@ use Rattle.std.proofs.lemmas.List.{length-append}
 use Rattle.std.proofs.lemmas.List.Sums.{sum_by-append}
 use borrow.Author.Tests.{ltb-false}
 use Rattle.text_definitions.specs.Reading.{◌>>=◌}
+use Rattle.signature_definitions.specs.declared.SigFault.{SigFault}
+use Rattle.signature_definitions.specs.declared.SigFault.TheVariants as sig_faults
 use Rattle.signature_definitions.specs.Spelling.{in_values, packed, joined}
 use Rattle.signature_definitions.specs.SignatureText as signatures
 use Rattle.signature_definitions.specs.SignatureText.{Types, value_at, number_in, numbers_in, types_from, faces_of_type}
@@ -23,9 +25,9 @@ pub record Counts (type : ℕ) (s t : Types) : Type 0 where
 type_counts : (n at type : ℕ) (s t : Types) → signatures.type_at n at type s ≡ Ok t → ((s.left ≡ 0) × (type ≡ 0) × (s ≡ t)) ⊎ Counts type s t
 type_counts n at type s t e = cases (s.left == 0) refl e
   where
-    none : (s.left == 0) ≡ true → signatures.unless (not (type == 0)) (signatures.leftover at) (Ok s) ≡ Ok t → ((s.left ≡ 0) × (type ≡ 0) × (s ≡ t)) ⊎ Counts type s t
+    none : (s.left == 0) ≡ true → signatures.unless (not (type == 0)) (sig_faults.Leftover at) (Ok s) ≡ Ok t → ((s.left ≡ 0) × (type ≡ 0) × (s ≡ t)) ⊎ Counts type s t
     none b e =
-        let u = unless_ok (not (type == 0)) (signatures.leftover at) (Ok s) t e in
+        let u = unless_ok (not (type == 0)) (sig_faults.Leftover at) (Ok s) t e in
         inl (eqb-true s.left 0 b, eqb-true type 0 (not_parts (type == 0) u.0), ok_same s t u.1)
 
     counted : signatures.is_wrong_type n type s ≡ false → (s.left == 0) ≡ false → signatures.counted type s ≡ t → Counts type s t
@@ -34,11 +36,11 @@ type_counts n at type s t e = cases (s.left == 0) refl e
         let ne : s.left ≡ 0 → ⊥ = λ h. (let f = eq-eqb s.left 0 h in cc) in
         subst (Counts type s) same (record { read = refl; some = omega arith; left = omega arith })
 
-    cases : (b : Bool) → (s.left == 0) ≡ b → (if b then signatures.unless (not (type == 0)) (signatures.leftover at) (Ok s) else signatures.unless (signatures.is_wrong_type n type s) (signatures.bad_type at) (Ok (signatures.counted type s))) ≡ Ok t
+    cases : (b : Bool) → (s.left == 0) ≡ b → (if b then signatures.unless (not (type == 0)) (sig_faults.Leftover at) (Ok s) else signatures.unless (signatures.is_wrong_type n type s) (sig_faults.BadType at) (Ok (signatures.counted type s))) ≡ Ok t
         → ((s.left ≡ 0) × (type ≡ 0) × (s ≡ t)) ⊎ Counts type s t
     cases true b e = none b e
     cases false b e =
-        let u = unless_ok (signatures.is_wrong_type n type s) (signatures.bad_type at) (Ok (signatures.counted type s)) t e in
+        let u = unless_ok (signatures.is_wrong_type n type s) (sig_faults.BadType at) (Ok (signatures.counted type s)) t e in
         inr (counted u.0 b (ok_same (signatures.counted type s) t u.1))
 
 -- whole characters of types
@@ -176,14 +178,14 @@ types_hold (suc m) text n at s t next base total h l e = cases (s.left == 0) ref
     cases false z e more = more (not_zero s.left z) e
 
 -- the numbers that are read
-pub numbers_hold : (k : ℕ) (text : List ℕ) (w bound : ℕ) (fault : ℕ → signatures.SigFault) (at : ℕ) (xs : List (ℕ × ℕ)) → numbers_in k text w bound fault at ≡ Ok xs
+pub numbers_hold : (k : ℕ) (text : List ℕ) (w bound : ℕ) (fault : ℕ → SigFault) (at : ℕ) (xs : List (ℕ × ℕ)) → numbers_in k text w bound fault at ≡ Ok xs
     → Holds text at (joined (map (λ (p : ℕ × ℕ). in_values w p.0) xs)) × (length (joined (map (λ (p : ℕ × ℕ). in_values w p.0) xs)) ≡ w * k)
 unfolding numbers_in
 numbers_hold zero text w bound fault at xs e =
     let same = ok_same {A = List (ℕ × ℕ)} [] xs e in
     subst (λ (ys : List (ℕ × ℕ)). Holds text at (joined (map (λ (p : ℕ × ℕ). in_values w p.0) ys)) × (length (joined (map (λ (p : ℕ × ℕ). in_values w p.0) ys)) ≡ w * 0)) same (holds_nothing text at, omega arith)
 numbers_hold (suc k) text w bound fault at xs e =
-    let others : Result (List (ℕ × ℕ)) signatures.SigFault = numbers_in k text w bound fault (at + w) in
+    let others : Result (List (ℕ × ℕ)) SigFault = numbers_in k text w bound fault (at + w) in
     let a = bind_ok (number_in text w at) (λ v. signatures.unless (nat_le bound v) (fault at) others >>= (λ ys. Ok ((v, at) ∷ ys))) xs e in
     let b = bind_ok (signatures.unless (nat_le bound a.0) (fault at) others) (λ ys. Ok ((a.0, at) ∷ ys)) xs a.2 in
     let u = unless_ok (nat_le bound a.0) (fault at) others b.0 b.1 in

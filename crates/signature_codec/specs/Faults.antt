@@ -1,46 +1,29 @@
--- The faults of signatures, as the calls answer them.
+-- What the calls on signatures answer.
 use Rattle.std.specs.Prelude.{◌≡◌, ◌≢◌, ℕ, List, Result, Ok, Err}
 use Rattle.table_definitions.specs.Table.{Row}
+use Rattle.signature_definitions.specs.declared.SigFault.{SigFault}
+use Rattle.signature_definitions.specs.declared.SigFault.TheVariants.{NoMemory, Destination, Gluing}
 use Rattle.signature_definitions.specs.Spelling.{Spells}
-use Rattle.signature_definitions.specs.SignatureText as signatures
-use Rattle.signature_codec.specs.declared.faults.SigFault.{SigFault}
-use Rattle.signature_codec.specs.declared.faults.SigFault.TheVariants.{NoMemory, BadChar, Short, BadType, Leftover, Destination, Gluing, FaceTaken, Trailing, TooMany, Unreached, Width}
+use Rattle.text_definitions.specs.Reading as texts
 use Rattle.signature_codec.specs.declared.numbers.Part.{Part}
 use Rattle.signature_codec.specs.declared.numbers.Part.TheVariants.{Destinations, Gluings}
 
--- the fault is the one that the definition gives; nothing is said of want of memory
-abbrev pub FailsAs : {A : Type 0} → SigFault → Result A signatures.SigFault → Type 0
-FailsAs NoMemory read = Unit {0}
-FailsAs (BadChar at) read = read ≡ Err (signatures.bad_char at)
-FailsAs (Short at) read = read ≡ Err (signatures.short at)
-FailsAs (BadType at) read = read ≡ Err (signatures.bad_type at)
-FailsAs (Leftover at) read = read ≡ Err (signatures.leftover at)
-FailsAs (Destination at) read = read ≡ Err (signatures.destination at)
-FailsAs (Gluing at) read = read ≡ Err (signatures.gluing at)
-FailsAs (FaceTaken at) read = read ≡ Err (signatures.face_taken at)
-FailsAs (Trailing at) read = read ≡ Err (signatures.trailing at)
-FailsAs TooMany read = read ≡ Err signatures.too_many
-FailsAs Unreached read = read ≡ Err signatures.unreached
-FailsAs (Width at) read = read ≡ Err (signatures.bad_width at)
+-- the fault is want of memory, or the one that the definition gives
+abbrev pub Fails : {A : Type 0} → SigFault → Result A SigFault → Type 0
+Fails e read = texts.Fails NoMemory e read
 
 -- the answer, as view sees it, is what the definition gives
-abbrev pub Reads : {X A : Type 0} → (X → A) → Result X SigFault → Result A signatures.SigFault → Type 0
-Reads view (Ok x) read = read ≡ Ok (view x)
-Reads view (Err e) read = FailsAs e read
+abbrev pub Reads : {X A : Type 0} → (X → A) → Result X SigFault → Result A SigFault → Type 0
+Reads view r read = texts.Reads NoMemory view r read
 
 -- the same of a call that leaves x
-abbrev pub Leaves : {X A : Type 0} → A → Result X SigFault → Result A signatures.SigFault → Type 0
-Leaves x (Ok u) read = read ≡ Ok x
-Leaves x (Err e) read = FailsAs e read
+abbrev pub Leaves : {X A : Type 0} → A → Result X SigFault → Result A SigFault → Type 0
+Leaves x r read = Reads (λ u. x) r read
 
 -- the fault of a number that is out of range
-abbrev pub fault_of_part : Part → ℕ → signatures.SigFault
-fault_of_part Destinations at = signatures.destination at
-fault_of_part Gluings at = signatures.gluing at
-
-abbrev pub answer_of_part : Part → ℕ → SigFault
-answer_of_part Destinations at = Destination at
-answer_of_part Gluings at = Gluing at
+abbrev pub fault_of_part : Part → ℕ → SigFault
+fault_of_part Destinations at = Destination at
+fault_of_part Gluings at = Gluing at
 
 -- a text that is refused for another reason than want of memory spells no table
 abbrev pub SpellsNothing : List ℕ → SigFault → Type 0

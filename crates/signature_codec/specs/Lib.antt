@@ -3,5 +3,4 @@ pub mod Parts
 pub mod Slots
 pub mod Walks
 pub mod Texts
-pub mod Inputs
 pub mod Laws

@@ -5,6 +5,8 @@ use Rattle.text_definitions.specs.Reading.{◌>>=◌}
 use Rattle.table_definitions.specs.Lists.{below, times_in}
 use Rattle.table_definitions.specs.Permutation.{four, identity, words}
 use Rattle.table_definitions.specs.Table.{Gluing, Row, Face, other_side, way_back, same_face}
+use Rattle.signature_definitions.specs.declared.SigFault.{SigFault}
+use Rattle.signature_definitions.specs.declared.SigFault.TheVariants as sig_faults
 use Rattle.signature_definitions.specs.SignatureText as signatures
 use Rattle.signature_codec.specs.declared.parts.Parts.{Parts}
 use Rattle.signature_codec.specs.declared.joining.Joining.{Joining}
@@ -35,33 +37,33 @@ slot_boundary x s = record s { met = slice_set s.met (place_of x) (Some None) }
 abbrev pub slot_new : Face → Slots → Slots
 slot_new x s = record s { met = meet_at s.met x (record { tet = s.seen; perm = identity }); seen = s.seen + 1 }
 
-abbrev pub slot_glued : Face → ℕ × ℕ → ℕ × ℕ → Slots → Result Slots signatures.SigFault
+abbrev pub slot_glued : Face → ℕ × ℕ → ℕ × ℕ → Slots → Result Slots SigFault
 slot_glued x d i s =
     let g : Gluing = record { tet = d.0; perm = slice_index_or words i.0 [] } in
-    signatures.unless (nat_le s.seen d.0) (signatures.destination d.1)
-    (signatures.unless (same_face (other_side x g) x || is_some (slot s.met (other_side x g))) (signatures.face_taken i.1) (Ok (record s { met = meet_at s.met x g })))
+    signatures.unless (nat_le s.seen d.0) (sig_faults.Destination d.1)
+    (signatures.unless (same_face (other_side x g) x || is_some (slot s.met (other_side x g))) (sig_faults.FaceTaken i.1) (Ok (record s { met = meet_at s.met x g })))
 
-abbrev pub slot_seen : Face → Slots → Result Slots signatures.SigFault
+abbrev pub slot_seen : Face → Slots → Result Slots SigFault
 slot_seen x s =
     slot_glued x (signatures.first_pair s.parts.destinations) (signatures.first_pair s.parts.gluings)
     (record s { parts = record s.parts { destinations = drop 1 s.parts.destinations; gluings = drop 1 s.parts.gluings } })
 
-abbrev pub slot_type : Face → ℕ → Slots → Result Slots signatures.SigFault
+abbrev pub slot_type : Face → ℕ → Slots → Result Slots SigFault
 slot_type x type s = if type == 0 then Ok (slot_boundary x s) else (if type == 1 then Ok (slot_new x s) else slot_seen x s)
 
 abbrev pub with_types : List ℕ → Slots → Slots
 with_types types s = record s { parts = record s.parts { types = types } }
 
-abbrev pub slot_next : Face → List ℕ → Slots → Result Slots signatures.SigFault
+abbrev pub slot_next : Face → List ℕ → Slots → Result Slots SigFault
 slot_next x [] s = Ok s
 slot_next x (type ∷ types) s = if is_some (slot s.met x) then Ok s else slot_type x type (with_types types s)
 
 -- the next face
-abbrev pub slot_face : Face → Slots → Result Slots signatures.SigFault
-slot_face x s = signatures.unless (nat_le s.seen x.tet) signatures.unreached (slot_next x s.parts.types s)
+abbrev pub slot_face : Face → Slots → Result Slots SigFault
+slot_face x s = signatures.unless (nat_le s.seen x.tet) sig_faults.Unreached (slot_next x s.parts.types s)
 
 -- so many faces from a place on
-unfoldable pub slot_faces : ℕ → ℕ → Slots → Result Slots signatures.SigFault
+unfoldable pub slot_faces : ℕ → ℕ → Slots → Result Slots SigFault
 slot_faces zero k s = Ok s
 slot_faces (suc m) k s = do
   t ← slot_face (face_at k) s

@@ -16,11 +16,11 @@ pub enum Part {
 }
 
 impl Part {
-    ghost use Rattle.signature_codec.specs.Faults.{answer_of_part};
+    ghost use Rattle.signature_codec.specs.Faults.{fault_of_part};
 
     /// The fault of a number that is out of range.
     fn fault(self, at: usize) -> SigFault
-        ensures { result ≡ answer_of_part self at }
+        ensures { result ≡ fault_of_part self at }
     {
         match self {
             Part::Destinations => SigFault::Destination { at },

@@ -9,7 +9,9 @@ use Rattle.table_definitions.specs.Table.{Gluing, Row, Face, glue, faces, same_f
 use Rattle.table_definitions.specs.Relabelling.{Relabelling, stand_in, face_under, gluing_under}
 use Rattle.signature_definitions.specs.WalkOrder.{first_unordered}
 use Rattle.signature_definitions.specs.Spelling.{spelling}
-use Rattle.signature_definitions.specs.SignatureText.{signature_table, bad_char, short, bad_type, leftover, destination, gluing, face_taken, trailing, too_many, unreached, bad_width}
+use Rattle.signature_definitions.specs.declared.SigFault.TheVariants as sig_faults
+use Rattle.signature_definitions.specs.declared.SigFault.TheVariants.{BadChar, Short, BadType, Leftover, Destination, FaceTaken, Trailing, TooMany, Unreached, Width}
+use Rattle.signature_definitions.specs.SignatureText.{signature_table}
 use Rattle.signature_definitions.proofs.Computed.{computed}
 use Rattle.table_definitions.proofs.Tables.{sphere, other_sphere, table_gb, table_jj, table_id, figure_eight, four_tets, by}
 
@@ -27,16 +29,16 @@ ordered : (first_unordered figure_eight ≡ None) × (first_unordered four_tets 
 unfolding computed
 ordered = (refl, refl)
 
-faults : (signature_table (codes "bkaag") ≡ Err (short 5)) × (signature_table (codes "bkaagjx") ≡ Err (trailing 6)) × (signature_table (codes "blaagj") ≡ Err (bad_type 1))
-    × (signature_table (codes "bAaagj") ≡ Err (leftover 1)) × (signature_table (codes "bkbagj") ≡ Err (destination 2)) × (signature_table (codes "bkaayj") ≡ Err (gluing 4))
-    × (signature_table (codes "bkaaga") ≡ Err (face_taken 5)) × (signature_table (codes "cQc") ≡ Err unreached) × (signature_table (codes "b.aagj") ≡ Err (bad_char 1))
+faults : (signature_table (codes "bkaag") ≡ Err (Short 5)) × (signature_table (codes "bkaagjx") ≡ Err (Trailing 6)) × (signature_table (codes "blaagj") ≡ Err (BadType 1))
+    × (signature_table (codes "bAaagj") ≡ Err (Leftover 1)) × (signature_table (codes "bkbagj") ≡ Err (Destination 2)) × (signature_table (codes "bkaayj") ≡ Err (sig_faults.Gluing 4))
+    × (signature_table (codes "bkaaga") ≡ Err (FaceTaken 5)) × (signature_table (codes "cQc") ≡ Err Unreached) × (signature_table (codes "b.aagj") ≡ Err (BadChar 1))
 unfolding computed
 faults = (refl, refl, refl, refl, refl, refl, refl, refl, refl)
 
 -- texts of 63 and more tetrahedra
-long_faults : (signature_table (codes "-") ≡ Err (short 1)) × (signature_table (codes "-a") ≡ Err (bad_width 1)) × (signature_table (codes "-b") ≡ Err (short 2))
-    × (signature_table (codes "-b9") ≡ Err (bad_width 1)) × (signature_table (codes "-cba") ≡ Err (bad_width 1)) × (signature_table (codes "-c-a") ≡ Err (bad_width 1))
-    × (signature_table (codes "-d") ≡ Err too_many) × (signature_table (codes "-c+p") ≡ Err too_many) × (signature_table (codes "-cOp") ≡ Err (short 4))
+long_faults : (signature_table (codes "-") ≡ Err (Short 1)) × (signature_table (codes "-a") ≡ Err (Width 1)) × (signature_table (codes "-b") ≡ Err (Short 2))
+    × (signature_table (codes "-b9") ≡ Err (Width 1)) × (signature_table (codes "-cba") ≡ Err (Width 1)) × (signature_table (codes "-c-a") ≡ Err (Width 1))
+    × (signature_table (codes "-d") ≡ Err TooMany) × (signature_table (codes "-c+p") ≡ Err TooMany) × (signature_table (codes "-cOp") ≡ Err (Short 4))
 unfolding computed
 long_faults = (refl, refl, refl, refl, refl, refl, refl, refl, refl)
 

@@ -7,21 +7,13 @@ use Rattle.table_definitions.specs.Table.{max_tets, Gluing, Row, Face, other_sid
 use Rattle.signature_definitions.specs.Spelling.{value_of, width}
 use Rattle.text_definitions.specs.declared.LexKind.TheVariants.{BadWord}
 use Rattle.text_definitions.specs.Reading.{Reading, ◌>>=◌, word_fault, word_at, end_line_at}
-use Rattle.table_definitions.specs.TableText.{TextFault, lexed, table_at}
-
--- why a text is no signature
-pub data SigFault : Type 0 where
-  bad_char : ℕ → SigFault
-  short : ℕ → SigFault
-  bad_type : ℕ → SigFault
-  leftover : ℕ → SigFault
-  destination : ℕ → SigFault
-  gluing : ℕ → SigFault
-  face_taken : ℕ → SigFault
-  trailing : ℕ → SigFault
-  too_many : SigFault
-  unreached : SigFault
-  bad_width : ℕ → SigFault
+use Rattle.table_definitions.specs.declared.TextFault.{TextFault}
+use Rattle.table_definitions.specs.TableText.{lexed, table_at}
+use Rattle.signature_definitions.specs.declared.SigFault.{SigFault}
+use Rattle.signature_definitions.specs.declared.SigFault.TheVariants as faults
+use Rattle.signature_definitions.specs.declared.SigFault.TheVariants.{BadChar, Short, BadType, Leftover, Destination, FaceTaken, Trailing, TooMany, Unreached, Width}
+use Rattle.signature_definitions.specs.declared.InputFault.{InputFault}
+use Rattle.signature_definitions.specs.declared.InputFault.TheVariants.{Text, Signature}
 
 -- go on where the test passes
 abbrev pub unless : {A : Type 0} → Bool → SigFault → Result A SigFault → Result A SigFault
@@ -32,8 +24,8 @@ value_or None fault = Err fault
 value_or (Some v) fault = Ok v
 
 abbrev pub value_in : Option ℕ → ℕ → ℕ → Result ℕ SigFault
-value_in None end at = Err (short end)
-value_in (Some b) end at = value_or (value_of b) (bad_char at)
+value_in None end at = Err (Short end)
+value_in (Some b) end at = value_or (value_of b) (BadChar at)
 
 -- the value of the character at a place
 abbrev pub value_at : List ℕ → ℕ → Result ℕ SigFault
@@ -56,12 +48,12 @@ pub record Head : Type 0 where
 abbrev pub wide_head : List ℕ → ℕ → Result Head SigFault
 wide_head text w = do
   n ← number_in text w 2
-  unless (nat_lt max_tets n) too_many (unless (nat_lt n 63 || not (w == width n)) (bad_width 1) (Ok (record { count = n; width = w; next = w + 2 })))
+  unless (nat_lt max_tets n) TooMany (unless (nat_lt n 63 || not (w == width n)) (Width 1) (Ok (record { count = n; width = w; next = w + 2 })))
 
 abbrev pub long_head : List ℕ → Result Head SigFault
 long_head text = do
   w ← value_at text 1
-  unless (w == 0) (bad_width 1) (unless (nat_le 3 w) too_many (wide_head text w))
+  unless (w == 0) (Width 1) (unless (nat_le 3 w) TooMany (wide_head text w))
 
 unfoldable pub head_of : List ℕ → Result Head SigFault
 head_of text = do
@@ -88,8 +80,8 @@ is_wrong_type n type s = (type == 3) || nat_lt s.left (faces_of_type type) || ((
 -- one of the three types of the character at a place
 abbrev pub type_at : ℕ → ℕ → ℕ → Types → Result Types SigFault
 type_at n at type s =
-    if s.left == 0 then unless (not (type == 0)) (leftover at) (Ok s)
-    else unless (is_wrong_type n type s) (bad_type at) (Ok (counted type s))
+    if s.left == 0 then unless (not (type == 0)) (Leftover at) (Ok s)
+    else unless (is_wrong_type n type s) (BadType at) (Ok (counted type s))
 
 abbrev pub character_types : ℕ → ℕ → ℕ → Types → Result Types SigFault
 character_types n at v s = do
@@ -145,8 +137,8 @@ join_new x s = meet x (record { tet = s.seen; perm = identity }) (record s { see
 abbrev pub join_seen : Face → ℕ × ℕ → ℕ × ℕ → Joining → Result Joining SigFault
 join_seen x d i s =
     let g : Gluing = record { tet = d.0; perm = slice_index_or words i.0 [] } in
-    unless (nat_le s.seen d.0) (destination d.1)
-    (unless (same_face (other_side x g) x || is_met s (other_side x g)) (face_taken i.1) (Ok (meet x g s)))
+    unless (nat_le s.seen d.0) (Destination d.1)
+    (unless (same_face (other_side x g) x || is_met s (other_side x g)) (FaceTaken i.1) (Ok (meet x g s)))
 
 abbrev pub first_pair : List (ℕ × ℕ) → ℕ × ℕ
 first_pair ps = slice_index_or ps 0 (0, 0)
@@ -164,7 +156,7 @@ join_next x [] s = Ok s
 join_next x (type ∷ types) s = if is_met s x then Ok s else join_type x type (record s.parts { types = types }) s
 
 abbrev pub join_face : Face → Joining → Result Joining SigFault
-join_face x s = unless (nat_le s.seen x.tet) unreached (join_next x s.parts.types s)
+join_face x s = unless (nat_le s.seen x.tet) Unreached (join_next x s.parts.types s)
 
 unfoldable pub join_faces : List Face → Joining → Result Joining SigFault
 join_faces [] s = Ok s
@@ -190,9 +182,9 @@ abbrev pub after_types : List ℕ → Head → Types → ℕ → Result (List Ro
 after_types text h s at =
     let twos : ℕ = times_in s.read 2 in
     let gluings_at : ℕ = at + h.width * twos in do
-      d ← unless (nat_lt (s.ones + 1) h.count) unreached (numbers_in twos text h.width h.count destination at)
-      g ← numbers_in twos text 1 24 gluing gluings_at
-      unless (nat_lt (gluings_at + twos) (length text)) (trailing (gluings_at + twos))
+      d ← unless (nat_lt (s.ones + 1) h.count) Unreached (numbers_in twos text h.width h.count Destination at)
+      g ← numbers_in twos text 1 24 faults.Gluing gluings_at
+      unless (nat_lt (gluings_at + twos) (length text)) (Trailing (gluings_at + twos))
           (table_of h.count (record { types = s.read; destinations = d; gluings = g }))
 
 -- the table that a text spells, or its first fault
@@ -202,18 +194,14 @@ signature_table text = do
   s ← types_from (4 * h.count) text h.count h.next (record { read = []; left = 4 * h.count; ones = 0 })
   after_types text h s.0 s.1
 
--- why a document has no table
-pub data InputFault : Type 0 where
-  bad_text : TextFault → InputFault
-  bad_signature : SigFault → InputFault
-
+-- a reader's fault, as one of the input
 abbrev pub texted : {A : Type 0} → Result A TextFault → Result A InputFault
 texted (Ok x) = Ok x
-texted (Err e) = Err (bad_text e)
+texted (Err e) = Err (Text e)
 
 abbrev pub decoded : Reading → Result (List Row) SigFault → Result (List Row × Reading) InputFault
 decoded c (Ok rows) = Ok (rows, c)
-decoded c (Err e) = Err (bad_signature e)
+decoded c (Err e) = Err (Signature e)
 
 -- what follows the word `sig`
 unfoldable pub signature_at : Reading → Result (List Row × Reading) InputFault

@@ -1,3 +1,106 @@
-//! The walk order of a table, its spelling, and signatures in text. The definitions stand in `specs/`; `proofs/` has
-//! worked examples.
+//! The walk order of a table, its spelling, and signatures in text. The definitions stand in `specs/`; the faults of
+//! signatures and of inputs stand here, for definitions and code. `proofs/` has worked examples.
 #![tactic(auto)]
+
+ghost use Rattle.std.specs.Prelude.{◌≡◌};
+ghost use Rattle.text_definitions.specs.Reading.{PassesOn};
+ghost use Rattle.table_definitions.specs.declared.TextFault.TheVariants as TextVariants;
+ghost use Rattle.signature_definitions.specs.declared.SigFault.TheVariants as SigVariants;
+ghost use Rattle.signature_definitions.specs.declared.InputFault.TheVariants as InputVariants;
+
+use no_memory::NoMemory;
+use std::alloc::{AllocError, AllocFailed};
+use table_definitions::TextFault;
+use text_definitions::LexFault;
+
+/// Why a text is no signature. Places count characters from 0.
+#[derive(Clone, Copy, Debug, PartialEq, Eq)]
+pub enum SigFault {
+    NoMemory,
+    /// A character that is not of the alphabet.
+    BadChar { at: usize },
+    /// The text ends where a character is wanted.
+    Short { at: usize },
+    /// A face type that can't stand there.
+    BadType { at: usize },
+    /// A face type behind the last face.
+    Leftover { at: usize },
+    /// A tetrahedron that is out of range or not yet seen.
+    Destination { at: usize },
+    /// No index of a permutation.
+    Gluing { at: usize },
+    /// A gluing to the face itself or to one that was met before.
+    FaceTaken { at: usize },
+    /// Characters behind the signature.
+    Trailing { at: usize },
+    /// More tetrahedra than a table may have.
+    TooMany,
+    /// A tetrahedron that no gluing reaches before its faces are taken.
+    Unreached,
+    /// A number of characters per number other than the least.
+    Width { at: usize },
+}
+
+impl From<AllocError> for SigFault {
+    ghost from_gives = { λ _ e. e ≡ SigVariants.NoMemory };
+
+    fn from(_error: AllocError) -> SigFault {
+        SigFault::NoMemory
+    }
+}
+
+impl<T: Drop> From<AllocFailed<T>> for SigFault {
+    ghost from_gives = { λ _ e. e ≡ SigVariants.NoMemory };
+
+    fn from(_failed: AllocFailed<T>) -> SigFault {
+        SigFault::NoMemory
+    }
+}
+
+impl From<NoMemory> for SigFault {
+    ghost from_gives = { λ _ e. e ≡ SigVariants.NoMemory };
+
+    fn from(_error: NoMemory) -> SigFault {
+        SigFault::NoMemory
+    }
+}
+
+/// Why an input is no document of its kind.
+#[derive(Clone, Copy, Debug, PartialEq, Eq)]
+pub enum InputFault {
+    NoMemory,
+    /// A line hasn't the form that is wanted, or its rows are no table. It is never want of memory.
+    Text(TextFault),
+    /// The word behind `sig` is no signature. It is never want of memory.
+    Signature(SigFault),
+}
+
+impl From<LexFault> for InputFault {
+    ghost from_gives = { λ f e. e ≡ InputVariants.Text (TextVariants.Lex f) };
+
+    fn from(fault: LexFault) -> InputFault {
+        InputFault::Text(TextFault::Lex(fault))
+    }
+}
+
+impl From<TextFault> for InputFault {
+    ghost from_gives = { PassesOn TextVariants.NoMemory InputVariants.NoMemory InputVariants.Text };
+
+    fn from(fault: TextFault) -> InputFault {
+        match fault {
+            TextFault::NoMemory => InputFault::NoMemory,
+            other => InputFault::Text(other),
+        }
+    }
+}
+
+impl From<SigFault> for InputFault {
+    ghost from_gives = { PassesOn SigVariants.NoMemory InputVariants.NoMemory InputVariants.Signature };
+
+    fn from(fault: SigFault) -> InputFault {
+        match fault {
+            SigFault::NoMemory => InputFault::NoMemory,
+            other => InputFault::Signature(other),
+        }
+    }
+}

@@ -2,16 +2,11 @@
 use Rattle.std.proofs.Common.{◌≡◌, ◌+◌, ◌≤◌, List, [], ◌∷◌, ◌++◌, Result, Ok, Err, length, refl, sym, ap, ◌∙◌, arith, append_assoc, append-nil}
 use Rattle.table_definitions.specs.Table.{Row}
 use Rattle.text_definitions.specs.Text.{Line}
-use Rattle.text_definitions.specs.Reading.{Reading, ◌>>=◌, begun, line_from, need_line_at}
-use Rattle.signature_definitions.specs.SignatureText.{InputFault, any_table_at}
+use Rattle.text_definitions.specs.Reading.{Reading, ◌>>=◌, begun, line_from, need_line_at, Fails}
+use Rattle.signature_definitions.specs.declared.InputFault.{InputFault}
+use Rattle.signature_definitions.specs.declared.InputFault.TheVariants.{NoMemory}
+use Rattle.signature_definitions.specs.SignatureText.{any_table_at}
 use Rattle.signature_codec.proofs.AnyTables.{any_table_read}
-use Rattle.signature_codec.specs.declared.any.InputFault as answered
-use Rattle.signature_codec.specs.declared.any.InputFault.TheVariants.{NoMemory, Text, Signature}
-use Rattle.signature_codec.specs.declared.faults.SigFault.{SigFault}
-use Rattle.signature_codec.specs.declared.faults.SigFault.TheVariants as sig_faults
-use Rattle.gluing_table.specs.declared.reader.TextFault.{TextFault}
-use Rattle.gluing_table.specs.declared.reader.TextFault.TheVariants as text_faults
-use Rattle.signature_codec.specs.Inputs.{FailsText, FailsSignature, FailsInput}
 use Rattle.document_definitions.specs.Documents.{tables_on, tables_from}
 
 -- what tables are read as
@@ -108,32 +103,6 @@ unfolding tables_from
 tables_ended front c same = ap (λ (us : List Line). with_tables front (tables_from us c)) same ∙ ap (λ (ts : List (List Row)). Ok (ts, c)) (append-nil front)
 
 -- a fault of a table is one of the tables
-text_moved : {A B : Type 0} (f : TextFault) (read : Result A InputFault) (whole : Result B InputFault) → ((fault : InputFault) → read ≡ Err fault → whole ≡ Err fault) → FailsText f read → FailsText f whole
-text_moved text_faults.NoMemory read whole h e = absurd e
-text_moved (text_faults.Lex f) read whole h e = h _ e
-text_moved (text_faults.Table f) read whole h e = (e.0, h _ e.1, e.2)
-
-signature_moved : {A B : Type 0} (f : SigFault) (read : Result A InputFault) (whole : Result B InputFault) → ((fault : InputFault) → read ≡ Err fault → whole ≡ Err fault) → FailsSignature f read
-    → FailsSignature f whole
-signature_moved sig_faults.NoMemory read whole h e = absurd e
-signature_moved (sig_faults.BadChar at) read whole h e = h _ e
-signature_moved (sig_faults.Short at) read whole h e = h _ e
-signature_moved (sig_faults.BadType at) read whole h e = h _ e
-signature_moved (sig_faults.Leftover at) read whole h e = h _ e
-signature_moved (sig_faults.Destination at) read whole h e = h _ e
-signature_moved (sig_faults.Gluing at) read whole h e = h _ e
-signature_moved (sig_faults.FaceTaken at) read whole h e = h _ e
-signature_moved (sig_faults.Trailing at) read whole h e = h _ e
-signature_moved sig_faults.TooMany read whole h e = h _ e
-signature_moved sig_faults.Unreached read whole h e = h _ e
-signature_moved (sig_faults.Width at) read whole h e = h _ e
-
-input_moved : {A B : Type 0} (f : answered.InputFault) (read : Result A InputFault) (whole : Result B InputFault) → ((fault : InputFault) → read ≡ Err fault → whole ≡ Err fault) → FailsInput f read
-    → FailsInput f whole
-input_moved NoMemory read whole h e = tt
-input_moved (Text f) read whole h e = text_moved f read whole h e
-input_moved (Signature f) read whole h e = signature_moved f read whole h e
-
-pub table_fails : (front : List (List Row)) (c d : Reading) (f : answered.InputFault) (whole : ReadTables) → need_line_at c ≡ Ok d → FailsInput f (any_table_at d)
-    → with_tables front (tables_from c.later c) ≡ whole → FailsInput f whole
-table_fails front c d f whole e h same = input_moved f (any_table_at d) whole (λ fault g. sym same ∙ table_faulty front c d fault e g) h
+pub table_fails : (front : List (List Row)) (c d : Reading) (fault : InputFault) (whole : ReadTables) → need_line_at c ≡ Ok d → Fails NoMemory fault (any_table_at d)
+    → with_tables front (tables_from c.later c) ≡ whole → Fails NoMemory fault whole
+table_fails front c d fault whole e fails same = λ other. sym same ∙ table_faulty front c d fault e (fails other)

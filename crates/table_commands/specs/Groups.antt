@@ -1,12 +1,11 @@
 -- What is known of tables that are read and not kept.
 use Rattle.std.specs.Prelude.{◌≡◌, ℕ, ◌<◌, ◌≤◌, List, [], ◌∷◌, ◌++◌, length, Option, Some, None, Result, Ok, Err}
-use Rattle.text_definitions.specs.Reading.{Reading}
+use Rattle.text_definitions.specs.Reading.{Reading, Fails}
 use Rattle.table_definitions.specs.Table.{Row, IsTable}
 use Rattle.table_definitions.specs.Places.{IsConnected, IsLeastUnreached}
-use Rattle.signature_definitions.specs.SignatureText as signatures
+use Rattle.signature_definitions.specs.declared.InputFault.{InputFault}
+use Rattle.signature_definitions.specs.declared.InputFault.TheVariants.{NoMemory}
 use Rattle.labelling_definitions.specs.Census.{table_in, IsCensus}
-use Rattle.signature_codec.specs.declared.any.InputFault.{InputFault}
-use Rattle.signature_codec.specs.Inputs.{FailsInput}
 use Rattle.table_commands.specs.declared.groups.NotConnected.{NotConnected}
 use Rattle.table_commands.specs.declared.groups.Groups.{Groups}
 
@@ -37,20 +36,20 @@ pub record AreGrouped (tables : List (List Row)) (groups : Groups) : Type 0 wher
   pub grouped : AreGroupedBy tables groups.classes.items groups.census groups.found
 
 -- one more table was read, and is known of
-pub record GroupsOneMore (read : Result (List Row × Reading) signatures.InputFault) (left : Reading) (before now : Groups) : Type 0 where
+pub record GroupsOneMore (read : Result (List Row × Reading) InputFault) (left : Reading) (before now : Groups) : Type 0 where
   pub rows : List Row
   pub read_so : read ≡ Ok (rows, left)
   pub grows : (tables : List (List Row)) → AreGrouped tables before → AreGrouped (tables ++ rows ∷ []) now
 
-abbrev pub GivesOneMore : Result (Unit {0}) InputFault → Result (List Row × Reading) signatures.InputFault → Reading → Groups → Groups → Type 0
+abbrev pub GivesOneMore : Result (Unit {0}) InputFault → Result (List Row × Reading) InputFault → Reading → Groups → Groups → Type 0
 GivesOneMore (Ok u) read left before now = GroupsOneMore read left before now
-GivesOneMore (Err e) read left before now = FailsInput e read
+GivesOneMore (Err e) read left before now = Fails NoMemory e read
 
 -- all tables were read, and are known of
-abbrev pub GivesGroups : Result Groups InputFault → Reading → Result (List (List Row) × Reading) signatures.InputFault → Type 0
+abbrev pub GivesGroups : Result Groups InputFault → Reading → Result (List (List Row) × Reading) InputFault → Type 0
 GivesGroups (Ok groups) left read = (tables : List (List Row)) × (read ≡ Ok (tables, left)) × AreGrouped tables groups
-GivesGroups (Err e) left read = FailsInput e read
+GivesGroups (Err e) left read = Fails NoMemory e read
 
-abbrev pub GivesGroupsDocument : Result Groups InputFault → Result (List (List Row)) signatures.InputFault → Type 0
+abbrev pub GivesGroupsDocument : Result Groups InputFault → Result (List (List Row)) InputFault → Type 0
 GivesGroupsDocument (Ok groups) read = (tables : List (List Row)) × (read ≡ Ok tables) × AreGrouped tables groups
-GivesGroupsDocument (Err e) read = FailsInput e read
+GivesGroupsDocument (Err e) read = Fails NoMemory e read

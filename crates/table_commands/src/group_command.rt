@@ -14,8 +14,8 @@ use command_answers::{Outcome, fault_outcome, not_connected_outcome};
 use no_memory::NoMemory;
 use outcome_definitions::Status;
 use signature_census::Census;
-use text_writing::{append, append_decimal};
 use std::alloc::Global;
+use text_writing::{append, append_decimal};
 
 // The class of a table.
 fn append_class(alloc: Global, text: &mut Vec<u8>, table: usize, class: u32) -> Result<(), NoMemory>

@@ -14,8 +14,8 @@ use gluing_table::Table;
 use no_memory::NoMemory;
 use outcome_definitions::Status;
 use skeleton::Skeleton;
-use vertex_links::{Link, links};
 use std::alloc::Global;
+use vertex_links::{Link, links};
 
 // Which edge classes are valid.
 fn valid_edges(alloc: Global, skeleton: &Skeleton) -> Result<Vec<bool>, NoMemory>

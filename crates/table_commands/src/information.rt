@@ -8,9 +8,9 @@ ghost use Rattle.vertex_links.specs.Shown.{kind_shown, link_shown};
 
 use no_memory::NoMemory;
 use skeleton::Skeleton;
+use std::alloc::Global;
 use text_writing::{append, append_decimal, append_signed};
 use vertex_links::{Link, LinkKind};
-use std::alloc::Global;
 
 fn yes_or_no(value: bool) -> &'static [u8]
     ensures { result.now ≡ information.yes_or_no value }

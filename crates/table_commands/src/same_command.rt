@@ -14,8 +14,8 @@ use gluing_table::{Relabelling, Table};
 use no_memory::NoMemory;
 use outcome_definitions::Status;
 use perm_four::Perm4;
-use text_writing::{append, append_decimal};
 use std::alloc::Global;
+use text_writing::{append, append_decimal};
 
 // The line of a tetrahedron: its number, its number in the second table, and where its vertices go.
 fn append_image(

@@ -10,8 +10,8 @@ use command_answers::{Outcome, fault_outcome, not_connected_outcome, read_table_
 use gluing_table::Table;
 use no_memory::NoMemory;
 use outcome_definitions::Status;
-use text_writing::append;
 use std::alloc::Global;
+use text_writing::append;
 
 // A signature as a line.
 fn told(mut text: Vec<u8>) -> Result<Outcome, NoMemory>

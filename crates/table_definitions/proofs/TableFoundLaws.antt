@@ -4,13 +4,17 @@ use Rattle.std.specs.Prelude.{nat_lt, if◌then◌else◌, codes}
 use Rattle.std.specs.List.{AllZip}
 use Rattle.std.proofs.lemmas.Bool.{lt-ltb, le-ltb}
 use Rattle.table_definitions.specs.Lists.{same_list}
-use Rattle.table_definitions.specs.Table.{max_tets, Gluing, Row, IsTable, TableFault, too_many, table_fault}
+use Rattle.table_definitions.specs.declared.TableFault.{TableFault}
+use Rattle.table_definitions.specs.declared.TableFault.TheVariants.{TooMany}
+use Rattle.table_definitions.specs.declared.TextFault.{TextFault}
+use Rattle.table_definitions.specs.declared.TextFault.TheVariants.{Table}
+use Rattle.table_definitions.specs.Table.{max_tets, Gluing, Row, IsTable, table_fault}
 use Rattle.text_definitions.specs.Text.{Token, word, stray, Line, decimal_value}
 use Rattle.text_definitions.specs.declared.LexKind.TheVariants.{NumberTooWide}
 use Rattle.text_definitions.specs.declared.LexFault.{LexFault}
 use Rattle.text_definitions.specs.Reading.{word_at, Reading, ◌>>=◌, begun, need_line_at, end_line_at, number_at, exactly_at, word_fault}
 use Rattle.text_definitions.specs.Written.{limit}
-use Rattle.table_definitions.specs.TableText.{TextFault, no_table, lexed, gluing_of, gluing_entry, entry_at, row_at, rows_at, checked, counted_rows_at, table_at, tri_table_at}
+use Rattle.table_definitions.specs.TableText.{lexed, gluing_of, gluing_entry, entry_at, row_at, rows_at, checked, counted_rows_at, table_at, tri_table_at}
 use Rattle.table_definitions.specs.Grammar.{AreWords, IsEntry, IsRowLine, AreTriLines}
 use Rattle.table_definitions.specs.Laws.{ReadsTriTable}
 use Rattle.table_definitions.proofs.ListLaws.{same_list-true, same_list_from}
@@ -238,8 +242,8 @@ table_found column w lines rest rows c value z table split =
     let found : RowsFound begin (length rows) rows rest = subst (λ (ls : List Line). RowsFound (with_later ls begin) (length rows) rows rest) (sym split) (rows_found lines rest rows begin z) in
     let counted : (d : Reading) × (counted_rows_at (length rows) begin ≡ Ok (rows, d)) × (d.later ≡ rest) × (d.current.tokens ≡ []) = counted_found begin (length rows) rows rest refl table found in (
       counted.0,
-      ap (λ (q : Result (ℕ × Reading) TextFault). q >>= λ (x : ℕ × Reading). if nat_lt max_tets x.0 then Err (no_table too_many) else counted_rows_at x.0 x.1) (lexed_with (number_at limit (with_tokens (word column w ∷ []) c)) (length rows, begin) number)
-          ∙ ap (λ (b : Bool). if◌then◌else◌ {A = Result (List Row × Reading) TextFault} b (Err (no_table too_many)) (counted_rows_at (length rows) begin)) (le-ltb max_tets (length rows) few)
+      ap (λ (q : Result (ℕ × Reading) TextFault). q >>= λ (x : ℕ × Reading). if nat_lt max_tets x.0 then Err (Table TooMany) else counted_rows_at x.0 x.1) (lexed_with (number_at limit (with_tokens (word column w ∷ []) c)) (length rows, begin) number)
+          ∙ ap (λ (b : Bool). if◌then◌else◌ {A = Result (List Row × Reading) TextFault} b (Err (Table TooMany)) (counted_rows_at (length rows) begin)) (le-ltb max_tets (length rows) few)
           ∙ counted.1,
       counted.2,
       counted.3,

@@ -7,7 +7,8 @@ use Rattle.std.proofs.lemmas.List.{get_or_past}
 use Rattle.std.proofs.lemmas.Bool.{eqb-true, ltb-true, ltb-false, lt-ltb, le-ltb, and_parts, and_from, false≢true, cases_eq, cases_lt, not-true, not-false, not_from_false, eq-eqb}
 use Rattle.table_definitions.specs.Lists.{below, same_list, first_some, pairs_of}
 use Rattle.table_definitions.specs.Permutation.{four, IsPermutationOfFour}
-use Rattle.table_definitions.specs.Table.{max_tets, Gluing, Row, Face, glue, other_side, way_back, faces, same_face, IsTable, too_many, no_such_tet, self_glued, not_mutual, is_glued_by, gluing_fault, table_fault}
+use Rattle.table_definitions.specs.declared.TableFault.TheVariants.{TooMany, NoSuchTet, SelfGlued, NotMutual}
+use Rattle.table_definitions.specs.Table.{max_tets, Gluing, Row, Face, glue, other_side, way_back, faces, same_face, IsTable, is_glued_by, gluing_fault, table_fault}
 use Rattle.table_definitions.proofs.ListLaws.{same_list-true, same_list_from}
 
 -- x stands in the list
@@ -121,12 +122,12 @@ fine_at rows x g e =
     let inside : Bool = nat_lt g.tet (length rows) in
     let itself : Bool = same_face (other_side x g) x in
     let back : Bool = is_glued_by (glue rows (other_side x g)) (way_back x g) in
-    let p : (not inside ≡ false) × ((if itself then Some (self_glued x) else (if back then None else Some (not_mutual x))) ≡ None) = guarded (not inside) (no_such_tet x) (if itself then Some (self_glued x) else (if back then None else Some (not_mutual x))) e in
-    let q : (itself ≡ false) × ((if back then None else Some (not_mutual x)) ≡ None) = guarded itself (self_glued x) (if back then None else Some (not_mutual x)) p.1 in
+    let p : (not inside ≡ false) × ((if itself then Some (SelfGlued x.tet x.face) else (if back then None else Some (NotMutual x.tet x.face))) ≡ None) = guarded (not inside) (NoSuchTet x.tet x.face) (if itself then Some (SelfGlued x.tet x.face) else (if back then None else Some (NotMutual x.tet x.face))) e in
+    let q : (itself ≡ false) × ((if back then None else Some (NotMutual x.tet x.face)) ≡ None) = guarded itself (SelfGlued x.tet x.face) (if back then None else Some (NotMutual x.tet x.face)) p.1 in
     record {
       in_range = ltb-true g.tet (length rows) (not-false inside p.0);
       apart = q.0;
-      leads_back = is_glued_by-true (glue rows (other_side x g)) (way_back x g) (allowed back (not_mutual x) q.1);
+      leads_back = is_glued_by-true (glue rows (other_side x g)) (way_back x g) (allowed back (NotMutual x.tet x.face) q.1);
     }
 
 -- rows of four permutations with which nothing is wrong are a table
@@ -143,7 +144,7 @@ IsTable-no_fault rows fours permutes e = record {
 }
   where
     parts : (nat_lt max_tets (length rows) ≡ false) × (first_some (λ x. gluing_fault rows x (glue rows x)) (faces (length rows)) ≡ None)
-    parts = guarded (nat_lt max_tets (length rows)) too_many (first_some (λ x. gluing_fault rows x (glue rows x)) (faces (length rows))) e
+    parts = guarded (nat_lt max_tets (length rows)) TooMany (first_some (λ x. gluing_fault rows x (glue rows x)) (faces (length rows))) e
 
     fine : (x : Face) (g : Gluing) → glue rows x ≡ Some g → IsFine rows x g
     fine x g h =

@@ -5,13 +5,17 @@ use Rattle.std.specs.List.{AllZip}
 use Rattle.std.proofs.lemmas.Bool.{ltb-true}
 use Rattle.table_definitions.specs.Lists.{same_list}
 use Rattle.table_definitions.specs.Permutation.{IsPermutationOfFour}
-use Rattle.table_definitions.specs.Table.{max_tets, Gluing, Row, IsTable, TableFault, too_many, table_fault}
+use Rattle.table_definitions.specs.declared.TableFault.{TableFault}
+use Rattle.table_definitions.specs.declared.TableFault.TheVariants.{TooMany}
+use Rattle.table_definitions.specs.declared.TextFault.{TextFault}
+use Rattle.table_definitions.specs.declared.TextFault.TheVariants.{Table}
+use Rattle.table_definitions.specs.Table.{max_tets, Gluing, Row, IsTable, table_fault}
 use Rattle.text_definitions.specs.Text.{Token, word, stray, Line, decimal_value}
 use Rattle.text_definitions.specs.declared.LexKind.TheVariants.{NumberTooWide}
 use Rattle.text_definitions.specs.declared.LexFault.{LexFault}
 use Rattle.text_definitions.specs.Reading.{Reading, ◌>>=◌, begun, need_line_at, word_at, end_line_at, number_at, exactly_at, word_fault}
 use Rattle.text_definitions.specs.Written.{limit}
-use Rattle.table_definitions.specs.TableText.{TextFault, no_table, lexed, gluing_of, gluing_entry, entry_at, row_at, rows_at, checked, counted_rows_at, table_at, tri_table_at}
+use Rattle.table_definitions.specs.TableText.{lexed, gluing_of, gluing_entry, entry_at, row_at, rows_at, checked, counted_rows_at, table_at, tri_table_at}
 use Rattle.table_definitions.specs.Grammar.{AreWords, IsEntry, IsRowLine, AreTriLines}
 use Rattle.table_definitions.proofs.ListLaws.{same_list-true}
 use Rattle.table_definitions.proofs.ReadingLaws.{bind_ok, ok_parts, with_tokens, behind, TakesWord, word_taken, TakesNumber, number_read, exactly_read}
@@ -296,8 +300,8 @@ record TableRead (ts : List Token) (c : Reading) (rows : List Row) (d : Reading)
 table_read : (ts : List Token) (c : Reading) (rows : List Row) (d : Reading) → table_at (with_tokens ts c) ≡ Ok (rows, d) → TableRead ts c rows d
 unfolding table_at
 table_read ts c rows d e =
-    let first : (x : ℕ × Reading) × (lexed (number_at limit (with_tokens ts c)) ≡ Ok x) × ((if nat_lt max_tets x.0 then Err (no_table too_many) else counted_rows_at x.0 x.1) ≡ Ok (rows, d)) =
-    bind_ok (lexed (number_at limit (with_tokens ts c))) (λ (x : ℕ × Reading). if nat_lt max_tets x.0 then Err (no_table too_many) else counted_rows_at x.0 x.1) (rows, d) e in
+    let first : (x : ℕ × Reading) × (lexed (number_at limit (with_tokens ts c)) ≡ Ok x) × ((if nat_lt max_tets x.0 then Err (Table TooMany) else counted_rows_at x.0 x.1) ≡ Ok (rows, d)) =
+    bind_ok (lexed (number_at limit (with_tokens ts c))) (λ (x : ℕ × Reading). if nat_lt max_tets x.0 then Err (Table TooMany) else counted_rows_at x.0 x.1) (rows, d) e in
     from_number (first.0).0 (first.0).1 (number_read limit ts c (first.0).0 (first.0).1 (lexed_ok (number_at limit (with_tokens ts c)) first.0 first.1)) (nat_lt max_tets (first.0).0) first.2
   where
     from_counted : (n : ℕ) (x : Reading) (t : TakesNumber limit ts c n x) → CountedRead n t.word.rest (behind t.word.column c) rows d → TableRead ts c rows d
@@ -313,7 +317,7 @@ table_read ts c rows d e =
       at_end = r.at_end;
     }
 
-    from_number : (n : ℕ) (x : Reading) → TakesNumber limit ts c n x → (b : Bool) → if◌then◌else◌ {A = Result (List Row × Reading) TextFault} b (Err (no_table too_many)) (counted_rows_at n x) ≡ Ok (rows, d) → TableRead ts c rows d
+    from_number : (n : ℕ) (x : Reading) → TakesNumber limit ts c n x → (b : Bool) → if◌then◌else◌ {A = Result (List Row × Reading) TextFault} b (Err (Table TooMany)) (counted_rows_at n x) ≡ Ok (rows, d) → TableRead ts c rows d
     from_number n x t true g = absurd cc
     from_number n x t false g =
         from_counted n x t (counted_read n t.word.rest (behind t.word.column c) rows d (subst (λ (r : Reading). counted_rows_at n r ≡ Ok (rows, d)) t.word.left g))

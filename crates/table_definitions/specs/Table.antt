@@ -1,6 +1,8 @@
 -- Gluing tables: a row for each tetrahedron, with what each of its faces 0 to 3 is glued by.
 use Rattle.std.specs.Prelude.{◌≡◌, ℕ, ◌<◌, ◌≤◌, Bool, false, ◌&&◌, ◌||◌, not, List, [], length, map, ◌==◌, nat_lt, Option, Some, None, IsTrue, All, if◌then◌else◌}
 use Rattle.std.specs.List.{slice_index_or}
+use Rattle.table_definitions.specs.declared.TableFault.{TableFault}
+use Rattle.table_definitions.specs.declared.TableFault.TheVariants.{TooMany, NoSuchTet, SelfGlued, NotMutual}
 use Rattle.table_definitions.specs.Lists.{below, same_list, first_some, pairs_of}
 use Rattle.table_definitions.specs.Permutation.{four, IsPermutationOfFour, image, inverse}
 
@@ -54,13 +56,6 @@ pub record IsTable (rows : List Row) : Type 0 where
   pub apart : (x : Face) (g : Gluing) → glue rows x ≡ Some g → IsTrue (not (same_face (other_side x g) x))
   pub leads_back : (x : Face) (g : Gluing) → glue rows x ≡ Some g → glue rows (other_side x g) ≡ Some (way_back x g)
 
--- why rows of permutations are no table
-pub data TableFault : Type 0 where
-  too_many : TableFault
-  no_such_tet : Face → TableFault
-  self_glued : Face → TableFault
-  not_mutual : Face → TableFault
-
 -- whether a face is glued so
 abbrev pub is_glued_by : Option Gluing → Gluing → Bool
 is_glued_by None g = false
@@ -70,11 +65,11 @@ is_glued_by (Some h) g = (h.tet == g.tet) && same_list h.perm g.perm
 abbrev pub gluing_fault : List Row → Face → Option Gluing → Option TableFault
 gluing_fault rows x None = None
 gluing_fault rows x (Some g) =
-    if not (nat_lt g.tet (length rows)) then Some (no_such_tet x)
-    else (if same_face (other_side x g) x then Some (self_glued x)
-    else (if is_glued_by (glue rows (other_side x g)) (way_back x g) then None else Some (not_mutual x)))
+    if not (nat_lt g.tet (length rows)) then Some (NoSuchTet x.tet x.face)
+    else (if same_face (other_side x g) x then Some (SelfGlued x.tet x.face)
+    else (if is_glued_by (glue rows (other_side x g)) (way_back x g) then None else Some (NotMutual x.tet x.face)))
 
 -- too many rows, or else the first face at which something is wrong
 unfoldable pub table_fault : List Row → Option TableFault
 table_fault rows =
-    if nat_lt max_tets (length rows) then Some too_many else first_some (λ x. gluing_fault rows x (glue rows x)) (faces (length rows))
+    if nat_lt max_tets (length rows) then Some TooMany else first_some (λ x. gluing_fault rows x (glue rows x)) (faces (length rows))

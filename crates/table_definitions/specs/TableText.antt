@@ -3,22 +3,21 @@ use Rattle.std.specs.Prelude.{ℕ, zero, suc, ◌-◌, ◌^◌, ◌&&◌, List, 
 use Rattle.std.specs.List.{before_first, after_first, flat_map}
 use Rattle.table_definitions.specs.Lists.{same_list}
 use Rattle.table_definitions.specs.Permutation.{is_permutation, digits_of}
-use Rattle.table_definitions.specs.Table.{max_tets, Gluing, Row, TableFault, too_many, table_fault}
+use Rattle.table_definitions.specs.declared.TableFault.{TableFault}
+use Rattle.table_definitions.specs.declared.TableFault.TheVariants.{TooMany}
+use Rattle.table_definitions.specs.declared.TextFault.{TextFault}
+use Rattle.table_definitions.specs.declared.TextFault.TheVariants.{Lex, Table}
+use Rattle.table_definitions.specs.Table.{max_tets, Gluing, Row, table_fault}
 use Rattle.text_definitions.specs.Text.{decimal_value}
 use Rattle.text_definitions.specs.declared.LexKind.TheVariants.{NumberTooWide, BadWord}
 use Rattle.text_definitions.specs.declared.LexFault.{LexFault}
 use Rattle.text_definitions.specs.Reading.{Reading, ◌>>=◌, word_fault, need_line_at, word_at, end_line_at, number_at, exactly_at}
 use Rattle.text_definitions.specs.Written.{limit, spaced}
 
--- why a text is no table in the form `tri`
-pub data TextFault : Type 0 where
-  lexical : LexFault → TextFault
-  no_table : TableFault → TextFault
-
 -- a reader's fault, as one of a table's text
 abbrev pub lexed : {A : Type 0} → Result A LexFault → Result A TextFault
 lexed (Ok x) = Ok x
-lexed (Err e) = Err (lexical e)
+lexed (Err e) = Err (Lex e)
 
 -- the permutation whose four digits the word has
 unfoldable pub permutation_of : List ℕ → Option (List ℕ)
@@ -66,7 +65,7 @@ rows_at (suc n) c = do
 -- the rows, where nothing is wrong with them
 abbrev pub checked : Option TableFault → List Row × Reading → Result (List Row × Reading) TextFault
 checked None x = Ok x
-checked (Some fault) x = Err (no_table fault)
+checked (Some fault) x = Err (Table fault)
 
 -- n rows from the end of this line on, which are a table
 unfoldable pub counted_rows_at : ℕ → Reading → Result (List Row × Reading) TextFault
@@ -79,7 +78,7 @@ counted_rows_at n c = do
 unfoldable pub table_at : Reading → Result (List Row × Reading) TextFault
 table_at c = do
   n ← lexed (number_at limit c)
-  if nat_lt max_tets n.0 then Err (no_table too_many) else counted_rows_at n.0 n.1
+  if nat_lt max_tets n.0 then Err (Table TooMany) else counted_rows_at n.0 n.1
 
 -- what is written for a face
 abbrev pub entry_text : Option Gluing → List ℕ

@@ -1,9 +1,84 @@
 //! Permutations of four, gluing tables, their text, chains and classes. The definitions stand in `specs/`, for the
-//! contracts of the crates above. The functions here have no code: their contracts are laws over the definitions.
+//! contracts of the crates above. The faults of tables and of their text stand here, for definitions and code. The
+//! functions have no code: their contracts are laws over the definitions.
 //! `proofs/` has worked examples of the definitions too.
 #![tactic(auto)]
 
+ghost use Rattle.std.specs.Prelude.{◌≡◌};
+ghost use Rattle.text_definitions.specs.Reading.{PassesOn};
+ghost use Rattle.table_definitions.specs.declared.TableFault.TheVariants as TableVariants;
+ghost use Rattle.table_definitions.specs.declared.TextFault.TheVariants as TextVariants;
 ghost use Rattle.table_definitions.specs.Laws.{InversesPermute, CompositesPermute, InversesLeadBack, ImagesAreFound, FaultsDecideTables, TriTablesAreRead, ChainsMakeClasses};
+
+use std::alloc::{AllocError, AllocFailed};
+use text_definitions::LexFault;
+
+/// Why rows are no table.
+#[derive(Clone, Copy, Debug, PartialEq, Eq)]
+pub enum TableFault {
+    NoMemory,
+    /// More rows than a table may have.
+    TooMany,
+    /// A face leads to a tetrahedron that isn't there.
+    NoSuchTet { tet: u32, face: u8 },
+    /// A face leads to itself.
+    SelfGlued { tet: u32, face: u8 },
+    /// The face that is reached doesn't lead back.
+    NotMutual { tet: u32, face: u8 },
+}
+
+impl From<AllocError> for TableFault {
+    ghost from_gives = { λ _ e. e ≡ TableVariants.NoMemory };
+
+    fn from(_error: AllocError) -> TableFault {
+        TableFault::NoMemory
+    }
+}
+
+/// Why a text is no table in the form `tri`.
+#[derive(Clone, Copy, Debug, PartialEq, Eq)]
+pub enum TextFault {
+    NoMemory,
+    /// A line or a word hasn't the form that is wanted.
+    Lex(LexFault),
+    /// The rows are no table. It is never want of memory.
+    Table(TableFault),
+}
+
+impl From<LexFault> for TextFault {
+    ghost from_gives = { λ f e. e ≡ TextVariants.Lex f };
+
+    fn from(fault: LexFault) -> TextFault {
+        TextFault::Lex(fault)
+    }
+}
+
+impl From<TableFault> for TextFault {
+    ghost from_gives = { PassesOn TableVariants.NoMemory TextVariants.NoMemory TextVariants.Table };
+
+    fn from(fault: TableFault) -> TextFault {
+        match fault {
+            TableFault::NoMemory => TextFault::NoMemory,
+            other => TextFault::Table(other),
+        }
+    }
+}
+
+impl From<AllocError> for TextFault {
+    ghost from_gives = { λ _ e. e ≡ TextVariants.NoMemory };
+
+    fn from(_error: AllocError) -> TextFault {
+        TextFault::NoMemory
+    }
+}
+
+impl<T: Drop> From<AllocFailed<T>> for TextFault {
+    ghost from_gives = { λ _ e. e ≡ TextVariants.NoMemory };
+
+    fn from(_failed: AllocFailed<T>) -> TextFault {
+        TextFault::NoMemory
+    }
+}
 
 /// Permutations of four are a group.
 pub fn permutations_are_a_group()

@@ -3,7 +3,7 @@ use Rattle.std.proofs.Common.{◌≡◌, ℕ, List, length, Bool, true, false, O
 use Rattle.std.specs.Prelude.{IfSome, codes, nat_lt}
 use Rattle.std.specs.Bool.{MatchBool}
 use Rattle.bench_io.specs.Causes.{Grows}
-use Rattle.signature_definitions.specs.SignatureText.{InputFault}
+use Rattle.signature_definitions.specs.declared.InputFault.{InputFault}
 use Rattle.table_definitions.specs.Table.{Row}
 use Rattle.surface_definitions.specs.declared.Coords.{Coords}
 use Rattle.document_definitions.specs.Documents.{worded, table_document, vectors_document, cone_document}

@@ -1,4 +1,3 @@
-use Rattle.std.proofs.Common.{arith}
 use Rattle.gluing_table.proofs.Chains.{behind_none, behind_more}
 use Rattle.gluing_table.proofs.joined.rows_behind.Goals as goal
 

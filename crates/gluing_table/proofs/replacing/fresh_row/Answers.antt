@@ -1,4 +1,4 @@
-use Rattle.std.proofs.Common.{◌≡◌, [], arith, below_more, get_or, sym, ◌∙◌}
+use Rattle.std.proofs.Common.{◌≡◌, [], below_more, get_or, ◌∙◌}
 use Rattle.gluing_table.specs.Replaceable.{numbers_of}
 use Rattle.gluing_table.proofs.Opened.{number_at}
 use Rattle.gluing_table.proofs.FirstBack.{fresh_found, fresh_missing}

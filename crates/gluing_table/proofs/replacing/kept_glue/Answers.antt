@@ -1,6 +1,5 @@
-use Rattle.std.proofs.Common.{ap, List}
+use Rattle.std.proofs.Common.{ap}
 use Rattle.table_definitions.specs.Table.{Gluing, Face}
-use Rattle.table_definitions.specs.Replacing.{Replacement}
 use Rattle.gluing_table.proofs.KeptCode.{few_removed, closed_fits, glued_back_by, glued_on_by}
 use Rattle.gluing_table.proofs.replacing.kept_glue.Goals as goal
 

@@ -1,8 +1,4 @@
-use Rattle.std.proofs.Common.{◌≡◌, false}
-use Rattle.table_definitions.specs.Lists.{has}
 use Rattle.table_definitions.specs.Replacing.{Replacement}
-use Rattle.gluing_table.specs.Replaceable.{fresh_numbers}
-use Rattle.gluing_table.proofs.Kept.{IsKeptAs}
 use Rattle.gluing_table.proofs.KeptCode.{place_opened, place_fits, new_fresh, new_kept, none_fresh}
 use Rattle.gluing_table.proofs.replacing.new_row.Goals as goal
 

@@ -1,5 +1,5 @@
 -- The rows of the new table so far.
-use Rattle.std.proofs.Common.{◌≡◌, ◌≤◌, map, vec_capacity, length}
+use Rattle.std.proofs.Common.{◌≡◌, ◌≤◌, map, vec_capacity}
 use Rattle.table_definitions.specs.Lists.{below}
 use Rattle.table_definitions.specs.Replacing.{replaced_row}
 use Rattle.gluing_table.proofs.replacing.write_replaced.Given as goal

@@ -2,8 +2,9 @@ use Rattle.std.proofs.Common.{List, ◌∙◌, sym, subst, ap}
 use Rattle.std.specs.Prelude.{Result, Ok}
 use Rattle.std.proofs.lemmas.Result.{err_from_is_err_and}
 use Rattle.table_definitions.specs.Table.{Row}
+use Rattle.signature_definitions.specs.declared.SigFault.{SigFault}
 use Rattle.signature_definitions.specs.SignatureText as signatures
-use Rattle.signature_codec.specs.Faults.{FailsAs}
+use Rattle.signature_codec.specs.Faults.{Fails}
 use Rattle.signature_codec.specs.Parts.{parts_shown}
 use Rattle.signature_codec.specs.Slots.{slot_rows, slots_shown}
 use Rattle.signature_codec.proofs.ReadLaws.{fails_on, next_ok}
@@ -14,7 +15,7 @@ pub returns-in_err-state : goal.returns-in_err-state
 returns-in_err-state c =
     let p = err_from_is_err_and c.from_residual.result c.from_residual.ensures.1 in
     let e = c.in_err-state.field-0.0 in
-    let P : Result (List Row) signatures.SigFault → Type 0 = λ q. FailsAs e q in
+    let P : Result (List Row) SigFault → Type 0 = λ q. Fails e q in
     let n = c.args.parts.now.count in
     rw (p.1, p.2) (subst P (slots_join n (parts_shown c.args.parts.now) c.requires) (fails_on e _ (λ s. Ok (slot_rows n s.met)) c.in_err-state.ensures.joins))
 

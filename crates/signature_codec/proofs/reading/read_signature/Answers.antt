@@ -2,8 +2,9 @@ use Rattle.std.proofs.Common.{◌<◌, ◌≤◌, List, ◌∙◌, subst, sym, a
 use Rattle.std.specs.Prelude.{Result, Ok}
 use Rattle.std.proofs.lemmas.Result.{err_from_is_err_and}
 use Rattle.table_definitions.specs.Table.{Row, IsTable}
+use Rattle.signature_definitions.specs.declared.SigFault.{SigFault}
 use Rattle.signature_definitions.specs.SignatureText as signatures
-use Rattle.signature_codec.specs.Faults.{FailsAs, Reads}
+use Rattle.signature_codec.specs.Faults.{Fails, Reads}
 use Rattle.signature_codec.specs.Parts.{head_shown, types_shown, parts_shown}
 use Rattle.signature_codec.specs.Slots.{IsSlots, slots_begun}
 use Rattle.signature_codec.proofs.ReadLaws.{fails_on}
@@ -17,7 +18,7 @@ pub returns-in_err-head-clause-reads : goal.returns-in_err-head-clause-reads
 returns-in_err-head-clause-reads c =
     let p = err_from_is_err_and c.from_residual.result c.from_residual.ensures.1 in
     let e = c.in_err-head.field-0.0 in
-    let P : Result (List Row) signatures.SigFault → Type 0 = λ q. FailsAs e q in
+    let P : Result (List Row) SigFault → Type 0 = λ q. Fails e q in
     rw (p.1, p.2) (subst P (sym (signature_table-head c.args.text.now)) (fails_on e _ (behind_head c.args.text.now) c.in_err-head.ensures.reads))
 
 pub returns-in_err-types-clause-reads : goal.returns-in_err-types-clause-reads
@@ -25,7 +26,7 @@ returns-in_err-types-clause-reads c =
     let p = err_from_is_err_and c.from_residual-in_err-types.result c.from_residual-in_err-types.ensures.1 in
     let e = c.in_err-types.field-0.0 in
     let h = head_shown c.in_ok-head.head in
-    let P : Result (List Row) signatures.SigFault → Type 0 = λ q. FailsAs e q in
+    let P : Result (List Row) SigFault → Type 0 = λ q. Fails e q in
     rw (p.1, p.2) (subst P (sym (signature_table-types c.args.text.now h c.in_ok-head.ensures.reads)) (fails_on e _ (λ s. signatures.after_types c.args.text.now h s.0 s.1) c.in_err-types.ensures.reads))
 
 pub returns-in_err-parts-clause-reads : goal.returns-in_err-parts-clause-reads
@@ -33,7 +34,7 @@ returns-in_err-parts-clause-reads c =
     let p = err_from_is_err_and c.from_residual-in_err-parts.result c.from_residual-in_err-parts.ensures.1 in
     let e = c.in_err-parts.field-0.0 in
     let h = head_shown c.in_ok-head.head in
-    let P : Result (List Row) signatures.SigFault → Type 0 = λ q. FailsAs e q in
+    let P : Result (List Row) SigFault → Type 0 = λ q. Fails e q in
     rw (p.1, p.2) (subst P (signature_table-parts c.args.text.now h (types_shown c.in_ok-types.types) c.in_ok-types.types.next c.in_ok-head.ensures.reads c.in_ok-types.ensures.reads)
     (fails_on e _ (signatures.table_of c.in_ok-head.head.count) c.in_err-parts.ensures.reads))
 
@@ -48,7 +49,7 @@ returns-in_err-rows-clause-reads c =
     let p = err_from_is_err_and c.from_residual-in_err-rows.result c.from_residual-in_err-rows.ensures.1 in
     let e = c.in_err-rows.field-0.0 in
     let h = head_shown c.in_ok-head.head in
-    let P : Result (List Row) signatures.SigFault → Type 0 = λ q. FailsAs e q in
+    let P : Result (List Row) SigFault → Type 0 = λ q. Fails e q in
     rw (p.1, p.2) (subst P (signature_table-joined c.args.text.now h (types_shown c.in_ok-types.types) c.in_ok-types.types.next (parts_shown c.in_ok-parts.parts) c.in_ok-parts.parts.count
     c.in_ok-head.ensures.reads c.in_ok-types.ensures.reads c.in_ok-parts.ensures.reads c.in_ok-parts.ensures.count) c.in_err-rows.ensures)
 
@@ -64,7 +65,7 @@ table_of-requires c =
 pub returns-clause-reads : goal.returns-clause-reads
 returns-clause-reads c =
     let h = head_shown c.in_ok-head.head in
-    let P : Result (List Row) signatures.SigFault → Type 0 = λ q. Reads (λ t. t) c.table_of.result q in
+    let P : Result (List Row) SigFault → Type 0 = λ q. Reads (λ t. t) c.table_of.result q in
     let spelled = signature_table-joined c.args.text.now h (types_shown c.in_ok-types.types) c.in_ok-types.types.next (parts_shown c.in_ok-parts.parts) c.in_ok-parts.parts.count
     c.in_ok-head.ensures.reads c.in_ok-types.ensures.reads c.in_ok-parts.ensures.reads c.in_ok-parts.ensures.count in
     subst P (ap Ok c.deref.ensures.value ∙ sym c.in_ok-rows.ensures ∙ spelled) c.table_of.ensures
