@@ -1,0 +1,12 @@
+-- The vertices that were passed are marked, and with each its class.
+use Rattle.std.proofs.Common.{ℕ, ◌<◌}
+use Rattle.finite_walks.specs.Search.{IsMarked, IsClosed}
+use Rattle.quad_lift.specs.Spreads.{vertices_round, AreSpread}
+use Rattle.quad_lift.proofs.heights.heights_of.Given as goal
+
+abbrev pub invariant-loop-root : goal.invariant-loop-root
+invariant-loop-root l = record {
+  spread : AreSpread l.skeleton l.x l.marked.items l.heights.items;
+  closed : IsClosed (vertices_round l.skeleton.rows) l.marked.items;
+  passed : (i : ℕ) → i < l.root → IsMarked l.marked.items i;
+}

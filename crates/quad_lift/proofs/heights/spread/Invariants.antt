@@ -1,0 +1,14 @@
+-- A search is under way, and the heights are spread.
+use Rattle.std.proofs.Common.{true, set}
+use Rattle.finite_walks.specs.Search.{IsSearch, work_left}
+use Rattle.quad_lift.specs.Spreads.{vertices_round, AreSpread}
+use Rattle.quad_lift.proofs.heights.spread.Given as goal
+
+abbrev pub invariant-loop-vertex : goal.invariant-loop-vertex
+invariant-loop-vertex l = record {
+  spread : AreSpread l.skeleton l.x l.marked l.heights;
+  search : IsSearch (vertices_round l.skeleton.rows) (set l.fn.marked l.root true) l.marked l.pending.items;
+}
+
+abbrev pub decreases-loop-vertex : goal.decreases-loop-vertex
+decreases-loop-vertex l = work_left l.marked l.pending.items

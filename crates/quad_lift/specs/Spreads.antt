@@ -1,0 +1,38 @@
+-- Heights that are being spread over the vertices of a table. They begin at four times the sum of the quads.
+use Rattle.std.specs.Prelude.{◌≡◌, ℕ, ◌+◌, ◌*◌, ◌/◌, ◌<◌, ◌≤◌, Bool, false, List, length, sum, sum_by, slice_index, if◌then◌else◌}
+use Rattle.std.specs.List.{slice_index_or, filter_map}
+use Rattle.table_definitions.specs.Lists.{below}
+use Rattle.table_definitions.specs.Table.{Row}
+use Rattle.skeleton_definitions.specs.Skeleton.{Skeleton}
+use Rattle.skeleton.specs.Neighbours.{row_at}
+use Rattle.skeleton.specs.Crossings.{crossed_vertex}
+use Rattle.finite_walks.specs.Search.{IsMarked}
+use Rattle.vector_laws.specs.LiftLaws.{AreHeights}
+
+-- the vertices across the faces at vertex i
+unfoldable pub vertices_round : List Row → ℕ → List ℕ
+vertices_round rows i = filter_map (λ o. o) (row_at (crossed_vertex rows) i)
+
+-- all quads of the tetrahedron of vertex i
+unfoldable pub quads_beside : List ℕ → ℕ → ℕ
+quads_beside xs i = slice_index xs (3 * (i / 4)) + slice_index xs (3 * (i / 4) + 1) + slice_index xs (3 * (i / 4) + 2)
+
+-- the quads beside the marked vertices, added
+unfoldable pub marked_quads : List ℕ → List Bool → ℕ → ℕ
+marked_quads xs marked n = sum_by (λ i. if slice_index_or marked i false then quads_beside xs i else 0) (below n)
+
+-- heights are given to the marked vertices: any heights of a class rise from one of its marked vertices to another by as much as these, and no height is far from the first
+pub record AreSpread (s : Skeleton) (xs : List ℕ) (marked : List Bool) (heights : List ℕ) : Type 0 where
+  pub one_mark : length marked ≡ 4 * length s.rows
+  pub one_height : length heights ≡ 4 * length s.rows
+  pub forced : (i j : ℕ) (h : ℕ → ℕ) → IsMarked marked i → IsMarked marked j → slice_index s.vertices.classes i ≡ slice_index s.vertices.classes j
+      → AreHeights s xs (slice_index s.vertices.classes i) h → slice_index heights i + h j ≡ slice_index heights j + h i
+  pub low : (i : ℕ) → IsMarked marked i → 4 * sum xs ≤ slice_index heights i + marked_quads xs marked (4 * length s.rows)
+  pub high : (i : ℕ) → IsMarked marked i → slice_index heights i + quads_beside xs i ≤ 4 * sum xs + marked_quads xs marked (4 * length s.rows)
+
+-- heights of all vertices, from which any heights of a class differ by one number
+pub record AreAllSpread (s : Skeleton) (xs heights : List ℕ) : Type 0 where
+  pub one_height : length heights ≡ 4 * length s.rows
+  pub forced : (i j : ℕ) (h : ℕ → ℕ) → i < 4 * length s.rows → j < 4 * length s.rows → slice_index s.vertices.classes i ≡ slice_index s.vertices.classes j
+      → AreHeights s xs (slice_index s.vertices.classes i) h → slice_index heights i + h j ≡ slice_index heights j + h i
+  pub high : (i : ℕ) → i < 4 * length s.rows → slice_index heights i + quads_beside xs i ≤ 8 * sum xs

@@ -1,0 +1,72 @@
+//! The vertex across a face, and the quads on both sides.
+
+ghost use Rattle.std.specs.Prelude.{◌≡◌, ◌≢◌, ◌+◌, ◌*◌, ◌/◌, ◌%◌, ◌<◌, ◌≤◌, length, slice_index, IfNone, IfSome, None};
+ghost use Rattle.surface_definitions.specs.declared.Coords.TheVariants.{Quad as QuadCoords};
+ghost use Rattle.surface_definitions.specs.Coordinates.{quad_column, keeping};
+ghost use Rattle.table_definitions.specs.Table as gluings;
+ghost use Rattle.skeleton_definitions.specs.Skeleton.{IsSkeleton};
+ghost use Rattle.quad_lift.specs.Crossings.{IsCrossing};
+
+use gluing_table::Face;
+use skeleton::Skeleton;
+
+// The type of quads that keeps two vertices on one side; a vertex and itself have none.
+const KEEPING: [[u8; 4]; 4] = [[3, 0, 1, 2], [0, 3, 2, 1], [1, 2, 3, 0], [2, 1, 0, 3]];
+
+/// The type of quads that keeps two vertices on one side.
+fn kept_together(v: u8, w: u8) -> u8
+    requires one { v < 4 }
+    requires other { w < 4 }
+    requires apart { v ≢ w }
+    ensures value { result ≡ keeping v w }
+    ensures in_range { result < 3 }
+{
+    KEEPING[v as usize][w as usize]
+}
+
+/// How many quads have an arc round v in the face.
+fn quads_round(x: &[u128], face: Face, v: u8) -> u128
+    requires width { 3 * face.tet + 3 ≤ length x.now }
+    requires a_face { face.face < 4 }
+    requires a_vertex { v < 4 }
+    requires off { v ≢ face.face }
+    ensures { result ≡ slice_index x.now (quad_column QuadCoords face.tet (keeping v face.face)) }
+{
+    let kind = kept_together(v, face.face);
+    x[3 * face.tet as usize + kind as usize]
+}
+
+/// A vertex and that across a face, and how many quads are met on either side: from the one to the other heights rise
+/// by `up` and fall by `down`.
+#[derive(Clone, Copy)]
+pub struct Crossing {
+    pub other: u32,
+    pub up: u128,
+    pub down: u128,
+}
+
+/// What is across a face at a vertex; nothing where the face isn't at the vertex, or is a boundary face.
+pub fn across(skeleton: &Skeleton, x: &[u128], vertex: u32, face: u8) -> Option<Crossing>
+    requires skeleton { IsSkeleton skeleton.now }
+    requires width { length x.now ≡ 3 * length skeleton.now.rows }
+    requires in_range { vertex < 4 * length skeleton.now.rows }
+    requires a_face { face < 4 }
+    ensures some { IfSome result (λ c. IsCrossing skeleton.now x.now vertex face c.other c.up c.down) }
+    ensures none { IfNone result (vertex % 4 ≢ face → gluings.glue skeleton.now.rows (record { tet = vertex / 4; face = face }) ≡ None) }
+{
+    let v = (vertex % 4) as u8;
+    if v == face {
+        return None;
+    }
+    let here = Face {
+        tet: vertex / 4,
+        face,
+    };
+    let glue = skeleton.table().glue(here)?;
+    let w = glue.perm.image(v);
+    Some(Crossing {
+        other: 4 * glue.tet + w as u32,
+        up: quads_round(x, here, v),
+        down: quads_round(x, glue.other_side(here), w),
+    })
+}

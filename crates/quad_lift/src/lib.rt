@@ -1,0 +1,15 @@
+//! The lift of a quad vector to standard coordinates, and the quads of a standard vector.
+#![tactic(auto)]
+
+mod checks;
+mod crossing;
+mod heights;
+mod lifting;
+mod lows;
+mod sums;
+
+pub use lifting::{lift, project};
+pub use vector_definitions::LiftFault;
+
+#[cfg(test)]
+mod tests;

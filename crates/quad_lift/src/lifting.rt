@@ -1,0 +1,101 @@
+//! The lift of a quad vector, and the quads of a standard vector.
+
+ghost use Rattle.std.specs.Prelude.{◌≡◌, ◌≢◌, ◌+◌, ◌*◌, ◌<◌, ◌≤◌, ◌^◌, length, sum, slice_index, Result, Ok, Err, ℕ, IfOk, IfErr};
+ghost use Rattle.text_definitions.specs.Written.{limit};
+ghost use Rattle.skeleton_definitions.specs.Skeleton.{IsSkeleton};
+ghost use Rattle.surface_definitions.specs.declared.Coords.TheVariants.{Standard, Quad as QuadCoords};
+ghost use Rattle.surface_definitions.specs.Coordinates.{columns};
+ghost use Rattle.surface_definitions.specs.Lift.{projected, IsLift};
+ghost use Rattle.vector_definitions.specs.Lifting.{IsLiftAnswer};
+ghost use Rattle.vector_laws.specs.LiftLaws.{IsSurfaceOver};
+ghost use Rattle.quad_lift.specs.Agreements.{AreLeastHeights, lifted_entry};
+
+use crate::checks::least_wrong;
+use crate::heights::heights_of;
+use crate::lows::lows_of;
+use crate::sums::four_times;
+use no_memory::NoMemory;
+use skeleton::Skeleton;
+use std::alloc::{AllocError, Global};
+use vector_definitions::LiftFault;
+
+/// An entry of the lift: a height above the least of its class, or quads.
+fn entry(skeleton: &Skeleton, x: &[u128], heights: &[u128], lows: &[u128], column: u32) -> u128
+    requires skeleton { IsSkeleton skeleton.now }
+    requires width { length x.now ≡ 3 * length skeleton.now.rows }
+    requires heights { length heights.now ≡ 4 * length skeleton.now.rows }
+    requires lows { AreLeastHeights skeleton.now heights.now lows.now }
+    requires in_range { column < 7 * length skeleton.now.rows }
+    ensures { result ≡ lifted_entry skeleton.now x.now heights.now lows.now column }
+{
+    let tet = column / 7;
+    let place = column % 7;
+    if place < 4 {
+        let class = skeleton.vertex_class(tet, place as u8);
+        heights[4 * tet as usize + place as usize] - lows[class as usize]
+    } else {
+        x[3 * tet as usize + (place as usize - 4)]
+    }
+}
+
+/// All entries of the lift.
+fn entries(
+    alloc: Global,
+    skeleton: &Skeleton,
+    x: &[u128],
+    heights: &[u128],
+    lows: &[u128],
+) -> Result<Vec<u128>, AllocError>
+    requires skeleton { IsSkeleton skeleton.now }
+    requires width { length x.now ≡ 3 * length skeleton.now.rows }
+    requires heights { length heights.now ≡ 4 * length skeleton.now.rows }
+    requires lows { AreLeastHeights skeleton.now heights.now lows.now }
+    ensures length { IfOk result (λ ys. length ys.items ≡ 7 * length skeleton.now.rows) }
+    ensures entries { IfOk result (λ ys. (i : ℕ) → i < 7 * length skeleton.now.rows → slice_index ys.items i ≡ lifted_entry skeleton.now x.now heights.now lows.now i) }
+{
+    let columns = 7 * skeleton.table().len();
+    let mut entries = Vec::with_capacity(alloc, columns as usize)?;
+    for column in 0..columns {
+        entries.push(entry(skeleton, x, heights, lows, column))?;
+    }
+    Ok(entries)
+}
+
+/// The lift of a vector in quad coordinates: the vector in standard coordinates with the same quads that solves the
+/// matching equations and has a 0 among the triangles of each vertex class. (Tollefson, on quad coordinates.)
+///
+/// `Large` where four times the sum of the entries passes 2^127 - 1; else `NoLift` with the least vertex class at which
+/// there is no lift.
+pub fn lift(alloc: Global, skeleton: &Skeleton, x: &[u128]) -> Result<Vec<u128>, LiftFault>
+    requires { length x.now ≡ columns QuadCoords (length skeleton.now.rows) }
+    ensures lifted { IfOk result (λ ys. IsLiftAnswer limit skeleton.now x.now (Ok ys.items)) }
+    ensures surface { IfOk result (λ ys. IsSurfaceOver skeleton.now x.now ys.items) }
+    ensures fault { IfErr result (λ e. e ≢ LiftFault.NoMemory → IsLiftAnswer limit skeleton.now x.now (Err e)) }
+{
+    let classes = skeleton.vertices();
+    let Some(start) = four_times(x) else {
+        return Err(LiftFault::Large);
+    };
+    let heights = heights_of(alloc, skeleton, x, start)?;
+    let class = least_wrong(skeleton, x, &heights);
+    if class < classes {
+        return Err(LiftFault::NoLift { class });
+    }
+    let lows = lows_of(alloc, skeleton, &heights)?;
+    let lifted = entries(alloc, skeleton, x, &heights, &lows)?;
+    Ok(lifted)
+}
+
+/// The quads of a standard vector of so many tetrahedra.
+pub fn project(alloc: Global, tets: u32, x: &[u128]) -> Result<Vec<u128>, NoMemory>
+    requires { length x.now ≡ columns Standard tets }
+    ensures { IfOk result (λ quads. quads.items ≡ projected tets x.now) }
+{
+    let mut quads = Vec::with_capacity(alloc, 3 * tets as usize)?;
+    for tet in 0..tets as usize {
+        quads.push(x[7 * tet + 4])?;
+        quads.push(x[7 * tet + 5])?;
+        quads.push(x[7 * tet + 6])?;
+    }
+    Ok(quads)
+}
