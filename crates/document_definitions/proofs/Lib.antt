@@ -1,4 +1,3 @@
 pub mod Computed
 pub mod TextExamples
 pub mod DocumentExamples
-pub mod DocumentLaws

@@ -5,8 +5,7 @@ use Rattle.table_definitions.specs.Table.{Row}
 use Rattle.text_definitions.specs.Text.{Line}
 use Rattle.text_definitions.specs.declared.LexFault.{LexFault}
 use Rattle.text_definitions.specs.Reading.{Reading, ◌>>=◌, start_of, begun, need_line_at, end_line_at}
-use Rattle.table_definitions.specs.declared.TextFault.{TextFault}
-use Rattle.table_definitions.specs.TableText.{lexed, tri_table_at}
+use Rattle.table_definitions.specs.TableText.{lexed}
 use Rattle.cone_text_definitions.specs.VectorText.{vector_at}
 use Rattle.move_definitions.specs.Moves.{Move}
 use Rattle.move_definitions.specs.MoveText.{Step, move_at, step_at}
@@ -67,13 +66,6 @@ table_and_lines form bytes = do
   table ← next_table_at (start_of bytes)
   lines ← worded (each_line_from form table.1.later table.1)
   Ok (table.0, lines.0)
-
--- a table in the form `tri`, and vectors
-unfoldable pub tri_and_vectors : List ℕ → Result (List Row × List (List ℕ)) TextFault
-tri_and_vectors bytes = do
-  table ← tri_table_at (start_of bytes)
-  vectors ← lexed (each_line_from vector_at table.1.later table.1)
-  Ok (table.0, vectors.0)
 
 -- a table and vectors; a table and steps; a table and moves
 abbrev pub vectors_document : List ℕ → Result (List Row × List (List ℕ)) InputFault

@@ -1,6 +1,5 @@
 pub mod Documents
 pub mod Grammar
-pub mod Laws
 pub mod ConeGrammar
 pub mod Signs
 pub mod TextForms

@@ -9,8 +9,7 @@ use Rattle.document_definitions.specs.Documents.{each_line_from}
 use Rattle.move_definitions.specs.Moves as moves
 use Rattle.move_definitions.specs.MoveText as text
 use Rattle.move_definitions.specs.Sessions.{Session, StepAnswer, illegal, IsStep, AreSteps, move_fault_text, step_answer_text}
-use Rattle.pachner_moves.specs.declared.legality.MoveFault.{MoveFault}
-use Rattle.pachner_moves.specs.Faults.{answer}
+use Rattle.move_definitions.specs.declared.MoveFault.{MoveFault}
 use Rattle.move_undo.specs.declared.reader.Step.{Step}
 use Rattle.move_undo.specs.declared.session.PlayFault.{PlayFault}
 use Rattle.move_undo.specs.declared.session.PlayFault.TheVariants.{Illegal, NoMemory}
@@ -19,30 +18,21 @@ use Rattle.move_undo.specs.Steps.{step_value}
 use Rattle.outcome_definitions.specs.Lines.{line}
 use Rattle.outcome_definitions.specs.Scripts.{answers_text}
 use Rattle.command_answers.proofs.EachLine.{with_fronts}
-use Rattle.move_commands.specs.Scripts.{all_steps, fault_text, Steps, Plays}
+use Rattle.move_commands.specs.Scripts.{all_steps, Steps, Plays}
 
 -- what follows from a clause on success
 pub on_ok : {E : Type 0} (r : Result (Unit {0}) E) (P Q : Type 0) → (P → Q) → OnOk r P → OnOk r Q
 on_ok (Ok u) P Q f h = f h
 on_ok (Err e) P Q f h = tt
 
--- the fault that is answered has the text of the fault
-fault_text-answer : (f : moves.MoveFault) → fault_text (answer f) ≡ move_fault_text f
-unfolding fault_text
-fault_text-answer moves.no_such_tet = refl
-fault_text-answer (moves.boundary label) = refl
-fault_text-answer (moves.repeated label) = refl
-fault_text-answer (moves.not_matched first second) = refl
-fault_text-answer moves.too_many = refl
-
 -- a refused move is answered by its fault, and the session stays
 pub refused_step : (before after : Session) (m : moves.Move) (fault : MoveFault) (e : PlayFault) (written now : List ℕ) → e ≡ Illegal fault → (e ≢ NoMemory → IsRefusal before m e) → after ≡ before
-    → now ≡ written ++ line (codes "illegal " ++ fault_text fault) → Steps before (text.play m) after written now
+    → now ≡ written ++ line (codes "illegal " ++ move_fault_text fault) → Steps before (text.play m) after written now
 refused_step before after m fault e written now is refusal same grown =
     let r : IsRefusal before m e = refusal (λ n. (let wrong : Illegal fault ≡ NoMemory = sym is ∙ n in cc)) in
-    let named : Illegal fault ≡ Illegal (answer r.0) = sym is ∙ r.1 in
-    let equal : fault ≡ answer r.0 = cc in
-    (illegal r.0, (r.2, same), grown ∙ ap (λ (t : List ℕ). written ++ line (codes "illegal " ++ t)) (ap fault_text equal ∙ fault_text-answer r.0))
+    let named : Illegal fault ≡ Illegal r.0 = sym is ∙ r.1 in
+    let equal : fault ≡ r.0 = cc in
+    (illegal r.0, (r.2, same), grown ∙ ap (λ (f : MoveFault). written ++ line (codes "illegal " ++ move_fault_text f)) equal)
 
 -- nothing is answered yet
 pub plays-none : (s : Session) (written : List ℕ) → written ≡ [] → Plays s [] s written

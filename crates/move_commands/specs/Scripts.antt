@@ -1,10 +1,8 @@
 -- Steps, and the lines of a script's answers.
-use Rattle.std.specs.Prelude.{◌≡◌, ℕ, List, map, ◌++◌, codes, decimal, Vec}
+use Rattle.std.specs.Prelude.{◌≡◌, ℕ, List, map, ◌++◌, Vec}
 use Rattle.std.specs.declared.alloc.Global.{Global}
 use Rattle.move_definitions.specs.MoveText as text
 use Rattle.move_definitions.specs.Sessions.{Session, StepAnswer, IsStep, AreSteps, step_answer_text}
-use Rattle.pachner_moves.specs.declared.legality.MoveFault.{MoveFault}
-use Rattle.pachner_moves.specs.declared.legality.MoveFault.TheVariants.{NoSuchTet, Boundary, Repeated, NotMatched, TooMany}
 use Rattle.move_undo.specs.declared.reader.Step.{Step}
 use Rattle.move_undo.specs.Steps.{step_value}
 use Rattle.outcome_definitions.specs.Lines.{line}
@@ -15,14 +13,6 @@ all_steps steps = map step_value steps
 
 abbrev pub steps_of : Vec Step Global → List text.Step
 steps_of steps = all_steps steps.items
-
--- what is written for the fault of a move
-unfoldable pub fault_text : MoveFault → List ℕ
-fault_text NoSuchTet = codes "no-such-tet"
-fault_text (Boundary label) = codes "boundary " ++ decimal label
-fault_text (Repeated label) = codes "repeated " ++ decimal label
-fault_text (NotMatched first second) = codes "not-matched " ++ decimal first ++ codes " " ++ decimal second
-fault_text TooMany = codes "too-many"
 
 -- a step is answered, and the answer is written behind a text
 abbrev pub Steps : Session → text.Step → Session → List ℕ → List ℕ → Type 0

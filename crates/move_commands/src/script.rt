@@ -1,9 +1,10 @@
 // The answers to the steps of a script.
 ghost use Rattle.std.specs.Prelude.{◌≡◌, ◌++◌, codes, decimal, IfOk, OnOk};
 ghost use Rattle.move_definitions.specs.MoveText as text;
+ghost use Rattle.move_definitions.specs.Sessions.{move_fault_text};
 ghost use Rattle.outcome_definitions.specs.Lines.{line};
 ghost use Rattle.move_undo.specs.Steps.{step_value};
-ghost use Rattle.move_commands.specs.Scripts.{all_steps, fault_text, Steps, Plays};
+ghost use Rattle.move_commands.specs.Scripts.{all_steps, Steps, Plays};
 
 use move_undo::{PlayFault, Session, Step};
 use no_memory::NoMemory;
@@ -39,9 +40,8 @@ fn append_word(out: &mut Vec<u8>, word: &[u8]) -> Result<(), NoMemory>
 }
 
 // Why a move can't be made.
-#[tactic(auto, unfolding(crate::specs::Scripts::fault_text))]
 fn append_fault(alloc: Global, out: &mut Vec<u8>, fault: MoveFault) -> Result<(), NoMemory>
-    ensures { OnOk result (out.new.items ≡ out.old.items ++ fault_text fault) }
+    ensures { OnOk result (out.new.items ≡ out.old.items ++ move_fault_text fault) }
 {
     match fault {
         MoveFault::NoSuchTet => append_word(out, b"no-such-tet"),
@@ -54,7 +54,7 @@ fn append_fault(alloc: Global, out: &mut Vec<u8>, fault: MoveFault) -> Result<()
 
 // The line of a refused move.
 fn append_illegal(alloc: Global, out: &mut Vec<u8>, fault: MoveFault) -> Result<(), NoMemory>
-    ensures { OnOk result (out.new.items ≡ out.old.items ++ line (codes "illegal " ++ fault_text fault)) }
+    ensures { OnOk result (out.new.items ≡ out.old.items ++ line (codes "illegal " ++ move_fault_text fault)) }
 {
     append(out, b"illegal ")?;
     append_fault(alloc, out, fault)?;

@@ -5,7 +5,8 @@ use Rattle.table_definitions.specs.Lists.{below, first_some}
 use Rattle.table_definitions.specs.Permutation.{four}
 use Rattle.table_definitions.specs.Table.{Gluing, Row, Face, glue, faces, same_face}
 use Rattle.table_definitions.specs.Relabelling.{face_under}
-use Rattle.move_definitions.specs.Moves.{Move, Facet, MoveFault, kept, new_length, new_facet, label_by_label, stand_in_at, moved_gluing, play_fault}
+use Rattle.move_definitions.specs.declared.MoveFault.{MoveFault}
+use Rattle.move_definitions.specs.Moves.{Move, Facet, kept, new_length, new_facet, label_by_label, stand_in_at, moved_gluing, play_fault}
 
 -- what a face y of the new table is glued by, if x stands for it
 abbrev pub outer_gluing : List Row → Move → Face → Face → Option (Option Gluing)

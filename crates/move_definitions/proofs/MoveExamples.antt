@@ -5,7 +5,8 @@ use Rattle.std.specs.Prelude.{codes}
 use Rattle.table_definitions.specs.Permutation.{four}
 use Rattle.text_definitions.specs.declared.LexFault.{LexFault}
 use Rattle.text_definitions.specs.Reading.{Reading, start_of, ◌>>=◌, need_line_at}
-use Rattle.move_definitions.specs.Moves.{Move, boundary, repeated, not_matched, inverse_move}
+use Rattle.move_definitions.specs.declared.MoveFault.TheVariants.{Boundary, Repeated, NotMatched}
+use Rattle.move_definitions.specs.Moves.{Move, inverse_move}
 use Rattle.move_definitions.specs.MoveText.{step_at, move_text, play, undo, Step}
 use Rattle.move_definitions.proofs.MoveEvaluators.{play_on}
 use Rattle.table_definitions.proofs.Tables.{sphere, four_tets, row, free, by}
@@ -32,9 +33,9 @@ unfolding computed
 three_tets = refl
 
 -- 41 0 0 on the table of four, and 23 0 0 on the sphere and on a free tetrahedron
-faults : (play_on four_tets (at 0 (0 ∷ [])) ≡ Err (not_matched 1 3))
-    × (play_on sphere (at 0 (1 ∷ 2 ∷ 3 ∷ [])) ≡ Err (repeated 3))
-    × (play_on (row free free free free ∷ []) (at 0 (1 ∷ 2 ∷ 3 ∷ [])) ≡ Err (boundary 3))
+faults : (play_on four_tets (at 0 (0 ∷ [])) ≡ Err (NotMatched 1 3))
+    × (play_on sphere (at 0 (1 ∷ 2 ∷ 3 ∷ [])) ≡ Err (Repeated 3))
+    × (play_on (row free free free free ∷ []) (at 0 (1 ∷ 2 ∷ 3 ∷ [])) ≡ Err (Boundary 3))
 unfolding computed
 faults = (refl, refl, refl)
 

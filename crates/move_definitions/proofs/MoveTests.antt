@@ -6,7 +6,7 @@ use Rattle.std.proofs.lemmas.Bool.{eqb-true, or_cases}
 use Rattle.table_definitions.specs.Lists.{below, pairs_of}
 use Rattle.table_definitions.specs.Table.{Gluing, Row, Face, glue, faces}
 use Rattle.table_definitions.specs.Relabelling.{face_under}
-use Rattle.move_definitions.specs.Moves.{Move, move_fault, new_length, new_facet, opposite, label_by_label, stand_in_at, moved_gluing, IsMoved}
+use Rattle.move_definitions.specs.Moves.{Move, IsCore, move_fault, new_length, new_facet, opposite, label_by_label, stand_in_at, moved_gluing, IsMoved}
 use Rattle.table_definitions.proofs.TableLaws.{Among-below, Among-pairs}
 use Rattle.table_definitions.proofs.Tests.{list_all-among, each_face, same_glue, same_glue-true, has_fours, fours_from}
 
@@ -20,6 +20,7 @@ is_inner_moved old m new p =
     (p.0 == p.1) || same_glue (glue new (opposite (new_facet old m p.0) p.1)) (Some (record { tet = (new_facet old m p.1).tet; perm = label_by_label (new_facet old m p.0) (new_facet old m p.1) }))
 
 pub record PassesMove (old : List Row) (m : Move) (new : List Row) : Type 0 where
+  pub core : IsCore m.core
   pub legal : move_fault old m ≡ None
   pub length_is : length new ≡ new_length old m
   pub fours : has_fours new ≡ true
@@ -28,6 +29,7 @@ pub record PassesMove (old : List Row) (m : Move) (new : List Row) : Type 0 wher
 
 pub IsMoved-passed : (old : List Row) (m : Move) (new : List Row) → PassesMove old m new → IsMoved old m new
 IsMoved-passed old m new p = record {
+  core = p.core;
   legal = p.legal;
   length_is = p.length_is;
   four_faces = fours_from new p.fours;

@@ -12,8 +12,8 @@ at t core = record { tet = t; core = core }
 
 pub moved_by_14 : IsMoved sphere (at 0 four) four_tets
 unfolding computed
-moved_by_14 = IsMoved-passed sphere (at 0 four) four_tets (record { legal = refl; length_is = refl; fours = refl; inner = refl; outer = refl })
+moved_by_14 = IsMoved-passed sphere (at 0 four) four_tets (record { core = refl; legal = refl; length_is = refl; fours = refl; inner = refl; outer = refl })
 
 moved_by_41 : IsMoved four_tets (at 0 (3 ∷ [])) (row (by 0 21) (by 0 9) (by 0 18) (by 0 21) ∷ [])
 unfolding computed
-moved_by_41 = IsMoved-passed four_tets (at 0 (3 ∷ [])) (row (by 0 21) (by 0 9) (by 0 18) (by 0 21) ∷ []) (record { legal = refl; length_is = refl; fours = refl; inner = refl; outer = refl })
+moved_by_41 = IsMoved-passed four_tets (at 0 (3 ∷ [])) (row (by 0 21) (by 0 9) (by 0 18) (by 0 21) ∷ []) (record { core = refl; legal = refl; length_is = refl; fours = refl; inner = refl; outer = refl })

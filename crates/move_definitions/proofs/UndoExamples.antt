@@ -18,4 +18,4 @@ back = (refl, refl)
 
 met_by_14 : CanTakeBack four_tets (undo_of sphere (at 0 four))
 unfolding computed
-met_by_14 = (sphere, sphere_table, refl, (moved_by_14, refl), refl)
+met_by_14 = (sphere, record { table = sphere_table; moved = moved_by_14; accepted = refl }, refl)

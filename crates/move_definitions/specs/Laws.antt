@@ -1,5 +1,5 @@
 -- Laws over moves.
-use Rattle.std.specs.Prelude.{◌≡◌, ℕ, ◌≤◌, List, length, None, All}
+use Rattle.std.specs.Prelude.{◌≡◌, ℕ, ◌≤◌, List, length, None}
 use Rattle.text_definitions.specs.Text.{Line}
 use Rattle.table_definitions.specs.Table.{max_tets, Row, IsTable}
 use Rattle.table_definitions.specs.Relabelling.{IsRelabelled}
@@ -13,11 +13,11 @@ LegalMovesLeadOn = (old : List Row) (m : Move) → IsTable old → IsCore m.core
 
 -- a move leads to at most one table
 abbrev pub MovesAgree : Type 0
-MovesAgree = (old : List Row) (m : Move) (new new' : List Row) → IsTable old → IsCore m.core → IsMoved old m new → IsMoved old m new' → new ≡ new'
+MovesAgree = (old : List Row) (m : Move) (new new' : List Row) → IsTable old → IsMoved old m new → IsMoved old m new' → new ≡ new'
 
 -- within the limit, the rows to which it leads are a table
 abbrev pub MovesMakeTables : Type 0
-MovesMakeTables = (old : List Row) (m : Move) (new : List Row) → IsTable old → IsCore m.core → length new ≤ max_tets → IsMoved old m new → IsTable new
+MovesMakeTables = (old : List Row) (m : Move) (new : List Row) → IsTable old → length new ≤ max_tets → IsMoved old m new → IsTable new
 
 -- the inverse of a move has a core, and leads back up to labels, and to nothing else
 abbrev pub InversesHaveCores : Type 0
@@ -25,12 +25,12 @@ InversesHaveCores = (n : ℕ) (m : Move) → IsCore m.core → IsCore (inverse_m
 
 abbrev pub InversesLeadBackUpToLabels : Type 0
 InversesLeadBackUpToLabels =
-    (old : List Row) (m : Move) (new : List Row) → IsTable old → IsCore m.core → IsMoved old m new
+    (old : List Row) (m : Move) (new : List Row) → IsTable old → IsMoved old m new
     → (back : List Row) × IsMoved new (inverse_move (length old) m) back × IsRelabelled old back
 
 abbrev pub InversesLeadOnlyBack : Type 0
 InversesLeadOnlyBack =
-    (old : List Row) (m : Move) (new back : List Row) → IsTable old → IsCore m.core → length new ≤ max_tets → IsMoved old m new
+    (old : List Row) (m : Move) (new back : List Row) → IsTable old → length new ≤ max_tets → IsMoved old m new
     → IsMoved new (inverse_move (length old) m) back → IsRelabelled old back
 
 -- a move that a line spells has a core
@@ -40,16 +40,16 @@ MoveLinesHaveCores = (line : Line) (m : Move) → IsMoveLine line m → IsCore m
 -- moves that are played one after another lead to one table
 abbrev pub PlaysAgree : Type 0
 PlaysAgree =
-    (old : List Row) (moves : List Move) (last last' : List Row) → IsTable old → All (λ (m : Move). IsCore m.core) moves → PlaysAll old moves last → PlaysAll old moves last'
+    (old : List Row) (moves : List Move) (last last' : List Row) → IsTable old → PlaysAll old moves last → PlaysAll old moves last'
     → IsTable last × (last ≡ last')
 
 -- a table has one descent, and a state of the generator one making
 abbrev pub DescentsAgree : Type 0
 DescentsAgree =
-    (rows : List Row) (moves : List Move) (last : List Row) (moves' : List Move) (last' : List Row) → IsTable rows → IsDescent rows moves last → IsDescent rows moves' last'
+    (rows : List Row) (moves : List Move) (last : List Row) (moves' : List Move) (last' : List Row) → IsDescent rows moves last → IsDescent rows moves' last'
     → (moves ≡ moves') × (last ≡ last')
 
 abbrev pub MakingsAgree : Type 0
 MakingsAgree =
-    (most state : ℕ) (rows : List Row) (moves : List Move) (last : List Row) (moves' : List Move) (last' : List Row) → IsTable rows → IsMaking most state rows moves last
+    (most state : ℕ) (rows : List Row) (moves : List Move) (last : List Row) (moves' : List Move) (last' : List Row) → IsMaking most state rows moves last
     → IsMaking most state rows moves' last' → (moves ≡ moves') × (last ≡ last')

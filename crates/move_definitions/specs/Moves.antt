@@ -3,9 +3,11 @@
 use Rattle.std.specs.Prelude.{◌≡◌, ℕ, ◌+◌, ◌-◌, ◌<◌, ◌≢◌, Bool, false, ◌&&◌, not, List, ◌∷◌, ◌++◌, length, map, filter, drop, ◌==◌, nat_lt, Option, Some, None, option_map, option_and_then, find, filter_map, All, IsTrue, if◌then◌else◌}
 use Rattle.std.specs.Option.{option_or}
 use Rattle.std.specs.List.{FoldsTo}
+use Rattle.move_definitions.specs.declared.MoveFault.{MoveFault}
+use Rattle.move_definitions.specs.declared.MoveFault.TheVariants.{NoSuchTet, Boundary, Repeated, NotMatched, TooMany}
 use Rattle.table_definitions.specs.Lists.{below, has, same_list, first_some, pairs_of, in_place_of, closed_up}
 use Rattle.table_definitions.specs.Permutation.{four, image, preimage, inverse, compose, identity}
-use Rattle.table_definitions.specs.Table.{max_tets, Gluing, Row, Face, glue, other_side}
+use Rattle.table_definitions.specs.Table.{max_tets, Gluing, Row, Face, glue, other_side, IsTable}
 use Rattle.table_definitions.specs.Relabelling.{face_under, gluing_under}
 
 -- a tetrahedron and the core, some of its vertices in ascending order
@@ -58,21 +60,14 @@ found_labels m = drop (length m.core) four
 abbrev pub old_facets : List Row → Move → List Facet
 old_facets rows m = filter_map (facet rows m) (old_labels m)
 
-pub data MoveFault : Type 0 where
-  no_such_tet : MoveFault
-  boundary : ℕ → MoveFault
-  repeated : ℕ → MoveFault
-  not_matched : ℕ → ℕ → MoveFault
-  too_many : MoveFault
-
 -- the tetrahedra of the facets found before facet i, that of the move among them
 abbrev pub tets_before : List Row → Move → ℕ → List ℕ
 tets_before rows m i = m.tet ∷ map (λ (f : Facet). f.tet) (filter_map (facet rows m) (filter (λ l. nat_lt l i) (found_labels m)))
 
 -- what is wrong with facet i
 abbrev pub facet_fault : List Row → Move → ℕ → Option Facet → Option MoveFault
-facet_fault rows m i None = Some (boundary i)
-facet_fault rows m i (Some f) = if has (tets_before rows m i) f.tet then Some (repeated i) else None
+facet_fault rows m i None = Some (Boundary i)
+facet_fault rows m i (Some f) = if has (tets_before rows m i) f.tet then Some (Repeated i) else None
 
 -- whether the face of facet f opposite label j is glued to facet g, label j going to the missing label of f and the others staying
 abbrev pub is_matched : Facet → Facet → Option Gluing → Bool
@@ -82,12 +77,12 @@ is_matched f g (Some p) = (p.tet == g.tet) && same_list (compose g.labels p.perm
 abbrev pub pair_fault : List Row → Option Facet → Option Facet → Option MoveFault
 pair_fault rows None g = None
 pair_fault rows (Some f) None = None
-pair_fault rows (Some f) (Some g) = if is_matched f g (glue rows (opposite f g.missing)) then None else Some (not_matched f.missing g.missing)
+pair_fault rows (Some f) (Some g) = if is_matched f g (glue rows (opposite f g.missing)) then None else Some (NotMatched f.missing g.missing)
 
 -- what is wrong with a move: the first that is found, facet by facet and then pair by pair
 unfoldable pub move_fault : List Row → Move → Option MoveFault
 move_fault rows m =
-    if not (nat_lt m.tet (length rows)) then Some no_such_tet
+    if not (nat_lt m.tet (length rows)) then Some NoSuchTet
     else option_or (first_some (λ i. facet_fault rows m i (facet rows m i)) (found_labels m))
     (first_some (λ p. pair_fault rows (facet rows m p.0) (facet rows m p.1)) (filter (λ p. nat_lt p.0 p.1) (pairs_of (found_labels m) (found_labels m))))
 
@@ -100,7 +95,7 @@ new_length rows m = kept rows m + length m.core
 
 -- what is wrong with a move that is to be played
 abbrev pub play_fault : List Row → Move → Option MoveFault
-play_fault rows m = option_or (move_fault rows m) (if nat_lt max_tets (new_length rows m) then Some too_many else None)
+play_fault rows m = option_or (move_fault rows m) (if nat_lt max_tets (new_length rows m) then Some TooMany else None)
 
 -- the facet that is put in for label j: it stands behind the kept tetrahedra, and its labels ascend
 abbrev pub new_facet : List Row → Move → ℕ → Facet
@@ -132,6 +127,7 @@ moved_gluing rows m x s g = option_map (λ r. gluing_under s r g) (stand_in_at r
 
 -- the move leads from the old table to the new one
 pub record IsMoved (old : List Row) (m : Move) (new : List Row) : Type 0 where
+  pub core : IsCore m.core
   pub legal : move_fault old m ≡ None
   pub length_is : length new ≡ new_length old m
   pub four_faces : All (λ (row : Row). length row ≡ 4) new
@@ -146,9 +142,11 @@ pub record IsMoved (old : List Row) (m : Move) (new : List Row) : Type 0 where
 abbrev pub inverse_move : ℕ → Move → Move
 inverse_move n m = record { tet = n - (5 - length m.core); core = drop (length m.core - 1) four }
 
--- a move that is played keeps within the limit of tetrahedra
-abbrev pub Plays : List Row → Move → List Row → Type 0
-Plays old m new = IsMoved old m new × (play_fault old m ≡ None)
+-- a move is played on a table, and keeps within the limit of tetrahedra
+pub record Plays (old : List Row) (m : Move) (new : List Row) : Type 0 where
+  pub table : IsTable old
+  pub moved : IsMoved old m new
+  pub accepted : play_fault old m ≡ None
 
 -- the moves lead from the one table to the other, each played on the table to which the one before led
 abbrev pub PlaysAll : List Row → List Move → List Row → Type 0

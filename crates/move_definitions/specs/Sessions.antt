@@ -1,8 +1,9 @@
 -- Sessions: moves that are played, taken back and played once more.
 use Rattle.std.specs.Prelude.{◌≡◌, ℕ, ◌+◌, ◌-◌, ◌<◌, ◌≤◌, List, [], ◌∷◌, ◌++◌, length, take, None, Some, codes, decimal}
-use Rattle.std.specs.List.{FoldsTo}
-use Rattle.table_definitions.specs.Table.{Row, IsTable}
-use Rattle.move_definitions.specs.Moves.{Move, MoveFault, no_such_tet, boundary, repeated, not_matched, too_many, IsCore, play_fault, Plays}
+use Rattle.table_definitions.specs.Table.{Row}
+use Rattle.move_definitions.specs.declared.MoveFault.{MoveFault}
+use Rattle.move_definitions.specs.declared.MoveFault.TheVariants.{NoSuchTet, Boundary, Repeated, NotMatched, TooMany}
+use Rattle.move_definitions.specs.Moves.{Move, play_fault, PlaysAll}
 use Rattle.move_definitions.specs.MoveText as text
 
 -- a first table, the moves that are kept, and how many of them are played
@@ -11,19 +12,12 @@ pub record Session : Type 0 where
   pub moves : List Move
   pub played : ℕ
 
--- a move of a table is played on it
-abbrev pub LeadsTo : List Row → Move → List Row → Type 0
-LeadsTo old m new = IsTable old × IsCore m.core × Plays old m new
-
-abbrev pub LeadAllTo : List Row → List Move → List Row → Type 0
-LeadAllTo old moves new = FoldsTo LeadsTo old moves new
-
 -- the moves that are played lead from the first table to this one
 pub record IsTableOf (s : Session) (table : List Row) : Type 0 where
   pub in_range : s.played ≤ length s.moves
-  pub reached : LeadAllTo s.first (take s.played s.moves) table
+  pub reached : PlaysAll s.first (take s.played s.moves) table
   -- the others can be played too
-  pub others : (last : List Row) × LeadAllTo s.first s.moves last
+  pub others : (last : List Row) × PlaysAll s.first s.moves last
 
 -- no move is played yet
 abbrev pub begun : List Row → Session
@@ -81,11 +75,11 @@ AreSteps s (step ∷ steps) (a ∷ answers) last = (next : Session) × IsStep s 
 
 -- what is written for the fault of a move
 abbrev pub move_fault_text : MoveFault → List ℕ
-move_fault_text no_such_tet = codes "no-such-tet"
-move_fault_text (boundary label) = codes "boundary " ++ decimal label
-move_fault_text (repeated label) = codes "repeated " ++ decimal label
-move_fault_text (not_matched first second) = codes "not-matched " ++ decimal first ++ codes " " ++ decimal second
-move_fault_text too_many = codes "too-many"
+move_fault_text NoSuchTet = codes "no-such-tet"
+move_fault_text (Boundary label) = codes "boundary " ++ decimal label
+move_fault_text (Repeated label) = codes "repeated " ++ decimal label
+move_fault_text (NotMatched first second) = codes "not-matched " ++ decimal first ++ codes " " ++ decimal second
+move_fault_text TooMany = codes "too-many"
 
 -- what is written for the answer to a step, without the line's end
 abbrev pub step_answer_text : StepAnswer → List ℕ

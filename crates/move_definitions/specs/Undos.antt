@@ -2,9 +2,9 @@
 use Rattle.std.specs.Prelude.{◌≡◌, ℕ, ◌-◌, List, [], length, map, filter}
 use Rattle.std.specs.List.{range_with_len, slice_index_or}
 use Rattle.table_definitions.specs.Lists.{below, has}
-use Rattle.table_definitions.specs.Table.{Row, IsTable}
+use Rattle.table_definitions.specs.Table.{Row}
 use Rattle.table_definitions.specs.Replacing.{Replacement, replaced}
-use Rattle.move_definitions.specs.Moves.{Move, Facet, IsCore, old_facets, Plays}
+use Rattle.move_definitions.specs.Moves.{Move, Facet, old_facets, Plays}
 
 -- the move, the number of tetrahedra before it, and the rows that it took out, with their numbers, ascending
 pub record Undo : Type 0 where
@@ -29,8 +29,12 @@ former rows u = replaced rows (back_exchange u)
 
 -- the move was played on some table, led to these rows, and this is what was kept of it
 abbrev pub CanTakeBack : List Row → Undo → Type 0
-CanTakeBack rows u = (old : List Row) × IsTable old × IsCore u.played.core × Plays old u.played rows × (u ≡ undo_of old u.played)
+CanTakeBack rows u = (old : List Row) × Plays old u.played rows × (u ≡ undo_of old u.played)
 
 -- taking a move back leads to the table on which it was played, row for row
 abbrev pub TakesBack : Type 0
-TakesBack = (old : List Row) (m : Move) (new : List Row) → IsTable old → IsCore m.core → Plays old m new → former new (undo_of old m) ≡ old
+TakesBack = (old : List Row) (m : Move) (new : List Row) → Plays old m new → former new (undo_of old m) ≡ old
+
+-- these rows are those of each table on which the move was played that is taken back, row for row
+abbrev pub IsTakenBack : List Row → Undo → List Row → Type 0
+IsTakenBack new u rows = (old : List Row) → Plays old u.played new → u ≡ undo_of old u.played → rows ≡ old

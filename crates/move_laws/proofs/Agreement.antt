@@ -25,6 +25,6 @@ same_tables rows rows' e fours fours' same =
     same_rows row row' a b s = ext_get_or None row row' (a ∙ sym b) (λ v l. s v (omega arith))
 
 pub moves_agree_lem : MovesAgree
-moves_agree_lem old m new new' table c h h' =
+moves_agree_lem old m new new' table h h' =
     same_tables new new' (h.length_is ∙ sym h'.length_is) h.four_faces h'.four_faces
-    (λ t v l lv. (let l' : t < new_length old m = omega (arith, h.length_is) in same_at old m new new' h h' (face_at t v) (covered old m (face_at t v) table (no_fault old m h.legal) c l' lv)))
+    (λ t v l lv. (let l' : t < new_length old m = omega (arith, h.length_is) in same_at old m new new' h h' (face_at t v) (covered old m (face_at t v) table (no_fault old m h.legal) h.core l' lv)))

@@ -7,7 +7,8 @@ use Rattle.table_definitions.specs.Lists.{has, same_list, in_place_of, first_som
 use Rattle.table_definitions.specs.Permutation.{four, image, preimage, compose}
 use Rattle.table_definitions.specs.Table.{Row, glue, IsTable}
 use Rattle.table_definitions.proofs.TableLaws.{Among}
-use Rattle.move_definitions.specs.Moves.{Move, IsCore, Facet, own_facet, opposite, facet_behind, facet, found_labels, tets_before, facet_fault, pair_fault, is_matched, move_fault, repeated, not_matched, kept, inverse_move, IsMoved}
+use Rattle.move_definitions.specs.declared.MoveFault.TheVariants.{Repeated, NotMatched}
+use Rattle.move_definitions.specs.Moves.{Move, IsCore, Facet, own_facet, opposite, facet_behind, facet, found_labels, tets_before, facet_fault, pair_fault, is_matched, move_fault, kept, inverse_move, IsMoved}
 use Rattle.move_laws.proofs.CoreTests.{core_size}
 use Rattle.move_laws.proofs.Labels.{ascending, new_labels, label_at, HasVertex, vertex_at, length-labels, image-map}
 use Rattle.move_laws.proofs.ListedFacets.{same_some, tets_of, IsOf, facet_with}
@@ -67,15 +68,15 @@ pub record IsPlayed (old : List Row) (m : Move) (new : List Row) : Type 0 where
   pub fits : 5 - length m.core ≤ length old
   pub inverse_core : IsInverseCore (length m.core) (drop (length m.core - 1) four)
 
-pub played : (old : List Row) (m : Move) (new : List Row) → IsTable old → IsCore m.core → IsMoved old m new → IsPlayed old m new
-played old m new table c h = record {
+pub played : (old : List Row) (m : Move) (new : List Row) → IsTable old → IsMoved old m new → IsPlayed old m new
+played old m new table h = record {
   table = table;
-  core = c;
+  core = h.core;
   moved = h;
-  some = (core_size m.core c).0;
-  few = (core_size m.core c).1;
-  fits = kept-count old m table (no_fault old m h.legal) c;
-  inverse_core = inverse_core (length m.core) (core_size m.core c).0 (core_size m.core c).1;
+  some = (core_size m.core h.core).0;
+  few = (core_size m.core h.core).1;
+  fits = kept-count old m table (no_fault old m h.legal) h.core;
+  inverse_core = inverse_core (length m.core) (core_size m.core h.core).0 (core_size m.core h.core).1;
 }
 
 -- a vertex keeps its place where labels are renamed
@@ -209,7 +210,7 @@ facet_fine : (old : List Row) (m : Move) (new : List Row) → IsPlayed old m new
 facet_fine old m new p i a =
     let r : (5 - length m.core ≤ i) × (i < 4) = among_found old m new p i a in
     let n : IsNewLabel old m new i = new_label old m new p i r.0 (omega arith) in
-    ap (facet_fault new (inverse_of old m) i) n.facet_is ∙ ap (λ (b : Bool). if b then Some (repeated i) else None) (new_tet old m new p i r.0 r.1 n.label n.is n.small)
+    ap (facet_fault new (inverse_of old m) i) n.facet_is ∙ ap (λ (b : Bool). if b then Some (Repeated i) else None) (new_tet old m new p i r.0 r.1 n.label n.is n.small)
 
 -- each two match
 
@@ -223,7 +224,7 @@ pair_fine old m new p a b ha hb d =
     ap (is_matched f g) (opposite-new old m new p a b ha hb d)
     ∙ and_from (kept old m + b == kept old m + b) (same_list (compose (new_as_old_labels s b) (across a b)) (map (in_place_of (renamed s b) (renamed s a)) (new_as_old_labels s a))) (eq-eqb (kept old m + b) (kept old m + b) refl)
     (match-renamed s a b few (omega arith) (omega arith) d) in
-    ap (λ (c : Bool). if c then None else Some (not_matched (renamed s a) (renamed s b))) matched
+    ap (λ (c : Bool). if c then None else Some (NotMatched (renamed s a) (renamed s b))) matched
 
 pair_at : (old : List Row) (m : Move) (new : List Row) → IsPlayed old m new → (q : ℕ × ℕ) → Among {A = ℕ × ℕ} q (filter (λ (p : ℕ × ℕ). nat_lt p.0 p.1) (pairs_of (found_labels (inverse_of old m)) (found_labels (inverse_of old m))))
     → pair_fault new (facet new (inverse_of old m) q.0) (facet new (inverse_of old m) q.1) ≡ None

@@ -303,6 +303,7 @@ led_back_moved : (old : List Row) (m : Move) (new : List Row) → IsPlayed old m
 led_back_moved old m new p =
     let c : Carries (relabelling old m) old (led_back old m) = carries_back old m p.table (no_fault old m p.moved.legal) p.core in
     record {
+      core = p.inverse_core.is_core;
       legal = inverse_legal old m new p;
       length_is = (let few = p.few in let fits = p.fits in omega (arith, c.same_length, kept-inverse old m new p, p.inverse_core.size));
       four_faces = c.four_faces;
@@ -311,9 +312,9 @@ led_back_moved old m new p =
     }
 
 pub inverses_lead_back_lem : InversesLeadBackUpToLabels
-inverses_lead_back_lem old m new table c h =
-    let p : IsPlayed old m new = played old m new table c h in
-    (led_back old m, led_back_moved old m new p, (relabelling old m, is_relabelling old m table (no_fault old m h.legal) c, carries_back old m table (no_fault old m h.legal) c))
+inverses_lead_back_lem old m new table h =
+    let p : IsPlayed old m new = played old m new table h in
+    (led_back old m, led_back_moved old m new p, (relabelling old m, is_relabelling old m table (no_fault old m h.legal) h.core, carries_back old m table (no_fault old m h.legal) h.core))
 
 pub inverses_have_cores_lem : InversesHaveCores
 inverses_have_cores_lem n m c = (inverse_core (length m.core) (core_size m.core c).0 (core_size m.core c).1).is_core

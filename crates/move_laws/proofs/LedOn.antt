@@ -96,6 +96,7 @@ pub legal_moves_lead_on_lem : LegalMovesLeadOn
 legal_moves_lead_on_lem rows m table c legal = (
   made rows m table h c,
   record {
+    core = c;
     legal = legal;
     length_is = unfold made in length-map (below (new_length rows m)) (made_row rows m table h c) ∙ length-range_with_len 0 (new_length rows m);
     four_faces = All-from_get_or (λ (row : Row). length row ≡ 4) (made rows m table h c) [] (made_fours rows m table h c);

@@ -8,7 +8,9 @@ use Rattle.table_definitions.specs.Lists.{below, has, in_place_of, first_some, p
 use Rattle.table_definitions.specs.Permutation.{four, IsPermutationOfFour, image, preimage, inverse, compose}
 use Rattle.table_definitions.specs.Table.{Gluing, Row, glue, IsTable}
 use Rattle.table_definitions.proofs.TableLaws.{Among, first_some-none}
-use Rattle.move_definitions.specs.Moves.{Move, IsCore, Facet, MoveFault, own_facet, opposite, facet_behind, facet, old_labels, found_labels, tets_before, facet_fault, pair_fault, move_fault, no_such_tet, repeated, vertices_by_label}
+use Rattle.move_definitions.specs.declared.MoveFault.{MoveFault}
+use Rattle.move_definitions.specs.declared.MoveFault.TheVariants.{NoSuchTet, Repeated}
+use Rattle.move_definitions.specs.Moves.{Move, IsCore, Facet, own_facet, opposite, facet_behind, facet, old_labels, found_labels, tets_before, facet_fault, pair_fault, move_fault, vertices_by_label}
 use Rattle.perm_four.proofs.ListFacts.{list_all-below}
 use Rattle.perm_four.proofs.Permutations.{inverse_permutes, compose_permutes}
 use Rattle.move_laws.proofs.CoreTests.{core_size, own_permutes}
@@ -152,7 +154,7 @@ unfolding move_fault
 no_fault rows m e =
     let facets : Option MoveFault = first_some (λ i. facet_fault rows m i (facet rows m i)) (found_labels m) in
     let pairs : Option MoveFault = first_some (λ p. pair_fault rows (facet rows m p.0) (facet rows m p.1)) (filter (λ p. nat_lt p.0 p.1) (pairs_of (found_labels m) (found_labels m))) in
-    let p : (not (nat_lt m.tet (length rows)) ≡ false) × (option_or facets pairs ≡ None) = guarded (not (nat_lt m.tet (length rows))) no_such_tet (option_or facets pairs) e in
+    let p : (not (nat_lt m.tet (length rows)) ≡ false) × (option_or facets pairs ≡ None) = guarded (not (nat_lt m.tet (length rows))) NoSuchTet (option_or facets pairs) e in
     let q : (facets ≡ None) × (pairs ≡ None) = both_none facets pairs p.1 in
     record { in_range = ltb-true m.tet (length rows) (un_not (nat_lt m.tet (length rows)) p.0); facets = q.0; pairs = q.1 }
 
@@ -171,7 +173,7 @@ found_facet rows m i h c low high =
     by_facet None e f = absurd cc
     by_facet (Some g) e f = by_test (has (tets_before rows m i) g.tet) refl f
       where
-        by_test : (b : Bool) → has (tets_before rows m i) g.tet ≡ b → (if b then Some (repeated i) else None) ≡ None → IsNew rows m i
+        by_test : (b : Bool) → has (tets_before rows m i) g.tet ≡ b → (if b then Some (Repeated i) else None) ≡ None → IsNew rows m i
         by_test true t f = absurd cc
         by_test false t f = record { facet_of = g; is = e; new = t }
 

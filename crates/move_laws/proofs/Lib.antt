@@ -15,4 +15,3 @@ pub mod LedOn
 pub mod MadeTables
 pub mod Cores
 pub mod Played
-pub mod CoreExamples

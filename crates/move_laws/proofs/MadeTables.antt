@@ -7,7 +7,7 @@ use Rattle.table_definitions.specs.Permutation.{IsPermutationOfFour, image, prei
 use Rattle.table_definitions.specs.Table.{Gluing, Row, Face, glue, other_side, way_back, same_face, IsTable}
 use Rattle.table_definitions.specs.Relabelling.{IsRelabelled, face_under, gluing_under}
 use Rattle.table_definitions.proofs.TableLaws.{glued_tet, glued_face}
-use Rattle.move_definitions.specs.Moves.{Move, IsCore, opposite, kept, new_length, new_facet, stand_in_at, moved_gluing, inverse_move, IsMoved}
+use Rattle.move_definitions.specs.Moves.{Move, opposite, kept, new_length, new_facet, stand_in_at, moved_gluing, inverse_move, IsMoved}
 use Rattle.move_definitions.specs.Laws.{MovesMakeTables, InversesLeadOnlyBack}
 use Rattle.perm_four.proofs.ListFacts.{list_all-below, same_list-true}
 use Rattle.perm_four.proofs.Permutations.{image_below, image-inverse, inverse_permutes, preimage-image, inverse-of-compose, inverse-inverse, compose_permutes, compose-compose}
@@ -18,7 +18,7 @@ use Rattle.move_laws.proofs.Legal.{HasNoFault, no_fault}
 use Rattle.move_laws.proofs.Covered.{gluing_to, face_at, StandsForOld, IsInner, covered, in_place-same}
 use Rattle.move_laws.proofs.Renamed.{across, given_apart}
 use Rattle.move_laws.proofs.SecondStand.{other_stands}
-use Rattle.move_laws.proofs.LedBack.{across_permutes, over_there, inverses_lead_back_lem, inverses_have_cores_lem}
+use Rattle.move_laws.proofs.LedBack.{across_permutes, over_there, inverses_lead_back_lem}
 use Rattle.move_laws.proofs.Shapes.{IsKeptFace, IsFacetFace, shape, stands_for_one, stand_permutes, stand_in_range}
 use Rattle.move_laws.proofs.Agreement.{moves_agree_lem}
 
@@ -41,8 +41,8 @@ across_vertex j l hj hl d =
     ∙ ap (λ q. preimage (ascending l) (in_place_of l j q)) v.label
     ∙ ap (preimage (ascending l)) (in_place-same l j)
 
-good_inner : (old : List Row) (m : Move) (new : List Row) → IsCore m.core → IsMoved old m new → (j l : ℕ) → j < length m.core → l < length m.core → j ≢ l → IsGood (length new) new (opposite (new_facet old m j) l) (record { tet = kept old m + l; perm = across j l })
-good_inner old m new c h j l hj hl d = record {
+good_inner : (old : List Row) (m : Move) (new : List Row) → IsMoved old m new → (j l : ℕ) → j < length m.core → l < length m.core → j ≢ l → IsGood (length new) new (opposite (new_facet old m j) l) (record { tet = kept old m + l; perm = across j l })
+good_inner old m new h j l hj hl d = record {
   permutes = across_permutes j l sj sl d;
   in_range = rw h.length_is (omega arith);
   apart = not_from (same_face (other_side y g) y) (λ t. d (apart_tets (same_from (kept old m + l) (kept old m + j) (image (across j l) (preimage (ascending j) l)) (preimage (ascending j) l) t).0));
@@ -56,10 +56,10 @@ good_inner old m new c h j l hj hl d = record {
     g = gluing_to (kept old m + l) (across j l)
 
     sj : j < 5
-    sj = let few : length m.core < 5 = (core_size m.core c).1 in omega arith
+    sj = let few : length m.core < 5 = (core_size m.core h.core).1 in omega arith
 
     sl : l < 5
-    sl = let few : length m.core < 5 = (core_size m.core c).1 in omega arith
+    sl = let few : length m.core < 5 = (core_size m.core h.core).1 in omega arith
 
     over : other_side y g ≡ opposite (new_facet old m l) j
     over = ap (face_at (kept old m + l)) (across_vertex j l sj sl d)
@@ -83,9 +83,9 @@ itself : (w : Face) → same_face w w ≡ true
 itself w = same_to w.tet w.tet w.face w.face refl refl
 
 -- the gluing that stands for the gluing g of x
-good_outer : (old : List Row) (m : Move) (new : List Row) → IsTable old → IsCore m.core → IsMoved old m new → (x : Face) (s g r : Gluing) → x.tet < length old → x.face < 4 → stand_in_at old m x ≡ Some s → glue old x ≡ Some g → stand_in_at old m (other_side x g) ≡ Some r
+good_outer : (old : List Row) (m : Move) (new : List Row) → IsTable old → IsMoved old m new → (x : Face) (s g r : Gluing) → x.tet < length old → x.face < 4 → stand_in_at old m x ≡ Some s → glue old x ≡ Some g → stand_in_at old m (other_side x g) ≡ Some r
     → IsGood (length new) new (face_under s x) (gluing_under s r g)
-good_outer old m new table c h x s g r lt lf stands glued stands' = record {
+good_outer old m new table h x s g r lt lf stands glued stands' = record {
   permutes = compose_permutes r.perm (compose g.perm (inverse s.perm)) hr (compose_permutes g.perm (inverse s.perm) hg (inverse_permutes s.perm hs));
   in_range = rw h.length_is range.0;
   apart = not_from (same_face (other_side z g') z) never;
@@ -109,13 +109,13 @@ good_outer old m new table c h x s g r lt lf stands glued stands' = record {
     yf = image_below g.perm hg x.face lf
 
     hs : IsPermutationOfFour s.perm
-    hs = stand_permutes old m table f c x s lt lf stands
+    hs = stand_permutes old m table f h.core x s lt lf stands
 
     hr : IsPermutationOfFour r.perm
-    hr = stand_permutes old m table f c y r yt yf stands'
+    hr = stand_permutes old m table f h.core y r yt yf stands'
 
     range : (r.tet < new_length old m) × (image r.perm y.face < 4)
-    range = stand_in_range old m table f c y r yt yf stands'
+    range = stand_in_range old m table f h.core y r yt yf stands'
 
     z : Face
     z = face_under s x
@@ -136,17 +136,17 @@ good_outer old m new table c h x s g r lt lf stands glued stands' = record {
     never t =
         let q = same_from r.tet s.tet (image g'.perm (image s.perm x.face)) (image s.perm x.face) t in
         let faces : face_under r y ≡ face_under s x = sym over ∙ ap (λ u. face_at u (image g'.perm (image s.perm x.face))) q.0 ∙ ap (face_at s.tet) q.1 in
-        let same : y ≡ x = stands_for_one old m table f c y x (face_under r y) r s yt lt (shape old m table f c y r yt yf stands') (subst (λ (w : Face). IsKeptFace old m x w s ⊎ IsFacetFace old m x w s) (sym faces) (shape old m table f c x s lt lf stands)) in
+        let same : y ≡ x = stands_for_one old m table f h.core y x (face_under r y) r s yt lt (shape old m table f h.core y r yt yf stands') (subst (λ (w : Face). IsKeptFace old m x w s ⊎ IsFacetFace old m x w s) (sym faces) (shape old m table f h.core x s lt lf stands)) in
         let whole : same_face (other_side x g) x ≡ true = ap (λ (w : Face). same_face w x) same ∙ itself x in
         let apart = table.apart x g glued in
         cc
 
-good_at : (old : List Row) (m : Move) (new : List Row) → IsTable old → IsCore m.core → IsMoved old m new → (y : Face) (g' : Gluing) → glue new y ≡ Some g' → StandsForOld old m y ⊎ IsInner old m y → IsGood (length new) new y g'
-good_at old m new table c h y g' e (inr n) =
+good_at : (old : List Row) (m : Move) (new : List Row) → IsTable old → IsMoved old m new → (y : Face) (g' : Gluing) → glue new y ≡ Some g' → StandsForOld old m y ⊎ IsInner old m y → IsGood (length new) new y g'
+good_at old m new table h y g' e (inr n) =
     let inner : Some (record { tet = kept old m + n.l; perm = across n.j n.l }) ≡ Some g' = sym (h.inner n.j n.l n.j_small n.l_small n.apart) ∙ ap (glue new) n.is ∙ e in
     let is : record { tet = kept old m + n.l; perm = across n.j n.l } ≡ g' = cc in
-    subst (λ (z : Face). IsGood (length new) new z g') n.is (subst (λ (g : Gluing). IsGood (length new) new (opposite (new_facet old m n.j) n.l) g) is (good_inner old m new c h n.j n.l n.j_small n.l_small n.apart))
-good_at old m new table c h y g' e (inl o) = subst (λ (z : Face). IsGood (length new) new z g') o.is (by_gluing (glue old o.old) refl)
+    subst (λ (z : Face). IsGood (length new) new z g') n.is (subst (λ (g : Gluing). IsGood (length new) new (opposite (new_facet old m n.j) n.l) g) is (good_inner old m new h n.j n.l n.j_small n.l_small n.apart))
+good_at old m new table h y g' e (inl o) = subst (λ (z : Face). IsGood (length new) new z g') o.is (by_gluing (glue old o.old) refl)
   where
     moved : option_and_then (moved_gluing old m o.old o.by) (glue old o.old) ≡ Some g'
     moved = sym (h.outer o.old o.by o.tet o.face o.stands) ∙ ap (glue new) o.is ∙ e
@@ -154,13 +154,13 @@ good_at old m new table c h y g' e (inl o) = subst (λ (z : Face). IsGood (lengt
     by_gluing : (q : Option Gluing) → glue old o.old ≡ q → IsGood (length new) new (face_under o.by o.old) g'
     by_gluing None f = absurd (let none : None ≡ Some g' = sym (ap (option_and_then (moved_gluing old m o.old o.by)) f) ∙ moved in cc)
     by_gluing (Some g) f =
-        let there : (r : Gluing) × (stand_in_at old m (other_side o.old g) ≡ Some r) = other_stands old m table (no_fault old m h.legal) c o.old o.by g o.face o.stands f in
+        let there : (r : Gluing) × (stand_in_at old m (other_side o.old g) ≡ Some r) = other_stands old m table (no_fault old m h.legal) h.core o.old o.by g o.face o.stands f in
         let made : Some (gluing_under o.by there.0 g) ≡ Some g' = sym (ap (option_map (λ r. gluing_under o.by r g)) there.1) ∙ sym (ap (option_and_then (moved_gluing old m o.old o.by)) f) ∙ moved in
         let is : gluing_under o.by there.0 g ≡ g' = cc in
-        subst (λ (k : Gluing). IsGood (length new) new (face_under o.by o.old) k) is (good_outer old m new table c h o.old o.by g there.0 o.tet o.face o.stands f there.1)
+        subst (λ (k : Gluing). IsGood (length new) new (face_under o.by o.old) k) is (good_outer old m new table h o.old o.by g there.0 o.tet o.face o.stands f there.1)
 
 pub moves_make_tables_lem : MovesMakeTables
-moves_make_tables_lem old m new table c few h = record {
+moves_make_tables_lem old m new table few h = record {
   few = few;
   four_faces = h.four_faces;
   permutes = λ y g e. (good y g e).permutes;
@@ -170,11 +170,11 @@ moves_make_tables_lem old m new table c few h = record {
 }
   where
     good : (y : Face) (g : Gluing) → glue new y ≡ Some g → IsGood (length new) new y g
-    good y g e = good_at old m new table c h y g e (covered old m y table (no_fault old m h.legal) c (rw (← h.length_is) (glued_tet new y g e)) (glued_face new y g h.four_faces e))
+    good y g e = good_at old m new table h y g e (covered old m y table (no_fault old m h.legal) h.core (rw (← h.length_is) (glued_tet new y g e)) (glued_face new y g h.four_faces e))
 
 -- so the inverse leads back to nothing else
 pub inverses_lead_only_back_lem : InversesLeadOnlyBack
-inverses_lead_only_back_lem old m new back table c few h h' =
-    let led : (found : List Row) × IsMoved new (inverse_move (length old) m) found × IsRelabelled old found = inverses_lead_back_lem old m new table c h in
-    let same : led.0 ≡ back = moves_agree_lem new (inverse_move (length old) m) led.0 back (moves_make_tables_lem old m new table c few h) (inverses_have_cores_lem (length old) m c) led.1 h' in
+inverses_lead_only_back_lem old m new back table few h h' =
+    let led : (found : List Row) × IsMoved new (inverse_move (length old) m) found × IsRelabelled old found = inverses_lead_back_lem old m new table h in
+    let same : led.0 ≡ back = moves_agree_lem new (inverse_move (length old) m) led.0 back (moves_make_tables_lem old m new table few h) led.1 h' in
     subst (λ (rows : List Row). IsRelabelled old rows) same led.2

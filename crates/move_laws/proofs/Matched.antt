@@ -7,7 +7,9 @@ use Rattle.table_definitions.specs.Lists.{same_list, in_place_of, pairs_of}
 use Rattle.table_definitions.specs.Permutation.{four, IsPermutationOfFour, image, preimage, inverse, compose}
 use Rattle.table_definitions.specs.Table.{Gluing, Row, glue, other_side, way_back, IsTable}
 use Rattle.table_definitions.proofs.TableLaws.{Among, Among-pairs, first_some-none}
-use Rattle.move_definitions.specs.Moves.{Move, IsCore, Facet, MoveFault, own_facet, opposite, facet_behind, facet, found_labels, is_matched, pair_fault, not_matched, vertices_by_label}
+use Rattle.move_definitions.specs.declared.MoveFault.{MoveFault}
+use Rattle.move_definitions.specs.declared.MoveFault.TheVariants.{NotMatched}
+use Rattle.move_definitions.specs.Moves.{Move, IsCore, Facet, own_facet, opposite, facet_behind, facet, found_labels, is_matched, pair_fault, vertices_by_label}
 use Rattle.perm_four.proofs.ListFacts.{same_list-true}
 use Rattle.perm_four.proofs.Permutations.{image_below, preimage_below, image-preimage, preimage-image, image-inverse, inverse_permutes, length-permutation}
 use Rattle.move_laws.proofs.CoreTests.{core_size, own_permutes}
@@ -106,7 +108,7 @@ found_glued rows m i k f g table h c low less high ef eg =
     let none : pair_fault rows (facet rows m i) (facet rows m k) ≡ None =
     first_some-none (λ (p : ℕ × ℕ). pair_fault rows (facet rows m p.0) (facet rows m p.1)) (i, k) (filter (λ (p : ℕ × ℕ). nat_lt p.0 p.1) (pairs_of (found_labels m) (found_labels m))) h.pairs among in
     let here : pair_fault rows (Some f) (Some g) ≡ None = ap (λ (o : Option Facet). pair_fault rows o (Some g)) (sym ef) ∙ ap (λ (o : Option Facet). pair_fault rows (facet rows m i) o) (sym eg) ∙ none in
-    is_glued rows i k f g (glue rows (opposite f g.missing)) is.missing is'.missing refl (allowed (is_matched f g (glue rows (opposite f g.missing))) (not_matched f.missing g.missing) here)
+    is_glued rows i k f g (glue rows (opposite f g.missing)) is.missing is'.missing refl (allowed (is_matched f g (glue rows (opposite f g.missing))) (NotMatched f.missing g.missing) here)
 
 -- and the other way round
 

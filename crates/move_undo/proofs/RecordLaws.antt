@@ -4,18 +4,12 @@ use Rattle.std.specs.Prelude.{slice_get, None}
 use Rattle.std.proofs.lemmas.Option.{slice_get_read}
 use Rattle.std.proofs.lemmas.List.{length_push}
 use Rattle.table_definitions.specs.Table.{Row}
-use Rattle.move_definitions.specs.Moves.{Move, play_fault}
-use Rattle.move_definitions.specs.Undos.{Undo, former, CanTakeBack, TakesBack}
-use Rattle.move_definitions.specs.Sessions.{IsTableOf, LeadsTo, LeadAllTo}
-use Rattle.move_laws.proofs.Agreement.{moves_agree_lem}
-use Rattle.pachner_moves.proofs.BackLaws as back
+use Rattle.move_definitions.specs.Moves.{Move, play_fault, PlaysAll}
+use Rattle.move_definitions.specs.Undos.{Undo, former, CanTakeBack}
+use Rattle.move_definitions.specs.Sessions.{IsTableOf}
+use Rattle.move_laws.proofs.Played.{played_same}
+use Rattle.pachner_moves.proofs.BackLaws.{takes_back}
 use Rattle.move_undo.specs.Records.{first_table, IsPlayed, CanPlayAll, Recorded}
-
-takes_back : TakesBack
-takes_back old m new table core plays = back.taken_back old m new (back.has_moved old m new table core plays)
-
-leads : {rows : List Row} {m : Move} {u : Undo} {next : List Row} → IsPlayed rows m u next → LeadsTo rows m next
-leads p = (p.is_table, p.is_core, p.plays)
 
 -- taking back all moves begins with the last one
 pub first_more : (us : List Undo) (u : Undo) (table : List Row) → first_table (us ++ u ∷ []) table ≡ first_table us (former table u)
@@ -33,7 +27,7 @@ unfolding first_table Recorded
 recorded-first rows moves [] table h = sym h.0
 recorded-first rows [] (u ∷ us) table h = absurd h
 recorded-first rows (m ∷ ms) (u ∷ us) table h =
-    ap (λ (t : List Row). former t u) (recorded-first h.0 ms us table h.2) ∙ ap (λ (v : Undo). former h.0 v) h.1.kept ∙ takes_back rows m h.0 h.1.is_table h.1.is_core h.1.plays
+    ap (λ (t : List Row). former t u) (recorded-first h.0 ms us table h.2) ∙ ap (λ (v : Undo). former h.0 v) h.1.kept ∙ takes_back rows m h.0 h.1.plays
 
 pub recorded-none : (table : List Row) → Recorded table [] [] table
 unfolding Recorded
@@ -56,10 +50,10 @@ recorded-play rows (k ∷ ms) (v ∷ us) table m u new h p = (h.0, h.1, recorded
 
 -- what was kept takes the move back
 taken_back : (rows : List Row) (m : Move) (u : Undo) (next : List Row) → IsPlayed rows m u next → former next u ≡ rows
-taken_back rows m u next p = ap (λ (v : Undo). former next v) p.kept ∙ takes_back rows m next p.is_table p.is_core p.plays
+taken_back rows m u next p = ap (λ (v : Undo). former next v) p.kept ∙ takes_back rows m next p.plays
 
 can_take_back : (rows : List Row) (m : Move) (u : Undo) (next : List Row) → IsPlayed rows m u next → CanTakeBack next u
-can_take_back rows m u next p = subst (λ (v : Undo). CanTakeBack next v) (sym p.kept) (rows, p.is_table, p.is_core, p.plays, refl)
+can_take_back rows m u next p = subst (λ (v : Undo). CanTakeBack next v) (sym p.kept) (rows, p.plays, refl)
 
 pub played-back : (us : List Undo) (rows : List Row) (m : Move) (u : Undo) (next : List Row) → IsPlayed rows m u next → first_table (us ++ u ∷ []) next ≡ first_table us rows
 played-back us rows m u next p = first_more us u next ∙ ap (λ (t : List Row). first_table us t) (taken_back rows m u next p)
@@ -74,7 +68,7 @@ unfolding Recorded
 recorded-back rows [] [] u table h = absurd h
 recorded-back rows (m ∷ ms) [] u table h =
     let p : IsPlayed rows m u table = subst (λ (t : List Row). IsPlayed rows m u t) h.2.0 h.1 in
-    let all : CanPlayAll rows (m ∷ ms) = (h.2.1.0, (table, leads p, h.2.1.1)) in
+    let all : CanPlayAll rows (m ∷ ms) = (h.2.1.0, (table, p.plays, h.2.1.1)) in
     record {
       can = can_take_back rows m u table p;
       recorded = subst (λ (t : List Row). Recorded rows (m ∷ ms) [] t) (sym (taken_back rows m u table p)) (refl, all);
@@ -89,7 +83,7 @@ pub recorded-free : (rows : List Row) (moves : List Move) (us : List Undo) (tabl
     → play_fault table m ≡ None
 unfolding Recorded
 recorded-free rows [] [] table m h e = absurd cc
-recorded-free rows (k ∷ ms) [] table m h e = let same : k ≡ m = cc in subst (λ (n : Move). play_fault table n ≡ None) same h.1.1.1.2.1
+recorded-free rows (k ∷ ms) [] table m h e = let same : k ≡ m = cc in subst (λ (n : Move). play_fault table n ≡ None) same h.1.1.1.accepted
 recorded-free rows [] (u ∷ us) table m h e = absurd h
 recorded-free rows (k ∷ ms) (u ∷ us) table m h e = recorded-free h.0 ms us table m h.2 e
 
@@ -100,23 +94,23 @@ recorded-again rows [] [] table m u new h e p = absurd cc
 recorded-again rows (k ∷ ms) [] table m u new h e p =
     let same : m ≡ k = cc in
     let q : IsPlayed table k u new = subst (λ (n : Move). IsPlayed table n u new) same p in
-    let reached : h.1.1.0 ≡ new = moves_agree_lem table k h.1.1.0 new q.is_table q.is_core h.1.1.1.2.0 q.plays.0 in
+    let reached : h.1.1.0 ≡ new = played_same table k h.1.1.0 new h.1.1.1 q.plays in
     (new, subst (λ (r : List Row). IsPlayed r k u new) (sym h.0) q, (refl, subst (λ (t : List Row). CanPlayAll t ms) reached (h.1.0, h.1.1.2)))
 recorded-again rows [] (v ∷ us) table m u new h e p = absurd h
 recorded-again rows (k ∷ ms) (v ∷ us) table m u new h e p = (h.0, h.1, recorded-again h.0 ms us table m u new h.2 e p)
 
 -- the moves of which something is kept lead to the table, and all can be played
-recorded-plays : (rows : List Row) (moves : List Move) (us : List Undo) (table : List Row) → Recorded rows moves us table → LeadAllTo rows (take (length us) moves) table
+recorded-plays : (rows : List Row) (moves : List Move) (us : List Undo) (table : List Row) → Recorded rows moves us table → PlaysAll rows (take (length us) moves) table
 unfolding Recorded
 recorded-plays rows moves [] table h = h.0
 recorded-plays rows [] (u ∷ us) table h = absurd h
-recorded-plays rows (m ∷ ms) (u ∷ us) table h = (h.0, leads h.1, recorded-plays h.0 ms us table h.2)
+recorded-plays rows (m ∷ ms) (u ∷ us) table h = (h.0, h.1.plays, recorded-plays h.0 ms us table h.2)
 
 recorded-all : (rows : List Row) (moves : List Move) (us : List Undo) (table : List Row) → Recorded rows moves us table → CanPlayAll rows moves
 unfolding Recorded
 recorded-all rows moves [] table h = subst (λ (t : List Row). CanPlayAll t moves) (sym h.0) h.1
 recorded-all rows [] (u ∷ us) table h = absurd h
-recorded-all rows (m ∷ ms) (u ∷ us) table h = let rest : CanPlayAll h.0 ms = recorded-all h.0 ms us table h.2 in (rest.0, (h.0, leads h.1, rest.1))
+recorded-all rows (m ∷ ms) (u ∷ us) table h = let rest : CanPlayAll h.0 ms = recorded-all h.0 ms us table h.2 in (rest.0, (h.0, h.1.plays, rest.1))
 
 pub recorded-table : (rows : List Row) (moves : List Move) (us : List Undo) (table : List Row) → Recorded rows moves us table
     → IsTableOf (record { first = rows; moves = moves; played = length us }) table

@@ -1,11 +1,11 @@
 -- The refusals of a session.
 use Rattle.std.specs.Prelude.{◌≡◌}
-use Rattle.move_definitions.specs.Moves as moves
+use Rattle.move_definitions.specs.declared.MoveFault.{MoveFault}
+use Rattle.move_definitions.specs.Moves.{Move}
 use Rattle.move_definitions.specs.Sessions.{Session, IsRefused}
-use Rattle.pachner_moves.specs.Faults.{answer}
 use Rattle.move_undo.specs.declared.session.PlayFault.{PlayFault}
 use Rattle.move_undo.specs.declared.session.PlayFault.TheVariants.{Illegal}
 
 -- the move can't be made on the session's table, and this is why
-abbrev pub IsRefusal : Session → moves.Move → PlayFault → Type 0
-IsRefusal s m e = (fault : moves.MoveFault) × (e ≡ Illegal (answer fault)) × IsRefused s m fault
+abbrev pub IsRefusal : Session → Move → PlayFault → Type 0
+IsRefusal s m e = (fault : MoveFault) × (e ≡ Illegal fault) × IsRefused s m fault

@@ -1,8 +1,7 @@
 -- What a session keeps: its table, the moves, and for each played move what takes it back.
 use Rattle.std.specs.Prelude.{◌≡◌, List, [], ◌∷◌}
-use Rattle.table_definitions.specs.Table.{Row, IsTable}
-use Rattle.move_definitions.specs.Moves.{Move, IsCore, Plays}
-use Rattle.move_definitions.specs.Sessions.{LeadAllTo}
+use Rattle.table_definitions.specs.Table.{Row}
+use Rattle.move_definitions.specs.Moves.{Move, Plays, PlaysAll}
 use Rattle.move_definitions.specs.Undos.{Undo, undo_of, former}
 
 -- the table to which taking back all moves leads, the last one first
@@ -12,14 +11,12 @@ first_table (u ∷ us) table = former (first_table us table) u
 
 -- a move leads from one table to the next, and this is kept of it
 pub record IsPlayed (rows : List Row) (m : Move) (u : Undo) (next : List Row) : Type 0 where
-  pub is_table : IsTable rows
-  pub is_core : IsCore m.core
   pub plays : Plays rows m next
   pub kept : u ≡ undo_of rows m
 
 -- the moves can be played one after another
 abbrev pub CanPlayAll : List Row → List Move → Type 0
-CanPlayAll rows moves = (last : List Row) × LeadAllTo rows moves last
+CanPlayAll rows moves = (last : List Row) × PlaysAll rows moves last
 
 -- the moves of which something is kept lead to the table, and the others can be played from there
 unfoldable pub Recorded : List Row → List Move → List Undo → List Row → Type 0

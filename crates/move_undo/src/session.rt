@@ -7,7 +7,6 @@ ghost use Rattle.move_definitions.specs.Moves as moves;
 ghost use Rattle.move_definitions.specs.Moves.{Plays, play_fault};
 ghost use Rattle.move_definitions.specs.Undos as undos;
 ghost use Rattle.move_definitions.specs.Sessions as sessions;
-ghost use Rattle.pachner_moves.specs.Faults.{IsAnswer};
 ghost use Rattle.move_undo.specs.Records.{IsPlayed};
 ghost use Rattle.move_undo.specs.Faults.{IsRefusal};
 
@@ -73,7 +72,7 @@ impl Model for Session {
 // Plays a move, and keeps what takes it back.
 fn play_on(table: &mut Table, m: Move) -> Result<Undo, MoveFault>
     ensures played { IfOk result (λ u. IsPlayed table.old m u table.new) }
-    ensures fault { IfErr result (λ e. IsAnswer e (play_fault table.old m)) }
+    ensures fault { IfErr result (λ e. play_fault table.old m ≡ Some e) }
     ensures left { OnErr result (table.new ≡ table.old) }
 {
     // so the rows are known to be a table

@@ -1,19 +1,20 @@
 -- A script has one answer: a session has one table, and a step one answer.
 use Rattle.std.proofs.Common.{◌≡◌, List, [], ◌∷◌, take, Some, None, sym, ap, ap₂, ◌∙◌, subst, arith}
 use Rattle.table_definitions.specs.Table.{Row}
-use Rattle.move_definitions.specs.Moves.{Move, MoveFault, play_fault}
+use Rattle.move_definitions.specs.declared.MoveFault.{MoveFault}
+use Rattle.move_definitions.specs.Moves.{Move, play_fault, PlaysAll}
 use Rattle.move_definitions.specs.MoveText.{Step, play, undo, redo}
-use Rattle.move_definitions.specs.Sessions.{Session, LeadAllTo, IsTableOf, begun, IsRefused, IsAccepted, StepAnswer, done, illegal, undone, redone, nothing, IsStep, AreSteps}
-use Rattle.move_laws.proofs.Agreement.{moves_agree_lem}
+use Rattle.move_definitions.specs.Sessions.{Session, IsTableOf, begun, IsRefused, IsAccepted, StepAnswer, done, illegal, undone, redone, nothing, IsStep, AreSteps}
+use Rattle.move_laws.proofs.Played.{played_same}
 use Rattle.outcome_definitions.specs.Outcomes.{Outcome}
 use Rattle.outcome_definitions.specs.Scripts.{script_outcome, IsScriptAnswer}
 
 -- moves lead to one table
-one_end : (rows : List Row) (moves : List Move) (t u : List Row) → LeadAllTo rows moves t → LeadAllTo rows moves u → t ≡ u
+one_end : (rows : List Row) (moves : List Move) (t u : List Row) → PlaysAll rows moves t → PlaysAll rows moves u → t ≡ u
 one_end rows [] t u h k = sym h ∙ k
 one_end rows (m ∷ ms) t u h k =
-    let same : h.0 ≡ k.0 = moves_agree_lem rows m h.0 k.0 h.1.0 h.1.1 h.1.2.0 k.1.2.0 in
-    one_end k.0 ms t u (subst (λ (r : List Row). LeadAllTo r ms t) same h.2) k.2
+    let same : h.0 ≡ k.0 = played_same rows m h.0 k.0 h.1 k.1 in
+    one_end k.0 ms t u (subst (λ (r : List Row). PlaysAll r ms t) same h.2) k.2
 
 one_table : (s : Session) (t u : List Row) → IsTableOf s t → IsTableOf s u → t ≡ u
 one_table s t u h k = one_end s.first (take s.played s.moves) t u h.reached k.reached

@@ -10,7 +10,7 @@ use Rattle.std.proofs.lemmas.List.Kept.{AllPairs-from_increasing}
 use Rattle.table_definitions.specs.Lists.{has, below, closed_up}
 use Rattle.table_definitions.specs.Permutation.{image, IsPermutationOfFour}
 use Rattle.table_definitions.specs.Table.{Gluing, Row, Face, glue, other_side, way_back, IsTable}
-use Rattle.table_definitions.specs.Replacing.{Replacement, replaced_length, number_of_kept, free_numbers, kept_gluing, back_to_fresh}
+use Rattle.table_definitions.specs.Replacing.{Replacement, replaced_length, number_of_kept, free_numbers, kept_gluing, back_to_fresh, replaced}
 use Rattle.table_definitions.specs.Relabelling.{gluing_under}
 use Rattle.table_definitions.proofs.TableLaws.{glued_tet, glued_face}
 use Rattle.perm_four.proofs.Permutations.{image_below}
@@ -18,8 +18,8 @@ use Rattle.gluing_table.specs.Replaceable.{fresh_numbers, fresh_glue, IsFreed, C
 use Rattle.gluing_table.proofs.Ranks.{rank, stays, closed_up-rank, at_rank}
 use Rattle.gluing_table.proofs.Kept.{IsKeptAs, kept_as, length-replaced, fresh_row_at, kept_row_at, glue-fresh, glue-kept}
 use Rattle.gluing_table.proofs.FreshRows.{fresh_tet, length-fresh_row, back_is}
-use Rattle.move_definitions.specs.Moves.{Move, Facet, IsCore, kept, kept_stand_in, stand_in_at, moved_gluing, IsMoved, Plays}
-use Rattle.move_definitions.specs.Undos.{Undo, taken_numbers, undo_of, back_exchange, former, CanTakeBack}
+use Rattle.move_definitions.specs.Moves.{Move, Facet, kept, kept_stand_in, stand_in_at, moved_gluing, IsMoved, Plays}
+use Rattle.move_definitions.specs.Undos.{Undo, taken_numbers, undo_of, back_exchange, former, CanTakeBack, IsTakenBack, TakesBack}
 use Rattle.pachner_moves.specs.Facets.{stands_for, numbered}
 use Rattle.pachner_moves.proofs.LegalLaws.{IsLegal, legal_from}
 use Rattle.pachner_moves.proofs.NumberLaws.{numbers-of, row-of, has-range, range-has, not-has, range-up, range-within, picked-up, picked-within, rank-all, filter-has}
@@ -239,7 +239,7 @@ long_row old m new t h l = by_test (has (fresh_numbers (back old m)) t) refl
         ap length (fresh_row_at new (back old m) t (omega arith) q) ∙ length-fresh_row new (back old m) (can_take_back old m new h) t q
     by_test false q = let n = back-length old m new h in ap length (kept_row_at new (back old m) t (omega arith) q)
 
-pub taken_back : (old : List Row) (m : Move) (new : List Row) → HasMoved old m new → former new (undo_of old m) ≡ old
+taken_back : (old : List Row) (m : Move) (new : List Row) → HasMoved old m new → former new (undo_of old m) ≡ old
 taken_back old m new h = same_elements [] (former new (undo_of old m)) old same_length row
   where
     same_length : length (former new (undo_of old m)) ≡ length old
@@ -252,14 +252,25 @@ taken_back old m new h = same_elements [] (former new (undo_of old m)) old same_
         let b : length (get_or old t []) ≡ 4 = All-get_or (λ (r : Row). length r ≡ 4) old t [] (omega arith) h.legal.table.four_faces in
         same_elements None (get_or (former new (undo_of old m)) t []) (get_or old t []) (a ∙ sym b) (λ f q. glue-again old m new (record { tet = t; face = f }) h (omega arith) (omega arith))
 
-pub has_moved : (old : List Row) (m : Move) (new : List Row) → IsTable old → IsCore m.core → Plays old m new → HasMoved old m new
-has_moved old m new table core plays = record { legal = legal_from old m table core plays.0.legal; moved = plays.0 }
+has_moved : (old : List Row) (m : Move) (new : List Row) → Plays old m new → HasMoved old m new
+has_moved old m new plays = record { legal = legal_from old m plays.table plays.moved.core plays.moved.legal; moved = plays.moved }
+
+pub takes_back : TakesBack
+takes_back old m new plays = taken_back old m new (has_moved old m new plays)
+
+-- the same, by what the calls give
+pub taken_back_by : (rows : List Row) (u : Undo) (removed : List ℕ) (fresh : List (ℕ × Row)) (now : List Row) → removed ≡ (back_exchange u).removed → fresh ≡ u.rows
+    → now ≡ replaced rows (record { removed = removed; fresh = fresh }) → IsTakenBack rows u now
+taken_back_by rows u removed fresh now er ef e =
+    let mk : List ℕ → List (ℕ × Row) → Replacement = λ ns xs. record { removed = ns; fresh = xs } in
+    let is : now ≡ former rows u = e ∙ ap (λ ns. replaced rows (mk ns fresh)) er ∙ ap (λ xs. replaced rows (mk (back_exchange u).removed xs)) ef in
+    λ old plays kept. is ∙ ap (former rows) kept ∙ takes_back old u.played rows plays
 
 pub back_by : (rows : List Row) (u : Undo) (removed : List ℕ) (fresh : List (ℕ × Row)) → CanTakeBack rows u → removed ≡ (back_exchange u).removed → fresh ≡ u.rows → CanReplace rows (record { removed = removed; fresh = fresh })
-back_by rows u removed fresh (old, table, core, plays, e) er ef =
+back_by rows u removed fresh (old, plays, e) er ef =
     let mk : List ℕ → List (ℕ × Row) → Replacement = λ ns xs. record { removed = ns; fresh = xs } in
     let whole : mk removed fresh ≡ back_exchange (undo_of old u.played) = ap (λ ns. mk ns fresh) er ∙ ap (mk (back_exchange u).removed) ef ∙ ap back_exchange e in
-    subst (λ (r : Replacement). CanReplace rows r) (sym whole) (can_take_back old u.played rows (has_moved old u.played rows table core plays))
+    subst (λ (r : Replacement). CanReplace rows r) (sym whole) (can_take_back old u.played rows (has_moved old u.played rows plays))
 
 pub few_back : (rows : List Row) (u : Undo) → CanTakeBack rows u → u.tets ≤ 1000
-few_back rows u (old, table, core, plays, e) = let n : u.tets ≡ length old = ap (λ (v : Undo). v.tets) e in omega (arith, table.few)
+few_back rows u (old, plays, e) = let n : u.tets ≡ length old = ap (λ (v : Undo). v.tets) e in omega (arith, plays.table.few)

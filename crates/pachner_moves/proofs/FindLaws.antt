@@ -11,10 +11,11 @@ use Rattle.std.proofs.lemmas.List.FromFn.{length-range_with_len, get_or-range_wi
 use Rattle.table_definitions.specs.Lists.{has, below, first_some, same_list, pairs_of}
 use Rattle.table_definitions.specs.Permutation.{four}
 use Rattle.table_definitions.specs.Table.{Gluing, Row, glue, IsTable}
-use Rattle.move_definitions.specs.Moves.{Move, Facet, MoveFault, facet, facet_fault, found_labels, tets_before, own_facet, opposite, facet_behind, boundary, repeated, pair_fault, move_fault, no_such_tet}
+use Rattle.move_definitions.specs.declared.MoveFault.{MoveFault}
+use Rattle.move_definitions.specs.declared.MoveFault.TheVariants.{Boundary, Repeated, NoSuchTet}
+use Rattle.move_definitions.specs.Moves.{Move, Facet, facet, facet_fault, found_labels, tets_before, own_facet, opposite, facet_behind, pair_fault, move_fault}
 use Rattle.perm_four.proofs.ListFacts.{list_all-below, same_list-true, first_some-from, first_some-none_from, first_some-is_none}
-use Rattle.pachner_moves.specs.Faults.{facets_below, first_facet_fault, found_facets, pairs_fault, verdict, answer, IsAnswer, IsPattern}
-use Rattle.pachner_moves.specs.declared.legality.MoveFault.{MoveFault as Fault}
+use Rattle.pachner_moves.specs.Faults.{facets_below, first_facet_fault, found_facets, pairs_fault, verdict, IsPattern}
 
 -- lists of labels
 
@@ -71,12 +72,12 @@ abbrev pub fault_of : List Row → Move → ℕ → Option MoveFault
 fault_of rows m k = facet_fault rows m k (facet rows m k)
 
 pub not_taken : (rows : List Row) (m : Move) (label : ℕ) (f : Facet) → Some f ≡ facet rows m label → false ≡ has (tets_before rows m label) f.tet → fault_of rows m label ≡ None
-not_taken rows m label f is free = ap (facet_fault rows m label) (sym is) ∙ ap (λ b. cond b (Some (repeated label)) None) (sym free)
+not_taken rows m label f is free = ap (facet_fault rows m label) (sym is) ∙ ap (λ b. cond b (Some (Repeated label)) None) (sym free)
 
-pub is_repeated : (rows : List Row) (m : Move) (label : ℕ) (f : Facet) → Some f ≡ facet rows m label → true ≡ has (tets_before rows m label) f.tet → fault_of rows m label ≡ Some (repeated label)
-is_repeated rows m label f is taken = ap (facet_fault rows m label) (sym is) ∙ ap (λ b. cond b (Some (repeated label)) None) (sym taken)
+pub is_repeated : (rows : List Row) (m : Move) (label : ℕ) (f : Facet) → Some f ≡ facet rows m label → true ≡ has (tets_before rows m label) f.tet → fault_of rows m label ≡ Some (Repeated label)
+is_repeated rows m label f is taken = ap (facet_fault rows m label) (sym is) ∙ ap (λ b. cond b (Some (Repeated label)) None) (sym taken)
 
-pub is_boundary : (rows : List Row) (m : Move) (label : ℕ) → None ≡ facet rows m label → fault_of rows m label ≡ Some (boundary label)
+pub is_boundary : (rows : List Row) (m : Move) (label : ℕ) → None ≡ facet rows m label → fault_of rows m label ≡ Some (Boundary label)
 is_boundary rows m label is = ap (facet_fault rows m label) (sym is)
 
 pub first_fault : (rows : List Row) (m : Move) (label : ℕ) (e : MoveFault) → length m.core ≤ label → label < 4 → ((k : ℕ) → length m.core ≤ k → k < label → fault_of rows m k ≡ None) → fault_of rows m label ≡ Some e
@@ -119,7 +120,7 @@ any_at fs i f t l is e = sym (list_any_at (λ m. m == t) (map (λ (f : Facet). f
     at = get_or-map (λ (f : Facet). f.tet) fs i f 0 l ∙ ap (λ (f : Facet). f.tet) (sym is) ∙ e
 
 pub repeated_by : (rows : List Row) (m : Move) (label : ℕ) (found : List Facet) (f : Facet) (own t : ℕ) → length m.core ≤ label → label < 4 → found ≡ facets_below rows m label → Some f ≡ facet rows m label → own ≡ m.tet → t ≡ f.tet
-    → true ≡ has (own ∷ map (λ (f : Facet). f.tet) found) t → fault_of rows m label ≡ Some (repeated label)
+    → true ≡ has (own ∷ map (λ (f : Facet). f.tet) found) t → fault_of rows m label ≡ Some (Repeated label)
 repeated_by rows m label found f own t low high so_far is eo et taken =
     is_repeated rows m label f is
     (taken ∙ ap (λ o. has (o ∷ map (λ (f : Facet). f.tet) found) t) eo ∙ ap (has (m.tet ∷ map (λ (f : Facet). f.tet) found)) et ∙ taken_is rows m label found f.tet (omega arith) (omega arith) so_far)
@@ -136,7 +137,7 @@ ok_none : (x : Unit {0}) (o : Option MoveFault) → Ok x ≡ verdict o → o ≡
 ok_none x None e = refl
 ok_none x (Some f) e = absurd cc
 
-err_first : (e : Fault) (o p : Option MoveFault) → Err e ≡ verdict o → Err e ≡ verdict (option_or o p)
+err_first : (e : MoveFault) (o p : Option MoveFault) → Err e ≡ verdict o → Err e ≡ verdict (option_or o p)
 err_first e None p h = absurd cc
 err_first e (Some f) p h = h
 
@@ -164,22 +165,22 @@ three (a ∷ b ∷ []) f g h l e k m = absurd (omega arith)
 three (a ∷ b ∷ c ∷ []) f g h l e k m = ap (λ (x : Facet). x ∷ g ∷ h ∷ []) e ∙ ap (λ (xs : List Facet). a ∷ xs) (pair_is g h b c k m)
 three (a ∷ b ∷ c ∷ d ∷ fs) f g h l e k m = absurd (omega arith)
 
-pub pairs_two : (rows : List Row) (fs : List Facet) (f g : Facet) (r : Result (Unit {0}) Fault) → length fs ≡ 2 → f ≡ get_or fs 0 f → g ≡ get_or fs 1 g → r ≡ verdict (pair_fault rows (Some f) (Some g)) → r ≡ verdict (pairs_fault rows fs)
+pub pairs_two : (rows : List Row) (fs : List Facet) (f g : Facet) (r : Result (Unit {0}) MoveFault) → length fs ≡ 2 → f ≡ get_or fs 0 f → g ≡ get_or fs 1 g → r ≡ verdict (pair_fault rows (Some f) (Some g)) → r ≡ verdict (pairs_fault rows fs)
 unfolding pairs_fault
 pairs_two rows fs f g r l ef eg e = e ∙ ap (λ (xs : List Facet). verdict (pairs_fault rows xs)) (two fs f g l ef eg)
 
-pub pairs_err : (rows : List Row) (fs : List Facet) (f g : Facet) (e : Fault) → length fs ≡ 3 → f ≡ get_or fs 0 f → g ≡ get_or fs 1 g → Err e ≡ verdict (pair_fault rows (Some f) (Some g)) → Err e ≡ verdict (pairs_fault rows fs)
+pub pairs_err : (rows : List Row) (fs : List Facet) (f g : Facet) (e : MoveFault) → length fs ≡ 3 → f ≡ get_or fs 0 f → g ≡ get_or fs 1 g → Err e ≡ verdict (pair_fault rows (Some f) (Some g)) → Err e ≡ verdict (pairs_fault rows fs)
 unfolding pairs_fault
 pairs_err rows fs f g e l ef eg first =
     let h : Facet = get_or fs 2 f in
     let eh : h ≡ get_or fs 2 h = any_default fs 2 f h (omega arith) in
     err_first e (pair_fault rows (Some f) (Some g)) _ first ∙ ap (λ (xs : List Facet). verdict (pairs_fault rows xs)) (three fs f g h l ef eg eh)
 
-pub ok_then : (x : Unit {0}) (o p : Option MoveFault) (r : Result (Unit {0}) Fault) → Ok x ≡ verdict o → r ≡ verdict p → r ≡ verdict (option_or o p)
+pub ok_then : (x : Unit {0}) (o p : Option MoveFault) (r : Result (Unit {0}) MoveFault) → Ok x ≡ verdict o → r ≡ verdict p → r ≡ verdict (option_or o p)
 ok_then x o p r first e = e ∙ ap (λ (q : Option MoveFault). verdict (option_or q p)) (sym (ok_none x o first))
 
 -- the second pair fails
-pub pairs_second : (rows : List Row) (fs : List Facet) (f g f' h : Facet) (x : Unit {0}) (e : Fault) → length fs ≡ 3 → f ≡ get_or fs 0 f → g ≡ get_or fs 1 g → f' ≡ get_or fs 0 f' → h ≡ get_or fs 2 h
+pub pairs_second : (rows : List Row) (fs : List Facet) (f g f' h : Facet) (x : Unit {0}) (e : MoveFault) → length fs ≡ 3 → f ≡ get_or fs 0 f → g ≡ get_or fs 1 g → f' ≡ get_or fs 0 f' → h ≡ get_or fs 2 h
     → Ok x ≡ verdict (pair_fault rows (Some f) (Some g)) → Err e ≡ verdict (pair_fault rows (Some f') (Some h)) → Err e ≡ verdict (pairs_fault rows fs)
 unfolding pairs_fault
 pairs_second rows fs f g f' h x e l ef eg ef' eh first second =
@@ -189,7 +190,7 @@ pairs_second rows fs f g f' h x e l ef eg ef' eh first second =
     ∙ ap (λ (xs : List Facet). verdict (pairs_fault rows xs)) (three fs f g h l ef eg eh)
 
 -- the third decides
-pub pairs_third : (rows : List Row) (fs : List Facet) (f g f' h g' h' : Facet) (x y : Unit {0}) (r : Result (Unit {0}) Fault) → length fs ≡ 3 → f ≡ get_or fs 0 f → g ≡ get_or fs 1 g → f' ≡ get_or fs 0 f' → h ≡ get_or fs 2 h → g' ≡ get_or fs 1 g' → h' ≡ get_or fs 2 h'
+pub pairs_third : (rows : List Row) (fs : List Facet) (f g f' h g' h' : Facet) (x y : Unit {0}) (r : Result (Unit {0}) MoveFault) → length fs ≡ 3 → f ≡ get_or fs 0 f → g ≡ get_or fs 1 g → f' ≡ get_or fs 0 f' → h ≡ get_or fs 2 h → g' ≡ get_or fs 1 g' → h' ≡ get_or fs 2 h'
     → Ok x ≡ verdict (pair_fault rows (Some f) (Some g)) → Ok y ≡ verdict (pair_fault rows (Some f') (Some h)) → r ≡ verdict (pair_fault rows (Some g') (Some h')) → r ≡ verdict (pairs_fault rows fs)
 unfolding pairs_fault
 pairs_third rows fs f g f' h g' h' x y r l ef eg ef' eh eg' eh' first second third =
@@ -300,9 +301,9 @@ pub move_fault_is : (rows : List Row) (m : Move) → m.tet < length rows → mov
 unfolding move_fault
 move_fault_is rows m l = rw (lt-ltb m.tet (length rows) l) refl
 
-verdict_of : (o : Option MoveFault) (e : Fault) → Err e ≡ verdict o → (fault : MoveFault) × (o ≡ Some fault) × (e ≡ answer fault)
+verdict_of : (o : Option MoveFault) (e : MoveFault) → Err e ≡ verdict o → o ≡ Some e
 verdict_of None e h = absurd cc
-verdict_of (Some fault) e h = (fault, refl, cc)
+verdict_of (Some fault) e h = cc
 
 pub facet_fault_first : (rows : List Row) (m : Move) (e : MoveFault) → m.tet < length rows → first_facet_fault rows m ≡ Some e → move_fault rows m ≡ Some e
 facet_fault_first rows m e l h = move_fault_is rows m l ∙ ap (λ o. option_or o (pairs_first rows m (length m.core))) h
@@ -312,11 +313,10 @@ pairs_decide : (rows : List Row) (m : Move) (fs slice : List Facet) → m.tet < 
 pairs_decide rows m fs slice l low high none is shown =
     move_fault_is rows m l ∙ ap (λ o. option_or o (pairs_first rows m (length m.core))) none ∙ pairs_are rows m (length m.core) low high none ∙ ap (pairs_fault rows) (sym (shown ∙ is))
 
-pub pair_fault_found : (rows : List Row) (m : Move) (fs slice : List Facet) (e : Fault) → m.tet < length rows → 0 < length m.core → length m.core < 5 → first_facet_fault rows m ≡ None → fs ≡ found_facets rows m → slice ≡ fs
-    → Err e ≡ verdict (pairs_fault rows slice) → IsAnswer e (move_fault rows m)
+pub pair_fault_found : (rows : List Row) (m : Move) (fs slice : List Facet) (e : MoveFault) → m.tet < length rows → 0 < length m.core → length m.core < 5 → first_facet_fault rows m ≡ None → fs ≡ found_facets rows m → slice ≡ fs
+    → Err e ≡ verdict (pairs_fault rows slice) → move_fault rows m ≡ Some e
 pair_fault_found rows m fs slice e l low high none is shown h =
-    let v = verdict_of (pairs_fault rows slice) e h in
-    (v.0, pairs_decide rows m fs slice l low high none is shown ∙ v.1, v.2)
+    pairs_decide rows m fs slice l low high none is shown ∙ verdict_of (pairs_fault rows slice) e h
 
 pub is_legal : (rows : List Row) (m : Move) (fs slice all : List Facet) (own : Facet) (x : Unit {0}) → m.tet < length rows → 0 < length m.core → length m.core < 5 → first_facet_fault rows m ≡ None → fs ≡ found_facets rows m → slice ≡ fs
     → Ok x ≡ verdict (pairs_fault rows slice) → own ≡ own_facet m → all ≡ fs ++ own ∷ [] → IsPattern rows m all
@@ -340,6 +340,6 @@ small_labels s l k d q =
 pub all_in : (rows : List Row) (m : Move) (fs slice : List Facet) → IsTable rows → length m.core < 5 → fs ≡ found_facets rows m → slice ≡ fs → All (λ (f : Facet). f.tet < length rows) slice
 all_in rows m fs slice table small is shown = subst (λ (xs : List Facet). All (λ (f : Facet). f.tet < length rows) xs) (sym (shown ∙ is)) (λ k d l. facets_in rows m table (found_labels m) (small_labels (length m.core) small) k d l)
 
-pub none_such : (rows : List Row) (m : Move) → length rows ≤ m.tet → move_fault rows m ≡ Some no_such_tet
+pub none_such : (rows : List Row) (m : Move) → length rows ≤ m.tet → move_fault rows m ≡ Some NoSuchTet
 unfolding move_fault
 none_such rows m l = rw (le-ltb m.tet (length rows) l) refl

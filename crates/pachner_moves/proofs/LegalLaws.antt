@@ -12,7 +12,9 @@ use Rattle.table_definitions.proofs.TableLaws.{Among, Among-range, Among-pairs, 
 use Rattle.perm_four.proofs.ListFacts.{both_true, same_list-true}
 use Rattle.perm_four.proofs.Permutations.{image_below, image-compose}
 use Rattle.gluing_table.proofs.Ranks.{unequal}
-use Rattle.move_definitions.specs.Moves.{Move, Facet, MoveFault, IsCore, own_facet, vertex_of, opposite, facet, facet_behind, facet_fault, found_labels, tets_before, pair_fault, is_matched, move_fault, not_matched, repeated, label_by_label}
+use Rattle.move_definitions.specs.declared.MoveFault.{MoveFault}
+use Rattle.move_definitions.specs.declared.MoveFault.TheVariants.{NotMatched, Repeated}
+use Rattle.move_definitions.specs.Moves.{Move, Facet, IsCore, own_facet, vertex_of, opposite, facet, facet_behind, facet_fault, found_labels, tets_before, pair_fault, is_matched, move_fault, label_by_label}
 use Rattle.pachner_moves.specs.Facets.{IsFacet, IsOldFacet}
 use Rattle.pachner_moves.specs.Faults.{first_facet_fault}
 use Rattle.pachner_moves.proofs.FindLaws.{from_four, move_fault_is, pairs_first, some_facet, none_such}
@@ -173,7 +175,7 @@ not_taken false e h = refl
 
 free_tet : (rows : List Row) (m : Move) (i : ℕ) (f : Facet) → IsCore m.core → Faultless rows m → length m.core ≤ i → i < 4 → facet rows m i ≡ Some f → has (tets_before rows m i) f.tet ≡ false
 free_tet rows m i f core no_fault low high e =
-    not_taken (has (tets_before rows m i) f.tet) (repeated i) (ap (facet_fault rows m i) (sym e) ∙ fault_at rows m i core no_fault low high)
+    not_taken (has (tets_before rows m i) f.tet) (Repeated i) (ap (facet_fault rows m i) (sym e) ∙ fault_at rows m i core no_fault low high)
 
 either_false : (a b : Bool) → (a || b) ≡ false → (a ≡ false) × (b ≡ false)
 either_false true b h = absurd cc
@@ -219,7 +221,7 @@ own_glued rows m k g table core small G =
 pair_matched : (rows : List Row) (f g : Facet) → pair_fault rows (Some f) (Some g) ≡ None → is_matched f g (glue rows (opposite f g.missing)) ≡ true
 pair_matched rows f g h = by_test (is_matched f g (glue rows (opposite f g.missing))) h
   where
-    by_test : (b : Bool) → (if b then None else Some (not_matched f.missing g.missing)) ≡ None → b ≡ true
+    by_test : (b : Bool) → (if b then None else Some (NotMatched f.missing g.missing)) ≡ None → b ≡ true
     by_test true h = refl
     by_test false h = absurd cc
 

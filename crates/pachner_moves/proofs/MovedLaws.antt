@@ -14,7 +14,8 @@ use Rattle.gluing_table.specs.Replaceable.{fresh_numbers, fresh_glue, CanReplace
 use Rattle.gluing_table.proofs.Kept.{IsKeptAs, kept_as, length-replaced, glue-fresh, glue-kept}
 use Rattle.gluing_table.proofs.FreshRows.{back_is}
 use Rattle.gluing_table.proofs.Replaced.{replaced_is_table}
-use Rattle.move_definitions.specs.Moves.{Move, Facet, too_many, old_facets, vertex_of, opposite, move_fault, play_fault, IsCore, kept, new_length, new_facet, kept_stand_in, stand_in_at, moved_gluing, IsMoved, Plays}
+use Rattle.move_definitions.specs.declared.MoveFault.TheVariants.{TooMany}
+use Rattle.move_definitions.specs.Moves.{Move, Facet, old_facets, vertex_of, opposite, move_fault, play_fault, IsCore, kept, new_length, new_facet, kept_stand_in, stand_in_at, moved_gluing, IsMoved, Plays}
 use Rattle.pachner_moves.specs.Facets.{IsOldFacet, AreOldFacets, CanPlay, put_rows, stands_for, exchange}
 use Rattle.pachner_moves.proofs.LegalLaws.{IsLegal, legal_from, both_none}
 use Rattle.pachner_moves.proofs.ListedLaws.{tets, old_of_tet, taken-has, are_old, stand_kept}
@@ -109,6 +110,7 @@ kept_moved rows m x (Some g) legal can lt l free e = by_test (has (tets rows m) 
 
 pub moves : (rows : List Row) (m : Move) → CanMove rows m → IsMoved rows m (replaced rows (exchange rows m))
 moves rows m c = record {
+  core = c.legal.core;
   legal = c.fault;
   length_is = length-replaced rows (exchange rows m) ∙ put-length rows m c.legal;
   four_faces = (replaced_is_table rows (exchange rows m) c.legal.table can).four_faces;
@@ -136,18 +138,18 @@ moves rows m c = record {
 -- a move that is not at fault
 pub can_move : (rows : List Row) (m : Move) → CanPlay rows m → CanMove rows m
 can_move rows m can =
-    let b = both_none (move_fault rows m) (cond (nat_lt max_tets (new_length rows m)) (Some too_many) None) can.playable in
+    let b = both_none (move_fault rows m) (cond (nat_lt max_tets (new_length rows m)) (Some TooMany) None) can.playable in
     record { legal = legal_from rows m can.table can.core b.0; fault = b.0; fits = by_size (cases_lt max_tets (new_length rows m)) b.1 }
   where
-    by_size : (max_tets < new_length rows m) ⊎ (new_length rows m ≤ max_tets) → cond (nat_lt max_tets (new_length rows m)) (Some too_many) None ≡ None → new_length rows m ≤ max_tets
-    by_size (inl l) e = let z : Some too_many ≡ None = sym (ap (λ t. cond t (Some too_many) None) (lt-ltb max_tets (new_length rows m) l)) ∙ e in absurd cc
+    by_size : (max_tets < new_length rows m) ⊎ (new_length rows m ≤ max_tets) → cond (nat_lt max_tets (new_length rows m)) (Some TooMany) None ≡ None → new_length rows m ≤ max_tets
+    by_size (inl l) e = let z : Some TooMany ≡ None = sym (ap (λ t. cond t (Some TooMany) None) (lt-ltb max_tets (new_length rows m) l)) ∙ e in absurd cc
     by_size (inr l) e = l
 
 pub can_be_replaced : (rows : List Row) (m : Move) → CanPlay rows m → CanReplace rows (exchange rows m)
 can_be_replaced rows m can = let c = can_move rows m can in can_exchange rows m c.legal c.fits
 
 pub plays : (rows : List Row) (m : Move) → CanPlay rows m → Plays rows m (replaced rows (exchange rows m))
-plays rows m can = (moves rows m (can_move rows m can), can.playable)
+plays rows m can = record { table = can.table; moved = moves rows m (can_move rows m can); accepted = can.playable }
 
 -- the same, by what the calls give
 
@@ -172,12 +174,12 @@ pub can_play : (rows : List Row) (m : Move) → IsTable rows → IsCore m.core �
 can_play rows m table core none fits = record {
   table = table;
   core = core;
-  playable = ap (λ o. option_or o (cond (nat_lt max_tets (new_length rows m)) (Some too_many) None)) none ∙ ap (λ t. cond t (Some too_many) None) (le-ltb max_tets (new_length rows m) fits);
+  playable = ap (λ o. option_or o (cond (nat_lt max_tets (new_length rows m)) (Some TooMany) None)) none ∙ ap (λ t. cond t (Some TooMany) None) (le-ltb max_tets (new_length rows m) fits);
 }
 
 pub are_old_by : (rows : List Row) (m : Move) (facets found : List Facet) → IsTable rows → IsCore m.core → move_fault rows m ≡ None → facets ≡ found → found ≡ old_facets rows m → AreOldFacets rows m facets
 are_old_by rows m facets found table core none e are = are_old rows m facets (legal_from rows m table core none) (e ∙ are)
 
-pub too_long : (rows : List Row) (m : Move) → move_fault rows m ≡ None → max_tets < new_length rows m → play_fault rows m ≡ Some too_many
+pub too_long : (rows : List Row) (m : Move) → move_fault rows m ≡ None → max_tets < new_length rows m → play_fault rows m ≡ Some TooMany
 too_long rows m none l =
-    ap (λ o. option_or o (cond (nat_lt max_tets (new_length rows m)) (Some too_many) None)) none ∙ ap (λ t. cond t (Some too_many) None) (lt-ltb max_tets (new_length rows m) l)
+    ap (λ o. option_or o (cond (nat_lt max_tets (new_length rows m)) (Some TooMany) None)) none ∙ ap (λ t. cond t (Some TooMany) None) (lt-ltb max_tets (new_length rows m) l)

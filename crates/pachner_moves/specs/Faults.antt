@@ -1,32 +1,19 @@
--- The faults of moves, as the calls answer them, and what the search for facets gives.
+-- The first fault of a move, and what the search for facets gives.
 use Rattle.std.specs.Prelude.{◌≡◌, ◌-◌, ℕ, List, [], ◌∷◌, length, filter_map, Option, Some, None, Result, Ok, Err}
 use Rattle.std.specs.Option.{option_or}
 use Rattle.std.specs.List.{range_with_len}
 use Rattle.table_definitions.specs.Lists.{first_some}
 use Rattle.table_definitions.specs.Table.{Row}
 use Rattle.move_definitions.specs.Moves as moves
-use Rattle.pachner_moves.specs.declared.legality.MoveFault.{MoveFault}
-use Rattle.pachner_moves.specs.declared.legality.MoveFault.TheVariants.{NoSuchTet, Boundary, Repeated, NotMatched, TooMany}
-
--- a fault with its labels
-abbrev pub answer : moves.MoveFault → MoveFault
-answer moves.no_such_tet = NoSuchTet
-answer (moves.boundary label) = Boundary label
-answer (moves.repeated label) = Repeated label
-answer (moves.not_matched first second) = NotMatched first second
-answer moves.too_many = TooMany
+use Rattle.move_definitions.specs.declared.MoveFault.{MoveFault}
 
 -- nothing, or the fault that was found first
-abbrev pub verdict : Option moves.MoveFault → Result (Unit {0}) MoveFault
+abbrev pub verdict : Option MoveFault → Result (Unit {0}) MoveFault
 verdict None = Ok tt
-verdict (Some fault) = Err (answer fault)
-
--- a fault was found, and this is it
-abbrev pub IsAnswer : MoveFault → Option moves.MoveFault → Type 0
-IsAnswer e found = (fault : moves.MoveFault) × (found ≡ Some fault) × (e ≡ answer fault)
+verdict (Some fault) = Err fault
 
 -- the first fault of the facets behind faces
-abbrev pub first_facet_fault : List Row → moves.Move → Option moves.MoveFault
+abbrev pub first_facet_fault : List Row → moves.Move → Option MoveFault
 first_facet_fault rows m = first_some (λ i. moves.facet_fault rows m i (moves.facet rows m i)) (moves.found_labels m)
 
 -- the facets of the labels from the core's size on that are below this one
@@ -37,7 +24,7 @@ abbrev pub found_facets : List Row → moves.Move → List moves.Facet
 found_facets rows m = filter_map (moves.facet rows m) (moves.found_labels m)
 
 -- the first pair of at most three facets that aren't glued to each other
-unfoldable pub pairs_fault : List Row → List moves.Facet → Option moves.MoveFault
+unfoldable pub pairs_fault : List Row → List moves.Facet → Option MoveFault
 pairs_fault rows (f ∷ g ∷ []) = moves.pair_fault rows (Some f) (Some g)
 pairs_fault rows (f ∷ g ∷ h ∷ []) =
     option_or (moves.pair_fault rows (Some f) (Some g)) (option_or (moves.pair_fault rows (Some f) (Some h)) (moves.pair_fault rows (Some g) (Some h)))

@@ -54,11 +54,13 @@ impl Core {
         Some(Core { mask })
     }
 
-    /// Whether a vertex is one of the core.
+    /// Whether a number is that of a vertex of the core; from 4 on none is.
     pub fn has(self, v: u8) -> bool
-        requires { v < 4 }
         ensures { result ≡ has self v }
     {
+        if v >= 4 {
+            return false;
+        }
         self.mask >> v & 1 == 1
     }
 

@@ -4,27 +4,13 @@ ghost use Rattle.std.specs.Prelude.{◌≡◌, ◌<◌, ◌≤◌, ◌∷◌, le
 ghost use Rattle.table_definitions.specs.Lists.{has};
 ghost use Rattle.table_definitions.specs.Table.{IsTable};
 ghost use Rattle.move_definitions.specs.Moves as moves;
-ghost use Rattle.pachner_moves.specs.Faults.{verdict, IsAnswer, first_facet_fault, found_facets, pairs_fault, IsPattern, facets_below};
+ghost use Rattle.pachner_moves.specs.Faults.{verdict, first_facet_fault, found_facets, pairs_fault, IsPattern, facets_below};
 
 use crate::facet::{facet_at, is_matched, own_facet};
 use crate::{Facet, Move};
 use arrayvec::ArrayVec;
 use gluing_table::Table;
-
-/// Why a move can't be made.
-#[derive(Clone, Copy, Debug, PartialEq, Eq)]
-pub enum MoveFault {
-    /// The table has no such tetrahedron.
-    NoSuchTet,
-    /// The face of the tetrahedron opposite this label is a boundary face.
-    Boundary { label: u8 },
-    /// The facet that lacks this label is a tetrahedron that stands for another facet already.
-    Repeated { label: u8 },
-    /// The facets that lack these labels aren't glued to each other label by label.
-    NotMatched { first: u8, second: u8 },
-    /// The new table would have more than 1,000 tetrahedra.
-    TooMany,
-}
+use move_definitions::MoveFault;
 
 /// The facets that a move takes out, by ascending missing label.
 #[derive(Drop)]
@@ -59,7 +45,7 @@ fn find_facet(table: &Table, m: &Move, label: u8, found: &[Facet]) -> Result<Fac
     requires found { found.now ≡ facets_below table.now m.now label }
     ensures facet { IfOk result (λ f. Some f ≡ moves.facet table.now m.now label) }
     ensures none { OnOk result (moves.facet_fault table.now m.now label (moves.facet table.now m.now label) ≡ None) }
-    ensures fault { IfErr result (λ e. IsAnswer e (moves.facet_fault table.now m.now label (moves.facet table.now m.now label))) }
+    ensures fault { IfErr result (λ e. moves.facet_fault table.now m.now label (moves.facet table.now m.now label) ≡ Some e) }
 {
     let Some(facet) = facet_at(table, *m, label) else {
         return Err(MoveFault::Boundary { label });
@@ -78,7 +64,7 @@ fn find_facets(table: &Table, m: &Move, size: u8) -> Result<ArrayVec<Facet, 4>, 
     requires most { size ≤ 4 }
     ensures facets { IfOk result (λ facets. facets.items ≡ found_facets table.now m.now) }
     ensures none { OnOk result (first_facet_fault table.now m.now ≡ None) }
-    ensures fault { IfErr result (λ e. IsAnswer e (first_facet_fault table.now m.now)) }
+    ensures fault { IfErr result (λ e. first_facet_fault table.now m.now ≡ Some e) }
 {
     let mut facets = ArrayVec::new();
     for label in size..4 {
@@ -123,7 +109,7 @@ fn check_pairs(table: &Table, facets: &[Facet]) -> Result<(), MoveFault>
 /// first label `Boundary` or `Repeated`, then for the first pair `NotMatched`.
 pub fn legal(table: &Table, m: Move) -> Result<Pattern, MoveFault>
     ensures pattern { IfOk result (λ p. IsPattern table.now m p.facets.items) }
-    ensures fault { IfErr result (λ e. IsAnswer e (moves.move_fault table.now m)) }
+    ensures fault { IfErr result (λ e. moves.move_fault table.now m ≡ Some e) }
 {
     if m.tet as usize >= table.rows().len() {
         return Err(MoveFault::NoSuchTet);

@@ -9,7 +9,8 @@ mod moving;
 
 pub use cores::{Core, Move};
 pub use facet::Facet;
-pub use legality::{MoveFault, Pattern, legal};
+pub use legality::{Pattern, legal};
+pub use move_definitions::MoveFault;
 pub use moving::{Undo, apply, inverse_move, take_back, taking_back_law};
 
 #[cfg(test)]

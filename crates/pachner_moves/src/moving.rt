@@ -6,8 +6,8 @@ ghost use Rattle.table_definitions.specs.Table.{IsTable};
 ghost use Rattle.move_definitions.specs.Moves as moves;
 ghost use Rattle.move_definitions.specs.Moves.{Plays, IsCore};
 ghost use Rattle.move_definitions.specs.Undos as undos;
-ghost use Rattle.move_definitions.specs.Undos.{CanTakeBack, TakesBack};
-ghost use Rattle.pachner_moves.specs.Faults.{IsAnswer, IsPattern};
+ghost use Rattle.move_definitions.specs.Undos.{CanTakeBack, IsTakenBack, TakesBack};
+ghost use Rattle.pachner_moves.specs.Faults.{IsPattern};
 ghost use Rattle.pachner_moves.specs.Facets.{IsOldFacet, AreOldFacets, CanPlay, stands_for, outer_gluing, fresh_gluing, put_row, put_rows, exchange};
 
 use crate::facet::{glue_opposite, vertex_of};
@@ -172,7 +172,7 @@ pub fn apply(table: &mut Table, m: Move) -> Result<Undo, MoveFault>
     ensures moved { OnOk result (Plays table.old m table.new) }
     ensures undo { IfOk result (λ u. u ≡ undos.undo_of table.old m) }
     ensures core { IsCore m.core }
-    ensures fault { IfErr result (λ e. IsAnswer e (moves.play_fault table.old m)) }
+    ensures fault { IfErr result (λ e. moves.play_fault table.old m ≡ Some e) }
     ensures left { OnErr result (table.new ≡ table.old) }
 {
     let pattern = legal(table, m)?;
@@ -218,6 +218,7 @@ impl Undo {
 pub fn take_back(table: &mut Table, undo: &Undo)
     requires { CanTakeBack table.old undo.now }
     ensures former { table.new ≡ undos.former table.old undo.now }
+    ensures row_for_row { IsTakenBack table.old undo.now table.new }
 {
     let removed = put_numbers(undo);
     table.replace(&removed, &undo.rows);

@@ -15,8 +15,7 @@ loop-label-preserved c = record {
 pub returns-in_err-facet-clause-fault : goal.returns-in_err-facet-clause-fault
 returns-in_err-facet-clause-fault c =
     let p = err_from_is_err_and c.from_residual.result c.from_residual.ensures.1 in
-    let f = c.in_err-facet.ensures.fault in
-    rw (p.1, p.2) (f.0, first_fault c.args.table.now c.args.m.now c.loop-label.label f.0 (omega arith) (omega arith) c.loop-label.invariant.none f.1, f.2)
+    rw (p.1, p.2) (first_fault c.args.table.now c.args.m.now c.loop-label.label _ (omega arith) (omega arith) c.loop-label.invariant.none c.in_err-facet.ensures.fault)
 
 pub returns-clause-facets : goal.returns-clause-facets
 returns-clause-facets c = all_facets c.args.table.now c.args.m.now c.loop-label.label c.loop-label.facets.items (omega arith) (omega arith) c.loop-label.invariant.facets

@@ -1,7 +1,7 @@
-use Rattle.std.proofs.Common.{ap, arith, refl, ◌≡◌, length, List}
+use Rattle.std.proofs.Common.{ap, arith, ◌≡◌, length, List}
 use Rattle.std.proofs.lemmas.Result.{err_from_is_err_and}
 use Rattle.table_definitions.specs.Table.{Row}
-use Rattle.move_definitions.specs.Moves.{Move, no_such_tet}
+use Rattle.move_definitions.specs.Moves.{Move}
 use Rattle.pachner_moves.proofs.FindLaws.{all_in, none_such, facet_fault_first, pair_fault_found, is_legal}
 use Rattle.pachner_moves.proofs.legality.legal.Goals as goal
 
@@ -9,15 +9,14 @@ pub returns-then-m-rows-clause-fault : goal.returns-then-m-rows-clause-fault
 returns-then-m-rows-clause-fault c =
     let n : length c.rows.result.now ≡ length c.args.table.now = ap (λ (rows : List Row). length rows) c.rows.ensures.rows in
     let t : c.m.inside.tet ≡ c.args.m.tet = ap (λ (m : Move). m.tet) c.m.view_is in
-    (no_such_tet, none_such c.args.table.now c.args.m (omega arith), refl)
+    none_such c.args.table.now c.args.m (omega arith)
 
 pub returns-in_err-facets-clause-fault : goal.returns-in_err-facets-clause-fault
 returns-in_err-facets-clause-fault c =
     let n : length c.rows.result.now ≡ length c.args.table.now = ap (λ (rows : List Row). length rows) c.rows.ensures.rows in
     let t : c.m.inside.tet ≡ c.args.m.tet = ap (λ (m : Move). m.tet) c.m.view_is in
     let p = err_from_is_err_and c.from_residual.result c.from_residual.ensures.1 in
-    let f = c.in_err-facets.ensures.fault in
-    rw (p.1, p.2) (f.0, facet_fault_first c.args.table.now c.args.m f.0 (omega arith) f.1, f.2)
+    rw (p.1, p.2) (facet_fault_first c.args.table.now c.args.m _ (omega arith) c.in_err-facets.ensures.fault)
 
 pub check_pairs-requires : goal.check_pairs-requires
 check_pairs-requires c =

@@ -1,12 +1,11 @@
 -- A move that is accepted is kept, and one that is refused changes nothing.
-use Rattle.std.proofs.Common.{◌≡◌, ◌≤◌, ◌<◌, ◌+◌, length, ap, arith, ◌∙◌, subst}
+use Rattle.std.proofs.Common.{◌≡◌, ◌≤◌, ◌<◌, ◌+◌, length, refl, ap, arith, ◌∙◌, subst}
 use Rattle.std.specs.Prelude.{List, vec_capacity}
 use Rattle.std.proofs.lemmas.List.{length_push}
 use Rattle.std.proofs.lemmas.Result.{err_from_is_err_and}
 use Rattle.move_definitions.specs.Moves.{Move}
 use Rattle.move_definitions.specs.Undos.{Undo}
 use Rattle.move_definitions.specs.Sessions as sessions
-use Rattle.move_undo.specs.declared.session.PlayFault.TheVariants.{Illegal}
 use Rattle.move_undo.proofs.RecordLaws.{recorded-most, recorded-play, recorded-table, recorded-as, first-as, played-back, moves-after, records-after, length-after}
 use Rattle.move_undo.proofs.session.Session.play.Goals as goal
 
@@ -25,7 +24,7 @@ returns-in_err-undo-clause-fault c =
     let p = err_from_is_err_and c.from_residual-in_err-undo.result c.from_residual-in_err-undo.ensures.1 in
     let fault = c.in_err-undo.ensures.fault in
     let here = subst (λ (s : sessions.Session). sessions.IsTableOf s c.self.inside.table) c.self.view_is (recorded-table _ _ _ _ c.self.invariant.recorded) in
-    rw (p.1, p.2) (λ e. (fault.0, ap (λ f. Illegal f) fault.2, (c.self.inside.table, here, fault.1)))
+    rw (p.1, p.2) (λ e. (_, refl, (c.self.inside.table, here, fault)))
 
 pub keep-requires-clause-most : goal.keep-requires-clause-most
 keep-requires-clause-most c =
@@ -57,7 +56,7 @@ invariant_of-self-2 c =
 pub returns-clause-accepted : goal.returns-clause-accepted
 returns-clause-accepted c =
     let here = subst (λ (s : sessions.Session). sessions.IsTableOf s c.self.inside.table) c.self.view_is (recorded-table _ _ _ _ c.self.invariant.recorded) in
-    (c.self.inside.table, here, c.in_ok-undo.ensures.played.plays.1)
+    (c.self.inside.table, here, c.in_ok-undo.ensures.played.plays.accepted)
 
 pub returns-clause-played : goal.returns-clause-played
 returns-clause-played c =
