@@ -6,11 +6,10 @@ use Rattle.table_definitions.specs.Table.{Row}
 use Rattle.table_definitions.specs.Classes.{degree}
 use Rattle.table_definitions.specs.Places.{IsConnected, is_closed, is_boundary_edge}
 use Rattle.skeleton_definitions.specs.Orientation.{IsOrientable}
-use Rattle.skeleton_definitions.specs.Links.{Link, LinkKind, sphere, disc, torus, klein, other}
-use Rattle.vertex_links.specs.declared.link.Link as found
-use Rattle.vertex_links.specs.declared.link.LinkKind.TheVariants.{Sphere}
-use Rattle.vertex_links.specs.Shown.{link_shown, AreLinks}
-use Rattle.skeleton_definitions.specs.Skeleton.{Skeleton, IsSkeleton, IsValidClass}
+use Rattle.skeleton_definitions.specs.declared.LinkKind.{LinkKind}
+use Rattle.skeleton_definitions.specs.declared.LinkKind.TheVariants.{Sphere, Disc, Torus, Klein, Other}
+use Rattle.skeleton_definitions.specs.declared.Link.{Link}
+use Rattle.skeleton_definitions.specs.Skeleton.{Skeleton, IsSkeleton, IsValidClass, AreLinks}
 use Rattle.outcome_definitions.specs.declared.Status.TheVariants.{Done}
 use Rattle.outcome_definitions.specs.Lines.{line}
 use Rattle.outcome_definitions.specs.Outcomes.{Outcome}
@@ -18,13 +17,13 @@ use Rattle.outcome_definitions.specs.Outcomes.{Outcome}
 -- the skeleton of a table, the links of its vertex classes, which edge classes are valid, and whether the table is connected and orientable
 pub record Information : Type 0 where
   pub skeleton : Skeleton
-  pub links : List found.Link
+  pub links : List Link
   pub valid : List Bool
   pub connected : Bool
   pub orientable : Bool
 
 -- no link, where a class is out of range
-abbrev pub no_link : found.Link
+abbrev pub no_link : Link
 no_link = record { triangles = 0; edges = 0; vertices = 0; euler = pos 0; closed = false; orientable = false; kind = Sphere }
 
 -- which edge classes are valid
@@ -52,11 +51,11 @@ abbrev pub told : List ℕ → Bool → List ℕ
 told name b = line (name ++ yes_or_no b)
 
 abbrev pub kind_word : LinkKind → List ℕ
-kind_word sphere = codes "sphere"
-kind_word disc = codes "disc"
-kind_word torus = codes "torus"
-kind_word klein = codes "klein"
-kind_word other = codes "other"
+kind_word Sphere = codes "sphere"
+kind_word Disc = codes "disc"
+kind_word Torus = codes "torus"
+kind_word Klein = codes "klein"
+kind_word Other = codes "other"
 
 abbrev pub place_word : Bool → List ℕ
 place_word true = codes "boundary"
@@ -85,8 +84,8 @@ abbrev pub edge_line : ℕ → ℕ → Bool → Bool → List ℕ
 edge_line c members in_boundary valid = line (codes "edge " ++ decimal c ++ codes " degree " ++ decimal members ++ codes " place " ++ place_word in_boundary
     ++ codes " valid " ++ yes_or_no valid)
 
-abbrev pub vertex_text : Skeleton → List found.Link → ℕ → List ℕ
-vertex_text s links c = vertex_line c (degree s.vertices.classes c) (link_shown (slice_index_or links c no_link))
+abbrev pub vertex_text : Skeleton → List Link → ℕ → List ℕ
+vertex_text s links c = vertex_line c (degree s.vertices.classes c) (slice_index_or links c no_link)
 
 abbrev pub edge_text : Skeleton → List Bool → ℕ → List ℕ
 edge_text s valid c = edge_line c (degree s.edges.classes c) (is_boundary_edge s.rows s.edges.classes c) (slice_index_or valid c false)

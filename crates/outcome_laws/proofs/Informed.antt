@@ -6,10 +6,9 @@ use Rattle.table_definitions.specs.Table.{Row}
 use Rattle.table_definitions.specs.Classes.{degree}
 use Rattle.table_definitions.specs.Places.{IsConnected, is_boundary_edge}
 use Rattle.skeleton_definitions.specs.Orientation.{IsOrientable}
-use Rattle.skeleton_definitions.specs.Links.{Link, IsLink, SameDirected, euler_of, kind_of, IsOrientableLink}
-use Rattle.skeleton_definitions.specs.Skeleton.{Skeleton, IsValidClass}
-use Rattle.vertex_links.specs.declared.link.Link as found
-use Rattle.vertex_links.specs.Shown.{link_shown, AreLinks}
+use Rattle.skeleton_definitions.specs.declared.Link.{Link}
+use Rattle.skeleton_definitions.specs.Links.{IsLink, SameDirected, euler_of, kind_of, IsOrientableLink}
+use Rattle.skeleton_definitions.specs.Skeleton.{Skeleton, IsValidClass, AreLinks}
 use Rattle.outcome_definitions.specs.declared.Status.TheVariants.{Done}
 use Rattle.outcome_definitions.specs.Outcomes.{Outcome}
 use Rattle.outcome_definitions.specs.Information.{Information, IsInformation, IsInformationAnswer, no_link, AreValid, vertex_line, vertex_text, edge_line, edge_text, classes_text, flags_text, counts_text, information_text}
@@ -56,17 +55,17 @@ one_link rows classes directions c l m h k = λ i. record {
     kind = h.kind ∙ (λ i. kind_of (closed i) (euler i) (orientable i)) ∙ sym k.kind
 
 -- the links of the classes below n agree
-links_agree : (s : Skeleton) (n m : ℕ) (links others : List found.Link) → AreLinks s n links → AreLinks s m others → (c : ℕ) → c < n → c < m →
-    link_shown (slice_index_or links c no_link) ≡ link_shown (slice_index_or others c no_link)
-links_agree s n m links others h k c l r = one_link s.rows s.vertices.classes k.0 c (link_shown one) (link_shown other)
-    (subst (λ (directions : List ℕ). IsLink s.rows s.vertices.classes directions c (link_shown one)) same
+links_agree : (s : Skeleton) (n m : ℕ) (links others : List Link) → AreLinks s n links → AreLinks s m others → (c : ℕ) → c < n → c < m →
+    slice_index_or links c no_link ≡ slice_index_or others c no_link
+links_agree s n m links others h k c l r = one_link s.rows s.vertices.classes k.0 c one other
+    (subst (λ (directions : List ℕ). IsLink s.rows s.vertices.classes directions c one) same
     (h.3.told c one l (get_or_default links c no_link one (let e = h.3.one_each in omega arith))))
     (k.3.told c other r (get_or_default others c no_link other (let e = k.3.one_each in omega arith)))
   where
-    one : found.Link
+    one : Link
     one = slice_index_or links c no_link
 
-    other : found.Link
+    other : Link
     other = slice_index_or others c no_link
 
     same : h.0 ≡ k.0
@@ -78,7 +77,7 @@ unfolding classes_text
 same_lines text other zero h = refl
 same_lines text other (suc n) h = ap₂ (λ (front last : List ℕ). front ++ last) (same_lines text other n (λ c l. h c (omega arith))) (h n (omega arith))
 
-vertices_agree : (s : Skeleton) (links others : List found.Link) → length links ≡ s.vertices.count → length others ≡ s.vertices.count →
+vertices_agree : (s : Skeleton) (links others : List Link) → length links ≡ s.vertices.count → length others ≡ s.vertices.count →
     AreLinks s (length links) links → AreLinks s (length others) others →
     classes_text (vertex_text s links) s.vertices.count ≡ classes_text (vertex_text s others) s.vertices.count
 vertices_agree s links others e f h k = same_lines (vertex_text s links) (vertex_text s others) s.vertices.count

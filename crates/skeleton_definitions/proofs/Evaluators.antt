@@ -6,7 +6,8 @@ use Rattle.table_definitions.specs.Lists.{below, same_list, times_in}
 use Rattle.table_definitions.specs.Permutation.{four, is_odd, others}
 use Rattle.table_definitions.specs.Table.{Gluing, Row, glue, other_side}
 use Rattle.table_definitions.specs.Places.{Place, across, whole, vertex, edge, face_of, edge_number}
-use Rattle.skeleton_definitions.specs.Links.{directed, vertex_number, Link, link_edges, link_vertices, euler_of, is_closed_link, kind_of}
+use Rattle.skeleton_definitions.specs.Links.{directed, vertex_number, link_edges, link_vertices, euler_of, is_closed_link, kind_of}
+use Rattle.skeleton_definitions.specs.declared.Link.{Link}
 use Rattle.skeleton_definitions.specs.Corners.{Corner, step}
 
 -- each thing gets the least label among its own and its neighbours'

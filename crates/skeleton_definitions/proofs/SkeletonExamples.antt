@@ -3,7 +3,7 @@ use Rattle.skeleton_definitions.proofs.Computed.{computed}
 use Rattle.std.proofs.Common.{◌≡◌, ℕ, pos, true, false, [], ◌∷◌, map, refl}
 use Rattle.table_definitions.specs.Places.{is_closed, is_boundary_edge, IsInvalidEdge}
 use Rattle.table_definitions.specs.Classes.{degree}
-use Rattle.skeleton_definitions.specs.Links.{sphere as ball, disc, torus, klein}
+use Rattle.skeleton_definitions.specs.declared.LinkKind.TheVariants.{Sphere, Disc, Torus, Klein}
 use Rattle.skeleton_definitions.specs.Corners.{Corner, first_corner, inner_edges}
 use Rattle.skeleton_definitions.proofs.Evaluators.{vertex_classes, edge_classes, face_classes, components, count_of, link_of, walk_from, is_orientable}
 use Rattle.table_definitions.proofs.Tables.{sphere, table_id, figure_eight, invalid}
@@ -22,16 +22,16 @@ figure_eight_skeleton : (components figure_eight ≡ 0 ∷ 0 ∷ [])
 unfolding computed
 figure_eight_skeleton = (refl, refl, refl, refl, refl, refl, refl)
 
-links : (link_of figure_eight 0 ≡ record { triangles = 8; edges = 12; vertices = 4; euler = pos 0; closed = true; orientable = true; kind = torus })
-    × (link_of table_id 0 ≡ record { triangles = 4; edges = 6; vertices = 2; euler = pos 0; closed = true; orientable = false; kind = klein })
-    × (link_of sphere 0 ≡ record { triangles = 4; edges = 6; vertices = 4; euler = pos 2; closed = true; orientable = true; kind = ball })
+links : (link_of figure_eight 0 ≡ record { triangles = 8; edges = 12; vertices = 4; euler = pos 0; closed = true; orientable = true; kind = Torus })
+    × (link_of table_id 0 ≡ record { triangles = 4; edges = 6; vertices = 2; euler = pos 0; closed = true; orientable = false; kind = Klein })
+    × (link_of sphere 0 ≡ record { triangles = 4; edges = 6; vertices = 4; euler = pos 2; closed = true; orientable = true; kind = Sphere })
 unfolding computed
 links = (refl, refl, refl)
 
 -- 0:1032 0:1032 - -, with an invalid edge: the chain over face 0 joins edge 23 to its own reverse
 invalid_skeleton : (is_orientable invalid ≡ false) × (is_closed invalid ≡ false)
     × (vertex_classes invalid ≡ 0 ∷ 0 ∷ 1 ∷ 1 ∷ [])
-    × (map (λ c. (link_of invalid c).kind) (0 ∷ 1 ∷ []) ≡ disc ∷ disc ∷ [])
+    × (map (λ c. (link_of invalid c).kind) (0 ∷ 1 ∷ []) ≡ Disc ∷ Disc ∷ [])
     × (map (λ c. (link_of invalid c).euler) (0 ∷ 1 ∷ []) ≡ pos 1 ∷ pos 1 ∷ [])
     × (count_of (face_classes invalid) ≡ 3)
     × (map (degree (edge_classes invalid)) (0 ∷ 1 ∷ 2 ∷ 3 ∷ []) ≡ 1 ∷ 2 ∷ 2 ∷ 1 ∷ [])

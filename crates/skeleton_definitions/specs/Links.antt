@@ -7,6 +7,9 @@ use Rattle.table_definitions.specs.Table.{Gluing, Row, Face, glue, other_side, i
 use Rattle.table_definitions.specs.Classes.{is_least}
 use Rattle.table_definitions.specs.Places.{Place, IsJoined, is_boundary}
 use Rattle.skeleton_definitions.specs.Orientation.{sign_of, sign_across}
+use Rattle.skeleton_definitions.specs.declared.LinkKind.{LinkKind}
+use Rattle.skeleton_definitions.specs.declared.LinkKind.TheVariants.{Sphere, Disc, Torus, Klein, Other}
+use Rattle.skeleton_definitions.specs.declared.Link.{Link}
 
 -- directed place i, the i % 12-th pair of vertices v and w of tetrahedron i / 12: the corner, in the triangle at v, on the edge to w
 abbrev pub directed : ℕ → Place
@@ -59,37 +62,21 @@ AreLinkSigns rows classes c signs =
 abbrev pub IsOrientableLink : List Row → List ℕ → ℕ → Type 0
 IsOrientableLink rows classes c = (signs : List Bool) × (length signs ≡ length classes) × AreLinkSigns rows classes c signs
 
-pub data LinkKind : Type 0 where
-  sphere : LinkKind
-  disc : LinkKind
-  torus : LinkKind
-  klein : LinkKind
-  other : LinkKind
-
 -- the kind of a closed link, and of one that is not
 abbrev pub closed_kind : ℤ → Bool → LinkKind
-closed_kind (pos zero) true = torus
-closed_kind (pos zero) false = klein
-closed_kind (pos (suc (suc zero))) orientable = sphere
-closed_kind _ _ = other
+closed_kind (pos zero) true = Torus
+closed_kind (pos zero) false = Klein
+closed_kind (pos (suc (suc zero))) orientable = Sphere
+closed_kind _ _ = Other
 
 abbrev pub open_kind : ℤ → LinkKind
-open_kind (pos (suc zero)) = disc
-open_kind _ = other
+open_kind (pos (suc zero)) = Disc
+open_kind _ = Other
 
 -- closed, Euler characteristic, orientable
 abbrev pub kind_of : Bool → ℤ → Bool → LinkKind
 kind_of true euler orientable = closed_kind euler orientable
 kind_of false euler orientable = open_kind euler
-
-pub record Link : Type 0 where
-  pub triangles : ℕ
-  pub edges : ℕ
-  pub vertices : ℕ
-  pub euler : ℤ
-  pub closed : Bool
-  pub orientable : Bool
-  pub kind : LinkKind
 
 -- the link of vertex class c, by the numberings of the vertices and of the directed places
 pub record IsLink (rows : List Row) (classes directions : List ℕ) (c : ℕ) (link : Link) : Type 0 where

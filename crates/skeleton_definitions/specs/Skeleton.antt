@@ -1,11 +1,14 @@
--- A table with its vertex, edge and face classes, and what is asked of them.
+-- A table with its vertex, edge and face classes, and what is asked of them. The links of its vertex classes.
 use Rattle.std.specs.Prelude.{◌≡◌, ℕ, ◌*◌, ◌<◌, Bool, false, ◌↔◌, List, [], length, Option, Some, None, IsTrue, slice_index}
 use Rattle.std.specs.Bool.{MatchBool}
+use Rattle.std.specs.List.{slice_index_or}
 use Rattle.table_definitions.specs.Table.{Row, IsTable}
 use Rattle.table_definitions.specs.Classes.{IsNumbering, least}
 use Rattle.table_definitions.specs.Places.{SameVertex, SameEdge, SameFace, IsInvalidEdge, RunsAgainst, is_boundary_edge}
 use Rattle.skeleton_definitions.specs.Orientation.{AreSigns, IsOrientable, StartTrue}
 use Rattle.skeleton_definitions.specs.Corners.{Corner, first_corner, IsWalk}
+use Rattle.skeleton_definitions.specs.Links.{SameDirected, IsLink}
+use Rattle.skeleton_definitions.specs.declared.Link.{Link}
 
 -- classes of things, and how many there are
 pub record Numbering : Type 0 where
@@ -48,3 +51,12 @@ IsOrientation rows (Some signs) = AreSigns rows signs × StartTrue rows signs
 abbrev pub IsAround : Skeleton → ℕ → List Corner → Type 0
 IsAround s c corners =
     MatchBool (is_boundary_edge s.rows s.edges.classes c) (corners ≡ []) (IsWalk s.rows (first_corner (least s.edges.classes c)) corners)
+
+-- the links of the vertex classes below n, by the numbering of the directed edges
+pub record AreLinksUpTo (s : Skeleton) (directions : List ℕ) (n : ℕ) (links : List Link) : Type 0 where
+  pub one_each : length links ≡ n
+  pub told : (c : ℕ) (l : Link) → c < n → l ≡ slice_index_or links c l → IsLink s.rows s.vertices.classes directions c l
+
+-- the links of the vertex classes, by some numbering of the directed edges
+abbrev pub AreLinks : Skeleton → ℕ → List Link → Type 0
+AreLinks s n links = (directions : List ℕ) × (k : ℕ) × IsNumbering (12 * length s.rows) (SameDirected s.rows) directions k × AreLinksUpTo s directions n links

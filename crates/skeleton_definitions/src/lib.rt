@@ -1,3 +1,31 @@
 //! Orientation, links of vertices, walks round edges and the skeleton of a table. The definitions stand in `specs/`;
 //! `proofs/` has worked examples.
 #![tactic(auto)]
+
+/// What a link is.
+#[derive(Clone, Copy, Debug, PartialEq, Eq)]
+pub enum LinkKind {
+    /// Closed, of Euler characteristic 2.
+    Sphere,
+    /// Not closed, of Euler characteristic 1.
+    Disc,
+    /// Closed and orientable, of Euler characteristic 0.
+    Torus,
+    /// Closed and not orientable, of Euler characteristic 0.
+    Klein,
+    Other,
+}
+
+/// The link of a vertex class: a triangle for each member.
+#[derive(Clone, Copy, Debug, PartialEq, Eq)]
+pub struct Link {
+    pub triangles: u32,
+    pub edges: u32,
+    pub vertices: u32,
+    /// The Euler characteristic: vertices less edges plus triangles.
+    pub euler: i64,
+    /// No side of a triangle lies in a boundary face.
+    pub closed: bool,
+    pub orientable: bool,
+    pub kind: LinkKind,
+}

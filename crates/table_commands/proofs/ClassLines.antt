@@ -2,7 +2,7 @@
 use Rattle.std.proofs.Common.{◌≡◌, ℕ, ◌+◌, ◌<◌, List, [], ◌∷◌, ◌++◌, length, Bool, false, sym, ap, ◌∙◌, subst, add-one, append_assoc, append-nil, length-append, arith, ◌⊎◌, inl, inr, Option, Some, None, true}
 use Rattle.std.specs.Prelude.{IsTrue, is_some, codes, ◌↔◌}
 use Rattle.std.specs.List.{slice_index_or}
-use Rattle.skeleton_definitions.specs.Links.{Link}
+use Rattle.skeleton_definitions.specs.declared.Link.{Link}
 use Rattle.outcome_definitions.specs.Information.{classes_text, counted, told, edge_line, vertex_line, AreValid, Information, IsInformation, information_text, IsInformationAnswer}
 use Rattle.outcome_definitions.specs.Outcomes.{Outcome}
 use Rattle.outcome_definitions.specs.declared.Status.TheVariants.{Done}

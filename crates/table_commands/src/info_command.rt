@@ -2,8 +2,7 @@
 ghost use Rattle.std.specs.Prelude.{◌≡◌, ◌≤◌, ◌^◌, ◌↔◌, length, IsTrue, IfOk};
 ghost use Rattle.table_definitions.specs.Places.{IsConnected};
 ghost use Rattle.skeleton_definitions.specs.Orientation.{IsOrientable};
-ghost use Rattle.skeleton_definitions.specs.Skeleton.{IsSkeleton};
-ghost use Rattle.vertex_links.specs.Shown.{AreLinks};
+ghost use Rattle.skeleton_definitions.specs.Skeleton.{IsSkeleton, AreLinks};
 ghost use Rattle.document_definitions.specs.Documents.{table_document};
 ghost use Rattle.outcome_definitions.specs.Outcomes.{IsReadOutcome, IsOwnStatus};
 ghost use Rattle.outcome_definitions.specs.Information.{IsInformationAnswer, AreValid};

@@ -4,7 +4,6 @@ ghost use Rattle.std.specs.Fmt.{signed_decimal};
 ghost use Rattle.outcome_definitions.specs.Lines.{line};
 ghost use Rattle.outcome_definitions.specs.Information as information;
 ghost use Rattle.outcome_definitions.specs.Information.{classes_text};
-ghost use Rattle.vertex_links.specs.Shown.{kind_shown, link_shown};
 
 use no_memory::NoMemory;
 use skeleton::Skeleton;
@@ -25,7 +24,7 @@ fn place_word(in_boundary: bool) -> &'static [u8]
 }
 
 fn kind_word(kind: LinkKind) -> &'static [u8]
-    ensures { result.now ≡ information.kind_word (kind_shown kind) }
+    ensures { result.now ≡ information.kind_word kind }
 {
     match kind {
         LinkKind::Sphere => b"sphere",
@@ -69,7 +68,7 @@ fn append_vertex(
     degree: u32,
     link: &Link,
 ) -> Result<(), NoMemory>
-    ensures { OnOk result (text.new.items ≡ text.old.items ++ information.vertex_line class degree (link_shown link.now)) }
+    ensures { OnOk result (text.new.items ≡ text.old.items ++ information.vertex_line class degree link.now) }
 {
     append(text, b"vertex ")?;
     append_decimal(alloc, text, u128::from(class))?;

@@ -4,6 +4,8 @@ use Rattle.std.specs.List.{slice_index_or}
 use Rattle.table_definitions.specs.Lists.{below}
 use Rattle.table_definitions.specs.Permutation.{others}
 use Rattle.table_definitions.specs.Table.{Face}
+use Rattle.skeleton_definitions.specs.Links.{link_vertices}
+use Rattle.skeleton_definitions.specs.Skeleton.{Skeleton}
 
 -- whether thing j passes and class c owns it
 abbrev pub is_counted : List Bool → List ℕ → ℕ → ℕ → Bool
@@ -25,3 +27,7 @@ side_at j = record { tet = j / 12; face = slice_index (others (j / 3 % 4)) (j % 
 -- of so many things, those that pass a test and that class c owns
 abbrev pub tally_of : (ℕ → Bool) → (ℕ → ℕ) → ℕ → ℕ → ℕ
 tally_of passes owner c n = count_by (λ j. passes j && (owner j == c)) (below n)
+
+-- how many classes of directed edges begin at members of each vertex class
+abbrev pub CountsCorners : Skeleton → List ℕ → List ℕ → Type 0
+CountsCorners s directions tallies = (c : ℕ) → c < s.vertices.count → slice_index tallies c ≡ link_vertices s.vertices.classes directions c

@@ -5,7 +5,8 @@ mod link;
 mod sides;
 mod tally;
 
-pub use link::{Link, LinkKind, links};
+pub use link::links;
+pub use skeleton_definitions::{Link, LinkKind};
 
 #[cfg(test)]
 mod tests;

@@ -2,46 +2,20 @@
 
 ghost use Rattle.std.specs.Prelude.{◌≡◌, ◌==◌, ◌↔◌, IsTrue, ◌*◌, ◌/◌, ◌<◌, ℕ, length, slice_index, IfOk};
 ghost use Rattle.skeleton_definitions.specs.Links as definition;
-ghost use Rattle.skeleton_definitions.specs.Skeleton.{IsSkeleton};
+ghost use Rattle.skeleton_definitions.specs.Skeleton.{IsSkeleton, AreLinks};
 ghost use Rattle.skeleton.specs.Numberings.{AreClassesOf};
-ghost use Rattle.vertex_links.specs.Shown.{kind_shown, IsOfItsKind, CountsCorners, AreLinks};
+ghost use Rattle.vertex_links.specs.Tallies.{CountsCorners};
 
 use crate::sides::{first_sides, least_corners, open_sides, owners, turned_vertices};
 use crate::tally::tally;
 use no_memory::NoMemory;
 use skeleton::{Kind, Numbering, Skeleton, classes_of};
+use skeleton_definitions::{Link, LinkKind};
 use std::alloc::Global;
 
-/// What a link is.
-#[derive(Clone, Copy, Debug, PartialEq, Eq)]
-pub enum LinkKind {
-    /// Closed, of Euler characteristic 2.
-    Sphere,
-    /// Not closed, of Euler characteristic 1.
-    Disc,
-    /// Closed and orientable, of Euler characteristic 0.
-    Torus,
-    /// Closed and not orientable, of Euler characteristic 0.
-    Klein,
-    Other,
-}
-
-/// The link of a vertex class: a triangle for each member.
-#[derive(Clone, Copy, Debug, PartialEq, Eq)]
-pub struct Link {
-    pub triangles: u32,
-    pub edges: u32,
-    pub vertices: u32,
-    /// The Euler characteristic: vertices less edges plus triangles.
-    pub euler: i64,
-    /// No side of a triangle lies in a boundary face.
-    pub closed: bool,
-    pub orientable: bool,
-    pub kind: LinkKind,
-}
-
+/// The kind of a link.
 fn kind_of(closed: bool, euler: i64, orientable: bool) -> LinkKind
-    ensures { kind_shown result ≡ definition.kind_of closed euler orientable }
+    ensures { result ≡ definition.kind_of closed euler orientable }
 {
     match (closed, euler, orientable) {
         (true, 2, _) => LinkKind::Sphere,
@@ -59,7 +33,8 @@ fn link_of(triangles: u32, edges: u32, vertices: u32, closed: bool, orientable: 
     ensures vertices { result.vertices ≡ vertices }
     ensures closed { result.closed ≡ closed }
     ensures orientable { result.orientable ≡ orientable }
-    ensures kind { IsOfItsKind result }
+    ensures euler { result.euler ≡ definition.euler_of result.vertices result.edges result.triangles }
+    ensures kind { result.kind ≡ definition.kind_of result.closed result.euler result.orientable }
 {
     let euler = (vertices as i64 + triangles as i64) - edges as i64;
     Link {

@@ -2,8 +2,8 @@ use Rattle.std.proofs.Common.{◌≡◌, ◌↔◌, ◌+◌, ◌<◌, ◌++◌, 
 use Rattle.std.specs.Prelude.{◌==◌, slice_index, IsTrue}
 use Rattle.std.proofs.lemmas.List.{get_or_default}
 use Rattle.skeleton_definitions.specs.Links.{IsLink, IsOrientableLink}
-use Rattle.vertex_links.specs.declared.link.Link.{Link}
-use Rattle.vertex_links.specs.Shown.{link_shown, AreLinksUpTo}
+use Rattle.skeleton_definitions.specs.declared.Link.{Link}
+use Rattle.skeleton_definitions.specs.Skeleton.{AreLinksUpTo}
 use Rattle.vertex_links.proofs.TallyLemmas.{each_more}
 use Rattle.vertex_links.proofs.link.links.Goals as goal
 
@@ -14,7 +14,7 @@ read xs k x n e l size = e ∙ get_or_default xs k x 0 (omega arith)
 pub loop-class-preserved : goal.loop-class-preserved
 loop-class-preserved c = record {
   one_each = ap (λ (xs : List Link). length xs) items ∙ length-append c.loop-class.links.items (c.link_of.result ∷ []) ∙ ap (λ n. n + 1) c.loop-class.invariant.one_each;
-  told = rw items (each_more (λ (n : ℕ) (k : Link). IsLink c.args.skeleton.now.rows c.args.skeleton.now.vertices.classes c.in_ok-tallies.tallies.directions.classes.items n (link_shown k))
+  told = rw items (each_more (λ (n : ℕ) (k : Link). IsLink c.args.skeleton.now.rows c.args.skeleton.now.vertices.classes c.in_ok-tallies.tallies.directions.classes.items n k)
       c.loop-class.links.items c.link_of.result c.loop-class.class c.loop-class.invariant.one_each c.loop-class.invariant.told new);
 }
   where
@@ -24,17 +24,17 @@ loop-class-preserved c = record {
     inside : c.loop-class.class < c.args.skeleton.now.vertices.count
     inside = omega (arith, c.vertices-count.ensures.count)
 
-    new : IsLink c.args.skeleton.now.rows c.args.skeleton.now.vertices.classes c.in_ok-tallies.tallies.directions.classes.items c.loop-class.class (link_shown c.link_of.result)
+    new : IsLink c.args.skeleton.now.rows c.args.skeleton.now.vertices.classes c.in_ok-tallies.tallies.directions.classes.items c.loop-class.class c.link_of.result
     new = record {
       triangles = c.link_of.ensures.triangles ∙ c.vertex_degree.ensures;
       edges = c.link_of.ensures.edges ∙ read _ _ _ _ c.index.ensures inside c.in_ok-tallies.ensures.sides ∙ c.in_ok-tallies.ensures.edges c.loop-class.class inside;
       vertices = c.link_of.ensures.vertices ∙ read _ _ _ _ c.index-in-loop-class.ensures inside c.in_ok-tallies.ensures.corners ∙ c.in_ok-tallies.ensures.vertices c.loop-class.class inside;
       closed = c.link_of.ensures.closed ∙ ap (λ k. k == 0) (read _ _ _ _ c.index-in-loop-class-2.ensures inside c.in_ok-tallies.ensures.unglued) ∙ c.in_ok-tallies.ensures.closed c.loop-class.class inside;
-      euler = c.link_of.ensures.kind.euler;
+      euler = c.link_of.ensures.euler;
       orientable = subst (λ b. IsTrue b ↔ IsOrientableLink c.args.skeleton.now.rows c.args.skeleton.now.vertices.classes c.loop-class.class)
           (sym (c.link_of.ensures.orientable ∙ ap (λ k. k == 0) (read _ _ _ _ c.index-in-loop-class-3.ensures inside c.in_ok-tallies.ensures.turned)))
           (c.in_ok-tallies.ensures.orientable c.loop-class.class inside);
-      kind = c.link_of.ensures.kind.kind;
+      kind = c.link_of.ensures.kind;
     }
 
 pub returns-clause-links : goal.returns-clause-links

@@ -1,4 +1,4 @@
-use Rattle.vertex_links.specs.Shown.{AreLinksUpTo}
+use Rattle.skeleton_definitions.specs.Skeleton.{AreLinksUpTo}
 use Rattle.vertex_links.proofs.link.links.Given as goal
 
 abbrev pub invariant-loop-class : goal.invariant-loop-class
