@@ -7,7 +7,6 @@ ghost use Rattle.outcome_definitions.specs.Lines.{line};
 ghost use Rattle.surface_definitions.specs.Verdict.{verdict_text};
 ghost use Rattle.outcome_definitions.specs.Outcomes.{IsReadOutcome, IsOwnStatus};
 ghost use Rattle.outcome_definitions.specs.Answers.{IsVerdictsAnswer, verdict_on};
-ghost use Rattle.enumeration_commands.specs.Verdicts.{check_line};
 
 use command_answers::{Outcome, fault_outcome, read_table_and_vectors};
 use cone_core::System;
@@ -55,13 +54,13 @@ fn append_solution(out: &mut Vec<u8>) -> Result<(), NoMemory>
 }
 
 // The line of what the check of a vector answered.
-#[tactic(auto, unfolding(crate::specs::Verdicts::check_line))]
+#[tactic(auto, unfolding(surface_definitions::specs::Verdict::verdict_text))]
 fn append_checked(
     alloc: Global,
     out: &mut Vec<u8>,
     checked: Result<(), VectorFault>,
 ) -> Result<(), NoMemory>
-    ensures { OnOk result (out.new.items ≡ out.old.items ++ check_line checked) }
+    ensures { OnOk result (out.new.items ≡ out.old.items ++ verdict_text checked) }
 {
     match checked {
         Ok(()) => append_solution(out),

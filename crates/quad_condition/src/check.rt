@@ -4,35 +4,19 @@ ghost use Rattle.std.specs.Prelude.{◌≡◌, ◌↔◌, ◌≤◌, length, IsO
 ghost use Rattle.surface_definitions.specs.Coordinates as coordinates;
 ghost use Rattle.surface_definitions.specs.Verdict.{verdict};
 ghost use Rattle.surface_definitions.specs.Laws.{IsAccepted};
-ghost use Rattle.quad_condition.specs.Faults.{answer_of};
+ghost use Rattle.quad_condition.specs.Faults.{fault_of};
 
 use crate::clashes::first_clash;
 use cone_core::{MAX_ENTRY, SolutionFault, System, is_solution};
-use matching_equations::Coords;
+use surface_definitions::{Coords, VectorFault};
 
-/// Why a vector is no admissible solution.
-#[derive(Clone, Copy, Debug, PartialEq, Eq)]
-pub enum VectorFault {
-    /// The vector has so many entries, and the coordinates have another number of columns.
-    Length { got: usize },
-    /// A part of this row at the vector passes the greatest entry.
-    Large { row: u32 },
-    /// This row isn't 0 at the vector.
-    NotSolution { row: u32 },
-    /// These two columns clash, and neither is 0.
-    Clash { first: u32, second: u32 },
-}
-
-impl From<SolutionFault> for VectorFault {
-    ghost use Rattle.quad_condition.specs.Faults.{fault_of};
-
-    ghost from_gives = { λ fault result. result ≡ fault_of fault };
-
-    fn from(fault: SolutionFault) -> VectorFault {
-        match fault {
-            SolutionFault::Passed { row } => VectorFault::Large { row },
-            SolutionFault::NotZero { row } => VectorFault::NotSolution { row },
-        }
+/// Why a vector that is no solution isn't accepted.
+fn fault_of(fault: SolutionFault) -> VectorFault
+    ensures { result ≡ fault_of fault }
+{
+    match fault {
+        SolutionFault::Passed { row } => VectorFault::Large { row },
+        SolutionFault::NotZero { row } => VectorFault::NotSolution { row },
     }
 }
 
@@ -46,15 +30,17 @@ pub fn check_vector(
 ) -> Result<(), VectorFault>
     requires tets { tets ≤ 1000 }
     requires columns { system.now.columns ≡ coordinates.columns coords tets }
-    ensures verdict { result ≡ answer_of (verdict MAX_ENTRY system.now.columns system.now.rows (coordinates.clash_list coords tets) x.now) }
+    ensures verdict { result ≡ verdict MAX_ENTRY system.now.columns system.now.rows (coordinates.clash_list coords tets) x.now }
     ensures accepts { IsOk result ↔ IsAccepted MAX_ENTRY system.now.columns system.now.rows (coordinates.clash_list coords tets) x.now }
 {
     if x.len() != system.columns() as usize {
         return Err(VectorFault::Length { got: x.len() });
     }
-    is_solution(system, x)?;
-    match first_clash(coords, tets, x) {
-        Some((first, second)) => Err(VectorFault::Clash { first, second }),
-        None => Ok(()),
+    match is_solution(system, x) {
+        Ok(()) => match first_clash(coords, tets, x) {
+            Some((first, second)) => Err(VectorFault::Clash { first, second }),
+            None => Ok(()),
+        },
+        Err(fault) => Err(fault_of(fault)),
     }
 }

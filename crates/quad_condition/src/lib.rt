@@ -6,9 +6,10 @@ mod clashes;
 mod masks;
 mod words;
 
-pub use check::{VectorFault, check_vector};
+pub use check::check_vector;
 pub use clashes::{clash_list, first_clash};
 pub use masks::Masks;
+pub use surface_definitions::VectorFault;
 
 #[cfg(test)]
 mod tests;

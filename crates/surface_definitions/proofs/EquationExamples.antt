@@ -1,11 +1,12 @@
 -- Equations and verdicts, computed.
 use Rattle.surface_definitions.proofs.Computed.{computed}
 use Rattle.std.proofs.Common.{◌≡◌, ℕ, pos, negsuc, List, [], ◌∷◌, ◌++◌, refl}
-use Rattle.std.specs.Prelude.{codes}
+use Rattle.std.specs.Prelude.{Err, codes}
 use Rattle.surface_definitions.specs.Coordinates.{columns, clash_list}
 use Rattle.surface_definitions.specs.declared.Coords.TheVariants.{Standard, Quad, Octagon}
 use Rattle.surface_definitions.specs.Equations.{matching_rows}
-use Rattle.surface_definitions.specs.Verdict.{Verdict, verdict, verdict_text, solution, wrong_length, large, fails, clash}
+use Rattle.surface_definitions.specs.Verdict.{Verdict, verdict, verdict_text, solution}
+use Rattle.surface_definitions.specs.declared.VectorFault.TheVariants.{Length, Large, NotSolution, Clash}
 use Rattle.text_definitions.specs.Written.{limit}
 use Rattle.table_definitions.proofs.Tables.{sphere}
 
@@ -24,22 +25,22 @@ sphere_verdict : List ℕ → Verdict
 sphere_verdict xs = verdict limit 7 (matching_rows Standard sphere) (clash_list Standard 1) xs
 
 verdicts : (sphere_verdict (1 ∷ 1 ∷ 0 ∷ 0 ∷ 1 ∷ 0 ∷ 0 ∷ []) ≡ solution)
-    × (sphere_verdict (1 ∷ 0 ∷ 0 ∷ 0 ∷ 0 ∷ 0 ∷ 0 ∷ []) ≡ fails 0)
-    × (sphere_verdict (0 ∷ 0 ∷ 1 ∷ 1 ∷ 0 ∷ 1 ∷ 1 ∷ []) ≡ clash 5 6)
-    × (sphere_verdict (1 ∷ 1 ∷ 0 ∷ 0 ∷ 1 ∷ 0 ∷ []) ≡ wrong_length 6)
+    × (sphere_verdict (1 ∷ 0 ∷ 0 ∷ 0 ∷ 0 ∷ 0 ∷ 0 ∷ []) ≡ Err (NotSolution 0))
+    × (sphere_verdict (0 ∷ 0 ∷ 1 ∷ 1 ∷ 0 ∷ 1 ∷ 1 ∷ []) ≡ Err (Clash 5 6))
+    × (sphere_verdict (1 ∷ 1 ∷ 0 ∷ 0 ∷ 1 ∷ 0 ∷ []) ≡ Err (Length 6))
     × (sphere_verdict (0 ∷ 0 ∷ 0 ∷ 0 ∷ 0 ∷ 0 ∷ 0 ∷ []) ≡ solution)
-    × (sphere_verdict (limit ∷ limit ∷ 0 ∷ 0 ∷ 0 ∷ limit ∷ limit ∷ []) ≡ large 4)
+    × (sphere_verdict (limit ∷ limit ∷ 0 ∷ 0 ∷ 0 ∷ limit ∷ limit ∷ []) ≡ Err (Large 4))
     × (verdict limit (columns Standard 0) (matching_rows Standard []) (clash_list Standard 0) [] ≡ solution)
 unfolding computed sphere_verdict
 verdicts = (refl, refl, refl, refl, refl, refl, refl)
 
-lines : (verdict_text (clash 5 6) ≡ codes "clash 5 6" ++ 10 ∷ []) × (verdict_text (wrong_length 6) ≡ codes "length 6" ++ 10 ∷ [])
+lines : (verdict_text (Err (Clash 5 6)) ≡ codes "clash 5 6" ++ 10 ∷ []) × (verdict_text (Err (Length 6)) ≡ codes "length 6" ++ 10 ∷ [])
 unfolding computed
 lines = (refl, refl)
 
 -- octagons of two tetrahedra clash
 octagon_clash : verdict limit (columns Octagon 2) [] (clash_list Octagon 2)
-    (0 ∷ 0 ∷ 0 ∷ 0 ∷ 0 ∷ 0 ∷ 0 ∷ 1 ∷ 0 ∷ 0 ∷ 0 ∷ 0 ∷ 0 ∷ 0 ∷ 0 ∷ 0 ∷ 0 ∷ 1 ∷ 0 ∷ 0 ∷ []) ≡ clash 7 17
+    (0 ∷ 0 ∷ 0 ∷ 0 ∷ 0 ∷ 0 ∷ 0 ∷ 1 ∷ 0 ∷ 0 ∷ 0 ∷ 0 ∷ 0 ∷ 0 ∷ 0 ∷ 0 ∷ 0 ∷ 1 ∷ 0 ∷ 0 ∷ []) ≡ Err (Clash 7 17)
 unfolding computed
 octagon_clash = refl
 

@@ -1,13 +1,15 @@
 -- The verdict is a solution exactly at the admissible solutions of which no part passes the maximum.
-use Rattle.std.proofs.Common.{◌≡◌, ℕ, zero, suc, ◌+◌, ◌<◌, ◌≤◌, Bool, true, false, cond, List, [], ◌∷◌, length, Option, Some, None, ◌⊎◌, inl, inr, refl, ap, ◌∙◌, arith, ⊎_elim}
+use Rattle.std.proofs.Common.{◌≡◌, ℕ, zero, suc, ◌+◌, ◌<◌, ◌≤◌, Bool, true, false, cond, List, [], ◌∷◌, length, Option, Some, None, Result, Err, ◌⊎◌, inl, inr, refl, ap, ◌∙◌, arith, ⊎_elim}
 use Rattle.std.specs.Prelude.{◌==◌, nat_lt, ◌||◌, if◌then◌else◌, All, find, slice_index}
 use Rattle.std.proofs.lemmas.Bool.{eqb-true, eq-eqb, ltb-false, le-ltb, or_parts, or_from, and_cases, and_left, and_right}
 use Rattle.cone_definitions.specs.Rows.{Row as EquationRow, plus_part, minus_part, IsZeroAt}
-use Rattle.surface_definitions.specs.Verdict.{both_nonzero, Verdict, solution, wrong_length, large, fails, row_fault, or_else, rows_verdict, clash_verdict, verdict}
+use Rattle.surface_definitions.specs.Verdict.{both_nonzero, Verdict, solution, row_fault, or_else, rows_verdict, clash_verdict, verdict}
+use Rattle.surface_definitions.specs.declared.VectorFault.{VectorFault}
+use Rattle.surface_definitions.specs.declared.VectorFault.TheVariants.{Length, Large, NotSolution}
 use Rattle.surface_definitions.specs.Laws.{HasPartsUpTo, IsAccepted}
 
 -- nothing is wrong at a row exactly where it is 0 and no part is large
-fault_test : (max i : ℕ) (row : EquationRow) (xs : List ℕ) (l e : Bool) → (if l then Some (large i) else (if e then None else Some (fails i))) ≡ None → (l ≡ false) × (e ≡ true)
+fault_test : (max i : ℕ) (row : EquationRow) (xs : List ℕ) (l e : Bool) → (if l then Some (Large i) else (if e then None else Some (NotSolution i))) ≡ None → (l ≡ false) × (e ≡ true)
 fault_test max i row xs true e h = absurd cc
 fault_test max i row xs false true h = (refl, refl)
 fault_test max i row xs false false h = absurd cc
@@ -19,8 +21,8 @@ row_fault-none max i row xs h =
     let parts : (nat_lt max (plus_part row xs) ≡ false) × (nat_lt max (minus_part row xs) ≡ false) = or_parts (nat_lt max (plus_part row xs)) (nat_lt max (minus_part row xs)) t.0 in
     (eqb-true (plus_part row xs) (minus_part row xs) t.1, (ltb-false max (plus_part row xs) parts.0, ltb-false max (minus_part row xs) parts.1))
 
-abbrev fault_by : ℕ → Bool → Bool → Option Verdict
-fault_by i l e = if l then Some (large i) else (if e then None else Some (fails i))
+abbrev fault_by : ℕ → Bool → Bool → Option VectorFault
+fault_by i l e = if l then Some (Large i) else (if e then None else Some (NotSolution i))
 
 none-row_fault : (max i : ℕ) (row : EquationRow) (xs : List ℕ) → IsZeroAt row xs → HasPartsUpTo max xs row → row_fault max i row xs ≡ None
 none-row_fault max i row xs z p =
@@ -53,7 +55,7 @@ solve_rows : (max i : ℕ) (rows : List EquationRow) (xs : List ℕ) (v : Verdic
 solve_rows max i [] xs v z p = refl
 solve_rows max i (row ∷ rows) xs v z p =
     let first : 0 < length (row ∷ rows) = omega arith in
-    ap (λ (o : Option Verdict). or_else o (rows_verdict max (i + 1) rows xs v)) (none-row_fault max i row xs (z 0 row first) (p 0 row first))
+    ap (λ (o : Option VectorFault). or_else o (rows_verdict max (i + 1) rows xs v)) (none-row_fault max i row xs (z 0 row first) (p 0 row first))
     ∙ solve_rows max (i + 1) rows xs v (λ k d l. z (suc k) d (omega arith)) (λ k d l. p (suc k) d (omega arith))
 
 -- no pair is found exactly where one column of each is 0
@@ -90,7 +92,7 @@ pass_pairs xs (p ∷ ps) a =
     ap (λ (b : Bool). verdict_if b p (find (both_nonzero xs) ps)) (both_not xs p (a 0 p first)) ∙ pass_pairs xs ps (λ k d l. a (suc k) d (omega arith))
 
 -- the length is looked at first
-length_test : (b : Bool) (v : Verdict) (n : ℕ) → (if b then v else wrong_length n) ≡ solution → (b ≡ true) × (v ≡ solution)
+length_test : (b : Bool) (v : Verdict) (n : ℕ) → (if b then v else Err (Length n)) ≡ solution → (b ≡ true) × (v ≡ solution)
 length_test true v n h = (refl, h)
 length_test false v n h = absurd cc
 
@@ -110,6 +112,6 @@ accepted_by max n rows pairs xs h =
 pub accepted-verdict : (max n : ℕ) (rows : List EquationRow) (pairs : List (ℕ × ℕ)) (xs : List ℕ) → IsAccepted max n rows pairs xs → verdict max n rows pairs xs ≡ solution
 unfolding verdict
 accepted-verdict max n rows pairs xs a =
-    ap (λ (b : Bool). if b then rows_verdict max 0 rows xs (clash_verdict (find (both_nonzero xs) pairs)) else wrong_length (length xs)) (eq-eqb (length xs) n a.solves.width)
+    ap (λ (b : Bool). if b then rows_verdict max 0 rows xs (clash_verdict (find (both_nonzero xs) pairs)) else Err (Length (length xs))) (eq-eqb (length xs) n a.solves.width)
     ∙ solve_rows max 0 rows xs (clash_verdict (find (both_nonzero xs) pairs)) a.solves.zero a.within
     ∙ pass_pairs xs pairs a.admissible

@@ -22,6 +22,19 @@ pub enum Piece {
     Oct(u8),
 }
 
+/// Why a vector is no admissible solution.
+#[derive(Clone, Copy, Debug, PartialEq, Eq)]
+pub enum VectorFault {
+    /// The vector has so many entries, and the coordinates have another number of columns.
+    Length { got: usize },
+    /// A part of this row at the vector passes the greatest entry.
+    Large { row: u32 },
+    /// This row isn't 0 at the vector.
+    NotSolution { row: u32 },
+    /// These two columns clash, and neither is 0.
+    Clash { first: u32, second: u32 },
+}
+
 /// A line is read as a vector exactly where it is one.
 pub fn vector_lines_are_read()
     ensures { VectorLinesAreRead }

@@ -1,11 +1,11 @@
 -- Texts of described vectors, of lifts and of refusals, computed.
 use Rattle.surface_definitions.proofs.Computed.{computed}
 use Rattle.std.proofs.Common.{◌≡◌, ℕ, true, false, List, [], ◌∷◌, ◌++◌, refl}
-use Rattle.std.specs.Prelude.{codes}
+use Rattle.std.specs.Prelude.{Err, codes}
 use Rattle.table_definitions.proofs.Tables.{sphere, table_jj}
 use Rattle.surface_definitions.specs.declared.Coords.TheVariants.{Standard, Octagon}
 use Rattle.surface_definitions.specs.Equations.{matching_rows}
-use Rattle.surface_definitions.specs.Verdict.{fails, clash, wrong_length, large}
+use Rattle.surface_definitions.specs.declared.VectorFault.TheVariants.{Length, Large, NotSolution, Clash}
 use Rattle.vector_definitions.specs.Components.{Component}
 use Rattle.vector_definitions.specs.declared.Sum.TheVariants.{Points}
 use Rattle.vector_definitions.specs.Answers.{Description, verdict_in, unfit, large_sum, too_many_pieces, large_lift, no_lift}
@@ -29,8 +29,8 @@ lifts : lifts_text ((1 ∷ 1 ∷ 0 ∷ 0 ∷ 1 ∷ 0 ∷ 0 ∷ []) ∷ []) ≡ l
 unfolding computed lifts_text
 lifts = refl
 
-refusals : (refusal_line 0 (unfit (fails 0)) ≡ line (codes "refused: vector 0 fails 0")) × (refusal_line 0 (unfit (clash 1 2)) ≡ line (codes "refused: vector 0 clash 1 2"))
-    × (refusal_line 3 (unfit (wrong_length 6)) ≡ line (codes "refused: vector 3 length 6")) × (refusal_line 0 (unfit (large 4)) ≡ line (codes "refused: vector 0 large 4"))
+refusals : (refusal_line 0 (unfit (Err (NotSolution 0))) ≡ line (codes "refused: vector 0 fails 0")) × (refusal_line 0 (unfit (Err (Clash 1 2))) ≡ line (codes "refused: vector 0 clash 1 2"))
+    × (refusal_line 3 (unfit (Err (Length 6))) ≡ line (codes "refused: vector 3 length 6")) × (refusal_line 0 (unfit (Err (Large 4))) ≡ line (codes "refused: vector 0 large 4"))
     × (refusal_line 0 (large_sum Points) ≡ line (codes "refused: vector 0 large-sum points")) × (refusal_line 0 (too_many_pieces 100004) ≡ line (codes "refused: vector 0 too-many-pieces 100004"))
     × (refusal_line 0 large_lift ≡ line (codes "refused: vector 0 large-lift")) × (refusal_line 0 (no_lift 0) ≡ line (codes "refused: vector 0 no-lift 0"))
     × (invalid_edge_line 3 ≡ line (codes "refused: invalid-edge 3"))
@@ -38,7 +38,7 @@ unfolding computed refusal_line invalid_edge_line
 refusals = (refl, refl, refl, refl, refl, refl, refl, refl, refl)
 
 -- the verdicts before them
-verdicts : (verdict_in Standard sphere (matching_rows Standard sphere) (1 ∷ 0 ∷ 0 ∷ 0 ∷ 0 ∷ 0 ∷ 0 ∷ []) ≡ fails 0)
-    × (verdict_in Octagon sphere (matching_rows Octagon sphere) (0 ∷ 0 ∷ 1 ∷ 1 ∷ 0 ∷ 0 ∷ 0 ∷ 1 ∷ 1 ∷ 0 ∷ []) ≡ fails 1)
+verdicts : (verdict_in Standard sphere (matching_rows Standard sphere) (1 ∷ 0 ∷ 0 ∷ 0 ∷ 0 ∷ 0 ∷ 0 ∷ []) ≡ Err (NotSolution 0))
+    × (verdict_in Octagon sphere (matching_rows Octagon sphere) (0 ∷ 0 ∷ 1 ∷ 1 ∷ 0 ∷ 0 ∷ 0 ∷ 1 ∷ 1 ∷ 0 ∷ []) ≡ Err (NotSolution 1))
 unfolding computed
 verdicts = (refl, refl)
