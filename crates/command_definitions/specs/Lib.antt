@@ -2,3 +2,4 @@ pub mod Requests
 pub mod Options
 pub mod Values
 pub mod Words
+pub mod Laws

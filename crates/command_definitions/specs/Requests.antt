@@ -1,45 +1,42 @@
--- The commands with the values of their options.
-use Rattle.std.specs.Prelude.{ℕ, Bool, true, false}
-use Rattle.surface_definitions.specs.declared.Coords.{Coords}
-
--- in which order the rows are taken: as they are given, those with fewest entries first, or by their leading zeros
-pub data Order : Type 0 where
-  given : Order
-  short : Order
-  zeros : Order
-
--- A command with the values of its options: coordinates, an order, the greatest entry, a seed, a number of moves.
-pub data Request : Type 0 where
-  verify : Coords → Request
-  info : Request
-  surfaces : Coords → Order → ℕ → Request
-  rays : Order → ℕ → Request
-  describe : Coords → Request
-  lift : Request
-  crush : Request
-  play : Request
-  sig : Request
-  same : Request
-  group : Request
-  check : Request
-  descend : Request
-  make : ℕ → ℕ → Request
-  bulk : ℕ → ℕ → Request
+-- Which requests the program answers.
+use Rattle.std.specs.Prelude.{◌≢◌, ℕ, ◌≤◌, Bool, true, false, ⊤, IsTrue}
+use Rattle.text_definitions.specs.Written.{limit}
+use Rattle.cone_definitions.specs.declared.Order.{Order}
+use Rattle.cone_definitions.specs.declared.Order.TheVariants.{Free}
+use Rattle.command_definitions.specs.declared.Request.{Request}
+use Rattle.command_definitions.specs.declared.Request.TheVariants.{Verify, Info, Surfaces, Rays, Describe, Lift, Crush, Play, Sig, Same, Group, Check, Descend, Make, Bulk}
 
 -- whether the program answers the request yet
 abbrev pub is_built : Request → Bool
-is_built (verify coords) = true
-is_built info = true
-is_built (surfaces coords order most) = true
-is_built (rays order most) = true
-is_built (describe coords) = false
-is_built lift = false
-is_built crush = false
-is_built play = true
-is_built sig = true
-is_built same = true
-is_built group = true
-is_built check = false
-is_built descend = false
-is_built (make seed moves) = false
-is_built (bulk seed moves) = false
+is_built (Verify coords) = true
+is_built Info = true
+is_built (Surfaces coords order most) = true
+is_built (Rays order most) = true
+is_built (Describe coords) = false
+is_built Lift = false
+is_built Crush = false
+is_built Play = true
+is_built Sig = true
+is_built Same = true
+is_built Group = true
+is_built Check = false
+is_built Descend = false
+is_built (Make seed moves) = false
+is_built (Bulk seed moves) = false
+
+-- an order that has a name, and a limit on the numbers of an enumeration
+pub record IsInRange (order : Order) (most : ℕ) : Type 0 where
+  pub named : order ≢ Free
+  pub some : 1 ≤ most
+  pub few : most ≤ limit
+
+-- what a request holds is in range
+abbrev pub HoldsRange : Request → Type 0
+HoldsRange (Surfaces coords order most) = IsInRange order most
+HoldsRange (Rays order most) = IsInRange order most
+HoldsRange _ = ⊤
+
+-- the program answers the request, and what it holds is in range
+pub record IsBuilt (r : Request) : Type 0 where
+  pub built : IsTrue (is_built r)
+  pub in_range : HoldsRange r

@@ -7,7 +7,10 @@ use Rattle.text_definitions.specs.Written.{limit}
 use Rattle.surface_definitions.specs.declared.Coords.{Coords}
 use Rattle.surface_definitions.specs.declared.Coords.TheVariants.{Standard, Quad, Octagon}
 use Rattle.command_definitions.specs.Options.{Given, value_of}
-use Rattle.command_definitions.specs.Requests.{Order, given, short, zeros, Request, verify, info, surfaces, rays, describe, lift, crush, play, sig, same, group, check, descend, make, bulk}
+use Rattle.cone_definitions.specs.declared.Order.{Order}
+use Rattle.cone_definitions.specs.declared.Order.TheVariants as orders
+use Rattle.command_definitions.specs.declared.Request.{Request}
+use Rattle.command_definitions.specs.declared.Request.TheVariants.{Verify, Info, Surfaces, Rays, Describe, Lift, Crush, Play, Sig, Same, Group, Check, Descend, Make, Bulk}
 
 -- what stands for each option, where it is named
 pub record Values : Type 0 where
@@ -54,9 +57,9 @@ piece_coordinates_named w = option_and_then has_pieces (coordinates_named w)
 
 abbrev pub order_named : List ℕ → Option Order
 order_named w =
-    if same_word w (codes "given") then Some given
-    else if same_word w (codes "short") then Some short
-    else if same_word w (codes "zeros") then Some zeros
+    if same_word w (codes "given") then Some orders.Given
+    else if same_word w (codes "short") then Some orders.Short
+    else if same_word w (codes "zeros") then Some orders.Zeros
     else None
 
 -- one to 45 digits
@@ -91,7 +94,7 @@ abbrev pub piece_coordinates_in : Values → Option Coords
 piece_coordinates_in v = or_default Standard piece_coordinates_named v.coords
 
 abbrev pub order_in : Values → Option Order
-order_in v = or_default given order_named v.order
+order_in v = or_default orders.Given order_named v.order
 
 abbrev pub limit_in : Values → Option ℕ
 limit_in v = or_default limit limit_named v.max_entry
@@ -114,14 +117,14 @@ surfaces_with v = do
   coords ← coordinates_in v
   order ← order_in v
   most ← limit_in v
-  Some (surfaces coords order most)
+  Some (Surfaces coords order most)
 
 -- the request of `rays`
 abbrev pub rays_with : Values → Option Request
 rays_with v = do
   order ← order_in v
   most ← limit_in v
-  Some (rays order most)
+  Some (Rays order most)
 
 -- the request of `make` or `bulk`, by the greatest number of moves
 abbrev pub made_with : (ℕ → ℕ → Request) → ℕ → Values → Option Request
@@ -133,24 +136,24 @@ made_with request most v = do
 -- the request of a command without options
 abbrev pub plain_request : List ℕ → Option Request
 plain_request w =
-    if same_word w (codes "info") then Some info
-    else if same_word w (codes "lift") then Some lift
-    else if same_word w (codes "crush") then Some crush
-    else if same_word w (codes "play") then Some play
-    else if same_word w (codes "sig") then Some sig
-    else if same_word w (codes "same") then Some same
-    else if same_word w (codes "group") then Some group
-    else if same_word w (codes "check") then Some check
-    else if same_word w (codes "descend") then Some descend
+    if same_word w (codes "info") then Some Info
+    else if same_word w (codes "lift") then Some Lift
+    else if same_word w (codes "crush") then Some Crush
+    else if same_word w (codes "play") then Some Play
+    else if same_word w (codes "sig") then Some Sig
+    else if same_word w (codes "same") then Some Same
+    else if same_word w (codes "group") then Some Group
+    else if same_word w (codes "check") then Some Check
+    else if same_word w (codes "descend") then Some Descend
     else None
 
 -- the request of a command with these values
 abbrev pub request_with : List ℕ → Values → Option Request
 request_with w v =
-    if same_word w (codes "verify") then option_map verify (coordinates_in v)
+    if same_word w (codes "verify") then option_map Verify (coordinates_in v)
     else if same_word w (codes "surfaces") then surfaces_with v
     else if same_word w (codes "rays") then rays_with v
-    else if same_word w (codes "describe") then option_map describe (piece_coordinates_in v)
-    else if same_word w (codes "make") then made_with make most_moves v
-    else if same_word w (codes "bulk") then made_with bulk most_bulk_moves v
+    else if same_word w (codes "describe") then option_map Describe (piece_coordinates_in v)
+    else if same_word w (codes "make") then made_with Make most_moves v
+    else if same_word w (codes "bulk") then made_with Bulk most_bulk_moves v
     else plain_request w

@@ -3,7 +3,8 @@
 use Rattle.std.specs.Prelude.{ℕ, List, [], ◌∷◌, Option, Some, None, codes, if◌then◌else◌}
 use Rattle.std.specs.List.{find}
 use Rattle.text_definitions.specs.Reading.{same_word}
-use Rattle.command_definitions.specs.Requests.{Request, is_built}
+use Rattle.command_definitions.specs.Requests.{is_built}
+use Rattle.command_definitions.specs.declared.Request.{Request}
 use Rattle.command_definitions.specs.Options.{Given, options_of}
 use Rattle.command_definitions.specs.Values.{values_of, request_with, ◌>>=◌}
 

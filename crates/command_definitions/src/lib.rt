@@ -1,3 +1,34 @@
 //! The grammar of the command line: which words are accepted, and what they ask for.
 //! The definitions stand in `specs/`.
 #![tactic(auto)]
+
+ghost use Rattle.command_definitions.specs.Laws.{AcceptedAreBuilt};
+
+use cone_definitions::Order;
+use surface_definitions::Coords;
+
+/// A command with the values of its options: coordinates, an order of rows, the greatest entry, a seed, a number of
+/// moves.
+#[derive(Clone, Copy, Debug, PartialEq, Eq)]
+pub enum Request {
+    Verify(Coords),
+    Info,
+    Surfaces(Coords, Order, u128),
+    Rays(Order, u128),
+    Describe(Coords),
+    Lift,
+    Crush,
+    Play,
+    Sig,
+    Same,
+    Group,
+    Check,
+    Descend,
+    Make(u64, u32),
+    Bulk(u64, u32),
+}
+
+/// An accepted request is one that the program answers, and what it holds is in range.
+pub fn accepted_requests()
+    ensures { AcceptedAreBuilt }
+{}

@@ -13,7 +13,7 @@ use Rattle.clap.specs.declared.error.Error.{Error}
 use Rattle.clap.specs.declared.error.kind.ErrorKind.{ErrorKind}
 use Rattle.clap.specs.declared.error.kind.ErrorKind.TheVariants.{OutOfMemory}
 use Rattle.clap.specs.declared.parser.matches.ArgMatches.{ArgMatches}
-use Rattle.command_definitions.specs.Requests.{Request}
+use Rattle.command_definitions.specs.declared.Request.{Request}
 use Rattle.command_definitions.specs.Options.{Given, options_of, value_of}
 use Rattle.command_definitions.specs.Values.{request_with, values_of, ◌>>=◌}
 use Rattle.command_definitions.specs.Words.{Command, command_named, commands, request_given, request_of}

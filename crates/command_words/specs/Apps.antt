@@ -3,7 +3,7 @@ use Rattle.std.specs.Prelude.{true, List, [], map, fold, Option, Some, None, cod
 use Rattle.clap.specs.Walk.{Row, Rule, Text, first_of}
 use Rattle.clap.specs.Simple.{App, Shape, new_rule, new_shape, with_subcommand}
 use Rattle.clap.specs.declared.builder.action.ArgAction.TheVariants.{Set}
-use Rattle.command_definitions.specs.Requests.{Request}
+use Rattle.command_definitions.specs.declared.Request.{Request}
 use Rattle.command_definitions.specs.Values.{Values, request_with}
 use Rattle.command_definitions.specs.Words.{Command, commands}
 

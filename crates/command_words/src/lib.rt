@@ -3,11 +3,11 @@
 
 mod program;
 mod reader;
-mod request;
 mod values;
 
+pub use command_definitions::Request;
+pub use cone_definitions::Order;
 pub use reader::read_words;
-pub use request::{Order, Request};
 use std::alloc::AllocError;
 pub use surface_definitions::Coords;
 

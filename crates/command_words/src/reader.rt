@@ -2,24 +2,23 @@
 ghost use Rattle.std.specs.Prelude.{◌≡◌, false, count_by, codes, map, IfOk, OnOk};
 ghost use Rattle.std.specs.List.{list_any};
 ghost use Rattle.std.specs.Str.{bytes_eq};
-ghost use Rattle.std.specs.Option.{option_map};
 ghost use Rattle.clap.specs.Values.{kind_of};
 ghost use Rattle.clap.specs.Matches.{found_of};
 ghost use Rattle.clap.specs.Simple.{subcommand_rows_of};
 ghost use Rattle.clap.specs.Walk.{rows_of, texts};
-ghost use Rattle.command_definitions.specs.Requests.{is_built};
+ghost use Rattle.command_definitions.specs.Requests.{is_built, IsBuilt};
 ghost use Rattle.command_definitions.specs.Words.{accepted_request, request_of};
 ghost use Rattle.command_words.specs.Apps.{request_found, values_found};
-ghost use Rattle.command_words.specs.Requests.{request, request as request_asked, parse_fault, texts_of, AnswersWords};
+ghost use Rattle.command_words.specs.Requests.{parse_fault, texts_of, AnswersWords};
 ghost use Rattle.command_words.specs.Texts.{AreTexts, has_dashes, ends_option, is_naming, is_repeated, has_repeats};
 
 use crate::WordsFault;
 use crate::program::program;
-use crate::request::Request;
 use crate::values::{Values, request_with};
 use bench_io::Words;
 use clap::error::ErrorKind;
 use clap::{ArgMatches, Error};
+use command_definitions::Request;
 use std::alloc::{AllocError, Global};
 
 // What was found for each option.
@@ -37,7 +36,7 @@ fn values_found<'a>(matches: &ArgMatches<'a>) -> Values<'a>
 
 // The request of the command that was met.
 fn request_found(matches: &ArgMatches<'_>) -> Option<Request>
-    ensures { option_map request result ≡ request_found (subcommand_rows_of matches.now) }
+    ensures { result ≡ request_found (subcommand_rows_of matches.now) }
 {
     match matches.subcommand() {
         Some((name, found)) => request_with(name, &values_found(found)),
@@ -159,7 +158,7 @@ pub(crate) fn read_request(alloc: Global, words: &Words) -> Result<Request, Word
 
 // Whether the program answers the request yet.
 fn is_built(request: &Request) -> bool
-    ensures { result ≡ is_built (request_asked request.now) }
+    ensures { result ≡ is_built request.now }
 {
     match request {
         Request::Verify(_) => true,
@@ -171,9 +170,11 @@ fn is_built(request: &Request) -> bool
     }
 }
 
-/// What the words ask for: `Ok` exactly where they are accepted, and `Usage` exactly where they are not.
+/// What the words ask for: `Ok` exactly where they are accepted, and `Usage` exactly where they are not. The program
+/// answers what is accepted, and what it holds is in range.
 pub fn read_words(alloc: Global, words: &Words) -> Result<Request, WordsFault>
-    ensures { AnswersWords result (accepted_request words.now) }
+    ensures answers { AnswersWords result (accepted_request words.now) }
+    ensures built { IfOk result IsBuilt }
 {
     let request = read_request(alloc, words)?;
     if !is_built(&request) {

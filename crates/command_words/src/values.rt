@@ -1,12 +1,12 @@
 // The values of options, and the request of a command with such values.
 ghost use Rattle.std.specs.Prelude.{◌≡◌, ◌≤◌, ◌^◌, ◌<◌};
 ghost use Rattle.std.specs.Option.{option_map};
-ghost use Rattle.command_definitions.specs.Requests as requests;
 ghost use Rattle.command_definitions.specs.Values as spec;
-ghost use Rattle.command_words.specs.Requests.{order_of, request, texts_of};
+ghost use Rattle.command_words.specs.Requests.{texts_of};
 
-use crate::request::{Order, Request};
 use bench_io::{is_decimal_word, value_up_to};
+use command_definitions::Request;
+use cone_definitions::Order;
 use surface_definitions::Coords;
 
 /// The greatest number that an option may name.
@@ -49,7 +49,7 @@ fn piece_coords_named(word: &str) -> Option<Coords>
 }
 
 fn order_named(word: &str) -> Option<Order>
-    ensures { option_map order_of result ≡ spec.order_named word.now }
+    ensures { result ≡ spec.order_named word.now }
 {
     if word == "given" {
         return Some(Order::Given);
@@ -105,7 +105,7 @@ fn piece_coords_in(values: &Values<'_>) -> Option<Coords>
 }
 
 fn order_in(values: &Values<'_>) -> Option<Order>
-    ensures { option_map order_of result ≡ spec.order_in (texts_of values.now) }
+    ensures { result ≡ spec.order_in (texts_of values.now) }
 {
     match values.order {
         Some(word) => order_named(word),
@@ -147,7 +147,7 @@ fn moves_in(values: &Values<'_>, most: u32) -> Option<u32>
 }
 
 fn surfaces_with(values: &Values<'_>) -> Option<Request>
-    ensures { option_map request result ≡ spec.surfaces_with (texts_of values.now) }
+    ensures { result ≡ spec.surfaces_with (texts_of values.now) }
 {
     let coords = coords_in(values)?;
     let order = order_in(values)?;
@@ -156,7 +156,7 @@ fn surfaces_with(values: &Values<'_>) -> Option<Request>
 }
 
 fn rays_with(values: &Values<'_>) -> Option<Request>
-    ensures { option_map request result ≡ spec.rays_with (texts_of values.now) }
+    ensures { result ≡ spec.rays_with (texts_of values.now) }
 {
     let order = order_in(values)?;
     let limit = limit_in(values)?;
@@ -164,7 +164,7 @@ fn rays_with(values: &Values<'_>) -> Option<Request>
 }
 
 fn make_with(values: &Values<'_>) -> Option<Request>
-    ensures { option_map request result ≡ spec.made_with requests.make spec.most_moves (texts_of values.now) }
+    ensures { result ≡ spec.made_with Request.Make spec.most_moves (texts_of values.now) }
 {
     let seed = seed_in(values)?;
     let moves = moves_in(values, 1_000)?;
@@ -172,7 +172,7 @@ fn make_with(values: &Values<'_>) -> Option<Request>
 }
 
 fn bulk_with(values: &Values<'_>) -> Option<Request>
-    ensures { option_map request result ≡ spec.made_with requests.bulk spec.most_bulk_moves (texts_of values.now) }
+    ensures { result ≡ spec.made_with Request.Bulk spec.most_bulk_moves (texts_of values.now) }
 {
     let seed = seed_in(values)?;
     let moves = moves_in(values, 5)?;
@@ -180,14 +180,14 @@ fn bulk_with(values: &Values<'_>) -> Option<Request>
 }
 
 fn verify_with(values: &Values<'_>) -> Option<Request>
-    ensures { option_map request result ≡ option_map requests.verify (spec.coordinates_in (texts_of values.now)) }
+    ensures { result ≡ option_map Request.Verify (spec.coordinates_in (texts_of values.now)) }
 {
     let coords = coords_in(values)?;
     Some(Request::Verify(coords))
 }
 
 fn describe_with(values: &Values<'_>) -> Option<Request>
-    ensures { option_map request result ≡ option_map requests.describe (spec.piece_coordinates_in (texts_of values.now)) }
+    ensures { result ≡ option_map Request.Describe (spec.piece_coordinates_in (texts_of values.now)) }
 {
     let coords = piece_coords_in(values)?;
     Some(Request::Describe(coords))
@@ -195,7 +195,7 @@ fn describe_with(values: &Values<'_>) -> Option<Request>
 
 // The request of a command without options.
 fn plain_request(name: &str) -> Option<Request>
-    ensures { option_map request result ≡ spec.plain_request name.now }
+    ensures { result ≡ spec.plain_request name.now }
 {
     if name == "info" {
         return Some(Request::Info);
@@ -229,7 +229,7 @@ fn plain_request(name: &str) -> Option<Request>
 
 /// The request of a command with these values, where each value is one that its option takes.
 pub fn request_with(name: &str, values: &Values<'_>) -> Option<Request>
-    ensures { option_map request result ≡ spec.request_with name.now (texts_of values.now) }
+    ensures { result ≡ spec.request_with name.now (texts_of values.now) }
 {
     if name == "verify" {
         return verify_with(values);

@@ -1,6 +1,6 @@
 -- How a loop reads the rows of a cone: what is read so far, before what a reader gives of the rest.
 use Rattle.std.proofs.Common.{ap₂, ◌≡◌, ℕ, zero, suc, ℤ, pos, negsuc, ◌+◌, ◌-◌, ◌<◌, ◌≤◌, true, false, cond, Bool, not, filter, List, [], ◌∷◌, ◌++◌, map, refl, sym, ap, ◌∙◌, subst, append_assoc, append-nil, arith, Option, Some, None, Result, Ok, Err, replicate}
-use Rattle.std.specs.Prelude.{◌==◌, nat_lt, unsigned_abs}
+use Rattle.std.specs.Prelude.{◌==◌, nat_lt, unsigned_abs, codes}
 use Rattle.std.proofs.lemmas.Bool.Decides.{nat_tests}
 use Rattle.std.specs.List.{enumerate_from}
 use Rattle.std.proofs.lemmas.List.Elements.{All-push, All-weaker, All-get_or}
@@ -8,8 +8,7 @@ use Rattle.std.proofs.lemmas.List.Quantifiers.{all_pairs_push}
 use Rattle.text_definitions.specs.declared.LexFault.{LexFault}
 use Rattle.text_definitions.specs.declared.LexKind.TheVariants.{NumberTooWide}
 use Rattle.text_definitions.specs.Text.{decimal_value}
-use Rattle.std.specs.Prelude.{codes}
-use Rattle.cone_core.specs.Systems.{Cone}
+use Rattle.cone_definitions.specs.Systems.{Cone}
 use Rattle.cone_core.specs.declared.reader.ConeFault.{ConeFault}
 use Rattle.cone_core.specs.declared.reader.ConeFault.TheVariants.{Lex, NoMemory}
 use Rattle.text_definitions.specs.Reading.{end_line_at, exactly_at, same_word, Reading, ◌>>=◌, word_at, word_fault, number_up_to, number_at, signed_at, magnitude, is_negative, with_sign}

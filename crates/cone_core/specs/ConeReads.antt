@@ -1,16 +1,12 @@
--- A cone in text as a system: each row by its nonzero coefficients.
+-- What reading a cone answers.
 use Rattle.std.specs.Prelude.{◌≡◌, ℕ, ℤ, List, [], ◌∷◌, map, if◌then◌else◌, Result, Ok, Err}
 use Rattle.text_definitions.specs.declared.LexFault.{LexFault}
 use Rattle.text_definitions.specs.Reading.{Reading, ◌>>=◌}
-use Rattle.cone_text_definitions.specs.ConeText.{Cone as ConeText, coefficients_at, cone_row_at, cone_rows_at, is_zero, sparse}
+use Rattle.cone_text_definitions.specs.ConeText.{Cone as ConeText, coefficients_at, cone_row_at, cone_rows_at, is_zero, sparse, system_of}
 use Rattle.cone_definitions.specs.Rows.{Row}
-use Rattle.cone_core.specs.Systems.{Cone}
+use Rattle.cone_definitions.specs.Systems.{Cone}
 use Rattle.cone_core.specs.declared.reader.ConeFault.{ConeFault}
 use Rattle.cone_core.specs.declared.reader.ConeFault.TheVariants.{Lex, NoMemory}
-
--- a cone in text as a system
-abbrev pub system_of : ConeText → Cone
-system_of cone = record { columns = cone.columns; rows = map sparse cone.rows }
 
 -- What a call answered and what it left is the cone that a reader gives, or its fault. At a fault nothing is said of what is left.
 abbrev pub GivesCone : Result Cone ConeFault → Reading → Result (ConeText × Reading) LexFault → Type 0

@@ -1,9 +1,10 @@
 -- A cone in text: `cone C R` and R lines of C coefficients, or no line where C is 0.
-use Rattle.std.specs.Prelude.{ℕ, zero, suc, ◌==◌, ℤ, pos, negsuc, List, [], ◌∷◌, replicate, filter, Result, Ok, codes, Bool, false, not}
+use Rattle.std.specs.Prelude.{ℕ, zero, suc, ◌==◌, ℤ, pos, negsuc, List, [], ◌∷◌, replicate, map, filter, Result, Ok, codes, Bool, false, not}
 use Rattle.std.specs.List.{enumerate_from}
 use Rattle.text_definitions.specs.declared.LexFault.{LexFault}
 use Rattle.text_definitions.specs.Reading.{Reading, ◌>>=◌, need_line_at, end_line_at, number_at, signed_at, exactly_at}
 use Rattle.cone_definitions.specs.Rows.{Row}
+use Rattle.cone_definitions.specs.Systems.{Cone as System}
 
 -- the number of columns, and the rows, each with a coefficient for every column or, where there are no columns, with none
 pub record Cone : Type 0 where
@@ -55,3 +56,7 @@ is_zero (negsuc n) = false
 -- the columns of a row whose coefficient isn't 0, each with its coefficient
 abbrev pub sparse : List ℤ → Row
 sparse row = filter (λ (term : ℕ × ℤ). not (is_zero term.1)) (enumerate_from 0 row)
+
+-- a cone as a system: each row by its nonzero coefficients
+abbrev pub system_of : Cone → System
+system_of cone = record { columns = cone.columns; rows = map sparse cone.rows }

@@ -1,9 +1,8 @@
 -- What reading the document of a cone answers.
 use Rattle.std.specs.Prelude.{◌≡◌, Result, Ok, Err}
 use Rattle.text_definitions.specs.declared.LexFault.{LexFault}
-use Rattle.cone_text_definitions.specs.ConeText.{Cone as ConeText}
-use Rattle.cone_core.specs.Systems.{Cone}
-use Rattle.cone_core.specs.ConeReads.{system_of}
+use Rattle.cone_text_definitions.specs.ConeText.{Cone as ConeText, system_of}
+use Rattle.cone_definitions.specs.Systems.{Cone}
 use Rattle.cone_core.specs.declared.reader.ConeFault.{ConeFault}
 use Rattle.cone_core.specs.declared.reader.ConeFault.TheVariants.{Lex, NoMemory}
 

@@ -1,31 +1,17 @@
 // The answers of the commands that list rays or surfaces.
-ghost use Rattle.std.specs.Prelude.{◌≡◌, ◌≢◌, ◌+◌, ◌++◌, ◌<◌, List, ℕ, length, codes, decimal, IfOk, OnOk};
-ghost use Rattle.double_description.specs.Faults.{named_of};
-ghost use Rattle.ray_answers.specs.Lists.{entries_text, list_text};
-ghost use Rattle.command_words.specs.Requests as words;
-ghost use Rattle.outcome_definitions.specs.Enumerations.{list_outcome, large_outcome, kind_text, order_of};
+ghost use Rattle.std.specs.Prelude.{◌≡◌, ◌+◌, ◌++◌, ◌<◌, List, ℕ, length, codes, decimal, IfOk, OnOk};
+ghost use Rattle.cone_text_definitions.specs.VectorText.{entries_text, list_text};
+ghost use Rattle.outcome_definitions.specs.Enumerations.{list_outcome, large_outcome, kind_text};
 ghost use Rattle.outcome_definitions.specs.Lines.{line};
 
 use command_answers::Outcome;
 use cone_core::Ray;
-use double_description::{LargeKind, Order};
+use double_description::LargeKind;
 use no_memory::NoMemory;
 use outcome_definitions::Status;
 use ray_answers::{write_entries, write_list};
 use std::alloc::Global;
 use text_writing::{append, append_decimal};
-
-/// The order of the rows that a word names.
-pub fn row_order(order: command_words::Order) -> Order
-    ensures order { result ≡ order_of (words.order_of order) }
-    ensures named { result ≢ Order.Free }
-{
-    match order {
-        command_words::Order::Given => Order::Given,
-        command_words::Order::Short => Order::Short,
-        command_words::Order::Zeros => Order::Zeros,
-    }
-}
 
 /// The number of vectors, and a line for each.
 pub fn list_outcome(alloc: Global, name: &[u8], list: &[Ray]) -> Result<Outcome, NoMemory>
@@ -43,7 +29,7 @@ pub fn list_outcome(alloc: Global, name: &[u8], list: &[Ray]) -> Result<Outcome,
 
 // A ray or a pair of rays.
 fn append_kind(alloc: Global, text: &mut Vec<u8>, kind: &LargeKind) -> Result<(), NoMemory>
-    ensures { OnOk result (text.new.items ≡ text.old.items ++ kind_text (named_of kind.now)) }
+    ensures { OnOk result (text.new.items ≡ text.old.items ++ kind_text kind.now) }
 {
     match kind {
         LargeKind::Value(ray) => {
@@ -62,7 +48,7 @@ fn append_kind(alloc: Global, text: &mut Vec<u8>, kind: &LargeKind) -> Result<()
 /// The step, counted from 0, its row's number, and the ray or the pair at which a number passes the limit.
 pub fn large_outcome(alloc: Global, order: &[u32], kind: &LargeKind) -> Result<Outcome, NoMemory>
     requires { 0 < length order.now }
-    ensures { IfOk result (λ o. o ≡ large_outcome order.now (named_of kind.now)) }
+    ensures { IfOk result (λ o. o ≡ large_outcome order.now kind.now) }
 {
     let step = order.len() - 1;
     let mut text = Vec::new(alloc);

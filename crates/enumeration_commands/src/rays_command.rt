@@ -1,12 +1,12 @@
 // The command `rays`: all primitive extreme rays of a cone.
-ghost use Rattle.std.specs.Prelude.{◌≡◌, ◌≢◌, ◌≤◌, ◌^◌, [], length, codes, IfOk};
-ghost use Rattle.command_words.specs.Requests as words;
+ghost use Rattle.std.specs.Prelude.{◌≡◌, ◌≢◌, ◌≤◌, ◌^◌, length, codes, IfOk};
+ghost use Rattle.cone_definitions.specs.Listings.{without_pairs};
 ghost use Rattle.document_definitions.specs.Documents.{worded, cone_document};
 ghost use Rattle.outcome_definitions.specs.Outcomes.{IsReadOutcome, IsOwnStatus};
 ghost use Rattle.outcome_definitions.specs.Enumerations.{IsEnumerationAnswer, ray_enumeration};
 ghost use Rattle.enumeration_commands.specs.Cones.{GivesConeDocument};
 
-use crate::enumerations::{large_outcome, list_outcome, row_order};
+use crate::enumerations::{large_outcome, list_outcome};
 use bench_io::Lexer;
 use command_answers::{Outcome, end_document, fault_outcome};
 use cone_core::{ConeFault, MAX_ENTRY, System, read_cone};
@@ -34,7 +34,7 @@ fn answer(alloc: Global, system: &System, order: Order, limit: u128) -> Result<O
     requires named { order ≢ Order.Free }
     requires some_limit { 1 ≤ limit }
     requires most_limit { limit ≤ MAX_ENTRY }
-    ensures answer { IfOk result (IsEnumerationAnswer (codes "rays") (record { system = system.now; pairs = []; order = order; limit = limit })) }
+    ensures answer { IfOk result (IsEnumerationAnswer (codes "rays") (without_pairs system.now order limit)) }
     ensures own_status { IfOk result (λ o. IsOwnStatus o.status) }
 {
     match ray_answers::rays(alloc, system, order, limit) {
@@ -47,18 +47,19 @@ fn answer(alloc: Global, system: &System, order: Order, limit: u128) -> Result<O
 /// The outcome of `rays` on an input that isn't too long.
 pub fn rays(
     alloc: Global,
-    order: command_words::Order,
+    order: Order,
     limit: u128,
     bytes: &[u8],
 ) -> Result<Outcome, NoMemory>
     requires size { length bytes.now ≤ 2 ^ 31 }
+    requires named { order ≢ Order.Free }
     requires some_limit { 1 ≤ limit }
     requires most_limit { limit ≤ MAX_ENTRY }
-    ensures answer { IfOk result (IsReadOutcome (worded (cone_document bytes.now)) (λ cone. IsEnumerationAnswer (codes "rays") (ray_enumeration (words.order_of order) limit cone))) }
+    ensures answer { IfOk result (IsReadOutcome (worded (cone_document bytes.now)) (λ cone. IsEnumerationAnswer (codes "rays") (ray_enumeration order limit cone))) }
     ensures own_status { IfOk result (λ o. IsOwnStatus o.status) }
 {
     match read_cone_document(alloc, bytes) {
-        Ok(system) => answer(alloc, &system, row_order(order), limit),
+        Ok(system) => answer(alloc, &system, order, limit),
         Err(ConeFault::Lex(fault)) => fault_outcome(alloc, InputFault::Text(TextFault::Lex(fault))),
         Err(ConeFault::NoMemory) => Err(NoMemory),
     }

@@ -1,11 +1,10 @@
 // The command `surfaces`: all vertex surfaces of a table.
 ghost use Rattle.std.specs.Prelude.{◌≡◌, ◌≢◌, ◌≤◌, ◌^◌, length, IfOk};
-ghost use Rattle.command_words.specs.Requests as words;
 ghost use Rattle.document_definitions.specs.Documents.{table_document};
 ghost use Rattle.outcome_definitions.specs.Outcomes.{IsReadOutcome, IsOwnStatus};
-ghost use Rattle.outcome_definitions.specs.Enumerations.{IsSurfacesAnswer, order_of};
+ghost use Rattle.outcome_definitions.specs.Enumerations.{IsSurfacesAnswer};
 
-use crate::enumerations::{large_outcome, list_outcome, row_order};
+use crate::enumerations::{large_outcome, list_outcome};
 use command_answers::{Outcome, fault_outcome, read_table_document};
 use cone_core::MAX_ENTRY;
 use double_description::{EnumFault, Order};
@@ -58,18 +57,19 @@ fn answer(
 pub fn surfaces(
     alloc: Global,
     coords: Coords,
-    order: command_words::Order,
+    order: Order,
     limit: u128,
     bytes: &[u8],
 ) -> Result<Outcome, NoMemory>
     requires size { length bytes.now ≤ 2 ^ 31 }
+    requires named { order ≢ Order.Free }
     requires some_limit { 1 ≤ limit }
     requires most_limit { limit ≤ MAX_ENTRY }
-    ensures answer { IfOk result (IsReadOutcome (table_document bytes.now) (IsSurfacesAnswer coords (order_of (words.order_of order)) limit)) }
+    ensures answer { IfOk result (IsReadOutcome (table_document bytes.now) (IsSurfacesAnswer coords order limit)) }
     ensures own_status { IfOk result (λ o. IsOwnStatus o.status) }
 {
     match read_table_document(alloc, bytes) {
-        Ok(table) => answer(alloc, &table, coords, row_order(order), limit),
+        Ok(table) => answer(alloc, &table, coords, order, limit),
         Err(fault) => fault_outcome(alloc, fault),
     }
 }

@@ -9,11 +9,12 @@ use Rattle.surface_definitions.specs.declared.Coords.{Coords}
 use Rattle.surface_definitions.specs.QuadEquations.{AreEquations}
 use Rattle.surface_definitions.specs.Verdict.{Verdict, verdict}
 use Rattle.document_definitions.specs.Documents.{worded, table_document, two_tables_document, tables_document, vectors_document, steps_document, cone_document, verdicts_text}
-use Rattle.command_definitions.specs.Requests.{Request, verify, info, surfaces, rays, describe, lift, crush, play, sig, same, group, check, descend, make, bulk}
+use Rattle.command_definitions.specs.declared.Request.{Request}
+use Rattle.command_definitions.specs.declared.Request.TheVariants.{Verify, Info, Surfaces, Rays, Describe, Lift, Crush, Play, Sig, Same, Group, Check, Descend, Make, Bulk}
 use Rattle.command_definitions.specs.Words.{accepted_request}
 use Rattle.outcome_definitions.specs.declared.Status.TheVariants.{Done}
 use Rattle.outcome_definitions.specs.Outcomes.{Outcome, usage_outcome, too_long_outcome, IsReadOutcome}
-use Rattle.outcome_definitions.specs.Enumerations.{IsEnumerationAnswer, IsSurfacesAnswer, order_of, ray_enumeration}
+use Rattle.outcome_definitions.specs.Enumerations.{IsEnumerationAnswer, IsSurfacesAnswer, ray_enumeration}
 use Rattle.outcome_definitions.specs.Information.{IsInformationAnswer}
 use Rattle.outcome_definitions.specs.Scripts.{IsScriptAnswer}
 use Rattle.outcome_definitions.specs.Canonical.{IsSignatureAnswer, IsSameAnswer, IsGroupAnswer}
@@ -36,21 +37,21 @@ IsVerdictsAnswer coords d o = (equations : List EquationRow) × AreEquations coo
 
 -- The outcome of a command on an input that isn't too long. A command that isn't built has none.
 abbrev pub IsAnswerTo : Request → List ℕ → Outcome → Type 0
-IsAnswerTo (verify coords) bytes o = IsReadOutcome (vectors_document bytes) (IsVerdictsAnswer coords) o
-IsAnswerTo info bytes o = IsReadOutcome (table_document bytes) IsInformationAnswer o
-IsAnswerTo (surfaces coords order most) bytes o = IsReadOutcome (table_document bytes) (IsSurfacesAnswer coords (order_of order) most) o
-IsAnswerTo (rays order most) bytes o = IsReadOutcome (worded (cone_document bytes)) (λ cone. IsEnumerationAnswer (codes "rays") (ray_enumeration order most cone)) o
-IsAnswerTo (describe coords) bytes o = ⊥
-IsAnswerTo lift bytes o = ⊥
-IsAnswerTo crush bytes o = ⊥
-IsAnswerTo play bytes o = IsReadOutcome (steps_document bytes) IsScriptAnswer o
-IsAnswerTo sig bytes o = IsReadOutcome (table_document bytes) IsSignatureAnswer o
-IsAnswerTo same bytes o = IsReadOutcome (two_tables_document bytes) IsSameAnswer o
-IsAnswerTo group bytes o = IsReadOutcome (tables_document bytes) IsGroupAnswer o
-IsAnswerTo check bytes o = ⊥
-IsAnswerTo descend bytes o = ⊥
-IsAnswerTo (make seed moves) bytes o = ⊥
-IsAnswerTo (bulk seed moves) bytes o = ⊥
+IsAnswerTo (Verify coords) bytes o = IsReadOutcome (vectors_document bytes) (IsVerdictsAnswer coords) o
+IsAnswerTo Info bytes o = IsReadOutcome (table_document bytes) IsInformationAnswer o
+IsAnswerTo (Surfaces coords order most) bytes o = IsReadOutcome (table_document bytes) (IsSurfacesAnswer coords order most) o
+IsAnswerTo (Rays order most) bytes o = IsReadOutcome (worded (cone_document bytes)) (λ cone. IsEnumerationAnswer (codes "rays") (ray_enumeration order most cone)) o
+IsAnswerTo (Describe coords) bytes o = ⊥
+IsAnswerTo Lift bytes o = ⊥
+IsAnswerTo Crush bytes o = ⊥
+IsAnswerTo Play bytes o = IsReadOutcome (steps_document bytes) IsScriptAnswer o
+IsAnswerTo Sig bytes o = IsReadOutcome (table_document bytes) IsSignatureAnswer o
+IsAnswerTo Same bytes o = IsReadOutcome (two_tables_document bytes) IsSameAnswer o
+IsAnswerTo Group bytes o = IsReadOutcome (tables_document bytes) IsGroupAnswer o
+IsAnswerTo Check bytes o = ⊥
+IsAnswerTo Descend bytes o = ⊥
+IsAnswerTo (Make seed moves) bytes o = ⊥
+IsAnswerTo (Bulk seed moves) bytes o = ⊥
 
 -- the outcome of accepted words and of an input
 abbrev pub IsRequestOutcome : Request → List ℕ → Outcome → Type 0

@@ -4,14 +4,18 @@ use Rattle.std.specs.Prelude.{Option, Some, None, Result, Ok, Err, nat_lt, codes
 use Rattle.std.specs.Bool.{MatchBool}
 use Rattle.table_definitions.specs.Table.{Row}
 use Rattle.surface_definitions.specs.declared.Coords.{Coords}
-use Rattle.double_description.specs.declared.picker.Order.{Order}
-use Rattle.double_description.specs.declared.picker.Order.TheVariants.{Free}
+use Rattle.surface_definitions.specs.TableSurfaces.{table_enumeration}
+use Rattle.cone_definitions.specs.declared.Order.{Order}
+use Rattle.cone_definitions.specs.declared.Order.TheVariants.{Free}
 use Rattle.signature_definitions.specs.declared.InputFault.{InputFault}
 use Rattle.document_definitions.specs.Documents.{worded, table_document, two_tables_document, tables_document, vectors_document, steps_document, cone_document}
-use Rattle.command_definitions.specs.Requests.{Request, verify, info, surfaces, rays, describe, lift, crush, play, sig, same, group, check, descend, make, bulk, Order as OrderName, given, short, zeros}
+use Rattle.command_definitions.specs.declared.Request.{Request}
+use Rattle.command_definitions.specs.declared.Request.TheVariants.{Verify, Info, Surfaces, Rays, Describe, Lift, Crush, Play, Sig, Same, Group, Check, Descend, Make, Bulk}
+use Rattle.command_definitions.specs.Requests.{HoldsRange, IsBuilt}
 use Rattle.command_definitions.specs.Words.{accepted_request}
+use Rattle.command_definitions.proofs.Accepted.{Holds, accepted_hold}
 use Rattle.outcome_definitions.specs.Outcomes.{Outcome, too_long_outcome, IsReadOutcome}
-use Rattle.outcome_definitions.specs.Enumerations.{IsEnumerationAnswer, IsSurfacesAnswer, order_of, ray_enumeration, table_enumeration}
+use Rattle.outcome_definitions.specs.Enumerations.{IsEnumerationAnswer, IsSurfacesAnswer, ray_enumeration}
 use Rattle.outcome_definitions.specs.Information.{IsInformationAnswer}
 use Rattle.outcome_definitions.specs.Scripts.{IsScriptAnswer}
 use Rattle.outcome_definitions.specs.Canonical.{IsSignatureAnswer, IsSameAnswer, IsGroupAnswer}
@@ -22,12 +26,6 @@ use Rattle.outcome_laws.proofs.Informed.{one_information}
 use Rattle.outcome_laws.proofs.Scripted.{one_script}
 use Rattle.outcome_laws.proofs.Labelled.{one_signature_answer, one_same_answer, one_group_answer}
 use Rattle.outcome_laws.proofs.ReadPairs.{first_is_table}
-
--- a word names an order
-named : (order : OrderName) → order_of order ≢ Free
-named given e = cc
-named short e = cc
-named zeros e = cc
 
 -- the outcome of a document is one where each value's answer is
 one_read : {A : Type 0} (document : Result A InputFault) (IsAnswer : A → Outcome → Type 0) (o p : Outcome) →
@@ -50,35 +48,35 @@ one_found : {A : Type 0} (document : Result A InputFault) (IsAnswer : A → Outc
 one_found (Ok value) IsAnswer o p one h k = one value refl h k
 one_found (Err fault) IsAnswer o p one h k = h ∙ sym k
 
-one_answer : (request : Request) (bytes : List ℕ) (o p : Outcome) → IsAnswerTo request bytes o → IsAnswerTo request bytes p → o ≡ p
-one_answer (verify coords) bytes o p h k = one_read (vectors_document bytes) (IsVerdictsAnswer coords) o p (λ d. one_verdicts coords d o p) h k
-one_answer info bytes o p h k = one_read (table_document bytes) IsInformationAnswer o p (λ rows. one_information rows o p) h k
-one_answer (surfaces coords order most) bytes o p h k =
-    one_read (table_document bytes) (IsSurfacesAnswer coords (order_of order) most) o p (λ rows. one_surfaces coords (order_of order) most rows o p (named order)) h k
-one_answer (rays order most) bytes o p h k =
+one_answer : (request : Request) (bytes : List ℕ) (o p : Outcome) → HoldsRange request → IsAnswerTo request bytes o → IsAnswerTo request bytes p → o ≡ p
+one_answer (Verify coords) bytes o p range h k = one_read (vectors_document bytes) (IsVerdictsAnswer coords) o p (λ d. one_verdicts coords d o p) h k
+one_answer Info bytes o p range h k = one_read (table_document bytes) IsInformationAnswer o p (λ rows. one_information rows o p) h k
+one_answer (Surfaces coords order most) bytes o p range h k =
+    one_read (table_document bytes) (IsSurfacesAnswer coords order most) o p (λ rows. one_surfaces coords order most rows o p range.named) h k
+one_answer (Rays order most) bytes o p range h k =
     one_read (worded (cone_document bytes)) (λ cone. IsEnumerationAnswer (codes "rays") (ray_enumeration order most cone)) o p
-    (λ cone. one_enumeration (codes "rays") (ray_enumeration order most cone) o p (named order)) h k
-one_answer (describe coords) bytes o p h k = absurd h
-one_answer lift bytes o p h k = absurd h
-one_answer crush bytes o p h k = absurd h
-one_answer play bytes o p h k = one_read (steps_document bytes) IsScriptAnswer o p (λ d. one_script d o p) h k
-one_answer sig bytes o p h k = one_read (table_document bytes) IsSignatureAnswer o p (λ rows. one_signature_answer rows o p) h k
-one_answer same bytes o p h k =
+    (λ cone. one_enumeration (codes "rays") (ray_enumeration order most cone) o p range.named) h k
+one_answer (Describe coords) bytes o p range h k = absurd h
+one_answer Lift bytes o p range h k = absurd h
+one_answer Crush bytes o p range h k = absurd h
+one_answer Play bytes o p range h k = one_read (steps_document bytes) IsScriptAnswer o p (λ d. one_script d o p) h k
+one_answer Sig bytes o p range h k = one_read (table_document bytes) IsSignatureAnswer o p (λ rows. one_signature_answer rows o p) h k
+one_answer Same bytes o p range h k =
     one_found (two_tables_document bytes) IsSameAnswer o p (λ pair read. one_same_answer pair o p (first_is_table bytes pair read)) h k
-one_answer group bytes o p h k = one_read (tables_document bytes) IsGroupAnswer o p (λ tables. one_group_answer tables o p) h k
-one_answer check bytes o p h k = absurd h
-one_answer descend bytes o p h k = absurd h
-one_answer (make seed moves) bytes o p h k = absurd h
-one_answer (bulk seed moves) bytes o p h k = absurd h
+one_answer Group bytes o p range h k = one_read (tables_document bytes) IsGroupAnswer o p (λ tables. one_group_answer tables o p) h k
+one_answer Check bytes o p range h k = absurd h
+one_answer Descend bytes o p range h k = absurd h
+one_answer (Make seed moves) bytes o p range h k = absurd h
+one_answer (Bulk seed moves) bytes o p range h k = absurd h
 
-one_by_length : (long : Bool) (request : Request) (bytes : List ℕ) (o p : Outcome) → MatchBool long (o ≡ too_long_outcome) (IsAnswerTo request bytes o) →
+one_by_length : (long : Bool) (request : Request) (bytes : List ℕ) (o p : Outcome) → HoldsRange request → MatchBool long (o ≡ too_long_outcome) (IsAnswerTo request bytes o) →
     MatchBool long (p ≡ too_long_outcome) (IsAnswerTo request bytes p) → o ≡ p
-one_by_length true request bytes o p h k = h ∙ sym k
-one_by_length false request bytes o p h k = one_answer request bytes o p h k
+one_by_length true request bytes o p range h k = h ∙ sym k
+one_by_length false request bytes o p range h k = one_answer request bytes o p range h k
 
-one_outcome : (request : Option Request) (bytes : List ℕ) (o p : Outcome) → IsOutcomeOf request bytes o → IsOutcomeOf request bytes p → o ≡ p
-one_outcome None bytes o p h k = h ∙ sym k
-one_outcome (Some request) bytes o p h k = one_by_length (nat_lt most_bytes (length bytes)) request bytes o p h k
+one_outcome : (request : Option Request) (bytes : List ℕ) (o p : Outcome) → Holds IsBuilt request → IsOutcomeOf request bytes o → IsOutcomeOf request bytes p → o ≡ p
+one_outcome None bytes o p built h k = h ∙ sym k
+one_outcome (Some request) bytes o p built h k = one_by_length (nat_lt most_bytes (length bytes)) request bytes o p built.in_range h k
 
 pub outcomes_agree_lem : (words : List (List ℕ)) (bytes : List ℕ) (o p : Outcome) → IsOutcome words bytes o → IsOutcome words bytes p → o ≡ p
-outcomes_agree_lem words bytes o p h k = one_outcome (accepted_request words) bytes o p h k
+outcomes_agree_lem words bytes o p h k = one_outcome (accepted_request words) bytes o p (accepted_hold words) h k

@@ -1,4 +1,3 @@
-pub mod Steps
 pub mod Enumerated
 pub mod Numbered
 pub mod Informed

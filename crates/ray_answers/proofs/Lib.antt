@@ -1,3 +1,1 @@
 pub mod ListLemmas
-pub mod OrderLemmas
-pub mod LargeLemmas

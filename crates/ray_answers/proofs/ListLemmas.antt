@@ -2,8 +2,7 @@
 use Rattle.std.proofs.Common.{◌≡◌, ℕ, List, [], ◌∷◌, ◌++◌, map, refl, ap, sym, ◌∙◌, append_assoc, append-nil}
 use Rattle.std.specs.Prelude.{codes, decimal}
 use Rattle.text_definitions.specs.Written.{spaced}
-use Rattle.cone_text_definitions.specs.VectorText.{vector_text}
-use Rattle.ray_answers.specs.Lists.{entries_text}
+use Rattle.cone_text_definitions.specs.VectorText.{vector_text, entries_text}
 
 spaced_entries : (w x : List ℕ) → spaced (w ∷ map decimal x) ≡ (w ++ entries_text x) ++ 10 ∷ []
 spaced_entries w [] = ap (λ v. v ++ 10 ∷ []) (sym (append-nil w))

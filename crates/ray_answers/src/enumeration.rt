@@ -2,7 +2,8 @@
 
 ghost use Rattle.std.specs.Prelude.{◌≢◌, ◌≤◌, [], IfOk, IfErr};
 ghost use Rattle.double_description.specs.Enumerated.{IsOnlyList};
-ghost use Rattle.ray_answers.specs.Answers.{AreRays, AreRefused};
+ghost use Rattle.cone_definitions.specs.Listings.{IsListed, without_pairs};
+ghost use Rattle.ray_answers.specs.Answers.{AreRefused};
 
 use cone_core::{MAX_ENTRY, System};
 use double_description::{EnumFault, Order, Permit, Picker, Rays, choice, enumerate};
@@ -14,9 +15,9 @@ pub fn rays(alloc: Global, system: &System, order: Order, limit: u128) -> Result
     requires named { order ≢ Order.Free }
     requires some_limit { 1 ≤ limit }
     requires most_limit { limit ≤ MAX_ENTRY }
-    ensures ok { IfOk result (AreRays limit system.now order) }
+    ensures ok { IfOk result (λ r. IsListed (without_pairs system.now order limit) r.order.items r.list.items) }
     ensures only { IfOk result (IsOnlyList system.now []) }
-    ensures err { IfErr result (AreRefused limit system.now order) }
+    ensures err { IfErr result (AreRefused (without_pairs system.now order limit)) }
 {
     let permit = Permit::new(
         Vec::new(alloc),

@@ -2,11 +2,9 @@
 #![tactic(auto)]
 
 mod enumeration;
-mod laws;
 mod text;
 
 pub use enumeration::rays;
-pub use laws::named_orders;
 pub use text::{write_entries, write_list};
 
 #[cfg(test)]

@@ -1,8 +1,7 @@
 // Rays as text: a line `vec` with the entries for each.
 
 ghost use Rattle.std.specs.Prelude.{◌≡◌, ◌++◌, OnOk, OnErr, IfOk};
-ghost use Rattle.cone_text_definitions.specs.VectorText.{vector_text};
-ghost use Rattle.ray_answers.specs.Lists.{entries_text, list_text};
+ghost use Rattle.cone_text_definitions.specs.VectorText.{vector_text, entries_text, list_text};
 
 use cone_core::Ray;
 use no_memory::NoMemory;

@@ -8,3 +8,4 @@ pub mod Characteristic
 pub mod Crushing
 pub mod Lift
 pub mod QuadEquations
+pub mod TableSurfaces

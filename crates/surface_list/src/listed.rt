@@ -2,7 +2,9 @@
 
 ghost use Rattle.std.specs.Prelude.{◌≡◌, ◌≢◌, ◌≤◌, IfOk, IfErr};
 ghost use Rattle.surface_definitions.specs.Coordinates as coordinates;
-ghost use Rattle.surface_list.specs.Surfaces.{AreSurfacesIn, AreRefused, AreTableSurfaces, IsTableRefused};
+ghost use Rattle.cone_definitions.specs.Listings.{IsListed};
+ghost use Rattle.ray_answers.specs.Answers.{AreRefused};
+ghost use Rattle.surface_list.specs.Surfaces.{AreTableSurfaces, IsTableRefused};
 
 use cone_core::{MAX_ENTRY, Ray, System};
 use double_description::{EnumFault, Order, Permit, Picker, Rays, choice, enumerate};
@@ -26,8 +28,8 @@ fn enumerated(
     requires named { order ≢ Order.Free }
     requires some_limit { 1 ≤ limit }
     requires most_limit { limit ≤ MAX_ENTRY }
-    ensures ok { IfOk result (AreSurfacesIn limit system.now (coordinates.clash_list coords tets) order) }
-    ensures err { IfErr result (AreRefused limit system.now (coordinates.clash_list coords tets) order) }
+    ensures ok { IfOk result (λ r. IsListed (record { system = system.now; pairs = coordinates.clash_list coords tets; order = order; limit = limit }) r.order.items r.list.items) }
+    ensures err { IfErr result (AreRefused (record { system = system.now; pairs = coordinates.clash_list coords tets; order = order; limit = limit })) }
 {
     let clashes = clash_list(alloc, coords, tets)?;
     let masks = Masks::new(alloc, coords, tets)?;

@@ -7,12 +7,14 @@ use Rattle.signature_definitions.specs.declared.InputFault.{InputFault}
 use Rattle.table_definitions.specs.Table.{Row}
 use Rattle.surface_definitions.specs.declared.Coords.{Coords}
 use Rattle.document_definitions.specs.Documents.{worded, table_document, vectors_document, cone_document}
-use Rattle.command_definitions.specs.Requests.{Request, verify, surfaces, rays, Order}
+use Rattle.command_definitions.specs.declared.Request.{Request}
+use Rattle.command_definitions.specs.declared.Request.TheVariants.{Verify, Surfaces, Rays}
+use Rattle.cone_definitions.specs.declared.Order.{Order}
 use Rattle.command_definitions.specs.Words.{accepted_request}
 use Rattle.outcome_definitions.specs.declared.Status.{Status}
 use Rattle.outcome_definitions.specs.declared.Status.TheVariants.{Done, Input, Large}
 use Rattle.outcome_definitions.specs.Outcomes.{Outcome, too_long_outcome, fault_outcome, IsReadOutcome}
-use Rattle.outcome_definitions.specs.Enumerations.{IsEnumerationAnswer, IsSurfacesAnswer, order_of, ray_enumeration, list_outcome, large_outcome}
+use Rattle.outcome_definitions.specs.Enumerations.{IsEnumerationAnswer, IsSurfacesAnswer, ray_enumeration, list_outcome, large_outcome}
 use Rattle.outcome_definitions.specs.Answers.{IsOutcome, IsOutcomeOf, IsAnswerTo, IsVerdictsAnswer, verify_outcome, most_bytes}
 use Rattle.workbench.specs.Runs.{IsAnswered}
 use Rattle.workbench.specs.Prints.{PrintsSurfaces, PrintsRays, PrintsVerdicts}
@@ -45,21 +47,21 @@ module _ (words : List (List ℕ)) (bytes : List ℕ) (o : Outcome) (held grown 
   printed : (p : Outcome) → o ≡ p → Grows held grown p.text
   printed p same = subst (λ (q : Outcome). Grows held grown q.text) same grows
 
-  surfaces_from : (coords : Coords) (order : Order) (most : ℕ) (rows : List Row) → table_document bytes ≡ Ok rows → IsSurfacesAnswer coords (order_of order) most rows o → PrintsSurfaces coords bytes held grown
+  surfaces_from : (coords : Coords) (order : Order) (most : ℕ) (rows : List Row) → table_document bytes ≡ Ok rows → IsSurfacesAnswer coords order most rows o → PrintsSurfaces coords bytes held grown
   surfaces_from coords order most rows spelled h = elim h.2 [
     | inl g ↦ record { rows = rows; spelled = spelled; equations = h.0; of_table = h.1; list = g.1; surfaces = (g.2).surfaces; printed = printed (list_outcome (codes "surfaces") g.1) g.3 }
     | inr g ↦ apart o (large_outcome g.0 g.1) done g.3 not_large
   ]
 
-  pub prints_surfaces : (coords : Coords) (order : Order) (most : ℕ) → accepted_request words ≡ Some (surfaces coords order most) → PrintsSurfaces coords bytes held grown
+  pub prints_surfaces : (coords : Coords) (order : Order) (most : ℕ) → accepted_request words ≡ Some (Surfaces coords order most) → PrintsSurfaces coords bytes held grown
   prints_surfaces coords order most e =
-      told (table_document bytes) (IsSurfacesAnswer coords (order_of order) most) o
-      (was_read (table_document bytes) (IsSurfacesAnswer coords (order_of order) most) o done (answered (surfaces coords order most) e))
+      told (table_document bytes) (IsSurfacesAnswer coords order most) o
+      (was_read (table_document bytes) (IsSurfacesAnswer coords order most) o done (answered (Surfaces coords order most) e))
       (surfaces_from coords order most)
 
-  pub prints_rays : (order : Order) (most : ℕ) → accepted_request words ≡ Some (rays order most) → PrintsRays bytes held grown
+  pub prints_rays : (order : Order) (most : ℕ) → accepted_request words ≡ Some (Rays order most) → PrintsRays bytes held grown
   prints_rays order most e =
-      let d = was_read (worded (cone_document bytes)) (λ cone. IsEnumerationAnswer (codes "rays") (ray_enumeration order most cone)) o done (answered (rays order most) e) in
+      let d = was_read (worded (cone_document bytes)) (λ cone. IsEnumerationAnswer (codes "rays") (ray_enumeration order most cone)) o done (answered (Rays order most) e) in
       elim d.2 [
         | inl h ↦ record { cone = d.0; spelled = d.1; list = h.1; rays = (h.2).surfaces; printed = printed (list_outcome (codes "rays") h.1) h.3 }
         | inr h ↦ apart o (large_outcome h.0 h.1) done h.3 not_large
@@ -69,26 +71,26 @@ module _ (words : List (List ℕ)) (bytes : List ℕ) (o : Outcome) (held grown 
   verdicts_from coords d spelled h =
       record { rows = d.0; vectors = d.1; spelled = spelled; equations = h.0; of_table = h.1; printed = printed (verify_outcome coords d.0 h.0 d.1) h.2 }
 
-  pub prints_verdicts : (coords : Coords) → accepted_request words ≡ Some (verify coords) → PrintsVerdicts coords bytes held grown
+  pub prints_verdicts : (coords : Coords) → accepted_request words ≡ Some (Verify coords) → PrintsVerdicts coords bytes held grown
   prints_verdicts coords e =
-      told (vectors_document bytes) (IsVerdictsAnswer coords) o (was_read (vectors_document bytes) (IsVerdictsAnswer coords) o done (answered (verify coords) e)) (verdicts_from coords)
+      told (vectors_document bytes) (IsVerdictsAnswer coords) o (was_read (vectors_document bytes) (IsVerdictsAnswer coords) o done (answered (Verify coords) e)) (verdicts_from coords)
 
 -- the same where the source tells its bytes
 abbrev Tells : List (List ℕ) → Status → Option (List ℕ) → Option (List ℕ) → List ℕ → Type 0
 Tells words status held grown bytes = (o : Outcome) × IsOutcome words bytes o × (status ≡ o.status) × Grows held grown o.text
 
 pub told_surfaces : (words : List (List ℕ)) (status : Status) (held grown left : Option (List ℕ)) → status ≡ Done → IfSome left (Tells words status held grown)
-    → (coords : Coords) (order : Order) (most : ℕ) → accepted_request words ≡ Some (surfaces coords order most) → IfSome left (λ bytes. PrintsSurfaces coords bytes held grown)
+    → (coords : Coords) (order : Order) (most : ℕ) → accepted_request words ≡ Some (Surfaces coords order most) → IfSome left (λ bytes. PrintsSurfaces coords bytes held grown)
 told_surfaces words status held grown None done h coords order most e = tt
 told_surfaces words status held grown (Some bytes) done h coords order most e = prints_surfaces words bytes h.0 held grown h.1 (sym h.2 ∙ done) h.3 coords order most e
 
 pub told_rays : (words : List (List ℕ)) (status : Status) (held grown left : Option (List ℕ)) → status ≡ Done → IfSome left (Tells words status held grown)
-    → (order : Order) (most : ℕ) → accepted_request words ≡ Some (rays order most) → IfSome left (λ bytes. PrintsRays bytes held grown)
+    → (order : Order) (most : ℕ) → accepted_request words ≡ Some (Rays order most) → IfSome left (λ bytes. PrintsRays bytes held grown)
 told_rays words status held grown None done h order most e = tt
 told_rays words status held grown (Some bytes) done h order most e = prints_rays words bytes h.0 held grown h.1 (sym h.2 ∙ done) h.3 order most e
 
 pub told_verdicts : (words : List (List ℕ)) (status : Status) (held grown left : Option (List ℕ)) → status ≡ Done → IfSome left (Tells words status held grown)
-    → (coords : Coords) → accepted_request words ≡ Some (verify coords) → IfSome left (λ bytes. PrintsVerdicts coords bytes held grown)
+    → (coords : Coords) → accepted_request words ≡ Some (Verify coords) → IfSome left (λ bytes. PrintsVerdicts coords bytes held grown)
 told_verdicts words status held grown None done h coords e = tt
 told_verdicts words status held grown (Some bytes) done h coords e = prints_verdicts words bytes h.0 held grown h.1 (sym h.2 ∙ done) h.3 coords e
 

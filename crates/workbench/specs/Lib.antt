@@ -1,4 +1,3 @@
 pub mod Runs
 pub mod Codes
-pub mod Requests
 pub mod Prints

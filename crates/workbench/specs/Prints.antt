@@ -1,22 +1,16 @@
 -- What a run that is done has printed, command by command.
-use Rattle.std.specs.Prelude.{◌≡◌, ℕ, List, [], ◌++◌, map, length, Option, Ok, codes, decimal}
+use Rattle.std.specs.Prelude.{◌≡◌, ℕ, List, [], map, length, Option, Ok, codes}
 use Rattle.bench_io.specs.Causes.{Grows}
 use Rattle.table_definitions.specs.Table.{Row}
 use Rattle.cone_definitions.specs.Rows.{Row as EquationRow}
 use Rattle.cone_definitions.specs.Surfaces.{IsSurfaceList}
-use Rattle.cone_text_definitions.specs.ConeText.{Cone as ConeText}
-use Rattle.cone_core.specs.ConeReads.{system_of}
+use Rattle.cone_text_definitions.specs.ConeText.{Cone as ConeText, system_of}
 use Rattle.surface_definitions.specs.Coordinates.{columns, clash_list}
 use Rattle.surface_definitions.specs.declared.Coords.{Coords}
 use Rattle.surface_definitions.specs.QuadEquations.{AreEquations}
 use Rattle.document_definitions.specs.Documents.{worded, table_document, vectors_document, cone_document, verdicts_text}
-use Rattle.ray_answers.specs.Lists.{list_text}
-use Rattle.outcome_definitions.specs.Lines.{line}
+use Rattle.outcome_definitions.specs.Enumerations.{listing}
 use Rattle.outcome_definitions.specs.Answers.{verdict_on}
-
--- the number of vectors, and a line for each
-abbrev pub listing : List ℕ → List (List ℕ) → List ℕ
-listing name list = line (codes "# " ++ name ++ codes " " ++ decimal (length list)) ++ list_text list
 
 -- The input spells a table, and exactly the primitive vectors that lie on extreme rays of the solution cone of its
 -- equations and meet the quadrilateral condition were printed, each once, in lexicographic order.

@@ -3,7 +3,7 @@ use Rattle.std.specs.Prelude.{◌≡◌, ℕ, ◌-◌, ◌^◌, ◌<◌, ◌≤�
 use Rattle.bench_io.specs.Causes.{Grows, Rose, IsEnded}
 use Rattle.outcome_definitions.specs.declared.Status.{Status}
 use Rattle.outcome_definitions.specs.declared.Status.TheVariants.{Done, Usage, Input, Refused, Large, ReadFault, WriteFault, NoMemory}
-use Rattle.command_definitions.specs.Requests.{Request}
+use Rattle.command_definitions.specs.declared.Request.{Request}
 use Rattle.outcome_definitions.specs.Outcomes.{Outcome, IsOwnStatus, read_outcome}
 use Rattle.outcome_definitions.specs.Answers.{IsOutcome, IsRequestOutcome, most_bytes}
 

@@ -5,13 +5,11 @@ ghost use Rattle.outcome_definitions.specs.Lines.{read_line};
 ghost use Rattle.outcome_definitions.specs.Outcomes as outcomes;
 ghost use Rattle.outcome_definitions.specs.Outcomes.{IsOwnStatus};
 ghost use Rattle.outcome_definitions.specs.Answers.{IsOutcome, IsAnswerTo, most_bytes};
-ghost use Rattle.command_words.specs.Requests as words;
 ghost use Rattle.command_definitions.specs.Words.{accepted_request};
-ghost use Rattle.command_definitions.specs.Requests as requests;
-ghost use Rattle.command_definitions.specs.Requests.{Order as OrderName};
+ghost use Rattle.command_definitions.specs.Requests.{IsBuilt};
+ghost use Rattle.cone_definitions.specs.declared.Order.{Order};
 ghost use Rattle.surface_definitions.specs.declared.Coords.{Coords};
 ghost use Rattle.workbench.specs.Prints.{PrintsSurfaces, PrintsRays, PrintsVerdicts};
-ghost use Rattle.workbench.specs.Requests.{IsBuilt};
 ghost use Rattle.workbench.specs.Runs.{Answers, IsAnswered, IsCalm, IsWithin, IsResponse, IsWithoutMemory, IsCutOff, IsDue, IsDelivered};
 
 use bench_io::{ReadEnd, Sink, Source, Words, read_all, write_all};
@@ -31,7 +29,7 @@ const MOST_BYTES: u64 = 1_048_576;
 fn answer(alloc: Global, request: Request, bytes: &[u8]) -> Result<Outcome, NoMemory>
     requires size { length bytes.now ≤ most_bytes }
     requires built { IsBuilt request }
-    ensures answer { IfOk result (λ o. IsAnswerTo (words.request request) bytes.now o) }
+    ensures answer { IfOk result (λ o. IsAnswerTo request bytes.now o) }
     ensures own_status { IfOk result (λ o. IsOwnStatus o.status) }
 {
     match request {
@@ -56,7 +54,7 @@ fn answer(alloc: Global, request: Request, bytes: &[u8]) -> Result<Outcome, NoMe
 // The outcome of a command over a source.
 fn respond<S: Source>(alloc: Global, request: Request, source: &mut S) -> Result<Outcome, NoMemory>
     requires { IsBuilt request }
-    ensures response { IfOk result (IsResponse (words.request request) (S.left source.old) (S.left source.new) (S.faults source.old) (S.faults source.new)) }
+    ensures response { IfOk result (IsResponse request (S.left source.old) (S.left source.new) (S.faults source.old) (S.faults source.new)) }
     ensures no_memory { OnErr result (IsWithoutMemory (S.left source.old) (S.left source.new) (S.faults source.old) (S.faults source.new)) }
 {
     match read_all(alloc, source, MOST_BYTES) {
@@ -107,14 +105,14 @@ pub fn run<S: Source, K: Sink>(alloc: Global, words: &Words, source: &mut S, sin
     // For every input that spells a gluing table, `surfaces` prints exactly the primitive integer vectors that lie on
     // extreme rays of its solution cone, in the coordinates asked for, and meet the quadrilateral condition, each once,
     // in lexicographic order.
-    ensures surfaces { result ≡ Status.Done → (coords : Coords) → (order : OrderName) → (most : ℕ)
-        → accepted_request words.now ≡ Some (requests.surfaces coords order most)
+    ensures surfaces { result ≡ Status.Done → (coords : Coords) → (order : Order) → (most : ℕ)
+        → accepted_request words.now ≡ Some (Request.Surfaces coords order most)
         → IfSome (S.left source.old) (λ bytes. PrintsSurfaces coords bytes (K.held sink.old) (K.held sink.new)) }
 
     // `rays` prints exactly the primitive extreme rays of a cone, and `verify` a verdict for each vector.
-    ensures rays { result ≡ Status.Done → (order : OrderName) → (most : ℕ) → accepted_request words.now ≡ Some (requests.rays order most)
+    ensures rays { result ≡ Status.Done → (order : Order) → (most : ℕ) → accepted_request words.now ≡ Some (Request.Rays order most)
         → IfSome (S.left source.old) (λ bytes. PrintsRays bytes (K.held sink.old) (K.held sink.new)) }
-    ensures verify { result ≡ Status.Done → (coords : Coords) → accepted_request words.now ≡ Some (requests.verify coords)
+    ensures verify { result ≡ Status.Done → (coords : Coords) → accepted_request words.now ≡ Some (Request.Verify coords)
         → IfSome (S.left source.old) (λ bytes. PrintsVerdicts coords bytes (K.held sink.old) (K.held sink.new)) }
 
     // Where neither count rose, the words and the input are answered, or memory ran out.

@@ -5,7 +5,7 @@ use Rattle.text_definitions.specs.Text.{Line, pieces, lines_from}
 use Rattle.table_definitions.specs.Table.{Row, IsTable}
 use Rattle.table_definitions.specs.TableText.{table_text}
 use Rattle.document_definitions.specs.Documents.{table_document, vectors_document}
-use Rattle.ray_answers.specs.Lists.{list_text}
+use Rattle.cone_text_definitions.specs.VectorText.{list_text}
 use Rattle.document_laws.proofs.Documents.{table_document_read, vectors_document_read}
 use Rattle.written_laws.specs.Laws.{AreWithinLimit, surfaces_text}
 use Rattle.written_laws.proofs.Decimals.{decimal_no_feed}

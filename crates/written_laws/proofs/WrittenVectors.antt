@@ -9,9 +9,8 @@ use Rattle.std.proofs.lemmas.Bool.Decides.{nat_tests}
 use Rattle.text_definitions.specs.Text.{Line, is_blank, is_word_byte, is_skipped, pieces, line_of, lines_from, lines_of}
 use Rattle.text_definitions.specs.Written.{limit}
 use Rattle.table_definitions.specs.Grammar.{IsNumber}
-use Rattle.cone_text_definitions.specs.VectorText.{vector_text}
+use Rattle.cone_text_definitions.specs.VectorText.{vector_text, list_text}
 use Rattle.surface_definitions.specs.Grammar.{IsVectorLine}
-use Rattle.ray_answers.specs.Lists.{list_text}
 use Rattle.written_laws.specs.Laws.{AreWithinLimit}
 use Rattle.written_laws.proofs.Decimals.{AreDigits, decimal_digits, decimal_value-decimal}
 use Rattle.written_laws.proofs.Words.{IsText, behind_spaces}

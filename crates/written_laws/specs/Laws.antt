@@ -8,7 +8,7 @@ use Rattle.table_definitions.specs.TableText.{table_text}
 use Rattle.table_definitions.specs.Grammar.{AreTriLines}
 use Rattle.surface_definitions.specs.Grammar.{IsVectorLine}
 use Rattle.document_definitions.specs.Documents.{table_document, vectors_document}
-use Rattle.ray_answers.specs.Lists.{list_text}
+use Rattle.cone_text_definitions.specs.VectorText.{list_text}
 
 -- what is written for a table is the table's lines
 abbrev pub WrittenTablesAreLines : Type 0

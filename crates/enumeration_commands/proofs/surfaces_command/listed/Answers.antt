@@ -1,7 +1,6 @@
 -- The list, or what passes the limit, is the answer.
 use Rattle.std.proofs.Common.{ℕ, List, ap, ◌∙◌}
 use Rattle.std.specs.Prelude.{codes}
-use Rattle.double_description.specs.Faults.{named_of}
 use Rattle.outcome_definitions.specs.Enumerations.{list_outcome, large_outcome}
 use Rattle.command_answers.proofs.Results.{if_ok}
 use Rattle.enumeration_commands.proofs.Answering.{table_listed, table_large}
@@ -14,4 +13,4 @@ returns-in-Ok-clause-answer c = if_ok c.list_outcome.result _ _
 pub returns-in-Err-Large-clause-answer : goal.returns-in-Err-Large-clause-answer
 returns-in-Err-Large-clause-answer c = let refused = rw c.in-Err-Large.field-0-is at c.in-Err-Large.ensures.err in if_ok c.large_outcome.result _ _
     (λ o same. table_large _ _ _ _ c.in-Err-Large.order c.in-Err-Large.kind o refused
-    (same ∙ ap (λ (taken : List ℕ). large_outcome taken (named_of c.in-Err-Large.kind)) c.deref-in-Err-Large.ensures.value)) c.large_outcome.ensures
+    (same ∙ ap (λ (taken : List ℕ). large_outcome taken c.in-Err-Large.kind) c.deref-in-Err-Large.ensures.value)) c.large_outcome.ensures

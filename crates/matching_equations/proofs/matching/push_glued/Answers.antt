@@ -1,5 +1,5 @@
 use Rattle.std.proofs.Common.{◌≡◌, [], ◌∷◌, ◌+◌, ◌++◌, length, arith, ap, sym, ◌∙◌}
-use Rattle.cone_core.specs.Systems.{Cone}
+use Rattle.cone_definitions.specs.Systems.{Cone}
 use Rattle.table_definitions.specs.Table.{Face}
 use Rattle.surface_definitions.specs.Equations.{matching, row_of}
 use Rattle.matching_equations.proofs.Matched.{glued_before, glued_push, glued_skip, glued_whole}

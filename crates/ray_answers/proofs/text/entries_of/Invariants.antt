@@ -1,6 +1,6 @@
 -- the entries so far are written
 use Rattle.std.proofs.Common.{◌≡◌, take}
-use Rattle.ray_answers.specs.Lists.{entries_text}
+use Rattle.cone_text_definitions.specs.VectorText.{entries_text}
 use Rattle.ray_answers.proofs.text.entries_of.Given as goal
 
 abbrev pub invariant-loop-entry : goal.invariant-loop-entry

@@ -1,6 +1,6 @@
 -- the lines so far are written
 use Rattle.std.proofs.Common.{◌≡◌, take}
-use Rattle.ray_answers.specs.Lists.{list_text}
+use Rattle.cone_text_definitions.specs.VectorText.{list_text}
 use Rattle.ray_answers.proofs.text.lines_of.Given as goal
 
 abbrev pub invariant-loop-ray : goal.invariant-loop-ray

@@ -4,5 +4,5 @@ use Rattle.surface_list.proofs.listed.surfaces.Goals as goal
 
 pub returns-clause-ok : goal.returns-clause-ok
 returns-clause-ok c =
-    surfaces_by c.args.limit c.args.coords c.args.skeleton.now.rows c.in_ok-system.system _ c.args.order c.in_ok-rays.rays c.in_ok-system.ensures.columns c.in_ok-system.ensures.equations
-    (c.len-tets.ensures.value ∙ ap length c.table.ensures.rows) c.in_ok-rays.ensures.ok
+    surfaces_by c.args.limit c.args.coords c.args.skeleton.now.rows c.in_ok-system.system _ c.args.order c.in_ok-system.ensures.columns c.in_ok-system.ensures.equations
+    (c.len-tets.ensures.value ∙ ap length c.table.ensures.rows) c.in_ok-rays.rays c.in_ok-rays.ensures.ok

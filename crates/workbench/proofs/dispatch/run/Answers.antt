@@ -1,26 +1,22 @@
 -- What is delivered.
-use Rattle.workbench.proofs.Accepted.{accepted_built}
 use Rattle.workbench.proofs.Headlines.{told_surfaces, told_rays, told_verdicts, done_answered}
 use Rattle.workbench.proofs.RunClauses.{run_outcome, run_prefix}
 use Rattle.workbench.proofs.dispatch.run.Goals as goal
 
-pub respond-requires : goal.respond-requires
-respond-requires g c = accepted_built c.args.words.now c.in-Ok.request c.in-Ok.ensures
-
 pub returns-in-Ok-respond-clause-prefix : goal.returns-in-Ok-respond-clause-prefix
-returns-in-Ok-respond-clause-prefix g c = λ failed. run_prefix c.args.words.now _ c.in-Ok.ensures _ _ _ _ _ _ _ _ c.deliver.result (g.S.Source.left c.args.source.now) c.in-Ok-respond.ensures.response c.deliver.ensures failed
+returns-in-Ok-respond-clause-prefix g c = λ failed. run_prefix c.args.words.now _ c.in-Ok.ensures.answers _ _ _ _ _ _ _ _ c.deliver.result (g.S.Source.left c.args.source.now) c.in-Ok-respond.ensures.response c.deliver.ensures failed
 
 pub returns-in-Ok-respond-clause-outcome : goal.returns-in-Ok-respond-clause-outcome
-returns-in-Ok-respond-clause-outcome g c = λ answered. run_outcome c.args.words.now _ c.in-Ok.ensures _ _ _ _ _ _ _ _ c.deliver.result (g.S.Source.left c.args.source.now) c.in-Ok-respond.ensures.response c.deliver.ensures answered
+returns-in-Ok-respond-clause-outcome g c = λ answered. run_outcome c.args.words.now _ c.in-Ok.ensures.answers _ _ _ _ _ _ _ _ c.deliver.result (g.S.Source.left c.args.source.now) c.in-Ok-respond.ensures.response c.deliver.ensures answered
 
 pub returns-in-Ok-respond-clause-surfaces : goal.returns-in-Ok-respond-clause-surfaces
 returns-in-Ok-respond-clause-surfaces g c = λ done. told_surfaces c.args.words.now c.deliver.result _ _ (g.S.Source.left c.args.source.now) done
-    (run_outcome c.args.words.now _ c.in-Ok.ensures _ _ _ _ _ _ _ _ c.deliver.result (g.S.Source.left c.args.source.now) c.in-Ok-respond.ensures.response c.deliver.ensures (done_answered c.deliver.result done))
+    (run_outcome c.args.words.now _ c.in-Ok.ensures.answers _ _ _ _ _ _ _ _ c.deliver.result (g.S.Source.left c.args.source.now) c.in-Ok-respond.ensures.response c.deliver.ensures (done_answered c.deliver.result done))
 
 pub returns-in-Ok-respond-clause-rays : goal.returns-in-Ok-respond-clause-rays
 returns-in-Ok-respond-clause-rays g c = λ done. told_rays c.args.words.now c.deliver.result _ _ (g.S.Source.left c.args.source.now) done
-    (run_outcome c.args.words.now _ c.in-Ok.ensures _ _ _ _ _ _ _ _ c.deliver.result (g.S.Source.left c.args.source.now) c.in-Ok-respond.ensures.response c.deliver.ensures (done_answered c.deliver.result done))
+    (run_outcome c.args.words.now _ c.in-Ok.ensures.answers _ _ _ _ _ _ _ _ c.deliver.result (g.S.Source.left c.args.source.now) c.in-Ok-respond.ensures.response c.deliver.ensures (done_answered c.deliver.result done))
 
 pub returns-in-Ok-respond-clause-verify : goal.returns-in-Ok-respond-clause-verify
 returns-in-Ok-respond-clause-verify g c = λ done. told_verdicts c.args.words.now c.deliver.result _ _ (g.S.Source.left c.args.source.now) done
-    (run_outcome c.args.words.now _ c.in-Ok.ensures _ _ _ _ _ _ _ _ c.deliver.result (g.S.Source.left c.args.source.now) c.in-Ok-respond.ensures.response c.deliver.ensures (done_answered c.deliver.result done))
+    (run_outcome c.args.words.now _ c.in-Ok.ensures.answers _ _ _ _ _ _ _ _ c.deliver.result (g.S.Source.left c.args.source.now) c.in-Ok-respond.ensures.response c.deliver.ensures (done_answered c.deliver.result done))

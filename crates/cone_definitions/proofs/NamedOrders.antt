@@ -3,11 +3,10 @@ use Rattle.std.proofs.Common.{◌≡◌, ◌≢◌, ℕ, zero, suc, ◌+◌, ◌
 use Rattle.std.specs.List.{IsFirstBest}
 use Rattle.std.proofs.lemmas.Bool.{false≢true, cases_order}
 use Rattle.std.proofs.lemmas.List.{take_all, take_more}
-use Rattle.cone_core.specs.Systems.{Cone}
-use Rattle.double_description.specs.declared.picker.Order.{Order}
-use Rattle.double_description.specs.declared.picker.Order.TheVariants.{Given, Short, Zeros, Free}
-use Rattle.double_description.specs.Orders.{prefers, IsNamed}
-use Rattle.ray_answers.specs.Answers.{IsNamedTurn, AreNamed}
+use Rattle.cone_definitions.specs.Systems.{Cone}
+use Rattle.cone_definitions.specs.declared.Order.{Order}
+use Rattle.cone_definitions.specs.declared.Order.TheVariants.{Given, Short, Zeros, Free}
+use Rattle.cone_definitions.specs.Orders.{prefers, IsNamed, IsNamedTurn, AreNamed}
 
 abbrev Rises : List ℕ → Type 0
 Rises xs = AllPairs (λ (one other : ℕ). one < other) xs

@@ -1,0 +1,23 @@
+-- A named order of the rows is one, and so is what passes the limit in it.
+use Rattle.std.specs.Prelude.{◌≡◌, ◌≢◌, ℕ, ◌≤◌, List, length, take}
+use Rattle.cone_definitions.specs.Elimination.{Named}
+use Rattle.cone_definitions.specs.Systems.{Cone}
+use Rattle.cone_definitions.specs.Orders.{AreNamed}
+use Rattle.cone_definitions.specs.Listings.{Enumeration, IsListed, IsPastLimit}
+use Rattle.cone_definitions.specs.declared.Order.{Order}
+use Rattle.cone_definitions.specs.declared.Order.TheVariants.{Free}
+
+-- two lists of rows that an order names agree as far as both go
+abbrev pub OneNamedOrder : Type 0
+OneNamedOrder = (order : Order) (system : Cone) (xs ys : List ℕ) → order ≢ Free → AreNamed order system xs → AreNamed order system ys →
+    length xs ≤ length ys → xs ≡ take (length xs) ys
+
+-- at most one ray or pair is named where a number passes the limit, in one step
+abbrev pub OneIsLarge : Type 0
+OneIsLarge = (e : Enumeration) (taken others : List ℕ) (one other : Named) → e.order ≢ Free →
+    IsPastLimit e taken one → IsPastLimit e others other → (taken ≡ others) × (one ≡ other)
+
+-- and none where there is a list
+abbrev pub NoneIsLargeBeside : Type 0
+NoneIsLargeBeside = (e : Enumeration) (all taken : List ℕ) (list : List (List ℕ)) (kind : Named) → e.order ≢ Free →
+    IsListed e all list → ¬ IsPastLimit e taken kind
