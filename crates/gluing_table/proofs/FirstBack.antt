@@ -11,11 +11,11 @@ use Rattle.table_definitions.specs.Lists.{has, first_some, below}
 use Rattle.table_definitions.specs.Permutation.{four}
 use Rattle.table_definitions.specs.Table.{Gluing, Row, Face}
 use Rattle.table_definitions.specs.Replacing.{Replacement, leads_to, fresh_row, back_to_fresh}
-use Rattle.perm_four.proofs.ListFacts.{first_some-append, first_some-map, first_some-below, first_some-none_below}
-use Rattle.gluing_table.specs.Replaceable.{numbers_of, fresh_numbers, row_back}
-use Rattle.gluing_table.proofs.FreshRows.{gives_back}
+use Rattle.table_definitions.proofs.ListFacts.{first_some-append, first_some-map, first_some-below, first_some-none_below}
+use Rattle.table_definitions.specs.Replaceable.{numbers_of, fresh_numbers, row_back}
+use Rattle.table_definitions.proofs.FreshRows.{gives_back}
 use Rattle.gluing_table.proofs.Opened.{has-none, number_at, length-numbers_of}
-use Rattle.gluing_table.proofs.Ranks.{Ascends, unequal}
+use Rattle.table_definitions.proofs.Ranks.{Ascends, unequal}
 
 abbrev pub Numbered : Type 0
 Numbered = ℕ × Row

@@ -5,12 +5,12 @@ use Rattle.std.proofs.lemmas.Bool.{cases_lt}
 use Rattle.table_definitions.specs.Lists.{has, first_some, below, closed_up}
 use Rattle.table_definitions.specs.Table.{Gluing, Row, Face, glue, IsTable}
 use Rattle.table_definitions.specs.Replacing.{Replacement, replaced_length, number_of_kept, kept_gluing, kept_row, replaced_row, fresh_row, back_to_fresh, replaced}
-use Rattle.gluing_table.specs.Replaceable.{fresh_numbers, gone_before, row_back, CanReplace}
+use Rattle.table_definitions.specs.Replaceable.{fresh_numbers, gone_before, row_back, CanReplace}
 use Rattle.std.proofs.lemmas.List.{map-append}
 use Rattle.std.proofs.lemmas.List.FromFn.{length-map-range_with_len}
-use Rattle.gluing_table.proofs.Bijections.{below-push}
-use Rattle.gluing_table.proofs.Ranks.{rank, rank-suc, stays, opened_up, closed_up-rank, at_rank}
-use Rattle.gluing_table.proofs.Kept.{IsKeptAs, kept_at, kept_by, as_many, fewer_removed, removed_up, fresh_up}
+use Rattle.table_definitions.proofs.Bijections.{below-push}
+use Rattle.table_definitions.proofs.Ranks.{rank, rank-suc, stays, opened_up, closed_up-rank, at_rank}
+use Rattle.table_definitions.proofs.Kept.{IsKeptAs, kept_at, kept_by, as_many, fewer_removed, removed_up, fresh_up}
 use Rattle.gluing_table.proofs.FirstBack.{back_by_rows}
 
 -- no fewer pass below a greater number

@@ -6,10 +6,10 @@ use Rattle.std.proofs.lemmas.List.Sums.{sum_by-append, count_by-le-length}
 use Rattle.std.proofs.lemmas.Bool.{lt-ltb, le-ltb, cases_lt}
 use Rattle.table_definitions.specs.Lists.{has}
 use Rattle.table_definitions.specs.Table.{Row}
-use Rattle.gluing_table.specs.Replaceable.{numbers_of, gone_before}
-use Rattle.gluing_table.proofs.Bijections.{there}
-use Rattle.gluing_table.proofs.Marked.{has_push}
-use Rattle.gluing_table.proofs.Ranks.{Ascends, count_whole, unequal, one_if}
+use Rattle.table_definitions.specs.Replaceable.{numbers_of, gone_before}
+use Rattle.table_definitions.proofs.Bijections.{there}
+use Rattle.table_definitions.proofs.Marked.{has_push}
+use Rattle.table_definitions.proofs.Ranks.{Ascends, count_whole, unequal, one_if}
 
 -- the number is opened up over the first i that are gone
 pub record IsOpened (gone : List ℕ) (i place number : ℕ) : Type 0 where

@@ -7,7 +7,7 @@ ghost use Rattle.table_definitions.specs.Table as gluings;
 ghost use Rattle.table_definitions.specs.Table.{IsTable};
 ghost use Rattle.table_definitions.specs.Replacing as exchange;
 ghost use Rattle.table_definitions.specs.Replacing.{replaced, replaced_length};
-ghost use Rattle.gluing_table.specs.Replaceable.{CanReplace, numbers_of, gone_before, row_back};
+ghost use Rattle.table_definitions.specs.Replaceable.{CanReplace, numbers_of, gone_before, row_back};
 
 use crate::table::{copy_row, glue_at};
 use crate::{Face, Glue, Row};

@@ -6,7 +6,7 @@ use Rattle.std.proofs.lemmas.Bool.{ltb-true, and_parts}
 use Rattle.table_definitions.specs.Lists.{has, same_list}
 use Rattle.table_definitions.specs.Permutation.{four, IsPermutationOfFour, is_permutation, inverse, preimage}
 use Rattle.move_definitions.specs.Moves.{IsCore, vertices_by_label}
-use Rattle.perm_four.proofs.ListFacts.{list_all-at, same_list-true}
+use Rattle.table_definitions.proofs.ListFacts.{list_all-at, same_list-true}
 
 abbrev with : Bool → ℕ → List ℕ → List ℕ
 with b v vs = if b then v ∷ vs else vs

@@ -13,7 +13,7 @@ use Rattle.move_definitions.specs.Moves.{Move, IsCore}
 use Rattle.move_definitions.specs.Grammar.{IsCoreText, one_four, two_three, three_two, four_one}
 use Rattle.move_definitions.specs.Certificates.{moves_with, four_one_moves, three_two_moves, two_three_moves, one_four_moves, is_accepted, descent_move, candidates, or_these, drawn}
 use Rattle.move_definitions.specs.Laws.{MoveLinesHaveCores}
-use Rattle.perm_four.proofs.ListFacts.{list_all-below}
+use Rattle.table_definitions.proofs.ListFacts.{list_all-below}
 use Rattle.move_laws.proofs.InverseFacets.{filtered, appended, paired}
 use Rattle.move_laws.proofs.Renamed.{given_lt}
 

@@ -6,8 +6,8 @@ use Rattle.std.proofs.lemmas.Bool.{eqb-true, ltb-true, and_parts}
 use Rattle.std.proofs.lemmas.List.{get_or-map, length-map}
 use Rattle.table_definitions.specs.Lists.{below, same_list, in_place_of}
 use Rattle.table_definitions.specs.Permutation.{IsPermutationOfFour, is_permutation, image, preimage, words}
-use Rattle.perm_four.proofs.ListFacts.{list_all-below, same_list-true}
-use Rattle.perm_four.proofs.Permutations.{by_words, length-permutation}
+use Rattle.table_definitions.proofs.ListFacts.{list_all-below, same_list-true}
+use Rattle.table_definitions.proofs.Permutations.{by_words, length-permutation}
 
 -- a permutation with 4 in the place of i
 abbrev pub labels_by : ℕ → List ℕ → List ℕ

@@ -8,8 +8,8 @@ use Rattle.table_definitions.specs.Table.{Gluing, Row, Face, glue, other_side}
 use Rattle.table_definitions.specs.Relabelling.{Carries, stand_in, face_under, gluing_under}
 use Rattle.move_definitions.specs.Moves.{Move, Facet, opposite, facet, kept, facet_stand_in, stand_in_at, moved_gluing, new_facet, IsMoved}
 use Rattle.move_definitions.specs.Laws.{InversesHaveCores, InversesLeadBackUpToLabels}
-use Rattle.perm_four.proofs.ListFacts.{list_all-below}
-use Rattle.perm_four.proofs.Permutations.{image_below, preimage_below, image-preimage, preimage-image, image-inverse, inverse_permutes, inverse-of-compose, compose_permutes, compose-compose, image-compose, same_images}
+use Rattle.table_definitions.proofs.ListFacts.{list_all-below}
+use Rattle.table_definitions.proofs.Permutations.{image_below, preimage_below, image-preimage, preimage-image, image-inverse, inverse_permutes, inverse-of-compose, compose_permutes, compose-compose, image-compose, same_images}
 use Rattle.move_laws.proofs.CoreTests.{core_size}
 use Rattle.move_laws.proofs.ListedFacets.{same_some}
 use Rattle.move_laws.proofs.Labels.{AreLabels, ascending, new_labels, HasLabel, label_at, HasVertex, vertex_at, length-labels, image-map}

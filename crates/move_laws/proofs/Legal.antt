@@ -11,8 +11,8 @@ use Rattle.table_definitions.proofs.TableLaws.{Among, first_some-none}
 use Rattle.move_definitions.specs.declared.MoveFault.{MoveFault}
 use Rattle.move_definitions.specs.declared.MoveFault.TheVariants.{NoSuchTet, Repeated}
 use Rattle.move_definitions.specs.Moves.{Move, IsCore, Facet, own_facet, opposite, facet_behind, facet, old_labels, found_labels, tets_before, facet_fault, pair_fault, move_fault, vertices_by_label}
-use Rattle.perm_four.proofs.ListFacts.{list_all-below}
-use Rattle.perm_four.proofs.Permutations.{inverse_permutes, compose_permutes}
+use Rattle.table_definitions.proofs.ListFacts.{list_all-below}
+use Rattle.table_definitions.proofs.Permutations.{inverse_permutes, compose_permutes}
 use Rattle.move_laws.proofs.CoreTests.{core_size, own_permutes}
 use Rattle.move_laws.proofs.Labels.{AreLabels, own_labels}
 use Rattle.move_laws.proofs.ListedFacets.{same_some, Among_from_has, has_tet, tets_of, IsOf, facet_with, AreApart, is_distinct, tets_distinct, length-tets}

@@ -7,8 +7,8 @@ use Rattle.std.proofs.lemmas.Bool.{eqb-true, eq-eqb, and_parts, or_cases, false�
 use Rattle.table_definitions.specs.Lists.{has, closed_up}
 use Rattle.table_definitions.proofs.TableLaws.{Among}
 use Rattle.move_definitions.specs.Moves.{Facet}
-use Rattle.gluing_table.specs.Replaceable.{gone_before}
-use Rattle.gluing_table.proofs.Ranks.{rank, one_if, stays, rank-suc, count_whole, of_rank}
+use Rattle.table_definitions.specs.Replaceable.{gone_before}
+use Rattle.table_definitions.proofs.Ranks.{rank, one_if, stays, rank-suc, count_whole, of_rank}
 
 pub Among_from_has : (ns : List ℕ) (n : ℕ) → has ns n ≡ true → Among n ns
 Among_from_has [] n h = absurd (false≢true h)

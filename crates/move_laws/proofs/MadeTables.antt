@@ -9,9 +9,9 @@ use Rattle.table_definitions.specs.Relabelling.{IsRelabelled, face_under, gluing
 use Rattle.table_definitions.proofs.TableLaws.{glued_tet, glued_face}
 use Rattle.move_definitions.specs.Moves.{Move, opposite, kept, new_length, new_facet, stand_in_at, moved_gluing, inverse_move, IsMoved}
 use Rattle.move_definitions.specs.Laws.{MovesMakeTables, InversesLeadOnlyBack}
-use Rattle.perm_four.proofs.ListFacts.{list_all-below, same_list-true}
-use Rattle.perm_four.proofs.Permutations.{image_below, image-inverse, inverse_permutes, preimage-image, inverse-of-compose, inverse-inverse, compose_permutes, compose-compose}
-use Rattle.gluing_table.proofs.Carried.{IsGood, not_from, same_from, same_to}
+use Rattle.table_definitions.proofs.ListFacts.{list_all-below, same_list-true}
+use Rattle.table_definitions.proofs.Permutations.{image_below, image-inverse, inverse_permutes, preimage-image, inverse-of-compose, inverse-inverse, compose_permutes, compose-compose}
+use Rattle.table_definitions.proofs.Carried.{IsGood, not_from, same_from, same_to}
 use Rattle.move_laws.proofs.CoreTests.{core_size}
 use Rattle.move_laws.proofs.Labels.{ascending, new_labels, HasVertex, vertex_at, length-labels, image-map}
 use Rattle.move_laws.proofs.Legal.{HasNoFault, no_fault}

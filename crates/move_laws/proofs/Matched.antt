@@ -10,8 +10,8 @@ use Rattle.table_definitions.proofs.TableLaws.{Among, Among-pairs, first_some-no
 use Rattle.move_definitions.specs.declared.MoveFault.{MoveFault}
 use Rattle.move_definitions.specs.declared.MoveFault.TheVariants.{NotMatched}
 use Rattle.move_definitions.specs.Moves.{Move, IsCore, Facet, own_facet, opposite, facet_behind, facet, found_labels, is_matched, pair_fault, vertices_by_label}
-use Rattle.perm_four.proofs.ListFacts.{same_list-true}
-use Rattle.perm_four.proofs.Permutations.{image_below, preimage_below, image-preimage, preimage-image, image-inverse, inverse_permutes, length-permutation}
+use Rattle.table_definitions.proofs.ListFacts.{same_list-true}
+use Rattle.table_definitions.proofs.Permutations.{image_below, preimage_below, image-preimage, preimage-image, image-inverse, inverse_permutes, length-permutation}
 use Rattle.move_laws.proofs.CoreTests.{core_size, own_permutes}
 use Rattle.move_laws.proofs.Labels.{AreLabels, label_at, HasVertex, vertex_at, length-labels, image-map}
 use Rattle.move_laws.proofs.Legal.{IsFacet, facet_is, HasNoFault, found_label, facet-found}

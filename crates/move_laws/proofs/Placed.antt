@@ -12,11 +12,11 @@ use Rattle.table_definitions.specs.Permutation.{IsPermutationOfFour, is_permutat
 use Rattle.table_definitions.specs.Table.{Gluing, Row, IsTable}
 use Rattle.table_definitions.specs.Relabelling.{Relabelling, IsRelabelling, Carries, stand_in}
 use Rattle.move_definitions.specs.Moves.{Move, IsCore, Facet, facet, old_labels, kept, kept_stand_in}
-use Rattle.perm_four.proofs.ListFacts.{list_all-below}
-use Rattle.gluing_table.specs.Moved.{moved_row}
-use Rattle.gluing_table.proofs.Ranks.{rank, stays, at_rank, StandsAt, ranks_apart, unequal}
-use Rattle.gluing_table.proofs.Bijections.{onto, IsDistinct-from_before}
-use Rattle.gluing_table.proofs.Moves.{carries_from}
+use Rattle.table_definitions.proofs.ListFacts.{list_all-below}
+use Rattle.table_definitions.specs.Moved.{moved_row}
+use Rattle.table_definitions.proofs.Ranks.{rank, stays, at_rank, StandsAt, ranks_apart, unequal}
+use Rattle.table_definitions.proofs.Bijections.{onto, IsDistinct-from_before}
+use Rattle.table_definitions.proofs.Moves.{carries_from}
 use Rattle.move_laws.proofs.Labels.{AreLabels, ascending, on_labels, label_tests}
 use Rattle.move_laws.proofs.ListedFacets.{same_some, found_by, not_found, is_found, closed_up-rank, stays-count}
 use Rattle.move_laws.proofs.Legal.{facet_is, HasNoFault, old_label, facets_apart, gone, gone_distinct, length-gone, gone_below, OldFacet, gone_facet}

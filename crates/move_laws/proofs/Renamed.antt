@@ -5,7 +5,7 @@ use Rattle.std.specs.List.{list_all}
 use Rattle.std.proofs.lemmas.Bool.{eqb-true, ltb-true, lt-ltb, le-ltb, and_parts}
 use Rattle.table_definitions.specs.Lists.{below, has, same_list, in_place_of}
 use Rattle.table_definitions.specs.Permutation.{four, is_permutation, image, preimage, inverse, compose}
-use Rattle.perm_four.proofs.ListFacts.{list_all-below, same_list-true}
+use Rattle.table_definitions.proofs.ListFacts.{list_all-below, same_list-true}
 use Rattle.move_definitions.specs.Moves.{IsCore, vertices_by_label}
 use Rattle.move_laws.proofs.Labels.{AreLabels, labels_by, ascending}
 

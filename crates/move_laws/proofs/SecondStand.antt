@@ -9,10 +9,10 @@ use Rattle.table_definitions.specs.Permutation.{IsPermutationOfFour, is_permutat
 use Rattle.table_definitions.specs.Table.{Gluing, Row, Face, glue, other_side, way_back, IsTable}
 use Rattle.table_definitions.specs.Relabelling.{face_under}
 use Rattle.move_definitions.specs.Moves.{Move, IsCore, Facet, opposite, facet, kept, kept_stand_in, facet_stand_in, stand_in_at}
-use Rattle.perm_four.proofs.ListFacts.{list_all-below, same_list-true}
-use Rattle.perm_four.proofs.Permutations.{image_below, preimage-image, image-inverse}
-use Rattle.gluing_table.specs.Replaceable.{gone_before}
-use Rattle.gluing_table.proofs.Ranks.{one_if}
+use Rattle.table_definitions.proofs.ListFacts.{list_all-below, same_list-true}
+use Rattle.table_definitions.proofs.Permutations.{image_below, preimage-image, image-inverse}
+use Rattle.table_definitions.specs.Replaceable.{gone_before}
+use Rattle.table_definitions.proofs.Ranks.{one_if}
 use Rattle.move_laws.proofs.ListedFacets.{same_some}
 use Rattle.move_laws.proofs.Labels.{AreLabels, ascending, new_labels, on_labels, label_tests, HasLabel, label_at, HasVertex, vertex_at, length-labels, image-map}
 use Rattle.move_laws.proofs.Legal.{IsFacet, facet_is, HasNoFault, no_fault, gone, OldFacet, gone_facet, old_facet}

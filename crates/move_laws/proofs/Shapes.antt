@@ -6,8 +6,8 @@ use Rattle.table_definitions.specs.Permutation.{IsPermutationOfFour, image, prei
 use Rattle.table_definitions.specs.Table.{Gluing, Row, Face, IsTable}
 use Rattle.table_definitions.specs.Relabelling.{face_under}
 use Rattle.move_definitions.specs.Moves.{Move, IsCore, Facet, facet, new_length, kept, kept_stand_in, stand_in_at}
-use Rattle.perm_four.proofs.Permutations.{image_below}
-use Rattle.gluing_table.proofs.Ranks.{rank, stays, ranks_apart}
+use Rattle.table_definitions.proofs.Permutations.{image_below}
+use Rattle.table_definitions.proofs.Ranks.{rank, stays, ranks_apart}
 use Rattle.move_laws.proofs.CoreTests.{core_size}
 use Rattle.move_laws.proofs.Labels.{ascending, new_labels, HasLabel, label_at, vertex_at}
 use Rattle.move_laws.proofs.ListedFacets.{same_some, closed_up-rank}

@@ -7,7 +7,7 @@ use Rattle.table_definitions.specs.Permutation.{image, compose, inverse, index, 
 use Rattle.table_definitions.specs.Table.{Gluing, Face, Row, glue, way_back, IsTable}
 use Rattle.skeleton_definitions.specs.Corners.{step, corner_behind}
 use Rattle.table_definitions.proofs.ListLaws.{same_list-true}
-use Rattle.table_definitions.proofs.PermutationLaws.{on_two_words, compose_permutes, index_below, word_at-index}
+use Rattle.table_definitions.proofs.Permutations.{by_pairs, compose_permutes, index_below, words_at}
 use Rattle.table_definitions.proofs.TableLaws.{glued_tet}
 use Rattle.perm_four.proofs.Permutations.{image-compose, index-words, words_permute}
 use Rattle.finite_walks.specs.Walks.{IsInjectiveBelow, IsUndoneBy, step_of}
@@ -58,14 +58,14 @@ behind_images g p hg hp = (part 0 (omega arith), part 1 (omega arith), part 3 (o
 behind_back : (g p : List ℕ) → IsPermutationOfFour g → IsPermutationOfFour p → compose (inverse g) (compose (word_behind g p) swap) ≡ p
 unfolding word_behind compose inverse preimage
 behind_back g p hg hp = same_list-true (compose (inverse g) (compose (word_behind g p) swap)) p
-    (on_two_words (λ x y. same_list (compose (inverse x) (compose (word_behind x y) swap)) y) refl g p hg hp)
+    (by_pairs (λ x y. same_list (compose (inverse x) (compose (word_behind x y) swap)) y) refl g p hg hp)
 
 -- the parts of a number
 parts : (t i : ℕ) → i < 24 → ((24 * t + i) / 24 ≡ t) × ((24 * t + i) % 24 ≡ i)
 parts t i l = let d : (24 * t + i) / 24 ≡ t = omega arith in let r : (24 * t + i) % 24 ≡ i = omega arith in (d, r)
 
 pub word_of : (t : ℕ) (q : List ℕ) → IsPermutationOfFour q → ((24 * t + index q) / 24 ≡ t) × (word_at (24 * t + index q) ≡ q)
-word_of t q h = let p = parts t (index q) (index_below q h) in (p.0, ap (λ i. slice_index_or words i []) p.1 ∙ word_at-index q h)
+word_of t q h = let p = parts t (index q) (index_below q h) in (p.0, ap (λ i. slice_index_or words i []) p.1 ∙ words_at q h)
 
 pub index_of_word : (k : ℕ) → index (word_at k) ≡ k % 24
 index_of_word k = index-words (k % 24) (omega arith)

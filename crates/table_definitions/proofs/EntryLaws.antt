@@ -14,7 +14,7 @@ use Rattle.text_definitions.specs.Text.{decimal_value, is_decimal, digits_value}
 use Rattle.table_definitions.specs.TableText.{permutation_of, gluing_parts, gluing_of}
 use Rattle.table_definitions.specs.Grammar.{IsNumber, IsGluingWord}
 use Rattle.table_definitions.proofs.ListLaws.{same_list-true}
-use Rattle.table_definitions.proofs.PermutationLaws.{on_words}
+use Rattle.table_definitions.proofs.Permutations.{by_words}
 
 -- the byte `:`
 abbrev is_colon : ℕ → Bool
@@ -44,14 +44,14 @@ given None q e = absurd (false≢true e)
 given (Some r) q e = ap (λ (s : List ℕ). Some s) (same_list-true r q e)
 
 permutation_of-digits : (p : List ℕ) → IsPermutationOfFour p → permutation_of (digits_of p) ≡ Some p
-permutation_of-digits p h = given (permutation_of (digits_of p)) p (on_words (λ q. is_given (permutation_of (digits_of q)) q) tests p h)
+permutation_of-digits p h = given (permutation_of (digits_of p)) p (by_words (λ q. is_given (permutation_of (digits_of q)) q) tests p h)
   where
     tests : list_all (λ q. is_given (permutation_of (digits_of q)) q) words ≡ true
     tests = unfold is_given permutation_of is_permutation in refl
 
 -- a permutation has digits
 digits_some : (p : List ℕ) → IsPermutationOfFour p → 0 < length (digits_of p)
-digits_some p h = ltb-true 0 (length (digits_of p)) (on_words (λ q. nat_lt 0 (length (digits_of q))) tests p h)
+digits_some p h = ltb-true 0 (length (digits_of p)) (by_words (λ q. nat_lt 0 (length (digits_of q))) tests p h)
   where
     tests : list_all (λ q. nat_lt 0 (length (digits_of q))) words ≡ true
     tests = refl

@@ -14,3 +14,14 @@ pub mod TableFoundLaws
 pub mod ChainLaws
 pub mod ClassLaws
 pub mod TableExamples
+pub mod ListFacts
+pub mod Permutations
+pub mod Marked
+pub mod Bijections
+pub mod Ranks
+pub mod Kept
+pub mod Carried
+pub mod FreshRows
+pub mod Replaced
+pub mod Moves
+pub mod Removing

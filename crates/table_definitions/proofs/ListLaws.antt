@@ -3,22 +3,11 @@ use Rattle.std.proofs.Common.{◌≡◌, ℕ, Bool, true, eqb, List, [], ◌∷�
 use Rattle.std.specs.List.{list_any, list_all}
 use Rattle.std.proofs.lemmas.Bool.{eqb-true, eq-eqb, and_parts, and_from, or_cases, false≢true}
 use Rattle.table_definitions.specs.Lists.{same_list}
+pub use Rattle.table_definitions.proofs.ListFacts.{same_list-true, same_list-refl}
 
--- lists that pass the test are equal, and a list passes with itself
-pub same_list-true : (xs ys : List ℕ) → same_list xs ys ≡ true → xs ≡ ys
-same_list-true [] [] e = refl
-same_list-true [] (y ∷ ys) e = absurd (false≢true e)
-same_list-true (x ∷ xs) [] e = absurd (false≢true e)
-same_list-true (x ∷ xs) (y ∷ ys) e =
-    let parts : (eqb x y ≡ true) × (same_list xs ys ≡ true) = and_parts (eqb x y) (same_list xs ys) e in
-    λ i. eqb-true x y parts.0 i ∷ same_list-true xs ys parts.1 i
-
-pub same_list_refl : (xs : List ℕ) → same_list xs xs ≡ true
-same_list_refl [] = refl
-same_list_refl (x ∷ xs) = and_from (eqb x x) (same_list xs xs) (eq-eqb x x refl) (same_list_refl xs)
-
+-- a list passes with an equal one
 pub same_list_from : (xs ys : List ℕ) → xs ≡ ys → same_list xs ys ≡ true
-same_list_from xs ys e = let P : List ℕ → Type 0 = λ zs. same_list xs zs ≡ true in subst P e (same_list_refl xs)
+same_list_from xs ys e = let P : List ℕ → Type 0 = λ zs. same_list xs zs ≡ true in subst P e (same_list-refl xs)
 
 -- what holds of each element holds of one that is found
 pub list_all-found : (t : List ℕ → Bool) (p : List ℕ) (ws : List (List ℕ)) → list_all t ws ≡ true → list_any (same_list p) ws ≡ true → t p ≡ true

@@ -7,6 +7,8 @@ use Rattle.table_definitions.specs.TableText.{tri_table_at}
 use Rattle.text_definitions.specs.Text.{Line}
 use Rattle.table_definitions.specs.Grammar.{AreTriLines}
 use Rattle.table_definitions.specs.Places.{Place, IsPlace, IsJoined, turned}
+use Rattle.table_definitions.specs.Replacing.{Replacement, replaced}
+use Rattle.table_definitions.specs.Replaceable.{CanReplace}
 
 -- permutations are closed under inverse and compose, and the inverse leads back on both sides
 abbrev pub InversesPermute : Type 0
@@ -27,6 +29,10 @@ abbrev pub FaultsDecideTables : Type 0
 FaultsDecideTables =
     (rows : List Row) → All (λ (row : Row). length row ≡ 4) rows → ((x : Face) (g : Gluing) → glue rows x ≡ Some g → IsPermutationOfFour g.perm)
     → (table_fault rows ≡ None) ↔ IsTable rows
+
+-- a table of which rows can be replaced stays one
+abbrev pub ReplacingKeepsTables : Type 0
+ReplacingKeepsTables = (rows : List Row) (r : Replacement) → CanReplace rows r → IsTable rows → IsTable (replaced rows r)
 
 -- a table is read in the form `tri` from the next lines, the rest of the lines is left, and the last line is used up
 pub record ReadsTriTable (c : Reading) (rows : List Row) (rest : List Line) : Type 0 where

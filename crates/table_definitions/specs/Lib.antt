@@ -8,3 +8,5 @@ pub mod Relabelling
 pub mod Replacing
 pub mod Grammar
 pub mod Laws
+pub mod Replaceable
+pub mod Moved

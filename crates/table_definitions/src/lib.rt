@@ -8,7 +8,7 @@ ghost use Rattle.std.specs.Prelude.{◌≡◌};
 ghost use Rattle.text_definitions.specs.Reading.{PassesOn};
 ghost use Rattle.table_definitions.specs.declared.TableFault.TheVariants as TableVariants;
 ghost use Rattle.table_definitions.specs.declared.TextFault.TheVariants as TextVariants;
-ghost use Rattle.table_definitions.specs.Laws.{InversesPermute, CompositesPermute, InversesLeadBack, ImagesAreFound, FaultsDecideTables, TriTablesAreRead, ChainsMakeClasses};
+ghost use Rattle.table_definitions.specs.Laws.{InversesPermute, CompositesPermute, InversesLeadBack, ImagesAreFound, FaultsDecideTables, ReplacingKeepsTables, TriTablesAreRead, ChainsMakeClasses};
 
 use std::alloc::{AllocError, AllocFailed};
 use text_definitions::LexFault;
@@ -91,6 +91,11 @@ pub fn permutations_are_a_group()
 /// Rows are a table exactly where no fault is found.
 pub fn faults_decide_tables()
     ensures { FaultsDecideTables }
+{}
+
+/// Where rows of a table can be taken out and fresh ones put in, what comes is a table.
+pub fn replacing_keeps_tables()
+    ensures { ReplacingKeepsTables }
 {}
 
 /// Lines are read as a table exactly where they are one.

@@ -10,7 +10,7 @@ use Rattle.table_definitions.specs.Permutation.{IsPermutationOfFour, digits_of}
 use Rattle.table_definitions.specs.Table.{max_tets, Gluing, Row, Face, glue, IsTable}
 use Rattle.table_definitions.specs.TableText.{entry_text, table_text}
 use Rattle.table_definitions.specs.Grammar.{IsEntry, IsRowLine, AreTriLines}
-use Rattle.table_definitions.proofs.PermutationLaws.{on_words}
+use Rattle.table_definitions.proofs.Permutations.{by_words}
 use Rattle.written_laws.proofs.Decimals.{decimal_digits, decimal_value-decimal}
 use Rattle.written_laws.proofs.Words.{IsText, behind_spaces, skipped_by_word}
 use Rattle.written_laws.proofs.WrittenLines.{written_line, line_words, BeginsWith, each_line}
@@ -25,7 +25,7 @@ abbrev IsPlainEntry : Option Gluing → Type 0
 IsPlainEntry e = (g : Gluing) → e ≡ Some g → IsPlain g
 
 digits_of_bytes : (p : List ℕ) → IsPermutationOfFour p → list_all is_word_byte (digits_of p) ≡ true
-digits_of_bytes p h = on_words (λ q. list_all is_word_byte (digits_of q)) refl p h
+digits_of_bytes p h = by_words (λ q. list_all is_word_byte (digits_of q)) refl p h
 
 some_more : (w rest : List ℕ) → 0 < length w → 0 < length (w ++ rest)
 some_more [] rest l = absurd (omega arith)

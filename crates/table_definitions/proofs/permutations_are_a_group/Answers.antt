@@ -1,5 +1,6 @@
 -- The laws were computed over the 24 words.
-use Rattle.table_definitions.proofs.PermutationLaws.{inverse_permutes, compose_permutes, compose-inverse, inverse-compose, image_below, preimage-image, image-preimage}
+use Rattle.table_definitions.proofs.Permutations.{inverse_permutes, compose_permutes, compose-inverse, inverse-compose}
+use Rattle.table_definitions.proofs.PermutationLaws.{image_below, preimage-image, image-preimage}
 use Rattle.table_definitions.proofs.permutations_are_a_group.Goals as goal
 
 pub returns-clause-inverses : goal.returns-clause-inverses

@@ -1,5 +1,5 @@
 use Rattle.std.proofs.Common.{◌≡◌, None, below_more, ap, get_or, ◌∙◌}
-use Rattle.gluing_table.specs.Replaceable.{row_back}
+use Rattle.table_definitions.specs.Replaceable.{row_back}
 use Rattle.gluing_table.proofs.FirstBack.{row_any, still_nothing, first_row, no_row_gives}
 use Rattle.gluing_table.proofs.replacing.back_to_fresh.Goals as goal
 

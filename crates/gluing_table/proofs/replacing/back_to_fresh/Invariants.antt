@@ -1,6 +1,6 @@
 -- No row that was looked at leads to the target.
 use Rattle.std.proofs.Common.{◌≡◌, ℕ, ◌<◌, None, get_or}
-use Rattle.gluing_table.specs.Replaceable.{row_back}
+use Rattle.table_definitions.specs.Replaceable.{row_back}
 use Rattle.gluing_table.proofs.FirstBack.{Numbered}
 use Rattle.gluing_table.proofs.replacing.back_to_fresh.Given as goal
 

@@ -1,5 +1,5 @@
 use Rattle.std.proofs.Common.{◌≡◌, [], below_more, get_or, ◌∙◌}
-use Rattle.gluing_table.specs.Replaceable.{numbers_of}
+use Rattle.table_definitions.specs.Replaceable.{numbers_of}
 use Rattle.gluing_table.proofs.Opened.{number_at}
 use Rattle.gluing_table.proofs.FirstBack.{fresh_found, fresh_missing}
 use Rattle.gluing_table.proofs.replacing.fresh_row.Goals as goal

@@ -1,6 +1,6 @@
 -- No row that was looked at has the number.
 use Rattle.std.proofs.Common.{◌≡◌, ℕ, ◌<◌, get_or}
-use Rattle.gluing_table.specs.Replaceable.{numbers_of}
+use Rattle.table_definitions.specs.Replaceable.{numbers_of}
 use Rattle.gluing_table.proofs.replacing.fresh_row.Given as goal
 
 abbrev pub invariant-loop-row : goal.invariant-loop-row

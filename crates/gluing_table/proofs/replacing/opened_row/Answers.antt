@@ -1,6 +1,6 @@
 use Rattle.std.proofs.Common.{◌≤◌, ◌<◌, ◌+◌, length, arith, subst, sym}
 use Rattle.std.proofs.lemmas.List.Kept.{AllPairs-from_increasing}
-use Rattle.gluing_table.specs.Replaceable.{numbers_of}
+use Rattle.table_definitions.specs.Replaceable.{numbers_of}
 use Rattle.gluing_table.proofs.Opened.{IsOpened, opened_none, opened_fits, opened_more, opened_same, opened_all, number_at, length-numbers_of}
 use Rattle.gluing_table.proofs.replacing.opened_row.Goals as goal
 use Rattle.gluing_table.proofs.replacing.opened_row.Goals.{then-taken-number, else-taken-number}

@@ -1,5 +1,5 @@
 -- The number is opened up over those that were looked at.
-use Rattle.gluing_table.specs.Replaceable.{numbers_of}
+use Rattle.table_definitions.specs.Replaceable.{numbers_of}
 use Rattle.gluing_table.proofs.Opened.{IsOpened}
 use Rattle.gluing_table.proofs.replacing.opened_row.Given as goal
 

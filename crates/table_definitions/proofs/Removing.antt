@@ -5,7 +5,7 @@ use Rattle.std.specs.List.{slice_index_or}
 use Rattle.std.specs.List.Sorted.{IsStrictlyIncreasing}
 use Rattle.table_definitions.specs.Table.{Gluing, Row, Face}
 use Rattle.table_definitions.specs.Replacing.{Replacement}
-use Rattle.gluing_table.specs.Replaceable.{fresh_glue, CanReplace}
+use Rattle.table_definitions.specs.Replaceable.{fresh_glue, CanReplace}
 
 nothing : (k : ℕ) → (let none : Row = [] in slice_index_or none k None) ≡ None
 nothing zero = refl

@@ -1,0 +1,142 @@
+-- Facts on lists of numbers and on tests of them.
+use Rattle.std.proofs.Common.{◌≡◌, ℕ, zero, suc, ◌+◌, ◌<◌, Bool, true, false, List, [], ◌∷◌, length, get_or, map, ◌++◌, ◌∙◌, Option, Some, None, refl, arith, subst, ap}
+use lib.Pointwise.{pointwise}
+use Rattle.std.proofs.Math.Dec.{eqb}
+use Rattle.std.specs.Prelude.{◌==◌, ◌&&◌}
+use Rattle.std.proofs.lemmas.List.FromFn.{length-range_with_len, get_or-range_with_len}
+use Rattle.std.specs.List.{list_all, range_with_len}
+use Rattle.table_definitions.specs.Lists.{below, same_list, first_some, pairs_of}
+use Rattle.std.specs.Option.{option_or}
+
+pub both_true : (a b : Bool) → a && b ≡ true → (a ≡ true) × (b ≡ true)
+both_true true true h = (refl, refl)
+both_true true false h = (refl, h)
+both_true false b h = cc
+
+-- what a test shows of a list it shows of each element
+pub list_all-at : {X : Type 0} (test : X → Bool) (xs : List X) → list_all test xs ≡ true → (i : ℕ) (d : X) → i < length xs → test (get_or xs i d) ≡ true
+list_all-at test [] h i d l = absurd (omega arith)
+list_all-at test (x ∷ xs) h zero d l = grind arith
+list_all-at test (x ∷ xs) h (suc i) d l = grind (arith, list_all-at test xs)
+
+-- what it shows of each number below n
+pub list_all-below : (test : ℕ → Bool) (n : ℕ) → list_all test (below n) ≡ true → (i : ℕ) → i < n → test i ≡ true
+list_all-below test n h i l =
+    let in_range : i < length (below n) = rw length-range_with_len l in
+    let e : get_or (below n) i 0 ≡ 0 + i = get_or-range_with_len 0 n i 0 l in
+    let f : get_or (below n) i 0 ≡ i = omega arith in
+    let s = list_all-at test (below n) h i 0 in_range in
+    let P : ℕ → Type 0 = λ k. test k ≡ true in
+    subst P f s
+
+pub same_list-true : (xs ys : List ℕ) → same_list xs ys ≡ true → xs ≡ ys
+same_list-true [] [] h = refl
+same_list-true [] (y ∷ ys) h = cc
+same_list-true (x ∷ xs) [] h = cc
+same_list-true (x ∷ xs) (y ∷ ys) h = grind (arith, same_list-true xs ys)
+
+pub same_list-refl : (xs : List ℕ) → same_list xs xs ≡ true
+same_list-refl [] = refl
+same_list-refl (x ∷ xs) = grind (arith, same_list-refl xs)
+
+-- a list of four elements
+pub four_elements : (w : List ℕ) → length w ≡ 4 → w ≡ get_or w 0 0 ∷ get_or w 1 0 ∷ get_or w 2 0 ∷ get_or w 3 0 ∷ []
+four_elements [] h = cc
+four_elements (a ∷ []) h = cc
+four_elements (a ∷ b ∷ []) h = cc
+four_elements (a ∷ b ∷ c ∷ []) h = cc
+four_elements (a ∷ b ∷ c ∷ d ∷ []) h = refl
+four_elements (a ∷ b ∷ c ∷ d ∷ e ∷ w) h = absurd (omega arith)
+
+-- the test of std for lists, at numbers
+pub pointwise-same_list : (xs ys : List ℕ) → pointwise eqb xs ys ≡ same_list xs ys
+pointwise-same_list [] [] = refl
+pointwise-same_list [] (y ∷ ys) = refl
+pointwise-same_list (x ∷ xs) [] = refl
+pointwise-same_list (x ∷ xs) (y ∷ ys) = ap (λ b. (x == y) && b) (pointwise-same_list xs ys)
+
+-- what is found first
+
+pub first_some-append : {A B : Type 0} (f : A → Option B) (xs ys : List A) → first_some f (xs ++ ys) ≡ option_or (first_some f xs) (first_some f ys)
+first_some-append f [] ys = refl
+first_some-append f (x ∷ xs) ys = ap (option_or (f x)) (first_some-append f xs ys) ∙ option_or-assoc (f x) (first_some f xs) (first_some f ys)
+  where
+    option_or-assoc : {B : Type 0} (a b c : Option B) → option_or a (option_or b c) ≡ option_or (option_or a b) c
+    option_or-assoc None b c = refl
+    option_or-assoc (Some a) b c = refl
+
+pub first_some-map : {A B C : Type 0} (f : B → Option C) (g : A → B) (xs : List A) → first_some f (map g xs) ≡ first_some (λ x. f (g x)) xs
+first_some-map f g [] = refl
+first_some-map f g (x ∷ xs) = ap (option_or (f (g x))) (first_some-map f g xs)
+
+pub first_some-pairs_of : {A B C : Type 0} (f : A × B → Option C) (xs : List A) (ys : List B) → first_some f (pairs_of xs ys) ≡ first_some (λ x. first_some (λ y. f (x, y)) ys) xs
+first_some-pairs_of f [] ys = refl
+first_some-pairs_of {A} {B} f (x ∷ xs) ys =
+    let others : List (A × B) = pairs_of xs ys in
+    first_some-append f (map (λ (y : B). (x, y)) ys) others
+    ∙ ap (λ o. option_or o (first_some f others)) (first_some-map f (λ (y : B). (x, y)) ys)
+    ∙ ap (option_or (first_some (λ y. f (x, y)) ys)) (first_some-pairs_of f xs ys)
+
+-- nothing is found before i, and e at i
+pub first_some-from : {B : Type 0} (f : ℕ → Option B) (a n i : ℕ) (e : B) → i < n → ((k : ℕ) → k < i → f (a + k) ≡ None) → f (a + i) ≡ Some e → first_some f (range_with_len a n) ≡ Some e
+first_some-from f a zero i e l before found = absurd (omega arith)
+first_some-from {B} f a (suc n) zero e l before found =
+    let Finds : ℕ → Type 0 = λ k. f k ≡ Some e in
+    let h : f a ≡ Some e = subst Finds (omega arith) found in
+    rw h refl
+first_some-from {B} f a (suc n) (suc i) e l before found =
+    let Finds : ℕ → Type 0 = λ k. f k ≡ Some e in
+    let Misses : ℕ → Type 0 = λ k. f k ≡ None in
+    let h : f a ≡ None = subst Misses (omega arith) (before 0 (omega arith)) in
+    let later : first_some f (range_with_len (a + 1) n) ≡ Some e =
+    first_some-from f (a + 1) n i e (omega arith) (λ k m. subst Misses (omega arith) (before (suc k) (omega arith))) (subst Finds (omega arith) found) in
+    rw h later
+
+pub first_some-none_from : {B : Type 0} (f : ℕ → Option B) (a n : ℕ) → ((k : ℕ) → k < n → f (a + k) ≡ None) → first_some f (range_with_len a n) ≡ None
+first_some-none_from f a zero none = refl
+first_some-none_from f a (suc n) none =
+    let Misses : ℕ → Type 0 = λ k. f k ≡ None in
+    let h : f a ≡ None = subst Misses (omega arith) (none 0 (omega arith)) in
+    rw h (first_some-none_from f (a + 1) n (λ k m. subst Misses (omega arith) (none (suc k) (omega arith))))
+
+pub first_some-below : {B : Type 0} (f : ℕ → Option B) (n i : ℕ) (e : B) → i < n → ((k : ℕ) → k < i → f k ≡ None) → f i ≡ Some e → first_some f (below n) ≡ Some e
+first_some-below f n i e l before found =
+    let Finds : ℕ → Type 0 = λ k. f k ≡ Some e in
+    let Misses : ℕ → Type 0 = λ k. f k ≡ None in
+    first_some-from f 0 n i e l (λ k m. subst Misses (omega arith) (before k m)) (subst Finds (omega arith) found)
+
+pub first_some-none_below : {B : Type 0} (f : ℕ → Option B) (n : ℕ) → ((k : ℕ) → k < n → f k ≡ None) → first_some f (below n) ≡ None
+first_some-none_below f n none =
+    let Misses : ℕ → Type 0 = λ k. f k ≡ None in
+    first_some-none_from f 0 n (λ k m. subst Misses (omega arith) (none k m))
+
+first_none : {B : Type 0} (a b : Option B) → option_or a b ≡ None → (a ≡ None) × (b ≡ None)
+first_none None b h = (refl, h)
+first_none (Some a) b h = cc
+
+-- where nothing is found, nothing is at any place
+pub first_some-is_none : {A B : Type 0} (f : A → Option B) (xs : List A) → first_some f xs ≡ None → (i : ℕ) (d : A) → i < length xs → f (get_or xs i d) ≡ None
+first_some-is_none f [] h i d l = absurd (omega arith)
+first_some-is_none f (x ∷ xs) h zero d l = (first_none (f x) (first_some f xs) h).0
+first_some-is_none f (x ∷ xs) h (suc i) d l = first_some-is_none f xs (first_none (f x) (first_some f xs) h).1 i d (omega arith)
+
+pub first_some-is_none_below : {B : Type 0} (f : ℕ → Option B) (n : ℕ) → first_some f (below n) ≡ None → (i : ℕ) → i < n → f i ≡ None
+first_some-is_none_below f n h i l =
+    let in_range : i < length (below n) = rw length-range_with_len l in
+    let e : get_or (below n) i 0 ≡ 0 + i = get_or-range_with_len 0 n i 0 l in
+    let e' : get_or (below n) i 0 ≡ i = omega arith in
+    let Misses : ℕ → Type 0 = λ k. f k ≡ None in
+    subst Misses e' (first_some-is_none f (below n) h i 0 in_range)
+
+-- lists whose elements a test finds equal
+pub pointwise-true : {A : Type 0} (E : A → A → Bool) → ((x y : A) → E x y ≡ true → x ≡ y) → (xs ys : List A) → pointwise E xs ys ≡ true → xs ≡ ys
+pointwise-true E tells [] [] h = refl
+pointwise-true E tells [] (y ∷ ys) h = cc
+pointwise-true E tells (x ∷ xs) [] h = cc
+pointwise-true E tells (x ∷ xs) (y ∷ ys) h =
+    let b = both_true (E x y) (pointwise E xs ys) h in
+    ap (λ z. z ∷ xs) (tells x y b.0) ∙ ap (λ zs. y ∷ zs) (pointwise-true E tells xs ys b.1)
+
+pub pointwise-refl : {A : Type 0} (E : A → A → Bool) → ((x : A) → E x x ≡ true) → (xs : List A) → pointwise E xs xs ≡ true
+pointwise-refl E same [] = refl
+pointwise-refl E same (x ∷ xs) = rw (same x) (pointwise-refl E same xs)
