@@ -5,3 +5,4 @@ pub mod Information
 pub mod Scripts
 pub mod Canonical
 pub mod Answers
+pub mod Laws

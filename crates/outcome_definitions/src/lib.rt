@@ -2,6 +2,8 @@
 //! The definitions stand in `specs/`, for the contract of the run.
 #![tactic(auto)]
 
+ghost use Rattle.outcome_definitions.specs.Laws.{StatusesAreOwn};
+
 /// How a run ends. The number is the exit status of the program.
 #[derive(Clone, Copy, Debug, PartialEq, Eq)]
 pub enum Status {
@@ -22,3 +24,8 @@ pub enum Status {
     /// 8: memory ran out, and nothing was written.
     NoMemory,
 }
+
+/// The answer to a request has one of the statuses of accepted words.
+pub fn statuses_are_own()
+    ensures { StatusesAreOwn }
+{}

@@ -3,7 +3,6 @@ ghost use Rattle.std.specs.Prelude.{◌≡◌, ◌↔◌, ◌⊎◌, ◌-◌, �
 ghost use Rattle.bench_io.specs.Causes.{Grows, Rose, IsEnded};
 ghost use Rattle.outcome_definitions.specs.Lines.{read_line};
 ghost use Rattle.outcome_definitions.specs.Outcomes as outcomes;
-ghost use Rattle.outcome_definitions.specs.Outcomes.{IsOwnStatus};
 ghost use Rattle.outcome_definitions.specs.Answers.{IsOutcome, IsAnswerTo, most_bytes};
 ghost use Rattle.command_definitions.specs.Words.{accepted_request};
 ghost use Rattle.command_definitions.specs.Requests.{IsBuilt};
@@ -30,7 +29,6 @@ fn answer(alloc: Global, request: Request, bytes: &[u8]) -> Result<Outcome, NoMe
     requires size { length bytes.now ≤ most_bytes }
     requires built { IsBuilt request }
     ensures answer { IfOk result (λ o. IsAnswerTo request bytes.now o) }
-    ensures own_status { IfOk result (λ o. IsOwnStatus o.status) }
 {
     match request {
         Request::Verify(coords) => verify(alloc, coords, bytes),
@@ -52,6 +50,7 @@ fn answer(alloc: Global, request: Request, bytes: &[u8]) -> Result<Outcome, NoMe
 }
 
 // The outcome of a command over a source.
+#[tactic(auto, using(outcome_definitions::proofs::OwnStatus::answer_own))]
 fn respond<S: Source>(alloc: Global, request: Request, source: &mut S) -> Result<Outcome, NoMemory>
     requires { IsBuilt request }
     ensures response { IfOk result (IsResponse request (S.left source.old) (S.left source.new) (S.faults source.old) (S.faults source.new)) }
