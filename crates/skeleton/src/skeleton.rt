@@ -193,7 +193,7 @@ impl Skeleton {
     }
 
     /// The least member of an edge class.
-    fn first_edge(&self, class: u32) -> u32
+    pub fn first_edge(&self, class: u32) -> u32
         requires { class < self.now.edges.count }
         ensures value { result ≡ numbers.least self.now.edges.classes class }
         ensures in_range { result < 6 * length self.now.rows }

@@ -1,0 +1,3 @@
+pub mod CappedSums
+pub mod ArcSums
+pub mod LargeSums

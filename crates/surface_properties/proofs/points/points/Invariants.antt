@@ -1,0 +1,11 @@
+-- The weights of the classes so far.
+use Rattle.std.proofs.Common.{◌≡◌}
+use Rattle.std.specs.Prelude.{sum_by}
+use Rattle.table_definitions.specs.Lists.{below}
+use Rattle.table_definitions.specs.Classes.{least}
+use Rattle.surface_definitions.specs.Characteristic.{weight}
+use Rattle.surface_properties.specs.Capped.{capped}
+use Rattle.surface_properties.proofs.points.points.Given as goal
+
+abbrev pub invariant-loop-class : goal.invariant-loop-class
+invariant-loop-class l = l.total ≡ capped (sum_by (λ c. weight l.coords l.x (least l.skeleton.edges.classes c)) (below l.class))

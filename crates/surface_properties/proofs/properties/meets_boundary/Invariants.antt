@@ -1,0 +1,9 @@
+-- No boundary face so far has an arc.
+use Rattle.std.proofs.Common.{◌≡◌, ℕ, ◌<◌, None}
+use Rattle.table_definitions.specs.Table.{glue}
+use Rattle.table_definitions.specs.Places.{face_of}
+use Rattle.surface_definitions.specs.Characteristic.{arcs_in}
+use Rattle.surface_properties.proofs.properties.meets_boundary.Given as goal
+
+abbrev pub invariant-loop-place : goal.invariant-loop-place
+invariant-loop-place l = (i : ℕ) → i < l.place → glue l.table (face_of i) ≡ None → arcs_in l.fn.coords l.x (face_of i) ≡ 0

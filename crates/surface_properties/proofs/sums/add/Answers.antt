@@ -1,0 +1,8 @@
+-- What passes the greatest 128 bits passes the limit too.
+use Rattle.std.proofs.Common.{arith}
+use Rattle.surface_properties.specs.Capped.{capped}
+use Rattle.surface_properties.proofs.sums.add.Goals as goal
+
+pub returns : goal.returns
+unfolding capped
+returns c = grind (arith, c.min.ensures, c.saturating_add.ensures)

@@ -1,0 +1,129 @@
+//! The arcs in which a surface meets the faces.
+
+ghost use Rattle.std.specs.Prelude.{◌≡◌, ◌≢◌, ◌+◌, ◌*◌, ◌<◌, length, slice_index};
+ghost use Rattle.table_definitions.specs.Permutation.{others};
+ghost use Rattle.table_definitions.specs.Table as gluings;
+ghost use Rattle.skeleton_definitions.specs.Links.{is_first_side as is_first};
+ghost use Rattle.table_definitions.specs.Table.{IsTable};
+ghost use Rattle.surface_definitions.specs.Coordinates.{columns};
+ghost use Rattle.surface_definitions.specs.Pieces as pieces;
+ghost use Rattle.surface_definitions.specs.Characteristic as characteristic;
+ghost use Rattle.surface_properties.specs.Capped.{capped};
+ghost use Rattle.surface_properties.specs.Counted.{counted as counted_at, counted_in};
+
+use crate::sums::{add, sum_at};
+use gluing_table::{Face, Table};
+use surface_definitions::Coords;
+
+// The type of quads that keeps two vertices on one side, and the two others.
+const KEEPING: [[u32; 4]; 4] = [[3, 0, 1, 2], [0, 3, 2, 1], [1, 2, 3, 0], [2, 1, 0, 3]];
+
+const OTHERS: [[u32; 2]; 3] = [[1, 2], [0, 2], [0, 1]];
+// The vertices of each face.
+const CORNERS: [[u8; 3]; 4] = [[1, 2, 3], [0, 2, 3], [0, 1, 3], [0, 1, 2]];
+
+/// The arcs round a vertex of a face.
+pub fn arcs_round(coords: Coords, x: &[u128], face: Face, v: u8) -> u128
+    requires coords { coords ≢ Coords.Quad }
+    requires a_face { face.face < 4 }
+    requires a_vertex { v < 4 }
+    requires off { v ≢ face.face }
+    requires few { face.tet < 1000 }
+    requires width { columns coords (face.tet + 1) < length x.now + 1 }
+    ensures { result ≡ capped (pieces.arcs_round coords x.now face.tet face.face v) }
+{
+    let kind = KEEPING[v as usize][face.face as usize];
+    if coords == Coords::Octagon {
+        let first = 10 * face.tet;
+        let [q, r] = OTHERS[kind as usize];
+        sum_at(
+            x,
+            &[
+                first + v as u32,
+                first + 4 + kind,
+                first + 7 + q,
+                first + 7 + r,
+            ],
+        )
+    } else {
+        let first = 7 * face.tet;
+        sum_at(x, &[first + v as u32, first + 4 + kind])
+    }
+}
+
+/// A vertex of a face, by its number among the three.
+fn corner(face: u8, number: usize) -> u8
+    requires a_face { face < 4 }
+    requires one_of_three { number < 3 }
+    ensures value { result ≡ slice_index (others face) number }
+    ensures in_range { result < 4 }
+    ensures off { result ≢ face }
+{
+    CORNERS[face as usize][number]
+}
+
+/// The arcs in a face.
+pub fn arcs_in(coords: Coords, x: &[u128], face: Face) -> u128
+    requires coords { coords ≢ Coords.Quad }
+    requires a_face { face.face < 4 }
+    requires few { face.tet < 1000 }
+    requires width { columns coords (face.tet + 1) < length x.now + 1 }
+    ensures { result ≡ capped (characteristic.arcs_in coords x.now face) }
+{
+    let one = arcs_round(coords, x, face, corner(face.face, 0));
+    let two = add(one, arcs_round(coords, x, face, corner(face.face, 1)));
+    add(two, arcs_round(coords, x, face, corner(face.face, 2)))
+}
+
+/// Whether a face stands before another.
+fn is_before(face: Face, other: Face) -> bool
+    ensures { result ≡ gluings.is_face_before face other }
+{
+    face.tet < other.tet || face.tet == other.tet && face.face < other.face
+}
+
+/// Whether a face is a boundary face or the lesser of two that are glued.
+fn is_first_side(table: &Table, face: Face) -> bool
+    requires a_face { face.face < 4 }
+    requires in_range { face.tet < length table.now }
+    ensures { result ≡ is_first face (gluings.glue table.now face) }
+{
+    match table.glue(face) {
+        None => true,
+        Some(glue) => is_before(face, glue.other_side(face)),
+    }
+}
+
+/// The arcs in a face, where it is a boundary face or the lesser of two that are glued.
+fn counted(table: &Table, coords: Coords, x: &[u128], face: Face) -> u128
+    requires coords { coords ≢ Coords.Quad }
+    requires table { IsTable table.now }
+    requires a_face { face.face < 4 }
+    requires in_range { face.tet < length table.now }
+    requires width { length x.now ≡ columns coords (length table.now) }
+    ensures { result ≡ capped (counted_at table.now coords x.now face) }
+{
+    if is_first_side(table, face) {
+        arcs_in(coords, x, face)
+    } else {
+        0
+    }
+}
+
+/// The arcs in all faces, two glued ones counted once.
+pub fn arcs(table: &Table, coords: Coords, x: &[u128]) -> u128
+    requires coords { coords ≢ Coords.Quad }
+    requires table { IsTable table.now }
+    requires width { length x.now ≡ columns coords (length table.now) }
+    ensures { result ≡ capped (characteristic.arcs table.now coords x.now) }
+{
+    let mut total = 0;
+    for tet in 0..table.len() {
+        let one = counted(table, coords, x, Face { tet, face: 0 });
+        let two = add(one, counted(table, coords, x, Face { tet, face: 1 }));
+        let three = add(two, counted(table, coords, x, Face { tet, face: 2 }));
+        let four = add(three, counted(table, coords, x, Face { tet, face: 3 }));
+        total = add(total, four);
+    }
+    total
+}

@@ -1,0 +1,13 @@
+//! What is counted of a normal surface: its points, arcs and pieces, and its Euler characteristic.
+#![tactic(auto)]
+
+mod arcs;
+mod points;
+mod properties;
+mod sums;
+
+pub use properties::properties_of;
+pub use vector_definitions::{Properties, PropertyFault, Sum};
+
+#[cfg(test)]
+mod tests;

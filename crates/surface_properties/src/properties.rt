@@ -1,0 +1,123 @@
+//! All properties of a surface at once.
+
+ghost use Rattle.std.specs.Prelude.{◌≡◌, ◌≢◌, ◌+◌, ◌*◌, ◌<◌, ◌≤◌, true, false, length, slice_index, None, IsTrue, pos, ◌-ℤ◌};
+ghost use Rattle.table_definitions.specs.Table as gluings;
+ghost use Rattle.text_definitions.specs.Written.{limit};
+ghost use Rattle.table_definitions.specs.Table.{IsTable};
+ghost use Rattle.surface_definitions.specs.Coordinates.{columns, is_quad_or_octagon};
+ghost use Rattle.surface_definitions.specs.Characteristic as characteristic;
+ghost use Rattle.vector_definitions.specs.Properties.{IsPropertyAnswer};
+
+use crate::arcs::{arcs, arcs_in};
+use crate::points::points;
+use crate::sums::{MAX_ENTRY, add, sum_of};
+use gluing_table::{Face, Table};
+use skeleton::Skeleton;
+use surface_definitions::Coords;
+use vector_definitions::{Properties, PropertyFault, Sum};
+
+/// Whether a column of quads or octagons has pieces.
+fn has_others(coords: Coords, x: &[u128], column: usize) -> bool
+    requires coords { coords ≢ Coords.Quad }
+    requires in_range { column < length x.now }
+    ensures some { IsTrue result → is_quad_or_octagon coords column ≡ true × (0 < slice_index x.now column) }
+    ensures none { result ≡ false → is_quad_or_octagon coords column ≡ true → slice_index x.now column ≡ 0 }
+{
+    let each = if coords == Coords::Octagon { 10 } else { 7 };
+    column % each >= 4 && x[column] > 0
+}
+
+/// Whether all quads and octagons are 0.
+fn is_linking(coords: Coords, x: &[u128]) -> bool
+    requires { coords ≢ Coords.Quad }
+    ensures { result ≡ characteristic.is_linking coords x.now }
+{
+    for column in 0..x.len() {
+        if has_others(coords, x, column) {
+            return false;
+        }
+    }
+    true
+}
+
+/// Whether a face is a boundary face with arcs.
+fn has_free_arcs(table: &Table, coords: Coords, x: &[u128], face: Face) -> bool
+    requires coords { coords ≢ Coords.Quad }
+    requires table { IsTable table.now }
+    requires width { length x.now ≡ columns coords (length table.now) }
+    requires in_range { face.tet < length table.now }
+    requires a_face { face.face < 4 }
+    ensures some { IsTrue result → gluings.glue table.now face ≡ None × (0 < characteristic.arcs_in coords x.now face) }
+    ensures none { result ≡ false → gluings.glue table.now face ≡ None → characteristic.arcs_in coords x.now face ≡ 0 }
+{
+    match table.glue(face) {
+        None => arcs_in(coords, x, face) > 0,
+        Some(_) => false,
+    }
+}
+
+/// Whether a boundary face has an arc.
+fn meets_boundary(table: &Table, coords: Coords, x: &[u128]) -> bool
+    requires coords { coords ≢ Coords.Quad }
+    requires table { IsTable table.now }
+    requires width { length x.now ≡ columns coords (length table.now) }
+    ensures { result ≡ characteristic.meets_boundary table.now coords x.now }
+{
+    for place in 0..4 * table.len() {
+        let face = Face {
+            tet: place / 4,
+            face: (place % 4) as u8,
+        };
+        if has_free_arcs(table, coords, x, face) {
+            return true;
+        }
+    }
+    false
+}
+
+/// The Euler characteristic of so many points and pieces, and arcs.
+fn euler(points_and_pieces: u128, arcs: u128) -> i128
+    requires first { points_and_pieces ≤ limit }
+    requires second { arcs ≤ limit }
+    ensures { result ≡ pos points_and_pieces -ℤ pos arcs }
+{
+    points_and_pieces as i128 - arcs as i128
+}
+
+/// The properties of a surface, which is a vector in standard or octagon coordinates. (Haken; Jaco and Rubinstein.)
+///
+/// `Large` with the first of the sums that passes 2^127 - 1: the points, the arcs, the points and pieces.
+pub fn properties_of(
+    skeleton: &Skeleton,
+    coords: Coords,
+    x: &[u128],
+) -> Result<Properties, PropertyFault>
+    requires coords { coords ≢ Coords.Quad }
+    requires width { length x.now ≡ columns coords (length skeleton.now.rows) }
+    ensures { IsPropertyAnswer limit skeleton.now coords x.now result }
+{
+    let table = skeleton.table();
+    let points = points(skeleton, coords, x);
+    if points > MAX_ENTRY {
+        return Err(PropertyFault::Large { sum: Sum::Points });
+    }
+    let arcs = arcs(table, coords, x);
+    if arcs > MAX_ENTRY {
+        return Err(PropertyFault::Large { sum: Sum::Arcs });
+    }
+    let pieces = sum_of(x);
+    let both = add(points, pieces);
+    if both > MAX_ENTRY {
+        return Err(PropertyFault::Large {
+            sum: Sum::PointsAndPieces,
+        });
+    }
+    Ok(Properties {
+        points,
+        arcs,
+        pieces,
+        euler: euler(both, arcs),
+        linking: is_linking(coords, x),
+        boundary: meets_boundary(table, coords, x),
+    })
+}
