@@ -12,6 +12,8 @@ use Rattle.perm_four.proofs.ListFacts.{list_all-at, list_all-below, same_list-tr
 use Rattle.signature_codec.specs.Slots.{face_at}
 use Rattle.signature_codec.proofs.Simulation.{faces-places, by_bool}
 use Rattle.signature_codec.proofs.SeenLaws.{is_seen-more, is_seen-begun, is_seen-later, or_left}
+use Rattle.table_definitions.proofs.Marked.{or-false as or_none}
+use Rattle.signature_codec.proofs.WalkLaws.{seen_same, seen_next}
 
 -- the tetrahedra below s are seen before the face at k is taken
 abbrev pub SeenBelow : List Row → ℕ → ℕ → Type 0
@@ -46,25 +48,6 @@ seen_begun rows u = is_seen-begun rows u ∙ only u
     only u = ⊎_elim (λ (e : u ≡ 0). eq-eqb u 0 e ∙ sym (lt-ltb u 1 (omega arith)))
         (λ (d : u ≡ 0 → ⊥). by_bool (u == 0) (λ e. absurd (d (eqb-true u 0 e))) (λ e. e) ∙ sym (le-ltb u 1 (omega arith)))
         (cases_eq u 0)
-
-seen_same : (u s t : ℕ) → t < s → (nat_lt u s || (t == u)) ≡ nat_lt u s
-seen_same u s t l = ⊎_elim
-    (λ (b : u < s). or_left (nat_lt u s) (t == u) (lt-ltb u s b) ∙ sym (lt-ltb u s b))
-    (λ (b : s ≤ u). let ne : (t == u) ≡ false = by_bool (t == u) (λ e. absurd (let f = eqb-true t u e in omega (arith, f))) (λ e. e) in rw (le-ltb u s b, ne) refl)
-    (cases_lt u s)
-
-seen_next : (u s t : ℕ) → t ≡ s → (nat_lt u s || (t == u)) ≡ nat_lt u (s + 1)
-seen_next u s t same = ⊎_elim
-    (λ (b : u < s). or_left (nat_lt u s) (t == u) (lt-ltb u s b) ∙ sym (lt-ltb u (s + 1) (omega arith)))
-    (λ (b : s ≤ u). ⊎_elim
-    (λ (e : t ≡ u). let f : u < s + 1 = omega arith in rw (le-ltb u s b, eq-eqb t u e, lt-ltb u (s + 1) f) refl)
-    (λ (ne : t ≡ u → ⊥). let f : s + 1 ≤ u = omega arith in let g : (t == u) ≡ false = by_bool (t == u) (λ e. absurd (ne (eqb-true t u e))) (λ e. e) in rw (le-ltb u s b, g, le-ltb u (s + 1) f) refl)
-    (cases_eq t u))
-    (cases_lt u s)
-
-or_none : (b : Bool) → (b || false) ≡ b
-or_none true = refl
-or_none false = refl
 
 more : (rows : List Row) (k s : ℕ) (o : Option Gluing) (u : ℕ) → k < 4 * length rows → SeenBelow rows k s → glue rows (face_at k) ≡ o → is_seen rows (face_at (k + 1)) u ≡ (nat_lt u s || is_glued_to u o)
 more rows k s o u l seen e = is_seen-more rows k u (omega arith) ∙ ap (λ b. b || is_glued_to u (glue rows (face_at k))) (seen u) ∙ ap (λ p. nat_lt u s || is_glued_to u p) e

@@ -18,10 +18,7 @@ use Rattle.labelling_definitions.specs.Labellings.{Relabels, is_stand_in_before,
 use Rattle.canonical_labelling.proofs.Standing.{same_relabelling}
 use Rattle.canonical_labelling.proofs.Kept.{relabels_back, relabels_on, crossed}
 use Rattle.canonical_labelling.proofs.Agreeing.{one_behind}
-
-neither : (a b : Bool) → (a || b) ≡ false → (a ≡ false) × (b ≡ false)
-neither true b e = absurd cc
-neither false b e = (refl, e)
+use Rattle.signature_codec.proofs.Stepping.{or_parts as neither}
 
 open_and : (p q : Bool) → p ≡ true → (p && q) ≡ q
 open_and p q h = rw h refl

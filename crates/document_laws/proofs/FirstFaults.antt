@@ -8,7 +8,7 @@ use Rattle.document_definitions.specs.Signs.{Sign, line_end, Placed, line_signs,
 use Rattle.document_laws.proofs.Local.{left_signs, shows, opening, StopsAt}
 use Rattle.document_laws.proofs.LocalWords.{end_there}
 use Rattle.document_laws.proofs.Leaving.{start_with}
-use Rattle.document_laws.proofs.Ways.{Way}
+use Rattle.document_laws.proofs.Ways.{Way, heads as tails}
 use Rattle.document_laws.proofs.LeavingCones.{same_signs}
 use Rattle.document_laws.proofs.TextReaders.{Read}
 
@@ -19,9 +19,6 @@ no_line_begun c none = ap (λ (ts : List Token). line_signs c.current.number ts 
 
 shows_behind : (c : Reading) → c.current.tokens ≡ [] → shows c ≡ line_end ∷ plain (signs_of c.input_end c.later)
 shows_behind c none = ap plain (no_line_begun c none)
-
-tails : {A : Type 0} (x y : A) (xs ys : List A) → x ∷ xs ≡ y ∷ ys → (x ≡ y) × (xs ≡ ys)
-tails x y xs ys e = (cc, cc)
 
 cons_of : (ss : List Sign) (s : Sign) → opening ss ≡ Some s → (more : List Sign) × (ss ≡ s ∷ more)
 cons_of [] s e = absurd cc

@@ -9,24 +9,7 @@ use Rattle.text_definitions.specs.declared.LexKind.TheVariants.{NumberTooWide}
 use Rattle.text_definitions.specs.declared.LexFault.{LexFault}
 use Rattle.text_definitions.specs.Reading.{Reading, ◌>>=◌, word_at, number_up_to, signed_at, magnitude, is_negative, with_sign, word_fault}
 use Rattle.table_definitions.specs.Grammar.{IsNumber, IsSigned}
-use Rattle.table_definitions.proofs.ReadingLaws.{bind_ok, ok_parts, with_tokens, behind, TakesWord, word_taken}
-
--- a number that a word stands for
-number_taken : (max : ℕ) (w : List ℕ) (o : Option ℕ) (c : Reading) (n : ℕ) (d : Reading) → decimal_value w ≡ o → number_up_to max o c ≡ Ok (n, d) → IsNumber max w n × (d ≡ c)
-number_taken max w None c n d v e = absurd cc
-number_taken max w (Some m) c n d v e = by_test (nat_lt max m) refl e
-  where
-    by_test : (b : Bool) → nat_lt max m ≡ b → if◌then◌else◌ {A = Result (ℕ × Reading) LexFault} b (Err (word_fault c NumberTooWide)) (Ok (m, c)) ≡ Ok (n, d) → IsNumber max w n × (d ≡ c)
-    by_test true t e = absurd cc
-    by_test false t e =
-        let parts : (m ≡ n) × (c ≡ d) = ok_parts (m, c) (n, d) e in
-        (record { value = v ∙ ap (λ k. Some k) parts.0; up_to = subst (λ k. k ≤ max) parts.0 (ltb-false max m t) }, sym parts.1)
-
-number_found : (max : ℕ) (w : List ℕ) (n : ℕ) (c : Reading) → IsNumber max w n → number_up_to max (decimal_value w) c ≡ Ok (n, c)
-number_found max w n c h = ap (λ (o : Option ℕ). number_up_to max o c) h.value ∙ in_range
-  where
-    in_range : number_up_to max (Some n) c ≡ Ok (n, c)
-    in_range = ap (λ (b : Bool). if◌then◌else◌ {A = Result (ℕ × Reading) LexFault} b (Err (word_fault c NumberTooWide)) (Ok (n, c))) (le-ltb max n h.up_to)
+use Rattle.table_definitions.proofs.ReadingLaws.{bind_ok, ok_parts, with_tokens, behind, TakesWord, word_taken, number_taken, number_found}
 
 -- a word and its magnitude
 signed_with : (max : ℕ) (w : List ℕ) (n : ℕ) → IsNumber max (magnitude w) n → IsSigned max w (with_sign (is_negative w) n)

@@ -24,11 +24,7 @@ use Rattle.signature_codec.proofs.ReadTables.{read_spelled}
 use Rattle.signature_codec.proofs.SpelledTables.{spelled_read}
 use Rattle.document_laws.proofs.LineLaws.{BeginsLine, line_begun, line_found, line_ended, FirstWord, first_word, no_words}
 use Rattle.document_laws.proofs.Blocks.{ReadsBlocks, ReadsEnd}
-
--- what stands between the kinds of fault
-pub texted_ok : {A : Type 0} (r : Result A TextFault) (x : A) → texted r ≡ Ok x → r ≡ Ok x
-texted_ok (Ok y) x e = let same : y ≡ x = cc in cc
-texted_ok (Err f) x e = absurd cc
+use Rattle.signature_codec.proofs.AnyTables.{texted_ok, decoded_ok}
 
 pub texted_with : {A : Type 0} (r : Result A TextFault) (x : A) → r ≡ Ok x → texted r ≡ Ok x
 texted_with {A} r x e = ap (λ (q : Result A TextFault). texted q) e
@@ -63,10 +59,6 @@ tri_of_parts c x w next t e1 e2 e3 e4 =
 
 same_word_of : (w v : List ℕ) → same_list w v ≡ true → same_word w v ≡ true
 same_word_of w v e = e
-
-decoded_ok : (c : Reading) (r : Result (List Row) SigFault) (rows : List Row) (d : Reading) → decoded c r ≡ Ok (rows, d) → (r ≡ Ok rows) × (c ≡ d)
-decoded_ok c (Ok q) rows d e = let parts : (q ≡ rows) × (c ≡ d) = ok_parts (q, c) (rows, d) e in (ap (λ (p : List Row). Ok p) parts.0, parts.1)
-decoded_ok c (Err f) rows d e = absurd cc
 
 sig_lines : (c x : Reading) (w : List ℕ) (next : Reading) (rows : List Row) (d : Reading) (text : List ℕ) (behind_text last : Reading) → BeginsLine c x → (a : TakesWord x.current.tokens x w next) → w ≡ codes "sig"
     → (b : TakesWord a.rest (behind a.column x) text behind_text) → (b.rest ≡ []) × (last ≡ with_tokens [] (behind b.column (behind a.column x))) → signature_table text ≡ Ok rows → last ≡ d → TableLines c rows d

@@ -204,7 +204,7 @@ text_taken c u d e =
     let t : TextTaken c d = by_name (b1.0).0 c (b1.0).1 u d (word_passed name_test c (b1.0).0 (b1.0).1 b1.1) b1.2 in
     (t.lines, t.split, t.text)
 
-tri_passes : name_test (codes "tri") ≡ Ok true
+pub tri_passes : name_test (codes "tri") ≡ Ok true
 unfolding name_test
 tri_passes = refl
 

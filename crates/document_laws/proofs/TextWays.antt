@@ -16,6 +16,7 @@ use Rattle.document_laws.proofs.LocalTables.{entry_test, any_text, name_test}
 use Rattle.document_laws.proofs.Ways.{Sat, From, Alike, alike_goes, again_from, Well, WellOpen, Free, sat_both, well_free, well_goes, well_open, well_behind, free_same, sat_same, well_same, from_sat}
 use Rattle.document_laws.proofs.WordWays.{free_word, sat_word, well_word, sat_end, well_end, free_line, well_line}
 use Rattle.document_laws.proofs.TextReaders.{Read, words_at, row_text, row_line, rows_text, counted_text, tri_text, sig_text, text_named, text_at, next_text}
+use Rattle.document_laws.proofs.TextGrammar.{tri_passes}
 
 -- the readers see no more than they take and the next sign
 goes_words : {A : Type 0} (test : List ℕ → Result A LexKind) (n : ℕ) (c : Reading) → Goes (words_at test n) c
@@ -180,10 +181,6 @@ well_count Aim c k a = well_same as_is (word_with count_test) (number_at max_tet
 letter_passes : any_text (codes "a") ≡ Ok (codes "a")
 unfolding any_text
 letter_passes = refl
-
-tri_passes : name_test (codes "tri") ≡ Ok true
-unfolding name_test
-tri_passes = refl
 
 alike_counted : (n : ℕ) → Alike (counted_text n)
 alike_counted n = alike_goes (counted_text n) (goes_counted n)

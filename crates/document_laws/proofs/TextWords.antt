@@ -20,6 +20,7 @@ use Rattle.document_laws.proofs.Local.{alone, alone_ok}
 use Rattle.document_laws.proofs.LocalWords.{tested, word_with, at_word, ending}
 use Rattle.document_laws.proofs.LocalTables.{gluing_test, entry_test, name_test}
 use Rattle.document_laws.proofs.TextReaders.{words_at}
+use Rattle.table_definitions.proofs.TableFoundLaws.{no_dash}
 
 -- a word that passed
 pub record Passes {A : Type 0} (test : List ℕ → Result A LexKind) (c : Reading) (x : A) (d : Reading) : Type 0 where
@@ -116,18 +117,6 @@ entry_passed w o e = by_test (same_list w (codes "-")) refl e
     by_test : (b : Bool) → same_list w (codes "-") ≡ b → if◌then◌else◌ {A = Result (Option Gluing) LexKind} b (Ok None) (gluing_test (gluing_of w)) ≡ Ok o → IsEntry w o
     by_test true t e = (let same : None ≡ o = cc in subst (λ (p : Option Gluing). IsEntry w p) same (same_list-true w (codes "-") t))
     by_test false t e = gluing_passed w (gluing_of w) o refl e
-
-no_dash : (w : List ℕ) (g : Gluing) → gluing_of w ≡ Some g → same_list w (codes "-") ≡ false
-no_dash w g e = by_test (same_list w (codes "-")) refl
-  where
-    dash_is_none : gluing_of (codes "-") ≡ None
-    dash_is_none = refl
-
-    by_test : (b : Bool) → same_list w (codes "-") ≡ b → b ≡ false
-    by_test false t = refl
-    by_test true t =
-        let none : None ≡ Some g = sym dash_is_none ∙ ap (λ (v : List ℕ). gluing_of v) (sym (same_list-true w (codes "-") t)) ∙ e in
-        absurd cc
 
 entry_passes : (w : List ℕ) (o : Option Gluing) → IsEntry w o → entry_test w ≡ Ok o
 unfolding entry_test gluing_test

@@ -66,7 +66,7 @@ unfolding token_before line_signs
 token_before_shows (word column w) n k = refl
 token_before_shows (stray column) n k = refl
 
-heads : {A : Type 0} (x y : A) (xs ys : List A) → x ∷ xs ≡ y ∷ ys → (x ≡ y) × (xs ≡ ys)
+pub heads : {A : Type 0} (x y : A) (xs ys : List A) → x ∷ xs ≡ y ∷ ys → (x ≡ y) × (xs ≡ ys)
 heads x y xs ys e = (cc, cc)
 
 one_only : (s : Placed) (front rest : List Placed) (t : Placed) → rest ≢ [] → s ∷ [] ≡ t ∷ (front ++ rest) → ⊥

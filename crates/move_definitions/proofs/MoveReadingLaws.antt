@@ -13,13 +13,7 @@ use Rattle.move_definitions.specs.MoveText.{MoveKind, one_four, two_three, three
 use Rattle.move_definitions.specs.Grammar as grammar
 use Rattle.move_definitions.specs.Grammar.{IsCoreText, IsMoveLine, IsStepLine}
 use Rattle.move_definitions.proofs.CoreTexts.{kind_word, kind_named, names_step, step_named, vertex_spelled, edge_spelled}
-
--- a line that had to end
-pub line_ended : (ts : List Token) (c d : Reading) → end_line_at (with_tokens ts c) ≡ Ok d → (ts ≡ []) × (d ≡ with_tokens [] c)
-unfolding end_line_at
-line_ended [] c d e = (refl, cc)
-line_ended (stray column ∷ ts) c d e = absurd cc
-line_ended (word column w ∷ ts) c d e = absurd cc
+use Rattle.table_definitions.proofs.TableReadingLaws.{line_ended}
 
 -- a word is the first of the words of a line
 first_word : (ts : List Token) (c : Reading) (w : List ℕ) (d : Reading) (t : TakesWord ts c w d) (ws : List (List ℕ)) → AreWords t.rest ws → AreWords ts (w ∷ ws)

@@ -7,7 +7,7 @@ use Rattle.std.proofs.lemmas.Bool.{eqb-true, eq-eqb, ltb-true, lt-ltb, le-ltb, a
 use Rattle.table_definitions.specs.Lists.{below, has, in_place_of, first_some, pairs_of}
 use Rattle.table_definitions.specs.Permutation.{four, IsPermutationOfFour, image, preimage, inverse, compose}
 use Rattle.table_definitions.specs.Table.{Gluing, Row, glue, IsTable}
-use Rattle.table_definitions.proofs.TableLaws.{Among, first_some-none}
+use Rattle.table_definitions.proofs.TableLaws.{Among, first_some-none, none_parts as both_none, guarded}
 use Rattle.move_definitions.specs.declared.MoveFault.{MoveFault}
 use Rattle.move_definitions.specs.declared.MoveFault.TheVariants.{NoSuchTet, Repeated}
 use Rattle.move_definitions.specs.Moves.{Move, IsCore, Facet, own_facet, opposite, facet_behind, facet, old_labels, found_labels, tets_before, facet_fault, pair_fault, move_fault, vertices_by_label}
@@ -16,6 +16,8 @@ use Rattle.table_definitions.proofs.Permutations.{inverse_permutes, compose_perm
 use Rattle.move_laws.proofs.CoreTests.{core_size, own_permutes}
 use Rattle.move_laws.proofs.Labels.{AreLabels, own_labels}
 use Rattle.move_laws.proofs.ListedFacets.{same_some, Among_from_has, has_tet, tets_of, IsOf, facet_with, AreApart, is_distinct, tets_distinct, length-tets}
+use Rattle.table_definitions.proofs.Carried.{lesser}
+use Rattle.move_laws.proofs.Renamed.{un_lt}
 
 -- labels that are found, all old labels, and labels before one
 
@@ -49,9 +51,6 @@ among_at : (t : ℕ → Bool) (ls : List ℕ) (i : ℕ) → list_all t ls ≡ tr
 among_at t [] i h a = absurd a
 among_at t (l ∷ ls) i h (inl e) = let P : ℕ → Type 0 = λ k. t k ≡ true in subst P (sym e) (and_parts (t l) (list_all t ls) h).0
 among_at t (l ∷ ls) i h (inr a) = among_at t ls i (and_parts (t l) (list_all t ls) h).1 a
-
-un_lt : (l s : ℕ) → not (nat_lt l s) ≡ true → s ≤ l
-un_lt l s h = grind arith
 
 pub old_label_range : (s i : ℕ) → s < 5 → Among i (drop s (below 5)) → (s ≤ i) × (i < 5)
 unfolding label_range
@@ -132,14 +131,6 @@ facet_is rows m i f table c l small e = by_case (cases_lt i 4)
 
 -- what legality says
 
-guarded : {A : Type 0} (b : Bool) (f : A) (o : Option A) → (if b then Some f else o) ≡ None → (b ≡ false) × (o ≡ None)
-guarded true f o e = absurd cc
-guarded false f o e = (refl, e)
-
-both_none : {A : Type 0} (a b : Option A) → option_or a b ≡ None → (a ≡ None) × (b ≡ None)
-both_none None b e = (refl, e)
-both_none (Some a) b e = absurd cc
-
 pub record HasNoFault (rows : List Row) (m : Move) : Type 0 where
   pub in_range : m.tet < length rows
   pub facets : first_some (λ i. facet_fault rows m i (facet rows m i)) (found_labels m) ≡ None
@@ -208,9 +199,6 @@ apart_before rows m h c i k f g low less high ef eg t = by_case (cases_lt k 4)
         let is : n.facet_of ≡ f = same_some (facet rows m i) n.facet_of f n.is ef in
         let here : m.tet ≡ n.facet_of.tet = ap (λ (x : Facet). x.tet) own ∙ sym t ∙ sym (ap (λ (x : Facet). x.tet) is) in
         (not_head m.tet n.facet_of.tet (has (tets_of (facet rows m) (filter (λ l. nat_lt l i) (found_labels m))) n.facet_of.tet) n.new).0 here
-
-lesser : (a b : ℕ) → (a ≡ b → ⊥) → (a < b) ⊎ (b < a)
-lesser a b d = elim (cases_lt a b) [ inl l ↦ inl l | inr l ↦ inr (omega arith) ]
 
 pub facets_apart : (rows : List Row) (m : Move) → HasNoFault rows m → IsCore m.core → AreApart (facet rows m) (old_labels m)
 facets_apart rows m h c k l f g hk hl ek el t = by_case (cases_eq k l)

@@ -8,7 +8,7 @@ use Rattle.table_definitions.specs.Lists.{has, closed_up}
 use Rattle.table_definitions.proofs.TableLaws.{Among}
 use Rattle.move_definitions.specs.Moves.{Facet}
 use Rattle.table_definitions.specs.Replaceable.{gone_before}
-use Rattle.table_definitions.proofs.Ranks.{rank, one_if, stays, rank-suc, count_whole, of_rank}
+use Rattle.table_definitions.proofs.Ranks.{rank, one_if, stays, rank-suc, count_whole, of_rank, gone_before-suc}
 
 pub Among_from_has : (ns : List ℕ) (n : ℕ) → has ns n ≡ true → Among n ns
 Among_from_has [] n h = absurd (false≢true h)
@@ -142,15 +142,6 @@ length-tets F (l ∷ ls) all =
     ap (λ (o : Option Facet). length (map tet_of (cons_option o (filter_map F ls)))) here.1 ∙ ap suc later
 
 -- numbers that close up over those that are taken out, each once
-
-gone_before-suc : (gone : List ℕ) (t : ℕ) → gone_before gone (suc t) ≡ gone_before gone t + count_by (λ u. u == t) gone
-gone_before-suc [] t = refl
-gone_before-suc (x ∷ xs) t =
-    let a : gone_before (x ∷ xs) (suc t) ≡ one_if (nat_lt x (suc t)) + gone_before xs (suc t) = sum_by-cons (λ u. one_if (nat_lt u (suc t))) x xs in
-    let b : gone_before (x ∷ xs) t ≡ one_if (nat_lt x t) + gone_before xs t = sum_by-cons (λ u. one_if (nat_lt u t)) x xs in
-    let c : count_by (λ u. u == t) (x ∷ xs) ≡ one_if (x == t) + count_by (λ u. u == t) xs = sum_by-cons (λ u. one_if (u == t)) x xs in
-    let d : one_if (nat_lt x (suc t)) ≡ one_if (nat_lt x t) + one_if (x == t) = grind arith in
-    omega (arith, gone_before-suc xs t)
 
 never_counted : (xs : List ℕ) (t : ℕ) → has xs t ≡ false → count_by (λ u. u == t) xs ≡ 0
 never_counted [] t h = refl

@@ -11,7 +11,7 @@ use Rattle.move_definitions.specs.Moves.{Move, opposite, kept, new_length, new_f
 use Rattle.move_definitions.specs.Laws.{MovesMakeTables, InversesLeadOnlyBack}
 use Rattle.table_definitions.proofs.ListFacts.{list_all-below, same_list-true}
 use Rattle.table_definitions.proofs.Permutations.{image_below, image-inverse, inverse_permutes, preimage-image, inverse-of-compose, inverse-inverse, compose_permutes, compose-compose}
-use Rattle.table_definitions.proofs.Carried.{IsGood, not_from, same_from, same_to}
+use Rattle.table_definitions.proofs.Carried.{IsGood, not_from, same_from, same_to, carried_back as turned}
 use Rattle.move_laws.proofs.CoreTests.{core_size}
 use Rattle.move_laws.proofs.Labels.{ascending, new_labels, HasVertex, vertex_at, length-labels, image-map}
 use Rattle.move_laws.proofs.Legal.{HasNoFault, no_fault}
@@ -68,16 +68,6 @@ good_inner old m new h j l hj hl d = record {
     apart_tets e = omega arith
 
 -- the other faces
-
-turned : (s r p : List ℕ) → IsPermutationOfFour s → IsPermutationOfFour r → IsPermutationOfFour p → compose s (compose (inverse p) (inverse r)) ≡ inverse (compose r (compose p (inverse s)))
-turned s r p hs hr hp =
-    let qs = inverse_permutes s hs in
-    let qr = inverse_permutes r hr in
-    let qp = inverse_permutes p hp in
-    let e1 = inverse-of-compose r (compose p (inverse s)) hr (compose_permutes p (inverse s) hp qs) in
-    let e2 = inverse-of-compose p (inverse s) hp qs in
-    let e3 = inverse-inverse s hs in
-    sym (e1 ∙ ap (λ q. compose q (inverse r)) (e2 ∙ ap (λ q. compose q (inverse p)) e3) ∙ compose-compose s (inverse p) (inverse r) hs qp qr)
 
 itself : (w : Face) → same_face w w ≡ true
 itself w = same_to w.tet w.tet w.face w.face refl refl

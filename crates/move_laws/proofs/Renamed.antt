@@ -49,7 +49,7 @@ renamed-old s i l = ap (λ b. if b then (if i == 0 then 4 else i + (4 - s)) else
 new_test : ℕ → ℕ → Bool
 new_test s j = not (nat_lt j s) || not (nat_lt (renamed s j) (5 - s))
 
-un_lt : (l s : ℕ) → not (nat_lt l s) ≡ true → s ≤ l
+pub un_lt : (l s : ℕ) → not (nat_lt l s) ≡ true → s ≤ l
 un_lt l s h = grind arith
 
 pub renamed-new : (s j : ℕ) → s < 5 → j < s → 5 - s ≤ renamed s j

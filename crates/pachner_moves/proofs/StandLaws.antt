@@ -18,25 +18,9 @@ use Rattle.pachner_moves.proofs.FacetLaws.{new_is_facet, core_few}
 use Rattle.pachner_moves.proofs.LegalLaws.{IsLegal}
 use Rattle.pachner_moves.proofs.NumberLaws.{picked-up, picked-within}
 use Rattle.pachner_moves.proofs.ListedLaws.{tets, tet_of_old, old_of_tet, stand_old, stand_kept, facet_put, facet_none, taken-has, length-taken, closed-taken}
+use Rattle.table_definitions.proofs.Carried.{carried_image as image_under, carried_back as back_under}
 
 -- a gluing that is carried over
-
-pub image_under : (s r p : List ℕ) (f : ℕ) → IsPermutationOfFour s → IsPermutationOfFour r → IsPermutationOfFour p → f < 4 → image (compose r (compose p (inverse s))) (image s f) ≡ image r (image p f)
-image_under s r p f hs hr hp l =
-    let k : image s f < 4 = image_below s hs f l in
-    let q = inverse_permutes s hs in
-    image-compose r (compose p (inverse s)) (compose_permutes p (inverse s) hp q) (image s f) k
-    ∙ ap (image r) (image-compose p (inverse s) q (image s f) k ∙ ap (image p) (image-inverse s (image s f) k ∙ preimage-image s hs f l))
-
-pub back_under : (s r p : List ℕ) → IsPermutationOfFour s → IsPermutationOfFour r → IsPermutationOfFour p → compose s (compose (inverse p) (inverse r)) ≡ inverse (compose r (compose p (inverse s)))
-back_under s r p hs hr hp =
-    let qs = inverse_permutes s hs in
-    let qr = inverse_permutes r hr in
-    let qp = inverse_permutes p hp in
-    let e1 = inverse-of-compose r (compose p (inverse s)) hr (compose_permutes p (inverse s) hp qs) in
-    let e2 = inverse-of-compose p (inverse s) hp qs in
-    let e3 = inverse-inverse s hs in
-    sym (e1 ∙ ap (λ q. compose q (inverse r)) (e2 ∙ ap (λ q. compose q (inverse p)) e3) ∙ compose-compose s (inverse p) (inverse r) hs qp qr)
 
 pub under_permutes : (s r g : Gluing) → IsPermutationOfFour s.perm → IsPermutationOfFour r.perm → IsPermutationOfFour g.perm → IsPermutationOfFour (gluing_under s r g).perm
 under_permutes s r g hs hr hg = compose_permutes r.perm (compose g.perm (inverse s.perm)) hr (compose_permutes g.perm (inverse s.perm) hg (inverse_permutes s.perm hs))

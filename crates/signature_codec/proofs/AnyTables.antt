@@ -22,7 +22,7 @@ pub record ReadsTable (c : Reading) (rows : List Row) (d : Reading) : Type 0 whe
   pub table : IsTable rows
   pub fewer : length d.later ≤ length c.later
 
-texted_ok : {A : Type 0} (r : Result A TextFault) (x : A) → texted r ≡ Ok x → r ≡ Ok x
+pub texted_ok : {A : Type 0} (r : Result A TextFault) (x : A) → texted r ≡ Ok x → r ≡ Ok x
 texted_ok (Ok y) x e = let same : y ≡ x = cc in cc
 texted_ok (Err f) x e = absurd cc
 
@@ -30,7 +30,7 @@ texted_ok (Err f) x e = absurd cc
 worded_ok : {A : Type 0} (r : Result A LexFault) (x : A) → texted (lexed r) ≡ Ok x → r ≡ Ok x
 worded_ok r x e = lexed_ok r x (texted_ok (lexed r) x e)
 
-decoded_ok : (end : Reading) (r : Result (List Row) SigFault) (rows : List Row) (d : Reading) → decoded end r ≡ Ok (rows, d) → (r ≡ Ok rows) × (end ≡ d)
+pub decoded_ok : (end : Reading) (r : Result (List Row) SigFault) (rows : List Row) (d : Reading) → decoded end r ≡ Ok (rows, d) → (r ≡ Ok rows) × (end ≡ d)
 decoded_ok end (Ok made) rows d e =
     let both : (made, end) ≡ (rows, d) = cc in
     (ap (λ (p : List Row × Reading). Ok p.0) both, ap (λ (p : List Row × Reading). p.1) both)

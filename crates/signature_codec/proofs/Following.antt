@@ -17,6 +17,7 @@ use Rattle.signature_codec.proofs.WalkLaws.{if_true, if_false, some_same}
 use Rattle.signature_codec.proofs.Stepping.{place-face_at, face_at-place}
 use Rattle.signature_codec.proofs.Joined.{BothMet, met_here, met_elsewhere, met_other, met_kept, bound_here, bound_elsewhere, bound_kept, other_face}
 use Rattle.signature_codec.proofs.Walked.{before_at}
+use Rattle.table_definitions.proofs.Kept.{not_true}
 
 -- what the walk does at a face
 pub data Took (rows : List Row) (k : ℕ) (w v : Walking) : Type 0 where
@@ -75,7 +76,7 @@ paired rows p k h table e same =
       back = ap (λ y. way_back y (way_back (face_at p) h)) there ∙ back-back (face_at p) h permutes;
     }
 
-gluing_same : (g h : Gluing) → Some g ≡ Some h → g ≡ h
+pub gluing_same : (g h : Gluing) → Some g ≡ Some h → g ≡ h
 gluing_same g h e = cc
 
 -- a face that is met already
@@ -116,10 +117,6 @@ bound_follows rows k met table l f e = record {
 
     free_k : get_or met k None ≡ None
     free_k = f.unmet k (omega arith) l (λ h glued. absurd (let c = sym e ∙ glued in cc))
-
-not_true : (b : Bool) → not b ≡ true → b ≡ false
-not_true true h = sym h
-not_true false h = refl
 
 -- a face both sides of which are met now
 pub both_unmet : (rows : List Row) (k : ℕ) (g : Gluing) (met : List (Option (Option Gluing))) → IsTable rows → k < 4 * length rows → FollowsMet rows k met → glue rows (face_at k) ≡ Some g → k ≤ place_of (other_side (face_at k) g)

@@ -65,7 +65,7 @@ parts_hold text h s at p parts =
     })
 
 -- the whole text
-drop-past : (i : ℕ) (xs : List ℕ) → length xs ≤ i → drop i xs ≡ []
+pub drop-past : (i : ℕ) (xs : List ℕ) → length xs ≤ i → drop i xs ≡ []
 drop-past zero [] l = refl
 drop-past zero (x ∷ xs) l = absurd (omega arith)
 drop-past (suc i) [] l = refl
@@ -98,7 +98,7 @@ begun_holds : (text : List ℕ) (n at : ℕ) → TypesHold text at (4 * n) at (t
 begun_holds text n at = record { holds = holds_nothing text at; next = omega arith; whole = λ some. (0, refl); counted = omega arith }
 
 -- numbers read and numbers spelled
-map_twice : {A B C : Type 0} (f : B → C) (g : A → B) (xs : List A) → map (λ x. f (g x)) xs ≡ map f (map g xs)
+pub map_twice : {A B C : Type 0} (f : B → C) (g : A → B) (xs : List A) → map (λ x. f (g x)) xs ≡ map f (map g xs)
 map_twice f g [] = refl
 map_twice f g (x ∷ xs) = ap (λ ys. f (g x) ∷ ys) (map_twice f g xs)
 

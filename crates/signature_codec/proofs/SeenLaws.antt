@@ -8,12 +8,9 @@ use Rattle.table_definitions.specs.Table.{Row, glue, is_face_before}
 use Rattle.signature_definitions.specs.WalkOrder.{is_glued_to, is_seen}
 use Rattle.signature_codec.specs.Slots.{face_at}
 use Rattle.signature_codec.proofs.Simulation.{faces-places, by_bool}
+use Rattle.table_definitions.proofs.Marked.{or-false as or_false}
 
 -- a truth value that is neither of two
-
-or_false : (b : Bool) → (b || false) ≡ b
-or_false true = refl
-or_false false = refl
 
 or_assoc : (a b c : Bool) → ((a || b) || c) ≡ (a || (b || c))
 or_assoc true b c = refl

@@ -18,6 +18,7 @@ use Rattle.signature_codec.proofs.ReadLaws.{behind_character, next_ok, types_fro
 use Rattle.signature_codec.proofs.Simulation.{by_bool}
 use Rattle.signature_codec.proofs.TextLaws.{drop-drop}
 use Rattle.signature_codec.proofs.Segments.{Holds, holds_nothing, length-in_values}
+use Rattle.signature_codec.proofs.TypeSegments.{faces_some}
 
 -- a part of what is spelled
 drop-front : (xs zs : List ℕ) → drop (length xs) (map character xs ++ zs) ≡ zs
@@ -158,13 +159,6 @@ right_type n type s l enough few = or_of ((type == 3) || nat_lt s.left (faces_of
 
     lt_leb : (a b : ℕ) → a < b → nat_le b a ≡ false
     lt_leb a b h = grind arith
-
-faces_some : (type : ℕ) → 1 ≤ faces_of_type type
-faces_some type = cases (type == 0)
-  where
-    cases : (b : Bool) → 1 ≤ (if b then 1 else 2)
-    cases true = omega arith
-    cases false = omega arith
 
 type_taken : (n at type : ℕ) (s : Types) → type < 3 → faces_of_type type ≤ s.left → one_of type + s.ones < n → signatures.type_at n at type s ≡ Ok (signatures.counted type s)
 type_taken n at type s l enough few =

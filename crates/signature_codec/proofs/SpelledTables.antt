@@ -34,6 +34,7 @@ use Rattle.signature_codec.proofs.Joined.{free_count}
 use Rattle.signature_codec.proofs.Walked.{all_met}
 use Rattle.signature_codec.proofs.SpelledReads.{holds_split, reads_head, width_fits, types_reads, behind_types, placed, placed_values, length-placed, placed_below, numbers_reads, single_spelled, unless_of}
 use Rattle.signature_codec.proofs.Followed.{type_at, gluing_at, Rest, Follows, Followed, follow, ordered_at}
+use Rattle.signature_codec.proofs.ReadTables.{drop-past, map_twice}
 
 -- the tetrahedra and the indices that a table's text names
 abbrev pub tets_of : List Row → List ℕ
@@ -225,12 +226,6 @@ spelled_joins rows w at next table ordered =
 
 -- the whole text
 
-drop-past : (i : ℕ) (xs : List ℕ) → length xs ≤ i → drop i xs ≡ []
-drop-past zero [] l = refl
-drop-past zero (x ∷ xs) l = absurd (omega arith)
-drop-past (suc i) [] l = refl
-drop-past (suc i) (x ∷ xs) l = drop-past i xs (omega arith)
-
 holds_whole : (text vs : List ℕ) → text ≡ map character vs → Holds text 0 vs
 holds_whole text vs e =
     let long : length text ≡ length vs = ap (λ (xs : List ℕ). length xs) e ∙ length-map vs character in
@@ -240,10 +235,6 @@ holds_whole text vs e =
 length-numbers : (w : ℕ) (vs : List ℕ) → length (joined (map (in_values w) vs)) ≡ w * length vs
 length-numbers w [] = omega arith
 length-numbers w (v ∷ vs) = let a = length-append (in_values w v) (joined (map (in_values w) vs)) in let b = length-in_values w v in let c = length-numbers w vs in omega (arith, a, b, c)
-
-map_twice : {A B C : Type 0} (f : B → C) (g : A → B) (xs : List A) → map (λ x. f (g x)) xs ≡ map f (map g xs)
-map_twice f g [] = refl
-map_twice f g (x ∷ xs) = ap (λ ys. f (g x) ∷ ys) (map_twice f g xs)
 
 spelled_values : (rows : List Row) → spelling rows ≡ map character (head_values (length rows) ++ packed (face_types rows) ++ joined (map (in_values (width (length rows))) (tets_of rows)) ++ indices_of rows)
 unfolding spelling_values

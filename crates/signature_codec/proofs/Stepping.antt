@@ -64,7 +64,7 @@ first_of_some : (xs : List (ℕ × ℕ)) → 0 < length xs → xs ≡ signatures
 first_of_some [] l = absurd (omega arith)
 first_of_some (x ∷ xs) l = refl
 
-or_parts : (a b : Bool) → (a || b) ≡ false → (a ≡ false) × (b ≡ false)
+pub or_parts : (a b : Bool) → (a || b) ≡ false → (a ≡ false) × (b ≡ false)
 or_parts true b h = cc
 or_parts false b h = (refl, h)
 

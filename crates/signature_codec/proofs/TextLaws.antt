@@ -11,6 +11,7 @@ use Rattle.table_definitions.specs.Table.{Gluing, Row, Face, glue, other_side, f
 use Rattle.signature_definitions.specs.Spelling.{character, in_values, packed, joined, head_values, width, type_of, face_types, seen_gluings, spelling, spelling_values}
 use Rattle.signature_definitions.specs.WalkOrder.{is_seen}
 use Rattle.signature_codec.specs.Texts.{number_text, destinations_text, indices_text}
+use Rattle.signature_codec.proofs.ReadTables.{drop-past}
 
 -- a number in one more character
 pub number_text-more : (j k v : ℕ) (text : List ℕ) → j ≡ suc k → (text ++ character (v % 64) ∷ []) ++ number_text k (v / 64) ≡ text ++ number_text j v
@@ -50,12 +51,6 @@ packed-more i v ts text l e =
     ∙ ap (λ rest. text ++ (character v ∷ map character (packed rest))) (sym (drop-drop i 3 ts))
     ∙ ap (λ n. text ++ (character n ∷ map character (packed (drop 3 (drop i ts))))) (sym same)
     ∙ ap (λ ns. text ++ map character ns) (sym (packed_front (drop i ts) some))
-
-drop-past : (i : ℕ) (xs : List ℕ) → length xs ≤ i → drop i xs ≡ []
-drop-past zero [] l = refl
-drop-past zero (x ∷ xs) l = absurd (omega arith)
-drop-past (suc i) [] l = refl
-drop-past (suc i) (x ∷ xs) l = drop-past i xs (omega arith)
 
 pub packed-none : (i : ℕ) (ts text : List ℕ) → length ts ≤ i → text ++ map character (packed (drop i ts)) ≡ text
 packed-none i ts text l = rw (drop-past i ts l) (append-nil text)

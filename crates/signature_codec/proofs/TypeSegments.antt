@@ -55,7 +55,7 @@ packed-more (suc k) (a ∷ []) ys e = absurd (omega arith)
 packed-more (suc k) (a ∷ b ∷ []) ys e = absurd (omega arith)
 packed-more (suc k) (a ∷ b ∷ c ∷ xs) ys e = ap (λ zs. (a + 4 * b + 16 * c) ∷ zs) (packed-more k xs ys (omega arith))
 
-faces_some : (type : ℕ) → 1 ≤ faces_of_type type
+pub faces_some : (type : ℕ) → 1 ≤ faces_of_type type
 faces_some type = cases (type == 0)
   where
     cases : (b : Bool) → 1 ≤ (if b then 1 else 2)

@@ -17,6 +17,7 @@ use Rattle.signature_codec.specs.declared.faults.SpellFault.{SpellFault}
 use Rattle.signature_codec.specs.declared.faults.SpellFault.TheVariants.{NoMemory, NotOrdered}
 use Rattle.signature_codec.proofs.Simulation.{faces-places, by_bool}
 use Rattle.signature_codec.proofs.SeenLaws.{is_seen-more, is_seen-begun, is_seen-later, below-more, or_left}
+use Rattle.table_definitions.proofs.Marked.{or-false as or_none}
 
 -- an item that there may be, as a list
 abbrev pub listed : {A : Type 0} → Option A → List A
@@ -118,13 +119,13 @@ walk_more rows k w v o t q l h e seen ordered type gluing types gluings most = r
   most = most;
 }
 
-seen_same : (u s t : ℕ) → t < s → (nat_lt u s || (t == u)) ≡ nat_lt u s
+pub seen_same : (u s t : ℕ) → t < s → (nat_lt u s || (t == u)) ≡ nat_lt u s
 seen_same u s t l = ⊎_elim
     (λ (b : u < s). or_left (nat_lt u s) (t == u) (lt-ltb u s b) ∙ sym (lt-ltb u s b))
     (λ (b : s ≤ u). let ne : (t == u) ≡ false = by_bool (t == u) (λ e. absurd (let f = eqb-true t u e in omega (arith, f))) (λ e. e) in rw (le-ltb u s b, ne) refl)
     (cases_lt u s)
 
-seen_next : (u s t : ℕ) → t ≡ s → (nat_lt u s || (t == u)) ≡ nat_lt u (s + 1)
+pub seen_next : (u s t : ℕ) → t ≡ s → (nat_lt u s || (t == u)) ≡ nat_lt u (s + 1)
 seen_next u s t same = ⊎_elim
     (λ (b : u < s). or_left (nat_lt u s) (t == u) (lt-ltb u s b) ∙ sym (lt-ltb u (s + 1) (omega arith)))
     (λ (b : s ≤ u). ⊎_elim
@@ -132,10 +133,6 @@ seen_next u s t same = ⊎_elim
     (λ (ne : t ≡ u → ⊥). let f : s + 1 ≤ u = omega arith in let g : (t == u) ≡ false = by_bool (t == u) (λ e. absurd (ne (eqb-true t u e))) (λ e. e) in rw (le-ltb u s b, g, le-ltb u (s + 1) f) refl)
     (cases_eq t u))
     (cases_lt u s)
-
-or_none : (b : Bool) → (b || false) ≡ b
-or_none true = refl
-or_none false = refl
 
 pub some_same : (w v : Walking) → Some w ≡ Some v → w ≡ v
 some_same w v e = cc

@@ -53,7 +53,7 @@ comes_from n by h u l = from (Contains-permutation (below n) by.images u (IsPerm
     from : Contains by.images u → (t : ℕ) × (t < n) × (slice_index by.images t ≡ u)
     from (t, m, e) = (t, rw (← length-images n by h) m, get_or-any by.images t 0 u m ∙ e)
 
-lesser : (a b : ℕ) → (a ≡ b → ⊥) → (a < b) ⊎ (b < a)
+pub lesser : (a b : ℕ) → (a ≡ b → ⊥) → (a < b) ⊎ (b < a)
 lesser a b d = elim (cases_lt a b) [ inl l ↦ inl l | inr l ↦ inr (omega arith) ]
 
 pub images_apart : (n : ℕ) (by : Relabelling) → IsRelabelling n by → (t u : ℕ) → t < n → u < n → slice_index by.images t ≡ slice_index by.images u → t ≡ u
@@ -65,7 +65,7 @@ images_apart n by h t u lt lu e = by_order (cases_eq t u)
 
 -- the permutation of a gluing that was carried goes the carried way
 
-carried_image : (s r p : List ℕ) (f : ℕ) → IsPermutationOfFour s → IsPermutationOfFour r → IsPermutationOfFour p → f < 4
+pub carried_image : (s r p : List ℕ) (f : ℕ) → IsPermutationOfFour s → IsPermutationOfFour r → IsPermutationOfFour p → f < 4
     → image (compose r (compose p (inverse s))) (image s f) ≡ image r (image p f)
 carried_image s r p f hs hr hp l =
     let k : image s f < 4 = image_below s hs f l in
@@ -73,7 +73,7 @@ carried_image s r p f hs hr hp l =
     image-compose r (compose p (inverse s)) (compose_permutes p (inverse s) hp q) (image s f) k
     ∙ ap (image r) (image-compose p (inverse s) q (image s f) k ∙ ap (image p) (image-inverse s (image s f) k ∙ preimage-image s hs f l))
 
-carried_back : (s r p : List ℕ) → IsPermutationOfFour s → IsPermutationOfFour r → IsPermutationOfFour p
+pub carried_back : (s r p : List ℕ) → IsPermutationOfFour s → IsPermutationOfFour r → IsPermutationOfFour p
     → compose s (compose (inverse p) (inverse r)) ≡ inverse (compose r (compose p (inverse s)))
 carried_back s r p hs hr hp =
     let qs = inverse_permutes s hs in

@@ -14,7 +14,7 @@ use Rattle.text_definitions.specs.Text.{decimal_value, is_decimal, digits_value}
 use Rattle.table_definitions.specs.TableText.{permutation_of, gluing_parts, gluing_of}
 use Rattle.table_definitions.specs.Grammar.{IsNumber, IsGluingWord}
 use Rattle.table_definitions.proofs.ListLaws.{same_list-true}
-use Rattle.table_definitions.proofs.Permutations.{by_words}
+use Rattle.table_definitions.proofs.Permutations.{by_words, permutation_of-digits}
 
 -- the byte `:`
 abbrev is_colon : ℕ → Bool
@@ -32,22 +32,6 @@ permutation_of-some w p e =
     let parts : ((same_list (digits_of q) w && is_permutation q) ≡ true) × (q ≡ p) = guard_some (same_list (digits_of q) w && is_permutation q) q p e in
     let tests : (same_list (digits_of q) w ≡ true) × (is_permutation q ≡ true) = and_parts (same_list (digits_of q) w) (is_permutation q) parts.0 in
     (ap digits_of (sym parts.1) ∙ same_list-true (digits_of q) w tests.0, subst (λ (r : List ℕ). IsPermutationOfFour r) parts.1 tests.1)
-
--- the digits of a permutation give it
-is_given : Option (List ℕ) → List ℕ → Bool
-is_given None q = false
-is_given (Some r) q = same_list r q
-
-given : (o : Option (List ℕ)) (q : List ℕ) → is_given o q ≡ true → o ≡ Some q
-unfolding is_given
-given None q e = absurd (false≢true e)
-given (Some r) q e = ap (λ (s : List ℕ). Some s) (same_list-true r q e)
-
-permutation_of-digits : (p : List ℕ) → IsPermutationOfFour p → permutation_of (digits_of p) ≡ Some p
-permutation_of-digits p h = given (permutation_of (digits_of p)) p (by_words (λ q. is_given (permutation_of (digits_of q)) q) tests p h)
-  where
-    tests : list_all (λ q. is_given (permutation_of (digits_of q)) q) words ≡ true
-    tests = unfold is_given permutation_of is_permutation in refl
 
 -- a permutation has digits
 digits_some : (p : List ℕ) → IsPermutationOfFour p → 0 < length (digits_of p)

@@ -44,7 +44,7 @@ as_many rows r can =
     let c : length (fresh_numbers r) ≡ length r.fresh = length-map r.fresh (λ (x : ℕ × Row). x.0) in
     omega arith
 
-not_true : (b : Bool) → not b ≡ true → b ≡ false
+pub not_true : (b : Bool) → not b ≡ true → b ≡ false
 not_true true h = sym h
 not_true false h = refl
 

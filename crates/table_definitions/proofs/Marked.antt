@@ -12,7 +12,7 @@ mark_same marks j l = get_or-set_same marks j true false l
 pub mark_other : (marks : List Bool) (j i : ℕ) → i ≢ j → get_or (slice_set marks j true) i false ≡ get_or marks i false
 mark_other marks j i d = get_or-set_other marks j i true false d
 
-or-false : (b : Bool) → (b || false) ≡ b
+pub or-false : (b : Bool) → (b || false) ≡ b
 or-false true = refl
 or-false false = refl
 

@@ -118,7 +118,7 @@ position_is_rank p n u l h =
 abbrev pub stays : List ℕ → ℕ → Bool
 stays gone t = not (has gone t)
 
-gone_before-suc : (gone : List ℕ) (t : ℕ) → gone_before gone (suc t) ≡ gone_before gone t + count_by (λ u. u == t) gone
+pub gone_before-suc : (gone : List ℕ) (t : ℕ) → gone_before gone (suc t) ≡ gone_before gone t + count_by (λ u. u == t) gone
 gone_before-suc [] t = refl
 gone_before-suc (x ∷ xs) t =
     let a : gone_before (x ∷ xs) (suc t) ≡ one_if (nat_lt x (suc t)) + gone_before xs (suc t) = sum_by-cons (λ u. one_if (nat_lt u (suc t))) x xs in

@@ -58,7 +58,7 @@ word_taken (word column v ∷ ts) c w d e =
     record { column = column; rest = ts; tokens = ap (λ (u : List ℕ). word column u ∷ ts) parts.0; left = sym parts.1 }
 
 -- a number that was read
-number_taken : (max : ℕ) (w : List ℕ) (o : Option ℕ) (c : Reading) (n : ℕ) (d : Reading) → decimal_value w ≡ o → number_up_to max o c ≡ Ok (n, d) → IsNumber max w n × (d ≡ c)
+pub number_taken : (max : ℕ) (w : List ℕ) (o : Option ℕ) (c : Reading) (n : ℕ) (d : Reading) → decimal_value w ≡ o → number_up_to max o c ≡ Ok (n, d) → IsNumber max w n × (d ≡ c)
 number_taken max w None c n d v e = absurd cc
 number_taken max w (Some m) c n d v e = by_test (nat_lt max m) refl e
   where
@@ -150,7 +150,7 @@ exactly_read wanted ts c d e =
     record { column = w.column; rest = w.rest; tokens = w.tokens ∙ ap (λ (u : List ℕ). word w.column u ∷ w.rest) taken.0; left = sym taken.1 ∙ w.left }
 
 -- What is in the grammar is read.
-number_found : (max : ℕ) (w : List ℕ) (n : ℕ) (c : Reading) → IsNumber max w n → number_up_to max (decimal_value w) c ≡ Ok (n, c)
+pub number_found : (max : ℕ) (w : List ℕ) (n : ℕ) (c : Reading) → IsNumber max w n → number_up_to max (decimal_value w) c ≡ Ok (n, c)
 number_found max w n c h = ap (λ (o : Option ℕ). number_up_to max o c) h.value ∙ in_range
   where
     in_range : number_up_to max (Some n) c ≡ Ok (n, c)

@@ -55,7 +55,7 @@ no_entries [] z = refl
 no_entries (w ∷ ws) z = absurd z
 
 -- an entry's word is read as it
-no_dash : (w : List ℕ) (g : Gluing) → gluing_of w ≡ Some g → same_list w (codes "-") ≡ false
+pub no_dash : (w : List ℕ) (g : Gluing) → gluing_of w ≡ Some g → same_list w (codes "-") ≡ false
 no_dash w g e = by_test (same_list w (codes "-")) refl
   where
     dash_is_none : gluing_of (codes "-") ≡ None

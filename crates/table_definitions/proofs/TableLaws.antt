@@ -56,7 +56,7 @@ Among-faces x n ht hf =
     (Among-pairs x.tet x.face (below n) four (Among-below x.tet n ht) (Among-four x.face hf))
 
 -- where nothing is found first, nothing is found at any item
-none_parts : {A : Type 0} (a b : Option A) → option_or a b ≡ None → (a ≡ None) × (b ≡ None)
+pub none_parts : {A : Type 0} (a b : Option A) → option_or a b ≡ None → (a ≡ None) × (b ≡ None)
 none_parts None b e = (refl, e)
 none_parts (Some x) b e = (e, cc)
 
@@ -103,7 +103,7 @@ is_glued_by-itself g = and_from (eqb g.tet g.tet) (same_list g.perm g.perm) (eq-
 is_glued_by-from : (o : Option Gluing) (g : Gluing) → o ≡ Some g → is_glued_by o g ≡ true
 is_glued_by-from o g e = subst (λ (p : Option Gluing). is_glued_by p g ≡ true) (sym e) (is_glued_by-itself g)
 
-guarded : {A : Type 0} (b : Bool) (f : A) (o : Option A) → (if b then Some f else o) ≡ None → (b ≡ false) × (o ≡ None)
+pub guarded : {A : Type 0} (b : Bool) (f : A) (o : Option A) → (if b then Some f else o) ≡ None → (b ≡ false) × (o ≡ None)
 guarded true f o e = absurd cc
 guarded false f o e = (refl, e)
 

@@ -80,7 +80,7 @@ line_begun [] c d e = absurd cc
 line_begun (l ∷ ls) c d e = record { line = l; rest = ls; lines = refl; left = cc }
 
 -- a line that was ended
-line_ended : (ts : List Token) (c d : Reading) → end_line_at (with_tokens ts c) ≡ Ok d → (ts ≡ []) × (d ≡ with_tokens [] c)
+pub line_ended : (ts : List Token) (c d : Reading) → end_line_at (with_tokens ts c) ≡ Ok d → (ts ≡ []) × (d ≡ with_tokens [] c)
 unfolding end_line_at
 line_ended [] c d e = (refl, cc)
 line_ended (stray column ∷ ts) c d e = absurd cc

@@ -5,6 +5,7 @@ use Rattle.std.specs.Prelude.{codes}
 use Rattle.table_definitions.specs.Table.{Gluing, Row}
 use Rattle.text_definitions.specs.Text.{tokens_from, word, stray}
 use Rattle.table_definitions.specs.TableText.{table_text}
+use Rattle.text_definitions.proofs.Examples.{tokens_lem}
 
 glued : ℕ → List ℕ → Option Gluing
 glued t p = Some (record { tet = t; perm = p })
@@ -12,11 +13,6 @@ glued t p = Some (record { tet = t; perm = p })
 -- the table `bkaagj`
 sphere : List Row
 sphere = (glued 0 (1 ∷ 0 ∷ 2 ∷ 3 ∷ []) ∷ glued 0 (1 ∷ 0 ∷ 2 ∷ 3 ∷ []) ∷ glued 0 (1 ∷ 2 ∷ 3 ∷ 0 ∷ []) ∷ glued 0 (3 ∷ 0 ∷ 1 ∷ 2 ∷ []) ∷ []) ∷ []
-
--- words with their columns, and a byte that is none of words
-tokens_lem : tokens_from 1 (codes " tri  10" ++ 1 ∷ codes "x") ≡ word 2 (codes "tri") ∷ word 7 (codes "10") ∷ stray 9 ∷ word 10 (codes "x") ∷ []
-unfolding computed
-tokens_lem = refl
 
 unfoldable pub sphere_text : List ℕ
 sphere_text = codes "tri 1" ++ 10 ∷ codes "0:1023 0:1023 0:1230 0:3012" ++ 10 ∷ []
