@@ -1,5 +1,5 @@
 -- The union of a pair has at most two columns more than there are rows.
-use Rattle.std.proofs.Common.{◌≡◌, ℕ, ◌+◌, ◌<◌, ◌≤◌, List, length, subst, arith}
+use Rattle.std.proofs.Common.{◌≡◌, ℕ, ◌+◌, ◌<◌, List, length, subst, arith}
 use Rattle.cone_definitions.specs.Rows.{Row}
 use Rattle.cone_definitions.specs.Surfaces.{Clash, IsSurfaceList}
 use Rattle.support_bits.specs.Columns.{support_of}
