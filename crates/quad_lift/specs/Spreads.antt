@@ -1,5 +1,5 @@
 -- Heights that are being spread over the vertices of a table. They begin at four times the sum of the quads.
-use Rattle.std.specs.Prelude.{◌≡◌, ℕ, ◌+◌, ◌*◌, ◌/◌, ◌<◌, ◌≤◌, Bool, false, List, length, sum, sum_by, slice_index, if◌then◌else◌}
+use Rattle.std.specs.Prelude.{◌≡◌, ℕ, ◌+◌, ◌*◌, ◌/◌, ◌<◌, ◌≤◌, Bool, false, List, length, take, sum, sum_by, slice_index, if◌then◌else◌}
 use Rattle.std.specs.List.{slice_index_or, filter_map}
 use Rattle.table_definitions.specs.Lists.{below}
 use Rattle.table_definitions.specs.Table.{Row}
@@ -12,6 +12,10 @@ use Rattle.vector_laws.specs.LiftLaws.{AreHeights}
 -- the vertices across the faces at vertex i
 unfoldable pub vertices_round : List Row → ℕ → List ℕ
 vertices_round rows i = filter_map (λ o. o) (row_at (crossed_vertex rows) i)
+
+-- those across the faces before face f
+abbrev pub round_before : List Row → ℕ → ℕ → List ℕ
+round_before rows i f = filter_map (λ o. o) (take f (row_at (crossed_vertex rows) i))
 
 -- all quads of the tetrahedron of vertex i
 unfoldable pub quads_beside : List ℕ → ℕ → ℕ

@@ -2,13 +2,10 @@
 //! vertex of each class, where they begin so high that none falls below 0.
 
 ghost use Rattle.std.specs.Prelude.{◌≡◌, ◌≢◌, ℕ, ◌+◌, ◌*◌, ◌%◌, ◌<◌, ◌≤◌, Bool, true, false, List, [], length, take, sum, slice_set, slice_index_or, IfOk, OnOk};
-ghost use Rattle.std.specs.List.{filter_map};
 ghost use Rattle.text_definitions.specs.Written.{limit};
 ghost use Rattle.finite_walks.specs.Search.{IsMarked, IsClosed, IsSearch, IsTurn, work_left};
 ghost use Rattle.skeleton_definitions.specs.Skeleton.{IsSkeleton};
-ghost use Rattle.skeleton.specs.Neighbours.{row_at};
-ghost use Rattle.skeleton.specs.Crossings.{crossed_vertex};
-ghost use Rattle.quad_lift.specs.Spreads.{vertices_round, AreSpread, AreAllSpread};
+ghost use Rattle.quad_lift.specs.Spreads.{vertices_round, round_before, AreSpread, AreAllSpread};
 
 use crate::crossing::across;
 use skeleton::Skeleton;
@@ -32,7 +29,7 @@ fn cross(
     requires a_face { face < 4 }
     ensures spread { OnOk result (AreSpread skeleton.now x.now marked.new heights.new) }
     ensures kept { OnOk result ((i : ℕ) → IsMarked marked.old i → IsMarked marked.new i) }
-    ensures turn { OnOk result ((first : List Bool) → IsTurn (vertices_round skeleton.now.rows) first vertex (filter_map (λ o. o) (take face (row_at (crossed_vertex skeleton.now.rows) vertex))) marked.old pending.old.items → IsTurn (vertices_round skeleton.now.rows) first vertex (filter_map (λ o. o) (take (face + 1) (row_at (crossed_vertex skeleton.now.rows) vertex))) marked.new pending.new.items) }
+    ensures turn { OnOk result ((first : List Bool) → IsTurn (vertices_round skeleton.now.rows) first vertex (round_before skeleton.now.rows vertex face) marked.old pending.old.items → IsTurn (vertices_round skeleton.now.rows) first vertex (round_before skeleton.now.rows vertex (face + 1)) marked.new pending.new.items) }
     ensures work { OnOk result (work_left marked.new pending.new.items ≡ work_left marked.old pending.old.items) }
 {
     let Some(step) = across(skeleton, x, vertex, face) else {

@@ -1,14 +1,13 @@
 -- The heights are spread, and the faces before are done.
 use Rattle.std.proofs.Common.{◌≡◌, List, Bool}
 use Rattle.finite_walks.specs.Search.{IsMarked, IsTurn, work_left}
-use Rattle.quad_lift.specs.Spreads.{vertices_round, AreSpread}
-use Rattle.quad_lift.proofs.RoundTurns.{done}
+use Rattle.quad_lift.specs.Spreads.{vertices_round, round_before, AreSpread}
 use Rattle.quad_lift.proofs.heights.cross_all.Given as goal
 
 abbrev pub invariant-loop-face : goal.invariant-loop-face
 invariant-loop-face l = record {
   spread : AreSpread l.skeleton l.x l.marked l.heights;
   still_marked : IsMarked l.marked l.vertex;
-  turn : (first : List Bool) → IsTurn (vertices_round l.skeleton.rows) first l.vertex (done l.skeleton.rows l.vertex 0) l.initial.marked l.initial.pending.items → IsTurn (vertices_round l.skeleton.rows) first l.vertex (done l.skeleton.rows l.vertex l.face) l.marked l.pending.items;
+  turn : (first : List Bool) → IsTurn (vertices_round l.skeleton.rows) first l.vertex (round_before l.skeleton.rows l.vertex 0) l.initial.marked l.initial.pending.items → IsTurn (vertices_round l.skeleton.rows) first l.vertex (round_before l.skeleton.rows l.vertex l.face) l.marked l.pending.items;
   work : work_left l.marked l.pending.items ≡ work_left l.initial.marked l.initial.pending.items;
 }
