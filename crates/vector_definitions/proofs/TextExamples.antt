@@ -5,10 +5,11 @@ use Rattle.std.specs.Prelude.{Err, codes}
 use Rattle.table_definitions.proofs.Tables.{sphere, table_jj}
 use Rattle.surface_definitions.specs.declared.Coords.TheVariants.{Standard, Octagon}
 use Rattle.surface_definitions.specs.Equations.{matching_rows}
-use Rattle.surface_definitions.specs.declared.VectorFault.TheVariants.{Length, Large, NotSolution, Clash}
+use Rattle.surface_definitions.specs.declared.VectorFault.TheVariants as faults
 use Rattle.vector_definitions.specs.Components.{Component}
 use Rattle.vector_definitions.specs.declared.Sum.TheVariants.{Points}
-use Rattle.vector_definitions.specs.Answers.{Description, verdict_in, unfit, large_sum, too_many_pieces, large_lift, no_lift}
+use Rattle.vector_definitions.specs.Answers.{Description, verdict_in}
+use Rattle.vector_definitions.specs.declared.Refusal.TheVariants as causes
 use Rattle.vector_definitions.specs.Texts.{line, description_text, lifts_text, refusal_line, invalid_edge_line}
 use Rattle.vector_definitions.proofs.Evaluators.{skeleton_of, properties_of}
 
@@ -29,16 +30,16 @@ lifts : lifts_text ((1 ∷ 1 ∷ 0 ∷ 0 ∷ 1 ∷ 0 ∷ 0 ∷ []) ∷ []) ≡ l
 unfolding computed lifts_text
 lifts = refl
 
-refusals : (refusal_line 0 (unfit (Err (NotSolution 0))) ≡ line (codes "refused: vector 0 fails 0")) × (refusal_line 0 (unfit (Err (Clash 1 2))) ≡ line (codes "refused: vector 0 clash 1 2"))
-    × (refusal_line 3 (unfit (Err (Length 6))) ≡ line (codes "refused: vector 3 length 6")) × (refusal_line 0 (unfit (Err (Large 4))) ≡ line (codes "refused: vector 0 large 4"))
-    × (refusal_line 0 (large_sum Points) ≡ line (codes "refused: vector 0 large-sum points")) × (refusal_line 0 (too_many_pieces 100004) ≡ line (codes "refused: vector 0 too-many-pieces 100004"))
-    × (refusal_line 0 large_lift ≡ line (codes "refused: vector 0 large-lift")) × (refusal_line 0 (no_lift 0) ≡ line (codes "refused: vector 0 no-lift 0"))
+refusals : (refusal_line 0 (causes.Unfit (faults.NotSolution 0)) ≡ line (codes "refused: vector 0 fails 0")) × (refusal_line 0 (causes.Unfit (faults.Clash 1 2)) ≡ line (codes "refused: vector 0 clash 1 2"))
+    × (refusal_line 3 (causes.Unfit (faults.Length 6)) ≡ line (codes "refused: vector 3 length 6")) × (refusal_line 0 (causes.Unfit (faults.Large 4)) ≡ line (codes "refused: vector 0 large 4"))
+    × (refusal_line 0 (causes.LargeSum Points) ≡ line (codes "refused: vector 0 large-sum points")) × (refusal_line 0 (causes.TooManyPieces 100004) ≡ line (codes "refused: vector 0 too-many-pieces 100004"))
+    × (refusal_line 0 causes.LargeLift ≡ line (codes "refused: vector 0 large-lift")) × (refusal_line 0 (causes.NoLift 0) ≡ line (codes "refused: vector 0 no-lift 0"))
     × (invalid_edge_line 3 ≡ line (codes "refused: invalid-edge 3"))
 unfolding computed refusal_line invalid_edge_line
 refusals = (refl, refl, refl, refl, refl, refl, refl, refl, refl)
 
 -- the verdicts before them
-verdicts : (verdict_in Standard sphere (matching_rows Standard sphere) (1 ∷ 0 ∷ 0 ∷ 0 ∷ 0 ∷ 0 ∷ 0 ∷ []) ≡ Err (NotSolution 0))
-    × (verdict_in Octagon sphere (matching_rows Octagon sphere) (0 ∷ 0 ∷ 1 ∷ 1 ∷ 0 ∷ 0 ∷ 0 ∷ 1 ∷ 1 ∷ 0 ∷ []) ≡ Err (NotSolution 1))
+verdicts : (verdict_in Standard sphere (matching_rows Standard sphere) (1 ∷ 0 ∷ 0 ∷ 0 ∷ 0 ∷ 0 ∷ 0 ∷ []) ≡ Err (faults.NotSolution 0))
+    × (verdict_in Octagon sphere (matching_rows Octagon sphere) (0 ∷ 0 ∷ 1 ∷ 1 ∷ 0 ∷ 0 ∷ 0 ∷ 1 ∷ 1 ∷ 0 ∷ []) ≡ Err (faults.NotSolution 1))
 unfolding computed
 verdicts = (refl, refl)

@@ -9,7 +9,8 @@ use Rattle.skeleton_definitions.specs.Skeleton.{Skeleton}
 use Rattle.vector_definitions.specs.Properties.{IsPropertyAnswer}
 use Rattle.vector_definitions.specs.Components.{Component, IsPiecesAnswer}
 use Rattle.cone_definitions.specs.Rows.{Row as EquationRow}
-use Rattle.vector_definitions.specs.Answers.{Description, VectorFault, IsDescription, AreTold}
+use Rattle.vector_definitions.specs.Answers.{Description, IsDescription, AreTold}
+use Rattle.vector_definitions.specs.declared.Refusal.{Refusal}
 
 abbrev pub OnePropertyAnswer : Type 0
 OnePropertyAnswer =
@@ -24,5 +25,5 @@ OnePiecesAnswer =
 -- so is what is told of all vectors of a document
 abbrev pub OneDescriptionEach : Type 0
 OneDescriptionEach =
-    (s : Skeleton) (coords : Coords) (equations : List EquationRow) (vectors : List (List ℕ)) (a b : Result (List Description) (ℕ × VectorFault))
+    (s : Skeleton) (coords : Coords) (equations : List EquationRow) (vectors : List (List ℕ)) (a b : Result (List Description) (ℕ × Refusal))
     → AreTold (IsDescription s coords equations) vectors a → AreTold (IsDescription s coords equations) vectors b → a ≡ b

@@ -1,5 +1,5 @@
 -- What is written of the vectors of a document, and the line for one that is refused.
-use Rattle.std.specs.Prelude.{ℕ, Bool, true, false, ℤ, List, [], ◌∷◌, ◌++◌, length, codes, decimal, sum}
+use Rattle.std.specs.Prelude.{ℕ, Bool, true, false, ℤ, List, [], ◌∷◌, ◌++◌, length, Err, codes, decimal, sum}
 use Rattle.std.specs.Fmt.{signed_decimal}
 use Rattle.std.specs.List.{flat_map}
 use Rattle.cone_text_definitions.specs.VectorText.{vector_text}
@@ -11,7 +11,9 @@ use Rattle.vector_definitions.specs.declared.Properties.{Properties}
 use Rattle.vector_definitions.specs.declared.Sum.{Sum}
 use Rattle.vector_definitions.specs.declared.Sum.TheVariants.{Points, Arcs, PointsAndPieces}
 use Rattle.vector_definitions.specs.Components.{Component}
-use Rattle.vector_definitions.specs.Answers.{Description, VectorFault, unfit, large_sum, too_many_pieces, large_lift, no_lift}
+use Rattle.vector_definitions.specs.Answers.{Description}
+use Rattle.vector_definitions.specs.declared.Refusal.{Refusal}
+use Rattle.vector_definitions.specs.declared.Refusal.TheVariants.{Unfit, LargeSum, TooManyPieces, LargeLift, NoLift}
 
 -- a text as a line
 abbrev pub line : List ℕ → List ℕ
@@ -54,15 +56,15 @@ sum_word Arcs = codes "arcs"
 sum_word PointsAndPieces = codes "points-and-pieces"
 
 -- why a vector is refused, as the end of a line
-abbrev pub fault_text : VectorFault → List ℕ
-fault_text (unfit v) = verdict_text v
-fault_text (large_sum sum) = line (codes "large-sum " ++ sum_word sum)
-fault_text (too_many_pieces n) = line (codes "too-many-pieces " ++ decimal n)
-fault_text large_lift = line (codes "large-lift")
-fault_text (no_lift c) = line (codes "no-lift " ++ decimal c)
+abbrev pub fault_text : Refusal → List ℕ
+fault_text (Unfit fault) = verdict_text (Err fault)
+fault_text (LargeSum sum) = line (codes "large-sum " ++ sum_word sum)
+fault_text (TooManyPieces n) = line (codes "too-many-pieces " ++ decimal n)
+fault_text LargeLift = line (codes "large-lift")
+fault_text (NoLift c) = line (codes "no-lift " ++ decimal c)
 
 -- the line for the vector of this number
-unfoldable pub refusal_line : ℕ → VectorFault → List ℕ
+unfoldable pub refusal_line : ℕ → Refusal → List ℕ
 refusal_line v fault = codes "refused: vector " ++ decimal v ++ codes " " ++ fault_text fault
 
 -- the line for the least edge class that is invalid

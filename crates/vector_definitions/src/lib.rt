@@ -10,6 +10,7 @@ ghost use Rattle.vector_definitions.specs.declared.PiecesFault.TheVariants as pi
 
 use no_memory::NoMemory;
 use std::alloc::{AllocError, AllocFailed};
+use surface_definitions::VectorFault;
 
 /// What is counted of a surface.
 #[derive(Clone, Copy, Debug, PartialEq, Eq)]
@@ -91,6 +92,21 @@ impl From<NoMemory> for PiecesFault {
     fn from(_error: NoMemory) -> PiecesFault {
         PiecesFault::NoMemory
     }
+}
+
+/// Why a vector of a document is refused.
+#[derive(Clone, Copy, Debug, PartialEq, Eq)]
+pub enum Refusal {
+    /// It is no admissible solution.
+    Unfit { fault: VectorFault },
+    /// This sum is the first that passes the maximum.
+    LargeSum { sum: Sum },
+    /// It has more than 100,000 pieces: this many.
+    TooManyPieces { count: u128 },
+    /// Four times the sum of the entries passes the maximum, so a lift could have larger numbers.
+    LargeLift,
+    /// It has no lift at this vertex class, and one at each class before it.
+    NoLift { class: u32 },
 }
 
 /// A vector has one record of properties, or one first sum that is large.
