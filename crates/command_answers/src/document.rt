@@ -1,10 +1,10 @@
 // The documents of the commands.
 ghost use Rattle.std.specs.Prelude.{◌≡◌, ◌≤◌, ◌^◌, length};
 ghost use Rattle.text_definitions.specs.Reading.{Moves, Reads, ReadsFrom};
-ghost use Rattle.document_definitions.specs.Documents.{next_table_at, no_line_at, table_document, two_tables_document, vectors_document};
+ghost use Rattle.document_definitions.specs.Documents.{next_table_at, no_line_at, table_document, two_tables_document, vector_document, vectors_document};
 ghost use Rattle.command_answers.specs.Reads.{entries_of};
 
-use crate::vectors::read_vectors;
+use crate::vectors::{read_vector, read_vectors};
 use bench_io::{LexFault, Lexer};
 use gluing_table::Table;
 use signature_codec::{InputFault, read_any};
@@ -22,6 +22,13 @@ pub struct TwoTables {
 pub struct TableAndVectors {
     pub table: Table,
     pub vectors: Vec<Vec<u128>>,
+}
+
+/// A table, and one vector.
+#[derive(Drop)]
+pub struct TableAndVector {
+    pub table: Table,
+    pub vector: Vec<u128>,
 }
 
 /// No further line may stand: its first word is one too many.
@@ -78,4 +85,18 @@ pub fn read_table_and_vectors(alloc: Global, bytes: &[u8]) -> Result<TableAndVec
     let table = read_table(alloc, &mut lexer)?;
     let vectors = read_vectors(alloc, &mut lexer)?;
     Ok(TableAndVectors { table, vectors })
+}
+
+/// The document of a table and one vector.
+#[tactic(auto, unfolding(document_definitions::specs::Documents::vector_document))]
+pub fn read_table_and_vector(alloc: Global, bytes: &[u8]) -> Result<TableAndVector, InputFault>
+    requires { length bytes.now ≤ 2 ^ 31 }
+    ensures { Reads InputFault.NoMemory (λ d. (d.table, d.vector.items)) result (vector_document bytes.now) }
+{
+    let mut lexer = Lexer::new(bytes);
+    let table = read_table(alloc, &mut lexer)?;
+    lexer.need_line()?;
+    let vector = read_vector(alloc, &mut lexer)?;
+    end_document(&mut lexer)?;
+    Ok(TableAndVector { table, vector })
 }

@@ -5,10 +5,12 @@ mod document;
 mod outcome;
 mod refusals;
 mod vectors;
+mod verdicts;
 
 pub use document::{
-    TableAndVectors, TwoTables, end_document, read_table, read_table_and_vectors,
-    read_table_document, read_two_tables,
+    TableAndVector, TableAndVectors, TwoTables, end_document, read_table, read_table_and_vector,
+    read_table_and_vectors, read_table_document, read_two_tables,
 };
 pub use outcome::Outcome;
 pub use refusals::{fault_outcome, not_connected_outcome};
+pub use verdicts::append_checked;

@@ -26,9 +26,9 @@ fn read_numbers(alloc: Global, lexer: &mut Lexer<'_>) -> Result<Vec<u128>, TextF
     Ok(numbers)
 }
 
-// The vector of the current line, of which no word was taken yet.
+/// The vector of the current line, of which no word was taken yet.
 #[tactic(auto, unfolding(cone_text_definitions::specs::VectorText::vector_at, text_definitions::specs::Reading::exactly_at))]
-fn read_vector(alloc: Global, lexer: &mut Lexer<'_>) -> Result<Vec<u128>, TextFault>
+pub fn read_vector(alloc: Global, lexer: &mut Lexer<'_>) -> Result<Vec<u128>, TextFault>
     ensures { ReadsFrom TextFault.NoMemory (λ v. v.items) result lexer.new (lexed (vector_at lexer.old)) }
 {
     let word = lexer.word()?;

@@ -45,12 +45,7 @@ fn answer(alloc: Global, system: &System, order: Order, limit: u128) -> Result<O
 }
 
 /// The outcome of `rays` on an input that isn't too long.
-pub fn rays(
-    alloc: Global,
-    order: Order,
-    limit: u128,
-    bytes: &[u8],
-) -> Result<Outcome, NoMemory>
+pub fn rays(alloc: Global, order: Order, limit: u128, bytes: &[u8]) -> Result<Outcome, NoMemory>
     requires size { length bytes.now ≤ 2 ^ 31 }
     requires named { order ≢ Order.Free }
     requires some_limit { 1 ≤ limit }

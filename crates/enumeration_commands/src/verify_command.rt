@@ -1,80 +1,21 @@
 // The command `verify`: a verdict for each vector.
-ghost use Rattle.std.specs.Prelude.{◌≡◌, ◌≤◌, ◌++◌, ◌^◌, length, map, codes, decimal, IfOk, OnOk};
+ghost use Rattle.std.specs.Prelude.{◌≡◌, ◌≤◌, ◌++◌, ◌^◌, length, map, IfOk, OnOk};
 ghost use Rattle.surface_definitions.specs.Coordinates as coordinates;
 ghost use Rattle.document_definitions.specs.Documents.{vectors_document, verdicts_text};
 ghost use Rattle.command_answers.specs.Reads.{all_entries};
-ghost use Rattle.outcome_definitions.specs.Lines.{line};
 ghost use Rattle.surface_definitions.specs.Verdict.{verdict_text};
 ghost use Rattle.outcome_definitions.specs.Outcomes.{IsReadOutcome, IsOwnStatus};
 ghost use Rattle.outcome_definitions.specs.Answers.{IsVerdictsAnswer, verdict_on};
 
-use command_answers::{Outcome, fault_outcome, read_table_and_vectors};
+use command_answers::{Outcome, append_checked, fault_outcome, read_table_and_vectors};
 use cone_core::System;
 use gluing_table::Table;
 use matching_equations::{Coords, equations};
 use no_memory::NoMemory;
 use outcome_definitions::Status;
-use quad_condition::{VectorFault, check_vector};
+use quad_condition::check_vector;
 use skeleton::Skeleton;
 use std::alloc::Global;
-use text_writing::{append, append_decimal};
-
-// A line of a word and a number.
-fn append_numbered(
-    alloc: Global,
-    out: &mut Vec<u8>,
-    word: &[u8],
-    number: u128,
-) -> Result<(), NoMemory>
-    ensures { OnOk result (out.new.items ≡ out.old.items ++ line (word.now ++ decimal number)) }
-{
-    append(out, word)?;
-    append_decimal(alloc, out, number)?;
-    append(out, b"\n")?;
-    Ok(())
-}
-
-// A line of a clash.
-fn append_clash(alloc: Global, out: &mut Vec<u8>, first: u32, second: u32) -> Result<(), NoMemory>
-    ensures { OnOk result (out.new.items ≡ out.old.items ++ line (codes "clash " ++ decimal first ++ codes " " ++ decimal second)) }
-{
-    append(out, b"clash ")?;
-    append_decimal(alloc, out, u128::from(first))?;
-    append(out, b" ")?;
-    append_decimal(alloc, out, u128::from(second))?;
-    append(out, b"\n")?;
-    Ok(())
-}
-
-fn append_solution(out: &mut Vec<u8>) -> Result<(), NoMemory>
-    ensures { OnOk result (out.new.items ≡ out.old.items ++ line (codes "solution")) }
-{
-    append(out, b"solution\n")?;
-    Ok(())
-}
-
-// The line of what the check of a vector answered.
-#[tactic(auto, unfolding(surface_definitions::specs::Verdict::verdict_text))]
-fn append_checked(
-    alloc: Global,
-    out: &mut Vec<u8>,
-    checked: Result<(), VectorFault>,
-) -> Result<(), NoMemory>
-    ensures { OnOk result (out.new.items ≡ out.old.items ++ verdict_text checked) }
-{
-    match checked {
-        Ok(()) => append_solution(out),
-        Err(VectorFault::Length { got }) => append_numbered(alloc, out, b"length ", got as u128),
-        Err(VectorFault::Large { row }) => append_numbered(alloc, out, b"large ", u128::from(row)),
-        Err(VectorFault::NotSolution { row }) => append_numbered(
-            alloc,
-            out,
-            b"fails ",
-            u128::from(row),
-        ),
-        Err(VectorFault::Clash { first, second }) => append_clash(alloc, out, first, second),
-    }
-}
 
 // The line of the verdict on a vector.
 fn append_verdict(

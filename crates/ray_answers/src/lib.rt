@@ -5,7 +5,7 @@ mod enumeration;
 mod text;
 
 pub use enumeration::rays;
-pub use text::{write_entries, write_list};
+pub use text::{write_entries, write_list, write_vector};
 
 #[cfg(test)]
 mod tests;

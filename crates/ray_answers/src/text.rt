@@ -1,4 +1,4 @@
-// Rays as text: a line `vec` with the entries for each.
+// Vectors as text: a line `vec` with the entries for each.
 
 ghost use Rattle.std.specs.Prelude.{◌≡◌, ◌++◌, OnOk, OnErr, IfOk};
 ghost use Rattle.cone_text_definitions.specs.VectorText.{vector_text, entries_text, list_text};
@@ -9,11 +9,11 @@ use std::alloc::Global;
 use text_writing::{append, append_decimal};
 
 /// The entries, each after a space.
-fn entries_of(alloc: Global, ray: &Ray) -> Result<Vec<u8>, NoMemory>
-    ensures { IfOk result (λ text. text.items ≡ entries_text ray.now) }
+fn entries_of(alloc: Global, x: &[u128]) -> Result<Vec<u8>, NoMemory>
+    ensures { IfOk result (λ text. text.items ≡ entries_text x.now) }
 {
     let mut text = Vec::new(alloc);
-    for entry in ray.entries() {
+    for entry in x {
         append(&mut text, b" ")?;
         append_decimal(alloc, &mut text, *entry)?;
     }
@@ -25,17 +25,29 @@ pub fn write_entries(alloc: Global, ray: &Ray, out: &mut Vec<u8>) -> Result<(), 
     ensures ok { OnOk result (out.new.items ≡ out.old.items ++ entries_text ray.now) }
     ensures err { OnErr result (out.new.items ≡ out.old.items) }
 {
-    let text = entries_of(alloc, ray)?;
+    let text = entries_of(alloc, ray.entries())?;
     append(out, &text)
 }
 
-/// Appends the line of a ray; without memory perhaps a part of it.
-fn push_line(alloc: Global, ray: &Ray, text: &mut Vec<u8>) -> Result<(), NoMemory>
-    ensures { OnOk result (text.new.items ≡ text.old.items ++ vector_text ray.now) }
+/// The line of a vector.
+fn line_of(alloc: Global, x: &[u128]) -> Result<Vec<u8>, NoMemory>
+    ensures { IfOk result (λ text. text.items ≡ vector_text x.now) }
 {
-    append(text, b"vec")?;
-    write_entries(alloc, ray, text)?;
-    append(text, b"\n")
+    let entries = entries_of(alloc, x)?;
+    let mut text = Vec::new(alloc);
+    append(&mut text, b"vec")?;
+    append(&mut text, &entries)?;
+    append(&mut text, b"\n")?;
+    Ok(text)
+}
+
+/// Appends the line `vec` with the entries of a vector. Without memory nothing is appended.
+pub fn write_vector(alloc: Global, x: &[u128], out: &mut Vec<u8>) -> Result<(), NoMemory>
+    ensures ok { OnOk result (out.new.items ≡ out.old.items ++ vector_text x.now) }
+    ensures err { OnErr result (out.new.items ≡ out.old.items) }
+{
+    let text = line_of(alloc, x)?;
+    append(out, &text)
 }
 
 /// The lines of all rays.
@@ -44,7 +56,7 @@ fn lines_of(alloc: Global, list: &[Ray]) -> Result<Vec<u8>, NoMemory>
 {
     let mut text = Vec::new(alloc);
     for ray in list {
-        push_line(alloc, ray, &mut text)?;
+        write_vector(alloc, ray.entries(), &mut text)?;
     }
     Ok(text)
 }

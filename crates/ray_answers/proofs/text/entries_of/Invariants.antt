@@ -4,4 +4,4 @@ use Rattle.cone_text_definitions.specs.VectorText.{entries_text}
 use Rattle.ray_answers.proofs.text.entries_of.Given as goal
 
 abbrev pub invariant-loop-entry : goal.invariant-loop-entry
-invariant-loop-entry l = l.text.items ≡ entries_text (take l.entry-index l.entry-items)
+invariant-loop-entry l = l.text.items ≡ entries_text (take l.entry-index l.x)
