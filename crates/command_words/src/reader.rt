@@ -166,6 +166,7 @@ fn is_built(request: &Request) -> bool
         Request::Rays(_, _) => true,
         Request::Info => true,
         Request::Play | Request::Sig | Request::Same | Request::Group => true,
+        Request::Lift | Request::Crush => true,
         _ => false,
     }
 }

@@ -119,5 +119,8 @@ fn commands_that_are_built(rt: HostRuntime) {
     assert!(rt; read_words(alloc, &words) == Ok(Request::Verify(Coords::Quad)));
     let mut words = Words::new(alloc);
     assert!(rt; words.push("lift").is_ok());
+    assert!(rt; read_words(alloc, &words) == Ok(Request::Lift));
+    let mut words = Words::new(alloc);
+    assert!(rt; words.push("descend").is_ok());
     assert!(rt; read_words(alloc, &words) == Err(WordsFault::Usage));
 }

@@ -8,7 +8,7 @@ use Rattle.surface_definitions.specs.Coordinates.{columns, clash_list}
 use Rattle.surface_definitions.specs.declared.Coords.{Coords}
 use Rattle.surface_definitions.specs.QuadEquations.{AreEquations}
 use Rattle.surface_definitions.specs.Verdict.{Verdict, verdict}
-use Rattle.document_definitions.specs.Documents.{worded, table_document, two_tables_document, tables_document, vectors_document, steps_document, cone_document, verdicts_text}
+use Rattle.document_definitions.specs.Documents.{worded, table_document, two_tables_document, tables_document, vectors_document, vector_document, steps_document, cone_document, verdicts_text}
 use Rattle.command_definitions.specs.declared.Request.{Request}
 use Rattle.command_definitions.specs.declared.Request.TheVariants.{Verify, Info, Surfaces, Rays, Describe, Lift, Crush, Play, Sig, Same, Group, Check, Descend, Make, Bulk}
 use Rattle.command_definitions.specs.Words.{accepted_request}
@@ -17,6 +17,7 @@ use Rattle.outcome_definitions.specs.Outcomes.{Outcome, usage_outcome, too_long_
 use Rattle.outcome_definitions.specs.Enumerations.{IsEnumerationAnswer, IsSurfacesAnswer, ray_enumeration}
 use Rattle.outcome_definitions.specs.Information.{IsInformationAnswer}
 use Rattle.outcome_definitions.specs.Scripts.{IsScriptAnswer}
+use Rattle.outcome_definitions.specs.Vectors.{IsCrushAnswer, IsLiftsAnswer}
 use Rattle.outcome_definitions.specs.Canonical.{IsSignatureAnswer, IsSameAnswer, IsGroupAnswer}
 
 -- an input has at most so many bytes
@@ -42,8 +43,8 @@ IsAnswerTo Info bytes o = IsReadOutcome (table_document bytes) IsInformationAnsw
 IsAnswerTo (Surfaces coords order most) bytes o = IsReadOutcome (table_document bytes) (IsSurfacesAnswer coords order most) o
 IsAnswerTo (Rays order most) bytes o = IsReadOutcome (worded (cone_document bytes)) (λ cone. IsEnumerationAnswer (codes "rays") (ray_enumeration order most cone)) o
 IsAnswerTo (Describe coords) bytes o = ⊥
-IsAnswerTo Lift bytes o = ⊥
-IsAnswerTo Crush bytes o = ⊥
+IsAnswerTo Lift bytes o = IsReadOutcome (vectors_document bytes) IsLiftsAnswer o
+IsAnswerTo Crush bytes o = IsReadOutcome (vector_document bytes) IsCrushAnswer o
 IsAnswerTo Play bytes o = IsReadOutcome (steps_document bytes) IsScriptAnswer o
 IsAnswerTo Sig bytes o = IsReadOutcome (table_document bytes) IsSignatureAnswer o
 IsAnswerTo Same bytes o = IsReadOutcome (two_tables_document bytes) IsSameAnswer o

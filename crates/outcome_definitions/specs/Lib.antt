@@ -4,5 +4,6 @@ pub mod Enumerations
 pub mod Information
 pub mod Scripts
 pub mod Canonical
+pub mod Vectors
 pub mod Answers
 pub mod Laws

@@ -8,7 +8,7 @@ use Rattle.surface_definitions.specs.TableSurfaces.{table_enumeration}
 use Rattle.cone_definitions.specs.declared.Order.{Order}
 use Rattle.cone_definitions.specs.declared.Order.TheVariants.{Free}
 use Rattle.signature_definitions.specs.declared.InputFault.{InputFault}
-use Rattle.document_definitions.specs.Documents.{worded, table_document, two_tables_document, tables_document, vectors_document, steps_document, cone_document}
+use Rattle.document_definitions.specs.Documents.{worded, table_document, two_tables_document, tables_document, vectors_document, vector_document, steps_document, cone_document}
 use Rattle.command_definitions.specs.declared.Request.{Request}
 use Rattle.command_definitions.specs.declared.Request.TheVariants.{Verify, Info, Surfaces, Rays, Describe, Lift, Crush, Play, Sig, Same, Group, Check, Descend, Make, Bulk}
 use Rattle.command_definitions.specs.Requests.{HoldsRange, IsBuilt}
@@ -25,7 +25,9 @@ use Rattle.outcome_laws.proofs.Equated.{one_equations}
 use Rattle.outcome_laws.proofs.Informed.{one_information}
 use Rattle.outcome_laws.proofs.Scripted.{one_script}
 use Rattle.outcome_laws.proofs.Labelled.{one_signature_answer, one_same_answer, one_group_answer}
-use Rattle.outcome_laws.proofs.ReadPairs.{first_is_table}
+use Rattle.outcome_definitions.specs.Vectors.{IsCrushAnswer, IsLiftsAnswer}
+use Rattle.outcome_laws.proofs.Vectored.{one_crush, one_lifts}
+use Rattle.outcome_laws.proofs.ReadPairs.{first_is_table, table_with_vector}
 
 -- the outcome of a document is one where each value's answer is
 one_read : {A : Type 0} (document : Result A InputFault) (IsAnswer : A → Outcome → Type 0) (o p : Outcome) →
@@ -57,8 +59,8 @@ one_answer (Rays order most) bytes o p range h k =
     one_read (worded (cone_document bytes)) (λ cone. IsEnumerationAnswer (codes "rays") (ray_enumeration order most cone)) o p
     (λ cone. one_enumeration (codes "rays") (ray_enumeration order most cone) o p range.named) h k
 one_answer (Describe coords) bytes o p range h k = absurd h
-one_answer Lift bytes o p range h k = absurd h
-one_answer Crush bytes o p range h k = absurd h
+one_answer Lift bytes o p range h k = one_read (vectors_document bytes) IsLiftsAnswer o p (λ d. one_lifts d o p) h k
+one_answer Crush bytes o p range h k = one_found (vector_document bytes) IsCrushAnswer o p (λ d read. one_crush d o p (table_with_vector bytes d read)) h k
 one_answer Play bytes o p range h k = one_read (steps_document bytes) IsScriptAnswer o p (λ d. one_script d o p) h k
 one_answer Sig bytes o p range h k = one_read (table_document bytes) IsSignatureAnswer o p (λ rows. one_signature_answer rows o p) h k
 one_answer Same bytes o p range h k =

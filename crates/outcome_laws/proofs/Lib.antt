@@ -5,4 +5,5 @@ pub mod Scripted
 pub mod Equated
 pub mod Labelled
 pub mod ReadPairs
+pub mod Vectored
 pub mod Agreement

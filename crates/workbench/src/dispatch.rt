@@ -20,6 +20,7 @@ use no_memory::NoMemory;
 use outcome_definitions::Status;
 use std::alloc::Global;
 use table_commands::{group, info, same, sig};
+use vector_commands::{crush, lift};
 
 /// An input has at most so many bytes.
 const MOST_BYTES: u64 = 1_048_576;
@@ -37,8 +38,8 @@ fn answer(alloc: Global, request: Request, bytes: &[u8]) -> Result<Outcome, NoMe
         Request::Info => info(alloc, bytes),
         Request::Play => play(alloc, bytes),
         Request::Describe(_) => unreachable!(),
-        Request::Lift => unreachable!(),
-        Request::Crush => unreachable!(),
+        Request::Lift => lift(alloc, bytes),
+        Request::Crush => crush(alloc, bytes),
         Request::Sig => sig(alloc, bytes),
         Request::Same => same(alloc, bytes),
         Request::Group => group(alloc, bytes),

@@ -4,11 +4,15 @@
 #[cfg(test)]
 mod answering_calls;
 #[cfg(test)]
+mod crush_rows;
+#[cfg(test)]
 mod group_rows;
 #[cfg(test)]
 mod hostile_rows;
 #[cfg(test)]
 mod info_rows;
+#[cfg(test)]
+mod lift_rows;
 #[cfg(test)]
 mod play_rows;
 #[cfg(test)]

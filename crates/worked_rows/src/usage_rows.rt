@@ -121,7 +121,7 @@ const ROWS: [Row; 25] = [
         text: b"refused: usage\n",
     },
     Row {
-        words: &["crush"],
+        words: &["check"],
         input: b"tri 0\n",
         status: Status::Usage,
         text: b"refused: usage\n",

@@ -1,0 +1,26 @@
+-- What is told of the vectors of a table is one text.
+use Rattle.std.proofs.Common.{◌≡◌, ℕ, List, sym, ap, ◌∙◌, subst}
+use Rattle.cone_definitions.specs.Rows.{Row as EquationRow}
+use Rattle.table_definitions.specs.Table.{Row, IsTable}
+use Rattle.skeleton_definitions.specs.Skeleton.{Skeleton}
+use Rattle.surface_definitions.specs.declared.Coords.TheVariants.{Standard, Quad}
+use Rattle.vector_definitions.specs.Answers.{IsLifted, IsCrushedAlong, AreTold}
+use Rattle.vector_laws.proofs.ToldLemmas.{lifted_each, crushed_along_once}
+use Rattle.outcome_definitions.specs.Outcomes.{Outcome}
+use Rattle.outcome_definitions.specs.Vectors.{IsCrushAnswer, crush_outcome, IsLiftsAnswer, lift_outcome}
+use Rattle.outcome_laws.proofs.Equated.{one_equations}
+use Rattle.outcome_laws.proofs.Numbered.{one_skeleton}
+
+pub one_crush : (d : List Row × List ℕ) (o p : Outcome) → IsTable d.0 → IsCrushAnswer d o → IsCrushAnswer d p → o ≡ p
+one_crush d o p t h k =
+    let e : h.equations ≡ k.equations = one_equations Standard d.0 h.equations k.equations h.of_table k.of_table in
+    let there : IsCrushedAlong d.0 h.equations d.1 k.told = subst (λ (q : List EquationRow). IsCrushedAlong d.0 q d.1 k.told) (sym e) k.crushed in
+    h.outcome ∙ ap crush_outcome (crushed_along_once d.0 h.equations d.1 h.told k.told t h.crushed there) ∙ sym k.outcome
+
+pub one_lifts : (d : List Row × List (List ℕ)) (o p : Outcome) → IsLiftsAnswer d o → IsLiftsAnswer d p → o ≡ p
+one_lifts d o p h k =
+    let e : h.equations ≡ k.equations = one_equations Quad d.0 h.equations k.equations h.of_table k.of_table in
+    let s : h.skeleton ≡ k.skeleton = one_skeleton h.skeleton k.skeleton (h.of_rows ∙ sym k.of_rows) h.is_skeleton k.is_skeleton in
+    let same_rows : AreTold (IsLifted k.skeleton h.equations) d.1 k.told = subst (λ (q : List EquationRow). AreTold (IsLifted k.skeleton q) d.1 k.told) (sym e) k.lifted in
+    let there : AreTold (IsLifted h.skeleton h.equations) d.1 k.told = subst (λ (t : Skeleton). AreTold (IsLifted t h.equations) d.1 k.told) (sym s) same_rows in
+    h.outcome ∙ ap lift_outcome (lifted_each h.skeleton h.equations d.1 h.told k.told h.is_skeleton h.lifted there) ∙ sym k.outcome

@@ -1,0 +1,43 @@
+-- From what is told of each quad vector to the answer.
+use Rattle.std.proofs.Common.{◌≡◌, ℕ, List, ◌++◌, Ok, Err, subst, sym, ap, ◌∙◌}
+use Rattle.cone_definitions.specs.Rows.{Row as EquationRow}
+use Rattle.cone_text_definitions.specs.VectorText.{vector_text}
+use Rattle.table_definitions.specs.Table.{Row}
+use Rattle.skeleton_definitions.specs.Skeleton.{Skeleton, IsSkeleton}
+use Rattle.surface_definitions.specs.declared.Coords.TheVariants.{Quad}
+use Rattle.surface_definitions.specs.QuadEquations.{AreEquations}
+use Rattle.vector_definitions.specs.Answers.{IsLifted, IsFirstRefused}
+use Rattle.vector_definitions.specs.Texts.{lifts_text}
+use Rattle.vector_definitions.specs.declared.Refusal.{Refusal}
+use Rattle.outcome_definitions.specs.declared.Status.TheVariants.{Done}
+use Rattle.outcome_definitions.specs.Outcomes.{Outcome}
+use Rattle.outcome_definitions.specs.Vectors.{IsLiftsAnswer, refusal_outcome}
+use Rattle.vector_commands.specs.Telling.{AreToldIn}
+
+-- the rows of the table are those of its skeleton
+module _ (s : Skeleton) (rows : List Row) (equations : List EquationRow) (vectors : List (List ℕ)) (o : Outcome)
+    (same : s.rows ≡ rows) (is_skeleton : IsSkeleton s) (of_table : AreEquations Quad s.rows equations) where
+  pub lifts_told : (text : List ℕ) → AreToldIn (IsLifted s equations) vector_text vectors text → o ≡ record { status = Done; text = text } → IsLiftsAnswer (rows, vectors) o
+  unfolding lifts_text
+  lifts_told text told e = record {
+    skeleton = s;
+    of_rows = same;
+    is_skeleton = is_skeleton;
+    equations = equations;
+    of_table = subst (λ (r : List Row). AreEquations Quad r equations) same of_table;
+    told = Ok told.answers;
+    lifted = told.told;
+    outcome = e ∙ ap (λ (t : List ℕ). record { status = Done; text = t }) told.lines;
+  }
+
+  pub lift_refused : (v : ℕ) (refusal : Refusal) → IsFirstRefused (IsLifted s equations) vectors v refusal → o ≡ refusal_outcome v refusal → IsLiftsAnswer (rows, vectors) o
+  lift_refused v refusal first e = record {
+    skeleton = s;
+    of_rows = same;
+    is_skeleton = is_skeleton;
+    equations = equations;
+    of_table = subst (λ (r : List Row). AreEquations Quad r equations) same of_table;
+    told = Err (v, refusal);
+    lifted = first;
+    outcome = e;
+  }

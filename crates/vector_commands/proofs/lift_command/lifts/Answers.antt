@@ -1,0 +1,15 @@
+-- One more lift is told, or the vector is the first that is refused.
+use Rattle.cone_text_definitions.specs.VectorText.{vector_text}
+use Rattle.vector_definitions.specs.Answers.{IsLifted}
+use Rattle.vector_commands.proofs.EachVector.{next_told, next_refused}
+use Rattle.vector_commands.proofs.lift_command.lifts.Goals as goal
+
+pub returns-in-Err : goal.returns-in-Err
+returns-in-Err c =
+    next_refused (IsLifted c.args.skeleton.now c.args.system.now.rows) vector_text c.args.vectors.now c.loop-v.v c.index-vectors-v.result c.deref.result.now c.loop-v.text.items
+    c.append_lift.new.text.items c.loop-v-test.true c.index-vectors-v.is c.deref.ensures.value c.loop-v.invariant c.in-Err.fault c.at.result c.in-Err.ensures c.at.ensures
+
+pub loop-v-preserved : goal.loop-v-preserved
+loop-v-preserved c =
+    next_told (IsLifted c.args.skeleton.now c.args.system.now.rows) vector_text c.args.vectors.now c.loop-v.v c.index-vectors-v.result c.deref.result.now c.loop-v.text.items
+    c.append_lift.new.text.items c.loop-v-test.true c.index-vectors-v.is c.deref.ensures.value c.loop-v.invariant tt c.in-Ok.ensures

@@ -1,0 +1,56 @@
+// The command `crush`: the table crushed along a normal surface.
+ghost use Rattle.std.specs.Prelude.{◌≡◌, ◌≤◌, ◌^◌, length, IfOk};
+ghost use Rattle.surface_definitions.specs.Coordinates.{columns};
+ghost use Rattle.surface_definitions.specs.declared.Coords.TheVariants.{Standard};
+ghost use Rattle.document_definitions.specs.Documents.{vector_document};
+ghost use Rattle.outcome_definitions.specs.Outcomes.{IsReadOutcome, IsOwnStatus};
+ghost use Rattle.outcome_definitions.specs.Vectors.{IsCrushAnswer};
+ghost use Rattle.vector_commands.specs.Crushed.{TellsCrushed};
+
+use crate::checks::check;
+use crate::refusals::refusal_outcome;
+use command_answers::{Outcome, fault_outcome, read_table_and_vector};
+use gluing_table::{Table, write_table};
+use matching_equations::{Coords, equations};
+use no_memory::NoMemory;
+use outcome_definitions::Status;
+use skeleton::Skeleton;
+use std::alloc::Global;
+use vector_definitions::Refusal;
+
+// The crushed table as the answer.
+fn crushed(alloc: Global, table: &Table, x: &[u128]) -> Result<Outcome, NoMemory>
+    requires { length x.now ≡ columns Standard (length table.now) }
+    ensures told { IfOk result (TellsCrushed table.now x.now) }
+    ensures own_status { IfOk result (λ o. IsOwnStatus o.status) }
+{
+    let new = crushing::crush(alloc, table, x)?;
+    let mut text = Vec::new(alloc);
+    write_table(alloc, &new, &mut text)?;
+    Ok(Outcome::built(Status::Done, text))
+}
+
+// The answer to a table and a vector.
+fn answer(alloc: Global, table: &Table, x: &[u128]) -> Result<Outcome, NoMemory>
+    ensures answer { IfOk result (IsCrushAnswer (table.now, x.now)) }
+    ensures own_status { IfOk result (λ o. IsOwnStatus o.status) }
+{
+    let skeleton = Skeleton::of(alloc, table)?;
+    let system = equations(alloc, &skeleton, Coords::Standard)?;
+    match check(Coords::Standard, &skeleton, &system, x) {
+        Ok(()) => crushed(alloc, table, x),
+        Err(fault) => refusal_outcome(alloc, 0, Refusal::Unfit { fault }),
+    }
+}
+
+/// The outcome of `crush` on an input that isn't too long.
+pub fn crush(alloc: Global, bytes: &[u8]) -> Result<Outcome, NoMemory>
+    requires { length bytes.now ≤ 2 ^ 31 }
+    ensures answer { IfOk result (IsReadOutcome (vector_document bytes.now) IsCrushAnswer) }
+    ensures own_status { IfOk result (λ o. IsOwnStatus o.status) }
+{
+    match read_table_and_vector(alloc, bytes) {
+        Ok(document) => answer(alloc, &document.table, &document.vector),
+        Err(fault) => fault_outcome(alloc, fault),
+    }
+}

@@ -1,0 +1,123 @@
+// The command `lift`: the lift of each quad vector to standard coordinates.
+ghost use Rattle.std.specs.Prelude.{◌≡◌, ◌≤◌, ◌^◌, length, IfOk};
+ghost use Rattle.cone_text_definitions.specs.VectorText.{vector_text};
+ghost use Rattle.surface_definitions.specs.Coordinates.{columns};
+ghost use Rattle.surface_definitions.specs.declared.Coords.TheVariants as coordinates;
+ghost use Rattle.surface_definitions.specs.Verdict.{solution};
+ghost use Rattle.document_definitions.specs.Documents.{vectors_document};
+ghost use Rattle.command_answers.specs.Reads.{all_entries};
+ghost use Rattle.outcome_definitions.specs.Outcomes.{IsReadOutcome, IsOwnStatus};
+ghost use Rattle.outcome_definitions.specs.Vectors.{IsLiftsAnswer};
+ghost use Rattle.vector_definitions.specs.Answers.{verdict_in, IsLifted};
+ghost use Rattle.vector_commands.specs.Telling.{TellsOne, TellsEach, TellsLift};
+
+use crate::checks::check;
+use crate::refusals::{EachFault, ToldFault, refusal_outcome};
+use command_answers::{Outcome, fault_outcome, read_table_and_vectors};
+use cone_core::System;
+use gluing_table::Table;
+use matching_equations::{Coords, equations};
+use no_memory::NoMemory;
+use outcome_definitions::Status;
+use quad_lift::lift as lift_of;
+use ray_answers::write_vector;
+use skeleton::Skeleton;
+use std::alloc::Global;
+use vector_definitions::{LiftFault, Refusal};
+
+// The lift of a vector that is an admissible solution.
+fn lift_fit(
+    alloc: Global,
+    skeleton: &Skeleton,
+    system: &System,
+    x: &[u128],
+) -> Result<Vec<u128>, ToldFault>
+    requires width { length x.now ≡ columns coordinates.Quad (length skeleton.now.rows) }
+    requires fit { verdict_in coordinates.Quad skeleton.now.rows system.now.rows x.now ≡ solution }
+    ensures { TellsLift skeleton.now system.now.rows x.now result }
+{
+    match lift_of(alloc, skeleton, x) {
+        Ok(lifted) => Ok(lifted),
+        Err(LiftFault::Large) => Err(ToldFault::Refused(Refusal::LargeLift)),
+        Err(LiftFault::NoLift { class }) => Err(ToldFault::Refused(Refusal::NoLift { class })),
+        Err(LiftFault::NoMemory) => Err(ToldFault::NoMemory),
+    }
+}
+
+// The lift of a vector, or why it is refused.
+fn lift_checked(
+    alloc: Global,
+    skeleton: &Skeleton,
+    system: &System,
+    x: &[u128],
+) -> Result<Vec<u128>, ToldFault>
+    requires { system.now.columns ≡ columns coordinates.Quad (length skeleton.now.rows) }
+    ensures { TellsLift skeleton.now system.now.rows x.now result }
+{
+    match check(Coords::Quad, skeleton, system, x) {
+        Ok(()) => lift_fit(alloc, skeleton, system, x),
+        Err(fault) => Err(ToldFault::Refused(Refusal::Unfit { fault })),
+    }
+}
+
+// The line of a vector's lift, behind the others.
+fn append_lift(
+    alloc: Global,
+    skeleton: &Skeleton,
+    system: &System,
+    x: &[u128],
+    text: &mut Vec<u8>,
+) -> Result<(), ToldFault>
+    requires { system.now.columns ≡ columns coordinates.Quad (length skeleton.now.rows) }
+    ensures { TellsOne (IsLifted skeleton.now system.now.rows) vector_text x.now text.old.items text.new.items result }
+{
+    let lifted = lift_checked(alloc, skeleton, system, x)?;
+    write_vector(alloc, &lifted, text)?;
+    Ok(())
+}
+
+// The lines of all lifts, or the first vector that is refused.
+fn lifts(
+    alloc: Global,
+    skeleton: &Skeleton,
+    system: &System,
+    vectors: &[Vec<u128>],
+) -> Result<Vec<u8>, EachFault>
+    requires { system.now.columns ≡ columns coordinates.Quad (length skeleton.now.rows) }
+    ensures { TellsEach (IsLifted skeleton.now system.now.rows) vector_text (all_entries vectors.now) result }
+{
+    let mut text = Vec::new(alloc);
+    for v in 0..vectors.len() {
+        match append_lift(alloc, skeleton, system, &vectors[v], &mut text) {
+            Ok(()) => {}
+            Err(fault) => return Err(fault.at(v)),
+        }
+    }
+    Ok(text)
+}
+
+// The answer to a table and quad vectors.
+fn answer(alloc: Global, table: &Table, vectors: &[Vec<u128>]) -> Result<Outcome, NoMemory>
+    ensures answer { IfOk result (IsLiftsAnswer (table.now, all_entries vectors.now)) }
+    ensures own_status { IfOk result (λ o. IsOwnStatus o.status) }
+{
+    let skeleton = Skeleton::of(alloc, table)?;
+    let system = equations(alloc, &skeleton, Coords::Quad)?;
+    match lifts(alloc, &skeleton, &system, vectors) {
+        Ok(text) => Ok(Outcome::built(Status::Done, text)),
+        Err(EachFault::Refused { vector, refusal }) => refusal_outcome(alloc, vector, refusal),
+        Err(EachFault::NoMemory) => Err(NoMemory),
+    }
+}
+
+/// The outcome of `lift` on an input that isn't too long.
+pub fn lift(alloc: Global, bytes: &[u8]) -> Result<Outcome, NoMemory>
+    requires { length bytes.now ≤ 2 ^ 31 }
+    ensures answer { IfOk result (IsReadOutcome (vectors_document bytes.now) IsLiftsAnswer) }
+    ensures own_status { IfOk result (λ o. IsOwnStatus o.status) }
+{
+    match read_table_and_vectors(alloc, bytes) {
+        Ok(document) => answer(alloc, &document.table, &document.vectors),
+        Err(fault) => fault_outcome(alloc, fault),
+    }
+}

@@ -1,0 +1,138 @@
+// The line for a vector that is refused.
+ghost use Rattle.std.specs.Prelude.{◌≡◌, ◌++◌, codes, decimal, IfOk, OnOk};
+ghost use Rattle.outcome_definitions.specs.Lines.{line};
+ghost use Rattle.outcome_definitions.specs.Outcomes.{IsOwnStatus};
+ghost use Rattle.outcome_definitions.specs.Vectors as vectors;
+ghost use Rattle.vector_commands.specs.Faults.{fault_at};
+ghost use Rattle.vector_definitions.specs.Texts.{sum_word, fault_text, refusal_line};
+
+use command_answers::{Outcome, append_checked};
+use no_memory::NoMemory;
+use outcome_definitions::Status;
+use std::alloc::Global;
+use surface_definitions::VectorFault;
+use text_writing::{append, append_decimal};
+use vector_definitions::{Refusal, Sum};
+
+/// Why nothing is told of a vector.
+#[derive(Clone, Copy, Debug, PartialEq, Eq)]
+pub enum ToldFault {
+    NoMemory,
+    /// It is refused.
+    Refused(Refusal),
+}
+
+impl From<NoMemory> for ToldFault {
+    ghost use Rattle.std.specs.Prelude.{◌≡◌};
+    ghost use Rattle.vector_commands.specs.declared.refusals.ToldFault.TheVariants as faults;
+
+    ghost from_gives = { λ _ e. e ≡ faults.NoMemory };
+
+    fn from(_error: NoMemory) -> ToldFault {
+        ToldFault::NoMemory
+    }
+}
+
+/// Why nothing is told of the vectors of a document.
+#[derive(Clone, Copy, Debug, PartialEq, Eq)]
+pub enum EachFault {
+    NoMemory,
+    /// The vector of this number, which counts from 0, is the first that is refused.
+    Refused { vector: usize, refusal: Refusal },
+}
+
+impl ToldFault {
+    /// The fault of the vector of this number.
+    pub fn at(self, vector: usize) -> EachFault
+        ensures { result ≡ fault_at vector self }
+    {
+        match self {
+            ToldFault::NoMemory => EachFault::NoMemory,
+            ToldFault::Refused(refusal) => EachFault::Refused { vector, refusal },
+        }
+    }
+}
+
+fn named(sum: Sum) -> &'static [u8]
+    ensures { result.now ≡ sum_word sum }
+{
+    match sum {
+        Sum::Points => b"points",
+        Sum::Arcs => b"arcs",
+        Sum::PointsAndPieces => b"points-and-pieces",
+    }
+}
+
+// A line of two words.
+fn append_words(out: &mut Vec<u8>, first: &[u8], second: &[u8]) -> Result<(), NoMemory>
+    ensures { OnOk result (out.new.items ≡ out.old.items ++ line (first.now ++ second.now)) }
+{
+    append(out, first)?;
+    append(out, second)?;
+    append(out, b"\n")?;
+    Ok(())
+}
+
+// A line of a word and a number.
+fn append_numbered(
+    alloc: Global,
+    out: &mut Vec<u8>,
+    word: &[u8],
+    number: u128,
+) -> Result<(), NoMemory>
+    ensures { OnOk result (out.new.items ≡ out.old.items ++ line (word.now ++ decimal number)) }
+{
+    append(out, word)?;
+    append_decimal(alloc, out, number)?;
+    append(out, b"\n")?;
+    Ok(())
+}
+
+// Why a vector is refused.
+fn append_cause(alloc: Global, out: &mut Vec<u8>, refusal: Refusal) -> Result<(), NoMemory>
+    ensures { OnOk result (out.new.items ≡ out.old.items ++ fault_text refusal) }
+{
+    match refusal {
+        Refusal::Unfit { fault } => append_checked(alloc, out, Err(fault)),
+        Refusal::LargeSum { sum } => append_words(out, b"large-sum ", named(sum)),
+        Refusal::TooManyPieces { count } => append_numbered(alloc, out, b"too-many-pieces ", count),
+        Refusal::LargeLift => append_words(out, b"large-", b"lift"),
+        Refusal::NoLift { class } => append_numbered(alloc, out, b"no-lift ", u128::from(class)),
+    }
+}
+
+// A number is too large, or the vector doesn't allow what is asked.
+fn status_of(refusal: Refusal) -> Status
+    ensures { result ≡ vectors.refusal_status refusal }
+{
+    match refusal {
+        Refusal::Unfit {
+            fault: VectorFault::Large { .. },
+        } => Status::Large,
+        Refusal::Unfit { .. } => Status::Refused,
+        Refusal::LargeSum { .. } | Refusal::LargeLift => Status::Large,
+        Refusal::TooManyPieces { .. } | Refusal::NoLift { .. } => Status::Refused,
+    }
+}
+
+// The line for the vector of this number.
+#[tactic(auto, unfolding(vector_definitions::specs::Texts::refusal_line))]
+fn refused_line(alloc: Global, vector: usize, refusal: Refusal) -> Result<Vec<u8>, NoMemory>
+    ensures { IfOk result (λ text. text.items ≡ refusal_line vector refusal) }
+{
+    let mut text = Vec::new(alloc);
+    append(&mut text, b"refused: vector ")?;
+    append_decimal(alloc, &mut text, vector as u128)?;
+    append(&mut text, b" ")?;
+    append_cause(alloc, &mut text, refusal)?;
+    Ok(text)
+}
+
+/// The outcome where the vector of this number, which counts from 0, is refused.
+pub fn refusal_outcome(alloc: Global, vector: usize, refusal: Refusal) -> Result<Outcome, NoMemory>
+    ensures told { IfOk result (λ o. o ≡ vectors.refusal_outcome vector refusal) }
+    ensures own_status { IfOk result (λ o. IsOwnStatus o.status) }
+{
+    let text = refused_line(alloc, vector, refusal)?;
+    Ok(Outcome::built(status_of(refusal), text))
+}
