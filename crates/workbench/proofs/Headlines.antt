@@ -76,7 +76,7 @@ module _ (words : List (List ℕ)) (bytes : List ℕ) (o : Outcome) (held grown 
       told (vectors_document bytes) (IsVerdictsAnswer coords) o (was_read (vectors_document bytes) (IsVerdictsAnswer coords) o done (answered (Verify coords) e)) (verdicts_from coords)
 
 -- the same where the source tells its bytes
-abbrev Tells : List (List ℕ) → Status → Option (List ℕ) → Option (List ℕ) → List ℕ → Type 0
+abbrev pub Tells : List (List ℕ) → Status → Option (List ℕ) → Option (List ℕ) → List ℕ → Type 0
 Tells words status held grown bytes = (o : Outcome) × IsOutcome words bytes o × (status ≡ o.status) × Grows held grown o.text
 
 pub told_surfaces : (words : List (List ℕ)) (status : Status) (held grown left : Option (List ℕ)) → status ≡ Done → IfSome left (Tells words status held grown)

@@ -1,2 +1,3 @@
 pub mod RunClauses
 pub mod Headlines
+pub mod Completeness

@@ -39,7 +39,7 @@ module _ (words : List (List ℕ)) (r : Request) (accepted : accepted_request wo
 
   cut_well : (left : Option (List ℕ)) → IsReadWell r left rest before now o → IsCutOff held grown o.text → IfSome left CutOff
   cut_well None well cut = tt
-  cut_well (Some bytes) well cut = (o, inr (outcome_of_words bytes well.outcome), cut)
+  cut_well (Some bytes) well cut = (o, inr (well.calm, outcome_of_words bytes well.outcome), cut)
 
   pub run_prefix : (left : Option (List ℕ)) → IsResponse r left rest before now o → IsDelivered o status held grown faults_before faults_now → status ≡ WriteFault → IfSome left CutOff
   run_prefix left (inl fault) (inl whole) e =

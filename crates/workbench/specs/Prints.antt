@@ -1,15 +1,21 @@
 -- What a run that is done has printed, command by command.
-use Rattle.std.specs.Prelude.{◌≡◌, ℕ, List, [], map, length, Option, Ok, codes}
+use Rattle.std.specs.Prelude.{◌≡◌, ◌⊎◌, ℕ, List, [], map, length, Option, Ok, codes}
 use Rattle.bench_io.specs.Causes.{Grows}
 use Rattle.table_definitions.specs.Table.{Row}
 use Rattle.cone_definitions.specs.Rows.{Row as EquationRow}
 use Rattle.cone_definitions.specs.Surfaces.{IsSurfaceList}
+use Rattle.cone_definitions.specs.Listings.{Enumeration, IsPastLimit}
+use Rattle.cone_definitions.specs.declared.Order.{Order}
+use Rattle.cone_definitions.specs.Elimination.{Named as LargeKind}
 use Rattle.cone_text_definitions.specs.ConeText.{Cone as ConeText, system_of}
 use Rattle.surface_definitions.specs.Coordinates.{columns, clash_list}
 use Rattle.surface_definitions.specs.declared.Coords.{Coords}
 use Rattle.surface_definitions.specs.QuadEquations.{AreEquations}
 use Rattle.document_definitions.specs.Documents.{worded, table_document, vectors_document, cone_document, verdicts_text}
-use Rattle.outcome_definitions.specs.Enumerations.{listing}
+use Rattle.surface_definitions.specs.TableSurfaces.{table_enumeration}
+use Rattle.outcome_definitions.specs.declared.Status.{Status}
+use Rattle.outcome_definitions.specs.declared.Status.TheVariants.{Done, Large, ReadFault, WriteFault, NoMemory}
+use Rattle.outcome_definitions.specs.Enumerations.{listing, large_outcome, ray_enumeration}
 use Rattle.outcome_definitions.specs.Answers.{verdict_on}
 
 -- The input spells a table, and exactly the primitive vectors that lie on extreme rays of the solution cone of its
@@ -39,3 +45,43 @@ pub record PrintsVerdicts (coords : Coords) (bytes : List ℕ) (before now : Opt
   pub equations : List EquationRow
   pub of_table : AreEquations coords rows equations
   pub printed : Grows before now (verdicts_text (map (verdict_on coords rows equations) vectors))
+
+-- The vertex surfaces of a table were printed: exactly the primitive vectors that lie on extreme rays of the solution cone of
+-- its equations and meet the quadrilateral condition, each once, in lexicographic order.
+pub record ListsSurfaces (coords : Coords) (rows : List Row) (status : Status) (before now : Option (List ℕ)) : Type 0 where
+  pub done : status ≡ Done
+  pub equations : List EquationRow
+  pub of_table : AreEquations coords rows equations
+  pub list : List (List ℕ)
+  pub surfaces : IsSurfaceList (columns coords (length rows)) equations (clash_list coords (length rows)) list
+  pub printed : Grows before now (listing (codes "surfaces") list)
+
+-- the first step of an enumeration of which a number passes the limit was named, with the ray or the pair of rays
+pub record NamesLarge (e : Enumeration) (status : Status) (before now : Option (List ℕ)) : Type 0 where
+  pub large : status ≡ Large
+  pub taken : List ℕ
+  pub kind : LargeKind
+  pub past : IsPastLimit e taken kind
+  pub named : Grows before now (large_outcome taken kind).text
+
+-- the source failed, the sink failed, or memory ran out; each comes where its own clause says
+abbrev pub IsCutShort : Status → Type 0
+IsCutShort status = (status ≡ ReadFault) ⊎ (status ≡ WriteFault) ⊎ (status ≡ NoMemory)
+
+-- the answer of `surfaces` to a table, or what came in its place
+abbrev pub AnswersSurfaces : Coords → Order → ℕ → List Row → Status → Option (List ℕ) → Option (List ℕ) → Type 0
+AnswersSurfaces coords order most rows status before now = ListsSurfaces coords rows status before now
+    ⊎ ((equations : List EquationRow) × AreEquations coords rows equations × NamesLarge (table_enumeration coords order most rows equations) status before now)
+    ⊎ IsCutShort status
+
+-- the primitive extreme rays of a cone were printed, each once, in lexicographic order
+pub record ListsRays (cone : ConeText) (status : Status) (before now : Option (List ℕ)) : Type 0 where
+  pub done : status ≡ Done
+  pub list : List (List ℕ)
+  pub rays : IsSurfaceList (system_of cone).columns (system_of cone).rows [] list
+  pub printed : Grows before now (listing (codes "rays") list)
+
+-- the answer of `rays` to a cone, or what came in its place
+abbrev pub AnswersRays : Order → ℕ → ConeText → Status → Option (List ℕ) → Option (List ℕ) → Type 0
+AnswersRays order most cone status before now =
+    ListsRays cone status before now ⊎ NamesLarge (ray_enumeration order most cone) status before now ⊎ IsCutShort status

@@ -55,9 +55,9 @@ pub record IsWithoutMemory (left rest : Option (List ℕ)) (before now : ℕ) : 
 abbrev pub IsCutOff : Option (List ℕ) → Option (List ℕ) → List ℕ → Type 0
 IsCutOff before now text = (n : ℕ) × (n < length text) × Grows before now (take n text)
 
--- what is to be written: that the source failed, or the outcome of the words and of the input
+-- what is to be written: that the source failed, exactly where its count rose, and the outcome of the words and of the input otherwise
 abbrev pub IsDue : List (List ℕ) → List ℕ → ℕ → ℕ → Outcome → Type 0
-IsDue words bytes before now o = IsReadFault before now o ⊎ IsOutcome words bytes o
+IsDue words bytes before now o = IsReadFault before now o ⊎ (IsCalm before now × IsOutcome words bytes o)
 
 -- an outcome was written whole, or cut off where the sink failed
 abbrev pub IsDelivered : Outcome → Status → Option (List ℕ) → Option (List ℕ) → ℕ → ℕ → Type 0

@@ -1,14 +1,17 @@
 // The one call that does all that the program does.
-ghost use Rattle.std.specs.Prelude.{◌≡◌, ◌↔◌, ◌⊎◌, ◌-◌, ◌^◌, ◌<◌, ◌≤◌, ℕ, None, Some, Ok, length, IfOk, IfSome, OnErr};
+ghost use Rattle.std.specs.Prelude.{◌≡◌, ◌↔◌, ◌⊎◌, ◌-◌, ◌^◌, ◌<◌, ◌≤◌, ℕ, List, None, Some, Ok, length, IfOk, IfSome, OnErr};
 ghost use Rattle.bench_io.specs.Causes.{Grows, Rose, IsEnded};
-ghost use Rattle.outcome_definitions.specs.Lines.{read_line};
+ghost use Rattle.outcome_definitions.specs.Lines.{read_line, usage_line};
+ghost use Rattle.cone_text_definitions.specs.ConeText.{Cone as ConeText};
+ghost use Rattle.table_definitions.specs.Table.{Row};
+ghost use Rattle.document_definitions.specs.Documents.{worded, table_document, cone_document};
 ghost use Rattle.outcome_definitions.specs.Outcomes as outcomes;
 ghost use Rattle.outcome_definitions.specs.Answers.{IsOutcome, IsAnswerTo, most_bytes};
 ghost use Rattle.command_definitions.specs.Words.{accepted_request};
 ghost use Rattle.command_definitions.specs.Requests.{IsBuilt};
 ghost use Rattle.cone_definitions.specs.declared.Order.{Order};
 ghost use Rattle.surface_definitions.specs.declared.Coords.{Coords};
-ghost use Rattle.workbench.specs.Prints.{PrintsSurfaces, PrintsRays, PrintsVerdicts};
+ghost use Rattle.workbench.specs.Prints.{PrintsSurfaces, PrintsRays, PrintsVerdicts, AnswersSurfaces, AnswersRays};
 ghost use Rattle.workbench.specs.Runs.{Answers, IsAnswered, IsCalm, IsWithin, IsResponse, IsWithoutMemory, IsCutOff, IsDue, IsDelivered};
 
 use bench_io::{ReadEnd, Sink, Source, Words, read_all, write_all};
@@ -81,6 +84,7 @@ pub fn run<S: Source, K: Sink>(alloc: Global, words: &Words, source: &mut S, sin
     // Usage comes exactly where the words are not accepted. Then nothing is read.
     ensures usage { accepted_request words.now ≡ None → Answers result Status.Usage × (source.new ≡ source.old) }
     ensures usage_alone { result ≡ Status.Usage → accepted_request words.now ≡ None }
+    ensures usage_line { result ≡ Status.Usage → Grows (K.held sink.old) (K.held sink.new) usage_line }
 
     // A read fault comes exactly where the source's count rose.
     ensures read_fault { S.faults source.old < 2 ^ 64 - 1 → S.faults source.old < S.faults source.new → (result ≡ Status.ReadFault) ⊎ (result ≡ Status.WriteFault) }
@@ -108,6 +112,16 @@ pub fn run<S: Source, K: Sink>(alloc: Global, words: &Words, source: &mut S, sin
     ensures surfaces { result ≡ Status.Done → (coords : Coords) → (order : Order) → (most : ℕ)
         → accepted_request words.now ≡ Some (Request.Surfaces coords order most)
         → IfSome (S.left source.old) (λ bytes. PrintsSurfaces coords bytes (K.held sink.old) (K.held sink.new)) }
+
+    // The same as one clause: where the words of `surfaces` are accepted and the input spells a table, that list was printed,
+    // or the first number of a step past the limit was named; the only other answers are a failed source, a failed sink and
+    // want of memory, each where its own clause says. So it is with `rays`.
+    ensures all_surfaces { (coords : Coords) → (order : Order) → (most : ℕ) → accepted_request words.now ≡ Some (Request.Surfaces coords order most)
+        → IfSome (S.left source.old) (λ bytes. (rows : List Row) → length bytes ≤ most_bytes → table_document bytes ≡ Ok rows
+        → AnswersSurfaces coords order most rows result (K.held sink.old) (K.held sink.new)) }
+    ensures all_rays { (order : Order) → (most : ℕ) → accepted_request words.now ≡ Some (Request.Rays order most)
+        → IfSome (S.left source.old) (λ bytes. (cone : ConeText) → length bytes ≤ most_bytes → worded (cone_document bytes) ≡ Ok cone
+        → AnswersRays order most cone result (K.held sink.old) (K.held sink.new)) }
 
     // `rays` prints exactly the primitive extreme rays of a cone, and `verify` a verdict for each vector.
     ensures rays { result ≡ Status.Done → (order : Order) → (most : ℕ) → accepted_request words.now ≡ Some (Request.Rays order most)

@@ -2,11 +2,13 @@
 #![tactic(auto)]
 
 mod dispatch;
+mod steady;
 
 ghost use Rattle.std.specs.Prelude.{◌≡◌};
 ghost use Rattle.workbench.specs.Codes.{code_of};
 
 pub use dispatch::run;
+pub use steady::run_steadily;
 pub use outcome_definitions::Status;
 
 /// The exit status of the program for the status of a run.

@@ -3,7 +3,7 @@ use crate::running::{Row, are_answered};
 use std::test::Fail;
 use workbench::Status;
 
-const ROWS: [Row; 29] = [
+const ROWS: [Row; 32] = [
     Row {
         words: &["info"],
         input: b"tri 2\n1:0123 1:1203 1:1032 1:3021\n0:0123 0:1320 0:2013 0:1032\n",
@@ -177,6 +177,24 @@ const ROWS: [Row; 29] = [
         input: b"tri 1001\n",
         status: Status::Input,
         text: b"refused: table too-many\n",
+    },
+    Row {
+        words: &["info"],
+        input: b"tri 2\n- - - -\n- - - -\n",
+        status: Status::Done,
+        text: b"tetrahedra 2\nconnected no\norientable yes\nclosed no\nvertices 8\nedges 12\nfaces 8\neuler 2\nvertex 0 degree 1 euler 1 closed no kind disc\nvertex 1 degree 1 euler 1 closed no kind disc\nvertex 2 degree 1 euler 1 closed no kind disc\nvertex 3 degree 1 euler 1 closed no kind disc\nvertex 4 degree 1 euler 1 closed no kind disc\nvertex 5 degree 1 euler 1 closed no kind disc\nvertex 6 degree 1 euler 1 closed no kind disc\nvertex 7 degree 1 euler 1 closed no kind disc\nedge 0 degree 1 place boundary valid yes\nedge 1 degree 1 place boundary valid yes\nedge 2 degree 1 place boundary valid yes\nedge 3 degree 1 place boundary valid yes\nedge 4 degree 1 place boundary valid yes\nedge 5 degree 1 place boundary valid yes\nedge 6 degree 1 place boundary valid yes\nedge 7 degree 1 place boundary valid yes\nedge 8 degree 1 place boundary valid yes\nedge 9 degree 1 place boundary valid yes\nedge 10 degree 1 place boundary valid yes\nedge 11 degree 1 place boundary valid yes\n",
+    },
+    Row {
+        words: &["info"],
+        input: b"sig bkaagj\n",
+        status: Status::Done,
+        text: b"tetrahedra 1\nconnected yes\norientable yes\nclosed yes\nvertices 1\nedges 2\nfaces 2\neuler 0\nvertex 0 degree 4 euler 2 closed yes kind sphere\nedge 0 degree 5 place inner valid yes\nedge 1 degree 1 place inner valid yes\n",
+    },
+    Row {
+        words: &["info"],
+        input: b"tri 2\n0:2310 1:2013 0:3201 1:1203\n0:1203 1:3201 1:2310 0:2013\n",
+        status: Status::Done,
+        text: b"tetrahedra 2\nconnected yes\norientable yes\nclosed yes\nvertices 1\nedges 1\nfaces 4\neuler 2\nvertex 0 degree 8 euler -2 closed yes kind other\nedge 0 degree 12 place inner valid yes\n",
     },
 ];
 

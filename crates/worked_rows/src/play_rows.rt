@@ -5,7 +5,7 @@ use std::process::Abort;
 use std::test::Fail;
 use workbench::Status;
 
-const ROWS: [Row; 21] = [
+const ROWS: [Row; 23] = [
     Row {
         words: &["play"],
         input: b"tri 1\n0:1023 0:1023 0:1230 0:3012\n14 0\n41 0 3\n",
@@ -131,6 +131,18 @@ const ROWS: [Row; 21] = [
         input: b"tri 4\n1:0123 2:1023 3:1203 1:0123\n0:0123 2:0123 3:0213 0:0123\n0:1023 1:0123 3:0123 3:1203\n0:2013 1:0213 2:0123 2:2013\n32 0 13\n",
         status: Status::Done,
         text: b"done\ntri 3\n1:3120 1:3120 1:3120 2:1032\n2:0123 0:3120 0:3120 0:3120\n1:0123 2:0321 0:1032 2:0321\n",
+    },
+    Row {
+        words: &["play"],
+        input: b"tri 1\n- - - -\n14 5\n",
+        status: Status::Done,
+        text: b"illegal no-such-tet\ntri 1\n- - - -\n",
+    },
+    Row {
+        words: &["play"],
+        input: b"tri 3\n1:3120 1:3120 1:3120 2:1032\n2:0123 0:3120 0:3120 0:3120\n1:0123 2:0321 0:1032 2:0321\n23 1 0\n41 3 2\nundo\nundo\n",
+        status: Status::Done,
+        text: b"done\ndone\nundone\nundone\ntri 3\n1:3120 1:3120 1:3120 2:1032\n2:0123 0:3120 0:3120 0:3120\n1:0123 2:0321 0:1032 2:0321\n",
     },
 ];
 

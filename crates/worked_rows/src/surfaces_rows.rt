@@ -3,7 +3,7 @@ use crate::running::{Row, are_answered};
 use std::test::Fail;
 use workbench::Status;
 
-const ROWS: [Row; 26] = [
+const ROWS: [Row; 30] = [
     Row {
         words: &["surfaces"],
         input: b"sig bkaagj\n",
@@ -159,6 +159,30 @@ const ROWS: [Row; 26] = [
         input: b"sig cPcbbbiht\n",
         status: Status::Done,
         text: b"# surfaces 4\nvec 0 0 2 0 0 1\nvec 0 1 0 0 2 0\nvec 0 1 0 2 0 0\nvec 2 0 0 0 0 1\n",
+    },
+    Row {
+        words: &["surfaces", "--coords", "quad", "--max-entry", "1"],
+        input: b"sig cPcbbbiht\n",
+        status: Status::Large,
+        text: b"refused: large step 0 row 0 value 0 0 0 0 0 1\n",
+    },
+    Row {
+        words: &["surfaces", "--order", "given"],
+        input: b"sig bkaagj\n",
+        status: Status::Done,
+        text: b"# surfaces 2\nvec 1 1 0 0 1 0 0\nvec 1 1 1 1 0 0 0\n",
+    },
+    Row {
+        words: &["surfaces", "--order", "short"],
+        input: b"sig bkaagj\n",
+        status: Status::Done,
+        text: b"# surfaces 2\nvec 1 1 0 0 1 0 0\nvec 1 1 1 1 0 0 0\n",
+    },
+    Row {
+        words: &["surfaces", "--order", "zeros"],
+        input: b"sig bkaagj\n",
+        status: Status::Done,
+        text: b"# surfaces 2\nvec 1 1 0 0 1 0 0\nvec 1 1 1 1 0 0 0\n",
     },
 ];
 

@@ -1,6 +1,8 @@
 -- What is delivered.
 use Rattle.workbench.proofs.Headlines.{told_surfaces, told_rays, told_verdicts, done_answered}
 use Rattle.workbench.proofs.RunClauses.{run_outcome, run_prefix}
+use Rattle.outcome_definitions.specs.declared.Status.TheVariants.{NoMemory}
+use Rattle.workbench.proofs.Completeness.{all_surfaces, all_rays}
 use Rattle.workbench.proofs.dispatch.run.Goals as goal
 
 pub returns-in-Ok-respond-clause-prefix : goal.returns-in-Ok-respond-clause-prefix
@@ -20,3 +22,23 @@ returns-in-Ok-respond-clause-rays g c = λ done. told_rays c.args.words.now c.de
 pub returns-in-Ok-respond-clause-verify : goal.returns-in-Ok-respond-clause-verify
 returns-in-Ok-respond-clause-verify g c = λ done. told_verdicts c.args.words.now c.deliver.result _ _ (g.S.Source.left c.args.source.now) done
     (run_outcome c.args.words.now _ c.in-Ok.ensures.answers _ _ _ _ _ _ _ _ c.deliver.result (g.S.Source.left c.args.source.now) c.in-Ok-respond.ensures.response c.deliver.ensures (done_answered c.deliver.result done))
+
+pub returns-in-Ok-respond-clause-all_surfaces : goal.returns-in-Ok-respond-clause-all_surfaces
+returns-in-Ok-respond-clause-all_surfaces g c = all_surfaces c.args.words.now c.deliver.result _ _ (g.S.Source.left c.args.source.now)
+    (run_outcome c.args.words.now _ c.in-Ok.ensures.answers _ _ _ _ _ _ _ _ c.deliver.result (g.S.Source.left c.args.source.now) c.in-Ok-respond.ensures.response c.deliver.ensures)
+
+pub returns-in-Ok-respond-clause-all_rays : goal.returns-in-Ok-respond-clause-all_rays
+returns-in-Ok-respond-clause-all_rays g c = all_rays c.args.words.now c.deliver.result _ _ (g.S.Source.left c.args.source.now)
+    (run_outcome c.args.words.now _ c.in-Ok.ensures.answers _ _ _ _ _ _ _ _ c.deliver.result (g.S.Source.left c.args.source.now) c.in-Ok-respond.ensures.response c.deliver.ensures)
+
+pub returns-in-Err-clause-all_surfaces : goal.returns-in-Err-clause-all_surfaces
+returns-in-Err-clause-all_surfaces g c = all_surfaces c.args.words.now NoMemory _ _ (g.S.Source.left c.args.source.now) (λ h. absurd h)
+
+pub returns-in-Err-clause-all_rays : goal.returns-in-Err-clause-all_rays
+returns-in-Err-clause-all_rays g c = all_rays c.args.words.now NoMemory _ _ (g.S.Source.left c.args.source.now) (λ h. absurd h)
+
+pub returns-in-Err-NoMemory-clause-all_surfaces : goal.returns-in-Err-NoMemory-clause-all_surfaces
+returns-in-Err-NoMemory-clause-all_surfaces g c = all_surfaces c.args.words.now NoMemory _ _ (g.S.Source.left c.args.source.now) (λ h. absurd h)
+
+pub returns-in-Err-NoMemory-clause-all_rays : goal.returns-in-Err-NoMemory-clause-all_rays
+returns-in-Err-NoMemory-clause-all_rays g c = all_rays c.args.words.now NoMemory _ _ (g.S.Source.left c.args.source.now) (λ h. absurd h)
