@@ -1,0 +1,4 @@
+pub mod Comparing
+pub mod Vectors
+pub mod Bounds
+pub mod Faults

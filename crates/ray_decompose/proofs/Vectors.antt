@@ -1,0 +1,44 @@
+-- Vectors and terms by their entries.
+use Rattle.std.proofs.Common.{◌≡◌, ℕ, ◌*◌, ◌-◌, ◌<◌, ◌≤◌, ◌++◌, inl, inr, List, take, drop, map, length, slice_index, slice_index_or, sym, ◌∙◌, arith}
+use Rattle.std.proofs.lemmas.Bool.{cases_lt}
+use Rattle.std.proofs.lemmas.List.{length-map, get_or-map, ext_get_or, take-append-le, take_all}
+use Rattle.cone_definitions.specs.Vectors.{multiple}
+use Rattle.cone_definitions.proofs.Entries.{length-multiple, entry-multiple, entry_past}
+use Rattle.sum_definitions.specs.Sums.{Term, IsWithinTimes, repeated, difference}
+use Rattle.sum_laws.proofs.Turns.{length-difference, entry-difference}
+
+-- entries below the length are all that there are
+pub past_zero : (x : List ℕ) (times limit : ℕ) → ((k : ℕ) → k < length x → times * slice_index x k ≤ limit) → IsWithinTimes limit x times
+past_zero x times limit h j = elim (cases_lt j (length x)) [
+  | inl l ↦ h j l
+  | inr past ↦ let z : slice_index x j ≡ 0 = entry_past x (length x) j (λ i. length x) past in rw z (omega arith)
+]
+
+pub is_difference : (rest r v : List ℕ) (q p : ℕ) → length r ≡ length rest → length v ≡ length r →
+    ((k : ℕ) → k < length rest → slice_index rest k ≡ q * slice_index r k - p * slice_index v k) → rest ≡ difference (multiple q r) (multiple p v)
+is_difference rest r v q p same widths h = ext_get_or 0 rest (difference (multiple q r) (multiple p v)) lengths (λ k l. h k l ∙ sym (entry k))
+  where
+    both : length (multiple q r) ≡ length (multiple p v)
+    both = length-multiple q r ∙ sym (length-multiple p v ∙ widths)
+
+    lengths : length rest ≡ length (difference (multiple q r) (multiple p v))
+    lengths = sym (length-difference (multiple q r) (multiple p v) both ∙ length-multiple q r ∙ same)
+
+    entry : (k : ℕ) → slice_index (difference (multiple q r) (multiple p v)) k ≡ q * slice_index r k - p * slice_index v k
+    entry k = let e : slice_index (difference (multiple q r) (multiple p v)) k ≡ slice_index (multiple q r) k - slice_index (multiple p v) k = entry-difference (multiple q r) (multiple p v) both k in
+        let a : slice_index (multiple q r) k ≡ q * slice_index r k = entry-multiple q r k in let b : slice_index (multiple p v) k ≡ p * slice_index v k = entry-multiple p v k in omega arith
+
+pub is_repeated : (new old : List Term) (times : ℕ) → length new ≡ length old →
+    ((k : ℕ) (d : Term) → k < length new → slice_index_or new k d ≡ repeated times (slice_index_or old k d)) → new ≡ map (repeated times) old
+is_repeated new old times same h = ext_get_or d new (map (repeated times) old) (same ∙ sym (length-map old (repeated times)))
+    (λ k l. h k d l ∙ sym (get_or-map (repeated times) old k d d (omega arith)))
+  where
+    d : Term
+    d = record { count = 0; vector = old_vector }
+      where
+        old_vector : List ℕ
+        old_vector = map (λ (t : Term). 0) old
+
+-- what was lent and written stands in its place again
+pub refilled : {A : Type 0} (n : ℕ) (xs ys : List A) → length xs ≡ n → take n (xs ++ drop (length xs) ys) ≡ xs
+refilled n xs ys same = take-append-le n xs (drop (length xs) ys) (omega arith) ∙ take_all n xs (omega arith)

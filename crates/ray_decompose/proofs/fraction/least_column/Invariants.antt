@@ -1,0 +1,5 @@
+use Rattle.ray_decompose.specs.Fractions.{IsLeastColumn}
+use Rattle.ray_decompose.proofs.fraction.least_column.Given as goal
+
+abbrev pub invariant-loop-column : goal.invariant-loop-column
+invariant-loop-column l = IsLeastColumn l.rest l.ray l.column l.least

@@ -1,0 +1,72 @@
+// Whether given terms add up to a vector.
+
+ghost use Rattle.std.specs.Prelude.{◌≡◌, ◌≤◌, ◌<◌, ◌^◌, length, Some, None, IsOk, OnOk, IfErr, IsTrue, ◌↔◌};
+ghost use Rattle.std.specs.List.{All};
+ghost use Rattle.cone_core.specs.declared.numbers.TheConstants.{MAX_ENTRY};
+ghost use Rattle.sum_definitions.specs.Adding.{AddsUp, add_fault, column_fault, sum_at};
+ghost use Rattle.ray_decompose.specs.Sums.{terms_of, HasWidth};
+
+use crate::products::product_within;
+use cone_core::MAX_ENTRY;
+use sum_definitions::AddFault;
+
+/// Entries, taken so many times.
+#[derive(Drop)]
+pub struct Given {
+    pub count: u128,
+    pub entries: Vec<u128>,
+}
+
+/// Whether the counts times the entries at a column add up to a number.
+fn are_equal(sum: u128, terms: &[Given], column: usize) -> bool
+    requires most { sum ≤ MAX_ENTRY }
+    requires terms { All (λ given. column < length given.entries.items) terms.now }
+    ensures { IsTrue result ↔ (sum ≡ sum_at (terms_of terms.now) column) }
+{
+    let mut left = sum;
+    for term in terms {
+        match product_within(term.count, term.entries[column], left) {
+            Some(product) => left -= product,
+            None => return false,
+        }
+    }
+    left == 0
+}
+
+/// What is wrong at a column, if anything.
+fn fault_at(x: &[u128], times: u128, terms: &[Given], column: usize) -> Option<AddFault>
+    requires width { length x.now < 2 ^ 32 }
+    requires in_range { column < length x.now }
+    requires terms { All (HasWidth (length x.now)) terms.now }
+    ensures { result ≡ column_fault MAX_ENTRY x.now times (terms_of terms.now) column }
+{
+    match product_within(times, x[column], MAX_ENTRY) {
+        Some(sum) if are_equal(sum, terms, column) => None,
+        Some(_) => Some(AddFault::NotEqual {
+            column: column as u32,
+        }),
+        None => Some(AddFault::Large {
+            column: column as u32,
+        }),
+    }
+}
+
+/// Whether a vector, taken `times` times, is the sum of the terms. Refused where it is taken no times, or with the first column
+/// at which its entry, taken so many times, passes the greatest entry, or isn't the sum.
+pub fn add_up(x: &[u128], times: u128, terms: &[Given]) -> Result<(), AddFault>
+    requires width { length x.now < 2 ^ 32 }
+    requires terms { All (HasWidth (length x.now)) terms.now }
+    ensures adds_up { IsOk result ↔ AddsUp MAX_ENTRY x.now times (terms_of terms.now) }
+    ensures ok { OnOk result (add_fault MAX_ENTRY x.now times (terms_of terms.now) ≡ None) }
+    ensures fault { IfErr result (λ fault. add_fault MAX_ENTRY x.now times (terms_of terms.now) ≡ Some fault) }
+{
+    if times == 0 {
+        return Err(AddFault::ZeroTimes);
+    }
+    for column in 0..x.len() {
+        if let Some(fault) = fault_at(x, times, terms, column) {
+            return Err(fault);
+        }
+    }
+    Ok(())
+}

@@ -1,0 +1,52 @@
+// Columns of vectors: whether a support lies inside another, and the first entry that passes the limit.
+
+ghost use Rattle.std.specs.Prelude.{◌≡◌, ◌*◌, ◌<◌, ◌≤◌, ◌^◌, ◌↔◌, IsTrue, IfSome, IfNone, length};
+ghost use Rattle.cone_core.specs.declared.numbers.TheConstants.{MAX_ENTRY};
+ghost use Rattle.cone_definitions.specs.Vectors.{IsInside};
+ghost use Rattle.sum_definitions.specs.Sums.{IsWithinTimes};
+ghost use Rattle.ray_decompose.specs.Sums.{IsFirstLarge};
+
+use crate::products::product_within;
+use cone_core::MAX_ENTRY;
+
+/// Whether the support of a vector lies in that of another.
+pub fn is_inside(x: &[u128], other: &[u128]) -> bool
+    requires { length x.now ≡ length other.now }
+    ensures { IsTrue result ↔ IsInside x.now other.now }
+{
+    for (column, entry) in x.iter().enumerate() {
+        if *entry != 0 && other[column] == 0 {
+            return false;
+        }
+    }
+    true
+}
+
+/// Whether an entry, taken `first` times `second` times, passes the limit.
+fn passes(entry: u128, first: u128, second: u128, limit: u128) -> bool
+    requires { limit ≤ MAX_ENTRY }
+    ensures { IsTrue result ↔ (limit < first * second * entry) }
+{
+    if entry == 0 {
+        return false;
+    }
+    match product_within(first, second, limit) {
+        Some(times) => product_within(times, entry, limit).is_none(),
+        None => true,
+    }
+}
+
+/// The first column whose entry, taken `first` times `second` times, passes the limit.
+pub fn first_large(x: &[u128], first: u128, second: u128, limit: u128) -> Option<u32>
+    requires limit { limit ≤ MAX_ENTRY }
+    requires width { length x.now < 2 ^ 32 }
+    ensures some { IfSome result (IsFirstLarge limit x.now (first * second)) }
+    ensures none { IfNone result (IsWithinTimes limit x.now (first * second)) }
+{
+    for (column, entry) in x.iter().enumerate() {
+        if passes(*entry, first, second, limit) {
+            return Some(column as u32);
+        }
+    }
+    None
+}

@@ -1,0 +1,66 @@
+// A solution as a sum of listed rays.
+
+ghost use Rattle.std.specs.Prelude.{◌≡◌, ℕ, ◌≤◌, IfOk, IfErr, slice_index};
+ghost use Rattle.cone_core.specs.declared.numbers.TheConstants.{MAX_ENTRY};
+ghost use Rattle.sum_definitions.specs.Sums.{HasRays, IsSum, SumFails};
+ghost use Rattle.sum_laws.specs.Laws.{IsSumOfRays};
+
+use crate::columns::{first_large, is_inside};
+use crate::fraction::least_fraction;
+use crate::taking::{repeat, take_out};
+use cone_core::{MAX_ENTRY, Ray, System};
+use std::alloc::Global;
+use sum_definitions::SumFault;
+
+/// A ray, taken so many times.
+pub type Term = sum_definitions::Term<Ray>;
+
+/// A solution, taken `times` times, as a sum of rays.
+#[derive(Drop)]
+pub struct Sum {
+    pub times: u128,
+    pub terms: Vec<Term>,
+}
+
+/// A solution of a system as a sum of listed rays: turn by turn, the least ray inside what is left is taken out of it, as often
+/// as leaves nothing negative. A ray that isn't inside what is left never is again, so the list is read once.
+///
+/// The list ascends, and each primitive extreme solution inside `x` is in it. Refused with the first turn, and its first column,
+/// at which an entry of the solution, taken so many times, passes the limit.
+pub fn decompose(
+    alloc: Global,
+    system: &System,
+    list: &[Ray],
+    x: &[u128],
+    limit: u128,
+) -> Result<Sum, SumFault>
+    requires rays { HasRays system.now.columns system.now.rows list.now x.now }
+    requires entries { (column : ℕ) → slice_index x.now column ≤ MAX_ENTRY }
+    requires some_limit { 1 ≤ limit }
+    requires most_limit { limit ≤ MAX_ENTRY }
+    ensures ok { IfOk result (λ sum. IsSum limit list.now x.now sum.times sum.terms.items) }
+    ensures right { IfOk result (λ sum. IsSumOfRays list.now limit x.now sum.times sum.terms.items) }
+    ensures err { IfErr result (SumFails limit list.now x.now) }
+{
+    let mut times = 1;
+    let mut terms: Vec<Term> = Vec::with_capacity(alloc, system.columns() as usize)?;
+    let mut rest = Vec::with_capacity(alloc, x.len())?;
+    rest.extend_from_slice(x)?;
+    for ray in list {
+        if is_inside(ray.entries(), &rest) {
+            let fraction = least_fraction(&rest, ray.entries());
+            if let Some(column) = first_large(x, fraction.denominator, times, limit) {
+                let turn = terms.len() as u32;
+                return Err(SumFault::Large { turn, column });
+            }
+            times = fraction.denominator * times;
+            repeat(&mut terms, fraction.denominator);
+            terms.push(Term {
+                count: fraction.numerator,
+                vector: ray.copy(alloc)?,
+            })?;
+            take_out(&mut rest, fraction, ray.entries());
+        }
+    }
+    Ok(Sum { times, terms })
+}

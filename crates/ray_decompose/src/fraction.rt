@@ -1,0 +1,80 @@
+// The least fraction of the entries of two vectors, in lowest terms.
+
+ghost use Rattle.std.specs.Prelude.{◌≡◌, ◌≢◌, ℕ, ◌*◌, ◌+◌, ◌<◌, ◌≤◌, ◌↔◌, IsTrue, length, slice_index};
+ghost use Rattle.cone_definitions.specs.Vectors.{IsNonzero};
+ghost use Rattle.sum_definitions.specs.Sums.{IsLeastFraction};
+ghost use Rattle.ray_decompose.specs.Fractions.{IsLeastColumn};
+
+use cone_core::gcd;
+
+/// A fraction of two whole numbers.
+#[derive(Clone, Copy, Debug, PartialEq, Eq)]
+pub struct Fraction {
+    pub numerator: u128,
+    pub denominator: u128,
+}
+
+/// Whether a / b is at most c / d: by their whole parts, and where these are equal by the reciprocals of what remains, as
+/// Euclid does it, so that no product is needed.
+fn is_at_most(a: u128, b: u128, c: u128, d: u128) -> bool
+    requires first { 1 ≤ b }
+    requires second { 1 ≤ d }
+    ensures { IsTrue result ↔ (a * d ≤ c * b) }
+{
+    if a / b != c / d {
+        return a / b < c / d;
+    }
+    let first_rest = a % b;
+    let second_rest = c % d;
+    if first_rest == 0 {
+        true
+    } else if second_rest == 0 {
+        false
+    } else {
+        is_at_most(d, second_rest, b, first_rest)
+    }
+}
+
+/// The first column of the support.
+fn first_column(ray: &[u128]) -> usize
+    requires { IsNonzero ray.now }
+    ensures in_range { result < length ray.now }
+    ensures some { slice_index ray.now result ≢ 0 }
+    ensures first { (earlier : ℕ) → earlier < result → slice_index ray.now earlier ≡ 0 }
+{
+    for (column, entry) in ray.iter().enumerate() {
+        if *entry != 0 {
+            return column;
+        }
+    }
+    unreachable!()
+}
+
+/// The first column at which the fraction of an entry of `rest` by the entry of `ray` is least, of those where that isn't 0.
+fn least_column(rest: &[u128], ray: &[u128]) -> usize
+    requires lengths { length rest.now ≡ length ray.now }
+    requires nonzero { IsNonzero ray.now }
+    ensures { IsLeastColumn rest.now ray.now (length ray.now) result }
+{
+    let mut least = first_column(ray);
+    for column in least + 1..ray.len() {
+        if ray[column] != 0 && !is_at_most(rest[least], ray[least], rest[column], ray[column]) {
+            least = column;
+        }
+    }
+    least
+}
+
+/// The least of the fractions of an entry of `rest` by the entry of `ray`, in lowest terms.
+pub fn least_fraction(rest: &[u128], ray: &[u128]) -> Fraction
+    requires lengths { length rest.now ≡ length ray.now }
+    requires nonzero { IsNonzero ray.now }
+    ensures { IsLeastFraction rest.now ray.now result.numerator result.denominator }
+{
+    let column = least_column(rest, ray);
+    let divisor = gcd(rest[column], ray[column]);
+    Fraction {
+        numerator: rest[column] / divisor,
+        denominator: ray[column] / divisor,
+    }
+}

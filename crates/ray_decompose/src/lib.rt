@@ -1,0 +1,16 @@
+//! A solution as a sum of listed rays, and the test of such a sum.
+#![tactic(auto)]
+
+mod adding;
+mod columns;
+mod decomposing;
+mod fraction;
+mod products;
+mod taking;
+
+pub use adding::{Given, add_up};
+pub use decomposing::{Sum, Term, decompose};
+pub use sum_definitions::{AddFault, SumFault};
+
+#[cfg(test)]
+mod tests;

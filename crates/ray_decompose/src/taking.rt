@@ -1,0 +1,31 @@
+// A ray taken out of what is left.
+
+ghost use Rattle.std.specs.Prelude.{◌≡◌, ℕ, ◌*◌, ◌<◌, ◌≤◌, ◌^◌, map, length, slice_index};
+ghost use Rattle.std.specs.List.{All};
+ghost use Rattle.cone_definitions.specs.Vectors.{multiple};
+ghost use Rattle.sum_definitions.specs.Sums.{Term as Taken, repeated, difference};
+
+use crate::decomposing::Term;
+use crate::fraction::Fraction;
+
+/// Takes each term so many times as often.
+pub fn repeat(terms: &mut [Term], times: u128)
+    requires { All (λ (term : Taken). times * term.count < 2 ^ 128) terms.old }
+    ensures { terms.new ≡ map (repeated times) terms.old }
+{
+    for term in terms.iter_mut() {
+        term.count = times * term.count;
+    }
+}
+
+/// Leaves of a vector, taken as often as the denominator says, what the ray doesn't have, taken as often as the numerator says.
+pub fn take_out(rest: &mut [u128], fraction: Fraction, ray: &[u128])
+    requires lengths { length ray.now ≡ length rest.old }
+    requires fits { (column : ℕ) → fraction.denominator * slice_index rest.old column < 2 ^ 128 }
+    requires enough { (column : ℕ) → fraction.numerator * slice_index ray.now column ≤ fraction.denominator * slice_index rest.old column }
+    ensures { rest.new ≡ difference (multiple fraction.denominator rest.old) (multiple fraction.numerator ray.now) }
+{
+    for (column, entry) in rest.iter_mut().enumerate() {
+        *entry = fraction.denominator * *entry - fraction.numerator * ray[column];
+    }
+}
