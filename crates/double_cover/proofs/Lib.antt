@@ -1,0 +1,2 @@
+mod CoverRows
+mod Relabelled

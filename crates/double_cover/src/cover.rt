@@ -1,0 +1,131 @@
+//! Double covers.
+
+ghost use Rattle.std.specs.Prelude.{◌≡◌, ◌≢◌, ◌*◌, ◌<◌, ◌≤◌, length, Some, None, IfOk, IfErr, OnOk, IfSome};
+ghost use Rattle.std.specs.Option.{option_copied, option_map};
+ghost use Rattle.table_definitions.specs.Table.{IsTable};
+ghost use Rattle.table_definitions.specs.Relabelling.{Carries};
+ghost use Rattle.skeleton_definitions.specs.Orientation.{AreSigns};
+ghost use Rattle.skeleton.specs.Parts.{items_of};
+ghost use Rattle.cover_definitions.specs.Cover as definition;
+
+use crate::images::{by_images, exchanged, parted};
+use crate::rows::cover_table;
+use crate::sheets;
+use cover_definitions::CoverFault;
+use gluing_table::{MAX_TETS, Relabelling, Table};
+use no_memory::NoMemory;
+use skeleton::Skeleton;
+use std::alloc::{AllocError, Global};
+use std::marker::Model;
+
+/// The orientable double cover of a table. Contracts see the rows of the table that it covers.
+#[derive(Drop)]
+pub struct Cover {
+    base: Table,
+    table: Table,
+    signs: Option<Vec<bool>>,
+}
+
+impl Model for Cover {
+    ghost use Rattle.std.specs.Prelude.{◌≡◌, ◌*◌, ◌≤◌, List, length};
+    ghost use Rattle.std.specs.Option.{option_map};
+    ghost use Rattle.table_definitions.specs.Table.{Row, IsTable};
+    ghost use Rattle.skeleton_definitions.specs.Skeleton.{IsOrientation};
+    ghost use Rattle.cover_definitions.specs.Cover as definition;
+    ghost use Rattle.skeleton.specs.Parts.{items_of};
+
+    ghost Value = { List Row };
+
+    ghost view = { λ c. c.base };
+
+    ghost invariant = { λ c. (2 * length c.base ≤ 1000) × IsTable c.base × (c.table ≡ definition.cover c.base) × IsOrientation c.base (option_map items_of c.signs) };
+}
+
+/// The same signs once more.
+fn copied(alloc: Global, signs: Option<&[bool]>) -> Result<Option<Vec<bool>>, AllocError>
+    ensures { IfOk result (λ copy. option_map items_of copy ≡ option_copied signs.entry) }
+{
+    match signs {
+        Some(signs) => {
+            let copy = Vec::from_slice(alloc, signs)?;
+            Ok(Some(copy))
+        }
+        None => Ok(None),
+    }
+}
+
+impl Cover {
+    /// The orientable double cover of a table: a tetrahedron on each of two sheets over each of the table's. Over an odd
+    /// gluing the sheet stays, and over an even one it changes (the orientation cover of a triangulation, as in Regina's
+    /// `makeDoubleCover`). Refused as `TooMany` exactly where the cover would have more than [`MAX_TETS`] tetrahedra.
+    pub fn of(alloc: Global, skeleton: &Skeleton) -> Result<Cover, CoverFault>
+        ensures cover { IfOk result (λ c. c ≡ skeleton.now.rows) }
+        ensures fits { OnOk result (definition.cover_fault skeleton.now.rows ≡ None) }
+        ensures fault { IfErr result (λ e. e ≢ CoverFault.NoMemory → definition.cover_fault skeleton.now.rows ≡ Some e) }
+    {
+        let base = skeleton.table();
+        if 2 * base.len() > MAX_TETS {
+            return Err(CoverFault::TooMany);
+        }
+        let table = cover_table(alloc, base)?;
+        let signs = copied(alloc, skeleton.orientation())?;
+        let base = base.copy(alloc)?;
+        Ok(Cover { base, table, signs })
+    }
+
+    /// The cover as a table. Its sheets are signs of it, so it is orientable.
+    pub fn table(&self) -> &Table
+        ensures rows { result.now ≡ definition.cover self.now }
+        ensures size { length result.now ≡ 2 * length self.now }
+        ensures is_table { IsTable result.now }
+        ensures covers { IsTable self.now }
+        ensures signs { AreSigns result.now (definition.sheet_signs (length self.now)) }
+    {
+        &self.table
+    }
+
+    /// The tetrahedron over which one of the cover lies.
+    pub fn over(&self, tet: u32) -> u32
+        requires { tet < 2 * length self.now }
+        ensures value { result ≡ definition.over (length self.now) tet }
+        ensures in_range { result < length self.now }
+    {
+        sheets::over(self.base.len(), tet)
+    }
+
+    /// The sheet, 0 or 1, on which a tetrahedron of the cover lies.
+    pub fn sheet(&self, tet: u32) -> u8
+        requires { tet < 2 * length self.now }
+        ensures value { result ≡ definition.sheet (length self.now) tet }
+        ensures two { result ≤ 1 }
+    {
+        sheets::sheet(self.base.len(), tet)
+    }
+
+    /// The exchange of the sheets, which keeps all vertices and carries the cover to itself.
+    pub fn exchange(&self, alloc: Global) -> Result<Relabelling, NoMemory>
+        ensures size { IfOk result (λ by. length by.images ≡ 2 * length self.now) }
+        ensures exchange { IfOk result (λ by. by ≡ definition.exchange (length self.now)) }
+        ensures carries { IfOk result (λ by. Carries by (definition.cover self.now) (definition.cover self.now)) }
+    {
+        let images = exchanged(alloc, self.base.len())?;
+        let by = by_images(alloc, &images)?;
+        Ok(by)
+    }
+
+    /// The relabelling that keeps all vertices and carries the cover to two copies of the table, the second with its
+    /// numbers behind those of the first; nothing exactly where the table isn't orientable. A sheet over a tetrahedron
+    /// goes to the copy of its number where the orientation's sign is true, and to the other where it is false.
+    pub fn split(&self, alloc: Global) -> Result<Option<Relabelling>, NoMemory>
+        ensures size { IfOk result (λ by. IfSome by (λ r. length r.images ≡ 2 * length self.now)) }
+        ensures split { IfOk result (λ by. definition.IsSplit self.now by) }
+        ensures carries { IfOk result (λ by. IfSome by (λ r. Carries r (definition.cover self.now) (definition.two_copies self.now))) }
+    {
+        let Some(signs) = &self.signs else {
+            return Ok(None);
+        };
+        let images = parted(alloc, self.base.len(), signs)?;
+        let by = by_images(alloc, &images)?;
+        Ok(Some(by))
+    }
+}

@@ -1,0 +1,13 @@
+//! The orientable double cover of a table, with its projection, the exchange of its sheets, and its split.
+#![tactic(auto)]
+
+mod cover;
+mod images;
+mod rows;
+mod sheets;
+
+pub use cover::Cover;
+pub use cover_definitions::CoverFault;
+
+#[cfg(test)]
+mod tests;

@@ -1,0 +1,12 @@
+pub mod Numbers
+pub mod Members
+pub mod Matching
+pub mod Carrying
+pub mod Permuted
+pub mod Texts
+pub mod Signatures
+pub mod Alone
+pub mod SameParts
+pub mod OneOrder
+pub mod Worked
+pub mod Existing
