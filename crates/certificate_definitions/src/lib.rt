@@ -3,6 +3,7 @@
 #![tactic(auto)]
 
 use move_definitions::MoveFault;
+use no_memory::NoMemory;
 
 /// Why moves certify no table. The signature is a text, as the list `S` of its characters.
 #[derive(Drop)]
@@ -14,4 +15,15 @@ pub enum CheckFault<S> {
     NotConnected { tet: u32 },
     /// The last table has this signature, and the standard sphere another.
     NotStandard { signature: S },
+}
+
+impl<S> From<NoMemory> for CheckFault<S> {
+    ghost use Rattle.std.specs.Prelude.{◌≡◌};
+    ghost use Rattle.certificate_definitions.specs.declared.CheckFault.TheVariants as check_faults;
+
+    ghost from_gives = { λ _ e. e ≡ check_faults.NoMemory };
+
+    fn from(_error: NoMemory) -> CheckFault<S> {
+        CheckFault::NoMemory
+    }
 }
