@@ -1,0 +1,72 @@
+//! Whether moves certify a table.
+
+ghost use Rattle.std.specs.Prelude.{◌≡◌, ◌≢◌, ◌<◌, ◌-◌, ◌^◌, ◌↔◌, [], length, Ok, Err, IsTrue, IfErr, OnOk};
+ghost use Rattle.move_definitions.specs.Moves.{PlaysAll};
+ghost use Rattle.move_definitions.specs.Certificates.{IsStandard, IsCertificate};
+ghost use Rattle.certificate_definitions.specs.Answers.{IsChecked, sphere_text};
+ghost use Rattle.certificate_definitions.specs.declared.CheckFault.TheVariants as check_faults;
+ghost use Rattle.sphere_certificate.specs.Checks.{told};
+
+use canonical_labelling::{WalkFault, signature};
+use gluing_table::Table;
+use pachner_moves::{Move, apply};
+use std::alloc::Global;
+
+/// Why moves certify no table.
+pub type CheckFault = certificate_definitions::CheckFault<Vec<u8>>;
+
+/// The signature of the standard sphere.
+const SPHERE: [u8; 6] = *b"bkaagj";
+
+/// Plays the moves one after another, up to the first that is refused.
+fn play_all(table: &mut Table, moves: &[Move]) -> Result<(), CheckFault>
+    requires few { length moves.now < 2 ^ 32 - 1 }
+    ensures led { OnOk result (PlaysAll table.old moves.now table.new) }
+    ensures refused { IfErr result (λ e. IsChecked table.old moves.now (Err (told e))) }
+{
+    for i in 0..moves.len() {
+        if let Err(fault) = apply(table, moves[i]) {
+            let step = i as u32 + 1;
+            return Err(CheckFault::Illegal { step, fault });
+        }
+    }
+    Ok(())
+}
+
+/// Whether a text is the signature of the standard sphere.
+fn is_sphere(text: &[u8]) -> bool
+    ensures { IsTrue result ↔ (text.now ≡ sphere_text) }
+{
+    text == SPHERE.as_slice()
+}
+
+/// Whether a table is a relabelling of the standard sphere, which its signature tells.
+fn judge(alloc: Global, last: &Table) -> Result<(), CheckFault>
+    ensures standard { OnOk result (IsStandard last.now) }
+    ensures fault { IfErr result (λ e. e ≢ check_faults.NoMemory → IsChecked last.now [] (Err (told e))) }
+{
+    // so the rows are known to be a table
+    let _ = last.rows();
+    match signature(alloc, last) {
+        Ok(text) if is_sphere(&text) => Ok(()),
+        Ok(signature) => Err(CheckFault::NotStandard { signature }),
+        Err(WalkFault::NotConnected { tet }) => Err(CheckFault::NotConnected { tet }),
+        Err(WalkFault::NoMemory) => Err(CheckFault::NoMemory),
+    }
+}
+
+/// Whether moves are a certificate of a table: they lead from it, one after another, to a relabelling of the standard
+/// sphere (Pachner). `Illegal` names the first move that is refused, counted from 1; else `NotConnected` the least
+/// tetrahedron of the last table that isn't reached; else `NotStandard` has its signature.
+pub fn check(alloc: Global, table: &Table, moves: &[Move]) -> Result<(), CheckFault>
+    requires few { length moves.now < 2 ^ 32 - 1 }
+    ensures certificate { OnOk result (IsCertificate table.now moves.now) }
+    ensures fault { IfErr result (λ e. e ≢ check_faults.NoMemory → IsChecked table.now moves.now (Err (told e))) }
+    ensures no_certificate { IfErr result (λ e. e ≢ check_faults.NoMemory → IsCertificate table.now moves.now → ⊥) }
+{
+    // so the rows are known to be a table
+    let _ = table.rows();
+    let mut last = table.copy(alloc)?;
+    play_all(&mut last, moves)?;
+    judge(alloc, &last)
+}

@@ -1,0 +1,52 @@
+use super::*;
+use pachner_moves::{Core, Move, MoveFault};
+use signature_codec::read_signature;
+use std::test::Fail;
+
+// The move of a tetrahedron whose core's vertices are the bits of the mask.
+fn at(tet: u32, mask: u8) -> Option<Move> {
+    let core = Core::new(mask)?;
+    Some(Move { tet, core })
+}
+
+#[test]
+fn the_sphere_is_certified_without_moves(rt: HostRuntime) -> Result<(), Fail> {
+    let alloc = rt.alloc();
+    let sphere = standard(alloc)?;
+    assert!(rt; sphere.equals(&read_signature(alloc, b"bkaagj")?));
+    assert!(rt; check(alloc, &sphere, &[]).is_ok());
+    Ok(())
+}
+
+#[test]
+fn moves_are_refused_by_their_step(rt: HostRuntime) -> Result<(), Fail> {
+    let alloc = rt.alloc();
+    let sphere = standard(alloc)?;
+    let moves = [
+        at(0, 15).ok_or("a move")?,
+        at(0, 8).ok_or("a move")?,
+        at(0, 14).ok_or("a move")?,
+    ];
+    assert!(rt; check(alloc, &sphere, &moves[..2]).is_ok());
+    match check(alloc, &sphere, &moves) {
+        Err(CheckFault::Illegal { step, fault }) => {
+            assert_eq!(rt; step, 3);
+            assert_eq!(rt; fault, MoveFault::Repeated { label: 3 });
+        }
+        _ => assert!(rt; false, "not refused"),
+    }
+    Ok(())
+}
+
+#[test]
+fn other_tables_have_another_signature(rt: HostRuntime) -> Result<(), Fail> {
+    let alloc = rt.alloc();
+    let table = read_signature(alloc, b"bkaagb")?;
+    match check(alloc, &table, &[]) {
+        Err(CheckFault::NotStandard { signature }) => {
+            assert_eq!(rt; signature.as_slice(), b"bkaagb".as_slice());
+        }
+        _ => assert!(rt; false, "not refused"),
+    }
+    Ok(())
+}
