@@ -8,8 +8,8 @@ ghost use Rattle.std.specs.Prelude.{◌≡◌};
 ghost use Rattle.workbench.specs.Codes.{code_of};
 
 pub use dispatch::run;
-pub use steady::run_steadily;
 pub use outcome_definitions::Status;
+pub use steady::run_steadily;
 
 /// The exit status of the program for the status of a run.
 pub fn exit_code(status: Status) -> u8
