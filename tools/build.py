@@ -152,8 +152,8 @@ def fail(progress, log, crate):
 
 
 def prove_libraries(to, log, jobs, progress):
-    """Proves the crates of the copy side by side. Each one is told by rt when it is done."""
-    current, failed = None, None
+    """Proves the crates of the copy side by side. rt tells each one when it is done."""
+    failed = None
     with open(log, "w", encoding="utf8") as kept:
         run = subprocess.Popen(
             ["rt", "all", "check", "--jobs", str(jobs)], cwd=to, text=True, errors="replace",
@@ -161,11 +161,9 @@ def prove_libraries(to, log, jobs, progress):
         )
         for line in run.stdout:
             kept.write(line)
-            begun = re.match(r"== (\w+)$", line)
-            if begun:
-                current = begun[1]
-            elif line.startswith("logic=proved") and current:
-                progress.finish(current)
+            done = re.match(r"== (\w+)$", line)
+            if done:
+                progress.finish(done[1])
             elif failed is None and re.match(r"(\w+): failed", line):
                 failed = line.partition(":")[0]
         if run.wait():
