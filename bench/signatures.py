@@ -6,12 +6,10 @@ Usage: bench/signatures.py [PROGRAM]
 """
 import os
 import random
-import shutil
 import subprocess
 import sys
-import tempfile
 
-from surfaces import layered_loop, processor_seconds
+from surfaces import layered_loop, processor_seconds, regina_takes
 from verify import HERE, chain
 
 # What Regina's interpreter is told: seconds of its signature, without its start.
@@ -22,18 +20,6 @@ begun = time.process_time()
 table.isoSig()
 print(time.process_time() - begun)
 """
-
-
-def regina_takes(signature):
-    """The seconds of Regina's signature, or None where Regina isn't installed."""
-    python = shutil.which("regina-python")
-    if python is None:
-        return None
-    with tempfile.NamedTemporaryFile("w", suffix=".py") as script:
-        script.write(REGINA % signature)
-        script.flush()
-        done = subprocess.run([python, script.name], stdin=subprocess.DEVNULL, stdout=subprocess.PIPE)
-    return float(done.stdout.split()[-1])
 
 
 def grown(program, steps):
@@ -51,7 +37,7 @@ def measure(program, command, name, text):
     done = subprocess.run([program, command], input=text.encode(), stdout=subprocess.PIPE)
     seconds = processor_seconds() - begun
     line = f"{command}, {name}: {len(done.stdout)} bytes, status {done.returncode}, {seconds:.3f} s"
-    peer = command == "sig" and regina_takes(done.stdout.decode().split()[-1])
+    peer = command == "sig" and regina_takes(REGINA % done.stdout.decode().split()[-1])
     if peer:
         line += f"; Regina {peer:.3f} s, ratio {seconds / peer:.2f}"
     print(line, flush=True)

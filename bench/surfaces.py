@@ -78,13 +78,13 @@ def measure(program, words, name, text):
         print(f"{name}, {' '.join(words)}: {answer[0]} vectors, status {answer[1]}, {answer[2]:.2f} s", flush=True)
 
 
-def regina_takes(signature):
-    """The seconds of Regina's double description, or None where Regina isn't installed."""
+def regina_takes(text):
+    """The seconds that a script of Regina's prints last, or None where Regina isn't installed."""
     python = shutil.which("regina-python")
     if python is None:
         return None
     with tempfile.NamedTemporaryFile("w", suffix=".py") as script:
-        script.write(REGINA % signature)
+        script.write(text)
         script.flush()
         done = subprocess.run([python, script.name], stdin=subprocess.DEVNULL, stdout=subprocess.PIPE)
     return float(done.stdout.split()[-1])
@@ -96,7 +96,7 @@ def compare(program, kind, tables):
         text = f"sig {signature}\n"
         vectors, _, seconds = ask(program, ["surfaces", "--order", "zeros"], text)
         line = f"{kind} table of {count}, zeros: {vectors} vectors, {seconds:.3f} s"
-        peer = regina_takes(signature)
+        peer = regina_takes(REGINA % signature)
         if peer:
             line += f"; Regina {peer:.3f} s, ratio {seconds / peer:.2f}"
         if count <= 10:
