@@ -1,0 +1,206 @@
+-- Round a vertex of a face a piece has at most one arc: that of its number, or that of the place from which its number is counted.
+use Rattle.std.proofs.Common.{◌≡◌, ℕ, zero, suc, ◌+◌, ◌-◌, ◌/◌, ◌%◌, ◌<◌, ◌≤◌, Bool, true, false, not, cond, List, [], ◌∷◌, length, map, filter, inl, inr, refl, sym, ap, ◌∙◌, subst, arith}
+use Rattle.std.specs.Prelude.{◌==◌, nat_lt, slice_index, sum_by, if◌then◌else◌}
+use Rattle.std.specs.List.{AllByRecursion, position_or_len, slice_index_or}
+use Rattle.std.proofs.lemmas.Bool.{cases_lt, lt-ltb, le-ltb}
+use Rattle.std.proofs.lemmas.List.Sums.{sum_by-cons}
+use Rattle.cone_definitions.specs.Surfaces.{IsAdmissible}
+use Rattle.surface_definitions.specs.Coordinates.{columns_each, tri_column, quad_column, oct_column, keeping, three, octagon_arcs, clash_list}
+use Rattle.surface_definitions.specs.declared.Coords.{Coords}
+use Rattle.surface_definitions.specs.declared.Coords.TheVariants.{Standard, Quad, Octagon}
+use Rattle.surface_definitions.specs.Pieces.{SurfacePiece, Arc, arcs_round, type_in, keeps_by_zero, further_piece, piece_of}
+use Rattle.vector_laws.specs.MatchingLaws.{HasTriangles}
+use Rattle.vector_laws.proofs.MeetingArcs.{arc_at}
+use Rattle.vector_laws.proofs.Turns.{keeping_below}
+use Rattle.vector_laws.proofs.FurtherArcs.{first_nonzero, one_further, further_one}
+use Rattle.vector_laws.proofs.PieceNumbers.{piece_at}
+use Rattle.table_definitions.specs.Table.{Row}
+use Rattle.surface_definitions.specs.Coordinates.{columns}
+use Rattle.vector_laws.specs.PieceLaws.{IsSurface}
+use Rattle.surface_pieces.specs.Arcs.{IsArcOf, IsOnlyArcOf}
+
+-- what is so of all the columns is so of the first nonzero one
+first_is : (P : ℕ → Type 0) (xs os : List ℕ) (q : ℕ) → P q → AllByRecursion P os → P (first_nonzero xs os q)
+first_is P xs [] q h a = h
+first_is P xs (o ∷ os) q h a = by_test (nat_lt 0 (slice_index xs o)) (first_is P xs os q h a.1)
+  where
+    place : ℕ
+    place = position_or_len (λ c. nat_lt 0 (slice_index xs c)) os
+
+    by_test : (b : Bool) → P (first_nonzero xs os q) → P (slice_index_or (o ∷ os) (cond (not b) (1 + place) 0) q)
+    by_test true more = a.0
+    by_test false more = let next : suc place ≡ 1 + place = omega arith in subst (λ k. P (slice_index_or (o ∷ os) k q)) next more
+
+-- quads and octagons stand behind the triangles of a tetrahedron
+abbrev IsHigh : ℕ → ℕ → Type 0
+IsHigh each c = 4 ≤ c % each
+
+high_octagons : (t k : ℕ) → k < 3 → AllByRecursion (IsHigh 10) (map (oct_column Octagon t) (filter (λ j. not (j == k)) three))
+high_octagons t zero l = (omega arith, (omega arith, tt))
+high_octagons t (suc zero) l = (omega arith, (omega arith, tt))
+high_octagons t (suc (suc zero)) l = (omega arith, (omega arith, tt))
+high_octagons t (suc (suc (suc k))) l = absurd (omega arith)
+
+high_behind : (coords : Coords) (xs : List ℕ) (t f v : ℕ) → HasTriangles coords → f < 4 → v < 4 → (v ≡ f → ⊥) → IsHigh (columns_each coords) (first_nonzero xs (octagon_arcs coords t f v) (quad_column coords t (keeping v f)))
+high_behind Standard xs t f v h lf lv off = let l : keeping v f < 3 = keeping_below v f lv lf off in omega arith
+high_behind Quad xs t f v h lf lv off = absurd h
+high_behind Octagon xs t f v h lf lv off =
+    let l : keeping v f < 3 = keeping_below v f lv lf off in
+    first_is (IsHigh 10) xs (octagon_arcs Octagon t f v) (quad_column Octagon t (keeping v f)) (omega arith) (high_octagons t (keeping v f) l)
+
+low_triangle : (coords : Coords) (t v : ℕ) → HasTriangles coords → v < 4 → tri_column coords t v % columns_each coords < 4
+low_triangle Standard t v h lv = omega arith
+low_triangle Quad t v h lv = absurd h
+low_triangle Octagon t v h lv = omega arith
+
+module _ (coords : Coords) (n : ℕ) (xs : List ℕ) (triangles : HasTriangles coords) (admissible : IsAdmissible (clash_list coords n) xs) (t f v : ℕ) (lt : t < n) (lf : f < 4) (lv : v < 4) (off : v ≡ f → ⊥) where
+  abbrev pub tri : ℕ
+  tri = tri_column coords t v
+
+  abbrev pub behind : ℕ
+  behind = first_nonzero xs (octagon_arcs coords t f v) (quad_column coords t (keeping v f))
+
+  apart : tri ≡ behind → ⊥
+  apart e =
+      let low : tri % columns_each coords < 4 = low_triangle coords t v triangles lv in
+      let high : 4 ≤ behind % columns_each coords = high_behind coords xs t f v triangles lf lv off in
+      let same : tri % columns_each coords ≡ behind % columns_each coords = ap (λ c. c % columns_each coords) e in
+      omega arith
+
+  arcs_are : arcs_round coords xs t f v ≡ slice_index xs tri + slice_index xs behind
+  arcs_are =
+      let further : slice_index xs (quad_column coords t (keeping v f)) + sum_by (slice_index xs) (octagon_arcs coords t f v) ≡ slice_index xs behind =
+      one_further xs xs (λ c z. z) (quad_column coords t (keeping v f)) (octagon_arcs coords t f v) (further_one coords n xs t f v triangles admissible lt lf lv off) in
+      omega (arith, sum_by-cons (slice_index xs) tri (quad_column coords t (keeping v f) ∷ octagon_arcs coords t f v), sum_by-cons (slice_index xs) (quad_column coords t (keeping v f)) (octagon_arcs coords t f v))
+
+  -- a number counted from one end or the other
+  abbrev pub from_end : Bool → ℕ → ℕ
+  from_end b j = if b then j else slice_index xs behind - 1 - j
+
+  abbrev pub by_zero : Bool
+  by_zero = keeps_by_zero (type_in coords behind) v
+
+  piece_if : ℕ → Bool → SurfacePiece
+  piece_if k b = if b then piece_at tri k else further_piece xs behind (k - slice_index xs tri) by_zero
+
+  pub triangle_piece : (k : ℕ) → k < slice_index xs tri → piece_of coords xs (arc_at t f v k) ≡ piece_at tri k
+  unfolding piece_if
+  triangle_piece k l = ap (piece_if k) (lt-ltb k (slice_index xs tri) l)
+
+  pub behind_piece : (j : ℕ) → piece_of coords xs (arc_at t f v (slice_index xs tri + j)) ≡ piece_at behind (from_end by_zero j)
+  unfolding piece_if
+  behind_piece j =
+      let less : slice_index xs tri + j - slice_index xs tri ≡ j = omega arith in
+      ap (piece_if (slice_index xs tri + j)) (le-ltb (slice_index xs tri + j) (slice_index xs tri) (omega arith)) ∙ ap (λ i. further_piece xs behind i by_zero) less
+
+  from_end_below : (b : Bool) (j : ℕ) → j < slice_index xs behind → from_end b j < slice_index xs behind
+  from_end_below true j l = l
+  from_end_below false j l = omega arith
+
+  from_end_twice : (b : Bool) (j : ℕ) → j < slice_index xs behind → from_end b (from_end b j) ≡ j
+  from_end_twice true j l = refl
+  from_end_twice false j l = omega arith
+
+  column_is : (p q : SurfacePiece) → p ≡ q → p.column ≡ q.column
+  column_is p q e = ap (λ (r : SurfacePiece). r.column) e
+
+  number_is : (p q : SurfacePiece) → p ≡ q → p.number ≡ q.number
+  number_is p q e = ap (λ (r : SurfacePiece). r.number) e
+
+  module _ (p : SurfacePiece) (here : t ≡ p.column / columns_each coords) (some : p.number < slice_index xs p.column) where
+    -- another arc of the piece has the same place
+    same_arc : (k : ℕ) → ((i : ℕ) → i < arcs_round coords xs t f v → piece_of coords xs (arc_at t f v i) ≡ p → i ≡ k) → (b : Arc) → IsArcOf coords xs p f v b → b ≡ arc_at t f v k
+    same_arc k one b is =
+        let tet : b.tet ≡ t = is.tet ∙ sym here in
+        let whole : b ≡ arc_at t f v b.place = λ i. arc_at (tet i) (is.face i) (is.vertex i) b.place in
+        let there : b.place < arcs_round coords xs t f v = subst (λ (a : Arc). b.place < arcs_round coords xs a.tet a.face a.vertex) whole is.there in
+        whole ∙ ap (arc_at t f v) (one b.place there (sym (ap (piece_of coords xs) whole) ∙ is.piece))
+
+    pub triangle_arc : p.column ≡ tri → IsOnlyArcOf coords xs p f v (arc_at t f v p.number)
+    triangle_arc e =
+        let low : p.number < slice_index xs tri = subst (λ c. p.number < slice_index xs c) e some in
+        let same : piece_at tri p.number ≡ p = ap (λ c. piece_at c p.number) (sym e) in (
+          record {
+            tet = here;
+            face = refl;
+            vertex = refl;
+            there = omega (arith, arcs_are);
+            piece = triangle_piece p.number low ∙ same;
+          },
+          same_arc p.number (λ i l d. elim (cases_lt i (slice_index xs tri)) [
+            | inl less ↦ number_is (piece_at tri i) p (sym (triangle_piece i less) ∙ d)
+            | inr more ↦ (let j : ℕ = i - slice_index xs tri in
+                let again : slice_index xs tri + j ≡ i = omega arith in
+                absurd (apart (sym e ∙ sym (column_is (piece_at behind (from_end by_zero j)) p (sym (behind_piece j) ∙ ap (λ k. piece_of coords xs (arc_at t f v k)) again ∙ d)))))
+          ]),
+        )
+
+    pub further_arc : p.column ≡ behind → IsOnlyArcOf coords xs p f v (arc_at t f v (slice_index xs tri + from_end by_zero p.number))
+    further_arc e =
+        let low : p.number < slice_index xs behind = subst (λ c. p.number < slice_index xs c) e some in
+        let same : piece_at behind p.number ≡ p = ap (λ c. piece_at c p.number) (sym e) in
+        let inside : from_end by_zero p.number < slice_index xs behind = from_end_below by_zero p.number low in (
+          record {
+            tet = here;
+            face = refl;
+            vertex = refl;
+            there = omega (arith, arcs_are);
+            piece = behind_piece (from_end by_zero p.number) ∙ ap (piece_at behind) (from_end_twice by_zero p.number low) ∙ same;
+          },
+          same_arc (slice_index xs tri + from_end by_zero p.number) (λ i l d. elim (cases_lt i (slice_index xs tri)) [
+            | inl less ↦ absurd (apart (column_is (piece_at tri i) p (sym (triangle_piece i less) ∙ d) ∙ e))
+            | inr more ↦ (let j : ℕ = i - slice_index xs tri in
+                let again : slice_index xs tri + j ≡ i = omega arith in
+                let lj : j < slice_index xs behind = omega (arith, arcs_are) in
+                let number : from_end by_zero j ≡ p.number = number_is (piece_at behind (from_end by_zero j)) p (sym (behind_piece j) ∙ ap (λ k. piece_of coords xs (arc_at t f v k)) again ∙ d) in
+                let back : j ≡ from_end by_zero p.number = sym (from_end_twice by_zero j lj) ∙ ap (from_end by_zero) number in
+                omega arith)
+          ]),
+        )
+
+tet_below : (coords : Coords) (n c : ℕ) → HasTriangles coords → c < columns coords n → c / columns_each coords < n
+tet_below Standard n c h l = omega arith
+tet_below Quad n c h l = absurd h
+tet_below Octagon n c h l = omega arith
+
+-- the tetrahedron of a column of a surface
+pub tet_in_range : (rows : List Row) (coords : Coords) (xs : List ℕ) (c t : ℕ) → IsSurface rows coords xs → c < length xs → t ≡ c / columns_each coords → t < length rows
+tet_in_range rows coords xs c t s l e =
+    let w : length xs ≡ columns coords (length rows) = (s.solves).width in
+    let m : c < columns coords (length rows) = subst (λ k. c < k) w l in
+    let b : c / columns_each coords < length rows = tet_below coords (length rows) c s.triangles m in
+    omega arith
+
+-- the columns of the arcs round a vertex are those of the tetrahedron
+abbrev IsIn : ℕ → ℕ → ℕ → Type 0
+IsIn each t c = c / each ≡ t
+
+octagons_in : (t k : ℕ) → k < 3 → AllByRecursion (IsIn 10 t) (map (oct_column Octagon t) (filter (λ j. not (j == k)) three))
+octagons_in t zero l = (omega arith, (omega arith, tt))
+octagons_in t (suc zero) l = (omega arith, (omega arith, tt))
+octagons_in t (suc (suc zero)) l = (omega arith, (omega arith, tt))
+octagons_in t (suc (suc (suc k))) l = absurd (omega arith)
+
+behind_in : (coords : Coords) (xs : List ℕ) (t f v : ℕ) → HasTriangles coords → f < 4 → v < 4 → (v ≡ f → ⊥) → IsIn (columns_each coords) t (first_nonzero xs (octagon_arcs coords t f v) (quad_column coords t (keeping v f)))
+behind_in Standard xs t f v h lf lv off = let l : keeping v f < 3 = keeping_below v f lv lf off in omega arith
+behind_in Quad xs t f v h lf lv off = absurd h
+behind_in Octagon xs t f v h lf lv off =
+    let l : keeping v f < 3 = keeping_below v f lv lf off in
+    first_is (IsIn 10 t) xs (octagon_arcs Octagon t f v) (quad_column Octagon t (keeping v f)) (omega arith) (octagons_in t (keeping v f) l)
+
+triangle_in : (coords : Coords) (t v : ℕ) → HasTriangles coords → v < 4 → IsIn (columns_each coords) t (tri_column coords t v)
+triangle_in Standard t v h lv = omega arith
+triangle_in Quad t v h lv = absurd h
+triangle_in Octagon t v h lv = omega arith
+
+-- the tetrahedron of an arc is that of its piece's column
+pub arc_in : (coords : Coords) (n : ℕ) (xs : List ℕ) (triangles : HasTriangles coords) (admissible : IsAdmissible (clash_list coords n) xs) (t f v k : ℕ) → t < n → f < 4 → v < 4 → (v ≡ f → ⊥)
+    → (piece_of coords xs (arc_at t f v k)).column / columns_each coords ≡ t
+arc_in coords n xs triangles admissible t f v k lt lf lv off = elim (cases_lt k (slice_index xs (tri_column coords t v))) [
+  | inl less ↦ ap (λ (p : SurfacePiece). p.column / columns_each coords) (triangle_piece coords n xs triangles admissible t f v lt lf lv off k less) ∙ triangle_in coords t v triangles lv
+  | inr more ↦ (let j : ℕ = k - slice_index xs (tri_column coords t v) in
+      let again : slice_index xs (tri_column coords t v) + j ≡ k = omega arith in
+      ap (λ i. (piece_of coords xs (arc_at t f v i)).column / columns_each coords) (sym again)
+      ∙ ap (λ (p : SurfacePiece). p.column / columns_each coords) (behind_piece coords n xs triangles admissible t f v lt lf lv off j)
+      ∙ behind_in coords xs t f v triangles lf lv off)
+]

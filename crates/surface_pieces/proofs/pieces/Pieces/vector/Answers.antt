@@ -1,0 +1,28 @@
+-- What is held of the components.
+use Rattle.std.proofs.Common.{◌≡◌, ℕ, List, [], Vec, Global, length, sym, ap, ◌∙◌, arith}
+use Rattle.std.proofs.lemmas.List.{length-map, get_or-map}
+use Rattle.vector_definitions.specs.Components.{Component}
+use Rattle.surface_pieces.specs.Vectors.{entries_of}
+use Rattle.surface_pieces.proofs.ComponentsTold.{how_many, told_at}
+use Rattle.surface_pieces.proofs.pieces.Pieces.vector.Goals as goal
+
+pub index-requires : goal.index-requires
+index-requires c = omega (arith, c.requires, many, c.self.inside.vectors.ok.0, length-map c.self.inside.vectors.items (λ (v : Vec ℕ Global). v.items))
+  where
+    vectors : List (List ℕ)
+    vectors = entries_of c.self.inside.vectors.items
+
+    many : length c.args.self.now ≡ length vectors
+    many = how_many vectors c.self.inside.two_sided.items c.self.inside.orientable.items c.args.self.now c.self.view_is
+
+pub returns : goal.returns
+returns c =
+    c.deref.ensures.value ∙ ap (λ (v : Vec ℕ Global). v.items) c.index.ensures
+    ∙ sym (get_or-map (λ (v : Vec ℕ Global). v.items) c.self.inside.vectors.items c.args.component c.index.result.now [] (omega (arith, c.requires, many, length-map c.self.inside.vectors.items (λ (v : Vec ℕ Global). v.items))))
+    ∙ sym (ap (λ (d : Component). d.vector) (told_at vectors c.self.inside.two_sided.items c.self.inside.orientable.items c.args.self.now c.self.view_is c.args.component c.requires))
+  where
+    vectors : List (List ℕ)
+    vectors = entries_of c.self.inside.vectors.items
+
+    many : length c.args.self.now ≡ length vectors
+    many = how_many vectors c.self.inside.two_sided.items c.self.inside.orientable.items c.args.self.now c.self.view_is

@@ -1,0 +1,31 @@
+-- The arc of a piece round a vertex of a face.
+use Rattle.std.specs.Prelude.{◌≡◌, ℕ, ◌/◌, ◌<◌, not, List, map, filter, ◌==◌, nat_lt, slice_index}
+use Rattle.std.specs.List.{position_or_len, slice_index_or}
+use Rattle.surface_definitions.specs.Coordinates.{columns_each, oct_column, three}
+use Rattle.surface_definitions.specs.declared.Coords.TheVariants.{Octagon}
+use Rattle.surface_definitions.specs.declared.Coords.{Coords}
+use Rattle.surface_definitions.specs.Pieces.{SurfacePiece, Arc, arcs_round, piece_of}
+
+-- an arc of the piece p round vertex v of face f
+pub record IsArcOf (coords : Coords) (xs : List ℕ) (p : SurfacePiece) (f v : ℕ) (a : Arc) : Type 0 where
+  pub tet : a.tet ≡ p.column / columns_each coords
+  pub face : a.face ≡ f
+  pub vertex : a.vertex ≡ v
+  pub there : a.place < arcs_round coords xs a.tet a.face a.vertex
+  pub piece : piece_of coords xs a ≡ p
+
+-- it is the only one
+abbrev pub IsOnlyArcOf : Coords → List ℕ → SurfacePiece → ℕ → ℕ → Arc → Type 0
+IsOnlyArcOf coords xs p f v a = IsArcOf coords xs p f v a × ((b : Arc) → IsArcOf coords xs p f v b → b ≡ a)
+
+-- there is none
+abbrev pub HasNoArc : Coords → List ℕ → SurfacePiece → ℕ → ℕ → Type 0
+HasNoArc coords xs p f v = (b : Arc) → IsArcOf coords xs p f v b → ⊥
+
+-- the first of these columns that isn't 0, or else q
+abbrev pub first_nonzero : List ℕ → List ℕ → ℕ → ℕ
+first_nonzero xs os q = slice_index_or os (position_or_len (λ c. nat_lt 0 (slice_index xs c)) os) q
+
+-- the columns of the octagons of the two other types
+abbrev pub octagons_beside : ℕ → ℕ → List ℕ
+octagons_beside t k = map (oct_column Octagon t) (filter (λ j. not (j == k)) three)

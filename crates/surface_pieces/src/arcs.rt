@@ -1,0 +1,135 @@
+//! The piece of an arc, and the arc of a piece.
+
+ghost use Rattle.std.specs.Prelude.{◌≡◌, ◌≢◌, ◌+◌, ◌-◌, ◌*◌, ◌<◌, ◌≤◌, length, sum, IfSome, IfNone, if◌then◌else◌};
+ghost use Rattle.surface_definitions.specs.Coordinates as coordinates;
+ghost use Rattle.surface_definitions.specs.Pieces as pieces;
+ghost use Rattle.table_definitions.specs.Table as gluings;
+ghost use Rattle.vector_definitions.specs.Components.{most_pieces};
+ghost use Rattle.vector_laws.specs.PieceLaws.{IsSurface, IsPieceOf};
+ghost use Rattle.surface_pieces.specs.Arcs.{IsOnlyArcOf, HasNoArc};
+
+use crate::columns::{SurfaceArc, behind, first_column, tet_of, type_of};
+use crate::counts::Piece;
+use gluing_table::Table;
+use surface_definitions::Coords;
+
+/// Whether a type keeps a vertex on the side of vertex 0.
+fn keeps_by_zero(kind: u32, v: u8) -> bool
+    requires a_type { kind < 3 }
+    requires a_vertex { v < 4 }
+    ensures { result ≡ pieces.keeps_by_zero kind v }
+{
+    v == 0 || v as u32 == kind + 1
+}
+
+/// The number of triangles round the vertex of an arc.
+fn triangles(coords: Coords, x: &[u32], arc: SurfaceArc) -> u32
+    requires coords { coords ≢ Coords.Quad }
+    requires a_vertex { arc.vertex < 4 }
+    requires few { arc.tet < 1000 }
+    requires width { coordinates.columns coords (arc.tet + 1) < length x.now + 1 }
+    ensures { result ≡ pieces.triangles_round coords x.now arc }
+{
+    x[(first_column(coords, arc.tet) + arc.vertex as u32) as usize]
+}
+
+/// The number of a place counted from the one end or from the other.
+fn counted(entry: u32, place: u32, by_zero: bool) -> u32
+    ensures { result ≡ (if by_zero then place else entry - 1 - place) }
+{
+    if by_zero {
+        place
+    } else {
+        entry.saturating_sub(1).saturating_sub(place)
+    }
+}
+
+/// The piece whose arc this is.
+pub fn piece_of(coords: Coords, x: &[u32], arc: SurfaceArc) -> Piece
+    requires coords { coords ≢ Coords.Quad }
+    requires a_face { arc.face < 4 }
+    requires a_vertex { arc.vertex < 4 }
+    requires off { arc.vertex ≢ arc.face }
+    requires few { arc.tet < 1000 }
+    requires width { coordinates.columns coords (arc.tet + 1) < length x.now + 1 }
+    ensures { result ≡ pieces.piece_of coords x.now arc }
+{
+    let triangles = triangles(coords, x, arc);
+    if arc.place < triangles {
+        return Piece {
+            column: first_column(coords, arc.tet) + arc.vertex as u32,
+            number: arc.place,
+        };
+    }
+    let further = behind(coords, x, arc);
+    let by_zero = keeps_by_zero(type_of(coords, further), arc.vertex);
+    Piece {
+        column: further,
+        number: counted(x[further as usize], arc.place - triangles, by_zero),
+    }
+}
+
+/// Whether the piece of an arc looks at its vertex with its positive side.
+pub fn looks_positive(coords: Coords, x: &[u32], arc: SurfaceArc) -> bool
+    requires coords { coords ≢ Coords.Quad }
+    requires a_face { arc.face < 4 }
+    requires a_vertex { arc.vertex < 4 }
+    requires off { arc.vertex ≢ arc.face }
+    requires few { arc.tet < 1000 }
+    requires width { coordinates.columns coords (arc.tet + 1) < length x.now + 1 }
+    ensures { result ≡ pieces.looks_positive coords x.now arc }
+{
+    if arc.place < triangles(coords, x, arc) {
+        return true;
+    }
+    keeps_by_zero(type_of(coords, behind(coords, x, arc)), arc.vertex)
+}
+
+/// The arc of a piece round a vertex of a face, where it has one there.
+pub fn arc_of(
+    table: &Table,
+    coords: Coords,
+    x: &[u32],
+    piece: Piece,
+    face: u8,
+    vertex: u8,
+) -> Option<SurfaceArc>
+    requires coords { coords ≢ Coords.Quad }
+    requires surface { IsSurface table.now coords x.now }
+    requires few { sum x.now ≤ most_pieces }
+    requires piece { IsPieceOf x.now piece }
+    requires a_face { face < 4 }
+    requires a_vertex { vertex < 4 }
+    requires off { vertex ≢ face }
+    ensures some { IfSome result (IsOnlyArcOf coords x.now piece face vertex) }
+    ensures none { IfNone result (HasNoArc coords x.now piece face vertex) }
+{
+    let tet = tet_of(coords, piece.column);
+    let _tets = table.len();
+    let first = SurfaceArc {
+        tet,
+        face,
+        vertex,
+        place: 0,
+    };
+    if piece.column == first_column(coords, tet) + vertex as u32 {
+        return Some(SurfaceArc {
+            tet,
+            face,
+            vertex,
+            place: piece.number,
+        });
+    }
+    let further = behind(coords, x, first);
+    if piece.column != further {
+        return None;
+    }
+    let by_zero = keeps_by_zero(type_of(coords, further), vertex);
+    let place = counted(x[further as usize], piece.number, by_zero);
+    Some(SurfaceArc {
+        tet,
+        face,
+        vertex,
+        place: triangles(coords, x, first) + place,
+    })
+}

@@ -1,0 +1,14 @@
+//! The pieces of a normal surface, and the components that their meeting arcs join.
+#![tactic(auto)]
+
+mod arcs;
+mod columns;
+mod counts;
+mod pieces;
+mod rows;
+mod signs;
+mod steps;
+mod vectors;
+
+pub use pieces::Pieces;
+pub use vector_definitions::PiecesFault;

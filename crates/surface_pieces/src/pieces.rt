@@ -1,0 +1,142 @@
+//! The components of a surface.
+
+ghost use Rattle.std.specs.Prelude.{◌≡◌, ◌≢◌, ◌<◌, ◌≤◌, length, sum, Ok, Err, IfOk, IfErr};
+ghost use Rattle.std.specs.List.{slice_index_or};
+ghost use Rattle.text_definitions.specs.Written.{limit};
+ghost use Rattle.vector_definitions.specs.Components.{most_pieces, AreListedComponents, IsPiecesAnswer};
+ghost use Rattle.vector_laws.specs.PieceLaws.{IsSurface};
+ghost use Rattle.surface_pieces.specs.Told.{no_component};
+
+use crate::counts::{all_pieces, entries_of, starts_of, total};
+use crate::rows::piece_rows;
+use crate::signs::signs_of;
+use crate::steps::Joining;
+use crate::vectors::vectors_of;
+use gluing_table::Table;
+use joined_rows::classes;
+use skeleton::Skeleton;
+use std::alloc::{AllocError, Global};
+use std::marker::Model;
+use surface_definitions::Coords;
+use vector_definitions::PiecesFault;
+
+/// The components of a surface, numbered by their least pieces: the vector of each, whether it is two-sided, and
+/// whether it is orientable.
+#[derive(Drop)]
+pub struct Pieces {
+    vectors: Vec<Vec<u128>>,
+    two_sided: Vec<bool>,
+    orientable: Vec<bool>,
+}
+
+impl Model for Pieces {
+    ghost use Rattle.std.specs.Prelude.{◌≡◌, ◌<◌, ◌^◌, List, length};
+    ghost use Rattle.vector_definitions.specs.Components.{Component};
+    ghost use Rattle.surface_pieces.specs.Vectors.{entries_of};
+    ghost use Rattle.surface_pieces.specs.Told.{all_components};
+
+    ghost Value = { List Component };
+
+    ghost view = { λ p. all_components (entries_of p.vectors.items) p.two_sided.items p.orientable.items };
+
+    ghost invariant = { λ p. (length p.two_sided.items ≡ length p.vectors.items) × (length p.orientable.items ≡ length p.vectors.items) × (length p.vectors.items < 2 ^ 32) };
+}
+
+// More pieces aren't looked at.
+const MOST_PIECES: u128 = 100_000;
+
+/// The components of the pieces with these entries.
+fn built(alloc: Global, table: &Table, coords: Coords, x: &[u32]) -> Result<Pieces, AllocError>
+    requires coords { coords ≢ Coords.Quad }
+    requires surface { IsSurface table.now coords x.now }
+    requires few { sum x.now ≤ most_pieces }
+    ensures { IfOk result (AreListedComponents table.now coords x.now) }
+{
+    let starts = starts_of(alloc, x)?;
+    let listed = all_pieces(alloc, x)?;
+    let rows = piece_rows(alloc, table, coords, x, &starts, &listed)?;
+    let all = classes(alloc, &rows)?;
+    let vectors = vectors_of(alloc, x, &listed, &all.classes, all.count)?;
+    let two_sided = signs_of(
+        alloc,
+        table,
+        coords,
+        x,
+        &starts,
+        &listed,
+        &all,
+        Joining::Sides,
+    )?;
+    let orientable = signs_of(
+        alloc,
+        table,
+        coords,
+        x,
+        &starts,
+        &listed,
+        &all,
+        Joining::Orientation,
+    )?;
+    Ok(Pieces {
+        vectors,
+        two_sided,
+        orientable,
+    })
+}
+
+impl Pieces {
+    /// The components of a surface: of an admissible solution in standard or octagon coordinates whose entries add up
+    /// to at most 2^127 - 1. (Haken.)
+    ///
+    /// `TooManyPieces` with the number of pieces where there are more than 100,000.
+    pub fn build(
+        alloc: Global,
+        skeleton: &Skeleton,
+        coords: Coords,
+        x: &[u128],
+    ) -> Result<Pieces, PiecesFault>
+        requires surface { IsSurface skeleton.now.rows coords x.now }
+        requires fits { sum x.now ≤ limit }
+        ensures pieces { IfOk result (λ p. IsPiecesAnswer skeleton.now.rows coords x.now (Ok p)) }
+        ensures fault { IfErr result (λ e. e ≢ PiecesFault.NoMemory → IsPiecesAnswer skeleton.now.rows coords x.now (Err e)) }
+    {
+        let count = total(x);
+        if count > MOST_PIECES {
+            return Err(PiecesFault::TooManyPieces { count });
+        }
+        let entries = entries_of(alloc, x)?;
+        let pieces = built(alloc, skeleton.table(), coords, &entries)?;
+        Ok(pieces)
+    }
+
+    /// The number of components.
+    pub fn components(&self) -> u32
+        ensures { result ≡ length self.now }
+    {
+        self.vectors.len() as u32
+    }
+
+    /// The number of a component's pieces of each column.
+    pub fn vector(&self, component: u32) -> &[u128]
+        requires { component < length self.now }
+        ensures { result.now ≡ (slice_index_or self.now component no_component).vector }
+    {
+        &self.vectors[component as usize]
+    }
+
+    /// Whether a component is two-sided.
+    pub fn two_sided(&self, component: u32) -> bool
+        requires { component < length self.now }
+        ensures { result ≡ (slice_index_or self.now component no_component).two_sided }
+    {
+        self.two_sided[component as usize]
+    }
+
+    /// Whether a component is orientable.
+    pub fn orientable(&self, component: u32) -> bool
+        requires { component < length self.now }
+        ensures { result ≡ (slice_index_or self.now component no_component).orientable }
+    {
+        self.orientable[component as usize]
+    }
+}

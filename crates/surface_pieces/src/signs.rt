@@ -1,0 +1,73 @@
+//! On which components signs exist.
+
+ghost use Rattle.std.specs.Prelude.{◌≡◌, ◌≢◌, ◌+◌, ◌*◌, ◌<◌, ◌≤◌, ◌↔◌, ℕ, true, false, length, sum, slice_index, slice_set, if◌then◌else◌, IfOk};
+ghost use Rattle.std.specs.List.{slice_index_or};
+ghost use Rattle.surface_definitions.specs.Pieces as pieces;
+ghost use Rattle.vector_definitions.specs.Components.{most_pieces};
+ghost use Rattle.vector_laws.specs.PieceLaws.{IsSurface};
+ghost use Rattle.surface_pieces.specs.Starts.{AreStarts};
+ghost use Rattle.surface_pieces.specs.Joinings.{IsFree, AreSigned};
+
+use crate::counts::Piece;
+use crate::rows::signed_rows;
+use crate::steps::Joining;
+use gluing_table::Table;
+use joined_rows::{Numbering, classes};
+use std::alloc::{AllocError, Global};
+use surface_definitions::Coords;
+
+/// Marks a component as not free where one of its pieces is joined to itself with the other sign.
+fn mark(free: &mut [bool], component: u32, same: bool)
+    requires { component < length free.old }
+    ensures { free.new ≡ (if same then slice_set free.old component false else free.old) }
+{
+    if same {
+        free[component as usize] = false;
+    }
+}
+
+/// Whether no piece of each component is joined to itself with the other sign.
+fn free_components(
+    alloc: Global,
+    signed: &[u32],
+    components: &Numbering,
+) -> Result<Vec<bool>, AllocError>
+    requires in_range { (p : ℕ) → p < length components.now.classes.items → slice_index components.now.classes.items p < components.now.count }
+    requires signed { length signed.now ≡ 2 * length components.now.classes.items }
+    requires few { length components.now.classes.items ≤ most_pieces }
+    ensures size { IfOk result (λ free. length free.items ≡ components.now.count) }
+    ensures each { IfOk result (λ free. (i : ℕ) → i < components.now.count → (slice_index_or free.items i true ≡ true) ↔ IsFree signed.now components.now.classes.items i) }
+{
+    let mut free = vec![in alloc; true; components.count as usize]?;
+    for piece in 0..components.classes.len() {
+        let same = signed[2 * piece] == signed[2 * piece + 1];
+        mark(&mut free, components.classes[piece], same);
+    }
+    Ok(free)
+}
+
+/// Whether signs exist on each component.
+pub fn signs_of(
+    alloc: Global,
+    table: &Table,
+    coords: Coords,
+    x: &[u32],
+    starts: &[u32],
+    listed: &[Piece],
+    components: &Numbering,
+    joining: Joining,
+) -> Result<Vec<bool>, AllocError>
+    requires coords { coords ≢ Coords.Quad }
+    requires surface { IsSurface table.now coords x.now }
+    requires few { sum x.now ≤ most_pieces }
+    requires starts { AreStarts x.now starts.now }
+    requires listed { listed.now ≡ pieces.pieces_of x.now }
+    requires components { pieces.AreComponents table.now coords x.now components.now.classes.items components.now.count }
+    requires joining { joining ≢ Joining.Pieces }
+    ensures { IfOk result (λ signs. AreSigned joining table.now coords x.now components.now.classes.items components.now.count signs.items) }
+{
+    let rows = signed_rows(alloc, table, coords, x, starts, listed, joining)?;
+    let signed = classes(alloc, &rows)?;
+    let free = free_components(alloc, &signed.classes, components)?;
+    Ok(free)
+}

@@ -1,0 +1,52 @@
+//! The vectors of the components.
+
+ghost use Rattle.std.specs.Prelude.{◌≡◌, ◌≢◌, ◌+◌, ◌*◌, ◌<◌, ◌≤◌, ◌^◌, ℕ, length, replicate, slice_set, slice_index, IfOk};
+ghost use Rattle.surface_definitions.specs.Pieces as pieces;
+ghost use Rattle.vector_definitions.specs.Components.{most_pieces};
+ghost use Rattle.surface_pieces.specs.Vectors.{AreVectors, entries_of};
+
+use crate::counts::Piece;
+use std::alloc::{AllocError, Global};
+
+/// So many vectors of zeros.
+fn zeros(alloc: Global, count: u32, columns: usize) -> Result<Vec<Vec<u128>>, AllocError>
+    ensures { IfOk result (λ vectors. entries_of vectors.items ≡ replicate count (replicate columns 0)) }
+{
+    let mut vectors = Vec::with_capacity(alloc, count as usize)?;
+    for _made in 0..count {
+        vectors.push(vec![in alloc; 0; columns]?)?;
+    }
+    Ok(vectors)
+}
+
+/// One piece more in a column.
+fn count_piece(vector: &mut [u128], column: u32)
+    requires in_range { column < length vector.old }
+    requires few { slice_index vector.old column < 2 ^ 64 }
+    ensures { vector.new ≡ slice_set vector.old column (slice_index vector.old column + 1) }
+{
+    vector[column as usize] += 1;
+}
+
+/// The number of each component's pieces in each column.
+pub fn vectors_of(
+    alloc: Global,
+    x: &[u32],
+    listed: &[Piece],
+    components: &[u32],
+    count: u32,
+) -> Result<Vec<Vec<u128>>, AllocError>
+    requires listed { listed.now ≡ pieces.pieces_of x.now }
+    requires size { length components.now ≡ length listed.now }
+    requires few { length listed.now ≤ most_pieces }
+    requires in_range { (p : ℕ) → p < length components.now → slice_index components.now p < count }
+    ensures { IfOk result (λ vectors. AreVectors x.now components.now count (entries_of vectors.items)) }
+{
+    let mut vectors = zeros(alloc, count, x.len())?;
+    for number in 0..listed.len() {
+        let piece = listed[number];
+        let vector = &mut vectors[components[number] as usize];
+        count_piece(vector, piece.column);
+    }
+    Ok(vectors)
+}
