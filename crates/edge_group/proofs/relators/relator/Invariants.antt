@@ -1,0 +1,7 @@
+use Rattle.std.proofs.Common.{◌≡◌, take, filter_map}
+use Rattle.group_definitions.specs.Trees.{face_number}
+use Rattle.group_definitions.specs.Presentations.{letter_of, left_through}
+use Rattle.edge_group.proofs.relators.relator.Given as goal
+
+abbrev pub invariant-loop-corner : goal.invariant-loop-corner
+invariant-loop-corner l = l.letters.items ≡ filter_map (λ k. letter_of l.skeleton l.generators (face_number (left_through k))) (take l.corner-index l.corners)

@@ -1,0 +1,8 @@
+use Rattle.std.proofs.Common.{take, map}
+use Rattle.std.specs.List.{AllZip}
+use Rattle.group_definitions.specs.Presentations.{IsRelator}
+use Rattle.edge_group.specs.Classes.{letters_of}
+use Rattle.edge_group.proofs.relators.relators.Given as goal
+
+abbrev pub invariant-loop-class : goal.invariant-loop-class
+invariant-loop-class l = AllZip (IsRelator l.skeleton l.generators) (take l.class-index l.edges) (map letters_of l.relators.items)

@@ -1,0 +1,14 @@
+-- A face whose other side doesn't lie closer.
+use Rattle.std.proofs.Common.{sym, ap, subst₂, ◌∙◌}
+use Rattle.std.proofs.lemmas.Bool.{false≢true}
+use Rattle.table_definitions.specs.Table.{Gluing, Face}
+use Rattle.edge_group.specs.Searches.{mark_of}
+use Rattle.edge_group.specs.Behind.{IsOneLess}
+use Rattle.edge_group.proofs.Closer.{closer_none}
+use Rattle.edge_group.proofs.tree.closer_face.Goals as goal
+
+pub returns-else-is_one_less : goal.returns-else-is_one_less
+returns-else-is_one_less c =
+    closer_none c.args.table.now c.requires.table c.args.distances.now c.args.face c.in-Some.glue c.requires.distances (sym c.in-Some.ensures)
+    (λ less. false≢true (sym c.if-is_one_less.false ∙ c.is_one_less.ensures.1 (subst₂ (λ t u. IsOneLess (mark_of c.args.distances.now t) (mark_of c.args.distances.now u))
+    (sym (ap (λ (g : Gluing). g.tet) c.glue-2.view_is)) (sym (ap (λ (x : Face). x.tet) c.face.view_is)) less)))

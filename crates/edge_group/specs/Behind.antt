@@ -1,0 +1,35 @@
+-- Faces that lead to a tetrahedron, as the other sides of its faces.
+use Rattle.std.specs.Prelude.{◌≡◌, ◌⊎◌, ℕ, ◌+◌, ◌<◌, false, List, Option, Some, None}
+use Rattle.table_definitions.specs.Table.{Gluing, Row, Face, glue, other_side, is_face_before}
+use Rattle.group_definitions.specs.Trees.{LeadsCloser}
+
+-- the one number is one less than the other
+abbrev pub IsOneLess : Option ℕ → Option ℕ → Type 0
+IsOneLess near far = (d : ℕ) × (near ≡ Some d) × (far ≡ Some (d + 1))
+
+-- y is the face to which x is glued, and it leads to the tetrahedron of x from one that lies closer to tetrahedron 0
+pub record IsCloser (rows : List Row) (x y : Face) : Type 0 where
+  pub gluing : Gluing
+  pub glued : glue rows x ≡ Some gluing
+  pub other : other_side x gluing ≡ y
+  pub leads : LeadsCloser rows x.tet y
+
+-- such a face, or that there is none
+abbrev pub IsCloserFace : List Row → Face → Option Face → Type 0
+IsCloserFace rows x None = (y : Face) → IsCloser rows x y → ⊥
+IsCloserFace rows x (Some y) = IsCloser rows x y
+
+-- the face is not before a face that is given
+abbrev pub IsNotAfter : Option Face → Face → Type 0
+IsNotAfter None x = Unit {0}
+IsNotAfter (Some y) x = is_face_before y x ≡ false
+
+-- the least of the faces that are given, if any is
+abbrev pub IsLeastOf : Option Face → Option Face → Option Face → Type 0
+IsLeastOf first second None = (first ≡ None) × (second ≡ None)
+IsLeastOf first second (Some x) = ((first ≡ Some x) ⊎ (second ≡ Some x)) × IsNotAfter first x × IsNotAfter second x
+
+-- the least such face behind the faces of t below face n, or that there is none
+abbrev pub IsLeastCloser : List Row → ℕ → ℕ → Option Face → Type 0
+IsLeastCloser rows t n None = (f : ℕ) (y : Face) → f < n → IsCloser rows (record { tet = t; face = f }) y → ⊥
+IsLeastCloser rows t n (Some x) = LeadsCloser rows t x × ((f : ℕ) (y : Face) → f < n → IsCloser rows (record { tet = t; face = f }) y → is_face_before y x ≡ false)

@@ -1,0 +1,17 @@
+-- Paths of tree faces, and the even gluings on them.
+use Rattle.std.specs.Prelude.{◌≡◌, ℕ, Bool, List, Option}
+use Rattle.table_definitions.specs.Table.{Row, Face}
+use Rattle.group_definitions.specs.Trees.{IsTreePath, evens, is_odd_number}
+use Rattle.group_definitions.specs.Groups.{IsTree}
+use Rattle.edge_group.specs.Searches.{AreDistances}
+
+-- the tree faces, with the distances
+pub record IsTreeWith (rows : List Row) (faces : List (Option Face)) (marks : List (Option ℕ)) : Type 0 where
+  pub tree : IsTree rows faces
+  pub distances : AreDistances rows marks
+
+-- a path of tree faces to t has an odd number of even gluings, or not
+pub record IsPathOdd (rows : List Row) (t : ℕ) (odd : Bool) : Type 0 where
+  pub path : List Face
+  pub is_path : IsTreePath rows t path
+  pub told : odd ≡ is_odd_number (evens rows path)

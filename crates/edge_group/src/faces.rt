@@ -1,0 +1,93 @@
+//! Face classes, and which of them are generators.
+
+ghost use Rattle.std.specs.Prelude.{◌≡◌, ◌<◌, ◌^◌, ◌↔◌, length, IsTrue, IfOk};
+ghost use Rattle.table_definitions.specs.Places as places;
+ghost use Rattle.skeleton_definitions.specs.Skeleton.{IsSkeleton};
+ghost use Rattle.group_definitions.specs.Groups.{IsTree};
+ghost use Rattle.group_definitions.specs.Presentations.{AreGenerators};
+ghost use Rattle.edge_group.specs.Classes.{AreLeastFaces, AreTreeClasses, IsGenerator};
+
+use gluing_table::Face;
+use no_memory::NoMemory;
+use skeleton::Skeleton;
+use std::alloc::{AllocError, Global};
+
+/// The face of this number.
+pub fn face_of(number: u32) -> Face
+    ensures value { result ≡ places.face_of number }
+    ensures a_face { result.face < 4 }
+{
+    Face {
+        tet: number / 4,
+        face: (number % 4) as u8,
+    }
+}
+
+/// The number of the least face of each class.
+pub fn first_faces(alloc: Global, skeleton: &Skeleton) -> Result<Vec<u32>, AllocError>
+    requires { IsSkeleton skeleton.now }
+    ensures { IfOk result (λ firsts. AreLeastFaces skeleton.now firsts.items) }
+{
+    let mut firsts = Vec::with_capacity(alloc, skeleton.faces() as usize)?;
+    for number in 0..4 * skeleton.table().len() {
+        let face = face_of(number);
+        if skeleton.face_class(face.tet, face.face) as usize == firsts.len() {
+            firsts.push(number)?;
+        }
+    }
+    Ok(firsts)
+}
+
+/// Which face classes hold a tree face.
+fn tree_classes(
+    alloc: Global,
+    skeleton: &Skeleton,
+    tree: &[Option<Face>],
+) -> Result<Vec<bool>, AllocError>
+    requires skeleton { IsSkeleton skeleton.now }
+    requires tree { IsTree skeleton.now.rows tree.now }
+    ensures { IfOk result (λ marks. AreTreeClasses skeleton.now marks.items) }
+{
+    let mut marks = vec![in alloc; false; skeleton.faces() as usize]?;
+    for tet in 0..tree.len() {
+        if let Some(face) = tree[tet] {
+            marks[skeleton.face_class(face.tet, face.face) as usize] = true;
+        }
+    }
+    Ok(marks)
+}
+
+/// Whether a face class has two faces and holds no tree face.
+fn is_generator(skeleton: &Skeleton, in_tree: &[bool], firsts: &[u32], class: u32) -> bool
+    requires skeleton { IsSkeleton skeleton.now }
+    requires in_tree { AreTreeClasses skeleton.now in_tree.now }
+    requires firsts { AreLeastFaces skeleton.now firsts.now }
+    requires in_range { class < skeleton.now.faces.count }
+    ensures { IsTrue result ↔ IsGenerator skeleton.now class }
+{
+    let first = face_of(firsts[class as usize]);
+    !in_tree[class as usize] && skeleton.table().glue(first).is_some()
+}
+
+/// The face classes of two faces that hold no tree face.
+pub fn generators(
+    alloc: Global,
+    skeleton: &Skeleton,
+    tree: &[Option<Face>],
+    firsts: &[u32],
+) -> Result<Vec<u32>, NoMemory>
+    requires skeleton { IsSkeleton skeleton.now }
+    requires tree { IsTree skeleton.now.rows tree.now }
+    requires firsts { AreLeastFaces skeleton.now firsts.now }
+    ensures generators { IfOk result (λ generators. AreGenerators skeleton.now generators.items) }
+    ensures few { IfOk result (λ generators. length generators.items < 2 ^ 32) }
+{
+    let in_tree = tree_classes(alloc, skeleton, tree)?;
+    let mut generators = Vec::new(alloc);
+    for class in 0..skeleton.faces() {
+        if is_generator(skeleton, &in_tree, firsts, class) {
+            generators.push(class)?;
+        }
+    }
+    Ok(generators)
+}

@@ -1,0 +1,152 @@
+//! Groups of tables.
+
+ghost use Rattle.std.specs.Prelude.{◌≡◌, ◌≢◌, ◌-◌, ◌<◌, ◌≤◌, ◌↔◌, length, slice_index, false, [], None, IsNone, IfOk, IfErr, OnOk};
+ghost use Rattle.std.specs.List.{slice_index_or};
+ghost use Rattle.table_definitions.specs.Places.{IsConnected};
+ghost use Rattle.skeleton_definitions.specs.Skeleton.{IsSkeleton};
+ghost use Rattle.group_definitions.specs.Groups.{IsGroup, HasGroup, IsGroupFault};
+
+use crate::faces::{first_faces, generators};
+use crate::relators::{inner_edges, relators};
+use crate::tree::shortest_tree;
+use crate::turning::turning;
+use gluing_table::Face;
+use group_definitions::{GroupFault, Letter};
+use no_memory::NoMemory;
+use skeleton::Skeleton;
+use std::alloc::Global;
+use std::marker::Model;
+
+/// A presentation of the group of a table, with the tree of faces by which it is made. Contracts see both.
+#[derive(Drop)]
+pub struct Group {
+    tree: Vec<Option<Face>>,
+    generators: Vec<u32>,
+    turning: Vec<bool>,
+    edges: Vec<u32>,
+    relators: Vec<Vec<Letter>>,
+}
+
+impl Model for Group {
+    ghost use Rattle.std.specs.Prelude.{map};
+    ghost use Rattle.group_definitions.specs.Groups as definition;
+    ghost use Rattle.edge_group.specs.Classes.{letters_of};
+    ghost use Rattle.edge_group.specs.Kept.{IsKept};
+
+    ghost Value = { definition.Group };
+
+    ghost view = { λ g. record {
+      tree = g.tree.items;
+      presentation = record {
+        generators = g.generators.items;
+        turning = g.turning.items;
+        edges = g.edges.items;
+        relators = map letters_of g.relators.items;
+      };
+    } };
+
+    ghost invariant = { λ g. IsKept g.tree.items g.generators.items g.turning.items g.edges.items (map letters_of g.relators.items) };
+}
+
+/// The tree faces and the presentation of a connected table.
+fn presented(alloc: Global, skeleton: &Skeleton) -> Result<Group, NoMemory>
+    requires skeleton { IsSkeleton skeleton.now }
+    requires connected { IsConnected skeleton.now.rows }
+    ensures { IfOk result (IsGroup skeleton.now) }
+{
+    let tree = shortest_tree(alloc, skeleton.table())?;
+    let firsts = first_faces(alloc, skeleton)?;
+    let generators = generators(alloc, skeleton, &tree.faces, &firsts)?;
+    let turning = turning(alloc, skeleton, &tree, &firsts, &generators)?;
+    let edges = inner_edges(alloc, skeleton)?;
+    let relators = relators(alloc, skeleton, &firsts, &generators, &edges)?;
+    Ok(Group {
+        tree: tree.faces,
+        generators,
+        turning,
+        edges,
+        relators,
+    })
+}
+
+impl Group {
+    /// The group of a table: generators are the face classes of two faces off the tree of faces that lead from
+    /// tetrahedron 0 by the shortest ways, and there is a relator round each inner edge class. Refused as
+    /// `NotConnected` exactly where a tetrahedron isn't reached, with the least, and else as `InvalidEdge` exactly
+    /// where an edge class is invalid, with the least.
+    pub fn of(alloc: Global, skeleton: &Skeleton) -> Result<Group, GroupFault>
+        ensures group { IfOk result (IsGroup skeleton.now) }
+        ensures size { IfOk result (λ g. length g.tree ≡ length skeleton.now.rows) }
+        ensures has_group { OnOk result (HasGroup skeleton.now) }
+        ensures fault { IfErr result (λ e. e ≢ GroupFault.NoMemory → IsGroupFault skeleton.now e) }
+    {
+        if let Some(tet) = skeleton.table().unreached(alloc)? {
+            return Err(GroupFault::NotConnected { tet });
+        }
+        if let Some(class) = skeleton.first_invalid() {
+            return Err(GroupFault::InvalidEdge { class });
+        }
+        let group = presented(alloc, skeleton)?;
+        Ok(group)
+    }
+
+    /// The number of generators.
+    pub fn generators(&self) -> u32
+        ensures { result ≡ length self.now.presentation.generators }
+    {
+        self.generators.len() as u32
+    }
+
+    /// The face class of a generator, by its number from 1.
+    pub fn face_of(&self, generator: u32) -> u32
+        requires from_one { 1 ≤ generator }
+        requires in_range { generator ≤ length self.now.presentation.generators }
+        ensures { result ≡ slice_index self.now.presentation.generators (generator - 1) }
+    {
+        self.generators[generator as usize - 1]
+    }
+
+    /// Whether a generator turns, by its number from 1: the closed list of gluings through tree faces to its lesser
+    /// face, across it, and back through tree faces has an odd number of even gluings.
+    pub fn turns(&self, generator: u32) -> bool
+        requires from_one { 1 ≤ generator }
+        requires in_range { generator ≤ length self.now.presentation.generators }
+        ensures { result ≡ slice_index_or self.now.presentation.turning (generator - 1) false }
+    {
+        self.turning[generator as usize - 1]
+    }
+
+    /// The number of relators.
+    pub fn relators(&self) -> u32
+        ensures value { result ≡ length self.now.presentation.relators }
+        ensures edges { result ≡ length self.now.presentation.edges }
+    {
+        self.relators.len() as u32
+    }
+
+    /// The inner edge class of a relator.
+    pub fn edge_of(&self, relator: u32) -> u32
+        requires { relator < length self.now.presentation.relators }
+        ensures { result ≡ slice_index self.now.presentation.edges relator }
+    {
+        self.edges[relator as usize]
+    }
+
+    /// The letters of a relator, as they are read on the walk round its edge.
+    pub fn relator(&self, relator: u32) -> &[Letter]
+        requires { relator < length self.now.presentation.relators }
+        ensures { result.now ≡ slice_index_or self.now.presentation.relators relator [] }
+    {
+        &self.relators[relator as usize]
+    }
+
+    /// The tree face of a tetrahedron: the least face that leads to it from one that lies closer to tetrahedron 0.
+    /// Nothing exactly for tetrahedron 0.
+    pub fn tree_face(&self, tet: u32) -> Option<Face>
+        requires { tet < length self.now.tree }
+        ensures value { result ≡ slice_index_or self.now.tree tet None }
+        ensures none { IsNone result ↔ (tet ≡ 0) }
+    {
+        self.tree[tet as usize]
+    }
+}

@@ -1,0 +1,23 @@
+//! The group of a table: generators, which are faces off a tree of faces, and relators, which are read round its inner
+//! edges.
+#![tactic(auto)]
+
+ghost use Rattle.edge_group.specs.Laws.{PresentationExists};
+
+mod distances;
+mod faces;
+mod group;
+mod relators;
+mod tree;
+mod turning;
+
+pub use group::Group;
+pub use group_definitions::{GroupFault, Letter};
+
+/// Each connected table has a presentation.
+pub fn presentations_exist()
+    ensures { PresentationExists }
+{}
+
+#[cfg(test)]
+mod tests;

@@ -1,0 +1,120 @@
+//! The tree of faces that lead from tetrahedron 0 to each other tetrahedron.
+
+ghost use Rattle.std.specs.Prelude.{◌≡◌, ◌+◌, ◌<◌, ◌↔◌, length, IsTrue, IfOk};
+ghost use Rattle.table_definitions.specs.Table.{IsTable, is_face_before};
+ghost use Rattle.table_definitions.specs.Places.{IsConnected};
+ghost use Rattle.group_definitions.specs.Groups.{IsTree, IsTreeFaceAt};
+ghost use Rattle.edge_group.specs.Searches.{AreDistances};
+ghost use Rattle.edge_group.specs.Behind.{IsOneLess, IsCloserFace, IsLeastOf};
+ghost use Rattle.edge_group.specs.Turns.{IsTreeWith};
+
+use crate::distances::distances;
+use gluing_table::{Face, Table};
+use no_memory::NoMemory;
+use std::alloc::{AllocError, Global};
+
+/// The tree face of each tetrahedron, and the least number of gluings that lead to it from tetrahedron 0.
+#[derive(Drop)]
+pub struct FaceTree {
+    pub faces: Vec<Option<Face>>,
+    pub distances: Vec<Option<u32>>,
+}
+
+/// Whether the one distance is one less than the other.
+fn is_one_less(near: Option<u32>, far: Option<u32>) -> bool
+    ensures { IsTrue result ↔ IsOneLess near far }
+{
+    let Some(near) = near else {
+        return false;
+    };
+    let Some(far) = far else {
+        return false;
+    };
+    near < far && far - near == 1
+}
+
+/// The face to which this one is glued, where that lies closer to tetrahedron 0.
+fn closer_face(table: &Table, distances: &[Option<u32>], face: Face) -> Option<Face>
+    requires table { IsTable table.now }
+    requires distances { AreDistances table.now distances.now }
+    requires in_range { face.tet < length table.now }
+    requires a_face { face.face < 4 }
+    ensures { IsCloserFace table.now face result }
+{
+    let Some(glue) = table.glue(face) else {
+        return None;
+    };
+    if is_one_less(distances[glue.tet as usize], distances[face.tet as usize]) {
+        Some(glue.other_side(face))
+    } else {
+        None
+    }
+}
+
+/// Whether the one face stands before the other.
+fn is_before(first: Face, second: Face) -> bool
+    ensures { result ≡ is_face_before first second }
+{
+    first.tet < second.tet || (first.tet == second.tet && first.face < second.face)
+}
+
+/// The lesser of two faces, where there are any.
+fn lesser(first: Option<Face>, second: Option<Face>) -> Option<Face>
+    ensures { IsLeastOf first second result }
+{
+    let Some(one) = first else {
+        return second;
+    };
+    let Some(other) = second else {
+        return first;
+    };
+    if is_before(other, one) {
+        Some(other)
+    } else {
+        Some(one)
+    }
+}
+
+/// The least face that leads to a tetrahedron from one that lies closer to tetrahedron 0.
+fn tree_face(table: &Table, distances: &[Option<u32>], tet: u32) -> Option<Face>
+    requires table { IsTable table.now }
+    requires connected { IsConnected table.now }
+    requires distances { AreDistances table.now distances.now }
+    requires in_range { tet < length table.now }
+    ensures { IsTreeFaceAt table.now tet result }
+{
+    let mut least = None;
+    for face in 0..4 {
+        least = lesser(least, closer_face(table, distances, Face { tet, face }));
+    }
+    least
+}
+
+/// The tree face of each tetrahedron, by the distances.
+fn tree_faces(
+    alloc: Global,
+    table: &Table,
+    distances: &[Option<u32>],
+) -> Result<Vec<Option<Face>>, AllocError>
+    requires table { IsTable table.now }
+    requires connected { IsConnected table.now }
+    requires distances { AreDistances table.now distances.now }
+    ensures { IfOk result (λ faces. IsTree table.now faces.items) }
+{
+    let mut faces = Vec::with_capacity(alloc, distances.len())?;
+    for tet in 0..table.len() {
+        faces.push(tree_face(table, distances, tet))?;
+    }
+    Ok(faces)
+}
+
+/// The tree faces of a connected table.
+pub fn shortest_tree(alloc: Global, table: &Table) -> Result<FaceTree, NoMemory>
+    requires table { IsTable table.now }
+    requires connected { IsConnected table.now }
+    ensures { IfOk result (λ tree. IsTreeWith table.now tree.faces.items tree.distances.items) }
+{
+    let distances = distances(alloc, table)?;
+    let faces = tree_faces(alloc, table, &distances)?;
+    Ok(FaceTree { faces, distances })
+}

@@ -1,0 +1,86 @@
+//! Which generators turn.
+
+ghost use Rattle.std.specs.Prelude.{◌≡◌, ◌<◌, length, IsSome, IfOk};
+ghost use Rattle.std.specs.List.{AllZip};
+ghost use Rattle.table_definitions.specs.Table as gluings;
+ghost use Rattle.table_definitions.specs.Table.{IsTable};
+ghost use Rattle.skeleton_definitions.specs.Skeleton.{IsSkeleton};
+ghost use Rattle.group_definitions.specs.Trees.{is_even_gluing};
+ghost use Rattle.group_definitions.specs.Presentations.{AreGenerators, IsTurning, IsTurningFace};
+ghost use Rattle.edge_group.specs.Classes.{AreLeastFaces};
+ghost use Rattle.edge_group.specs.Turns.{IsPathOdd, IsTreeWith};
+
+use crate::faces::face_of;
+use crate::tree::FaceTree;
+use gluing_table::{Face, Table};
+use no_memory::NoMemory;
+use skeleton::Skeleton;
+use std::alloc::Global;
+
+/// Whether a face is glued by an even gluing.
+fn is_even(table: &Table, face: Face) -> bool
+    requires in_range { face.tet < length table.now }
+    requires a_face { face.face < 4 }
+    ensures { result ≡ is_even_gluing (gluings.glue table.now face) }
+{
+    match table.glue(face) {
+        Some(glue) => !glue.perm.is_odd(),
+        None => false,
+    }
+}
+
+/// Whether the path of tree faces to a tetrahedron has an odd number of even gluings.
+fn is_path_odd(table: &Table, tree: &FaceTree, tet: u32) -> bool
+    requires table { IsTable table.now }
+    requires tree { IsTreeWith table.now tree.now.faces.items tree.now.distances.items }
+    requires in_range { tet < length table.now }
+    ensures { IsPathOdd table.now tet result }
+{
+    let mut odd = false;
+    let mut tet = tet;
+    'path: while let Some(face) = tree.faces[tet as usize] {
+        odd = odd != is_even(table, face);
+        tet = face.tet;
+    }
+    odd
+}
+
+/// Whether the closed list of gluings through tree faces to a face, across it, and back through tree faces has an odd
+/// number of even gluings.
+fn turns(table: &Table, tree: &FaceTree, face: Face) -> bool
+    requires table { IsTable table.now }
+    requires tree { IsTreeWith table.now tree.now.faces.items tree.now.distances.items }
+    requires in_range { face.tet < length table.now }
+    requires a_face { face.face < 4 }
+    requires glued { IsSome (gluings.glue table.now face) }
+    ensures { IsTurningFace table.now face result }
+{
+    let Some(glue) = table.glue(face) else {
+        unreachable!();
+    };
+    let forth = is_path_odd(table, tree, face.tet);
+    let back = is_path_odd(table, tree, glue.tet);
+    (forth != is_even(table, face)) != back
+}
+
+/// Which generators turn.
+pub fn turning(
+    alloc: Global,
+    skeleton: &Skeleton,
+    tree: &FaceTree,
+    firsts: &[u32],
+    generators: &[u32],
+) -> Result<Vec<bool>, NoMemory>
+    requires skeleton { IsSkeleton skeleton.now }
+    requires tree { IsTreeWith skeleton.now.rows tree.now.faces.items tree.now.distances.items }
+    requires firsts { AreLeastFaces skeleton.now firsts.now }
+    requires generators { AreGenerators skeleton.now generators.now }
+    ensures { IfOk result (λ turning. AllZip (IsTurning skeleton.now) generators.now turning.items) }
+{
+    let table = skeleton.table();
+    let mut turning = Vec::with_capacity(alloc, generators.len())?;
+    for class in generators {
+        turning.push(turns(table, tree, face_of(firsts[*class as usize])))?;
+    }
+    Ok(turning)
+}
