@@ -1,0 +1,13 @@
+pub mod Agreeing
+pub mod Chains
+pub mod ComponentLemmas
+pub mod DraftLemmas
+pub mod Filtered
+pub mod JoinedText
+pub mod MatchLemmas
+pub mod OrderLemmas
+pub mod PartLemmas
+pub mod PlaceLemmas
+pub mod Searching
+pub mod Signing
+pub mod Writing

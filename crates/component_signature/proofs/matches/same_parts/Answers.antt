@@ -1,0 +1,48 @@
+-- Parts that agree are matched, and what is written of them is a relabelling that carries the one table to the other.
+use Rattle.std.proofs.Common.{◌≡◌, List, length, ap, subst, subst₂, sym, ◌∙◌}
+use Rattle.std.specs.Prelude.{IsTrue}
+use Rattle.table_definitions.specs.Relabelling.{Relabelling, IsRelabelling}
+use Rattle.labelling_definitions.specs.Labellings.{Relabels}
+use Rattle.part_definitions.specs.SameParts.{IsSameParts}
+use Rattle.component_signature.specs.declared.order.Signed.{Signed}
+use Rattle.component_signature.specs.Ordered.{entries_of, texts_of}
+use Rattle.component_signature.proofs.MatchLemmas.{differ}
+use Rattle.component_signature.proofs.DraftLemmas.{relabelling_of, told_of, relabels_of}
+use Rattle.component_signature.proofs.matches.same_parts.Goals as goal
+
+-- the signatures of both
+abbrev Agree : List Signed → List Signed → Type 0
+Agree first second = texts_of (entries_of first) ≡ texts_of (entries_of second)
+
+pub returns-then-not-agree-clause-none : goal.returns-then-not-agree-clause-none
+returns-then-not-agree-clause-none c =
+    differ c.args.first.now c.args.second.now c.in_ok-parts.parts.parts.items c.in_ok-others.others.parts.items (entries_of c.in_ok-parts.parts.signed.items) (entries_of c.in_ok-others.others.signed.items)
+    c.in_ok-parts.ensures.is_table c.in_ok-others.ensures.is_table c.in_ok-parts.ensures.parts c.in_ok-others.ensures.parts c.in_ok-parts.ensures.order c.in_ok-others.ensures.order
+    (λ e. let t : IsTrue c.agree.result = c.agree.ensures.1 (subst₂ Agree (sym c.deref.ensures.value) (sym c.deref-2.ensures.value) e) in let f = c.if-not-agree.true in cc)
+
+pub relabelling-requires-clause-relabelling : goal.relabelling-requires-clause-relabelling
+relabelling-requires-clause-relabelling c =
+    let agree : Agree c.in_ok-parts.parts.signed.items c.in_ok-others.others.signed.items = subst₂ Agree c.deref.ensures.value c.deref-2.ensures.value (c.agree.ensures.0 (let f = c.if-not-agree.false in cc)) in
+    subst (λ n. IsRelabelling n c.in_ok-draft.draft) (sym (c.in_ok-draft.ensures.images ∙ c.len.ensures.value))
+    (relabelling_of c.args.first.now c.args.second.now c.in_ok-parts.parts.parts.items c.in_ok-others.others.parts.items c.in_ok-parts.parts.signed.items c.in_ok-others.others.signed.items
+    c.in_ok-parts.ensures.is_table c.in_ok-others.ensures.is_table c.in_ok-parts.ensures.parts c.in_ok-others.ensures.parts c.in_ok-parts.ensures.order c.in_ok-others.ensures.order agree
+    c.in_ok-draft.draft (c.in_ok-draft.ensures.images ∙ c.len.ensures.value) (c.in_ok-draft.ensures.perms ∙ c.len.ensures.value) c.in_ok-draft.ensures.written)
+
+pub returns-clause-told : goal.returns-clause-told
+returns-clause-told c =
+    let agree : Agree c.in_ok-parts.parts.signed.items c.in_ok-others.others.signed.items = subst₂ Agree c.deref.ensures.value c.deref-2.ensures.value (c.agree.ensures.0 (let f = c.if-not-agree.false in cc)) in
+    subst (IsSameParts c.args.first.now c.args.second.now) (sym c.in_ok-by.ensures)
+    (told_of c.args.first.now c.args.second.now c.in_ok-parts.parts.parts.items c.in_ok-others.others.parts.items c.in_ok-parts.parts.signed.items c.in_ok-others.others.signed.items
+    c.in_ok-parts.ensures.is_table c.in_ok-others.ensures.is_table c.in_ok-parts.ensures.parts c.in_ok-others.ensures.parts c.in_ok-parts.ensures.order c.in_ok-others.ensures.order agree
+    c.in_ok-draft.draft (c.in_ok-draft.ensures.images ∙ c.len.ensures.value) (c.in_ok-draft.ensures.perms ∙ c.len.ensures.value) c.in_ok-draft.ensures.written)
+
+pub returns-clause-relabels : goal.returns-clause-relabels
+returns-clause-relabels c =
+    let agree : Agree c.in_ok-parts.parts.signed.items c.in_ok-others.others.signed.items = subst₂ Agree c.deref.ensures.value c.deref-2.ensures.value (c.agree.ensures.0 (let f = c.if-not-agree.false in cc)) in
+    subst (Relabels c.args.first.now c.args.second.now) (sym c.in_ok-by.ensures)
+    (relabels_of c.args.first.now c.args.second.now c.in_ok-parts.parts.parts.items c.in_ok-others.others.parts.items c.in_ok-parts.parts.signed.items c.in_ok-others.others.signed.items
+    c.in_ok-parts.ensures.is_table c.in_ok-others.ensures.is_table c.in_ok-parts.ensures.parts c.in_ok-others.ensures.parts c.in_ok-parts.ensures.order c.in_ok-others.ensures.order agree
+    c.in_ok-draft.draft (c.in_ok-draft.ensures.images ∙ c.len.ensures.value) (c.in_ok-draft.ensures.perms ∙ c.len.ensures.value) c.in_ok-draft.ensures.written)
+
+pub returns-clause-size : goal.returns-clause-size
+returns-clause-size c = ap (λ (by : Relabelling). length by.images) c.in_ok-by.ensures ∙ c.in_ok-draft.ensures.images ∙ c.len.ensures.value

@@ -1,0 +1,94 @@
+//! Relabellings that are written part by part.
+
+ghost use Rattle.std.specs.Prelude.{◌≡◌, ◌<◌, ◌^◌, ℕ, length, slice_index, slice_set, replicate, All, AllPairs, Contains, IfOk};
+ghost use Rattle.table_definitions.specs.Permutation.{identity};
+ghost use Rattle.table_definitions.specs.Relabelling as labels;
+ghost use Rattle.table_definitions.specs.Relabelling.{IsRelabelling, stand_in};
+ghost use Rattle.part_definitions.specs.SameParts.{GoesBy};
+
+use crate::split::Part;
+use gluing_table::{Relabelling, RelabellingFault};
+use no_memory::NoMemory;
+use perm_four::Perm4;
+use std::alloc::Global;
+use std::marker::Model;
+
+/// A relabelling that is being written: the new number of each tetrahedron, and where its vertices go.
+#[derive(Drop)]
+pub struct Draft {
+    images: Vec<u32>,
+    perms: Vec<Perm4>,
+}
+
+impl Model for Draft {
+    ghost use Rattle.table_definitions.specs.Relabelling as labels;
+
+    ghost Value = { labels.Relabelling };
+
+    ghost view = { λ d. record { images = d.images.items; perms = d.perms.items } };
+}
+
+/// The permutation that leaves each vertex where it is.
+#[tactic(auto, unfolding(table_definitions::specs::Permutation::is_permutation))]
+fn unmoved() -> Perm4
+    ensures { result ≡ identity }
+{
+    match Perm4::new(0, 1, 2, 3) {
+        Some(perm) => perm,
+        None => unreachable!(),
+    }
+}
+
+/// Room for so many tetrahedra.
+pub fn unwritten(alloc: Global, tets: u32) -> Result<Draft, NoMemory>
+    ensures images { IfOk result (λ draft. length draft.images ≡ tets) }
+    ensures perms { IfOk result (λ draft. length draft.perms ≡ tets) }
+{
+    let images = vec![in alloc; 0u32; tets as usize]?;
+    let perms = vec![in alloc; unmoved(); tets as usize]?;
+    Ok(Draft { images, perms })
+}
+
+/// Writes where the tetrahedra of a part go, by a relabelling to another part.
+pub fn write_part(draft: &mut Draft, part: &Part, other: &Part, by: &Relabelling)
+    requires tets { All (λ t. t < length draft.old.images) part.now.numbers }
+    requires perms { length draft.old.perms ≡ length draft.old.images }
+    requires ascending { AllPairs (λ t u. t < u) part.now.numbers }
+    requires few { length part.now.numbers < 2 ^ 32 }
+    requires one_each { length by.now.images ≡ length part.now.numbers }
+    requires there { (k : ℕ) → k < length part.now.numbers → slice_index by.now.images k < length other.now.numbers }
+    ensures goes { GoesBy draft.new part.now other.now by.now }
+    ensures others { (t : ℕ) → (Contains part.now.numbers t → ⊥) → stand_in draft.new t ≡ stand_in draft.old t }
+    ensures images { length draft.new.images ≡ length draft.old.images }
+    ensures perms { length draft.new.perms ≡ length draft.old.perms }
+{
+    for (place, tet) in part.numbers.iter().enumerate() {
+        let image = other.numbers[by.image(place as u32) as usize];
+        draft.write(*tet, image, by.perm(place as u32));
+    }
+}
+
+impl Draft {
+    /// Writes where a tetrahedron goes.
+    fn write(&mut self, tet: u32, image: u32, perm: Perm4)
+        requires images { tet < length self.old.images }
+        requires perms { tet < length self.old.perms }
+        ensures { self.new ≡ record { images = slice_set self.old.images tet image; perms = slice_set self.old.perms tet perm } }
+    {
+        self.images[tet as usize] = image;
+        self.perms[tet as usize] = perm;
+    }
+
+    /// The relabelling as it is written, which is one.
+    pub fn relabelling(&self, alloc: Global) -> Result<Relabelling, NoMemory>
+        requires relabelling { IsRelabelling (length self.now.images) self.now }
+        requires few { length self.now.images < 2 ^ 32 }
+        ensures { IfOk result (λ by. by ≡ self.now) }
+    {
+        match Relabelling::new(alloc, &self.images, &self.perms) {
+            Ok(by) => Ok(by),
+            Err(RelabellingFault::NoMemory) => Err(NoMemory),
+            Err(RelabellingFault::NotBijection { .. }) => unreachable!(),
+        }
+    }
+}

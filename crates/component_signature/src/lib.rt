@@ -1,0 +1,17 @@
+//! The parts of a table, its component signature, and the relabelling that is told of two tables part by part.
+#![tactic(auto)]
+
+mod components;
+mod drafts;
+mod matches;
+mod order;
+mod renumbered;
+mod signatures;
+mod split;
+
+pub use matches::same_parts;
+pub use signatures::component_signature;
+pub use split::{Part, parts};
+
+#[cfg(test)]
+mod tests;

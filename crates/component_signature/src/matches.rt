@@ -1,0 +1,107 @@
+//! The relabelling that is told of two tables, part by part.
+
+ghost use Rattle.std.specs.Prelude.{◌≡◌, ◌<◌, ◌+◌, ◌^◌, ◌↔◌, ℕ, length, slice_index, All, IsTrue, IfOk, OnOk, IfSome, IfNone};
+ghost use Rattle.table_definitions.specs.Places.{IsConnected};
+ghost use Rattle.table_definitions.specs.Relabelling.{IsRelabelling, IsRelabelled};
+ghost use Rattle.labelling_definitions.specs.Labellings.{IsLeastRelabelling, Relabels};
+ghost use Rattle.part_definitions.specs.SameParts.{IsSameParts};
+ghost use Rattle.component_signature.specs.Ordered.{entries_of, texts_of, numbers_of};
+ghost use Rattle.component_signature.specs.Drafts.{AreMatched, AreWritten};
+
+use crate::drafts::{Draft, unwritten, write_part};
+use crate::order::{Ordered, Signed, in_order};
+use canonical_labelling::{SameFault, same};
+use gluing_table::{Relabelling, Table};
+use no_memory::NoMemory;
+use std::alloc::Global;
+
+/// Whether the signatures are the same, place by place.
+fn agree(first: &[Signed], second: &[Signed]) -> bool
+    ensures { IsTrue result ↔ (texts_of (entries_of first.now) ≡ texts_of (entries_of second.now)) }
+{
+    if first.len() != second.len() {
+        return false;
+    }
+    for place in 0..first.len() {
+        if first[place].signature != second[place].signature {
+            return false;
+        }
+    }
+    true
+}
+
+/// The relabelling that is told of two connected tables of which one can be relabelled to the other.
+fn told(alloc: Global, first: &Table, second: &Table) -> Result<Relabelling, NoMemory>
+    requires connected { IsConnected first.now }
+    requires second_connected { IsConnected second.now }
+    requires relabelled { IsRelabelled first.now second.now }
+    ensures { IfOk result (IsLeastRelabelling first.now second.now) }
+{
+    match same(alloc, first, second) {
+        Ok(Some(by)) => Ok(by),
+        Ok(None) => unreachable!(),
+        Err(SameFault::First { .. }) => unreachable!(),
+        Err(SameFault::Second { .. }) => unreachable!(),
+        Err(SameFault::NoMemory) => Err(NoMemory),
+    }
+}
+
+/// Writes where the tetrahedra of the part at a place go.
+fn write_place(
+    alloc: Global,
+    draft: &mut Draft,
+    first: &Ordered,
+    second: &Ordered,
+    place: usize,
+) -> Result<(), NoMemory>
+    requires matched { AreMatched (length draft.old.images) first.now.parts.items (entries_of first.now.signed.items) second.now.parts.items (entries_of second.now.signed.items) }
+    requires in_range { place < length first.now.signed.items }
+    requires perms { length draft.old.perms ≡ length draft.old.images }
+    requires written { AreWritten first.now.parts.items (numbers_of (entries_of first.now.signed.items)) second.now.parts.items (numbers_of (entries_of second.now.signed.items)) place draft.old }
+    ensures written { OnOk result (AreWritten first.now.parts.items (numbers_of (entries_of first.now.signed.items)) second.now.parts.items (numbers_of (entries_of second.now.signed.items)) (place + 1) draft.new) }
+    ensures images { OnOk result (length draft.new.images ≡ length draft.old.images) }
+    ensures perms { OnOk result (length draft.new.perms ≡ length draft.old.perms) }
+{
+    let part = &first.parts[first.signed[place].part];
+    let other = &second.parts[second.signed[place].part];
+    let by = told(alloc, &part.table, &other.table)?;
+    write_part(draft, part, other, &by);
+    Ok(())
+}
+
+/// Where the tetrahedra of all parts go.
+fn drafted(alloc: Global, tets: u32, first: &Ordered, second: &Ordered) -> Result<Draft, NoMemory>
+    requires { AreMatched tets first.now.parts.items (entries_of first.now.signed.items) second.now.parts.items (entries_of second.now.signed.items) }
+    ensures written { IfOk result (AreWritten first.now.parts.items (numbers_of (entries_of first.now.signed.items)) second.now.parts.items (numbers_of (entries_of second.now.signed.items)) (length first.now.signed.items)) }
+    ensures images { IfOk result (λ draft. length draft.images ≡ tets) }
+    ensures perms { IfOk result (λ draft. length draft.perms ≡ tets) }
+{
+    let mut draft = unwritten(alloc, tets)?;
+    for place in 0..first.signed.len() {
+        write_place(alloc, &mut draft, first, second, place)?;
+    }
+    Ok(draft)
+}
+
+/// The relabelling that is told of two tables: the parts of both stand in the order of their signatures and then of their
+/// least tetrahedra, and each part goes to the other table's part at its place, as [`same`] tells of the two. Nothing exactly
+/// where no relabelling carries the first table to the second.
+pub fn same_parts(
+    alloc: Global,
+    first: &Table,
+    second: &Table,
+) -> Result<Option<Relabelling>, NoMemory>
+    ensures told { IfOk result (λ r. IfSome r (IsSameParts first.now second.now)) }
+    ensures relabels { IfOk result (λ r. IfSome r (Relabels first.now second.now)) }
+    ensures size { IfOk result (λ r. IfSome r (λ by. length by.images ≡ length first.now)) }
+    ensures none { IfOk result (λ r. IfNone r (IsRelabelled first.now second.now → ⊥)) }
+{
+    let parts = in_order(alloc, first)?;
+    let others = in_order(alloc, second)?;
+    if !agree(&parts.signed, &others.signed) {
+        return Ok(None);
+    }
+    let draft = drafted(alloc, first.len(), &parts, &others)?;
+    let by = draft.relabelling(alloc)?;
+    Ok(Some(by))
+}

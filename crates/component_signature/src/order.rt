@@ -1,0 +1,71 @@
+//! The parts of a table in the order of their signatures.
+
+ghost use Rattle.std.specs.Prelude.{◌≡◌, All, IfOk, OnOk};
+ghost use Rattle.table_definitions.specs.Table.{IsTable};
+ghost use Rattle.table_definitions.specs.Places.{IsConnected};
+ghost use Rattle.signature_definitions.specs.Spelling.{IsSignature};
+ghost use Rattle.part_definitions.specs.Parts as definition;
+ghost use Rattle.part_definitions.specs.Parts.{AreParts};
+ghost use Rattle.component_signature.specs.Ordered.{entries_of, AreSigned, AreInOrder};
+
+use crate::split::{Part, parts};
+use canonical_labelling::{WalkFault, signature};
+use gluing_table::Table;
+use no_memory::NoMemory;
+use std::alloc::Global;
+
+/// The signature of a part, and the number of the part. The order is by the signature and then by the number.
+#[derive(PartialEq, Eq, PartialOrd, Ord, Drop)]
+pub struct Signed {
+    pub signature: Vec<u8>,
+    pub part: usize,
+}
+
+/// The parts of a table, and the signatures of all of them in order.
+#[derive(Drop)]
+pub struct Ordered {
+    pub parts: Vec<Part>,
+    pub signed: Vec<Signed>,
+}
+
+/// The signature of a connected table.
+fn signature_of(alloc: Global, table: &Table) -> Result<Vec<u8>, NoMemory>
+    requires { IsConnected table.now }
+    ensures { IfOk result (λ text. IsSignature table.now text.items) }
+{
+    match signature(alloc, table) {
+        Ok(text) => Ok(text),
+        Err(WalkFault::NoMemory) => Err(NoMemory),
+        Err(WalkFault::NotConnected { .. }) => unreachable!(),
+    }
+}
+
+/// The signature of each part.
+fn sign_parts(alloc: Global, parts: &[Part]) -> Result<Vec<Signed>, NoMemory>
+    requires { All (λ (part : definition.Part). IsConnected part.rows) parts.now }
+    ensures { IfOk result (λ signed. AreSigned parts.now (entries_of signed.items)) }
+{
+    let mut signed = Vec::with_capacity(alloc, parts.len())?;
+    for number in 0..parts.len() {
+        let part = &parts[number];
+        let signature = signature_of(alloc, &part.table)?;
+        signed.push(Signed {
+            signature,
+            part: number,
+        })?;
+    }
+    Ok(signed)
+}
+
+/// The parts of a table in the order of their signatures, and those of one signature in the order of their least
+/// tetrahedra.
+pub fn in_order(alloc: Global, table: &Table) -> Result<Ordered, NoMemory>
+    ensures parts { IfOk result (λ ordered. AreParts table.now ordered.parts.items) }
+    ensures order { IfOk result (λ ordered. AreInOrder ordered.parts.items (entries_of ordered.signed.items)) }
+    ensures is_table { OnOk result (IsTable table.now) }
+{
+    let parts = parts(alloc, table)?;
+    let mut signed = sign_parts(alloc, &parts)?;
+    signed.sort_unstable();
+    Ok(Ordered { parts, signed })
+}

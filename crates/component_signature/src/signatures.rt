@@ -1,0 +1,39 @@
+//! The component signature of a table.
+
+ghost use Rattle.std.specs.Prelude.{◌≡◌, IfOk};
+ghost use Rattle.part_definitions.specs.ComponentSignature.{component_text, IsComponentSignature};
+ghost use Rattle.component_signature.specs.Ordered.{entries_of, texts_of};
+
+use crate::order::{Signed, in_order};
+use gluing_table::Table;
+use no_memory::NoMemory;
+use std::alloc::Global;
+use text_writing::append;
+
+/// The signatures with a full stop between each two; `a` where there is none.
+fn joined(alloc: Global, signed: &[Signed]) -> Result<Vec<u8>, NoMemory>
+    ensures { IfOk result (λ text. text.items ≡ component_text (texts_of (entries_of signed.now))) }
+{
+    let mut text = Vec::new(alloc);
+    if signed.is_empty() {
+        append(&mut text, b"a")?;
+        return Ok(text);
+    }
+    append(&mut text, &signed[0].signature)?;
+    for place in 1..signed.len() {
+        append(&mut text, b".")?;
+        append(&mut text, &signed[place].signature)?;
+    }
+    Ok(text)
+}
+
+/// The component signature of a table: the signatures of its parts in ascending order, each as often as it occurs, with a
+/// full stop between each two; `a` where the table has no tetrahedra. Two tables have the same one exactly where a
+/// relabelling carries one to the other.
+pub fn component_signature(alloc: Global, table: &Table) -> Result<Vec<u8>, NoMemory>
+    ensures { IfOk result (λ text. IsComponentSignature table.now text.items) }
+{
+    let ordered = in_order(alloc, table)?;
+    let text = joined(alloc, &ordered.signed)?;
+    Ok(text)
+}

@@ -1,0 +1,86 @@
+//! The parts of a table.
+
+ghost use Rattle.std.specs.Prelude.{◌≡◌, ◌<◌, ◌^◌, length, IfOk, OnOk};
+ghost use Rattle.table_definitions.specs.Table.{IsTable};
+ghost use Rattle.part_definitions.specs.Parts as definition;
+ghost use Rattle.part_definitions.specs.Parts.{IsPart, AreParts};
+ghost use Rattle.component_signature.specs.Components as components;
+
+use crate::components::components;
+use crate::renumbered::renumbered_rows;
+use gluing_table::{Row, Table};
+use no_memory::NoMemory;
+use std::alloc::{AllocError, Global};
+use std::marker::Model;
+
+/// A component of a table as a table of its own, and the numbers of its tetrahedra in the whole table, ascending.
+#[derive(Drop)]
+pub struct Part {
+    pub table: Table,
+    pub numbers: Vec<u32>,
+}
+
+impl Model for Part {
+    ghost use Rattle.part_definitions.specs.Parts as definition;
+
+    ghost Value = { definition.Part };
+
+    ghost view = { λ p. record { rows = p.table; numbers = p.numbers.items } };
+}
+
+/// The tetrahedra of a component.
+fn members_of(alloc: Global, classes: &[u32], class: u32) -> Result<Vec<u32>, AllocError>
+    requires { length classes.now < 2 ^ 32 }
+    ensures { IfOk result (λ members. members.items ≡ components.members_of classes.now class) }
+{
+    let mut members = Vec::new(alloc);
+    let count = classes.len() as u32;
+    for tet in 0..count {
+        if classes[tet as usize] == class {
+            members.push(tet)?;
+        }
+    }
+    Ok(members)
+}
+
+/// The table of these rows, which are one.
+fn table_of(alloc: Global, rows: &[Row]) -> Result<Table, NoMemory>
+    requires { IsTable rows.now }
+    ensures { IfOk result (λ table. table ≡ rows.now) }
+{
+    match Table::from_rows(alloc, rows) {
+        Ok(table) => Ok(table),
+        // the rows are a table, so only memory can be missing
+        Err(_) => Err(NoMemory),
+    }
+}
+
+/// A component as a part.
+fn part_of(alloc: Global, table: &Table, classes: &[u32], class: u32) -> Result<Part, NoMemory>
+    requires table { IsTable table.now }
+    requires part { IsPart table.now (components.part_of table.now classes.now class) }
+    requires few { length classes.now < 2 ^ 32 }
+    ensures { IfOk result (λ part. part ≡ components.part_of table.now classes.now class) }
+{
+    let numbers = members_of(alloc, classes, class)?;
+    let rows = renumbered_rows(alloc, table, &numbers)?;
+    let table = table_of(alloc, &rows)?;
+    Ok(Part { table, numbers })
+}
+
+/// The parts of a table: its components, ascending by their least tetrahedra.
+pub fn parts(alloc: Global, table: &Table) -> Result<Vec<Part>, NoMemory>
+    ensures parts { IfOk result (λ parts. AreParts table.now parts.items) }
+    ensures is_table { OnOk result (IsTable table.now) }
+{
+    let classes = components(alloc, table.rows())?;
+    let mut parts = Vec::new(alloc);
+    for tet in 0..table.len() {
+        let class = classes[tet as usize];
+        if class as usize == parts.len() {
+            let part = part_of(alloc, table, &classes, class)?;
+            parts.push(part)?;
+        }
+    }
+    Ok(parts)
+}

@@ -1,0 +1,5 @@
+mod Sorting
+mod LeastExists
+pub mod Ordering
+pub mod Told
+pub mod Answers
