@@ -1,2 +1,4 @@
 pub mod Told
 pub mod SphereRow
+pub mod Finding
+pub mod Descents

@@ -34,7 +34,7 @@ fn play_all(table: &mut Table, moves: &[Move]) -> Result<(), CheckFault>
 }
 
 /// Whether a text is the signature of the standard sphere.
-fn is_sphere(text: &[u8]) -> bool
+pub fn is_sphere(text: &[u8]) -> bool
     ensures { IsTrue result ↔ (text.now ≡ sphere_text) }
 {
     text == SPHERE.as_slice()

@@ -2,10 +2,13 @@
 //! (Pachner).
 #![tactic(auto)]
 
+mod accepted;
 mod checking;
+mod descending;
 mod sphere;
 
 pub use checking::{CheckFault, check};
+pub use descending::{Descent, descend};
 pub use sphere::standard;
 
 #[cfg(test)]

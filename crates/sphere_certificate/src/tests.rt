@@ -1,5 +1,5 @@
 use super::*;
-use pachner_moves::{Core, Move, MoveFault};
+use pachner_moves::{Core, Move, MoveFault, apply};
 use signature_codec::read_signature;
 use std::test::Fail;
 
@@ -48,5 +48,30 @@ fn other_tables_have_another_signature(rt: HostRuntime) -> Result<(), Fail> {
         }
         _ => assert!(rt; false, "not refused"),
     }
+    Ok(())
+}
+
+#[test]
+fn a_parted_sphere_is_reached(rt: HostRuntime) -> Result<(), Fail> {
+    let alloc = rt.alloc();
+    let mut table = standard(alloc)?;
+    let parting = at(0, 15).ok_or("a move")?;
+    let joining = at(0, 8).ok_or("a move")?;
+    assert!(rt; apply(&mut table, parting).is_ok());
+    let descent = descend(alloc, &table)?;
+    assert!(rt; descent.reached);
+    assert_eq!(rt; descent.moves.as_slice(), [joining].as_slice());
+    assert_eq!(rt; descent.table.len(), 1);
+    Ok(())
+}
+
+#[test]
+fn descents_end_at_other_tables(rt: HostRuntime) -> Result<(), Fail> {
+    let alloc = rt.alloc();
+    let table = read_signature(alloc, b"bkaagb")?;
+    let descent = descend(alloc, &table)?;
+    assert!(rt; !descent.reached);
+    assert!(rt; descent.moves.is_empty());
+    assert!(rt; descent.table.equals(&table));
     Ok(())
 }
