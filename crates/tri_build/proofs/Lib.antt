@@ -1,0 +1,9 @@
+pub mod Listed
+pub mod Bits
+pub mod Vertices
+pub mod Found
+pub mod Correspondence
+pub mod Led
+pub mod Bijective
+pub mod Ways
+pub mod SoFar

@@ -1,0 +1,6 @@
+-- A bit of a vertex is at most the last one.
+use Rattle.tri_build.proofs.Bits.{bit_low}
+use Rattle.tri_build.proofs.carrying.bit_under.Goals as goal
+
+pub returns-then-has-clause-few : goal.returns-then-has-clause-few
+returns-then-has-clause-few c = bit_low c.image-bit.result c.image-bit.ensures.in_range

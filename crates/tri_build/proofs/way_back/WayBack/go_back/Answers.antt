@@ -1,0 +1,19 @@
+-- The step is carried back by its move back.
+use Rattle.std.proofs.Common.{ap}
+use Rattle.tri_build.specs.Standing.{Back}
+use Rattle.tri_build.proofs.Led.{led, not_refused, gone_back}
+use Rattle.tri_build.proofs.way_back.WayBack.go_back.Goals as goal
+
+pub carried_back-requires-clause-some : goal.carried_back-requires-clause-some
+carried_back-requires-clause-some c =
+    let l = led c.requires.0 c.args.step.now c.args.self.now.now c.args.self.now.on c.back_of-back.result c.requires.1 c.back_of-back.ensures.back in
+    (l.by, l.stands)
+
+pub unreachable-requires : goal.unreachable-requires
+unreachable-requires c =
+    not_refused c.requires.0 c.args.step.now c.args.self.now.now c.args.self.now.on c.back_of-back.result c.back.inside.played c.in-Err.field-0 c.requires.1 c.back_of-back.ensures.back (ap (λ (b : Back). b.played) c.back.view_is) c.in-Err.ensures.fault
+
+pub returns : goal.returns
+returns c = λ old before.
+    gone_back old c.args.step.now c.args.self.now.now c.args.self.now.on c.back_of-back.result c.back.inside.played c.args.self.now.moves.items c.push.new.self.items c.apply.new.table c.in_ok-by.by before c.back_of-back.ensures.back
+    (ap (λ (b : Back). b.played) c.back.view_is) c.in_ok-push.ensures.items c.in-Ok.ensures.moved c.in_ok-by.ensures

@@ -1,0 +1,85 @@
+//! The moves from which one is drawn.
+
+ghost use Rattle.std.specs.Prelude.{◌≡◌, ◌∷◌, ◌++◌, ◌<◌, [], length, map, filter, IfOk, OnOk};
+ghost use Rattle.table_definitions.specs.Permutation.{four, others};
+ghost use Rattle.table_definitions.specs.Places.{edge_ends};
+ghost use Rattle.move_definitions.specs.Certificates as certificates;
+ghost use Rattle.move_definitions.specs.Certificates.{moves_with};
+ghost use Rattle.pachner_moves.specs.Cores.{core_of};
+ghost use Rattle.tri_build.specs.Candidates.{moves_at};
+
+use gluing_table::{MAX_TETS, Table};
+use no_memory::NoMemory;
+use pachner_moves::{Core, Move, legal};
+use std::alloc::Global;
+
+/// The core whose vertices are the bits of a mask.
+pub fn core(mask: u8) -> Core
+    requires some { 0 < mask }
+    requires four { mask < 16 }
+    ensures { result ≡ core_of mask }
+{
+    match Core::new(mask) {
+        Some(core) => core,
+        None => unreachable!(),
+    }
+}
+
+/// The vertices of each face, by the vertex opposite it.
+fn faces() -> [Core; 4]
+    ensures { result ≡ map others four }
+{
+    [core(14), core(13), core(11), core(7)]
+}
+
+/// The ends of each edge, by its number.
+fn edges() -> [Core; 6]
+    ensures { result ≡ edge_ends }
+{
+    [core(3), core(5), core(9), core(6), core(10), core(12)]
+}
+
+/// Whether `apply` accepts a move.
+fn is_accepted(table: &Table, m: Move) -> bool
+    ensures { result ≡ certificates.is_accepted table.now m }
+{
+    let size = u32::from(m.core.size());
+    let kept = table.len().saturating_sub(5 - size);
+    legal(table, m).is_ok() && kept + size <= MAX_TETS
+}
+
+/// Appends the moves of a tetrahedron with these cores that are accepted.
+fn append_at(moves: &mut Vec<Move>, table: &Table, tet: u32, cores: &[Core]) -> Result<(), NoMemory>
+    ensures { OnOk result (moves.new.items ≡ moves.old.items ++ filter (certificates.is_accepted table.now) (moves_at tet cores.now)) }
+{
+    for core in cores {
+        let m = Move { tet, core: *core };
+        if is_accepted(table, m) {
+            moves.push(m)?;
+        }
+    }
+    Ok(())
+}
+
+/// Appends the moves with these cores that are accepted, by tetrahedron and then by core.
+fn append_accepted(moves: &mut Vec<Move>, table: &Table, cores: &[Core]) -> Result<(), NoMemory>
+    ensures { OnOk result (moves.new.items ≡ moves.old.items ++ filter (certificates.is_accepted table.now) (moves_with cores.now (length table.now))) }
+{
+    for tet in 0..table.len() {
+        append_at(moves, table, tet, cores)?;
+    }
+    Ok(())
+}
+
+/// The moves from which one is drawn: the accepted 2-3 and 3-2, and where there are none the accepted 1-4.
+pub fn candidates(alloc: Global, table: &Table) -> Result<Vec<Move>, NoMemory>
+    ensures { IfOk result (λ moves. moves.items ≡ certificates.candidates table.now) }
+{
+    let mut moves = Vec::new(alloc);
+    append_accepted(&mut moves, table, &faces())?;
+    append_accepted(&mut moves, table, &edges())?;
+    if moves.is_empty() {
+        append_accepted(&mut moves, table, &[core(15)])?;
+    }
+    Ok(moves)
+}

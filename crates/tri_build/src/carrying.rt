@@ -1,0 +1,63 @@
+//! Moves where a relabelling carries the table.
+
+ghost use Rattle.std.specs.Prelude.{◌≡◌, ◌<◌, ◌≤◌, ◌^◌, length, if◌then◌else◌};
+ghost use Rattle.table_definitions.specs.Lists.{has};
+ghost use Rattle.table_definitions.specs.Permutation.{IsPermutationOfFour, image};
+ghost use Rattle.certificate_definitions.specs.CarriedMoves as carried;
+
+use gluing_table::Relabelling;
+use pachner_moves::{Core, Move};
+use perm_four::Perm4;
+
+/// The bit of the vertex to which a vertex goes, where it is one of the core.
+fn bit_under(perm: Perm4, core: Core, v: u8) -> u8
+    requires { v < 4 }
+    ensures value { result ≡ (if has core v then 2 ^ image perm v else 0) }
+    ensures few { result ≤ 8 }
+    ensures permutes { IsPermutationOfFour perm }
+{
+    let bit = 1 << perm.image(v);
+    if core.has(v) { bit } else { 0 }
+}
+
+/// The vertices to which those of a core go.
+fn core_under(perm: Perm4, core: Core) -> Core
+    ensures { result ≡ carried.core_under perm core }
+{
+    // so some vertex is known to be one of the core
+    let _ = core.size();
+    let mask = bit_under(perm, core, 0)
+        + bit_under(perm, core, 1)
+        + bit_under(perm, core, 2)
+        + bit_under(perm, core, 3);
+    match Core::new(mask) {
+        Some(core) => core,
+        None => unreachable!(),
+    }
+}
+
+/// The move that stands for another.
+pub fn move_under(on: &Relabelling, m: Move) -> Move
+    requires { m.tet < length on.now.images }
+    ensures { result ≡ carried.move_under on.now m }
+{
+    Move {
+        tet: on.image(m.tet),
+        core: core_under(on.perm(m.tet), m.core),
+    }
+}
+
+/// The label, in the move that stands for m, of the vertex to which the one with a label goes; label 4 stays.
+pub fn label_under(on: &Relabelling, m: Move, label: u8) -> u8
+    requires in_range { m.tet < length on.now.images }
+    requires a_label { label < 5 }
+    ensures value { result ≡ carried.label_under on.now m label }
+    ensures a_label { result < 5 }
+{
+    if label == 4 {
+        return 4;
+    }
+    let perm = on.perm(m.tet);
+    let labels = core_under(perm, m.core).labels();
+    labels.image(perm.image(m.core.labels().preimage(label)))
+}

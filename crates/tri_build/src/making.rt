@@ -1,0 +1,54 @@
+//! Tables that are made, each with its certificate.
+
+ghost use Rattle.std.specs.Prelude.{◌≡◌, ◌≤◌, length, IfOk};
+ghost use Rattle.move_definitions.specs.Certificates.{IsCertificate, IsMaking};
+ghost use Rattle.certificate_definitions.specs.Makings.{IsMade};
+ghost use Rattle.tri_build.specs.Steps.{AreSteps, moves_of};
+
+use crate::generator::next_state;
+use crate::steps::{Step, draw_step};
+use crate::way_back::way_back;
+use gluing_table::Table;
+use no_memory::NoMemory;
+use pachner_moves::Move;
+use sphere_certificate::standard;
+use std::alloc::Global;
+
+/// A table that was made, with moves that certify it.
+#[derive(Drop)]
+pub struct Made {
+    pub table: Table,
+    pub certificate: Vec<Move>,
+}
+
+/// Plays up to so many moves, each drawn in the next state.
+fn play(alloc: Global, table: &mut Table, seed: u64, most: u32) -> Result<Vec<Step>, NoMemory>
+    ensures making { IfOk result (λ steps. IsMaking most seed table.old (moves_of steps.items) table.new) }
+    ensures steps { IfOk result (λ steps. AreSteps table.old steps.items table.new) }
+    ensures few { IfOk result (λ steps. length steps.items ≤ most) }
+{
+    let mut state = seed;
+    let mut steps = Vec::new(alloc);
+    while steps.len() < most as usize {
+        state = next_state(state);
+        match draw_step(alloc, table, state)? {
+            Some(step) => steps.push(step)?,
+            None => return Ok(steps),
+        }
+    }
+    Ok(steps)
+}
+
+/// Makes a table from a seed: up to so many moves are played from the standard sphere, each drawn from the accepted 2-3
+/// and 3-2, and where there are none from the accepted 1-4. The certificate has as many moves, from the last step back to
+/// the first.
+pub fn make(alloc: Global, seed: u64, moves: u32) -> Result<Made, NoMemory>
+    ensures made { IfOk result (λ made. IsMade seed moves made.table made.certificate.items) }
+    ensures certified { IfOk result (λ made. IsCertificate made.table made.certificate.items) }
+    ensures few { IfOk result (λ made. length made.certificate.items ≤ moves) }
+{
+    let mut table = standard(alloc)?;
+    let steps = play(alloc, &mut table, seed, moves)?;
+    let certificate = way_back(alloc, &table, steps)?;
+    Ok(Made { table, certificate })
+}

@@ -1,0 +1,81 @@
+//! The steps of a making.
+
+ghost use Rattle.std.specs.Prelude.{◌≡◌, [], length, None, IfOk, IfSome, IfNone, OnOk};
+ghost use Rattle.move_definitions.specs.Moves as moves;
+ghost use Rattle.move_definitions.specs.Moves.{play_fault};
+ghost use Rattle.move_definitions.specs.Certificates as certificates;
+ghost use Rattle.tri_build.specs.Steps.{IsStep};
+
+use crate::candidates::candidates;
+use crate::generator::drawn;
+use arrayvec::ArrayVec;
+use gluing_table::Table;
+use no_memory::NoMemory;
+use pachner_moves::{Facet, Move, apply, legal};
+use std::alloc::Global;
+use std::marker::Model;
+
+/// A move that was played, the number of tetrahedra before it, and the facets that it took out.
+#[derive(Drop)]
+pub struct Step {
+    pub played: Move,
+    pub tets: u32,
+    pub facets: ArrayVec<Facet, 4>,
+}
+
+impl Model for Step {
+    ghost use Rattle.tri_build.specs.Steps as steps;
+
+    ghost Value = { steps.Step };
+
+    ghost view = { λ s. record { played = s.played; tets = s.tets; facets = s.facets.items } };
+}
+
+impl Step {
+    /// The move that leads back, up to relabelling.
+    pub fn inverse(&self) -> Move
+        ensures { result ≡ moves.inverse_move self.now.tets self.now.played }
+    {
+        let taken = 5 - u32::from(self.played.core.size());
+        Move {
+            tet: self.tets.saturating_sub(taken),
+            core: self.played.core.opposite(),
+        }
+    }
+}
+
+/// Plays a move that can be played.
+fn play_step(table: &mut Table, m: Move) -> Step
+    requires { play_fault table.old m ≡ None }
+    ensures played { result.played ≡ m }
+    ensures is_step { IsStep table.old result table.new }
+{
+    let tets = table.len();
+    match legal(table, m) {
+        Ok(pattern) => match apply(table, m) {
+            Ok(_) => Step {
+                played: m,
+                tets,
+                facets: pattern.facets,
+            },
+            Err(_) => unreachable!(),
+        },
+        Err(_) => unreachable!(),
+    }
+}
+
+/// Plays the move that is drawn in a state, where there is one.
+pub fn draw_step(alloc: Global, table: &mut Table, state: u64) -> Result<Option<Step>, NoMemory>
+    ensures drawn { IfOk result (λ r. IfSome r (λ s. certificates.drawn state (certificates.candidates table.old) ≡ Some s.played)) }
+    ensures is_step { IfOk result (λ r. IfSome r (λ s. IsStep table.old s table.new)) }
+    ensures none { IfOk result (λ r. IfNone r (certificates.candidates table.old ≡ [])) }
+    ensures left { IfOk result (λ r. IfNone r (table.new ≡ table.old)) }
+{
+    // so the rows are known to be a table
+    let _ = table.rows();
+    let moves = candidates(alloc, table)?;
+    match drawn(state, &moves) {
+        Some(m) => Ok(Some(play_step(table, m))),
+        None => Ok(None),
+    }
+}

@@ -1,0 +1,147 @@
+//! The way back from a table that was made: for each step its inverse, carried to the table to which the later ones led.
+
+ghost use Rattle.std.specs.Prelude.{◌≡◌, ◌∷◌, ◌++◌, ◌<◌, ◌≤◌, ◌^◌, List, [], length, All, IfOk, OnOk};
+ghost use Rattle.table_definitions.specs.Table.{Row};
+ghost use Rattle.table_definitions.specs.Permutation.{identity};
+ghost use Rattle.table_definitions.specs.Relabelling as labels;
+ghost use Rattle.table_definitions.specs.Relabelling.{IsRelabelling};
+ghost use Rattle.certificate_definitions.specs.CarriedBack as ways;
+ghost use Rattle.certificate_definitions.specs.CarriedBack.{AreCarriedBack};
+ghost use Rattle.tri_build.specs.Steps.{AreSteps, moves_of, IsBefore, CanGoBack, GoesBack};
+ghost use Rattle.tri_build.specs.Standing.{IsBack, StandsFor};
+
+use crate::carrying::move_under;
+use crate::labels::labels_back;
+use crate::standing::{Back, stands_at};
+use crate::steps::Step;
+use gluing_table::{Relabelling, RelabellingFault, Table};
+use no_memory::NoMemory;
+use pachner_moves::{Move, apply, legal};
+use perm_four::Perm4;
+use std::alloc::Global;
+
+/// The relabelling with these images and permutations, where there is one.
+fn relabelling_of(alloc: Global, images: &[u32], perms: &[Perm4]) -> Result<Relabelling, NoMemory>
+    requires few { length images.now ≤ 1000 }
+    requires bijection { IsRelabelling (length images.now) (record { images = images.now; perms = perms.now }) }
+    ensures { IfOk result (λ by. by ≡ record { images = images.now; perms = perms.now }) }
+{
+    match Relabelling::new(alloc, images, perms) {
+        Ok(by) => Ok(by),
+        Err(RelabellingFault::NoMemory) => Err(NoMemory),
+        Err(RelabellingFault::NotBijection { position: _ }) => unreachable!(),
+    }
+}
+
+/// The relabelling by which each tetrahedron goes to what stands for it.
+fn carried_back(
+    alloc: Global,
+    step: &Step,
+    back: &Back,
+    on: &Relabelling,
+) -> Result<Relabelling, NoMemory>
+    requires some { (by : labels.Relabelling) × StandsFor step.now back.now on.now by }
+    requires few { step.now.tets ≤ 1000 }
+    requires labels { All (λ l. l < 5) back.now.labels }
+    requires kept { back.now.kept ≤ 1000 }
+    ensures { IfOk result (λ r. (by : labels.Relabelling) → StandsFor step.now back.now on.now by → r ≡ by) }
+{
+    let mut images = Vec::new(alloc);
+    let mut perms = Vec::new(alloc);
+    for tet in 0..step.tets {
+        let stands = stands_at(step, back, on, tet);
+        images.push(stands.tet)?;
+        perms.push(stands.perm)?;
+    }
+    relabelling_of(alloc, &images, &perms)
+}
+
+/// The move back of a step, with what it takes out.
+fn back_of(step: &Step, now: &Table, on: &Relabelling) -> Back
+    requires { CanGoBack step.now now.now on.now }
+    ensures back { IsBack step.now now.now on.now result }
+    ensures labels { All (λ l. l < 5) result.labels }
+    ensures few { result.kept ≤ 1000 }
+{
+    let played = move_under(on, step.inverse());
+    match legal(now, played) {
+        Ok(pattern) => Back {
+            played,
+            kept: now.len().saturating_sub(5 - u32::from(played.core.size())),
+            facets: pattern.facets,
+            labels: labels_back(step, on),
+        },
+        Err(_) => unreachable!(),
+    }
+}
+
+/// How far the way back has come: the table to which its moves led, and the relabelling that carries to it the table
+/// from which the steps that are left led on.
+#[derive(Drop)]
+struct WayBack {
+    now: Table,
+    on: Relabelling,
+    moves: Vec<Move>,
+}
+
+impl WayBack {
+    /// Plays the move back of a step.
+    fn go_back(&mut self, alloc: Global, step: &Step) -> Result<(), NoMemory>
+        requires { CanGoBack step.now self.old.now self.old.on }
+        ensures { OnOk result ((old : List Row) → IsBefore old step.now self.old.now self.old.on → GoesBack old step.now self.old.now self.old.on self.old.moves.items self.new.moves.items self.new.now self.new.on) }
+    {
+        let back = back_of(step, &self.now, &self.on);
+        let by = carried_back(alloc, step, &back, &self.on)?;
+        self.moves.push(back.played)?;
+        match apply(&mut self.now, back.played) {
+            Ok(_) => {
+                self.on = by;
+                Ok(())
+            }
+            Err(_) => unreachable!(),
+        }
+    }
+}
+
+/// The permutation that leaves each vertex where it is.
+#[tactic(auto, unfolding(table_definitions::specs::Permutation::is_permutation))]
+fn unmoved() -> Perm4
+    ensures { result ≡ identity }
+{
+    match Perm4::new(0, 1, 2, 3) {
+        Some(perm) => perm,
+        None => unreachable!(),
+    }
+}
+
+/// The relabelling by which each of so many tetrahedra stays.
+fn staying(alloc: Global, count: u32) -> Result<Relabelling, NoMemory>
+    requires { count ≤ 1000 }
+    ensures { IfOk result (λ by. by ≡ ways.staying count) }
+{
+    let mut images = Vec::new(alloc);
+    let mut perms = Vec::new(alloc);
+    for tet in 0..count {
+        images.push(tet)?;
+        perms.push(unmoved())?;
+    }
+    relabelling_of(alloc, &images, &perms)
+}
+
+/// The moves back of steps that led to a table, from the last step to the first.
+pub fn way_back(alloc: Global, table: &Table, mut steps: Vec<Step>) -> Result<Vec<Move>, NoMemory>
+    requires { (first : List Row) × AreSteps first steps.items table.now }
+    ensures { IfOk result (λ moves. (first : List Row) → AreSteps first steps.items table.now → (end : List Row) × (by : labels.Relabelling) × AreCarriedBack first (moves_of steps.items) table.now moves.items end by) }
+{
+    // so the rows are known to be a table
+    let _ = table.rows();
+    let mut way = WayBack {
+        now: table.copy(alloc)?,
+        on: staying(alloc, table.len())?,
+        moves: Vec::new(alloc),
+    };
+    while let Some(step) = steps.pop() {
+        way.go_back(alloc, &step)?;
+    }
+    Ok(way.moves)
+}
