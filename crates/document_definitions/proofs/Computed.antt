@@ -4,8 +4,9 @@ use Rattle.surface_definitions.proofs.Computed.{computed as surface_computed}
 use Rattle.move_definitions.proofs.Computed.{computed as move_computed}
 use Rattle.signature_definitions.proofs.Computed.{computed as signature_computed}
 use Rattle.document_definitions.specs.Documents.{each_line_from, next_table_at, tables_from, table_document, table_and_lines, vector_document, two_tables_document, tables_document, cone_document}
+use Rattle.document_definitions.specs.Blocks.{term_at, terms_at, times_at, block_at, blocks_from, blocks_document}
 use Rattle.document_definitions.specs.Signs.{line_signs, signs_of}
 
 unfoldable pub computed : ℕ
-unfolding surface_computed move_computed signature_computed each_line_from next_table_at tables_from table_document table_and_lines vector_document two_tables_document tables_document cone_document line_signs signs_of
+unfolding surface_computed move_computed signature_computed each_line_from next_table_at tables_from table_document table_and_lines vector_document two_tables_document tables_document cone_document line_signs signs_of term_at terms_at times_at block_at blocks_from blocks_document
 computed = 0

@@ -1,3 +1,4 @@
 pub mod Computed
 pub mod TextExamples
 pub mod DocumentExamples
+pub mod BlockExamples

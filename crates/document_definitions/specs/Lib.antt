@@ -3,3 +3,4 @@ pub mod Grammar
 pub mod ConeGrammar
 pub mod Signs
 pub mod TextForms
+pub mod Blocks

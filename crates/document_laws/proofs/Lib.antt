@@ -32,3 +32,8 @@ pub mod FirstVectors
 pub mod MoveWays
 pub mod FirstMoves
 pub mod HaveText
+pub mod BlockReading
+pub mod BlockFinding
+pub mod SumDocuments
+pub mod BlockWays
+pub mod FirstBlocks

@@ -1,13 +1,12 @@
 -- Signed decimals are read exactly where they are in the grammar.
-use Rattle.std.proofs.Common.{◌≡◌, ℕ, ◌≤◌, ℤ, Bool, true, false, List, [], ◌∷◌, Option, Some, None, Result, Ok, Err, inl, inr, refl, sym, ap, ◌∙◌, subst}
+use Rattle.std.proofs.Common.{◌≡◌, ℕ, ℤ, Bool, true, false, List, [], ◌∷◌, Some, None, Result, Ok, inl, inr, refl, sym, ap, ◌∙◌, subst}
 use Rattle.std.specs.Prelude.{◌==◌, nat_lt, length, if◌then◌else◌}
 use Rattle.std.specs.Char.{is_ascii_digit}
 use Rattle.std.specs.List.{list_all}
-use Rattle.std.proofs.lemmas.Bool.{and_right, eqb-true, le-ltb, ltb-false}
+use Rattle.std.proofs.lemmas.Bool.{and_right, eqb-true}
 use Rattle.text_definitions.specs.Text.{Token, word, decimal_value, digits_value}
-use Rattle.text_definitions.specs.declared.LexKind.TheVariants.{NumberTooWide}
 use Rattle.text_definitions.specs.declared.LexFault.{LexFault}
-use Rattle.text_definitions.specs.Reading.{Reading, ◌>>=◌, word_at, number_up_to, signed_at, magnitude, is_negative, with_sign, word_fault}
+use Rattle.text_definitions.specs.Reading.{Reading, ◌>>=◌, word_at, number_up_to, signed_at, magnitude, is_negative, with_sign}
 use Rattle.table_definitions.specs.Grammar.{IsNumber, IsSigned}
 use Rattle.table_definitions.proofs.ReadingLaws.{bind_ok, ok_parts, with_tokens, behind, TakesWord, word_taken, number_taken, number_found}
 

@@ -17,7 +17,7 @@ use Rattle.signature_definitions.specs.SignatureText.{texted, decoded, signature
 use Rattle.signature_definitions.specs.Grammar.{AreTableLines}
 use Rattle.document_definitions.specs.Documents.{worded, no_line_at, next_table_at}
 use Rattle.table_definitions.proofs.ListLaws.{same_list-true}
-use Rattle.table_definitions.proofs.ReadingLaws.{bind_ok, ok_parts, with_tokens, behind, TakesWord, word_taken}
+use Rattle.table_definitions.proofs.ReadingLaws.{bind_ok, with_tokens, behind, TakesWord, word_taken}
 use Rattle.table_definitions.proofs.TableReadingLaws.{lexed_ok, TriTableRead, tri_table_read}
 use Rattle.table_definitions.proofs.TableFoundLaws.{lexed_with, tri_table_found}
 use Rattle.signature_codec.proofs.ReadTables.{read_spelled}

@@ -9,7 +9,6 @@ use Rattle.text_definitions.specs.Text.{decimal_value}
 use Rattle.text_definitions.specs.Written.{limit}
 use Rattle.text_definitions.specs.Reading.{Reading, ◌>>=◌, word_fault, word_at, number_up_to, number_at, need_line_at, end_line_at}
 use Rattle.table_definitions.specs.declared.TableFault.{TableFault}
-use Rattle.table_definitions.specs.declared.TableFault.TheVariants.{TooMany}
 use Rattle.table_definitions.specs.Table.{max_tets, Gluing, table_fault}
 use Rattle.table_definitions.specs.Table as tables
 use Rattle.table_definitions.specs.declared.TextFault.{TextFault}

@@ -69,7 +69,7 @@ module _ (k : Reading) (none : k.current.tokens ≡ []) where
       let made : Stopped Aim c f.place (by_end [] (one_more limit)) = (end_stop [] (one_more limit) c t ts f.place split u.0, numbers_way Aim u.0.front u.1) in
       subst (λ (q : Reading → Result Numbers LexFault). Stopped Aim c f.place q) (λ i d. numbers_stepped limit d i) made
 
-  well_numbers_in : (ts : List Token) (c : Reading) → c.current.tokens ≡ ts → (Aim : List ℕ → List Sign → Type 0) → ((xs : List ℕ) → Aim xs (shows k)) → Well as_is (numbers_at limit) Aim c
+  pub well_numbers_in : (ts : List Token) (c : Reading) → c.current.tokens ≡ ts → (Aim : List ℕ → List Sign → Type 0) → ((xs : List ℕ) → Aim xs (shows k)) → Well as_is (numbers_at limit) Aim c
   well_numbers_in [] c empty Aim a = λ f e. (let both : ◌≡◌ {A = Result Numbers LexFault} (Ok ([], c)) (Err f) = sym (no_numbers c empty) ∙ e in absurd cc)
   well_numbers_in (u ∷ us) c first Aim a =
       well_stepped Aim c u us first

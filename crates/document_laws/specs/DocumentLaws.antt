@@ -8,6 +8,7 @@ use Rattle.move_definitions.specs.Moves.{Move}
 use Rattle.move_definitions.specs.MoveText.{Step}
 use Rattle.move_definitions.specs.Grammar.{IsMoveLine, IsStepLine}
 use Rattle.document_definitions.specs.Grammar.{AreTableAndLines, AreTwoTables, AreTables}
+use Rattle.document_definitions.specs.Blocks.{Block, blocks_document, AreTableAndBlocks}
 use Rattle.document_definitions.specs.Documents.{table_document, vectors_document, steps_document, moves_document, vector_document, two_tables_document, tables_document}
 
 -- bytes are read as one table exactly where their lines are one
@@ -38,3 +39,7 @@ TwoTablesAreRead = (bytes : List ℕ) (first second : List Row) → (two_tables_
 -- bytes are read as tables exactly where their lines are these
 abbrev pub TablesAreRead : Type 0
 TablesAreRead = (bytes : List ℕ) (tables : List (List Row)) → (tables_document bytes ≡ Ok tables) ↔ AreTables (lines_of bytes) tables
+
+-- bytes are read as a table and blocks exactly where their lines are these
+abbrev pub BlocksDocumentsAreRead : Type 0
+BlocksDocumentsAreRead = (bytes : List ℕ) (rows : List Row) (blocks : List Block) → (blocks_document bytes ≡ Ok (rows, blocks)) ↔ AreTableAndBlocks (lines_of bytes) rows blocks

@@ -12,6 +12,7 @@ use Rattle.move_definitions.specs.Moves.{Move}
 use Rattle.move_definitions.specs.MoveText.{Step}
 use Rattle.move_definitions.specs.Grammar.{IsMoveLine, IsStepLine}
 use Rattle.document_definitions.specs.Grammar.{AreTableAndLines, AreTwoTables, AreTables}
+use Rattle.document_definitions.specs.Blocks.{Block, blocks_document, AreTableAndBlocks, AreTableAndBlocksText}
 use Rattle.document_definitions.specs.Documents.{table_document, vectors_document, steps_document, moves_document, vector_document, two_tables_document, tables_document}
 use Rattle.document_definitions.specs.Signs.{FirstLeavesAt}
 use Rattle.document_definitions.specs.TextForms.{AreTableText, AreTableAndVectorsText, AreTableAndStepsText, AreTableAndMovesText, AreTableAndVectorText, AreTwoTablesText, AreTablesText}
@@ -59,3 +60,11 @@ TwoTablesFaultsStandFirst = (bytes : List ℕ) (f : LexFault) → two_tables_doc
 
 abbrev pub TablesFaultsStandFirst : Type 0
 TablesFaultsStandFirst = (bytes : List ℕ) (f : LexFault) → tables_document bytes ≡ Err (Text (Lex f)) → FirstLeavesAt AreTablesText (end_of bytes) (lines_of bytes) f.place
+
+-- blocks of sums behind a table: their document is in the form of its text, and where it is refused, the fault stands first
+abbrev pub BlocksHaveText : Type 0
+BlocksHaveText = (lines : List Line) (rows : List Row) (blocks : List Block) → AreTableAndBlocks lines rows blocks → AreTableAndBlocksText lines
+
+abbrev pub BlocksFaultsStandFirst : Type 0
+BlocksFaultsStandFirst =
+    (bytes : List ℕ) (f : LexFault) → blocks_document bytes ≡ Err (Text (Lex f)) → FirstLeavesAt AreTableAndBlocksText (end_of bytes) (lines_of bytes) f.place

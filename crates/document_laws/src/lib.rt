@@ -5,9 +5,9 @@
 
 ghost use Rattle.document_laws.specs.ConeLaws.{ConesAreRead, ConeDocumentsAreRead};
 ghost use Rattle.document_laws.specs.FaultLaws.{ConeFaultsLeave, TableFaultsLeave, TwoTablesFaultsLeave, TablesFaultsLeave, VectorsFaultsLeave, VectorsFaultsLeaveFirst, VectorFaultsLeave, StepsFaultsLeave, MovesFaultsLeave};
-ghost use Rattle.document_laws.specs.TextFaultLaws.{TablesHaveText, VectorsHaveText, StepsHaveText, MovesHaveText, OneVectorHasText, TwoTablesHaveText, ManyTablesHaveText};
-ghost use Rattle.document_laws.specs.TextFaultLaws.{TableFaultsStandFirst, VectorsFaultsStandFirst, StepsFaultsStandFirst, MovesFaultsStandFirst, VectorFaultsStandFirst, TwoTablesFaultsStandFirst, TablesFaultsStandFirst};
-ghost use Rattle.document_laws.specs.DocumentLaws.{TableDocumentsAreRead, VectorsDocumentsAreRead, StepsDocumentsAreRead, MovesDocumentsAreRead, VectorDocumentsAreRead, TwoTablesAreRead, TablesAreRead};
+ghost use Rattle.document_laws.specs.TextFaultLaws.{TablesHaveText, VectorsHaveText, StepsHaveText, MovesHaveText, OneVectorHasText, TwoTablesHaveText, ManyTablesHaveText, BlocksHaveText};
+ghost use Rattle.document_laws.specs.TextFaultLaws.{TableFaultsStandFirst, VectorsFaultsStandFirst, StepsFaultsStandFirst, MovesFaultsStandFirst, VectorFaultsStandFirst, TwoTablesFaultsStandFirst, TablesFaultsStandFirst, BlocksFaultsStandFirst};
+ghost use Rattle.document_laws.specs.DocumentLaws.{TableDocumentsAreRead, VectorsDocumentsAreRead, StepsDocumentsAreRead, MovesDocumentsAreRead, VectorDocumentsAreRead, TwoTablesAreRead, TablesAreRead, BlocksDocumentsAreRead};
 
 /// Lines are read as a cone exactly where they are one, and so are the bytes of an input.
 pub fn cones_are_read()
@@ -46,6 +46,14 @@ pub fn faults_leave_the_grammar()
 pub fn tables_with_moves_are_read()
     ensures steps { StepsDocumentsAreRead }
     ensures moves { MovesDocumentsAreRead }
+{}
+
+/// Inputs of a table and of blocks of sums are read exactly where their lines are these; they have the form of their text,
+/// and where it is refused, the fault stands at the first sign with which nothing goes on to such a text.
+pub fn tables_with_blocks_are_read()
+    ensures read { BlocksDocumentsAreRead }
+    ensures text { BlocksHaveText }
+    ensures faults { BlocksFaultsStandFirst }
 {}
 
 /// The lines of each document with tables have the form of its text, which says nothing of what rows glue and signatures spell.
