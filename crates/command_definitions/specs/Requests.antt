@@ -1,28 +1,28 @@
--- Which requests the program answers.
-use Rattle.std.specs.Prelude.{◌≢◌, ℕ, ◌≤◌, Bool, true, false, ⊤, IsTrue}
+-- What requests hold, and which of them read an input.
+use Rattle.std.specs.Prelude.{◌≢◌, ℕ, ◌≤◌, Bool, true, false, ⊤}
 use Rattle.text_definitions.specs.Written.{limit}
 use Rattle.cone_definitions.specs.declared.Order.{Order}
 use Rattle.cone_definitions.specs.declared.Order.TheVariants.{Free}
+use Rattle.surface_definitions.specs.declared.Coords.TheVariants.{Quad}
 use Rattle.command_definitions.specs.declared.Request.{Request}
-use Rattle.command_definitions.specs.declared.Request.TheVariants.{Verify, Info, Surfaces, Rays, Describe, Lift, Crush, Play, Sig, Same, Group, Check, Descend, Make, Bulk}
+use Rattle.command_definitions.specs.declared.Request.TheVariants.{Surfaces, Rays, Describe, Make, Bulk, Decompose}
 
--- whether the program answers the request yet
-abbrev pub is_built : Request → Bool
-is_built (Verify coords) = true
-is_built Info = true
-is_built (Surfaces coords order most) = true
-is_built (Rays order most) = true
-is_built (Describe coords) = false
-is_built Lift = true
-is_built Crush = true
-is_built Play = true
-is_built Sig = true
-is_built Same = true
-is_built Group = true
-is_built Check = false
-is_built Descend = false
-is_built (Make seed moves) = false
-is_built (Bulk seed moves) = false
+-- whether a command reads its input; the answer of the others is one to the words alone
+abbrev pub reads_input : Request → Bool
+reads_input (Make seed moves) = false
+reads_input (Bulk seed moves) = false
+reads_input _ = true
+
+abbrev pub most_moves : ℕ
+most_moves = 1000
+
+abbrev pub most_bulk_moves : ℕ
+most_bulk_moves = 5
+
+-- a limit on the numbers of an enumeration
+pub record IsLimit (most : ℕ) : Type 0 where
+  pub some : 1 ≤ most
+  pub few : most ≤ limit
 
 -- an order that has a name, and a limit on the numbers of an enumeration
 pub record IsInRange (order : Order) (most : ℕ) : Type 0 where
@@ -34,9 +34,8 @@ pub record IsInRange (order : Order) (most : ℕ) : Type 0 where
 abbrev pub HoldsRange : Request → Type 0
 HoldsRange (Surfaces coords order most) = IsInRange order most
 HoldsRange (Rays order most) = IsInRange order most
+HoldsRange (Describe coords) = coords ≢ Quad
+HoldsRange (Decompose coords most) = IsLimit most
+HoldsRange (Make seed moves) = moves ≤ most_moves
+HoldsRange (Bulk seed moves) = moves ≤ most_bulk_moves
 HoldsRange _ = ⊤
-
--- the program answers the request, and what it holds is in range
-pub record IsBuilt (r : Request) : Type 0 where
-  pub built : IsTrue (is_built r)
-  pub in_range : HoldsRange r

@@ -7,10 +7,11 @@ use Rattle.text_definitions.specs.Written.{limit}
 use Rattle.surface_definitions.specs.declared.Coords.{Coords}
 use Rattle.surface_definitions.specs.declared.Coords.TheVariants.{Standard, Quad, Octagon}
 use Rattle.command_definitions.specs.Options.{Given, value_of}
+use Rattle.command_definitions.specs.Requests.{most_moves, most_bulk_moves}
 use Rattle.cone_definitions.specs.declared.Order.{Order}
 use Rattle.cone_definitions.specs.declared.Order.TheVariants as orders
 use Rattle.command_definitions.specs.declared.Request.{Request}
-use Rattle.command_definitions.specs.declared.Request.TheVariants.{Verify, Info, Surfaces, Rays, Describe, Lift, Crush, Play, Sig, Same, Group, Check, Descend, Make, Bulk}
+use Rattle.command_definitions.specs.declared.Request.TheVariants.{Verify, Info, Surfaces, Rays, Describe, Lift, Crush, Play, Sig, Same, Group, Check, Descend, Make, Bulk, Decompose, Addup, Cover, Pi1, Csig, Csame}
 
 -- what stands for each option, where it is named
 pub record Values : Type 0 where
@@ -81,12 +82,6 @@ limit_named w = option_and_then positive (decimal_up_to limit w)
 abbrev pub most_seed : ℕ
 most_seed = 18446744073709551615
 
-abbrev pub most_moves : ℕ
-most_moves = 1000
-
-abbrev pub most_bulk_moves : ℕ
-most_bulk_moves = 5
-
 abbrev pub coordinates_in : Values → Option Coords
 coordinates_in v = or_default Standard coordinates_named v.coords
 
@@ -133,6 +128,13 @@ made_with request most v = do
   moves ← moves_in most v
   Some (request seed moves)
 
+-- the request of `decompose`
+abbrev pub decompose_with : Values → Option Request
+decompose_with v = do
+  coords ← coordinates_in v
+  most ← limit_in v
+  Some (Decompose coords most)
+
 -- the request of a command without options
 abbrev pub plain_request : List ℕ → Option Request
 plain_request w =
@@ -145,6 +147,10 @@ plain_request w =
     else if same_word w (codes "group") then Some Group
     else if same_word w (codes "check") then Some Check
     else if same_word w (codes "descend") then Some Descend
+    else if same_word w (codes "cover") then Some Cover
+    else if same_word w (codes "pi1") then Some Pi1
+    else if same_word w (codes "csig") then Some Csig
+    else if same_word w (codes "csame") then Some Csame
     else None
 
 -- the request of a command with these values
@@ -156,4 +162,6 @@ request_with w v =
     else if same_word w (codes "describe") then option_map Describe (piece_coordinates_in v)
     else if same_word w (codes "make") then made_with Make most_moves v
     else if same_word w (codes "bulk") then made_with Bulk most_bulk_moves v
+    else if same_word w (codes "decompose") then decompose_with v
+    else if same_word w (codes "addup") then option_map Addup (coordinates_in v)
     else plain_request w

@@ -1,9 +1,8 @@
 -- Which words are accepted, and what they ask for. The words are one command and then its options, in any order, each
 -- at most once, as `--name value` or `--name=value`.
-use Rattle.std.specs.Prelude.{ℕ, List, [], ◌∷◌, Option, Some, None, codes, if◌then◌else◌}
+use Rattle.std.specs.Prelude.{ℕ, List, [], ◌∷◌, Option, Some, None, codes}
 use Rattle.std.specs.List.{find}
 use Rattle.text_definitions.specs.Reading.{same_word}
-use Rattle.command_definitions.specs.Requests.{is_built}
 use Rattle.command_definitions.specs.declared.Request.{Request}
 use Rattle.command_definitions.specs.Options.{Given, options_of}
 use Rattle.command_definitions.specs.Values.{values_of, request_with, ◌>>=◌}
@@ -30,6 +29,12 @@ commands =
     ∷ (codes "descend", [])
     ∷ (codes "make", codes "seed" ∷ codes "moves" ∷ [])
     ∷ (codes "bulk", codes "seed" ∷ codes "moves" ∷ [])
+    ∷ (codes "decompose", codes "coords" ∷ codes "max-entry" ∷ [])
+    ∷ (codes "addup", codes "coords" ∷ [])
+    ∷ (codes "cover", [])
+    ∷ (codes "pi1", [])
+    ∷ (codes "csig", [])
+    ∷ (codes "csame", [])
     ∷ []
 
 -- the command of this name
@@ -40,20 +45,10 @@ command_named w = find (λ c. same_word c.0 w) commands
 abbrev pub request_given : Command → List Given → Option Request
 request_given c options = request_with c.0 (values_of options)
 
--- what the words ask for, where they are in the grammar
-abbrev pub request_of : List (List ℕ) → Option Request
-request_of [] = None
-request_of (w ∷ ws) = do
+-- what the words ask for, where they are accepted: they are in the grammar
+abbrev pub accepted_request : List (List ℕ) → Option Request
+accepted_request [] = None
+accepted_request (w ∷ ws) = do
   command ← command_named w
   options ← options_of command.1 ws
   request_given command options
-
--- the request, where the program answers it yet
-abbrev pub built_request : Request → Option Request
-built_request r = if is_built r then Some r else None
-
--- what the words ask for, where they are accepted
-abbrev pub accepted_request : List (List ℕ) → Option Request
-accepted_request words = do
-  request ← request_of words
-  built_request request

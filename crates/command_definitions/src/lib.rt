@@ -2,7 +2,7 @@
 //! The definitions stand in `specs/`.
 #![tactic(auto)]
 
-ghost use Rattle.command_definitions.specs.Laws.{AcceptedAreBuilt};
+ghost use Rattle.command_definitions.specs.Laws.{AcceptedAreInRange};
 
 use cone_definitions::Order;
 use surface_definitions::Coords;
@@ -26,9 +26,15 @@ pub enum Request {
     Descend,
     Make(u64, u32),
     Bulk(u64, u32),
+    Decompose(Coords, u128),
+    Addup(Coords),
+    Cover,
+    Pi1,
+    Csig,
+    Csame,
 }
 
-/// An accepted request is one that the program answers, and what it holds is in range.
+/// What an accepted request holds is in range.
 pub fn accepted_requests()
-    ensures { AcceptedAreBuilt }
+    ensures { AcceptedAreInRange }
 {}

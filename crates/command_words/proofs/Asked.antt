@@ -16,7 +16,7 @@ use Rattle.clap.specs.declared.parser.matches.ArgMatches.{ArgMatches}
 use Rattle.command_definitions.specs.declared.Request.{Request}
 use Rattle.command_definitions.specs.Options.{Given, options_of, value_of}
 use Rattle.command_definitions.specs.Values.{request_with, values_of, ◌>>=◌}
-use Rattle.command_definitions.specs.Words.{Command, command_named, commands, request_given, request_of}
+use Rattle.command_definitions.specs.Words.{Command, command_named, commands, request_given, accepted_request}
 use Rattle.command_words.specs.Apps.{program, request_found, values_found}
 use Rattle.command_words.specs.Requests.{FailsWords, parse_fault}
 use Rattle.command_words.proofs.OptionRules.{row, rows}
@@ -65,7 +65,7 @@ given_same : (c : Command) (os : Option (List Given)) → request_found (option_
 given_same c None = refl
 given_same c (Some given) = ap (λ v. request_with c.0 v) (values_same given)
 
-pub asked_is : (words : List Text) → request_found (asked commands words) ≡ request_of words
+pub asked_is : (words : List Text) → request_found (asked commands words) ≡ accepted_request words
 asked_is [] = refl
 asked_is (w ∷ ws) = go (command_named w)
   where
@@ -77,23 +77,23 @@ asked_is (w ∷ ws) = go (command_named w)
 -- ---- answers
 
 pub ok_answers : (words : List Text) (m : ArgMatches) (a : App) → a ≡ program → AreWords words → HasMatchesOf a words m → fault_of a words ≡ []
-    → request_found (subcommand_rows_of m) ≡ request_of words
+    → request_found (subcommand_rows_of m) ≡ accepted_request words
 ok_answers words m a is are has none =
     let matches = has (ap is_simple is ∙ program_simple) in
     let faults : built_fault (app commands) nothing_held words ≡ [] = sym (program_faults words) ∙ sym (ap (λ (x : App). fault_of x words) is) ∙ none in
     ap request_found (matches.1 ∙ ap (λ (x : App). subcommand_of x words) is ∙ enters_asked commands words are faults) ∙ asked_is words
 
-asks_something : (words : List Text) (r : Request) → request_of words ≡ Some r → (o : Option (Text × List Row)) → asked commands words ≡ o → (p : Text × List Row) × (asked commands words ≡ Some p)
+asks_something : (words : List Text) (r : Request) → accepted_request words ≡ Some r → (o : Option (Text × List Row)) → asked commands words ≡ o → (p : Text × List Row) × (asked commands words ≡ Some p)
 asks_something words r some None e = absurd (some≢none r (sym some ∙ sym (asked_is words) ∙ ap request_found e))
 asks_something words r some (Some p) e = (p, e)
 
-pub err_answers : (words : List Text) (e : Error) (a : App) → a ≡ program → AreWords words → HasKind (fault_of a words) e → (kind_of e ≡ OutOfMemory → ⊥) → request_of words ≡ None
-err_answers words e a is are kinds no_memory = go (request_of words) refl
+pub err_answers : (words : List Text) (e : Error) (a : App) → a ≡ program → AreWords words → HasKind (fault_of a words) e → (kind_of e ≡ OutOfMemory → ⊥) → accepted_request words ≡ None
+err_answers words e a is are kinds no_memory = go (accepted_request words) refl
   where
     none : (p : Text × List Row) → asked commands words ≡ Some p → fault_of a words ≡ []
     none p some = ap (λ (x : App). fault_of x words) is ∙ program_faults words ∙ asked_passes commands words p are some
 
-    go : (o : Option Request) → request_of words ≡ o → o ≡ None
+    go : (o : Option Request) → accepted_request words ≡ o → o ≡ None
     go None same = refl
     go (Some r) same =
         let p = asks_something words r same (asked commands words) refl in

@@ -5,7 +5,7 @@ use Rattle.std.specs.Str.{bytes_eq}
 use Rattle.std.proofs.lemmas.Slice.Eq.{bytes_eq-Decides}
 use Rattle.clap.specs.Walk.{Text}
 use Rattle.command_definitions.specs.Options.{Given, Next, options_from, options_of, word_read}
-use Rattle.command_definitions.specs.Words.{Command, command_named, request_given, request_of}
+use Rattle.command_definitions.specs.Words.{Command, command_named, request_given, accepted_request}
 use Rattle.command_definitions.specs.Values.{◌>>=◌}
 use Rattle.command_words.proofs.NeverRead.{word_never}
 use Rattle.command_words.specs.Texts.{dashes, has_dashes}
@@ -24,12 +24,12 @@ never_read names (w ∷ ws) e seen waiting = go (bytes_eq w dashes) refl e (neve
     go true t e h = ap (λ x. word_read names x seen waiting (options_from names ws)) ((bytes_eq-Decides w dashes).0 t) ∙ dashes_read names (options_from names ws) seen waiting
     go false t e h = word_never names (options_from names ws) (λ s. ⊤) (λ s g p. tt) (λ s v p. h e s v) w seen waiting tt
 
-pub dashes_ask_nothing : (ws : List Text) → has_dashes ws ≡ true → request_of ws ≡ None
+pub dashes_ask_nothing : (ws : List Text) → has_dashes ws ≡ true → accepted_request ws ≡ None
 dashes_ask_nothing [] e = refl
 dashes_ask_nothing (w ∷ ws) e = go (bytes_eq w dashes) refl e
   where
-    go : (b : Bool) → bytes_eq w dashes ≡ b → (b || has_dashes ws) ≡ true → request_of (w ∷ ws) ≡ None
-    go true t e = ap (λ x. request_of (x ∷ ws)) ((bytes_eq-Decides w dashes).0 t)
+    go : (b : Bool) → bytes_eq w dashes ≡ b → (b || has_dashes ws) ≡ true → accepted_request (w ∷ ws) ≡ None
+    go true t e = ap (λ x. accepted_request (x ∷ ws)) ((bytes_eq-Decides w dashes).0 t)
     go false t e = named (command_named w)
       where
         named : (o : Option Command) → (o >>= λ c. options_of c.1 ws >>= λ os. request_given c os) ≡ None

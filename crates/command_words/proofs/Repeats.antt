@@ -11,7 +11,7 @@ use Rattle.clap.proofs.CutLemmas.{Lacks, before_first-Lacks, before_first-at}
 use Rattle.clap.specs.Walk.{Text, texts}
 use Rattle.std.specs.Borrow.{Bor}
 use Rattle.command_definitions.specs.Options.{Given, is_equals_sign, is_hyphened, is_known, is_named, option_met, name_and_value, option_read, option_word, options_from, options_of, with_value, word_read}
-use Rattle.command_definitions.specs.Words.{Command, command_named, request_given, request_of}
+use Rattle.command_definitions.specs.Words.{Command, command_named, request_given, accepted_request}
 use Rattle.command_definitions.specs.Values.{◌>>=◌}
 use Rattle.command_words.proofs.NeverRead.{word_never}
 use Rattle.command_words.specs.Texts.{options, ends_option, is_naming, is_repeated, has_repeats}
@@ -145,7 +145,7 @@ reads_of c cs l w e =
 
 -- the words ask for nothing, where they name one option twice
 after_command : (o name : Text) (w : Text) (ws : List Text) (b : Bool) → ((v : Text) → is_naming o v ≡ true → Names name v) → (is_naming o w ≡ true → command_named w ≡ None) → is_naming o w ≡ b → 1 < cond b 1 0 + times o ws
-    → request_of (w ∷ ws) ≡ None
+    → accepted_request (w ∷ ws) ≡ None
 after_command o name w ws true reads none t few = rw (none t) refl
 after_command o name w ws false reads none t few = named (command_named w)
   where
@@ -156,7 +156,7 @@ after_command o name w ws false reads none t few = named (command_named w)
 no_command : (c : ℕ) (cs w : Text) → is_naming (45 ∷ 45 ∷ c ∷ cs) w ≡ true → command_named w ≡ None
 no_command c cs w e = ap command_named (spelled_so (45 ∷ 45 ∷ c ∷ cs) w e).1
 
-repeat_asks_nothing : (c : ℕ) (cs : Text) → Lacks 61 (c ∷ cs) → (ws : List Text) → is_repeated ws (45 ∷ 45 ∷ c ∷ cs) ≡ true → request_of ws ≡ None
+repeat_asks_nothing : (c : ℕ) (cs : Text) → Lacks 61 (c ∷ cs) → (ws : List Text) → is_repeated ws (45 ∷ 45 ∷ c ∷ cs) ≡ true → accepted_request ws ≡ None
 repeat_asks_nothing c cs l [] e = refl
 repeat_asks_nothing c cs l (w ∷ ws) e =
     let o : Text = 45 ∷ 45 ∷ c ∷ cs in
@@ -170,11 +170,11 @@ any_of A p (x ∷ xs) all e = go (p x) refl e (any_of A p xs all.1)
     go true t e h = all.0 t
     go false t e h = h e
 
-pub repeats_ask_nothing : (ws : List Text) → has_repeats ws ≡ true → request_of ws ≡ None
+pub repeats_ask_nothing : (ws : List Text) → has_repeats ws ≡ true → accepted_request ws ≡ None
 repeats_ask_nothing ws e =
-    let asks_nothing : (c : ℕ) (cs : Text) → list_any is_equals_sign (c ∷ cs) ≡ false → is_repeated ws (45 ∷ 45 ∷ c ∷ cs) ≡ true → request_of ws ≡ None =
+    let asks_nothing : (c : ℕ) (cs : Text) → list_any is_equals_sign (c ∷ cs) ≡ false → is_repeated ws (45 ∷ 45 ∷ c ∷ cs) ≡ true → accepted_request ws ≡ None =
     λ c cs l. repeat_asks_nothing c cs (lacks_by_test (c ∷ cs) l) ws in
-    any_of (request_of ws ≡ None) (λ o. is_repeated ws o) options
+    any_of (accepted_request ws ≡ None) (λ o. is_repeated ws o) options
     (asks_nothing 99 (codes "oords") refl, (asks_nothing 111 (codes "rder") refl, (asks_nothing 109 (codes "ax-entry") refl, (asks_nothing 115 (codes "eed") refl, (asks_nothing 109 (codes "oves") refl, tt))))) e
 
 -- the same of texts that are lent

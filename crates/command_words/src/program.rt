@@ -12,6 +12,8 @@ static COORDS: [&str; 1] = ["coords"];
 
 static SURFACES: [&str; 3] = ["coords", "order", "max-entry"];
 
+static DECOMPOSE: [&str; 2] = ["coords", "max-entry"];
+
 static RAYS: [&str; 2] = ["order", "max-entry"];
 
 static MADE: [&str; 2] = ["seed", "moves"];
@@ -84,5 +86,11 @@ pub fn program<'a>(alloc: Global) -> Result<Command<'a>, AllocError>
     let program = add(alloc, program, "check", &NONE)?;
     let program = add(alloc, program, "descend", &NONE)?;
     let program = add(alloc, program, "make", &MADE)?;
-    add(alloc, program, "bulk", &MADE)
+    let program = add(alloc, program, "bulk", &MADE)?;
+    let program = add(alloc, program, "decompose", &DECOMPOSE)?;
+    let program = add(alloc, program, "addup", &COORDS)?;
+    let program = add(alloc, program, "cover", &NONE)?;
+    let program = add(alloc, program, "pi1", &NONE)?;
+    let program = add(alloc, program, "csig", &NONE)?;
+    add(alloc, program, "csame", &NONE)
 }

@@ -6,8 +6,8 @@ ghost use Rattle.clap.specs.Values.{kind_of};
 ghost use Rattle.clap.specs.Matches.{found_of};
 ghost use Rattle.clap.specs.Simple.{subcommand_rows_of};
 ghost use Rattle.clap.specs.Walk.{rows_of, texts};
-ghost use Rattle.command_definitions.specs.Requests.{is_built, IsBuilt};
-ghost use Rattle.command_definitions.specs.Words.{accepted_request, request_of};
+ghost use Rattle.command_definitions.specs.Requests.{HoldsRange};
+ghost use Rattle.command_definitions.specs.Words.{accepted_request};
 ghost use Rattle.command_words.specs.Apps.{request_found, values_found};
 ghost use Rattle.command_words.specs.Requests.{parse_fault, texts_of, AnswersWords};
 ghost use Rattle.command_words.specs.Texts.{AreTexts, has_dashes, ends_option, is_naming, is_repeated, has_repeats};
@@ -132,7 +132,7 @@ fn fault_of(error: &Error) -> WordsFault
 fn parse(alloc: Global, words: &[&str]) -> Result<Request, WordsFault>
     requires utf8 { AreTexts (texts words.now) }
     requires no_dashes { has_dashes (texts words.now) ≡ false }
-    ensures { AnswersWords result (request_of (texts words.now)) }
+    ensures { AnswersWords result (accepted_request (texts words.now)) }
 {
     let program = program(alloc)?;
     match program.try_get_matches_from(words) {
@@ -141,9 +141,9 @@ fn parse(alloc: Global, words: &[&str]) -> Result<Request, WordsFault>
     }
 }
 
-// What the words ask for, whether the program answers it yet or not.
-pub(crate) fn read_request(alloc: Global, words: &Words) -> Result<Request, WordsFault>
-    ensures { AnswersWords result (request_of words.now) }
+// What the words ask for.
+fn read_request(alloc: Global, words: &Words) -> Result<Request, WordsFault>
+    ensures { AnswersWords result (accepted_request words.now) }
 {
     let texts = texts_of(alloc, words)?;
     let texts = texts.as_slice();
@@ -156,30 +156,12 @@ pub(crate) fn read_request(alloc: Global, words: &Words) -> Result<Request, Word
     parse(alloc, texts)
 }
 
-// Whether the program answers the request yet.
-fn is_built(request: &Request) -> bool
-    ensures { result ≡ is_built request.now }
-{
-    match request {
-        Request::Verify(_) => true,
-        Request::Surfaces(_, _, _) => true,
-        Request::Rays(_, _) => true,
-        Request::Info => true,
-        Request::Play | Request::Sig | Request::Same | Request::Group => true,
-        Request::Lift | Request::Crush => true,
-        _ => false,
-    }
-}
-
-/// What the words ask for: `Ok` exactly where they are accepted, and `Usage` exactly where they are not. The program
-/// answers what is accepted, and what it holds is in range.
+/// What the words ask for: `Ok` exactly where they are accepted, and `Usage` exactly where they are not. What the request
+/// holds is in range.
 pub fn read_words(alloc: Global, words: &Words) -> Result<Request, WordsFault>
     ensures answers { AnswersWords result (accepted_request words.now) }
-    ensures built { IfOk result IsBuilt }
+    ensures in_range { IfOk result HoldsRange }
 {
     let request = read_request(alloc, words)?;
-    if !is_built(&request) {
-        return Err(WordsFault::Usage);
-    }
     Ok(request)
 }

@@ -1,5 +1,4 @@
-//! The words that the definitions accept, with all commands taken, and those that they refuse.
-use crate::reader::read_request;
+//! The words that are accepted, and some that are not.
 use crate::{Coords, Order, Request, WordsFault, read_words};
 use bench_io::Words;
 use std::alloc::Global;
@@ -11,7 +10,7 @@ fn asked(alloc: Global, line: &[&str]) -> Result<Request, WordsFault> {
             return Err(WordsFault::NoMemory);
         }
     }
-    read_request(alloc, &words)
+    read_words(alloc, &words)
 }
 
 const LIMIT: u128 = 170_141_183_460_469_231_731_687_303_715_884_105_727;
@@ -67,6 +66,12 @@ fn accepted_words(rt: HostRuntime) {
         asked(alloc, &["describe", "--coords", "octagon"]) == Ok(Request::Describe(Coords::Octagon))
     );
     assert!(rt; asked(alloc, &["descend"]) == Ok(Request::Descend));
+    assert!(rt; asked(alloc, &["pi1"]) == Ok(Request::Pi1));
+    assert!(rt;
+        asked(alloc, &["decompose", "--max-entry", "7"])
+            == Ok(Request::Decompose(Coords::Standard, 7))
+    );
+    assert!(rt; asked(alloc, &["addup", "--coords=quad"]) == Ok(Request::Addup(Coords::Quad)));
     let make = Ok(Request::Make(18_446_744_073_709_551_615, 1_000));
     assert!(rt;
         asked(
@@ -107,20 +112,6 @@ fn refused_words(rt: HostRuntime) {
         ) == usage
     );
     assert!(rt; asked(alloc, &["bulk", "--seed", "1", "--moves", "6"]) == usage);
-}
-
-#[test]
-fn commands_that_are_built(rt: HostRuntime) {
-    let alloc = rt.alloc();
-    let mut words = Words::new(alloc);
-    assert!(rt; words.push("verify").is_ok());
-    assert!(rt; read_words(alloc, &words) == Ok(Request::Verify(Coords::Standard)));
-    assert!(rt; words.push("--coords=quad").is_ok());
-    assert!(rt; read_words(alloc, &words) == Ok(Request::Verify(Coords::Quad)));
-    let mut words = Words::new(alloc);
-    assert!(rt; words.push("lift").is_ok());
-    assert!(rt; read_words(alloc, &words) == Ok(Request::Lift));
-    let mut words = Words::new(alloc);
-    assert!(rt; words.push("descend").is_ok());
-    assert!(rt; read_words(alloc, &words) == Err(WordsFault::Usage));
+    assert!(rt; asked(alloc, &["addup", "--max-entry", "7"]) == usage);
+    assert!(rt; asked(alloc, &["csig", "--coords", "quad"]) == usage);
 }

@@ -1,6 +1,7 @@
 // The values of options, and the request of a command with such values.
 ghost use Rattle.std.specs.Prelude.{◌≡◌, ◌≤◌, ◌^◌, ◌<◌};
 ghost use Rattle.std.specs.Option.{option_map};
+ghost use Rattle.command_definitions.specs.Requests.{most_moves, most_bulk_moves};
 ghost use Rattle.command_definitions.specs.Values as spec;
 ghost use Rattle.command_words.specs.Requests.{texts_of};
 
@@ -164,7 +165,7 @@ fn rays_with(values: &Values<'_>) -> Option<Request>
 }
 
 fn make_with(values: &Values<'_>) -> Option<Request>
-    ensures { result ≡ spec.made_with Request.Make spec.most_moves (texts_of values.now) }
+    ensures { result ≡ spec.made_with Request.Make most_moves (texts_of values.now) }
 {
     let seed = seed_in(values)?;
     let moves = moves_in(values, 1_000)?;
@@ -172,7 +173,7 @@ fn make_with(values: &Values<'_>) -> Option<Request>
 }
 
 fn bulk_with(values: &Values<'_>) -> Option<Request>
-    ensures { result ≡ spec.made_with Request.Bulk spec.most_bulk_moves (texts_of values.now) }
+    ensures { result ≡ spec.made_with Request.Bulk most_bulk_moves (texts_of values.now) }
 {
     let seed = seed_in(values)?;
     let moves = moves_in(values, 5)?;
@@ -191,6 +192,21 @@ fn describe_with(values: &Values<'_>) -> Option<Request>
 {
     let coords = piece_coords_in(values)?;
     Some(Request::Describe(coords))
+}
+
+fn decompose_with(values: &Values<'_>) -> Option<Request>
+    ensures { result ≡ spec.decompose_with (texts_of values.now) }
+{
+    let coords = coords_in(values)?;
+    let limit = limit_in(values)?;
+    Some(Request::Decompose(coords, limit))
+}
+
+fn addup_with(values: &Values<'_>) -> Option<Request>
+    ensures { result ≡ option_map Request.Addup (spec.coordinates_in (texts_of values.now)) }
+{
+    let coords = coords_in(values)?;
+    Some(Request::Addup(coords))
 }
 
 // The request of a command without options.
@@ -224,6 +240,18 @@ fn plain_request(name: &str) -> Option<Request>
     if name == "descend" {
         return Some(Request::Descend);
     }
+    if name == "cover" {
+        return Some(Request::Cover);
+    }
+    if name == "pi1" {
+        return Some(Request::Pi1);
+    }
+    if name == "csig" {
+        return Some(Request::Csig);
+    }
+    if name == "csame" {
+        return Some(Request::Csame);
+    }
     None
 }
 
@@ -248,6 +276,12 @@ pub fn request_with(name: &str, values: &Values<'_>) -> Option<Request>
     }
     if name == "bulk" {
         return bulk_with(values);
+    }
+    if name == "decompose" {
+        return decompose_with(values);
+    }
+    if name == "addup" {
+        return addup_with(values);
     }
     plain_request(name)
 }

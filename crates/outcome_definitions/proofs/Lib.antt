@@ -1,1 +1,2 @@
 pub mod OwnStatus
+pub mod CertificateStatus

@@ -1,22 +1,42 @@
 -- The answer to a request has a status of its own.
-use Rattle.std.proofs.Common.{◌≡◌, ℕ, List, Result, Ok, Err, inl, inr, sym, subst}
-use Rattle.std.specs.Prelude.{codes}
+use Rattle.std.proofs.Common.{◌≡◌, ℕ, List, Option, Some, None, Result, Ok, Err, inl, inr, sym, subst}
+use Rattle.std.specs.Prelude.{codes, ◌⊎◌, MatchOption}
 use Rattle.table_definitions.specs.Table.{Row}
+use Rattle.table_definitions.specs.Places.{IsConnected}
+use Rattle.skeleton_definitions.specs.Skeleton.{Skeleton}
+use Rattle.surface_definitions.specs.declared.Coords.{Coords}
+use Rattle.surface_definitions.specs.declared.VectorFault.{VectorFault}
 use Rattle.cone_definitions.specs.Listings.{Enumeration}
-use Rattle.move_definitions.specs.MoveText.{Step}
 use Rattle.signature_definitions.specs.declared.InputFault.{InputFault}
-use Rattle.document_definitions.specs.Documents.{worded, table_document, two_tables_document, tables_document, vectors_document, vector_document, steps_document, cone_document}
+use Rattle.document_definitions.specs.Documents.{worded, table_document, two_tables_document, tables_document, vectors_document, vector_document, steps_document, moves_document, cone_document}
+use Rattle.document_definitions.specs.Blocks.{Block, blocks_document}
 use Rattle.command_definitions.specs.declared.Request.{Request}
-use Rattle.command_definitions.specs.declared.Request.TheVariants.{Verify, Info, Surfaces, Rays, Describe, Lift, Crush, Play, Sig, Same, Group, Check, Descend, Make, Bulk}
+use Rattle.command_definitions.specs.declared.Request.TheVariants.{Verify, Info, Surfaces, Rays, Describe, Lift, Crush, Play, Sig, Same, Group, Check, Descend, Make, Bulk, Decompose, Addup, Cover, Pi1, Csig, Csame}
 use Rattle.outcome_definitions.specs.Outcomes.{Outcome, IsReadOutcome, IsOwnStatus, fault_outcome}
 use Rattle.outcome_definitions.specs.Enumerations.{IsEnumerationAnswer, IsSurfacesAnswer, ray_enumeration, list_outcome, large_outcome}
 use Rattle.outcome_definitions.specs.Information.{IsInformationAnswer}
 use Rattle.outcome_definitions.specs.Scripts.{IsScriptAnswer}
 use Rattle.outcome_definitions.specs.Canonical.{IsNotConnected, IsSignatureAnswer, IsCompared, IsSameAnswer, IsGroupAnswer}
 use Rattle.surface_definitions.specs.declared.VectorFault.TheVariants as faults
+use Rattle.vector_definitions.specs.Answers.{Description}
+use Rattle.sum_definitions.specs.declared.AddFault.TheVariants as adding
+use Rattle.sum_definitions.specs.declared.AddFault.TheVariants.{ZeroTimes, NotEqual}
+use Rattle.cover_definitions.specs.Cover.{cover_fault}
+use Rattle.cover_definitions.specs.declared.CoverFault.{CoverFault}
+use Rattle.group_definitions.specs.Groups.{HasGroup}
 use Rattle.vector_definitions.specs.declared.Refusal.{Refusal}
 use Rattle.vector_definitions.specs.declared.Refusal.TheVariants.{Unfit, LargeSum, TooManyPieces, LargeLift, NoLift}
-use Rattle.outcome_definitions.specs.Vectors.{refusal_outcome, crush_outcome, IsCrushAnswer, lift_outcome, IsLiftsAnswer}
+use Rattle.outcome_definitions.specs.Vectors.{refusal_outcome, crush_outcome, IsCrushAnswer, lift_outcome, IsLiftsAnswer, describe_outcome, IsDescribeAnswer, IsInvalidTold}
+use Rattle.outcome_definitions.specs.declared.SumRefusal.{SumRefusal}
+use Rattle.outcome_definitions.specs.declared.SumRefusal.TheVariants as sums
+use Rattle.outcome_definitions.specs.declared.SumRefusal.TheVariants.{UnfitTerm, LargeTimes, NoSum}
+use Rattle.outcome_definitions.specs.Sums.{sum_refusal_outcome, sums_outcome, IsDecomposed, IsDecomposeAnswer, addup_outcome, IsAddupAnswer}
+use Rattle.outcome_definitions.specs.Covers.{IsCoverTold, IsCoverAnswer, large_cover_outcome}
+use Rattle.outcome_definitions.specs.Presented.{IsPresented, IsPresentationAnswer}
+use Rattle.outcome_definitions.specs.Parts.{IsComponentSignatureAnswer, IsSamePartsAnswer}
+use Rattle.outcome_definitions.specs.Certificates.{IsCheckAnswer, IsDescendAnswer}
+use Rattle.outcome_definitions.specs.Makings.{IsBulkAnswer}
+use Rattle.outcome_definitions.proofs.CertificateStatus.{check_own, descend_own}
 use Rattle.outcome_definitions.specs.Answers.{IsVerdictsAnswer, IsAnswerTo}
 
 -- an outcome that is this one
@@ -71,6 +91,69 @@ lift_own : (told : Result (List (List ℕ)) (ℕ × Refusal)) → IsOwnStatus (l
 lift_own (Ok lifts) = tt
 lift_own (Err p) = refusal_own p.0 p.1
 
+describe_text_own : (s : Skeleton) (coords : Coords) (told : Result (List Description) (ℕ × Refusal)) → IsOwnStatus (describe_outcome s coords told).status
+describe_text_own s coords (Ok descriptions) = tt
+describe_text_own s coords (Err p) = refusal_own p.0 p.1
+
+invalid_own : (s : Skeleton) (o : Outcome) → IsInvalidTold s o → IsOwnStatus o.status
+invalid_own s o h = is_own o _ h.2 tt
+
+describe_own : (coords : Coords) (d : List Row × List (List ℕ)) (o : Outcome) → IsDescribeAnswer coords d o → IsOwnStatus o.status
+describe_own coords d o h = elim h.told [
+  | inl invalid ↦ invalid_own h.skeleton o invalid
+  | inr g ↦ is_own o (describe_outcome h.skeleton coords (g.1).told) (g.1).outcome (describe_text_own h.skeleton coords (g.1).told)
+]
+
+sum_refusal_own : (v : ℕ) (r : SumRefusal) → IsOwnStatus (sum_refusal_outcome v r).status
+sum_refusal_own v (sums.Unfit (faults.Length n)) = tt
+sum_refusal_own v (sums.Unfit (faults.Large i)) = tt
+sum_refusal_own v (sums.Unfit (faults.NotSolution i)) = tt
+sum_refusal_own v (sums.Unfit (faults.Clash a b)) = tt
+sum_refusal_own v (UnfitTerm i (faults.Length n)) = tt
+sum_refusal_own v (UnfitTerm i (faults.Large j)) = tt
+sum_refusal_own v (UnfitTerm i (faults.NotSolution j)) = tt
+sum_refusal_own v (UnfitTerm i (faults.Clash a b)) = tt
+sum_refusal_own v (LargeTimes turn column) = tt
+sum_refusal_own v (NoSum ZeroTimes) = tt
+sum_refusal_own v (NoSum (adding.Large column)) = tt
+sum_refusal_own v (NoSum (NotEqual column)) = tt
+
+sums_own : (rows : List Row) (told : Result (List Block) (ℕ × (ℕ × ℕ))) → IsOwnStatus (sums_outcome rows told).status
+sums_own rows (Ok blocks) = tt
+sums_own rows (Err large) = tt
+
+decomposed_own : (most : ℕ) (e : Enumeration) (rows : List Row) (vectors : List (List ℕ)) (checked : Result (List (Unit {0})) (ℕ × VectorFault)) (o : Outcome)
+    → IsDecomposed most e rows vectors checked o → IsOwnStatus o.status
+decomposed_own most e rows vectors (Ok passed) o (inl h) = is_own o (sums_outcome rows h.told) h.outcome (sums_own rows h.told)
+decomposed_own most e rows vectors (Ok passed) o (inr h) = is_own o _ h.3 tt
+decomposed_own most e rows vectors (Err unfit) o h = is_own o _ h (sum_refusal_own unfit.0 (sums.Unfit unfit.1))
+
+decompose_own : (coords : Coords) (most : ℕ) (d : List Row × List (List ℕ)) (o : Outcome) → IsDecomposeAnswer coords most d o → IsOwnStatus o.status
+decompose_own coords most d o h = decomposed_own most _ d.0 d.1 h.checked o h.told
+
+addup_own : (told : Result (List (Unit {0})) (ℕ × SumRefusal)) → IsOwnStatus (addup_outcome told).status
+addup_own (Ok accepted) = tt
+addup_own (Err p) = sum_refusal_own p.0 p.1
+
+cover_own : (fault : Option CoverFault) (rows : List Row) (o : Outcome) → MatchOption fault (IsCoverTold rows o) (λ _. o ≡ large_cover_outcome) → IsOwnStatus o.status
+cover_own None rows o h = is_own o _ h.2 tt
+cover_own (Some fault) rows o h = is_own o _ h tt
+
+presented_own : (s : Skeleton) (o : Outcome) → IsNotConnected 0 s.rows o ⊎ (IsConnected s.rows × IsInvalidTold s o) ⊎ (HasGroup s × IsPresented s o) → IsOwnStatus o.status
+presented_own s o (inl h) = not_connected_own 0 s.rows o h
+presented_own s o (inr (inl h)) = invalid_own s o h.1
+presented_own s o (inr (inr h)) = is_own o _ (h.1).2 tt
+
+same_parts_own : (pair : List Row × List Row) (o : Outcome) → IsSamePartsAnswer pair o → IsOwnStatus o.status
+same_parts_own pair o (inl h) = is_own o _ h.told tt
+same_parts_own pair o (inr h) = is_own o _ h.1 tt
+
+bulk_own : (seed moves : ℕ) (o : Outcome) → IsBulkAnswer seed moves o → IsOwnStatus o.status
+bulk_own seed moves o h = elim h.summary.told [
+  | inl g ↦ is_own o _ g.outcome tt
+  | inr g ↦ is_own o _ g.outcome tt
+]
+
 pub answer_own : (request : Request) (bytes : List ℕ) (o : Outcome) → IsAnswerTo request bytes o → IsOwnStatus o.status
 answer_own (Verify coords) bytes o h = read_own (vectors_document bytes) (IsVerdictsAnswer coords) o (λ d g. is_own o _ g.2 tt) h
 answer_own Info bytes o h = read_own (table_document bytes) IsInformationAnswer o (λ rows g. is_own o _ g.2 tt) h
@@ -78,14 +161,20 @@ answer_own (Surfaces coords order most) bytes o h = read_own (table_document byt
 answer_own (Rays order most) bytes o h =
     read_own (worded (cone_document bytes)) (λ cone. IsEnumerationAnswer (codes "rays") (ray_enumeration order most cone)) o
     (λ cone g. enumeration_own (codes "rays") (ray_enumeration order most cone) o g) h
-answer_own (Describe coords) bytes o h = absurd h
+answer_own (Describe coords) bytes o h = read_own (vectors_document bytes) (IsDescribeAnswer coords) o (λ d g. describe_own coords d o g) h
 answer_own Lift bytes o h = read_own (vectors_document bytes) IsLiftsAnswer o (λ d g. is_own o (lift_outcome g.told) g.outcome (lift_own g.told)) h
 answer_own Crush bytes o h = read_own (vector_document bytes) IsCrushAnswer o (λ d g. is_own o (crush_outcome g.told) g.outcome (crush_own g.told)) h
 answer_own Play bytes o h = read_own (steps_document bytes) IsScriptAnswer o (λ d g. is_own o _ g.5 tt) h
 answer_own Sig bytes o h = read_own (table_document bytes) IsSignatureAnswer o (λ rows g. signature_own rows o g) h
 answer_own Same bytes o h = read_own (two_tables_document bytes) IsSameAnswer o (λ pair g. same_own pair o g) h
 answer_own Group bytes o h = read_own (tables_document bytes) IsGroupAnswer o (λ tables g. group_own tables o g) h
-answer_own Check bytes o h = absurd h
-answer_own Descend bytes o h = absurd h
-answer_own (Make seed moves) bytes o h = absurd h
-answer_own (Bulk seed moves) bytes o h = absurd h
+answer_own Check bytes o h = read_own (moves_document bytes) IsCheckAnswer o (λ d g. check_own d o g) h
+answer_own Descend bytes o h = read_own (table_document bytes) IsDescendAnswer o (λ rows g. descend_own rows o g) h
+answer_own (Make seed moves) bytes o h = is_own o _ h.outcome tt
+answer_own (Bulk seed moves) bytes o h = bulk_own seed moves o h
+answer_own (Decompose coords most) bytes o h = read_own (vectors_document bytes) (IsDecomposeAnswer coords most) o (λ d g. decompose_own coords most d o g) h
+answer_own (Addup coords) bytes o h = read_own (blocks_document bytes) (IsAddupAnswer coords) o (λ d g. is_own o (addup_outcome g.told) g.outcome (addup_own g.told)) h
+answer_own Cover bytes o h = read_own (table_document bytes) IsCoverAnswer o (λ rows g. cover_own (cover_fault rows) rows o g) h
+answer_own Pi1 bytes o h = read_own (table_document bytes) IsPresentationAnswer o (λ rows g. presented_own g.skeleton o g.told) h
+answer_own Csig bytes o h = read_own (table_document bytes) IsComponentSignatureAnswer o (λ rows g. is_own o _ g.told tt) h
+answer_own Csame bytes o h = read_own (two_tables_document bytes) IsSamePartsAnswer o (λ pair g. same_parts_own pair o g) h

@@ -1,5 +1,5 @@
 -- What a run is to answer to words and to the bytes of an input.
-use Rattle.std.specs.Prelude.{◌≡◌, ℕ, List, map, length, Option, Some, None, nat_lt, codes}
+use Rattle.std.specs.Prelude.{◌≡◌, ℕ, Bool, ◌&&◌, List, map, length, Option, Some, None, nat_lt, codes}
 use Rattle.std.specs.Bool.{MatchBool}
 use Rattle.text_definitions.specs.Written.{limit}
 use Rattle.table_definitions.specs.Table.{Row}
@@ -8,16 +8,24 @@ use Rattle.surface_definitions.specs.Coordinates.{columns, clash_list}
 use Rattle.surface_definitions.specs.declared.Coords.{Coords}
 use Rattle.surface_definitions.specs.QuadEquations.{AreEquations}
 use Rattle.surface_definitions.specs.Verdict.{Verdict, verdict}
-use Rattle.document_definitions.specs.Documents.{worded, table_document, two_tables_document, tables_document, vectors_document, vector_document, steps_document, cone_document, verdicts_text}
+use Rattle.document_definitions.specs.Documents.{worded, table_document, two_tables_document, tables_document, vectors_document, vector_document, steps_document, moves_document, cone_document, verdicts_text}
+use Rattle.document_definitions.specs.Blocks.{blocks_document}
 use Rattle.command_definitions.specs.declared.Request.{Request}
-use Rattle.command_definitions.specs.declared.Request.TheVariants.{Verify, Info, Surfaces, Rays, Describe, Lift, Crush, Play, Sig, Same, Group, Check, Descend, Make, Bulk}
+use Rattle.command_definitions.specs.declared.Request.TheVariants.{Verify, Info, Surfaces, Rays, Describe, Lift, Crush, Play, Sig, Same, Group, Check, Descend, Make, Bulk, Decompose, Addup, Cover, Pi1, Csig, Csame}
+use Rattle.command_definitions.specs.Requests.{reads_input}
 use Rattle.command_definitions.specs.Words.{accepted_request}
 use Rattle.outcome_definitions.specs.declared.Status.TheVariants.{Done}
 use Rattle.outcome_definitions.specs.Outcomes.{Outcome, usage_outcome, too_long_outcome, IsReadOutcome}
 use Rattle.outcome_definitions.specs.Enumerations.{IsEnumerationAnswer, IsSurfacesAnswer, ray_enumeration}
 use Rattle.outcome_definitions.specs.Information.{IsInformationAnswer}
 use Rattle.outcome_definitions.specs.Scripts.{IsScriptAnswer}
-use Rattle.outcome_definitions.specs.Vectors.{IsCrushAnswer, IsLiftsAnswer}
+use Rattle.outcome_definitions.specs.Vectors.{IsDescribeAnswer, IsCrushAnswer, IsLiftsAnswer}
+use Rattle.outcome_definitions.specs.Sums.{IsDecomposeAnswer, IsAddupAnswer}
+use Rattle.outcome_definitions.specs.Covers.{IsCoverAnswer}
+use Rattle.outcome_definitions.specs.Presented.{IsPresentationAnswer}
+use Rattle.outcome_definitions.specs.Parts.{IsComponentSignatureAnswer, IsSamePartsAnswer}
+use Rattle.outcome_definitions.specs.Certificates.{IsCheckAnswer, IsDescendAnswer}
+use Rattle.outcome_definitions.specs.Makings.{IsMakeAnswer, IsBulkAnswer}
 use Rattle.outcome_definitions.specs.Canonical.{IsSignatureAnswer, IsSameAnswer, IsGroupAnswer}
 
 -- an input has at most so many bytes
@@ -36,27 +44,37 @@ verify_outcome coords rows equations vectors = record { status = Done; text = ve
 abbrev pub IsVerdictsAnswer : Coords → List Row × List (List ℕ) → Outcome → Type 0
 IsVerdictsAnswer coords d o = (equations : List EquationRow) × AreEquations coords d.0 equations × (o ≡ verify_outcome coords d.0 equations d.1)
 
--- The outcome of a command on an input that isn't too long. A command that isn't built has none.
+-- The outcome of a command on an input that isn't too long. That of `make` or `bulk`, which read nothing, is one of the words alone.
 abbrev pub IsAnswerTo : Request → List ℕ → Outcome → Type 0
 IsAnswerTo (Verify coords) bytes o = IsReadOutcome (vectors_document bytes) (IsVerdictsAnswer coords) o
 IsAnswerTo Info bytes o = IsReadOutcome (table_document bytes) IsInformationAnswer o
 IsAnswerTo (Surfaces coords order most) bytes o = IsReadOutcome (table_document bytes) (IsSurfacesAnswer coords order most) o
 IsAnswerTo (Rays order most) bytes o = IsReadOutcome (worded (cone_document bytes)) (λ cone. IsEnumerationAnswer (codes "rays") (ray_enumeration order most cone)) o
-IsAnswerTo (Describe coords) bytes o = ⊥
+IsAnswerTo (Describe coords) bytes o = IsReadOutcome (vectors_document bytes) (IsDescribeAnswer coords) o
 IsAnswerTo Lift bytes o = IsReadOutcome (vectors_document bytes) IsLiftsAnswer o
 IsAnswerTo Crush bytes o = IsReadOutcome (vector_document bytes) IsCrushAnswer o
 IsAnswerTo Play bytes o = IsReadOutcome (steps_document bytes) IsScriptAnswer o
 IsAnswerTo Sig bytes o = IsReadOutcome (table_document bytes) IsSignatureAnswer o
 IsAnswerTo Same bytes o = IsReadOutcome (two_tables_document bytes) IsSameAnswer o
 IsAnswerTo Group bytes o = IsReadOutcome (tables_document bytes) IsGroupAnswer o
-IsAnswerTo Check bytes o = ⊥
-IsAnswerTo Descend bytes o = ⊥
-IsAnswerTo (Make seed moves) bytes o = ⊥
-IsAnswerTo (Bulk seed moves) bytes o = ⊥
+IsAnswerTo Check bytes o = IsReadOutcome (moves_document bytes) IsCheckAnswer o
+IsAnswerTo Descend bytes o = IsReadOutcome (table_document bytes) IsDescendAnswer o
+IsAnswerTo (Make seed moves) bytes o = IsMakeAnswer seed moves o
+IsAnswerTo (Bulk seed moves) bytes o = IsBulkAnswer seed moves o
+IsAnswerTo (Decompose coords most) bytes o = IsReadOutcome (vectors_document bytes) (IsDecomposeAnswer coords most) o
+IsAnswerTo (Addup coords) bytes o = IsReadOutcome (blocks_document bytes) (IsAddupAnswer coords) o
+IsAnswerTo Cover bytes o = IsReadOutcome (table_document bytes) IsCoverAnswer o
+IsAnswerTo Pi1 bytes o = IsReadOutcome (table_document bytes) IsPresentationAnswer o
+IsAnswerTo Csig bytes o = IsReadOutcome (table_document bytes) IsComponentSignatureAnswer o
+IsAnswerTo Csame bytes o = IsReadOutcome (two_tables_document bytes) IsSamePartsAnswer o
+
+-- whether a command that reads is given more bytes than an input may have
+abbrev pub is_too_long : Request → List ℕ → Bool
+is_too_long request bytes = reads_input request && nat_lt most_bytes (length bytes)
 
 -- the outcome of accepted words and of an input
 abbrev pub IsRequestOutcome : Request → List ℕ → Outcome → Type 0
-IsRequestOutcome request bytes o = MatchBool (nat_lt most_bytes (length bytes)) (o ≡ too_long_outcome) (IsAnswerTo request bytes o)
+IsRequestOutcome request bytes o = MatchBool (is_too_long request bytes) (o ≡ too_long_outcome) (IsAnswerTo request bytes o)
 
 abbrev pub IsOutcomeOf : Option Request → List ℕ → Outcome → Type 0
 IsOutcomeOf None bytes o = o ≡ usage_outcome

@@ -5,5 +5,11 @@ pub mod Information
 pub mod Scripts
 pub mod Canonical
 pub mod Vectors
+pub mod Sums
+pub mod Covers
+pub mod Presented
+pub mod Parts
+pub mod Certificates
+pub mod Makings
 pub mod Answers
 pub mod Laws

@@ -81,3 +81,6 @@ read_line = line (codes "refused: read")
 
 unfoldable pub too_long_line : List ℕ
 too_long_line = line (codes "refused: input too-long")
+
+unfoldable pub accepted_text : List ℕ
+accepted_text = line (codes "accepted")

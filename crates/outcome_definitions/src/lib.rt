@@ -4,6 +4,9 @@
 
 ghost use Rattle.outcome_definitions.specs.Laws.{StatusesAreOwn};
 
+use sum_definitions::AddFault;
+use surface_definitions::VectorFault;
+
 /// How a run ends. The number is the exit status of the program.
 #[derive(Clone, Copy, Debug, PartialEq, Eq)]
 pub enum Status {
@@ -23,6 +26,19 @@ pub enum Status {
     WriteFault,
     /// 8: memory ran out, and nothing was written.
     NoMemory,
+}
+
+/// Why a vector isn't told as a sum, or a given sum isn't accepted.
+#[derive(Clone, Copy, Debug, PartialEq, Eq)]
+pub enum SumRefusal {
+    /// The vector is no admissible solution.
+    Unfit { fault: VectorFault },
+    /// The term of this number, which counts from 0, is no admissible solution.
+    UnfitTerm { term: usize, fault: VectorFault },
+    /// At this turn, counted from 0, an entry of the vector, taken so many times, passes the limit; the first such column.
+    LargeTimes { turn: u32, column: u32 },
+    /// The terms don't add up to the vector.
+    NoSum { fault: AddFault },
 }
 
 /// The answer to a request has one of the statuses of accepted words.

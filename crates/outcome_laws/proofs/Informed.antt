@@ -15,7 +15,7 @@ use Rattle.outcome_definitions.specs.Information.{Information, IsInformation, Is
 use Rattle.outcome_laws.proofs.Numbered.{one_classes, one_skeleton}
 
 -- two tests of the same fact are equal
-same_test : (P : Type 0) (a b : Bool) → IsTrue a ↔ P → IsTrue b ↔ P → a ≡ b
+pub same_test : (P : Type 0) (a b : Bool) → IsTrue a ↔ P → IsTrue b ↔ P → a ≡ b
 same_test P true true h k = refl
 same_test P true false h k = sym (k.1 (h.0 refl))
 same_test P false true h k = h.1 (k.0 refl)

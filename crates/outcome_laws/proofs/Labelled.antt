@@ -25,10 +25,10 @@ one_unreached rows t u a b = elim (cases_order t u) [
 all_reached : (rows : List Row) (t : ℕ) → IsConnected rows → IsLeastUnreached rows t → ⊥
 all_reached rows t connected a = let h = a.in_range in a.unreached (connected 0 t (omega arith) h)
 
-one_not_connected : (k : ℕ) (rows : List Row) (o p : Outcome) → IsNotConnected k rows o → IsNotConnected k rows p → o ≡ p
+pub one_not_connected : (k : ℕ) (rows : List Row) (o p : Outcome) → IsNotConnected k rows o → IsNotConnected k rows p → o ≡ p
 one_not_connected k rows o p h g = h.2 ∙ ap (not_connected_outcome k) (one_unreached rows h.0 g.0 h.1 g.1) ∙ sym g.2
 
-not_both : {P : Type 0} (k : ℕ) (rows : List Row) (o : Outcome) → IsConnected rows → IsNotConnected k rows o → P
+pub not_both : {P : Type 0} (k : ℕ) (rows : List Row) (o : Outcome) → IsConnected rows → IsNotConnected k rows o → P
 not_both k rows o connected h = absurd (all_reached rows h.0 connected h.1)
 
 pub one_signature_answer : (rows : List Row) (o p : Outcome) → IsSignatureAnswer rows o → IsSignatureAnswer rows p → o ≡ p

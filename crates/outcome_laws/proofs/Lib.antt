@@ -5,5 +5,11 @@ pub mod Scripted
 pub mod Equated
 pub mod Labelled
 pub mod ReadPairs
+pub mod Summed
+pub mod Covered
+pub mod Presented
+pub mod Certified
+pub mod Making
+pub mod Parted
 pub mod Vectored
 pub mod Agreement

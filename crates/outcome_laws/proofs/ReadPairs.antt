@@ -10,22 +10,23 @@ use Rattle.signature_codec.proofs.AnyTables.{any_table_read}
 use Rattle.cone_text_definitions.specs.VectorText.{vector_at}
 use Rattle.document_definitions.specs.Documents.{worded, next_table_at, no_line_at, two_tables_document, vector_document}
 
-next_read : (c : Reading) (x : List Row × Reading) → next_table_at c ≡ Ok x → IsTable x.0
+pub next_read : (c : Reading) (x : List Row × Reading) → next_table_at c ≡ Ok x → IsTable x.0
 unfolding next_table_at
 next_read c x e =
     let line = bind_ok (worded (need_line_at c)) any_table_at x e in
     (any_table_read line.0 x.0 x.1 line.2).table
 
-pub first_is_table : (bytes : List ℕ) (pair : List Row × List Row) → two_tables_document bytes ≡ Ok pair → IsTable pair.0
+pub both_are_tables : (bytes : List ℕ) (pair : List Row × List Row) → two_tables_document bytes ≡ Ok pair → IsTable pair.0 × IsTable pair.1
 unfolding two_tables_document
-first_is_table bytes pair e =
+both_are_tables bytes pair e =
     let first = bind_ok (next_table_at (start_of bytes)) (λ (a : List Row × Reading). next_table_at a.1 >>= λ (b : List Row × Reading). worded (no_line_at b.1) >>= λ (end : Reading). Ok (a.0, b.0)) pair e in
     let second = bind_ok (next_table_at (first.0).1) (λ (b : List Row × Reading). worded (no_line_at b.1) >>= λ (end : Reading). Ok ((first.0).0, b.0)) pair first.2 in
     let last = bind_ok (worded (no_line_at (second.0).1)) (λ (end : Reading). Ok ((first.0).0, (second.0).0)) pair second.2 in
-    subst IsTable (same_first (first.0).0 (second.0).0 pair last.2) (next_read (start_of bytes) first.0 first.1)
+    let same = same_both (first.0).0 (second.0).0 pair last.2 in
+    (subst IsTable same.0 (next_read (start_of bytes) first.0 first.1), subst IsTable same.1 (next_read (first.0).1 second.0 second.1))
   where
-    same_first : (a b : List Row) (p : List Row × List Row) → ◌≡◌ {A = Result (List Row × List Row) InputFault} (Ok (a, b)) (Ok p) → a ≡ p.0
-    same_first a b p e = let same : (a, b) ≡ p = cc in ap (λ (q : List Row × List Row). q.0) same
+    same_both : (a b : List Row) (p : List Row × List Row) → ◌≡◌ {A = Result (List Row × List Row) InputFault} (Ok (a, b)) (Ok p) → (a ≡ p.0) × (b ≡ p.1)
+    same_both a b p e = let same : (a, b) ≡ p = cc in (ap (λ (q : List Row × List Row). q.0) same, ap (λ (q : List Row × List Row). q.1) same)
 
 pub table_with_vector : (bytes : List ℕ) (pair : List Row × List ℕ) → vector_document bytes ≡ Ok pair → IsTable pair.0
 unfolding vector_document

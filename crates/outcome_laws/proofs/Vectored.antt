@@ -1,15 +1,18 @@
 -- What is told of the vectors of a table is one text.
-use Rattle.std.proofs.Common.{◌≡◌, ℕ, List, sym, ap, ◌∙◌, subst}
+use Rattle.std.proofs.Common.{◌≡◌, ◌⊎◌, ℕ, List, None, inl, inr, sym, ap, ◌∙◌, subst}
 use Rattle.cone_definitions.specs.Rows.{Row as EquationRow}
 use Rattle.table_definitions.specs.Table.{Row, IsTable}
-use Rattle.skeleton_definitions.specs.Skeleton.{Skeleton}
+use Rattle.skeleton_definitions.specs.Skeleton.{Skeleton, IsFirstInvalid}
+use Rattle.surface_definitions.specs.declared.Coords.{Coords}
 use Rattle.surface_definitions.specs.declared.Coords.TheVariants.{Standard, Quad}
-use Rattle.vector_definitions.specs.Answers.{IsLifted, IsCrushedAlong, AreTold}
+use Rattle.vector_definitions.specs.Answers.{IsDescription, IsLifted, IsCrushedAlong, AreTold}
+use Rattle.vector_definitions.proofs.Told.{one_description_each}
 use Rattle.vector_laws.proofs.ToldLemmas.{lifted_each, crushed_along_once}
 use Rattle.outcome_definitions.specs.Outcomes.{Outcome}
-use Rattle.outcome_definitions.specs.Vectors.{IsCrushAnswer, crush_outcome, IsLiftsAnswer, lift_outcome}
+use Rattle.outcome_definitions.specs.Vectors.{IsCrushAnswer, crush_outcome, IsLiftsAnswer, lift_outcome, AreDescribed, describe_outcome, IsInvalidTold, IsDescribeAnswer}
 use Rattle.outcome_laws.proofs.Equated.{one_equations}
 use Rattle.outcome_laws.proofs.Numbered.{one_skeleton}
+use Rattle.outcome_laws.proofs.Presented.{one_refusal, never_invalid}
 
 pub one_crush : (d : List Row × List ℕ) (o p : Outcome) → IsTable d.0 → IsCrushAnswer d o → IsCrushAnswer d p → o ≡ p
 one_crush d o p t h k =
@@ -24,3 +27,24 @@ one_lifts d o p h k =
     let same_rows : AreTold (IsLifted k.skeleton h.equations) d.1 k.told = subst (λ (q : List EquationRow). AreTold (IsLifted k.skeleton q) d.1 k.told) (sym e) k.lifted in
     let there : AreTold (IsLifted h.skeleton h.equations) d.1 k.told = subst (λ (t : Skeleton). AreTold (IsLifted t h.equations) d.1 k.told) (sym s) same_rows in
     h.outcome ∙ ap lift_outcome (lifted_each h.skeleton h.equations d.1 h.told k.told h.is_skeleton h.lifted there) ∙ sym k.outcome
+
+one_described : (s : Skeleton) (coords : Coords) (vectors : List (List ℕ)) (o p : Outcome) → AreDescribed s coords vectors o → AreDescribed s coords vectors p → o ≡ p
+one_described s coords vectors o p h k =
+    let e : h.equations ≡ k.equations = one_equations coords s.rows h.equations k.equations h.of_table k.of_table in
+    let there : AreTold (IsDescription s coords h.equations) vectors k.told = subst (λ (q : List EquationRow). AreTold (IsDescription s coords q) vectors k.told) (sym e) k.described in
+    h.outcome ∙ ap (describe_outcome s coords) (one_description_each s coords h.equations vectors h.told k.told h.described there) ∙ sym k.outcome
+
+-- an invalid edge is told, or the vectors are described
+abbrev Told : Skeleton → Coords → List (List ℕ) → Outcome → Type 0
+Told s coords vectors o = IsInvalidTold s o ⊎ (IsFirstInvalid s None × AreDescribed s coords vectors o)
+
+one_told : (s : Skeleton) (coords : Coords) (vectors : List (List ℕ)) (o p : Outcome) → Told s coords vectors o → Told s coords vectors p → o ≡ p
+one_told s coords vectors o p (inl h) (inl k) = one_refusal s o p h k
+one_told s coords vectors o p (inl h) (inr k) = never_invalid s o k.0 h
+one_told s coords vectors o p (inr h) (inl k) = never_invalid s p h.0 k
+one_told s coords vectors o p (inr h) (inr k) = one_described s coords vectors o p h.1 k.1
+
+pub one_describe : (coords : Coords) (d : List Row × List (List ℕ)) (o p : Outcome) → IsDescribeAnswer coords d o → IsDescribeAnswer coords d p → o ≡ p
+one_describe coords d o p h k =
+    let s : h.skeleton ≡ k.skeleton = one_skeleton h.skeleton k.skeleton (h.of_rows ∙ sym k.of_rows) h.is_skeleton k.is_skeleton in
+    one_told k.skeleton coords d.1 o p (subst (λ (t : Skeleton). Told t coords d.1 o) s h.told) k.told

@@ -29,4 +29,10 @@ returns c =
     let s12 = more (app_of c.in_ok-program-12.program) _ _ (codes "check") ([]) c.in_ok-program-12.ensures s11 in
     let s13 = more (app_of c.in_ok-program-13.program) _ _ (codes "descend") ([]) c.in_ok-program-13.ensures s12 in
     let s14 = more (app_of c.in_ok-program-14.program) _ _ (codes "make") (codes "seed" ∷ codes "moves" ∷ []) c.in_ok-program-14.ensures s13 in
-    IfOk-weaker c.add-15.result _ _ (λ r e. more (app_of r) _ _ (codes "bulk") (codes "seed" ∷ codes "moves" ∷ []) e s14) c.add-15.ensures
+    let s15 = more (app_of c.in_ok-program-15.program) _ _ (codes "bulk") (codes "seed" ∷ codes "moves" ∷ []) c.in_ok-program-15.ensures s14 in
+    let s16 = more (app_of c.in_ok-program-16.program) _ _ (codes "decompose") (codes "coords" ∷ codes "max-entry" ∷ []) c.in_ok-program-16.ensures s15 in
+    let s17 = more (app_of c.in_ok-program-17.program) _ _ (codes "addup") (codes "coords" ∷ []) c.in_ok-program-17.ensures s16 in
+    let s18 = more (app_of c.in_ok-program-18.program) _ _ (codes "cover") ([]) c.in_ok-program-18.ensures s17 in
+    let s19 = more (app_of c.in_ok-program-19.program) _ _ (codes "pi1") ([]) c.in_ok-program-19.ensures s18 in
+    let s20 = more (app_of c.in_ok-program-20.program) _ _ (codes "csig") ([]) c.in_ok-program-20.ensures s19 in
+    IfOk-weaker c.add-21.result _ _ (λ r e. more (app_of r) _ _ (codes "csame") ([]) e s20) c.add-21.ensures

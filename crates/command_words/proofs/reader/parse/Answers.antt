@@ -3,7 +3,7 @@ use Rattle.clap.specs.Values.{kind_of}
 use Rattle.clap.specs.Walk.{texts}
 use Rattle.clap.specs.Simple.{app_of}
 use Rattle.clap.specs.Faults.{is_simple_and_free}
-use Rattle.command_definitions.specs.Words.{request_of}
+use Rattle.command_definitions.specs.Words.{accepted_request}
 use Rattle.command_words.specs.Requests.{AnswersWords, FailsWords}
 use Rattle.command_words.proofs.Asked.{ok_answers, err_answers, fault_answers, program_free}
 use Rattle.command_words.proofs.WordLists.{are_words}
@@ -23,5 +23,5 @@ returns-in-Err c =
     let is = c.in_ok-program.ensures in
     let are = are_words words c.requires.no_dashes c.requires.utf8 in
     let free : is_simple_and_free (app_of c.in_ok-program.program) ≡ true = ap is_simple_and_free is ∙ program_free in
-    subst (λ f. FailsWords f (request_of words)) (sym c.fault_of.ensures)
-    (fault_answers (kind_of c.in-Err.error) (request_of words) (err_answers words c.in-Err.error (app_of c.in_ok-program.program) is are (c.in-Err.ensures.kinds free)))
+    subst (λ f. FailsWords f (accepted_request words)) (sym c.fault_of.ensures)
+    (fault_answers (kind_of c.in-Err.error) (accepted_request words) (err_answers words c.in-Err.error (app_of c.in_ok-program.program) is are (c.in-Err.ensures.kinds free)))

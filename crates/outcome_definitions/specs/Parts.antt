@@ -1,0 +1,25 @@
+-- What `csig` and `csame` are to answer: the component signature of a table, and the relabelling that is told of two tables.
+use Rattle.std.specs.Prelude.{◌≡◌, ◌⊎◌, ℕ, List}
+use Rattle.table_definitions.specs.Table.{Row}
+use Rattle.table_definitions.specs.Relabelling.{Relabelling, IsRelabelled}
+use Rattle.part_definitions.specs.ComponentSignature.{IsComponentSignature}
+use Rattle.part_definitions.specs.SameParts.{IsSameParts}
+use Rattle.outcome_definitions.specs.Lines.{line}
+use Rattle.outcome_definitions.specs.Outcomes.{Outcome}
+use Rattle.outcome_definitions.specs.Canonical.{done, relabelling_text, different_outcome}
+
+-- the answer of `csig` to a table
+pub record IsComponentSignatureAnswer (rows : List Row) (o : Outcome) : Type 0 where
+  pub text : List ℕ
+  pub signature : IsComponentSignature rows text
+  pub told : o ≡ done (line text)
+
+-- the relabelling that carries the parts of the first table to those of the second is told
+pub record AreSameParts (first second : List Row) (o : Outcome) : Type 0 where
+  pub by : Relabelling
+  pub same : IsSameParts first second by
+  pub told : o ≡ done (relabelling_text by)
+
+-- the answer of `csame` to two tables: such a relabelling, or that none carries the first to the second
+abbrev pub IsSamePartsAnswer : List Row × List Row → Outcome → Type 0
+IsSamePartsAnswer pair o = AreSameParts pair.0 pair.1 o ⊎ ((IsRelabelled pair.0 pair.1 → ⊥) × (o ≡ different_outcome))

@@ -1,0 +1,22 @@
+-- What is told of the parts of a table, and of the parts of two tables, is one text.
+use Rattle.std.proofs.Common.{◌≡◌, ℕ, List, inl, inr, sym, ap, ◌∙◌}
+use Rattle.table_definitions.specs.Table.{Row, IsTable}
+use Rattle.table_definitions.specs.Relabelling.{Relabelling}
+use Rattle.part_laws.proofs.Signatures.{one_component_signature}
+use Rattle.part_laws.proofs.SameParts.{same_parts_carry}
+use Rattle.part_laws.proofs.OneOrder.{one_same_parts}
+use Rattle.outcome_definitions.specs.Lines.{line}
+use Rattle.outcome_definitions.specs.Outcomes.{Outcome}
+use Rattle.outcome_definitions.specs.Canonical.{done, relabelling_text}
+use Rattle.outcome_definitions.specs.Parts.{IsComponentSignatureAnswer, IsSamePartsAnswer}
+
+pub one_component_answer : (rows : List Row) (o p : Outcome) → IsTable rows → IsComponentSignatureAnswer rows o → IsComponentSignatureAnswer rows p → o ≡ p
+one_component_answer rows o p table h k =
+    h.told ∙ ap (λ (text : List ℕ). done (line text)) (one_component_signature rows h.text k.text table h.signature k.signature) ∙ sym k.told
+
+pub one_same_parts_answer : (pair : List Row × List Row) (o p : Outcome) → IsTable pair.0 → IsTable pair.1 → IsSamePartsAnswer pair o → IsSamePartsAnswer pair p → o ≡ p
+one_same_parts_answer pair o p first second (inl h) (inl k) =
+    h.told ∙ ap (λ (by : Relabelling). done (relabelling_text by)) (one_same_parts pair.0 pair.1 h.by k.by first second h.same k.same) ∙ sym k.told
+one_same_parts_answer pair o p first second (inl h) (inr k) = absurd (k.0 (h.by, h.same.relabelling, same_parts_carry pair.0 pair.1 h.by first second h.same))
+one_same_parts_answer pair o p first second (inr h) (inl k) = absurd (h.0 (k.by, k.same.relabelling, same_parts_carry pair.0 pair.1 k.by first second k.same))
+one_same_parts_answer pair o p first second (inr h) (inr k) = h.1 ∙ sym k.1
