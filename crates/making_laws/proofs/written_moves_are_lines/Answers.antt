@@ -1,0 +1,5 @@
+use Rattle.making_laws.proofs.MadeTexts.{written_moves_are_lines_lem}
+use Rattle.making_laws.proofs.written_moves_are_lines.Goals as goal
+
+pub returns : goal.returns
+returns c = written_moves_are_lines_lem

@@ -1,0 +1,2 @@
+pub mod WrittenMoves
+pub mod Accepted
