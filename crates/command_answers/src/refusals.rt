@@ -1,8 +1,8 @@
 // The one line of each refusal.
 ghost use Rattle.std.specs.Prelude.{◌≡◌, ◌≢◌, codes, decimal, IfOk, OnOk};
 ghost use Rattle.outcome_definitions.specs.Lines as lines;
-ghost use Rattle.outcome_definitions.specs.Outcomes.{IsOwnStatus};
 ghost use Rattle.outcome_definitions.specs.Canonical as canonical;
+ghost use Rattle.vector_definitions.specs.Texts.{invalid_edge_line};
 ghost use Rattle.command_answers.specs.Refusals.{IsFaultOutcome};
 
 use crate::outcome::Outcome;
@@ -151,17 +151,27 @@ fn not_connected_line(alloc: Global, table: u32, tet: u32) -> Result<Vec<u8>, No
 
 /// The outcome where a table, which are counted from 0, isn't connected.
 pub fn not_connected_outcome(alloc: Global, table: u32, tet: u32) -> Result<Outcome, NoMemory>
-    ensures told { IfOk result (λ o. o ≡ canonical.not_connected_outcome table tet) }
-    ensures own_status { IfOk result (λ o. IsOwnStatus o.status) }
+    ensures { IfOk result (λ o. o ≡ canonical.not_connected_outcome table tet) }
 {
     let text = not_connected_line(alloc, table, tet)?;
     Ok(Outcome::built(Status::Refused, text))
 }
 
+/// The outcome where an edge class is invalid.
+#[tactic(auto, unfolding(vector_definitions::specs::Texts::invalid_edge_line))]
+pub fn invalid_edge_outcome(alloc: Global, class: u32) -> Result<Outcome, NoMemory>
+    ensures { IfOk result (λ o. o ≡ record { status = Status.Refused; text = invalid_edge_line class }) }
+{
+    let mut text = Vec::new(alloc);
+    append(&mut text, b"refused: invalid-edge ")?;
+    append_decimal(alloc, &mut text, u128::from(class))?;
+    append(&mut text, b"\n")?;
+    Ok(Outcome::built(Status::Refused, text))
+}
+
 /// The outcome of an input's fault.
 pub fn fault_outcome(alloc: Global, fault: InputFault) -> Result<Outcome, NoMemory>
-    ensures fault { IfOk result (IsFaultOutcome fault) }
-    ensures own_status { IfOk result (λ o. IsOwnStatus o.status) }
+    ensures { IfOk result (IsFaultOutcome fault) }
 {
     let text = input_line(alloc, fault)?;
     Ok(Outcome::built(Status::Input, text))

@@ -14,8 +14,8 @@ use std::alloc::Global;
 /// The greatest number that a document may name.
 pub const LIMIT: u128 = 170141183460469231731687303715884105727;
 
-// The decimals to the end of the line.
-fn read_numbers(alloc: Global, lexer: &mut Lexer<'_>) -> Result<Vec<u128>, TextFault>
+/// The decimals to the end of the line.
+pub fn read_numbers(alloc: Global, lexer: &mut Lexer<'_>) -> Result<Vec<u128>, TextFault>
     ensures { ReadsFrom TextFault.NoMemory (λ v. v.items) result lexer.new (lexed (numbers_at limit lexer.old)) }
 {
     let mut numbers = Vec::new(alloc);

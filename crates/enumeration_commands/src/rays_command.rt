@@ -2,11 +2,11 @@
 ghost use Rattle.std.specs.Prelude.{◌≡◌, ◌≢◌, ◌≤◌, ◌^◌, length, codes, IfOk};
 ghost use Rattle.cone_definitions.specs.Listings.{without_pairs};
 ghost use Rattle.document_definitions.specs.Documents.{worded, cone_document};
-ghost use Rattle.outcome_definitions.specs.Outcomes.{IsReadOutcome, IsOwnStatus};
+ghost use Rattle.outcome_definitions.specs.Outcomes.{IsReadOutcome};
 ghost use Rattle.outcome_definitions.specs.Enumerations.{IsEnumerationAnswer, ray_enumeration};
 ghost use Rattle.enumeration_commands.specs.Cones.{GivesConeDocument};
 
-use crate::enumerations::{large_outcome, list_outcome};
+use crate::enumerations::list_outcome;
 use bench_io::Lexer;
 use command_answers::{Outcome, end_document, fault_outcome};
 use cone_core::{ConeFault, MAX_ENTRY, System, read_cone};
@@ -15,6 +15,7 @@ use gluing_table::TextFault;
 use no_memory::NoMemory;
 use signature_codec::InputFault;
 use std::alloc::Global;
+use surface_answers::large_outcome;
 
 // The document of a cone.
 #[tactic(auto, unfolding(document_definitions::specs::Documents::cone_document))]
@@ -34,8 +35,7 @@ fn answer(alloc: Global, system: &System, order: Order, limit: u128) -> Result<O
     requires named { order ≢ Order.Free }
     requires some_limit { 1 ≤ limit }
     requires most_limit { limit ≤ MAX_ENTRY }
-    ensures answer { IfOk result (IsEnumerationAnswer (codes "rays") (without_pairs system.now order limit)) }
-    ensures own_status { IfOk result (λ o. IsOwnStatus o.status) }
+    ensures { IfOk result (IsEnumerationAnswer (codes "rays") (without_pairs system.now order limit)) }
 {
     match ray_answers::rays(alloc, system, order, limit) {
         Ok(rays) => list_outcome(alloc, b"rays", &rays.list),
@@ -50,8 +50,7 @@ pub fn rays(alloc: Global, order: Order, limit: u128, bytes: &[u8]) -> Result<Ou
     requires named { order ≢ Order.Free }
     requires some_limit { 1 ≤ limit }
     requires most_limit { limit ≤ MAX_ENTRY }
-    ensures answer { IfOk result (IsReadOutcome (worded (cone_document bytes.now)) (λ cone. IsEnumerationAnswer (codes "rays") (ray_enumeration order limit cone))) }
-    ensures own_status { IfOk result (λ o. IsOwnStatus o.status) }
+    ensures { IfOk result (IsReadOutcome (worded (cone_document bytes.now)) (λ cone. IsEnumerationAnswer (codes "rays") (ray_enumeration order limit cone))) }
 {
     match read_cone_document(alloc, bytes) {
         Ok(system) => answer(alloc, &system, order, limit),

@@ -1,10 +1,10 @@
 // The command `surfaces`: all vertex surfaces of a table.
 ghost use Rattle.std.specs.Prelude.{◌≡◌, ◌≢◌, ◌≤◌, ◌^◌, length, IfOk};
 ghost use Rattle.document_definitions.specs.Documents.{table_document};
-ghost use Rattle.outcome_definitions.specs.Outcomes.{IsReadOutcome, IsOwnStatus};
+ghost use Rattle.outcome_definitions.specs.Outcomes.{IsReadOutcome};
 ghost use Rattle.outcome_definitions.specs.Enumerations.{IsSurfacesAnswer};
 
-use crate::enumerations::{large_outcome, list_outcome};
+use crate::enumerations::list_outcome;
 use command_answers::{Outcome, fault_outcome, read_table_document};
 use cone_core::MAX_ENTRY;
 use double_description::{EnumFault, Order};
@@ -13,6 +13,7 @@ use matching_equations::Coords;
 use no_memory::NoMemory;
 use skeleton::Skeleton;
 use std::alloc::Global;
+use surface_answers::large_outcome;
 
 // The answer to a table, by its skeleton.
 fn listed(
@@ -25,8 +26,7 @@ fn listed(
     requires named { order ≢ Order.Free }
     requires some_limit { 1 ≤ limit }
     requires most_limit { limit ≤ MAX_ENTRY }
-    ensures answer { IfOk result (IsSurfacesAnswer coords order limit skeleton.now.rows) }
-    ensures own_status { IfOk result (λ o. IsOwnStatus o.status) }
+    ensures { IfOk result (IsSurfacesAnswer coords order limit skeleton.now.rows) }
 {
     match surface_list::surfaces(alloc, skeleton, coords, order, limit) {
         Ok(surfaces) => list_outcome(alloc, b"surfaces", &surfaces),
@@ -46,8 +46,7 @@ fn answer(
     requires named { order ≢ Order.Free }
     requires some_limit { 1 ≤ limit }
     requires most_limit { limit ≤ MAX_ENTRY }
-    ensures answer { IfOk result (IsSurfacesAnswer coords order limit table.now) }
-    ensures own_status { IfOk result (λ o. IsOwnStatus o.status) }
+    ensures { IfOk result (IsSurfacesAnswer coords order limit table.now) }
 {
     let skeleton = Skeleton::of(alloc, table)?;
     listed(alloc, &skeleton, coords, order, limit)
@@ -65,8 +64,7 @@ pub fn surfaces(
     requires named { order ≢ Order.Free }
     requires some_limit { 1 ≤ limit }
     requires most_limit { limit ≤ MAX_ENTRY }
-    ensures answer { IfOk result (IsReadOutcome (table_document bytes.now) (IsSurfacesAnswer coords order limit)) }
-    ensures own_status { IfOk result (λ o. IsOwnStatus o.status) }
+    ensures { IfOk result (IsReadOutcome (table_document bytes.now) (IsSurfacesAnswer coords order limit)) }
 {
     match read_table_document(alloc, bytes) {
         Ok(table) => answer(alloc, &table, coords, order, limit),

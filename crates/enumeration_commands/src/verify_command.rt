@@ -4,7 +4,7 @@ ghost use Rattle.surface_definitions.specs.Coordinates as coordinates;
 ghost use Rattle.document_definitions.specs.Documents.{vectors_document, verdicts_text};
 ghost use Rattle.command_answers.specs.Reads.{all_entries};
 ghost use Rattle.surface_definitions.specs.Verdict.{verdict_text};
-ghost use Rattle.outcome_definitions.specs.Outcomes.{IsReadOutcome, IsOwnStatus};
+ghost use Rattle.outcome_definitions.specs.Outcomes.{IsReadOutcome};
 ghost use Rattle.outcome_definitions.specs.Answers.{IsVerdictsAnswer, verdict_on};
 
 use command_answers::{Outcome, append_checked, fault_outcome, read_table_and_vectors};
@@ -58,8 +58,7 @@ fn answer(
     table: &Table,
     vectors: &[Vec<u128>],
 ) -> Result<Outcome, NoMemory>
-    ensures answer { IfOk result (IsVerdictsAnswer coords (table.now, all_entries vectors.now)) }
-    ensures own_status { IfOk result (λ o. IsOwnStatus o.status) }
+    ensures { IfOk result (IsVerdictsAnswer coords (table.now, all_entries vectors.now)) }
 {
     let skeleton = Skeleton::of(alloc, table)?;
     let system = equations(alloc, &skeleton, coords)?;
@@ -70,8 +69,7 @@ fn answer(
 /// The outcome of `verify` on an input that isn't too long.
 pub fn verify(alloc: Global, coords: Coords, bytes: &[u8]) -> Result<Outcome, NoMemory>
     requires { length bytes.now ≤ 2 ^ 31 }
-    ensures answer { IfOk result (IsReadOutcome (vectors_document bytes.now) (IsVerdictsAnswer coords)) }
-    ensures own_status { IfOk result (λ o. IsOwnStatus o.status) }
+    ensures { IfOk result (IsReadOutcome (vectors_document bytes.now) (IsVerdictsAnswer coords)) }
 {
     match read_table_and_vectors(alloc, bytes) {
         Ok(document) => answer(alloc, coords, &document.table, &document.vectors),

@@ -1,7 +1,7 @@
 // The command `play`: a line for each step of a script, and the table then.
 ghost use Rattle.std.specs.Prelude.{◌≡◌, ◌≤◌, ◌^◌, length, IfOk};
 ghost use Rattle.document_definitions.specs.Documents.{steps_document};
-ghost use Rattle.outcome_definitions.specs.Outcomes.{IsReadOutcome, IsOwnStatus};
+ghost use Rattle.outcome_definitions.specs.Outcomes.{IsReadOutcome};
 ghost use Rattle.outcome_definitions.specs.Scripts.{IsScriptAnswer};
 ghost use Rattle.move_commands.specs.Scripts.{all_steps};
 
@@ -16,8 +16,7 @@ use std::alloc::Global;
 
 // The answer to a table and steps.
 fn answer(alloc: Global, table: Table, steps: &[Step]) -> Result<Outcome, NoMemory>
-    ensures answer { IfOk result (IsScriptAnswer (table, all_steps steps.now)) }
-    ensures own_status { IfOk result (λ o. IsOwnStatus o.status) }
+    ensures { IfOk result (IsScriptAnswer (table, all_steps steps.now)) }
 {
     let mut session = Session::new(alloc, table);
     let mut text = take_steps(alloc, &mut session, steps)?;
@@ -28,8 +27,7 @@ fn answer(alloc: Global, table: Table, steps: &[Step]) -> Result<Outcome, NoMemo
 /// The outcome of `play` on an input that isn't too long.
 pub fn play(alloc: Global, bytes: &[u8]) -> Result<Outcome, NoMemory>
     requires { length bytes.now ≤ 2 ^ 31 }
-    ensures answer { IfOk result (IsReadOutcome (steps_document bytes.now) IsScriptAnswer) }
-    ensures own_status { IfOk result (λ o. IsOwnStatus o.status) }
+    ensures { IfOk result (IsReadOutcome (steps_document bytes.now) IsScriptAnswer) }
 {
     match read_table_and_steps(alloc, bytes) {
         Ok(document) => answer(alloc, document.table, &document.steps),

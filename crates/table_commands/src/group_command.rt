@@ -3,7 +3,7 @@ ghost use Rattle.std.specs.Prelude.{◌≡◌, ◌≤◌, ◌++◌, ◌^◌, Lis
 ghost use Rattle.table_definitions.specs.Table.{Row};
 ghost use Rattle.labelling_definitions.specs.Census.{signature_in};
 ghost use Rattle.document_definitions.specs.Documents.{tables_document};
-ghost use Rattle.outcome_definitions.specs.Outcomes.{IsReadOutcome, IsOwnStatus};
+ghost use Rattle.outcome_definitions.specs.Outcomes.{IsReadOutcome};
 ghost use Rattle.outcome_definitions.specs.Information.{classes_text};
 ghost use Rattle.outcome_definitions.specs.Canonical as canonical;
 ghost use Rattle.outcome_definitions.specs.Canonical.{done, IsGroupAnswer};
@@ -78,8 +78,7 @@ fn census_text(alloc: Global, classes: &[u32], census: &Census) -> Result<Vec<u8
 
 // The outcome of a census.
 fn told(alloc: Global, classes: &[u32], census: &Census) -> Result<Outcome, NoMemory>
-    ensures told { IfOk result (λ o. o ≡ done (canonical.census_text classes.now census.now)) }
-    ensures own_status { IfOk result (λ o. IsOwnStatus o.status) }
+    ensures { IfOk result (λ o. o ≡ done (canonical.census_text classes.now census.now)) }
 {
     let text = census_text(alloc, classes, census)?;
     Ok(Outcome::built(Status::Done, text))
@@ -87,8 +86,7 @@ fn told(alloc: Global, classes: &[u32], census: &Census) -> Result<Outcome, NoMe
 
 // The answer to tables of which this is known.
 fn answer(alloc: Global, groups: &Groups) -> Result<Outcome, NoMemory>
-    ensures answer { IfOk result (λ o. (tables : List (List Row)) → AreGrouped tables groups.now → IsGroupAnswer tables o) }
-    ensures own_status { IfOk result (λ o. IsOwnStatus o.status) }
+    ensures { IfOk result (λ o. (tables : List (List Row)) → AreGrouped tables groups.now → IsGroupAnswer tables o) }
 {
     match groups.found {
         Some(NotConnected { table, tet }) => not_connected_outcome(alloc, table, tet),
@@ -99,8 +97,7 @@ fn answer(alloc: Global, groups: &Groups) -> Result<Outcome, NoMemory>
 /// The outcome of `group` on an input that isn't too long.
 pub fn group(alloc: Global, bytes: &[u8]) -> Result<Outcome, NoMemory>
     requires { length bytes.now ≤ 2 ^ 31 }
-    ensures answer { IfOk result (IsReadOutcome (tables_document bytes.now) IsGroupAnswer) }
-    ensures own_status { IfOk result (λ o. IsOwnStatus o.status) }
+    ensures { IfOk result (IsReadOutcome (tables_document bytes.now) IsGroupAnswer) }
 {
     match read_groups_document(alloc, bytes) {
         Ok(groups) => answer(alloc, &groups),

@@ -4,7 +4,7 @@ ghost use Rattle.table_definitions.specs.Places.{IsConnected};
 ghost use Rattle.skeleton_definitions.specs.Orientation.{IsOrientable};
 ghost use Rattle.skeleton_definitions.specs.Skeleton.{IsSkeleton, AreLinks};
 ghost use Rattle.document_definitions.specs.Documents.{table_document};
-ghost use Rattle.outcome_definitions.specs.Outcomes.{IsReadOutcome, IsOwnStatus};
+ghost use Rattle.outcome_definitions.specs.Outcomes.{IsReadOutcome};
 ghost use Rattle.outcome_definitions.specs.Information.{IsInformationAnswer, AreValid};
 
 use crate::information::information_text;
@@ -59,8 +59,7 @@ fn informed(
     requires valid_each { length valid.now ≡ skeleton.now.edges.count }
     requires valid { AreValid skeleton.now skeleton.now.edges.count valid.now }
     requires connected { IsTrue connected ↔ IsConnected skeleton.now.rows }
-    ensures answer { IfOk result (IsInformationAnswer skeleton.now.rows) }
-    ensures own_status { IfOk result (λ o. IsOwnStatus o.status) }
+    ensures { IfOk result (IsInformationAnswer skeleton.now.rows) }
 {
     let orientable = is_orientable(skeleton);
     let text = information_text(alloc, skeleton, links, valid, connected, orientable)?;
@@ -69,8 +68,7 @@ fn informed(
 
 // The answer to a table.
 fn answer(alloc: Global, table: &Table) -> Result<Outcome, NoMemory>
-    ensures answer { IfOk result (IsInformationAnswer table.now) }
-    ensures own_status { IfOk result (λ o. IsOwnStatus o.status) }
+    ensures { IfOk result (IsInformationAnswer table.now) }
 {
     let skeleton = Skeleton::of(alloc, table)?;
     let connected = is_connected(alloc, skeleton.table())?;
@@ -82,8 +80,7 @@ fn answer(alloc: Global, table: &Table) -> Result<Outcome, NoMemory>
 /// The outcome of `info` on an input that isn't too long.
 pub fn info(alloc: Global, bytes: &[u8]) -> Result<Outcome, NoMemory>
     requires { length bytes.now ≤ 2 ^ 31 }
-    ensures answer { IfOk result (IsReadOutcome (table_document bytes.now) IsInformationAnswer) }
-    ensures own_status { IfOk result (λ o. IsOwnStatus o.status) }
+    ensures { IfOk result (IsReadOutcome (table_document bytes.now) IsInformationAnswer) }
 {
     match read_table_document(alloc, bytes) {
         Ok(table) => answer(alloc, &table),

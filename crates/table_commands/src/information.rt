@@ -5,17 +5,12 @@ ghost use Rattle.outcome_definitions.specs.Lines.{line};
 ghost use Rattle.outcome_definitions.specs.Information as information;
 ghost use Rattle.outcome_definitions.specs.Information.{classes_text};
 
+use command_answers::{append_counted, append_told, yes_or_no};
 use no_memory::NoMemory;
 use skeleton::Skeleton;
 use std::alloc::Global;
 use text_writing::{append, append_decimal, append_signed};
 use vertex_links::{Link, LinkKind};
-
-fn yes_or_no(value: bool) -> &'static [u8]
-    ensures { result.now ≡ information.yes_or_no value }
-{
-    if value { b"yes" } else { b"no" }
-}
 
 fn place_word(in_boundary: bool) -> &'static [u8]
     ensures { result.now ≡ information.place_word in_boundary }
@@ -33,31 +28,6 @@ fn kind_word(kind: LinkKind) -> &'static [u8]
         LinkKind::Klein => b"klein",
         LinkKind::Other => b"other",
     }
-}
-
-// A name and a count, as a line.
-fn append_counted(
-    alloc: Global,
-    text: &mut Vec<u8>,
-    name: &[u8],
-    count: u32,
-) -> Result<(), NoMemory>
-    ensures { OnOk result (text.new.items ≡ text.old.items ++ information.counted name.now count) }
-{
-    append(text, name)?;
-    append_decimal(alloc, text, u128::from(count))?;
-    append(text, b"\n")?;
-    Ok(())
-}
-
-// A name and a truth value, as a line.
-fn append_told(text: &mut Vec<u8>, name: &[u8], value: bool) -> Result<(), NoMemory>
-    ensures { OnOk result (text.new.items ≡ text.old.items ++ information.told name.now value) }
-{
-    append(text, name)?;
-    append(text, yes_or_no(value))?;
-    append(text, b"\n")?;
-    Ok(())
 }
 
 // The line of a vertex class.

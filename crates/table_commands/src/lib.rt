@@ -10,5 +10,5 @@ mod sig_command;
 
 pub use group_command::group;
 pub use info_command::info;
-pub use same_command::same;
+pub use same_command::{relabelling_outcome, same};
 pub use sig_command::sig;

@@ -3,7 +3,7 @@ ghost use Rattle.std.specs.Prelude.{◌≡◌, ◌≤◌, ◌++◌, ◌^◌, len
 ghost use Rattle.table_definitions.specs.Relabelling.{stand_in};
 ghost use Rattle.labelling_definitions.specs.Labellings.{IsLeastRelabelling};
 ghost use Rattle.document_definitions.specs.Documents.{two_tables_document};
-ghost use Rattle.outcome_definitions.specs.Outcomes.{IsReadOutcome, IsOwnStatus};
+ghost use Rattle.outcome_definitions.specs.Outcomes.{IsReadOutcome};
 ghost use Rattle.outcome_definitions.specs.Information.{classes_text};
 ghost use Rattle.outcome_definitions.specs.Canonical as canonical;
 ghost use Rattle.outcome_definitions.specs.Canonical.{done, IsCompared, IsSameAnswer};
@@ -63,11 +63,10 @@ fn relabelling_text(alloc: Global, tets: u32, by: &Relabelling) -> Result<Vec<u8
     Ok(text)
 }
 
-// The outcome of a relabelling.
-fn told(alloc: Global, tets: u32, by: &Relabelling) -> Result<Outcome, NoMemory>
+/// The outcome where a relabelling of so many tetrahedra is told.
+pub fn relabelling_outcome(alloc: Global, tets: u32, by: &Relabelling) -> Result<Outcome, NoMemory>
     requires { tets ≡ length by.now.images }
-    ensures told { IfOk result (λ o. o ≡ done (canonical.relabelling_text by.now)) }
-    ensures own_status { IfOk result (λ o. IsOwnStatus o.status) }
+    ensures { IfOk result (λ o. o ≡ done (canonical.relabelling_text by.now)) }
 {
     let text = relabelling_text(alloc, tets, by)?;
     Ok(Outcome::built(Status::Done, text))
@@ -75,11 +74,10 @@ fn told(alloc: Global, tets: u32, by: &Relabelling) -> Result<Outcome, NoMemory>
 
 // The answer to two tables.
 fn answer(alloc: Global, first: &Table, second: &Table) -> Result<Outcome, NoMemory>
-    ensures answer { IfOk result (IsSameAnswer (first.now, second.now)) }
-    ensures own_status { IfOk result (λ o. IsOwnStatus o.status) }
+    ensures { IfOk result (IsSameAnswer (first.now, second.now)) }
 {
     match least_relabelling(alloc, first, second) {
-        Ok(Some(by)) => told(alloc, first.len(), &by),
+        Ok(Some(by)) => relabelling_outcome(alloc, first.len(), &by),
         Ok(None) => Ok(Outcome::different()),
         Err(SameFault::First { tet }) => not_connected_outcome(alloc, 0, tet),
         Err(SameFault::Second { tet }) => not_connected_outcome(alloc, 1, tet),
@@ -90,8 +88,7 @@ fn answer(alloc: Global, first: &Table, second: &Table) -> Result<Outcome, NoMem
 /// The outcome of `same` on an input that isn't too long.
 pub fn same(alloc: Global, bytes: &[u8]) -> Result<Outcome, NoMemory>
     requires { length bytes.now ≤ 2 ^ 31 }
-    ensures answer { IfOk result (IsReadOutcome (two_tables_document bytes.now) IsSameAnswer) }
-    ensures own_status { IfOk result (λ o. IsOwnStatus o.status) }
+    ensures { IfOk result (IsReadOutcome (two_tables_document bytes.now) IsSameAnswer) }
 {
     match read_two_tables(alloc, bytes) {
         Ok(tables) => answer(alloc, &tables.first, &tables.second),

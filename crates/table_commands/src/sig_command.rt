@@ -2,7 +2,7 @@
 ghost use Rattle.std.specs.Prelude.{◌≡◌, ◌≤◌, ◌^◌, length, IfOk};
 ghost use Rattle.document_definitions.specs.Documents.{table_document};
 ghost use Rattle.outcome_definitions.specs.Lines.{line};
-ghost use Rattle.outcome_definitions.specs.Outcomes.{IsReadOutcome, IsOwnStatus};
+ghost use Rattle.outcome_definitions.specs.Outcomes.{IsReadOutcome};
 ghost use Rattle.outcome_definitions.specs.Canonical.{done, IsSignatureAnswer};
 
 use canonical_labelling::{WalkFault, signature};
@@ -15,8 +15,7 @@ use text_writing::append;
 
 // A signature as a line.
 fn told(mut text: Vec<u8>) -> Result<Outcome, NoMemory>
-    ensures told { IfOk result (λ o. o ≡ done (line text.items)) }
-    ensures own_status { IfOk result (λ o. IsOwnStatus o.status) }
+    ensures { IfOk result (λ o. o ≡ done (line text.items)) }
 {
     append(&mut text, b"\n")?;
     Ok(Outcome::built(Status::Done, text))
@@ -24,8 +23,7 @@ fn told(mut text: Vec<u8>) -> Result<Outcome, NoMemory>
 
 // The answer to a table.
 fn answer(alloc: Global, table: &Table) -> Result<Outcome, NoMemory>
-    ensures answer { IfOk result (IsSignatureAnswer table.now) }
-    ensures own_status { IfOk result (λ o. IsOwnStatus o.status) }
+    ensures { IfOk result (IsSignatureAnswer table.now) }
 {
     match signature(alloc, table) {
         Ok(text) => told(text),
@@ -37,8 +35,7 @@ fn answer(alloc: Global, table: &Table) -> Result<Outcome, NoMemory>
 /// The outcome of `sig` on an input that isn't too long.
 pub fn sig(alloc: Global, bytes: &[u8]) -> Result<Outcome, NoMemory>
     requires { length bytes.now ≤ 2 ^ 31 }
-    ensures answer { IfOk result (IsReadOutcome (table_document bytes.now) IsSignatureAnswer) }
-    ensures own_status { IfOk result (λ o. IsOwnStatus o.status) }
+    ensures { IfOk result (IsReadOutcome (table_document bytes.now) IsSignatureAnswer) }
 {
     match read_table_document(alloc, bytes) {
         Ok(table) => answer(alloc, &table),

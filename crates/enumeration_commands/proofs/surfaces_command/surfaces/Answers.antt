@@ -4,8 +4,8 @@ use Rattle.enumeration_commands.proofs.Answering.{document_listed}
 use Rattle.command_answers.proofs.RefusalLines.{input_refused}
 use Rattle.enumeration_commands.proofs.surfaces_command.surfaces.Goals as goal
 
-pub returns-in-Ok-clause-answer : goal.returns-in-Ok-clause-answer
-returns-in-Ok-clause-answer c = if_ok c.answer.result _ _ (λ o h. document_listed _ _ _ _ _ o c.in-Ok.ensures h) c.answer.ensures.answer
+pub returns-in-Ok : goal.returns-in-Ok
+returns-in-Ok c = if_ok c.answer.result _ _ (λ o h. document_listed _ _ _ _ _ o c.in-Ok.ensures h) c.answer.ensures
 
-pub returns-in-Err-clause-answer : goal.returns-in-Err-clause-answer
-returns-in-Err-clause-answer c = if_ok c.fault_outcome.result _ _ (λ o h. input_refused _ c.in-Err.fault _ o c.in-Err.ensures h) c.fault_outcome.ensures.fault
+pub returns-in-Err : goal.returns-in-Err
+returns-in-Err c = if_ok c.fault_outcome.result _ _ (λ o h. input_refused _ c.in-Err.fault _ o c.in-Err.ensures h) c.fault_outcome.ensures

@@ -4,8 +4,8 @@ use Rattle.std.proofs.Common.{refl}
 use Rattle.table_commands.proofs.ClassLines.{informed}
 use Rattle.table_commands.proofs.info_command.informed.Goals as goal
 
-pub returns-clause-answer : goal.returns-clause-answer
-returns-clause-answer c =
+pub returns : goal.returns
+returns c =
     let i : Information = record { skeleton = c.args.skeleton.now; links = c.args.links.now; valid = c.args.valid.now; connected = c.args.connected; orientable = c.is_orientable-orientable.result } in
     informed c.args.skeleton.now.rows i _ c.in_ok-text.text.items
     (record {

@@ -1,0 +1,45 @@
+// The step of an enumeration at which a number passes the limit.
+ghost use Rattle.std.specs.Prelude.{◌≡◌, ◌++◌, ◌<◌, length, IfOk, OnOk};
+ghost use Rattle.outcome_definitions.specs.Enumerations.{large_outcome, kind_text};
+
+use command_answers::Outcome;
+use double_description::LargeKind;
+use no_memory::NoMemory;
+use outcome_definitions::Status;
+use ray_answers::write_entries;
+use std::alloc::Global;
+use text_writing::{append, append_decimal};
+
+// A ray or a pair of rays.
+fn append_kind(alloc: Global, text: &mut Vec<u8>, kind: &LargeKind) -> Result<(), NoMemory>
+    ensures { OnOk result (text.new.items ≡ text.old.items ++ kind_text kind.now) }
+{
+    match kind {
+        LargeKind::Value(ray) => {
+            append(text, b" value")?;
+            write_entries(alloc, ray, text)
+        }
+        LargeKind::Pair(positive, negative) => {
+            append(text, b" pair")?;
+            write_entries(alloc, positive, text)?;
+            append(text, b" and")?;
+            write_entries(alloc, negative, text)
+        }
+    }
+}
+
+/// The step, counted from 0, its row's number, and the ray or the pair at which a number passes the limit.
+pub fn large_outcome(alloc: Global, order: &[u32], kind: &LargeKind) -> Result<Outcome, NoMemory>
+    requires { 0 < length order.now }
+    ensures { IfOk result (λ o. o ≡ large_outcome order.now kind.now) }
+{
+    let step = order.len() - 1;
+    let mut text = Vec::new(alloc);
+    append(&mut text, b"refused: large step ")?;
+    append_decimal(alloc, &mut text, step as u128)?;
+    append(&mut text, b" row ")?;
+    append_decimal(alloc, &mut text, u128::from(order[step]))?;
+    append_kind(alloc, &mut text, kind)?;
+    append(&mut text, b"\n")?;
+    Ok(Outcome::built(Status::Large, text))
+}
