@@ -1,3 +1,4 @@
 pub mod Crushed
 pub mod Faults
 pub mod Telling
+pub mod Describing

@@ -3,11 +3,10 @@ ghost use Rattle.std.specs.Prelude.{◌≡◌, ◌≤◌, ◌^◌, length, IfOk}
 ghost use Rattle.surface_definitions.specs.Coordinates.{columns};
 ghost use Rattle.surface_definitions.specs.declared.Coords.TheVariants.{Standard};
 ghost use Rattle.document_definitions.specs.Documents.{vector_document};
-ghost use Rattle.outcome_definitions.specs.Outcomes.{IsReadOutcome, IsOwnStatus};
+ghost use Rattle.outcome_definitions.specs.Outcomes.{IsReadOutcome};
 ghost use Rattle.outcome_definitions.specs.Vectors.{IsCrushAnswer};
 ghost use Rattle.vector_commands.specs.Crushed.{TellsCrushed};
 
-use crate::checks::check;
 use crate::refusals::refusal_outcome;
 use command_answers::{Outcome, fault_outcome, read_table_and_vector};
 use gluing_table::{Table, write_table};
@@ -16,13 +15,13 @@ use no_memory::NoMemory;
 use outcome_definitions::Status;
 use skeleton::Skeleton;
 use std::alloc::Global;
+use surface_answers::check;
 use vector_definitions::Refusal;
 
 // The crushed table as the answer.
 fn crushed(alloc: Global, table: &Table, x: &[u128]) -> Result<Outcome, NoMemory>
     requires { length x.now ≡ columns Standard (length table.now) }
-    ensures told { IfOk result (TellsCrushed table.now x.now) }
-    ensures own_status { IfOk result (λ o. IsOwnStatus o.status) }
+    ensures { IfOk result (TellsCrushed table.now x.now) }
 {
     let new = crushing::crush(alloc, table, x)?;
     let mut text = Vec::new(alloc);
@@ -32,8 +31,7 @@ fn crushed(alloc: Global, table: &Table, x: &[u128]) -> Result<Outcome, NoMemory
 
 // The answer to a table and a vector.
 fn answer(alloc: Global, table: &Table, x: &[u128]) -> Result<Outcome, NoMemory>
-    ensures answer { IfOk result (IsCrushAnswer (table.now, x.now)) }
-    ensures own_status { IfOk result (λ o. IsOwnStatus o.status) }
+    ensures { IfOk result (IsCrushAnswer (table.now, x.now)) }
 {
     let skeleton = Skeleton::of(alloc, table)?;
     let system = equations(alloc, &skeleton, Coords::Standard)?;
@@ -46,8 +44,7 @@ fn answer(alloc: Global, table: &Table, x: &[u128]) -> Result<Outcome, NoMemory>
 /// The outcome of `crush` on an input that isn't too long.
 pub fn crush(alloc: Global, bytes: &[u8]) -> Result<Outcome, NoMemory>
     requires { length bytes.now ≤ 2 ^ 31 }
-    ensures answer { IfOk result (IsReadOutcome (vector_document bytes.now) IsCrushAnswer) }
-    ensures own_status { IfOk result (λ o. IsOwnStatus o.status) }
+    ensures { IfOk result (IsReadOutcome (vector_document bytes.now) IsCrushAnswer) }
 {
     match read_table_and_vector(alloc, bytes) {
         Ok(document) => answer(alloc, &document.table, &document.vector),

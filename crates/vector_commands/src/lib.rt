@@ -1,10 +1,15 @@
-//! The commands `crush` and `lift`: what one vector of a table gives.
+//! The commands `describe`, `crush` and `lift`: what one vector of a table gives.
 #![tactic(auto)]
 
-mod checks;
 mod crush_command;
+mod describe_command;
+mod descriptions;
 mod lift_command;
 mod refusals;
 
 pub use crush_command::crush;
+pub use describe_command::describe;
 pub use lift_command::lift;
+
+#[cfg(test)]
+mod tests;

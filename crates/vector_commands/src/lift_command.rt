@@ -6,12 +6,11 @@ ghost use Rattle.surface_definitions.specs.declared.Coords.TheVariants as coordi
 ghost use Rattle.surface_definitions.specs.Verdict.{solution};
 ghost use Rattle.document_definitions.specs.Documents.{vectors_document};
 ghost use Rattle.command_answers.specs.Reads.{all_entries};
-ghost use Rattle.outcome_definitions.specs.Outcomes.{IsReadOutcome, IsOwnStatus};
+ghost use Rattle.outcome_definitions.specs.Outcomes.{IsReadOutcome};
 ghost use Rattle.outcome_definitions.specs.Vectors.{IsLiftsAnswer};
 ghost use Rattle.vector_definitions.specs.Answers.{verdict_in, IsLifted};
 ghost use Rattle.vector_commands.specs.Telling.{TellsOne, TellsEach, TellsLift};
 
-use crate::checks::check;
 use crate::refusals::{EachFault, ToldFault, refusal_outcome};
 use command_answers::{Outcome, fault_outcome, read_table_and_vectors};
 use cone_core::System;
@@ -23,6 +22,7 @@ use quad_lift::lift as lift_of;
 use ray_answers::write_vector;
 use skeleton::Skeleton;
 use std::alloc::Global;
+use surface_answers::check;
 use vector_definitions::{LiftFault, Refusal};
 
 // The lift of a vector that is an admissible solution.
@@ -98,8 +98,7 @@ fn lifts(
 
 // The answer to a table and quad vectors.
 fn answer(alloc: Global, table: &Table, vectors: &[Vec<u128>]) -> Result<Outcome, NoMemory>
-    ensures answer { IfOk result (IsLiftsAnswer (table.now, all_entries vectors.now)) }
-    ensures own_status { IfOk result (λ o. IsOwnStatus o.status) }
+    ensures { IfOk result (IsLiftsAnswer (table.now, all_entries vectors.now)) }
 {
     let skeleton = Skeleton::of(alloc, table)?;
     let system = equations(alloc, &skeleton, Coords::Quad)?;
@@ -113,8 +112,7 @@ fn answer(alloc: Global, table: &Table, vectors: &[Vec<u128>]) -> Result<Outcome
 /// The outcome of `lift` on an input that isn't too long.
 pub fn lift(alloc: Global, bytes: &[u8]) -> Result<Outcome, NoMemory>
     requires { length bytes.now ≤ 2 ^ 31 }
-    ensures answer { IfOk result (IsReadOutcome (vectors_document bytes.now) IsLiftsAnswer) }
-    ensures own_status { IfOk result (λ o. IsOwnStatus o.status) }
+    ensures { IfOk result (IsReadOutcome (vectors_document bytes.now) IsLiftsAnswer) }
 {
     match read_table_and_vectors(alloc, bytes) {
         Ok(document) => answer(alloc, &document.table, &document.vectors),

@@ -1,7 +1,6 @@
 // The line for a vector that is refused.
 ghost use Rattle.std.specs.Prelude.{◌≡◌, ◌++◌, codes, decimal, IfOk, OnOk};
 ghost use Rattle.outcome_definitions.specs.Lines.{line};
-ghost use Rattle.outcome_definitions.specs.Outcomes.{IsOwnStatus};
 ghost use Rattle.outcome_definitions.specs.Vectors as vectors;
 ghost use Rattle.vector_commands.specs.Faults.{fault_at};
 ghost use Rattle.vector_definitions.specs.Texts.{sum_word, fault_text, refusal_line};
@@ -130,8 +129,7 @@ fn refused_line(alloc: Global, vector: usize, refusal: Refusal) -> Result<Vec<u8
 
 /// The outcome where the vector of this number, which counts from 0, is refused.
 pub fn refusal_outcome(alloc: Global, vector: usize, refusal: Refusal) -> Result<Outcome, NoMemory>
-    ensures told { IfOk result (λ o. o ≡ vectors.refusal_outcome vector refusal) }
-    ensures own_status { IfOk result (λ o. IsOwnStatus o.status) }
+    ensures { IfOk result (λ o. o ≡ vectors.refusal_outcome vector refusal) }
 {
     let text = refused_line(alloc, vector, refusal)?;
     Ok(Outcome::built(status_of(refusal), text))

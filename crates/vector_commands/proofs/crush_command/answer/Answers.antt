@@ -4,12 +4,12 @@ use Rattle.command_answers.proofs.Results.{if_ok}
 use Rattle.vector_commands.proofs.CrushAnswers.{crushed_told, unfit_told}
 use Rattle.vector_commands.proofs.crush_command.answer.Goals as goal
 
-pub returns-in-Ok-clause-answer : goal.returns-in-Ok-clause-answer
-returns-in-Ok-clause-answer c = if_ok c.crushed.result _ _
+pub returns-in-Ok : goal.returns-in-Ok
+returns-in-Ok c = if_ok c.crushed.result _ _
     (λ o h. crushed_told c.args.table.now c.in_ok-skeleton.skeleton.rows c.in_ok-system.system.rows c.args.x.now o c.in_ok-skeleton.ensures.rows c.in_ok-system.ensures.equations (sym c.in-Ok.ensures.verdict) h)
-    c.crushed.ensures.told
+    c.crushed.ensures
 
-pub returns-clause-answer : goal.returns-clause-answer
-returns-clause-answer c = if_ok c.refusal_outcome.result _ _
+pub returns : goal.returns
+returns c = if_ok c.refusal_outcome.result _ _
     (λ o h. unfit_told c.args.table.now c.in_ok-skeleton.skeleton.rows c.in_ok-system.system.rows c.args.x.now o c.in_ok-skeleton.ensures.rows c.in_ok-system.ensures.equations c.in-Err.fault (sym c.in-Err.ensures.verdict) h)
-    c.refusal_outcome.ensures.told
+    c.refusal_outcome.ensures

@@ -9,13 +9,13 @@ use Rattle.command_answers.specs.Reads.{all_entries}
 use Rattle.vector_commands.proofs.LiftAnswers.{lifts_told, lift_refused}
 use Rattle.vector_commands.proofs.lift_command.answer.Goals as goal
 
-pub returns-in-Ok-clause-answer : goal.returns-in-Ok-clause-answer
-returns-in-Ok-clause-answer c =
+pub returns-in-Ok : goal.returns-in-Ok
+returns-in-Ok c =
     lifts_told c.in_ok-skeleton.skeleton c.args.table.now c.in_ok-system.system.rows (all_entries c.args.vectors.now) c.built.result
     c.in_ok-skeleton.ensures.rows c.in_ok-skeleton.ensures.skeleton c.in_ok-system.ensures.equations c.in-Ok.text.items c.in-Ok.ensures c.built.ensures
 
-pub returns-in-Err-Refused-clause-answer : goal.returns-in-Err-Refused-clause-answer
-returns-in-Err-Refused-clause-answer c = if_ok c.refusal_outcome.result _ _
+pub returns-in-Err-Refused : goal.returns-in-Err-Refused
+returns-in-Err-Refused c = if_ok c.refusal_outcome.result _ _
     (λ o h. lift_refused c.in_ok-skeleton.skeleton c.args.table.now c.in_ok-system.system.rows (all_entries c.args.vectors.now) o
     c.in_ok-skeleton.ensures.rows c.in_ok-skeleton.ensures.skeleton c.in_ok-system.ensures.equations c.in-Err-Refused.vector c.in-Err-Refused.refusal (subst (λ (e : EachFault). TellsEach (IsLifted c.in_ok-skeleton.skeleton c.in_ok-system.system.rows) vector_text (all_entries c.args.vectors.now) (Err e)) c.in-Err-Refused.field-0-is c.in-Err-Refused.ensures) h)
-    c.refusal_outcome.ensures.told
+    c.refusal_outcome.ensures

@@ -3,5 +3,5 @@ use Rattle.command_answers.proofs.Results.{if_ok}
 use Rattle.command_answers.proofs.RefusalLines.{input_refused}
 use Rattle.vector_commands.proofs.lift_command.lift.Goals as goal
 
-pub returns-in-Err-clause-answer : goal.returns-in-Err-clause-answer
-returns-in-Err-clause-answer c = if_ok c.fault_outcome.result _ _ (λ o h. input_refused _ c.in-Err.fault _ o c.in-Err.ensures h) c.fault_outcome.ensures.fault
+pub returns-in-Err : goal.returns-in-Err
+returns-in-Err c = if_ok c.fault_outcome.result _ _ (λ o h. input_refused _ c.in-Err.fault _ o c.in-Err.ensures h) c.fault_outcome.ensures

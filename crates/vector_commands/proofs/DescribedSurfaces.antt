@@ -1,0 +1,121 @@
+-- A vector that is fit is a surface, and no sum of its components is large where none of its own is.
+use Rattle.std.proofs.Common.{◌≡◌, ◌≢◌, ℕ, zero, suc, ◌+◌, ◌<◌, ◌≤◌, Bool, true, false, List, [], ◌∷◌, length, Some, None, Option, refl, ap, ◌∙◌, subst, arith}
+use Rattle.std.specs.Prelude.{sum, sum_by, nat_lt, if◌then◌else◌, slice_index}
+use Rattle.std.specs.List.{AllZip, slice_index_or}
+use Rattle.std.proofs.lemmas.Bool.{ltb-false}
+use Rattle.std.proofs.lemmas.List.Sums.{sum_by_more_le}
+use Rattle.std.proofs.lemmas.List.FromFn.{length-range_with_len, get_or-range_with_len}
+use Rattle.text_definitions.specs.Written.{limit}
+use Rattle.cone_definitions.specs.Rows.{Row as EquationRow, IsSolution}
+use Rattle.table_definitions.specs.Lists.{below}
+use Rattle.table_definitions.specs.Table.{Row, IsTable}
+use Rattle.skeleton_definitions.specs.Skeleton.{Skeleton}
+use Rattle.surface_definitions.specs.Coordinates.{columns, clash_list}
+use Rattle.surface_definitions.specs.declared.Coords.{Coords}
+use Rattle.surface_definitions.specs.declared.Coords.TheVariants.{Standard, Quad, Octagon}
+use Rattle.surface_definitions.specs.Verdict.{solution}
+use Rattle.surface_definitions.specs.Laws.{IsAccepted}
+use Rattle.surface_definitions.specs.QuadEquations.{AreEquations}
+use Rattle.surface_definitions.specs.Pieces.{component_vector}
+use Rattle.surface_definitions.specs.Characteristic.{points, arcs}
+use Rattle.surface_definitions.proofs.VerdictLaws.{accepted_by}
+use Rattle.vector_definitions.specs.Answers.{verdict_in}
+use Rattle.vector_definitions.specs.Components.{Component, IsComponent, AreListedComponents}
+use Rattle.vector_definitions.specs.Properties.{first_large, large_sum}
+use Rattle.vector_definitions.specs.declared.Sum.{Sum}
+use Rattle.vector_definitions.specs.declared.Sum.TheVariants.{Points, Arcs, PointsAndPieces}
+use Rattle.vector_laws.specs.PieceLaws.{IsSurface}
+use Rattle.vector_laws.specs.CharacteristicLaws.{ComponentSumsAre}
+use Rattle.vector_laws.proofs.ComponentSums.{component_sums}
+use Rattle.vector_laws.proofs.ComponentCounts.{component_width}
+use Rattle.surface_properties.proofs.LargeSums.{none_large}
+use Rattle.surface_pieces.specs.Told.{no_component}
+use Rattle.vector_commands.specs.Describing.{AreSmall}
+
+accepted : (coords : Coords) (rows : List Row) (equations : List EquationRow) (xs : List ℕ) → verdict_in coords rows equations xs ≡ solution → IsAccepted limit (columns coords (length rows)) equations (clash_list coords (length rows)) xs
+accepted coords rows equations xs e = accepted_by limit (columns coords (length rows)) equations (clash_list coords (length rows)) xs e
+
+pub surface_is : (coords : Coords) (rows : List Row) (equations : List EquationRow) (xs : List ℕ) → coords ≢ Quad → IsTable rows → AreEquations coords rows equations → verdict_in coords rows equations xs ≡ solution → IsSurface rows coords xs
+surface_is Standard rows equations xs out table e fit = record {
+  table = table;
+  triangles = tt;
+  solves = subst (λ (q : List EquationRow). IsSolution (columns Standard (length rows)) q xs) e (accepted Standard rows equations xs fit).solves;
+  admissible = (accepted Standard rows equations xs fit).admissible;
+}
+surface_is Quad rows equations xs out table e fit = absurd (out refl)
+surface_is Octagon rows equations xs out table e fit = record {
+  table = table;
+  triangles = tt;
+  solves = subst (λ (q : List EquationRow). IsSolution (columns Octagon (length rows)) q xs) e (accepted Octagon rows equations xs fit).solves;
+  admissible = (accepted Octagon rows equations xs fit).admissible;
+}
+
+-- no sum passes the limit
+record AreWithin (p a q : ℕ) : Type 0 where
+  points : p ≤ limit
+  arcs : a ≤ limit
+  both : p + q ≤ limit
+
+some_none : (t : Sum) → (let o : Option Sum = Some t in o ≡ None) → ⊥
+some_none t e = absurd cc
+
+within : (p a q : ℕ) → large_sum limit p a q ≡ None → AreWithin p a q
+within p a q e = go (nat_lt limit p) (nat_lt limit a) (nat_lt limit (p + q)) refl refl refl e
+  where
+    go : (x y z : Bool) → nat_lt limit p ≡ x → nat_lt limit a ≡ y → nat_lt limit (p + q) ≡ z → (if x then Some Points else (if y then Some Arcs else (if z then Some PointsAndPieces else None))) ≡ None → AreWithin p a q
+    go true y z ex ey ez e = absurd (some_none Points e)
+    go false true z ex ey ez e = absurd (some_none Arcs e)
+    go false false true ex ey ez e = absurd (some_none PointsAndPieces e)
+    go false false false ex ey ez e = record { points = ltb-false limit p ex; arcs = ltb-false limit a ey; both = ltb-false limit (p + q) ez }
+
+pub sum_fits : (s : Skeleton) (coords : Coords) (xs : List ℕ) → first_large limit s coords xs ≡ None → sum xs ≤ limit
+sum_fits s coords xs e = let w : AreWithin (points coords xs s.edges.classes s.edges.count) (arcs s.rows coords xs) (sum xs) = within (points coords xs s.edges.classes s.edges.count) (arcs s.rows coords xs) (sum xs) e in
+    let b = w.both in omega arith
+
+-- a term is at most the sum
+term_low : (f : ℕ → ℕ) (n i : ℕ) → i < n → f i ≤ sum_by f (below n)
+term_low f n i l =
+    let inside : i < length (below n) = omega (arith, length-range_with_len 0 n) in
+    let at : slice_index (below n) i ≡ i = get_or-range_with_len 0 n i 0 l ∙ omega arith in
+    let term : f (slice_index (below n) i) ≡ f i = ap f at in
+    omega (arith, sum_by_more_le f (below n) i 0 inside)
+
+zip_at : {A B : Type 0} (R : A → B → Type 0) (xs : List A) (ys : List B) (i : ℕ) (d : A) (e : B) → AllZip R xs ys → i < length ys → (i < length xs) × R (slice_index_or xs i d) (slice_index_or ys i e)
+zip_at R [] [] i d e h l = absurd (omega arith)
+zip_at R [] (y ∷ ys) i d e h l = absurd h
+zip_at R (x ∷ xs) [] i d e h l = absurd h
+zip_at R (x ∷ xs) (y ∷ ys) zero d e h l = (omega arith, h.0)
+zip_at R (x ∷ xs) (y ∷ ys) (suc i) d e h l = let r = zip_at R xs ys i d e h.1 (omega arith) in ((let m : i < length xs = r.0 in omega arith), r.1)
+
+pub small_components : (s : Skeleton) (coords : Coords) (xs : List ℕ) (listed : List Component) → length xs ≡ columns coords (length s.rows) → first_large limit s coords xs ≡ None → AreListedComponents s.rows coords xs listed → AreSmall s coords listed
+small_components s coords xs listed width none h = record {
+  width = λ i l. ap (λ (ys : List ℕ). length ys) (is i l) ∙ component_width xs h.classes h.numbered.one_each i ∙ width;
+  small = λ i l.
+      let low : i < h.count = in_count i l in
+      let p = term_low (λ j. points coords (component_vector xs h.classes j) s.edges.classes s.edges.count) h.count i low in
+      let a = term_low (λ j. arcs s.rows coords (component_vector xs h.classes j)) h.count i low in
+      let q = term_low (λ j. sum (component_vector xs h.classes j)) h.count i low in
+      let wp = whole.points in
+      let wa = whole.arcs in
+      let wb = whole.both in
+      let sp = sums.points in
+      let sa = sums.arcs in
+      let sq = sums.pieces in
+      ap (first_large limit s coords) (is i l)
+      ∙ none_large limit (points coords (component_vector xs h.classes i) s.edges.classes s.edges.count) (arcs s.rows coords (component_vector xs h.classes i)) (sum (component_vector xs h.classes i)) (omega arith) (omega arith) (omega arith);
+}
+  where
+    whole : AreWithin (points coords xs s.edges.classes s.edges.count) (arcs s.rows coords xs) (sum xs)
+    whole = within (points coords xs s.edges.classes s.edges.count) (arcs s.rows coords xs) (sum xs) none
+
+    sums : ComponentSumsAre s coords xs h.classes h.count
+    sums = component_sums s coords xs h.classes h.count h.numbered
+
+    at : (i : ℕ) → i < length listed → (i < length (below h.count)) × IsComponent s.rows coords xs h.classes (slice_index (below h.count) i) (slice_index_or listed i no_component)
+    at i l = zip_at (IsComponent s.rows coords xs h.classes) (below h.count) listed i 0 no_component h.each l
+
+    in_count : (i : ℕ) → i < length listed → i < h.count
+    in_count i l = let m : i < length (below h.count) = (at i l).0 in omega (arith, length-range_with_len 0 h.count)
+
+    is : (i : ℕ) → i < length listed → (slice_index_or listed i no_component).vector ≡ component_vector xs h.classes i
+    is i l = (at i l).1.vector ∙ ap (component_vector xs h.classes) (get_or-range_with_len 0 h.count i 0 (in_count i l) ∙ omega arith)

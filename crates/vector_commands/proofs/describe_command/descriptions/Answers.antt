@@ -1,0 +1,15 @@
+-- One more vector is described, or it is the first that is refused.
+use Rattle.vector_definitions.specs.Texts.{description_text}
+use Rattle.vector_definitions.specs.Answers.{IsDescription}
+use Rattle.vector_commands.proofs.EachVector.{next_told, next_refused}
+use Rattle.vector_commands.proofs.describe_command.descriptions.Goals as goal
+
+pub returns-in-Err : goal.returns-in-Err
+returns-in-Err c =
+    next_refused (IsDescription c.args.skeleton.now c.args.coords c.args.system.now.rows) (description_text c.args.skeleton.now c.args.coords) c.args.vectors.now c.loop-v.v c.index-vectors-v.result
+    c.deref.result.now c.loop-v.text.items c.append_described.new.text.items c.loop-v-test.true c.index-vectors-v.is c.deref.ensures.value c.loop-v.invariant c.in-Err.fault c.at.result c.in-Err.ensures c.at.ensures
+
+pub loop-v-preserved : goal.loop-v-preserved
+loop-v-preserved c =
+    next_told (IsDescription c.args.skeleton.now c.args.coords c.args.system.now.rows) (description_text c.args.skeleton.now c.args.coords) c.args.vectors.now c.loop-v.v c.index-vectors-v.result
+    c.deref.result.now c.loop-v.text.items c.append_described.new.text.items c.loop-v-test.true c.index-vectors-v.is c.deref.ensures.value c.loop-v.invariant tt c.in-Ok.ensures

@@ -1,0 +1,174 @@
+// The command `describe`: what is counted of each vector, and its components.
+ghost use Rattle.std.specs.Prelude.{◌≡◌, ◌≢◌, ◌≤◌, ◌^◌, ◌++◌, length, IfOk, codes, decimal};
+ghost use Rattle.surface_definitions.specs.Coordinates.{columns};
+ghost use Rattle.surface_definitions.specs.QuadEquations.{AreEquations};
+ghost use Rattle.surface_definitions.specs.Verdict.{solution};
+ghost use Rattle.table_definitions.specs.Table.{IsTable};
+ghost use Rattle.skeleton_definitions.specs.Skeleton.{IsSkeleton};
+ghost use Rattle.document_definitions.specs.Documents.{vectors_document};
+ghost use Rattle.command_answers.specs.Reads.{all_entries};
+ghost use Rattle.outcome_definitions.specs.Outcomes.{IsReadOutcome};
+ghost use Rattle.outcome_definitions.specs.Vectors.{IsDescribeAnswer};
+ghost use Rattle.vector_definitions.specs.Answers.{verdict_in, IsDescription};
+ghost use Rattle.vector_definitions.specs.Texts.{description_text};
+ghost use Rattle.vector_commands.specs.Telling.{TellsOne, TellsEach};
+ghost use Rattle.vector_commands.specs.Describing.{TellsDescription};
+
+use crate::descriptions::append_description;
+use crate::refusals::{EachFault, ToldFault, refusal_outcome};
+use command_answers::{Outcome, fault_outcome, invalid_edge_outcome, read_table_and_vectors};
+use cone_core::System;
+use gluing_table::Table;
+use matching_equations::{Coords, equations};
+use no_memory::NoMemory;
+use outcome_definitions::Status;
+use skeleton::Skeleton;
+use std::alloc::Global;
+use surface_answers::check;
+use surface_pieces::{Pieces, PiecesFault};
+use surface_properties::{Properties, PropertyFault, properties_of};
+use vector_definitions::Refusal;
+
+/// What is told of a vector.
+#[derive(Drop)]
+pub struct Described {
+    properties: Properties,
+    pieces: Pieces,
+}
+
+// What is told of a vector that is an admissible solution.
+fn describe_fit(
+    alloc: Global,
+    skeleton: &Skeleton,
+    system: &System,
+    coords: Coords,
+    x: &[u128],
+) -> Result<Described, ToldFault>
+    requires coords { coords ≢ Coords.Quad }
+    requires skeleton { IsSkeleton skeleton.now }
+    requires equations { AreEquations coords skeleton.now.rows system.now.rows }
+    requires width { length x.now ≡ columns coords (length skeleton.now.rows) }
+    requires fit { verdict_in coords skeleton.now.rows system.now.rows x.now ≡ solution }
+    ensures { TellsDescription skeleton.now coords system.now.rows x.now result }
+{
+    let properties = match properties_of(skeleton, coords, x) {
+        Ok(properties) => properties,
+        Err(PropertyFault::Large { sum }) => {
+            return Err(ToldFault::Refused(Refusal::LargeSum { sum }));
+        }
+    };
+    match Pieces::build(alloc, skeleton, coords, x) {
+        Ok(pieces) => Ok(Described { properties, pieces }),
+        Err(PiecesFault::TooManyPieces { count }) => {
+            Err(ToldFault::Refused(Refusal::TooManyPieces { count }))
+        }
+        Err(PiecesFault::NoMemory) => Err(ToldFault::NoMemory),
+    }
+}
+
+// What is told of a vector, or why it is refused.
+fn describe_checked(
+    alloc: Global,
+    skeleton: &Skeleton,
+    system: &System,
+    coords: Coords,
+    x: &[u128],
+) -> Result<Described, ToldFault>
+    requires coords { coords ≢ Coords.Quad }
+    requires skeleton { IsSkeleton skeleton.now }
+    requires equations { AreEquations coords skeleton.now.rows system.now.rows }
+    requires columns { system.now.columns ≡ columns coords (length skeleton.now.rows) }
+    ensures { TellsDescription skeleton.now coords system.now.rows x.now result }
+{
+    match check(coords, skeleton, system, x) {
+        Ok(()) => describe_fit(alloc, skeleton, system, coords, x),
+        Err(fault) => Err(ToldFault::Refused(Refusal::Unfit { fault })),
+    }
+}
+
+// The lines of a vector, behind the others.
+fn append_described(
+    alloc: Global,
+    skeleton: &Skeleton,
+    system: &System,
+    coords: Coords,
+    x: &[u128],
+    text: &mut Vec<u8>,
+) -> Result<(), ToldFault>
+    requires coords { coords ≢ Coords.Quad }
+    requires skeleton { IsSkeleton skeleton.now }
+    requires equations { AreEquations coords skeleton.now.rows system.now.rows }
+    requires columns { system.now.columns ≡ columns coords (length skeleton.now.rows) }
+    ensures { TellsOne (IsDescription skeleton.now coords system.now.rows) (description_text skeleton.now coords) x.now text.old.items text.new.items result }
+{
+    let told = describe_checked(alloc, skeleton, system, coords, x)?;
+    append_description(
+        alloc,
+        text,
+        skeleton,
+        coords,
+        x,
+        &told.properties,
+        &told.pieces,
+    )?;
+    Ok(())
+}
+
+// The lines of all vectors, or the first vector that is refused.
+fn descriptions(
+    alloc: Global,
+    skeleton: &Skeleton,
+    system: &System,
+    coords: Coords,
+    vectors: &[Vec<u128>],
+) -> Result<Vec<u8>, EachFault>
+    requires coords { coords ≢ Coords.Quad }
+    requires skeleton { IsSkeleton skeleton.now }
+    requires equations { AreEquations coords skeleton.now.rows system.now.rows }
+    requires columns { system.now.columns ≡ columns coords (length skeleton.now.rows) }
+    ensures { TellsEach (IsDescription skeleton.now coords system.now.rows) (description_text skeleton.now coords) (all_entries vectors.now) result }
+{
+    let mut text = Vec::new(alloc);
+    for v in 0..vectors.len() {
+        match append_described(alloc, skeleton, system, coords, &vectors[v], &mut text) {
+            Ok(()) => {}
+            Err(fault) => return Err(fault.at(v)),
+        }
+    }
+    Ok(text)
+}
+
+// The answer to a table and vectors.
+fn answer(
+    alloc: Global,
+    table: &Table,
+    coords: Coords,
+    vectors: &[Vec<u128>],
+) -> Result<Outcome, NoMemory>
+    requires { coords ≢ Coords.Quad }
+    ensures { IfOk result (IsDescribeAnswer coords (table.now, all_entries vectors.now)) }
+{
+    let skeleton = Skeleton::of(alloc, table)?;
+    if let Some(class) = skeleton.first_invalid() {
+        let outcome = invalid_edge_outcome(alloc, class)?;
+        return Ok(outcome);
+    }
+    let system = equations(alloc, &skeleton, coords)?;
+    match descriptions(alloc, &skeleton, &system, coords, vectors) {
+        Ok(text) => Ok(Outcome::built(Status::Done, text)),
+        Err(EachFault::Refused { vector, refusal }) => refusal_outcome(alloc, vector, refusal),
+        Err(EachFault::NoMemory) => Err(NoMemory),
+    }
+}
+
+/// The outcome of `describe` on an input that isn't too long, in standard or octagon coordinates.
+pub fn describe(alloc: Global, coords: Coords, bytes: &[u8]) -> Result<Outcome, NoMemory>
+    requires coords { coords ≢ Coords.Quad }
+    requires few { length bytes.now ≤ 2 ^ 31 }
+    ensures { IfOk result (IsReadOutcome (vectors_document bytes.now) (IsDescribeAnswer coords)) }
+{
+    match read_table_and_vectors(alloc, bytes) {
+        Ok(document) => answer(alloc, &document.table, coords, &document.vectors),
+        Err(fault) => fault_outcome(alloc, fault),
+    }
+}

@@ -1,0 +1,139 @@
+// The lines of a vector that is described.
+ghost use Rattle.std.specs.Prelude.{◌≡◌, ◌≢◌, ◌<◌, ◌++◌, length, None, codes, decimal, OnOk, Ok};
+ghost use Rattle.std.specs.Fmt.{signed_decimal};
+ghost use Rattle.std.specs.List.{flat_map, slice_index_or};
+ghost use Rattle.text_definitions.specs.Written.{limit};
+ghost use Rattle.surface_definitions.specs.Coordinates.{columns};
+ghost use Rattle.vector_definitions.specs.Properties.{first_large};
+ghost use Rattle.vector_definitions.specs.Texts as texts;
+ghost use Rattle.surface_pieces.specs.Told.{no_component};
+ghost use Rattle.vector_commands.specs.Describing.{AreSmall};
+
+use matching_equations::Coords;
+use no_memory::NoMemory;
+use ray_answers::write_vector;
+use skeleton::Skeleton;
+use std::alloc::Global;
+use surface_pieces::Pieces;
+use surface_properties::{Properties, properties_of};
+use text_writing::{append, append_decimal};
+
+fn yes_or_no(answer: bool) -> &'static [u8]
+    ensures { result.now ≡ texts.yes_or_no answer }
+{
+    if answer { b"yes" } else { b"no" }
+}
+
+fn sides(two_sided: bool) -> &'static [u8]
+    ensures { result.now ≡ texts.sides_word two_sided }
+{
+    if two_sided { b"two" } else { b"one" }
+}
+
+// An Euler characteristic behind a word.
+fn append_euler(alloc: Global, out: &mut Vec<u8>, word: &[u8], euler: i128) -> Result<(), NoMemory>
+    ensures { OnOk result (out.new.items ≡ out.old.items ++ word.now ++ signed_decimal euler) }
+{
+    let number = euler.to_string(alloc)?;
+    append(out, word)?;
+    append(out, number.as_bytes())?;
+    Ok(())
+}
+
+// The line of a vector's properties, with the number of its components.
+fn append_properties(
+    alloc: Global,
+    out: &mut Vec<u8>,
+    properties: &Properties,
+    components: u32,
+) -> Result<(), NoMemory>
+    ensures { OnOk result (out.new.items ≡ out.old.items ++ texts.properties_line properties.now components) }
+{
+    append_euler(alloc, out, b"euler ", properties.euler)?;
+    append(out, b" linking ")?;
+    append(out, yes_or_no(properties.linking))?;
+    append(out, b" boundary ")?;
+    append(out, yes_or_no(properties.boundary))?;
+    append(out, b" components ")?;
+    append_decimal(alloc, out, u128::from(components))?;
+    append(out, b"\n")?;
+    Ok(())
+}
+
+// The Euler characteristic of a vector none of whose sums is large.
+fn characteristic(skeleton: &Skeleton, coords: Coords, x: &[u128]) -> i128
+    requires coords { coords ≢ Coords.Quad }
+    requires width { length x.now ≡ columns coords (length skeleton.now.rows) }
+    requires small { first_large limit skeleton.now coords x.now ≡ None }
+    ensures { result ≡ texts.characteristic skeleton.now coords x.now }
+{
+    match properties_of(skeleton, coords, x) {
+        Ok(properties) => properties.euler,
+        Err(_) => unreachable!(),
+    }
+}
+
+// The line of a component.
+fn append_component(
+    alloc: Global,
+    out: &mut Vec<u8>,
+    skeleton: &Skeleton,
+    coords: Coords,
+    pieces: &Pieces,
+    component: u32,
+) -> Result<(), NoMemory>
+    requires coords { coords ≢ Coords.Quad }
+    requires small { AreSmall skeleton.now coords pieces.now }
+    requires in_range { component < length pieces.now }
+    ensures { OnOk result (out.new.items ≡ out.old.items ++ texts.component_line skeleton.now coords (slice_index_or pieces.now component no_component)) }
+{
+    let vector = pieces.vector(component);
+    let euler = characteristic(skeleton, coords, vector);
+    append_euler(alloc, out, b"component euler ", euler)?;
+    append(out, b" sides ")?;
+    append(out, sides(pieces.two_sided(component)))?;
+    append(out, b" orientable ")?;
+    append(out, yes_or_no(pieces.orientable(component)))?;
+    append(out, b" ")?;
+    write_vector(alloc, vector, out)?;
+    Ok(())
+}
+
+// The lines of all components.
+fn append_components(
+    alloc: Global,
+    out: &mut Vec<u8>,
+    skeleton: &Skeleton,
+    coords: Coords,
+    pieces: &Pieces,
+) -> Result<(), NoMemory>
+    requires coords { coords ≢ Coords.Quad }
+    requires small { AreSmall skeleton.now coords pieces.now }
+    ensures { OnOk result (out.new.items ≡ out.old.items ++ flat_map (texts.component_line skeleton.now coords) pieces.now) }
+{
+    for component in 0..pieces.components() {
+        append_component(alloc, out, skeleton, coords, pieces, component)?;
+    }
+    Ok(())
+}
+
+/// Appends the lines of a vector that is described.
+#[tactic(auto, unfolding(vector_definitions::specs::Texts::description_text))]
+pub fn append_description(
+    alloc: Global,
+    out: &mut Vec<u8>,
+    skeleton: &Skeleton,
+    coords: Coords,
+    x: &[u128],
+    properties: &Properties,
+    pieces: &Pieces,
+) -> Result<(), NoMemory>
+    requires coords { coords ≢ Coords.Quad }
+    requires small { AreSmall skeleton.now coords pieces.now }
+    ensures { OnOk result (out.new.items ≡ out.old.items ++ texts.description_text skeleton.now coords (record { vector = x.now; properties = properties.now; components = pieces.now })) }
+{
+    write_vector(alloc, x, out)?;
+    append_properties(alloc, out, properties, pieces.components())?;
+    append_components(alloc, out, skeleton, coords, pieces)?;
+    Ok(())
+}
