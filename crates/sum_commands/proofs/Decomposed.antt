@@ -1,0 +1,108 @@
+-- From the checks of vectors and the list of vertex surfaces to the answer of `decompose`.
+use Rattle.std.proofs.Common.{◌≡◌, ℕ, zero, suc, ◌≤◌, List, [], ◌∷◌, length, Vec, Ok, Err, inl, inr, sym, subst, arith}
+use Rattle.std.specs.declared.alloc.Global.{Global}
+use Rattle.std.specs.Prelude.{slice_index}
+use Rattle.std.specs.List.{All, AllZip, slice_index_or}
+use Rattle.std.proofs.lemmas.List.Elements.{All-cons}
+use Rattle.text_definitions.specs.Written.{limit}
+use Rattle.text_definitions.specs.Text.{Line}
+use Rattle.cone_definitions.specs.Rows.{Row as EquationRow}
+use Rattle.cone_definitions.specs.Elimination.{Named}
+use Rattle.cone_definitions.specs.Listings.{IsPastLimit}
+use Rattle.cone_definitions.specs.declared.Order.TheVariants.{Given}
+use Rattle.double_description.specs.declared.engine.EnumFault.TheVariants.{Large}
+use Rattle.table_definitions.specs.Table.{Row}
+use Rattle.table_definitions.specs.Grammar.{IsNumber}
+use Rattle.surface_definitions.specs.declared.Coords.{Coords}
+use Rattle.surface_definitions.specs.declared.VectorFault.{VectorFault}
+use Rattle.surface_definitions.specs.Coordinates.{columns, clash_list}
+use Rattle.surface_definitions.specs.Grammar.{IsVectorLine}
+use Rattle.surface_definitions.specs.QuadEquations.{AreEquations}
+use Rattle.surface_definitions.specs.TableSurfaces.{table_enumeration}
+use Rattle.surface_definitions.proofs.VerdictLaws.{accepted_by}
+use Rattle.surface_list.specs.Surfaces.{AreTableSurfaces, IsTableRefused, IsOnlyListing}
+use Rattle.sum_definitions.specs.Sums.{HasRays}
+use Rattle.sum_laws.proofs.Surfaces.{surfaces_are_rays_lem}
+use Rattle.document_definitions.specs.Documents.{vectors_document}
+use Rattle.document_laws.proofs.Documents.{vectors_document_read}
+use Rattle.outcome_laws.proofs.Equated.{one_equations}
+use Rattle.outcome_definitions.specs.declared.SumRefusal.TheVariants.{Unfit}
+use Rattle.outcome_definitions.specs.Outcomes.{Outcome}
+use Rattle.outcome_definitions.specs.Enumerations.{large_outcome}
+use Rattle.outcome_definitions.specs.Sums.{IsFirstRefused, IsVerdict, IsDecomposeAnswer, sum_refusal_outcome}
+use Rattle.sum_commands.specs.Telling.{AreInRange, HaveRays, TellsList}
+use Rattle.sum_commands.proofs.Walks.{all_told}
+
+-- entries of documents are in range
+entry_in_range : (ws : List (List ℕ)) (xs : List ℕ) (column : ℕ) → AllZip (IsNumber limit) ws xs → slice_index xs column ≤ limit
+entry_in_range [] [] column z = nothing_past column
+  where
+    nothing_past : (k : ℕ) → slice_index [] k ≤ limit
+    nothing_past k = omega arith
+entry_in_range [] (x ∷ xs) column z = absurd z
+entry_in_range (w ∷ ws) [] column z = absurd z
+entry_in_range (w ∷ ws) (x ∷ xs) zero z = z.0.up_to
+entry_in_range (w ∷ ws) (x ∷ xs) (suc column) z = entry_in_range ws xs column z.1
+
+lines_in_range : (lines : List Line) (vectors : List (List ℕ)) → AllZip IsVectorLine lines vectors → AreInRange vectors
+lines_in_range [] [] z = λ k d l. absurd (omega arith)
+lines_in_range [] (x ∷ vectors) z = absurd z
+lines_in_range (l ∷ lines) [] z = absurd z
+lines_in_range (l ∷ lines) (x ∷ vectors) z = All-cons (λ y. (column : ℕ) → slice_index y column ≤ limit) x vectors (λ column. entry_in_range z.0.ws x column z.0.entries) (lines_in_range lines vectors z.1)
+
+pub document_in_range : (bytes : List ℕ) (rows : List Row) (vectors : List (List ℕ)) → vectors_document bytes ≡ Ok (rows, vectors) → AreInRange vectors
+document_in_range bytes rows vectors e = (let d = (vectors_document_read bytes rows vectors).0 e in lines_in_range d.1 vectors d.4)
+
+-- by the equations of a table, whose rows are those of its skeleton
+module _ (coords : Coords) (rows table : List Row) (own : rows ≡ table) (equations : List EquationRow) (of_table : AreEquations coords rows equations) (most : ℕ) where
+  abbrev Passes : List ℕ → Type 0
+  Passes x = IsVerdict coords rows equations x (Ok tt)
+
+  -- the list of the vertex surfaces is one under these equations
+  listed : (list : List (List ℕ)) → AreTableSurfaces most coords rows Given list → IsOnlyListing (table_enumeration coords Given most rows equations) list
+  listed list s = subst (λ (q : List EquationRow). IsOnlyListing (table_enumeration coords Given most rows q) list) (one_equations coords rows s.0 equations s.1 of_table) s.2
+
+  -- it has the rays of vectors that pass the check
+  pub have_rays : (columns_of : ℕ) (list vectors : List (List ℕ)) → columns_of ≡ columns coords (length rows) → AreTableSurfaces most coords rows Given list → All Passes vectors
+      → HaveRays (record { columns = columns_of; rows = equations }) list vectors
+  have_rays columns_of list vectors wide s passed = λ k d l.
+      let only = listed list s in
+      let x : List ℕ = slice_index_or vectors k d in
+      let a = accepted_by limit (columns coords (length rows)) equations (clash_list coords (length rows)) x (passed k d l) in
+      let rays = surfaces_are_rays_lem (columns coords (length rows)) equations (clash_list coords (length rows)) list x only.listed.surfaces a.solves a.admissible in
+      subst (λ (n : ℕ). HasRays n equations list x) (sym wide) rays
+
+  abbrev of_own : (vectors : List (List ℕ)) (o : Outcome) → IsDecomposeAnswer coords most (rows, vectors) o → IsDecomposeAnswer coords most (table, vectors) o
+  of_own vectors o h = subst (λ (r : List Row). IsDecomposeAnswer coords most (r, vectors) o) own h
+
+  -- the first vector that doesn't pass is the answer
+  pub unfit_told : (vectors : List (List ℕ)) (v : ℕ) (fault : VectorFault) (o : Outcome) → IsFirstRefused (IsVerdict coords rows equations) vectors v fault → o ≡ sum_refusal_outcome v (Unfit fault)
+      → IsDecomposeAnswer coords most (table, vectors) o
+  unfit_told vectors v fault o first e = of_own vectors o (record { equations = equations; of_table = of_table; checked = Err (v, fault); verdicts = first; told = e })
+
+  -- sums of the surfaces, where all pass
+  pub sums_told : (list vectors : List (List ℕ)) (o : Outcome) → AreTableSurfaces most coords rows Given list → All Passes vectors → TellsList most list table vectors o → IsDecomposeAnswer coords most (table, vectors) o
+  sums_told list vectors o s passed told =
+      let only = listed list s in
+      let checks = all_told (IsVerdict coords rows equations) vectors passed in
+      let t : TellsList most list rows vectors o = subst (λ (r : List Row). TellsList most list r vectors o) (sym own) told in
+      of_own vectors o (record {
+        equations = equations;
+        of_table = of_table;
+        checked = Ok checks.0;
+        verdicts = checks.1;
+        told = inl (record { taken = only.taken; list = list; listed = only.listed; told = t.0; sums = t.1; outcome = t.2 });
+      })
+
+  -- the step past the limit, where all pass
+  pub past_told : (taken : Vec ℕ Global) (kind : Named) (vectors : List (List ℕ)) (o : Outcome) → IsTableRefused most coords rows Given (Large taken kind) → All Passes vectors
+      → o ≡ large_outcome taken.items kind → IsDecomposeAnswer coords most (table, vectors) o
+  past_told taken kind vectors o r passed e =
+      let checks = all_told (IsVerdict coords rows equations) vectors passed in
+      of_own vectors o (record {
+        equations = equations;
+        of_table = of_table;
+        checked = Ok checks.0;
+        verdicts = checks.1;
+        told = inr (taken.items, kind, subst (λ (q : List EquationRow). IsPastLimit (table_enumeration coords Given most rows q) taken.items kind) (one_equations coords rows r.0 equations r.1 of_table) r.2, e);
+      })

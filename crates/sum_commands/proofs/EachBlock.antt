@@ -1,0 +1,93 @@
+-- Reading blocks to the end of the input, block by block.
+use Rattle.std.proofs.Common.{◌≡◌, ◌+◌, ◌≤◌, List, [], ◌∷◌, ◌++◌, Result, Ok, Err, length, refl, sym, ap, ◌∙◌, arith, append_assoc, append-nil}
+use Rattle.std.proofs.lemmas.List.{length-append}
+use Rattle.text_definitions.specs.Text.{Line}
+use Rattle.text_definitions.specs.declared.LexFault.{LexFault}
+use Rattle.text_definitions.specs.Reading.{Reading, ◌>>=◌, begun, line_from, need_line_at, Fails}
+use Rattle.table_definitions.specs.declared.TextFault.{TextFault}
+use Rattle.table_definitions.specs.declared.TextFault.TheVariants.{NoMemory, Lex}
+use Rattle.table_definitions.specs.TableText.{lexed}
+use Rattle.document_definitions.specs.Blocks.{Block, block_at, blocks_on, blocks_from}
+use Rattle.document_laws.proofs.BlockReading.{BlockRead, block_read}
+use Rattle.document_laws.proofs.SumDocuments.{any_most}
+use Rattle.command_answers.proofs.EachLine.{with_fronts, fault_lexed}
+
+abbrev One : Type 0
+One = Result (Block × Reading) LexFault
+
+abbrev Many : Type 0
+Many = Result (List Block × Reading) LexFault
+
+-- a block before the others
+abbrev first_and : Block → Many → Many
+first_and block read = read >>= λ (others : List Block × Reading). Ok (block ∷ others.0, others.1)
+
+fronts_first : (front : List Block) (block : Block) (r : Many) → with_fronts (front ++ block ∷ []) r ≡ with_fronts front (first_and block r)
+fronts_first front block (Ok y) = ap (λ (bs : List Block). Ok (bs, y.1)) (append_assoc front (block ∷ []) y.0)
+fronts_first front block (Err e) = refl
+
+-- a block, and those behind it by this reader
+abbrev block_then : (Reading → Many) → One → Many
+block_then more read = read >>= λ (first : Block × Reading). first_and first.0 (more first.1)
+
+-- no more lines are left behind a block than before it
+no_more : (c : Reading) (x : Block × Reading) → block_at c ≡ Ok x → length x.1.later ≤ length c.later
+no_more c x e =
+    let r : BlockRead c x.0 x.1 = block_read c x.0 x.1 e in
+    omega (arith, ap (λ (ls : List Line). length ls) r.split, length-append r.lines x.1.later)
+
+fewer_left : (l : Line) (ls most : List Line) (c : Reading) (x : Block × Reading) → block_at (begun l ls c) ≡ Ok x → length (l ∷ ls) ≤ length most + 1 → length x.1.later ≤ length most
+fewer_left l ls most c x e h = let f = no_more (begun l ls c) x e in omega arith
+
+-- the first of the lines that are left, and those behind it
+first_line : (c : Reading) (l : Line) (ls : List Line) → c.later ≡ l ∷ ls → blocks_from c.later c ≡ block_then (λ d. blocks_from ls d) (block_at (begun l ls c))
+unfolding blocks_from
+first_line c l ls same = ap (λ (us : List Line). blocks_from us c) same ∙ ap (λ (us : List Line). blocks_on us c (λ d. blocks_from ls d)) same
+
+-- a further line is begun
+next_begun : (c d : Reading) → need_line_at c ≡ Ok d → (l : Line) × (ls : List Line) × (c.later ≡ l ∷ ls) × (begun l ls c ≡ d)
+unfolding need_line_at
+next_begun c d e = from_lines c.later refl e
+  where
+    from_lines : (ls : List Line) → c.later ≡ ls → line_from ls c ≡ Ok d → (l : Line) × (rest : List Line) × (c.later ≡ l ∷ rest) × (begun l rest c ≡ d)
+    from_lines [] same e = cc
+    from_lines (l ∷ ls) same e = (l, ls, same, (let x : Ok (begun l ls c) ≡ Ok d = e in cc))
+
+pub block_taken : (front : List Block) (c d : Reading) (x : Block × Reading) → need_line_at c ≡ Ok d → block_at d ≡ Ok x
+    → with_fronts (front ++ x.0 ∷ []) (blocks_from x.1.later x.1) ≡ with_fronts front (blocks_from c.later c)
+block_taken front c d x e f =
+    let n = next_begun c d e in
+    let read : block_at (begun n.0 n.1 c) ≡ Ok x = rw n.3 f in
+    let fewer = fewer_left n.0 n.1 n.1 c x read (omega arith) in
+    fronts_first front x.0 (blocks_from x.1.later x.1)
+    ∙ ap (λ (r : Many). with_fronts front (first_and x.0 r)) (any_most x.1.later n.1 x.1 (omega arith) fewer)
+    ∙ ap (λ (r : One). with_fronts front (block_then (λ d. blocks_from n.1 d) r)) (sym read)
+    ∙ ap (with_fronts front) (sym (first_line c n.0 n.1 n.2))
+
+pub blocks_fewer : (c d : Reading) (x : Block × Reading) → need_line_at c ≡ Ok d → block_at d ≡ Ok x → length x.1.later + 1 ≤ length c.later
+blocks_fewer c d x e f =
+    let n = next_begun c d e in
+    let less = no_more d x f in
+    let there : n.1 ≡ d.later = ap (λ (r : Reading). r.later) n.3 in
+    omega (arith, ap length there, ap length n.2)
+
+block_faulty : (front : List Block) (c d : Reading) (fault : LexFault) → need_line_at c ≡ Ok d → block_at d ≡ Err fault → with_fronts front (blocks_from c.later c) ≡ Err fault
+block_faulty front c d fault e f =
+    let n = next_begun c d e in
+    let read : block_at (begun n.0 n.1 c) ≡ Err fault = rw n.3 f in
+    ap (with_fronts front) (first_line c n.0 n.1 n.2) ∙ ap (λ (r : One). with_fronts front (block_then (λ d. blocks_from n.1 d) r)) read
+
+pub blocks_ended : (front : List Block) (c : Reading) → c.later ≡ [] → with_fronts front (blocks_from c.later c) ≡ Ok (front, c)
+unfolding blocks_from
+blocks_ended front c same = ap (λ (us : List Line). with_fronts front (blocks_from us c)) same ∙ ap (λ (bs : List Block). Ok (bs, c)) (append-nil front)
+
+-- a fault of a block is one of the blocks
+pub block_fails : (front : List Block) (c d : Reading) (fault : TextFault) (whole : Many) → need_line_at c ≡ Ok d → Fails NoMemory fault (lexed (block_at d))
+    → with_fronts front (blocks_from c.later c) ≡ whole → Fails NoMemory fault (lexed whole)
+block_fails front c d fault whole e fails same = λ other. moved (block_at d) refl (fails other)
+  where
+    moved : (read : One) → block_at d ≡ read → lexed read ≡ Err fault → lexed whole ≡ Err fault
+    moved (Ok x) is h = absurd cc
+    moved (Err found) is h =
+        let wrapped : Lex found ≡ fault = cc in
+        fault_lexed whole found (sym same ∙ block_faulty front c d found e is) ∙ ap (λ (f : TextFault). Err f) wrapped

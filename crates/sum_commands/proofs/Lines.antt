@@ -1,0 +1,29 @@
+-- Lines that are written piece by piece.
+use Rattle.std.proofs.Common.{◌≡◌, ℕ, List, [], ◌∷◌, ◌++◌, sym, ap, ◌∙◌, append_assoc, append-nil}
+use Rattle.std.specs.Prelude.{map, decimal, codes}
+use Rattle.text_definitions.specs.Written.{spaced}
+use Rattle.cone_text_definitions.specs.VectorText.{entries_text}
+use Rattle.sum_definitions.specs.Sums.{Term}
+use Rattle.document_definitions.specs.Blocks.{term_text}
+
+-- three pieces, and five, behind a text
+pub three_pieces : (t a b c : List ℕ) → ((t ++ a) ++ b) ++ c ≡ t ++ ((a ++ b) ++ c)
+three_pieces t a b c = ap (λ (s : List ℕ). s ++ c) (append_assoc t a b) ∙ append_assoc t (a ++ b) c
+
+pub five_pieces : (t a b c d e : List ℕ) → ((((t ++ a) ++ b) ++ c) ++ d) ++ e ≡ t ++ ((((a ++ b) ++ c) ++ d) ++ e)
+five_pieces t a b c d e =
+    ap (λ (s : List ℕ). (s ++ d) ++ e) (three_pieces t a b c) ∙ three_pieces t ((a ++ b) ++ c) d e
+
+spaced_entries : (w x : List ℕ) → spaced (w ∷ map decimal x) ≡ (w ++ entries_text x) ++ 10 ∷ []
+spaced_entries w [] = ap (λ (v : List ℕ). v ++ 10 ∷ []) (sym (append-nil w))
+spaced_entries w (entry ∷ x) = ap (λ (v : List ℕ). w ++ 32 ∷ v) (spaced_entries (decimal entry) x) ∙ sym (append_assoc w (32 ∷ (decimal entry ++ entries_text x)) (10 ∷ []))
+
+-- the line of a term
+pub term_line : (term : Term) → term_text term ≡ codes "term " ++ ((decimal term.count ++ entries_text term.vector) ++ 10 ∷ [])
+term_line term = ap (λ (v : List ℕ). codes "term " ++ v) (spaced_entries (decimal term.count) term.vector)
+
+pub term_appended : (old : List ℕ) (term : Term) → (((old ++ codes "term ") ++ decimal term.count) ++ entries_text term.vector) ++ 10 ∷ [] ≡ old ++ term_text term
+term_appended old term =
+    ap (λ (s : List ℕ). s ++ 10 ∷ []) (three_pieces old (codes "term ") (decimal term.count) (entries_text term.vector))
+    ∙ append_assoc old ((codes "term " ++ decimal term.count) ++ entries_text term.vector) (10 ∷ [])
+    ∙ ap (λ (s : List ℕ). old ++ s) (sym (term_line term))

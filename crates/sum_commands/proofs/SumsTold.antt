@@ -1,0 +1,53 @@
+-- The blocks of vectors are told one after another.
+use Rattle.std.proofs.Common.{◌≡◌, ℕ, ◌<◌, ◌+◌, List, [], ◌∷◌, ◌++◌, length, take, get_or, Vec, Ok, Err, sym, ap, ◌∙◌, subst, append_assoc, append-nil}
+use Rattle.std.specs.declared.alloc.Global.{Global}
+use Rattle.std.proofs.lemmas.Grind.{flat_map-append}
+use Rattle.table_definitions.specs.Table.{Row}
+use Rattle.table_definitions.specs.TableText.{table_text}
+use Rattle.sum_definitions.specs.Sums.{IsLargeTurn}
+use Rattle.document_definitions.specs.Blocks.{Block, block_text, blocks_text}
+use Rattle.command_answers.specs.Reads.{all_entries}
+use Rattle.outcome_definitions.specs.Sums.{IsFirstRefused, IsSummed}
+use Rattle.sum_definitions.specs.declared.SumFault.{SumFault}
+use Rattle.sum_definitions.specs.declared.SumFault.TheVariants.{NoMemory, Large}
+use Rattle.sum_commands.specs.declared.decompose_command.SumsFault.{SumsFault}
+use Rattle.sum_commands.specs.Telling.{fault_at, AreSummedIn, TellsSum, TellsSums}
+use Rattle.sum_commands.proofs.Walks.{seen_more, first_refused, told_more, have_answers}
+
+abbrev pub entries : Vec ℕ Global → List ℕ
+entries v = v.items
+
+module _ (most : ℕ) (list : List (List ℕ)) (rows : List Row) where
+  pub none_summed : (text : List ℕ) → text ≡ table_text rows → AreSummedIn most list rows [] text
+  none_summed text e = record { told = []; sums = tt; lines = e ∙ sym (append-nil (table_text rows)) }
+
+  more_summed : (vectors : List (List ℕ)) (x before now : List ℕ) → AreSummedIn most list rows vectors before → (block : Block) × IsSummed most list x (Ok block) × (now ≡ before ++ block_text block)
+      → AreSummedIn most list rows (vectors ++ x ∷ []) now
+  more_summed vectors x before now h k = record {
+    told = h.told ++ k.0 ∷ [];
+    sums = told_more (IsSummed most list) vectors h.told x k.0 h.sums k.1;
+    lines = k.2 ∙ ap (λ (t : List ℕ). t ++ block_text k.0) h.lines ∙ append_assoc (table_text rows) (blocks_text h.told) (block_text k.0)
+        ∙ ap (λ (t : List ℕ). table_text rows ++ (blocks_text h.told ++ t)) (sym (append-nil (block_text k.0)))
+        ∙ ap (λ (t : List ℕ). table_text rows ++ t) (sym (flat_map-append block_text h.told (k.0 ∷ [])));
+  }
+
+  module _ (vs : List (Vec ℕ Global)) (v : ℕ) (x : Vec ℕ Global) (xs before now : List ℕ) (l : v < length vs) (e : x ≡ get_or vs v x) (same : xs ≡ x.items)
+      (told : AreSummedIn most list rows (all_entries (take v vs)) before) where
+    -- the block of one more vector
+    pub next_summed : (u : Unit {0}) → TellsSum most list xs before now (Ok u) → AreSummedIn most list rows (all_entries (take (v + 1) vs)) now
+    next_summed u h =
+        subst (λ (ys : List (List ℕ)). AreSummedIn most list rows ys now) (sym (seen_more entries vs v x l e))
+        (more_summed (all_entries (take v vs)) x.items before now told (subst (λ (ys : List ℕ). TellsSum most list ys before now (Ok u)) same h))
+
+    large_told : (turn column : ℕ) → IsLargeTurn most list xs turn column → IsFirstRefused (IsSummed most list) (all_entries vs) v (turn, column)
+    large_told turn column h =
+        first_refused entries (IsSummed most list) vs v x (turn, column) l e (have_answers (IsSummed most list) (all_entries (take v vs)) told.told told.sums)
+        (subst (λ (ys : List ℕ). IsSummed most list ys (Err (turn, column))) same h)
+
+    fault_told : (fault : SumFault) → TellsSum most list xs before now (Err fault) → TellsSums most list rows (all_entries vs) (Err (fault_at v fault))
+    fault_told NoMemory h = tt
+    fault_told (Large turn column) h = large_told turn column h
+
+    -- the sum of one more gets too large, and that is the fault of the whole
+    pub next_fault : (fault : SumFault) (whole : SumsFault) → TellsSum most list xs before now (Err fault) → whole ≡ fault_at v fault → TellsSums most list rows (all_entries vs) (Err whole)
+    next_fault fault whole h is = subst (λ (w : SumsFault). TellsSums most list rows (all_entries vs) (Err w)) (sym is) (fault_told fault h)

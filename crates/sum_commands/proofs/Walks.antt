@@ -1,0 +1,87 @@
+-- Walks through a list, up to the first of its elements that is refused.
+use Rattle.std.proofs.Common.{◌≡◌, ℕ, zero, suc, ◌<◌, ◌≤◌, ◌+◌, List, [], ◌∷◌, ◌++◌, length, take, drop, map, get_or, Result, Ok, Err, refl, sym, ap, ◌∙◌, subst, arith}
+use Rattle.std.specs.List.{All, AllZip}
+use Rattle.std.proofs.lemmas.List.{take_all}
+use Rattle.std.proofs.lemmas.List.Elements.{All-push, All-weaker, All-nil, All-cons}
+use Rattle.outcome_definitions.specs.Sums.{IsFirstRefused, AreTold}
+
+-- the elements as they are seen
+module _ {X A : Type 0} (f : X → A) where
+  more : (xs : List X) (n : ℕ) (x : X) → n < length xs → x ≡ get_or xs n x → map f (take (suc n) xs) ≡ map f (take n xs) ++ f x ∷ []
+  more [] n x l e = absurd (omega arith)
+  more (y ∷ ys) zero x l e = ap (λ (q : X). f q ∷ []) (sym e)
+  more (y ∷ ys) (suc n) x l e = ap (λ (t : List A). f y ∷ t) (more ys n x (omega arith) e)
+
+  pub seen_more : (xs : List X) (n : ℕ) (x : X) → n < length xs → x ≡ get_or xs n x → map f (take (n + 1) xs) ≡ map f (take n xs) ++ f x ∷ []
+  seen_more xs n x l e = (let next : n + 1 ≡ suc n = omega arith in ap (λ (k : ℕ). map f (take k xs)) next) ∙ more xs n x l e
+
+  stands : (xs : List X) (n : ℕ) (x : X) → n < length xs → x ≡ get_or xs n x → map f xs ≡ map f (take n xs) ++ f x ∷ map f (drop (suc n) xs)
+  stands [] n x l e = absurd (omega arith)
+  stands (y ∷ ys) zero x l e = ap (λ (q : X). f q ∷ map f ys) (sym e)
+  stands (y ∷ ys) (suc n) x l e = ap (λ (t : List A). f y ∷ t) (stands ys n x (omega arith) e)
+
+  counted : (xs : List X) (n : ℕ) → n < length xs → n ≡ length (map f (take n xs))
+  counted [] n l = absurd (omega arith)
+  counted (y ∷ ys) zero l = refl
+  counted (y ∷ ys) (suc n) l = ap suc (counted ys n (omega arith))
+
+  -- the first that is refused, behind those that were told
+  pub first_refused : {B E : Type 0} (IsTold : A → Result B E → Type 0) (xs : List X) (n : ℕ) (x : X) (refusal : E) → n < length xs → x ≡ get_or xs n x
+      → All (λ y. (answer : B) × IsTold y (Ok answer)) (map f (take n xs)) → IsTold (f x) (Err refusal) → IsFirstRefused IsTold (map f xs) n refusal
+  first_refused IsTold xs n x refusal l e passed refused = record {
+    before = map f (take n xs);
+    value = f x;
+    after = map f (drop (suc n) xs);
+    stands = stands xs n x l e;
+    number = counted xs n l;
+    passed = passed;
+    refused = refused;
+  }
+
+  -- one more passes
+  pub one_more : (Passes : A → Type 0) (xs : List X) (n : ℕ) (x : X) → n < length xs → x ≡ get_or xs n x → All Passes (map f (take n xs)) → Passes (f x) → All Passes (map f (take (n + 1) xs))
+  one_more Passes xs n x l e passed h = subst (λ (ys : List A). All Passes ys) (sym (seen_more xs n x l e)) (All-push Passes (map f (take n xs)) (f x) passed h)
+
+  -- each of them passes
+  pub seen_at : (Passes : A → Type 0) (xs : List X) (n : ℕ) (x : X) → n < length xs → x ≡ get_or xs n x → All Passes (map f xs) → Passes (f x)
+  seen_at Passes [] n x l e h = absurd (omega arith)
+  seen_at Passes (y ∷ ys) zero x l e h = subst (λ (q : X). Passes (f q)) (sym e) (h 0 (f y) (omega arith))
+  seen_at Passes (y ∷ ys) (suc n) x l e h = seen_at Passes ys n x (omega arith) e (λ k d m. h (suc k) d (omega arith))
+
+  -- all of them were seen
+  pub all_seen : (Passes : A → Type 0) (xs : List X) (n : ℕ) → length xs ≤ n → All Passes (map f (take n xs)) → All Passes (map f xs)
+  all_seen Passes xs n l passed = subst (λ (ys : List X). All Passes (map f ys)) (take_all n xs l) passed
+
+  -- each that passes is told so
+  pub first_stopped : {E : Type 0} (IsTold : A → Result (Unit {0}) E → Type 0) (xs : List X) (n : ℕ) (x : X) (refusal : E) → n < length xs → x ≡ get_or xs n x
+      → All (λ y. IsTold y (Ok tt)) (map f (take n xs)) → IsTold (f x) (Err refusal) → IsFirstRefused IsTold (map f xs) n refusal
+  first_stopped IsTold xs n x refusal l e passed refused =
+      first_refused IsTold xs n x refusal l e (All-weaker (λ y. IsTold y (Ok tt)) (λ y. (answer : Unit {0}) × IsTold y (Ok answer)) (λ y h. (tt, h)) (map f (take n xs)) passed) refused
+
+-- answers, one after another
+module _ {A B E : Type 0} (IsTold : A → Result B E → Type 0) where
+  pub told_more : (xs : List A) (answers : List B) (x : A) (answer : B) → AllZip (λ y b. IsTold y (Ok b)) xs answers → IsTold x (Ok answer)
+      → AllZip (λ y b. IsTold y (Ok b)) (xs ++ x ∷ []) (answers ++ answer ∷ [])
+  told_more [] [] x answer z h = (h, tt)
+  told_more [] (b ∷ answers) x answer z h = absurd z
+  told_more (y ∷ xs) [] x answer z h = absurd z
+  told_more (y ∷ xs) (b ∷ answers) x answer z h = (z.0, told_more xs answers x answer z.1 h)
+
+  pub have_answers : (xs : List A) (answers : List B) → AllZip (λ y b. IsTold y (Ok b)) xs answers → All (λ y. (answer : B) × IsTold y (Ok answer)) xs
+  have_answers [] [] z = All-nil (λ y. (answer : B) × IsTold y (Ok answer))
+  have_answers [] (b ∷ answers) z = absurd z
+  have_answers (y ∷ xs) [] z = absurd z
+  have_answers (y ∷ xs) (b ∷ answers) z = All-cons (λ y. (answer : B) × IsTold y (Ok answer)) y xs (b, z.0) (have_answers xs answers z.1)
+
+-- all of a list pass: nothing more is told of each
+module _ {A E : Type 0} (IsTold : A → Result (Unit {0}) E → Type 0) where
+  units : (xs : List A) → List (Unit {0})
+  units xs = map (λ (x : A). tt) xs
+
+  all_units : (xs : List A) → All (λ y. IsTold y (Ok tt)) xs → AllZip (λ y b. IsTold y (Ok b)) xs (units xs)
+  unfolding units
+  all_units [] h = tt
+  all_units (x ∷ xs) h = (h 0 x (omega arith), all_units xs (λ k d l. h (suc k) d (omega arith)))
+
+  pub all_told : (xs : List A) → All (λ y. IsTold y (Ok tt)) xs → (answers : List (Unit {0})) × AreTold IsTold xs (Ok answers)
+  all_told xs h = (units xs, all_units xs h)

@@ -1,0 +1,9 @@
+-- The blocks so far are accepted.
+use Rattle.std.proofs.Common.{take, Ok}
+use Rattle.std.specs.List.{All}
+use Rattle.outcome_definitions.specs.Sums.{IsAddedUp}
+use Rattle.sum_commands.specs.Blocks.{all_blocks}
+use Rattle.sum_commands.proofs.addup_command.check_blocks.Given as goal
+
+abbrev pub invariant-loop-number : goal.invariant-loop-number
+invariant-loop-number l = All (λ block. IsAddedUp l.coords l.skeleton.rows l.system.rows block (Ok tt)) (all_blocks (take l.number l.blocks))

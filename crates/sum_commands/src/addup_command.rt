@@ -1,0 +1,105 @@
+// The command `addup`: whether terms that are given add up to their vectors.
+ghost use Rattle.std.specs.Prelude.{◌≡◌, ◌≤◌, ◌^◌, length, IfOk};
+ghost use Rattle.surface_definitions.specs.Coordinates as coordinates;
+ghost use Rattle.document_definitions.specs.Blocks.{blocks_document};
+ghost use Rattle.outcome_definitions.specs.Outcomes.{IsReadOutcome};
+ghost use Rattle.outcome_definitions.specs.Sums.{IsAddedUp, IsAddupAnswer, accepted_outcome};
+ghost use Rattle.sum_commands.specs.Blocks.{block_of, all_blocks};
+ghost use Rattle.sum_commands.specs.Firsts.{AreAllTold};
+
+use crate::blocks::{Block, read_table_and_blocks};
+use crate::checks::{FirstFault, check_terms};
+use crate::refusals::refusal_outcome;
+use command_answers::{Outcome, fault_outcome};
+use cone_core::System;
+use gluing_table::Table;
+use matching_equations::{Coords, equations};
+use no_memory::NoMemory;
+use outcome_definitions::{Status, SumRefusal};
+use ray_decompose::add_up;
+use skeleton::Skeleton;
+use std::alloc::Global;
+use surface_answers::check;
+use text_writing::append;
+
+// Whether a block's vector and its terms are admissible solutions, and the terms add up; or what is wrong first.
+fn check_block(
+    coords: Coords,
+    skeleton: &Skeleton,
+    system: &System,
+    block: &Block,
+) -> Result<(), SumRefusal>
+    requires { system.now.columns ≡ coordinates.columns coords (length skeleton.now.rows) }
+    ensures { IsAddedUp coords skeleton.now.rows system.now.rows (block_of block.now) result }
+{
+    if let Err(fault) = check(coords, skeleton, system, &block.vector) {
+        return Err(SumRefusal::Unfit { fault });
+    }
+    if let Err(first) = check_terms(coords, skeleton, system, &block.terms) {
+        return Err(SumRefusal::UnfitTerm {
+            term: first.number,
+            fault: first.fault,
+        });
+    }
+    match add_up(&block.vector, block.times, &block.terms) {
+        Ok(()) => Ok(()),
+        Err(fault) => Err(SumRefusal::NoSum { fault }),
+    }
+}
+
+// The first block that isn't accepted.
+fn check_blocks(
+    coords: Coords,
+    skeleton: &Skeleton,
+    system: &System,
+    blocks: &[Block],
+) -> Result<(), FirstFault<SumRefusal>>
+    requires { system.now.columns ≡ coordinates.columns coords (length skeleton.now.rows) }
+    ensures { AreAllTold (IsAddedUp coords skeleton.now.rows system.now.rows) (all_blocks blocks.now) result }
+{
+    for (number, block) in blocks.iter().enumerate() {
+        match check_block(coords, skeleton, system, block) {
+            Ok(()) => {}
+            Err(fault) => return Err(FirstFault { number, fault }),
+        }
+    }
+    Ok(())
+}
+
+// All blocks are accepted.
+#[tactic(auto, unfolding(outcome_definitions::specs::Lines::accepted_text))]
+fn accepted(alloc: Global) -> Result<Outcome, NoMemory>
+    ensures { IfOk result (λ o. o ≡ accepted_outcome) }
+{
+    let mut text = Vec::new(alloc);
+    append(&mut text, b"accepted\n")?;
+    Ok(Outcome::built(Status::Done, text))
+}
+
+// The answer to a table and blocks.
+fn answer(
+    alloc: Global,
+    coords: Coords,
+    table: &Table,
+    blocks: &[Block],
+) -> Result<Outcome, NoMemory>
+    ensures { IfOk result (IsAddupAnswer coords (table.now, all_blocks blocks.now)) }
+{
+    let skeleton = Skeleton::of(alloc, table)?;
+    let system = equations(alloc, &skeleton, coords)?;
+    match check_blocks(coords, &skeleton, &system, blocks) {
+        Ok(()) => accepted(alloc),
+        Err(first) => refusal_outcome(alloc, first.number, first.fault),
+    }
+}
+
+/// The outcome of `addup` on an input that isn't too long.
+pub fn addup(alloc: Global, coords: Coords, bytes: &[u8]) -> Result<Outcome, NoMemory>
+    requires { length bytes.now ≤ 2 ^ 31 }
+    ensures answer { IfOk result (IsReadOutcome (blocks_document bytes.now) (IsAddupAnswer coords)) }
+{
+    match read_table_and_blocks(alloc, bytes) {
+        Ok(document) => answer(alloc, coords, &document.table, &document.blocks),
+        Err(fault) => fault_outcome(alloc, fault),
+    }
+}

@@ -1,0 +1,58 @@
+// The checks of vectors and terms by the equations of their table.
+ghost use Rattle.std.specs.Prelude.{◌≡◌, ◌<◌, ◌^◌, length, IsOk};
+ghost use Rattle.surface_definitions.specs.Coordinates as coordinates;
+ghost use Rattle.outcome_definitions.specs.Sums.{IsVerdict, IsTermVerdict};
+ghost use Rattle.command_answers.specs.Reads.{all_entries};
+ghost use Rattle.ray_decompose.specs.Sums.{terms_of};
+ghost use Rattle.sum_commands.specs.Firsts.{AreAllTold};
+
+use cone_core::System;
+use ray_decompose::Given;
+use skeleton::Skeleton;
+use surface_answers::check;
+use surface_definitions::{Coords, VectorFault};
+
+/// The first of a list at which something is wrong, by its number, which counts from 0.
+#[derive(Clone, Copy, Debug, PartialEq, Eq)]
+pub struct FirstFault<F> {
+    pub number: usize,
+    pub fault: F,
+}
+
+/// The first of some vectors that is no admissible solution.
+pub fn check_vectors(
+    coords: Coords,
+    skeleton: &Skeleton,
+    system: &System,
+    vectors: &[Vec<u128>],
+) -> Result<(), FirstFault<VectorFault>>
+    requires { system.now.columns ≡ coordinates.columns coords (length skeleton.now.rows) }
+    ensures { AreAllTold (IsVerdict coords skeleton.now.rows system.now.rows) (all_entries vectors.now) result }
+{
+    for (number, vector) in vectors.iter().enumerate() {
+        match check(coords, skeleton, system, vector) {
+            Ok(()) => {}
+            Err(fault) => return Err(FirstFault { number, fault }),
+        }
+    }
+    Ok(())
+}
+
+/// The first of some terms whose vector is no admissible solution.
+pub fn check_terms(
+    coords: Coords,
+    skeleton: &Skeleton,
+    system: &System,
+    terms: &[Given],
+) -> Result<(), FirstFault<VectorFault>>
+    requires { system.now.columns ≡ coordinates.columns coords (length skeleton.now.rows) }
+    ensures { AreAllTold (IsTermVerdict coords skeleton.now.rows system.now.rows) (terms_of terms.now) result }
+{
+    for (number, term) in terms.iter().enumerate() {
+        match check(coords, skeleton, system, &term.entries) {
+            Ok(()) => {}
+            Err(fault) => return Err(FirstFault { number, fault }),
+        }
+    }
+    Ok(())
+}

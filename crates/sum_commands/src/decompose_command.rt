@@ -1,0 +1,184 @@
+// The command `decompose`: vectors as sums of the vertex surfaces of their table.
+ghost use Rattle.std.specs.Prelude.{◌≡◌, ℕ, ◌≤◌, ◌^◌, length, IfOk, slice_index};
+ghost use Rattle.std.specs.List.{All};
+ghost use Rattle.cone_core.specs.declared.numbers.TheConstants.{MAX_ENTRY};
+ghost use Rattle.document_definitions.specs.Documents.{vectors_document};
+ghost use Rattle.sum_definitions.specs.Sums.{HasRays};
+ghost use Rattle.command_answers.specs.Reads.{all_entries};
+ghost use Rattle.outcome_definitions.specs.Outcomes.{IsReadOutcome};
+ghost use Rattle.outcome_definitions.specs.Sums.{IsDecomposeAnswer};
+ghost use Rattle.sum_commands.specs.Telling.{fault_at, TellsSum, TellsSums, TellsList, AreInRange, HaveRays};
+
+use crate::checks::check_vectors;
+use crate::refusals::refusal_outcome;
+use crate::writing::append_block;
+use command_answers::{Outcome, fault_outcome, read_table_and_vectors};
+use cone_core::{MAX_ENTRY, Ray, System};
+use double_description::{EnumFault, Order};
+use gluing_table::{Table, write_table};
+use matching_equations::{Coords, equations};
+use no_memory::NoMemory;
+use outcome_definitions::{Status, SumRefusal};
+use ray_decompose::SumFault;
+use skeleton::Skeleton;
+use std::alloc::Global;
+use surface_answers::large_outcome;
+use surface_list::surfaces;
+
+/// Why the vectors of a document aren't told as sums.
+#[derive(Clone, Copy, Debug, PartialEq, Eq)]
+pub enum SumsFault {
+    NoMemory,
+    /// The sum of the vector of this number, which counts from 0, gets too large at this turn, and first at this column.
+    Large {
+        vector: usize,
+        turn: u32,
+        column: u32,
+    },
+}
+
+impl From<NoMemory> for SumsFault {
+    ghost use Rattle.std.specs.Prelude.{◌≡◌};
+    ghost use Rattle.sum_commands.specs.declared.decompose_command.SumsFault.TheVariants as faults;
+
+    ghost from_gives = { λ _ e. e ≡ faults.NoMemory };
+
+    fn from(_error: NoMemory) -> SumsFault {
+        SumsFault::NoMemory
+    }
+}
+
+// The fault of the vector of this number.
+fn fault_at(vector: usize, fault: SumFault) -> SumsFault
+    ensures { result ≡ fault_at vector fault }
+{
+    match fault {
+        SumFault::NoMemory => SumsFault::NoMemory,
+        SumFault::Large { turn, column } => SumsFault::Large {
+            vector,
+            turn,
+            column,
+        },
+    }
+}
+
+// The block of a vector, behind the others.
+fn append_sum(
+    alloc: Global,
+    system: &System,
+    list: &[Ray],
+    x: &[u128],
+    limit: u128,
+    out: &mut Vec<u8>,
+) -> Result<(), SumFault>
+    requires rays { HasRays system.now.columns system.now.rows list.now x.now }
+    requires entries { (column : ℕ) → slice_index x.now column ≤ MAX_ENTRY }
+    requires some_limit { 1 ≤ limit }
+    requires most_limit { limit ≤ MAX_ENTRY }
+    ensures { TellsSum limit list.now x.now out.old.items out.new.items result }
+{
+    let sum = ray_decompose::decompose(alloc, system, list, x, limit)?;
+    append_block(alloc, out, x, &sum)?;
+    Ok(())
+}
+
+// The table and the blocks of all vectors, or the first whose sum gets too large.
+fn sums(
+    alloc: Global,
+    table: &Table,
+    system: &System,
+    list: &[Ray],
+    vectors: &[Vec<u128>],
+    limit: u128,
+) -> Result<Vec<u8>, SumsFault>
+    requires rays { HaveRays system.now list.now (all_entries vectors.now) }
+    requires entries { AreInRange (all_entries vectors.now) }
+    requires some_limit { 1 ≤ limit }
+    requires most_limit { limit ≤ MAX_ENTRY }
+    ensures { TellsSums limit list.now table.now (all_entries vectors.now) result }
+{
+    let mut text = Vec::new(alloc);
+    write_table(alloc, table, &mut text)?;
+    for vector in 0..vectors.len() {
+        match append_sum(alloc, system, list, &vectors[vector], limit, &mut text) {
+            Ok(()) => {}
+            Err(fault) => return Err(fault_at(vector, fault)),
+        }
+    }
+    Ok(text)
+}
+
+// The answer to a table and vectors that are admissible solutions, by the list of its vertex surfaces.
+fn summed(
+    alloc: Global,
+    table: &Table,
+    system: &System,
+    list: &[Ray],
+    vectors: &[Vec<u128>],
+    limit: u128,
+) -> Result<Outcome, NoMemory>
+    requires rays { HaveRays system.now list.now (all_entries vectors.now) }
+    requires entries { AreInRange (all_entries vectors.now) }
+    requires some_limit { 1 ≤ limit }
+    requires most_limit { limit ≤ MAX_ENTRY }
+    ensures { IfOk result (TellsList limit list.now table.now (all_entries vectors.now)) }
+{
+    match sums(alloc, table, system, list, vectors, limit) {
+        Ok(text) => Ok(Outcome::built(Status::Done, text)),
+        Err(
+            SumsFault::Large {
+                vector,
+                turn,
+                column,
+            },
+        ) => refusal_outcome(alloc, vector, SumRefusal::LargeTimes { turn, column }),
+        Err(SumsFault::NoMemory) => Err(NoMemory),
+    }
+}
+
+// The answer to a table and vectors.
+fn answer(
+    alloc: Global,
+    coords: Coords,
+    limit: u128,
+    table: &Table,
+    vectors: &[Vec<u128>],
+) -> Result<Outcome, NoMemory>
+    requires entries { AreInRange (all_entries vectors.now) }
+    requires some_limit { 1 ≤ limit }
+    requires most_limit { limit ≤ MAX_ENTRY }
+    ensures { IfOk result (IsDecomposeAnswer coords limit (table.now, all_entries vectors.now)) }
+{
+    let skeleton = Skeleton::of(alloc, table)?;
+    let system = equations(alloc, &skeleton, coords)?;
+    if let Err(first) = check_vectors(coords, &skeleton, &system, vectors) {
+        return refusal_outcome(
+            alloc,
+            first.number,
+            SumRefusal::Unfit { fault: first.fault },
+        );
+    }
+    match surfaces(alloc, &skeleton, coords, Order::Given, limit) {
+        Ok(list) => summed(alloc, table, &system, &list, vectors, limit),
+        Err(EnumFault::Large { order, kind }) => large_outcome(alloc, &order, &kind),
+        Err(EnumFault::NoMemory) => Err(NoMemory),
+    }
+}
+
+/// The outcome of `decompose` on an input that isn't too long.
+pub fn decompose(
+    alloc: Global,
+    coords: Coords,
+    limit: u128,
+    bytes: &[u8],
+) -> Result<Outcome, NoMemory>
+    requires size { length bytes.now ≤ 2 ^ 31 }
+    requires some_limit { 1 ≤ limit }
+    requires most_limit { limit ≤ MAX_ENTRY }
+    ensures answer { IfOk result (IsReadOutcome (vectors_document bytes.now) (IsDecomposeAnswer coords limit)) }
+{
+    match read_table_and_vectors(alloc, bytes) {
+        Ok(document) => answer(alloc, coords, limit, &document.table, &document.vectors),
+        Err(fault) => fault_outcome(alloc, fault),
+    }
+}

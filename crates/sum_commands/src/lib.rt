@@ -1,0 +1,16 @@
+//! The commands `decompose` and `addup`: vectors as sums of vertex surfaces, and the test of such sums.
+#![tactic(auto)]
+
+mod addup_command;
+mod blocks;
+mod checks;
+mod decompose_command;
+mod refusals;
+mod writing;
+
+pub use addup_command::addup;
+pub use blocks::{Block, TableAndBlocks, read_table_and_blocks};
+pub use decompose_command::decompose;
+
+#[cfg(test)]
+mod tests;

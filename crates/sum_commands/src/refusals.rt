@@ -1,0 +1,154 @@
+// The line for a vector that is refused.
+ghost use Rattle.std.specs.Prelude.{◌≡◌, ◌++◌, codes, decimal, IfOk, OnOk};
+ghost use Rattle.outcome_definitions.specs.Lines.{line};
+ghost use Rattle.outcome_definitions.specs.Sums as sums;
+
+use command_answers::{Outcome, append_checked};
+use no_memory::NoMemory;
+use outcome_definitions::{Status, SumRefusal};
+use ray_decompose::AddFault;
+use std::alloc::Global;
+use surface_definitions::VectorFault;
+use text_writing::{append, append_decimal};
+
+// A line of a word and a number.
+fn append_numbered(
+    alloc: Global,
+    out: &mut Vec<u8>,
+    word: &[u8],
+    number: u128,
+) -> Result<(), NoMemory>
+    ensures { OnOk result (out.new.items ≡ out.old.items ++ line (word.now ++ decimal number)) }
+{
+    append(out, word)?;
+    append_decimal(alloc, out, number)?;
+    append(out, b"\n")?;
+    Ok(())
+}
+
+// The term of this number is refused by the check.
+fn append_term(
+    alloc: Global,
+    out: &mut Vec<u8>,
+    term: usize,
+    fault: VectorFault,
+) -> Result<(), NoMemory>
+    ensures { OnOk result (out.new.items ≡ out.old.items ++ sums.sum_refusal_text (SumRefusal.UnfitTerm term fault)) }
+{
+    append(out, b"term ")?;
+    append_decimal(alloc, out, term as u128)?;
+    append(out, b" ")?;
+    append_checked(alloc, out, Err(fault))
+}
+
+// The turn and the column at which a sum gets too large.
+fn append_large_times(
+    alloc: Global,
+    out: &mut Vec<u8>,
+    turn: u128,
+    column: u128,
+) -> Result<(), NoMemory>
+    ensures { OnOk result (out.new.items ≡ out.old.items ++ line (codes "large-times " ++ decimal turn ++ codes " " ++ decimal column)) }
+{
+    append(out, b"large-times ")?;
+    append_decimal(alloc, out, turn)?;
+    append(out, b" ")?;
+    append_decimal(alloc, out, column)?;
+    append(out, b"\n")?;
+    Ok(())
+}
+
+fn append_zero_times(out: &mut Vec<u8>) -> Result<(), NoMemory>
+    ensures { OnOk result (out.new.items ≡ out.old.items ++ line (codes "zero-times")) }
+{
+    append(out, b"zero-times\n")?;
+    Ok(())
+}
+
+// Why terms don't add up.
+fn append_no_sum(alloc: Global, out: &mut Vec<u8>, fault: AddFault) -> Result<(), NoMemory>
+    ensures { OnOk result (out.new.items ≡ out.old.items ++ sums.sum_refusal_text (SumRefusal.NoSum fault)) }
+{
+    match fault {
+        AddFault::ZeroTimes => append_zero_times(out),
+        AddFault::Large { column } => append_numbered(
+            alloc,
+            out,
+            b"large-equation ",
+            u128::from(column),
+        ),
+        AddFault::NotEqual { column } => append_numbered(
+            alloc,
+            out,
+            b"not-equal ",
+            u128::from(column),
+        ),
+    }
+}
+
+// Why a vector is refused.
+fn append_cause(alloc: Global, out: &mut Vec<u8>, refusal: SumRefusal) -> Result<(), NoMemory>
+    ensures { OnOk result (out.new.items ≡ out.old.items ++ sums.sum_refusal_text refusal) }
+{
+    match refusal {
+        SumRefusal::Unfit { fault } => append_checked(alloc, out, Err(fault)),
+        SumRefusal::UnfitTerm { term, fault } => append_term(alloc, out, term, fault),
+        SumRefusal::LargeTimes { turn, column } => append_large_times(
+            alloc,
+            out,
+            u128::from(turn),
+            u128::from(column),
+        ),
+        SumRefusal::NoSum { fault } => append_no_sum(alloc, out, fault),
+    }
+}
+
+// A number of the check is too large, or the vector doesn't pass it.
+fn unfit_status(fault: VectorFault) -> Status
+    ensures { result ≡ sums.unfit_status fault }
+{
+    match fault {
+        VectorFault::Large { .. } => Status::Large,
+        VectorFault::Length { .. } | VectorFault::NotSolution { .. } | VectorFault::Clash { .. } =>
+            { Status::Refused }
+    }
+}
+
+// A number is too large, or the vector doesn't allow what is asked.
+fn status_of(refusal: SumRefusal) -> Status
+    ensures { result ≡ sums.sum_refusal_status refusal }
+{
+    match refusal {
+        SumRefusal::Unfit { fault } | SumRefusal::UnfitTerm { fault, .. } => unfit_status(fault),
+        SumRefusal::LargeTimes { .. } => Status::Large,
+        SumRefusal::NoSum {
+            fault: AddFault::Large { .. },
+        } => Status::Large,
+        SumRefusal::NoSum { .. } => Status::Refused,
+    }
+}
+
+// The line for the vector of this number.
+#[tactic(auto, unfolding(outcome_definitions::specs::Sums::sum_refusal_line))]
+fn refused_line(alloc: Global, vector: usize, refusal: SumRefusal) -> Result<Vec<u8>, NoMemory>
+    ensures { IfOk result (λ text. text.items ≡ sums.sum_refusal_line vector refusal) }
+{
+    let mut text = Vec::new(alloc);
+    append(&mut text, b"refused: vector ")?;
+    append_decimal(alloc, &mut text, vector as u128)?;
+    append(&mut text, b" ")?;
+    append_cause(alloc, &mut text, refusal)?;
+    Ok(text)
+}
+
+/// The outcome where the vector of this number, which counts from 0, is refused.
+pub fn refusal_outcome(
+    alloc: Global,
+    vector: usize,
+    refusal: SumRefusal,
+) -> Result<Outcome, NoMemory>
+    ensures { IfOk result (λ o. o ≡ sums.sum_refusal_outcome vector refusal) }
+{
+    let text = refused_line(alloc, vector, refusal)?;
+    Ok(Outcome::built(status_of(refusal), text))
+}

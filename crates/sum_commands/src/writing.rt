@@ -1,0 +1,55 @@
+// Sums as blocks of lines.
+ghost use Rattle.std.specs.Prelude.{◌≡◌, ◌++◌, codes, decimal, length, OnOk};
+ghost use Rattle.std.specs.List.{flat_map};
+ghost use Rattle.text_definitions.specs.Written.{spaced};
+ghost use Rattle.cone_text_definitions.specs.VectorText.{entries_text};
+ghost use Rattle.sum_definitions.specs.Sums.{Term as Taken};
+ghost use Rattle.document_definitions.specs.Blocks as blocks;
+
+use no_memory::NoMemory;
+use ray_answers::{write_entries, write_vector};
+use ray_decompose::{Sum, Term};
+use std::alloc::Global;
+use text_writing::{append, append_decimal};
+
+// A line `times S T`.
+fn append_times(alloc: Global, out: &mut Vec<u8>, times: u128, count: usize) -> Result<(), NoMemory>
+    ensures { OnOk result (out.new.items ≡ out.old.items ++ blocks.times_text times count) }
+{
+    append(out, b"times ")?;
+    append_decimal(alloc, out, times)?;
+    append(out, b" ")?;
+    append_decimal(alloc, out, count as u128)?;
+    append(out, b"\n")?;
+    Ok(())
+}
+
+// A line `term K` with entries.
+fn append_term(alloc: Global, out: &mut Vec<u8>, term: &Term) -> Result<(), NoMemory>
+    ensures { OnOk result (out.new.items ≡ out.old.items ++ blocks.term_text term.now) }
+{
+    append(out, b"term ")?;
+    append_decimal(alloc, out, term.count)?;
+    write_entries(alloc, &term.vector, out)?;
+    append(out, b"\n")?;
+    Ok(())
+}
+
+// A line for each term.
+fn append_terms(alloc: Global, out: &mut Vec<u8>, terms: &[Term]) -> Result<(), NoMemory>
+    ensures { OnOk result (out.new.items ≡ out.old.items ++ flat_map blocks.term_text terms.now) }
+{
+    for term in terms {
+        append_term(alloc, out, term)?;
+    }
+    Ok(())
+}
+
+/// The block of a vector and its sum.
+pub fn append_block(alloc: Global, out: &mut Vec<u8>, x: &[u128], sum: &Sum) -> Result<(), NoMemory>
+    ensures { OnOk result (out.new.items ≡ out.old.items ++ blocks.block_text (record { vector = x.now; times = sum.now.times; terms = sum.now.terms.items })) }
+{
+    write_vector(alloc, x, out)?;
+    append_times(alloc, out, sum.times, sum.terms.len())?;
+    append_terms(alloc, out, &sum.terms)
+}
