@@ -1,0 +1,44 @@
+-- What was answered is what is to be told.
+use Rattle.std.proofs.Common.{◌≡◌, ◌≢◌, ℕ, List, Option, None, Some, inl, inr, MatchOption, subst, sym, ap, ◌∙◌}
+use Rattle.table_definitions.specs.Table.{Row}
+use Rattle.table_definitions.specs.Places.{IsLeastUnreached}
+use Rattle.skeleton_definitions.specs.Skeleton.{Skeleton, IsSkeleton}
+use Rattle.cover_definitions.specs.declared.CoverFault.{CoverFault}
+use Rattle.cover_definitions.specs.declared.CoverFault.TheVariants as faults
+use Rattle.cover_definitions.specs.declared.CoverFault.TheVariants.{TooMany}
+use Rattle.cover_definitions.specs.Cover.{cover_fault}
+use Rattle.group_definitions.specs.declared.GroupFault.{GroupFault}
+use Rattle.group_definitions.specs.declared.GroupFault.TheVariants.{NoMemory, NotConnected, InvalidEdge}
+use Rattle.group_definitions.specs.Groups.{IsGroupFault}
+use Rattle.vector_definitions.specs.Texts.{invalid_edge_line}
+use Rattle.outcome_definitions.specs.declared.Status.TheVariants.{Refused}
+use Rattle.outcome_definitions.specs.Outcomes.{Outcome}
+use Rattle.outcome_definitions.specs.Canonical.{not_connected_outcome}
+use Rattle.outcome_definitions.specs.Covers.{large_cover_outcome, IsCoverTold, IsCoverAnswer}
+use Rattle.outcome_definitions.specs.Presented.{IsPresentationAnswer}
+
+-- ---- covers
+
+pub cover_answer : (rows base : List Row) (o : Outcome) → base ≡ rows → cover_fault rows ≡ None → IsCoverTold base o → IsCoverAnswer rows o
+cover_answer rows base o e fits t =
+    subst (λ (f : Option CoverFault). MatchOption f (IsCoverTold rows o) (λ _. o ≡ large_cover_outcome)) (sym fits) (subst (λ (b : List Row). IsCoverTold b o) e t)
+
+pub large_answer : (rows base : List Row) (fault : CoverFault) (o : Outcome) → base ≡ rows → fault ≡ TooMany → (fault ≢ faults.NoMemory → cover_fault base ≡ Some fault) → o ≡ large_cover_outcome → IsCoverAnswer rows o
+large_answer rows base fault o e same is told =
+    subst (λ (f : Option CoverFault). MatchOption f (IsCoverTold rows o) (λ _. o ≡ large_cover_outcome)) (sym (ap cover_fault (sym e) ∙ is (λ z. let w : TooMany ≡ faults.NoMemory = sym same ∙ z in cc))) told
+
+-- ---- presentations
+
+pub not_connected_answer : (rows : List Row) (s : Skeleton) (e : GroupFault) (tet : ℕ) (o : Outcome) → s.rows ≡ rows → IsSkeleton s → e ≡ NotConnected tet → (e ≢ NoMemory → IsGroupFault s e)
+    → o ≡ not_connected_outcome 0 tet → IsPresentationAnswer rows o
+not_connected_answer rows s e tet o of_rows h same fault told = record { skeleton = s; of_rows = of_rows; is_skeleton = h; told = inl (tet, least, told) }
+  where
+    least : IsLeastUnreached s.rows tet
+    least = subst (IsGroupFault s) same (fault (λ z. let w : NotConnected tet ≡ NoMemory = sym same ∙ z in cc))
+
+pub invalid_answer : (rows : List Row) (s : Skeleton) (e : GroupFault) (class : ℕ) (o : Outcome) → s.rows ≡ rows → IsSkeleton s → e ≡ InvalidEdge class → (e ≢ NoMemory → IsGroupFault s e)
+    → o ≡ record { status = Refused; text = invalid_edge_line class } → IsPresentationAnswer rows o
+invalid_answer rows s e class o of_rows h same fault told = record { skeleton = s; of_rows = of_rows; is_skeleton = h; told = inr (inl (found.0, (class, found.1, told))) }
+  where
+    found : IsGroupFault s (InvalidEdge class)
+    found = subst (IsGroupFault s) same (fault (λ z. let w : InvalidEdge class ≡ NoMemory = sym same ∙ z in cc))

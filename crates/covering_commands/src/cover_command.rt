@@ -1,0 +1,70 @@
+//! The command `cover`: the orientable double cover of a table.
+
+ghost use Rattle.std.specs.Prelude.{◌≡◌, ◌≤◌, ◌^◌, ◌↔◌, length, None, IsTrue, IfOk};
+ghost use Rattle.table_definitions.specs.Places.{IsConnected};
+ghost use Rattle.cover_definitions.specs.Cover.{cover_fault};
+ghost use Rattle.document_definitions.specs.Documents.{table_document};
+ghost use Rattle.outcome_definitions.specs.Outcomes.{IsReadOutcome};
+ghost use Rattle.outcome_definitions.specs.Covers.{IsCoverTold, IsCoverAnswer, large_cover_outcome};
+
+use crate::sheets::cover_text;
+use command_answers::{Outcome, fault_outcome, read_table_document};
+use double_cover::{Cover, CoverFault};
+use gluing_table::Table;
+use no_memory::NoMemory;
+use outcome_definitions::Status;
+use skeleton::Skeleton;
+use std::alloc::Global;
+use text_writing::append;
+
+/// Whether every two tetrahedra are joined.
+fn is_connected(alloc: Global, table: &Table) -> Result<bool, NoMemory>
+    ensures { IfOk result (λ connected. IsTrue connected ↔ IsConnected table.now) }
+{
+    match table.unreached(alloc)? {
+        Some(_) => Ok(false),
+        None => Ok(true),
+    }
+}
+
+/// The cover as the answer.
+fn told(alloc: Global, cover: &Cover) -> Result<Outcome, NoMemory>
+    ensures { IfOk result (IsCoverTold cover.now) }
+{
+    let connected = is_connected(alloc, cover.table())?;
+    let text = cover_text(alloc, cover, connected)?;
+    Ok(Outcome::built(Status::Done, text))
+}
+
+/// The cover would have too many tetrahedra.
+#[tactic(auto, unfolding(outcome_definitions::specs::Covers::large_cover_line))]
+fn too_many(alloc: Global) -> Result<Outcome, NoMemory>
+    ensures { IfOk result (λ o. o ≡ large_cover_outcome) }
+{
+    let mut text = Vec::new(alloc);
+    append(&mut text, b"refused: cover too-many\n")?;
+    Ok(Outcome::built(Status::Refused, text))
+}
+
+/// The answer to a table.
+fn answer(alloc: Global, table: &Table) -> Result<Outcome, NoMemory>
+    ensures { IfOk result (IsCoverAnswer table.now) }
+{
+    let skeleton = Skeleton::of(alloc, table)?;
+    match Cover::of(alloc, &skeleton) {
+        Ok(cover) => told(alloc, &cover),
+        Err(CoverFault::TooMany) => too_many(alloc),
+        Err(CoverFault::NoMemory) => Err(NoMemory),
+    }
+}
+
+/// The outcome of `cover` on an input that isn't too long.
+pub fn cover(alloc: Global, bytes: &[u8]) -> Result<Outcome, NoMemory>
+    requires { length bytes.now ≤ 2 ^ 31 }
+    ensures { IfOk result (IsReadOutcome (table_document bytes.now) IsCoverAnswer) }
+{
+    match read_table_document(alloc, bytes) {
+        Ok(table) => answer(alloc, &table),
+        Err(fault) => fault_outcome(alloc, fault),
+    }
+}
