@@ -1,0 +1,3 @@
+pub mod MoveLines
+pub mod DescentLines
+pub mod TellingLaws

@@ -1,0 +1,91 @@
+// The command `descend`: the moves of a table's descent, and the table at which it ends.
+ghost use Rattle.std.specs.Prelude.{◌≡◌, ◌≤◌, ◌^◌, ◌++◌, length, decimal, Ok, IfOk, OnOk};
+ghost use Rattle.document_definitions.specs.Documents.{table_document};
+ghost use Rattle.outcome_definitions.specs.Lines.{line};
+ghost use Rattle.outcome_definitions.specs.Outcomes.{IsReadOutcome};
+ghost use Rattle.outcome_definitions.specs.Certificates as certificates;
+ghost use Rattle.outcome_definitions.specs.Certificates.{moves_text, IsDescendAnswer};
+
+use canonical_labelling::WalkFault;
+use command_answers::{Outcome, fault_outcome, not_connected_outcome, read_table_document};
+use gluing_table::{Table, write_table};
+use move_undo::write_move;
+use no_memory::NoMemory;
+use outcome_definitions::Status;
+use pachner_moves::Move;
+use sphere_certificate::{Descent, descend as descend_from};
+use std::alloc::Global;
+use text_writing::{append, append_decimal};
+
+// Whether the standard sphere was reached.
+fn descent_word(reached: bool) -> &'static [u8]
+    ensures { result.now ≡ certificates.descent_word reached }
+{
+    if reached { b"reached " } else { b"stuck " }
+}
+
+// Whether the standard sphere was reached, and the number of moves.
+fn append_head(
+    alloc: Global,
+    out: &mut Vec<u8>,
+    reached: bool,
+    moves: usize,
+) -> Result<(), NoMemory>
+    ensures { OnOk result (out.new.items ≡ out.old.items ++ line (certificates.descent_word reached ++ decimal moves)) }
+{
+    append(out, descent_word(reached))?;
+    append_decimal(alloc, out, moves as u128)?;
+    append(out, b"\n")?;
+    Ok(())
+}
+
+// A line for each move.
+fn append_moves(alloc: Global, out: &mut Vec<u8>, moves: &[Move]) -> Result<(), NoMemory>
+    ensures { OnOk result (out.new.items ≡ out.old.items ++ moves_text moves.now) }
+{
+    for m in moves {
+        write_move(alloc, *m, out)?;
+    }
+    Ok(())
+}
+
+// What is told of a descent.
+fn descent_text(alloc: Global, descent: &Descent) -> Result<Vec<u8>, NoMemory>
+    ensures { IfOk result (λ text. text.items ≡ certificates.descent_text (record { reached = descent.now.reached; moves = descent.now.moves.items; table = descent.now.table })) }
+{
+    let mut text = Vec::new(alloc);
+    append_head(alloc, &mut text, descent.reached, descent.moves.len())?;
+    append_moves(alloc, &mut text, &descent.moves)?;
+    write_table(alloc, &descent.table, &mut text)?;
+    Ok(text)
+}
+
+// The outcome of a descent.
+fn told(alloc: Global, descent: &Descent) -> Result<Outcome, NoMemory>
+    ensures { IfOk result (λ o. o ≡ certificates.descend_outcome (Ok (record { reached = descent.now.reached; moves = descent.now.moves.items; table = descent.now.table }))) }
+{
+    let text = descent_text(alloc, descent)?;
+    Ok(Outcome::built(Status::Done, text))
+}
+
+// The answer to a table.
+fn answer(alloc: Global, table: &Table) -> Result<Outcome, NoMemory>
+    ensures { IfOk result (IsDescendAnswer table.now) }
+{
+    match descend_from(alloc, table) {
+        Ok(descent) => told(alloc, &descent),
+        Err(WalkFault::NotConnected { tet }) => not_connected_outcome(alloc, 0, tet),
+        Err(WalkFault::NoMemory) => Err(NoMemory),
+    }
+}
+
+/// The outcome of `descend` on an input that isn't too long.
+pub fn descend(alloc: Global, bytes: &[u8]) -> Result<Outcome, NoMemory>
+    requires { length bytes.now ≤ 2 ^ 31 }
+    ensures answer { IfOk result (IsReadOutcome (table_document bytes.now) IsDescendAnswer) }
+{
+    match read_table_document(alloc, bytes) {
+        Ok(table) => answer(alloc, &table),
+        Err(fault) => fault_outcome(alloc, fault),
+    }
+}

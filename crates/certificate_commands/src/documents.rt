@@ -1,0 +1,31 @@
+// The document of a table and moves.
+ghost use Rattle.std.specs.Prelude.{◌≤◌, ◌^◌, length};
+ghost use Rattle.document_definitions.specs.Documents.{moves_document};
+ghost use Rattle.text_definitions.specs.Reading.{Reads};
+
+use crate::moves::read_moves;
+use bench_io::Lexer;
+use command_answers::read_table;
+use gluing_table::Table;
+use pachner_moves::Move;
+use signature_codec::InputFault;
+use std::alloc::Global;
+
+/// A table, and moves.
+#[derive(Drop)]
+pub struct TableAndMoves {
+    pub table: Table,
+    pub moves: Vec<Move>,
+}
+
+/// The document of a table and moves.
+#[tactic(auto, unfolding(document_definitions::specs::Documents::table_and_lines))]
+pub fn read_table_and_moves(alloc: Global, bytes: &[u8]) -> Result<TableAndMoves, InputFault>
+    requires { length bytes.now ≤ 2 ^ 31 }
+    ensures { Reads InputFault.NoMemory (λ d. (d.table, d.moves.items)) result (moves_document bytes.now) }
+{
+    let mut lexer = Lexer::new(bytes);
+    let table = read_table(alloc, &mut lexer)?;
+    let moves = read_moves(alloc, &mut lexer)?;
+    Ok(TableAndMoves { table, moves })
+}
