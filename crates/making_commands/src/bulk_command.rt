@@ -1,0 +1,56 @@
+// The command `bulk`: a table is made, its certificate is checked, and its surfaces are summed up.
+ghost use Rattle.std.specs.Prelude.{◌≡◌, ◌-◌, ◌<◌, ◌≤◌, ◌^◌, length, IfOk};
+ghost use Rattle.move_definitions.specs.Certificates.{IsCertificate};
+ghost use Rattle.outcome_definitions.specs.Makings.{IsSummary, IsBulkAnswer};
+
+use crate::summaries::{Numbers, summary_outcome};
+use command_answers::Outcome;
+use cone_core::MAX_ENTRY;
+use double_description::{EnumFault, Order};
+use matching_equations::Coords;
+use no_memory::NoMemory;
+use skeleton::Skeleton;
+use sphere_certificate::{CheckFault, check};
+use std::alloc::Global;
+use surface_answers::large_outcome;
+use tri_build::Made;
+
+// Checks the certificate of a table that was made, which is one.
+fn accept(alloc: Global, made: &Made) -> Result<(), NoMemory>
+    requires few { length made.now.certificate.items < 2 ^ 32 - 1 }
+    requires certified { IsCertificate made.now.table made.now.certificate.items }
+{
+    match check(alloc, &made.table, &made.certificate) {
+        Ok(()) => Ok(()),
+        Err(CheckFault::NoMemory) => Err(NoMemory),
+        Err(_) => unreachable!(),
+    }
+}
+
+// What is told of a table that was made, by its skeleton.
+fn summed_up(alloc: Global, numbers: Numbers, skeleton: &Skeleton) -> Result<Outcome, NoMemory>
+    ensures { IfOk result (IsSummary numbers skeleton.now.rows) }
+{
+    match surface_list::surfaces(alloc, skeleton, Coords::Standard, Order::Given, MAX_ENTRY) {
+        Ok(surfaces) => summary_outcome(alloc, numbers, &surfaces),
+        Err(EnumFault::Large { order, kind }) => large_outcome(alloc, &order, &kind),
+        Err(EnumFault::NoMemory) => Err(NoMemory),
+    }
+}
+
+/// The outcome of `bulk`: a table is made by up to so many moves from a seed, its certificate is accepted, and its vertex
+/// surfaces in standard coordinates are summed up; or a number passes the limit while they are listed.
+pub fn bulk(alloc: Global, seed: u64, moves: u32) -> Result<Outcome, NoMemory>
+    requires { moves ≤ 1000 }
+    ensures { IfOk result (IsBulkAnswer seed moves) }
+{
+    let made = tri_build::make(alloc, seed, moves)?;
+    accept(alloc, &made)?;
+    let numbers = Numbers {
+        seed,
+        moves: made.certificate.len() as u32,
+        tetrahedra: made.table.len(),
+    };
+    let skeleton = Skeleton::of(alloc, &made.table)?;
+    summed_up(alloc, numbers, &skeleton)
+}
