@@ -1,6 +1,6 @@
 -- What a run answers to a document of `surfaces` or `rays`, whatever its status.
 use Rattle.std.proofs.Common.{◌≡◌, ◌≤◌, ℕ, List, length, Bool, true, false, Option, Some, None, Ok, inl, inr, refl, sym, ◌∙◌, ap, subst, arith, nat_lt}
-use Rattle.std.specs.Prelude.{◌⊎◌, ◌<◌, IfSome, codes}
+use Rattle.std.specs.Prelude.{◌⊎◌, ◌<◌, ◌&&◌, IfSome, codes}
 use Rattle.std.proofs.lemmas.Bool.{ltb-true}
 use Rattle.std.specs.Bool.{MatchBool}
 use Rattle.bench_io.specs.Causes.{Grows}
@@ -11,12 +11,13 @@ use Rattle.surface_definitions.specs.declared.Coords.{Coords}
 use Rattle.document_definitions.specs.Documents.{worded, table_document, cone_document}
 use Rattle.command_definitions.specs.declared.Request.{Request}
 use Rattle.command_definitions.specs.declared.Request.TheVariants.{Surfaces, Rays}
+use Rattle.command_definitions.specs.Requests.{reads_input}
 use Rattle.command_definitions.specs.Words.{accepted_request}
 use Rattle.outcome_definitions.specs.declared.Status.{Status}
 use Rattle.outcome_definitions.specs.declared.Status.TheVariants.{Done, Usage, Input, Refused, Large, ReadFault, WriteFault, NoMemory}
 use Rattle.outcome_definitions.specs.Outcomes.{Outcome, too_long_outcome, IsReadOutcome}
 use Rattle.outcome_definitions.specs.Enumerations.{IsEnumerationAnswer, IsSurfacesAnswer, ray_enumeration, list_outcome, large_outcome}
-use Rattle.outcome_definitions.specs.Answers.{IsOutcome, IsOutcomeOf, IsAnswerTo, most_bytes}
+use Rattle.outcome_definitions.specs.Answers.{IsOutcome, IsOutcomeOf, IsAnswerTo, is_too_long, most_bytes}
 use Rattle.workbench.specs.Runs.{IsAnswered}
 use Rattle.workbench.specs.Prints.{AnswersSurfaces, AnswersRays, IsCutShort}
 use Rattle.workbench.proofs.Headlines.{Tells}
@@ -26,9 +27,13 @@ within : (b : Bool) (A : Type 0) (o : Outcome) → b ≡ false → MatchBool b (
 within true A o e h = absurd (let z : true ≡ false = e in cc)
 within false A o e h = h
 
-not_long : (bytes : List ℕ) → length bytes ≤ most_bytes → nat_lt most_bytes (length bytes) ≡ false
-not_long bytes l = cases_false (nat_lt most_bytes (length bytes)) (λ long. let more : most_bytes < length bytes = ltb-true most_bytes (length bytes) long in omega arith)
+pub not_long : (r : Request) (bytes : List ℕ) → length bytes ≤ most_bytes → is_too_long r bytes ≡ false
+not_long r bytes l = and_false (reads_input r) (cases_false (nat_lt most_bytes (length bytes)) (λ long. let more : most_bytes < length bytes = ltb-true most_bytes (length bytes) long in omega arith))
   where
+    and_false : (b : Bool) {c : Bool} → c ≡ false → (b && c) ≡ false
+    and_false true e = e
+    and_false false e = refl
+
     cases_false : (b : Bool) → (b ≡ true → ⊥) → b ≡ false
     cases_false true f = absurd (f refl)
     cases_false false f = refl
@@ -38,7 +43,7 @@ module _ (words : List (List ℕ)) (bytes : List ℕ) (few : length bytes ≤ mo
   o = t.0
 
   answered : (r : Request) → accepted_request words ≡ Some r → IsAnswerTo r bytes o
-  answered r e = within (nat_lt most_bytes (length bytes)) (IsAnswerTo r bytes o) o (not_long bytes few) (subst (λ (asked : Option Request). IsOutcomeOf asked bytes o) e t.1)
+  answered r e = within (is_too_long r bytes) (IsAnswerTo r bytes o) o (not_long r bytes few) (subst (λ (asked : Option Request). IsOutcomeOf asked bytes o) e t.1)
 
   has_status : (p : Outcome) → o ≡ p → status ≡ p.status
   has_status p same = t.2 ∙ ap (λ (q : Outcome). q.status) same

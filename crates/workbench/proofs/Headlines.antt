@@ -1,6 +1,6 @@
 -- What a run that is done has printed follows from the outcome of the words and of the input.
 use Rattle.std.proofs.Common.{◌≡◌, ℕ, List, length, Bool, true, false, Option, Some, None, Result, Ok, Err, inl, inr, refl, sym, ◌∙◌, ap, subst}
-use Rattle.std.specs.Prelude.{IfSome, codes, nat_lt}
+use Rattle.std.specs.Prelude.{IfSome, codes}
 use Rattle.std.specs.Bool.{MatchBool}
 use Rattle.bench_io.specs.Causes.{Grows}
 use Rattle.signature_definitions.specs.declared.InputFault.{InputFault}
@@ -15,7 +15,7 @@ use Rattle.outcome_definitions.specs.declared.Status.{Status}
 use Rattle.outcome_definitions.specs.declared.Status.TheVariants.{Done, Input, Large}
 use Rattle.outcome_definitions.specs.Outcomes.{Outcome, too_long_outcome, fault_outcome, IsReadOutcome}
 use Rattle.outcome_definitions.specs.Enumerations.{IsEnumerationAnswer, IsSurfacesAnswer, ray_enumeration, list_outcome, large_outcome}
-use Rattle.outcome_definitions.specs.Answers.{IsOutcome, IsOutcomeOf, IsAnswerTo, IsVerdictsAnswer, verify_outcome, most_bytes}
+use Rattle.outcome_definitions.specs.Answers.{IsOutcome, IsOutcomeOf, IsAnswerTo, IsVerdictsAnswer, verify_outcome, is_too_long}
 use Rattle.workbench.specs.Runs.{IsAnswered}
 use Rattle.workbench.specs.Prints.{PrintsSurfaces, PrintsRays, PrintsVerdicts}
 
@@ -42,7 +42,7 @@ told read P o d f = f d.0 d.1 d.2
 
 module _ (words : List (List ℕ)) (bytes : List ℕ) (o : Outcome) (held grown : Option (List ℕ)) (outcome : IsOutcome words bytes o) (done : o.status ≡ Done) (grows : Grows held grown o.text) where
   answered : (r : Request) → accepted_request words ≡ Some r → IsAnswerTo r bytes o
-  answered r e = not_too_long (nat_lt most_bytes (length bytes)) (IsAnswerTo r bytes o) o done (subst (λ (asked : Option Request). IsOutcomeOf asked bytes o) e outcome)
+  answered r e = not_too_long (is_too_long r bytes) (IsAnswerTo r bytes o) o done (subst (λ (asked : Option Request). IsOutcomeOf asked bytes o) e outcome)
 
   printed : (p : Outcome) → o ≡ p → Grows held grown p.text
   printed p same = subst (λ (q : Outcome). Grows held grown q.text) same grows

@@ -1,3 +1,4 @@
 pub mod RunClauses
 pub mod Headlines
 pub mod Completeness
+mod Responses

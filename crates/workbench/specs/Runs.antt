@@ -1,11 +1,12 @@
 -- What a run answers, over what is read and what is written.
-use Rattle.std.specs.Prelude.{◌≡◌, ℕ, ◌-◌, ◌^◌, ◌<◌, ◌≤◌, ◌+◌, List, length, take, Option, ◌⊎◌, ⊤, IfSome}
+use Rattle.std.specs.Prelude.{◌≡◌, ℕ, ◌-◌, ◌^◌, ◌<◌, ◌≤◌, ◌+◌, true, false, List, [], length, take, Option, ◌⊎◌, ⊤, IfSome}
 use Rattle.bench_io.specs.Causes.{Grows, Rose, IsEnded}
 use Rattle.outcome_definitions.specs.declared.Status.{Status}
 use Rattle.outcome_definitions.specs.declared.Status.TheVariants.{Done, Usage, Input, Refused, Large, ReadFault, WriteFault, NoMemory}
 use Rattle.command_definitions.specs.declared.Request.{Request}
+use Rattle.command_definitions.specs.Requests.{reads_input}
 use Rattle.outcome_definitions.specs.Outcomes.{Outcome, IsOwnStatus, read_outcome}
-use Rattle.outcome_definitions.specs.Answers.{IsOutcome, IsRequestOutcome, most_bytes}
+use Rattle.outcome_definitions.specs.Answers.{IsOutcome, IsAnswerTo, IsRequestOutcome, most_bytes}
 
 -- the status, unless the sink failed or memory ran out
 abbrev pub Answers : Status → Status → Type 0
@@ -35,11 +36,12 @@ pub record IsReadFault (before now : ℕ) (o : Outcome) : Type 0 where
   pub rose : Rose before now
   pub outcome : o ≡ read_outcome
 
--- the source gave the input, whose outcome it is
+-- the source gave the input, if one was read, and the outcome is that of the request and of the input
 pub record IsReadWell (request : Request) (left rest : Option (List ℕ)) (before now : ℕ) (o : Outcome) : Type 0 where
   pub outcome : IfSome left (λ bytes. IsRequestOutcome request bytes o)
+  pub alone : reads_input request ≡ false → IsAnswerTo request [] o
   pub own_status : IsOwnStatus o.status
-  pub end : o.status ≡ Done → IsEnded rest
+  pub end : reads_input request ≡ true → o.status ≡ Done → IsEnded rest
   pub calm : IsCalm before now
 
 -- the outcome of a request over a source

@@ -1,5 +1,5 @@
 // The one call that does all that the program does.
-ghost use Rattle.std.specs.Prelude.{◌≡◌, ◌↔◌, ◌⊎◌, ◌-◌, ◌^◌, ◌<◌, ◌≤◌, ℕ, List, None, Some, Ok, length, IfOk, IfSome, OnErr};
+ghost use Rattle.std.specs.Prelude.{◌≡◌, ◌↔◌, ◌⊎◌, ◌-◌, ◌^◌, ◌<◌, ◌≤◌, ℕ, true, false, List, [], None, Some, Ok, length, IfOk, IfSome, OnErr};
 ghost use Rattle.bench_io.specs.Causes.{Grows, Rose, IsEnded};
 ghost use Rattle.outcome_definitions.specs.Lines.{read_line, usage_line};
 ghost use Rattle.cone_text_definitions.specs.ConeText.{Cone as ConeText};
@@ -8,22 +8,27 @@ ghost use Rattle.document_definitions.specs.Documents.{worded, table_document, c
 ghost use Rattle.outcome_definitions.specs.Outcomes as outcomes;
 ghost use Rattle.outcome_definitions.specs.Answers.{IsOutcome, IsAnswerTo, most_bytes};
 ghost use Rattle.command_definitions.specs.Words.{accepted_request};
-ghost use Rattle.command_definitions.specs.Requests.{IsBuilt};
+ghost use Rattle.command_definitions.specs.Requests.{HoldsRange, reads_input};
 ghost use Rattle.cone_definitions.specs.declared.Order.{Order};
 ghost use Rattle.surface_definitions.specs.declared.Coords.{Coords};
 ghost use Rattle.workbench.specs.Prints.{PrintsSurfaces, PrintsRays, PrintsVerdicts, AnswersSurfaces, AnswersRays};
 ghost use Rattle.workbench.specs.Runs.{Answers, IsAnswered, IsCalm, IsWithin, IsResponse, IsWithoutMemory, IsCutOff, IsDue, IsDelivered};
 
 use bench_io::{ReadEnd, Sink, Source, Words, read_all, write_all};
+use certificate_commands::{check, descend};
 use command_answers::Outcome;
 use command_words::{Request, WordsFault, read_words};
+use covering_commands::{cover, pi1};
 use enumeration_commands::{rays, surfaces, verify};
+use making_commands::{bulk, make};
 use move_commands::play;
 use no_memory::NoMemory;
 use outcome_definitions::Status;
+use part_commands::{csame, csig};
 use std::alloc::Global;
+use sum_commands::{addup, decompose};
 use table_commands::{group, info, same, sig};
-use vector_commands::{crush, lift};
+use vector_commands::{crush, describe, lift};
 
 /// An input has at most so many bytes.
 const MOST_BYTES: u64 = 1_048_576;
@@ -31,7 +36,7 @@ const MOST_BYTES: u64 = 1_048_576;
 // The answer of a command to an input that isn't too long.
 fn answer(alloc: Global, request: Request, bytes: &[u8]) -> Result<Outcome, NoMemory>
     requires size { length bytes.now ≤ most_bytes }
-    requires built { IsBuilt request }
+    requires in_range { HoldsRange request }
     ensures answer { IfOk result (λ o. IsAnswerTo request bytes.now o) }
 {
     match request {
@@ -40,23 +45,44 @@ fn answer(alloc: Global, request: Request, bytes: &[u8]) -> Result<Outcome, NoMe
         Request::Rays(order, limit) => rays(alloc, order, limit, bytes),
         Request::Info => info(alloc, bytes),
         Request::Play => play(alloc, bytes),
-        Request::Describe(_) => unreachable!(),
+        Request::Describe(coords) => describe(alloc, coords, bytes),
         Request::Lift => lift(alloc, bytes),
         Request::Crush => crush(alloc, bytes),
         Request::Sig => sig(alloc, bytes),
         Request::Same => same(alloc, bytes),
         Request::Group => group(alloc, bytes),
-        Request::Check => unreachable!(),
-        Request::Descend => unreachable!(),
-        Request::Make(_, _) => unreachable!(),
-        Request::Bulk(_, _) => unreachable!(),
+        Request::Check => check(alloc, bytes),
+        Request::Descend => descend(alloc, bytes),
+        Request::Make(seed, moves) => make(alloc, seed, moves),
+        Request::Bulk(seed, moves) => bulk(alloc, seed, moves),
+        Request::Decompose(coords, limit) => decompose(alloc, coords, limit, bytes),
+        Request::Addup(coords) => addup(alloc, coords, bytes),
+        Request::Cover => cover(alloc, bytes),
+        Request::Pi1 => pi1(alloc, bytes),
+        Request::Csig => csig(alloc, bytes),
+        Request::Csame => csame(alloc, bytes),
     }
 }
 
-// The outcome of a command over a source.
+// Whether the command reads its input.
+fn reads_input(request: Request) -> bool
+    ensures { result ≡ reads_input request }
+{
+    match request {
+        Request::Make(_, _) | Request::Bulk(_, _) => false,
+        _ => true,
+    }
+}
+
+// The outcome of a command that reads, over a source.
 #[tactic(auto, using(outcome_definitions::proofs::OwnStatus::answer_own))]
-fn respond<S: Source>(alloc: Global, request: Request, source: &mut S) -> Result<Outcome, NoMemory>
-    requires { IsBuilt request }
+fn respond_to_input<S: Source>(
+    alloc: Global,
+    request: Request,
+    source: &mut S,
+) -> Result<Outcome, NoMemory>
+    requires in_range { HoldsRange request }
+    requires reads { reads_input request ≡ true }
     ensures response { IfOk result (IsResponse request (S.left source.old) (S.left source.new) (S.faults source.old) (S.faults source.new)) }
     ensures no_memory { OnErr result (IsWithoutMemory (S.left source.old) (S.left source.new) (S.faults source.old) (S.faults source.new)) }
 {
@@ -66,6 +92,19 @@ fn respond<S: Source>(alloc: Global, request: Request, source: &mut S) -> Result
         Err(ReadEnd::TooLong) => Ok(Outcome::too_long()),
         Err(ReadEnd::NoMemory) => Err(NoMemory),
     }
+}
+
+// The outcome of a command over a source, which a command that reads nothing leaves as it was.
+fn respond<S: Source>(alloc: Global, request: Request, source: &mut S) -> Result<Outcome, NoMemory>
+    requires { HoldsRange request }
+    ensures response { IfOk result (IsResponse request (S.left source.old) (S.left source.new) (S.faults source.old) (S.faults source.new)) }
+    ensures no_memory { OnErr result (IsWithoutMemory (S.left source.old) (S.left source.new) (S.faults source.old) (S.faults source.new)) }
+    ensures untouched { reads_input request ≡ false → source.new ≡ source.old }
+{
+    if reads_input(request) {
+        return respond_to_input(alloc, request, source);
+    }
+    answer(alloc, request, &[])
 }
 
 // Writes an outcome.
@@ -104,7 +143,12 @@ pub fn run<S: Source, K: Sink>(alloc: Global, words: &Words, source: &mut S, sin
     // Every other status is that of the outcome of the words and of the input, whose text was appended.
     ensures outcome { IsAnswered result → IfSome (S.left source.old) (λ bytes. (o : outcomes.Outcome)
         × IsOutcome words.now bytes o × (result ≡ o.status) × Grows (K.held sink.old) (K.held sink.new) o.text) }
-    ensures end { result ≡ Status.Done → IsEnded (S.left source.new) }
+    ensures end { (request : Request) → accepted_request words.now ≡ Some request → reads_input request ≡ true → result ≡ Status.Done → IsEnded (S.left source.new) }
+
+    // A command that reads nothing leaves the source untouched, and its outcome is one of the words alone.
+    ensures untouched { (request : Request) → accepted_request words.now ≡ Some request → reads_input request ≡ false → source.new ≡ source.old }
+    ensures words_alone { (request : Request) → accepted_request words.now ≡ Some request → reads_input request ≡ false
+        → IsAnswered result → (o : outcomes.Outcome) × IsAnswerTo request [] o × (result ≡ o.status) × Grows (K.held sink.old) (K.held sink.new) o.text }
 
     // For every input that spells a gluing table, `surfaces` prints exactly the primitive integer vectors that lie on
     // extreme rays of its solution cone, in the coordinates asked for, and meet the quadrilateral condition, each once,

@@ -2,9 +2,19 @@
 #![tactic(auto)]
 
 #[cfg(test)]
+mod addup_rows;
+#[cfg(test)]
 mod answering_calls;
 #[cfg(test)]
+mod certificate_rows;
+#[cfg(test)]
+mod covering_rows;
+#[cfg(test)]
 mod crush_rows;
+#[cfg(test)]
+mod decompose_rows;
+#[cfg(test)]
+mod describe_rows;
 #[cfg(test)]
 mod group_rows;
 #[cfg(test)]
@@ -13,6 +23,10 @@ mod hostile_rows;
 mod info_rows;
 #[cfg(test)]
 mod lift_rows;
+#[cfg(test)]
+mod making_rows;
+#[cfg(test)]
+mod part_rows;
 #[cfg(test)]
 mod play_rows;
 #[cfg(test)]

@@ -121,8 +121,8 @@ const ROWS: [Row; 25] = [
         text: b"refused: usage\n",
     },
     Row {
-        words: &["check"],
-        input: b"tri 0\n",
+        words: &["make", "--seed", "0"],
+        input: b"",
         status: Status::Usage,
         text: b"refused: usage\n",
     },
