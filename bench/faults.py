@@ -1,0 +1,187 @@
+#!/usr/bin/env python3
+"""Lets each allocation, each read and each write of the built program fail in turn, command by command.
+
+    bench/faults.py [--command NAME] [--program PROGRAM]
+
+Each command runs on one worked input. Then it runs again with its first allocation refused, its second, and so on until a run
+ends before; the same with each read and each write, of which the program gets and puts only a few bytes at a time. Checked:
+where memory is refused, the answer is the ordinary one, or the status is 8 and nothing was written; where a read fails, the
+status is 6 and the line is `refused: read`; where a write fails, the status is 7 and a prefix of the answer was written; `make`
+and `bulk` never read. Prints for each command how many allocations, reads and writes there were.
+
+The faults come from a small library that is put before the C library, so a C compiler (`cc`) is needed.
+"""
+import argparse
+import os
+import subprocess
+import sys
+import tempfile
+
+from verify import HERE
+
+LIBRARY = r"""
+#define _GNU_SOURCE
+#include <dlfcn.h>
+#include <errno.h>
+#include <stdlib.h>
+#include <unistd.h>
+#include <fcntl.h>
+#include <stdio.h>
+
+static long allocations, reads, writes;
+
+static long wanted(const char *name) {
+  const char *value = getenv(name);
+  return value ? atol(value) : 0;
+}
+
+static int fails(const char *name, long *count) {
+  *count += 1;
+  return *count == wanted(name);
+}
+
+void *malloc(size_t size) {
+  static void *(*next)(size_t);
+  if (!next) next = dlsym(RTLD_NEXT, "malloc");
+  return fails("FAIL_ALLOCATION", &allocations) ? (errno = ENOMEM, (void *)0) : next(size);
+}
+
+void *realloc(void *old, size_t size) {
+  static void *(*next)(void *, size_t);
+  if (!next) next = dlsym(RTLD_NEXT, "realloc");
+  return fails("FAIL_ALLOCATION", &allocations) ? (errno = ENOMEM, (void *)0) : next(old, size);
+}
+
+static size_t few(size_t size) {
+  size_t most = wanted("MOST_BYTES");
+  return most && size > most ? most : size;
+}
+
+ssize_t read(int file, void *bytes, size_t size) {
+  static ssize_t (*next)(int, void *, size_t);
+  if (!next) next = dlsym(RTLD_NEXT, "read");
+  if (file) return next(file, bytes, size);
+  return fails("FAIL_READ", &reads) ? (errno = EIO, -1) : next(file, bytes, few(size));
+}
+
+ssize_t write(int file, const void *bytes, size_t size) {
+  static ssize_t (*next)(int, const void *, size_t);
+  if (!next) next = dlsym(RTLD_NEXT, "write");
+  if (file != 1) return next(file, bytes, size);
+  return fails("FAIL_WRITE", &writes) ? (errno = EIO, -1) : next(file, bytes, few(size));
+}
+
+__attribute__((destructor)) static void tell(void) {
+  const char *name = getenv("COUNTS");
+  if (!name) return;
+  int file = open(name, O_WRONLY | O_CREAT | O_TRUNC, 0600);
+  char line[80];
+  int size = snprintf(line, sizeof line, "%ld %ld %ld\n", allocations, reads, writes);
+  static ssize_t (*next)(int, const void *, size_t);
+  next = dlsym(RTLD_NEXT, "write");
+  if (file >= 0 && next(file, line, size) == size) close(file);
+}
+"""
+
+SPHERE = "tri 1\n0:1023 0:1023 0:1230 0:3012\n"
+SUM = SPHERE + "vec 3 3 1 1 2 0 0\ntimes 1 2\nterm 2 1 1 0 0 1 0 0\nterm 1 1 1 1 1 0 0 0\n"
+ROWS = [
+    (["surfaces"], SPHERE),
+    (["surfaces", "--coords", "octagon", "--order", "zeros"], "sig cPcbbbiht\n"),
+    (["rays"], "cone 3 2\n1 -2 0\n0 1 -2\n"),
+    (["verify"], SPHERE + "vec 1 1 0 0 1 0 0\nvec 1 0 0 0 0 0 0\n"),
+    (["info"], "sig cPcbbbiht\n"),
+    (["sig"], "sig bkaagn\n"),
+    (["same"], "sig bkaagn\nsig bkaagj\n"),
+    (["group"], "sig bkaagn\nsig bkaagb\nsig bkaagj\n"),
+    (["csig"], "tri 2\n- - - -\n1:1023 1:1023 1:1230 1:3012\n"),
+    (["csame"], "tri 2\n- - - -\n1:1023 1:1023 1:1230 1:3012\ntri 2\n0:1023 0:1023 0:1230 0:3012\n- - - -\n"),
+    (["cover"], "sig bkaaid\n"),
+    (["pi1"], "sig cPcbbbiht\n"),
+    (["describe"], "sig bkaajj\nvec 0 0 0 0 0 1 0\nvec 1 1 1 1 0 0 0\n"),
+    (["lift"], "sig bkaagj\nvec 1 0 0\n"),
+    (["crush"], "tri 2\n1:0123 1:0123 - -\n0:0123 0:0123 - -\nvec 1 1 0 0 0 0 0 0 0 0 0 1 0 0\n"),
+    (["decompose"], "sig bkaagj\nvec 3 3 1 1 2 0 0\n"),
+    (["addup"], SUM),
+    (["play"], SPHERE + "14 0\nundo\nredo\n23 0 0\n"),
+    (["check"], SPHERE + "14 0\n41 0 3\n"),
+    (["descend"], "tri 4\n1:0123 2:1023 3:1203 1:0123\n0:0123 2:0123 3:0213 0:0123\n0:1023 1:0123 3:0123 3:1203\n0:2013 1:0213 2:0123 2:2013\n"),
+    (["make", "--seed", "0", "--moves", "2"], ""),
+    (["bulk", "--seed", "0", "--moves", "1"], ""),
+    (["info"], "tri 1\n0:1023 - - -\n"),
+]
+
+
+class Runner:
+    """Runs the program with one fault."""
+
+    def __init__(self, program, folder):
+        self.program = program
+        self.counts = os.path.join(folder, "counts")
+        self.library = os.path.join(folder, "faults.so")
+        source = os.path.join(folder, "faults.c")
+        with open(source, "w", encoding="utf8") as file:
+            file.write(LIBRARY)
+        subprocess.run(["cc", "-shared", "-fPIC", "-O1", "-o", self.library, source, "-ldl"], check=True)
+
+    def run(self, words, text, **faults):
+        """The status, the answer, and how many allocations, reads and writes there were."""
+        around = dict(os.environ, LD_PRELOAD=self.library, COUNTS=self.counts, **{name: str(value) for name, value in faults.items()})
+        done = subprocess.run([self.program, *words], input=text.encode(), stdout=subprocess.PIPE, env=around, timeout=60, check=False)
+        with open(self.counts, encoding="utf8") as file:
+            return done.returncode, done.stdout, [int(n) for n in file.read().split()]
+
+
+def refused_memory(runner, words, text, status, answer, count):
+    for call in range(1, count + 1):
+        got = runner.run(words, text, FAIL_ALLOCATION=call)[:2]
+        if got not in ((status, answer), (8, b"")):
+            raise SystemExit(f"{words}: allocation {call} refused: {got}")
+
+
+def failing_reads(runner, words, text, status, answer):
+    call = 0
+    while True:
+        call += 1
+        got, said, counts = runner.run(words, text, FAIL_READ=call, MOST_BYTES=7)
+        if counts[1] < call:
+            if (got, said) != (status, answer):
+                raise SystemExit(f"{words}: no read failed: {got} {said}")
+            return call - 1
+        if (got, said) != (6, b"refused: read\n"):
+            raise SystemExit(f"{words}: read {call} failed: {got} {said}")
+
+
+def failing_writes(runner, words, text, status, answer):
+    call = 0
+    while True:
+        call += 1
+        got, said, counts = runner.run(words, text, FAIL_WRITE=call, MOST_BYTES=5)
+        if counts[2] < call:
+            if (got, said) != (status, answer):
+                raise SystemExit(f"{words}: no write failed: {got} {said}")
+            return call - 1
+        if got != 7 or said != answer[:len(said)] or len(said) == len(answer):
+            raise SystemExit(f"{words}: write {call} failed: {got} {said}")
+
+
+def main():
+    parser = argparse.ArgumentParser()
+    parser.add_argument("--command")
+    parser.add_argument("--program", default=os.path.join(HERE, "..", "crates", "trinorm", "out", "trinorm"))
+    given = parser.parse_args()
+    with tempfile.TemporaryDirectory() as folder:
+        runner = Runner(given.program, folder)
+        for words, text in ROWS:
+            if given.command not in (None, words[0]):
+                continue
+            status, answer, (allocations, _, _) = runner.run(words, text)
+            refused_memory(runner, words, text, status, answer, allocations)
+            reads = failing_reads(runner, words, text, status, answer)
+            writes = failing_writes(runner, words, text, status, answer)
+            print(f"{' '.join(words):48} status {status}: {allocations:5} allocations, {reads:3} reads, {writes:3} writes")
+            sys.stdout.flush()
+
+
+if __name__ == "__main__":
+    main()
