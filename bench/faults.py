@@ -139,30 +139,22 @@ def refused_memory(runner, words, text, status, answer, count):
             raise SystemExit(f"{words}: allocation {call} refused: {got}")
 
 
-def failing_reads(runner, words, text, status, answer):
+def is_told(got, said):
+    """Whether a failed read is told."""
+    return (got, said) == (6, b"refused: read\n")
+
+
+def failing_calls(run, kind, ordinary, is_right):
+    """How many calls of a kind a run makes; where one fails, the end is right, and where none does, the ordinary one."""
     call = 0
     while True:
         call += 1
-        got, said, counts = runner.run(words, text, FAIL_READ=call, MOST_BYTES=7)
-        if counts[1] < call:
-            if (got, said) != (status, answer):
-                raise SystemExit(f"{words}: no read failed: {got} {said}")
+        got, said, counts = run(call)
+        failed = counts[kind] >= call
+        if not (is_right(got, said) if failed else (got, said) == ordinary):
+            raise SystemExit(f"call {call} of kind {kind}: {got} {said}")
+        if not failed:
             return call - 1
-        if (got, said) != (6, b"refused: read\n"):
-            raise SystemExit(f"{words}: read {call} failed: {got} {said}")
-
-
-def failing_writes(runner, words, text, status, answer):
-    call = 0
-    while True:
-        call += 1
-        got, said, counts = runner.run(words, text, FAIL_WRITE=call, MOST_BYTES=5)
-        if counts[2] < call:
-            if (got, said) != (status, answer):
-                raise SystemExit(f"{words}: no write failed: {got} {said}")
-            return call - 1
-        if got != 7 or said != answer[:len(said)] or len(said) == len(answer):
-            raise SystemExit(f"{words}: write {call} failed: {got} {said}")
 
 
 def main():
@@ -177,8 +169,13 @@ def main():
                 continue
             status, answer, (allocations, _, _) = runner.run(words, text)
             refused_memory(runner, words, text, status, answer, allocations)
-            reads = failing_reads(runner, words, text, status, answer)
-            writes = failing_writes(runner, words, text, status, answer)
+            reads = failing_calls(lambda call: runner.run(words, text, FAIL_READ=call, MOST_BYTES=7), 1, (status, answer), is_told)
+            if words[0] in ("make", "bulk") and reads:
+                raise SystemExit(f"{words}: {reads} reads")
+            writes = failing_calls(
+                lambda call: runner.run(words, text, FAIL_WRITE=call, MOST_BYTES=5), 2, (status, answer),
+                lambda got, said: got == 7 and said == answer[:len(said)] and len(said) < len(answer),
+            )
             print(f"{' '.join(words):48} status {status}: {allocations:5} allocations, {reads:3} reads, {writes:3} writes")
             sys.stdout.flush()
 
