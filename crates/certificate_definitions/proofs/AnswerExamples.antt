@@ -5,8 +5,8 @@ use Rattle.table_definitions.specs.Permutation.{four, IsPermutationOfFour, words
 use Rattle.std.specs.List.{slice_index_or}
 use Rattle.table_definitions.specs.Table.{Row, IsTable}
 use Rattle.table_definitions.specs.Relabelling.{Relabelling, IsRelabelling}
-use Rattle.table_definitions.proofs.Tests.{Carries-passed}
-use Rattle.table_definitions.proofs.RelationExamples.{sphere_table}
+use Rattle.table_definitions.proofs.Tests.{Carries-passed, table_from}
+use Rattle.table_definitions.proofs.RelationExamples.{sphere_table, four_tets_table}
 use Rattle.table_definitions.proofs.Tables.{sphere, four_tets, row, by}
 use Rattle.move_definitions.specs.Moves.{IsMoved}
 use Rattle.move_definitions.specs.declared.MoveFault.TheVariants.{Repeated}
@@ -19,7 +19,7 @@ use Rattle.certificate_definitions.specs.Answers.{IsChecked, IsDescended}
 use Rattle.certificate_definitions.specs.declared.CheckFault.TheVariants.{Illegal}
 use Rattle.certificate_definitions.proofs.Computed.{computed}
 use Rattle.certificate_definitions.proofs.CarriedTests.{Correspond-passed, IsCarriedBack-passed}
-use Rattle.certificate_definitions.proofs.MadeExamples.{table_from, four_tets_table, three_tets, three_tets_table, four_again, four_again_table, sphere_again, moved_by_23, moved_by_41}
+use Rattle.certificate_definitions.proofs.MadeExamples.{three_tets, three_tets_table, four_again, four_again_table, sphere_again, moved_by_23, moved_by_41}
 
 -- 41 0 3 on the table of four
 abbrev pub one_tet : List Row

@@ -6,6 +6,7 @@ use Rattle.table_definitions.specs.Permutation.{is_permutation, words}
 use Rattle.table_definitions.specs.Table.{Row, IsTable}
 use Rattle.table_definitions.specs.Relabelling.{Relabelling, IsRelabelling}
 use Rattle.table_definitions.proofs.Tables.{row, by}
+use Rattle.table_definitions.proofs.Tests.{table_from}
 use Rattle.move_definitions.specs.Moves.{IsMoved}
 use Rattle.move_definitions.proofs.MoveTests.{IsMoved-passed}
 use Rattle.move_definitions.proofs.RelationExamples.{at}
@@ -13,16 +14,15 @@ use Rattle.certificate_definitions.specs.CarriedBack.{IsCarriedBack, staying, Ar
 use Rattle.certificate_definitions.specs.Makings.{IsMade}
 use Rattle.certificate_definitions.proofs.Computed.{computed}
 use Rattle.certificate_definitions.proofs.CarriedTests.{Correspond-passed, IsCarriedBack-passed}
-use Rattle.certificate_definitions.proofs.MadeExamples.{table_from}
 
-abbrev word : ℕ → List ℕ
+abbrev pub word : ℕ → List ℕ
 word i = slice_index_or words i []
 
 -- the tables that are made
-abbrev made_0 : List Row
+abbrev pub made_0 : List Row
 made_0 = row (by 0 6) (by 0 6) (by 0 9) (by 0 18) ∷ []
 
-abbrev made_1 : List Row
+abbrev pub made_1 : List Row
 made_1 = row (by 1 0) (by 2 6) (by 3 8) (by 1 0) ∷ row (by 0 0) (by 2 0) (by 3 2) (by 0 0) ∷ row (by 0 6) (by 1 0) (by 3 0) (by 3 8) ∷ row (by 0 12) (by 1 2) (by 2 0) (by 2 12) ∷ []
 
 abbrev made_2 : List Row
@@ -69,11 +69,11 @@ abbrev by_0 : Relabelling
 by_0 = record { images = 0 ∷ []; perms = word 19 ∷ [] }
 
 -- are tables
-made_table_0 : IsTable made_0
+pub made_table_0 : IsTable made_0
 unfolding computed
 made_table_0 = table_from made_0 refl refl refl
 
-made_table_1 : IsTable made_1
+pub made_table_1 : IsTable made_1
 unfolding computed
 made_table_1 = table_from made_1 refl refl refl
 
@@ -110,7 +110,7 @@ unfolding computed
 now_table_1 = table_from now_1 refl refl refl
 
 -- to which the moves lead, there and back
-made_by_0 : IsMoved made_0 (at 0 (0 ∷ 1 ∷ 2 ∷ 3 ∷ [])) made_1
+pub made_by_0 : IsMoved made_0 (at 0 (0 ∷ 1 ∷ 2 ∷ 3 ∷ [])) made_1
 unfolding computed
 made_by_0 = IsMoved-passed made_0 (at 0 (0 ∷ 1 ∷ 2 ∷ 3 ∷ [])) made_1 (record { core = refl; legal = refl; length_is = refl; fours = refl; inner = refl; outer = refl })
 

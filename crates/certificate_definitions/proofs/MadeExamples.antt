@@ -1,13 +1,11 @@
 -- The making with the seed 0 and two moves, with its certificate 23 1 0 and 41 3 2.
-use Rattle.std.proofs.Common.{◌≡◌, ℕ, zero, suc, ◌<◌, Bool, true, List, [], ◌∷◌, length, get_or, Option, Some, None, refl, subst, arith, inl}
+use Rattle.std.proofs.Common.{◌≡◌, ℕ, zero, suc, ◌<◌, List, [], ◌∷◌, get_or, refl, arith, inl}
 use Rattle.std.specs.Prelude.{All}
-use Rattle.std.specs.List.{list_all}
-use Rattle.table_definitions.specs.Permutation.{four, IsPermutationOfFour, is_permutation, words}
-use Rattle.table_definitions.specs.Table.{Gluing, Row, Face, glue, faces, table_fault, IsTable}
+use Rattle.table_definitions.specs.Permutation.{four, IsPermutationOfFour, words}
+use Rattle.table_definitions.specs.Table.{Row, IsTable}
 use Rattle.table_definitions.specs.Relabelling.{Relabelling, IsRelabelling, Carries}
-use Rattle.table_definitions.proofs.TableLaws.{IsTable-no_fault, glued_tet, glued_face}
-use Rattle.table_definitions.proofs.Tests.{each_face, has_fours, fours_from, Carries-passed}
-use Rattle.table_definitions.proofs.RelationExamples.{sphere_table}
+use Rattle.table_definitions.proofs.Tests.{Carries-passed, table_from}
+use Rattle.table_definitions.proofs.RelationExamples.{sphere_table, four_tets_table}
 use Rattle.table_definitions.proofs.Tables.{sphere, four_tets, row, by}
 use Rattle.std.specs.List.{slice_index_or}
 use Rattle.move_definitions.specs.Moves.{IsMoved, inverse_move}
@@ -17,23 +15,6 @@ use Rattle.certificate_definitions.specs.CarriedBack.{Correspond, IsCarriedBack,
 use Rattle.certificate_definitions.specs.Makings.{IsMade}
 use Rattle.certificate_definitions.proofs.Computed.{computed}
 use Rattle.certificate_definitions.proofs.CarriedTests.{Correspond-passed, IsCarriedBack-passed}
-
--- tables, tested
-
-abbrev permutes_at : Option Gluing → Bool
-permutes_at None = true
-permutes_at (Some g) = is_permutation g.perm
-
-pub table_from : (rows : List Row) → has_fours rows ≡ true → list_all (λ x. permutes_at (glue rows x)) (faces (length rows)) ≡ true → table_fault rows ≡ None → IsTable rows
-table_from rows f p n =
-    IsTable-no_fault rows (fours_from rows f)
-    (λ x g e. subst (λ (o : Option Gluing). permutes_at o ≡ true) e
-    (each_face (λ (y : Face). permutes_at (glue rows y)) (length rows) p x (glued_tet rows x g e) (glued_face rows x g (fours_from rows f) e)))
-    n
-
-pub four_tets_table : IsTable four_tets
-unfolding computed
-four_tets_table = table_from four_tets refl refl refl
 
 -- 32 0 13 on the table of four
 abbrev pub three_tets : List Row

@@ -1,11 +1,11 @@
 -- The making with the seed 6 and four moves, which has moves 2-3, 3-2 and 2-3, computed.
-use Rattle.std.proofs.Common.{ℕ, List, [], ◌∷◌, refl, arith, inl}
-use Rattle.std.specs.List.{slice_index_or}
+use Rattle.std.proofs.Common.{List, [], ◌∷◌, refl, arith, inl}
 use Rattle.std.proofs.lemmas.List.Sums.{AllPass-from_list_all}
-use Rattle.table_definitions.specs.Permutation.{is_permutation, words}
+use Rattle.table_definitions.specs.Permutation.{is_permutation}
 use Rattle.table_definitions.specs.Table.{Row, IsTable}
 use Rattle.table_definitions.specs.Relabelling.{Relabelling, IsRelabelling}
 use Rattle.table_definitions.proofs.Tables.{row, by}
+use Rattle.table_definitions.proofs.Tests.{table_from}
 use Rattle.move_definitions.specs.Moves.{IsMoved}
 use Rattle.move_definitions.proofs.MoveTests.{IsMoved-passed}
 use Rattle.move_definitions.proofs.RelationExamples.{at}
@@ -13,17 +13,7 @@ use Rattle.certificate_definitions.specs.CarriedBack.{IsCarriedBack, staying, Ar
 use Rattle.certificate_definitions.specs.Makings.{IsMade}
 use Rattle.certificate_definitions.proofs.Computed.{computed}
 use Rattle.certificate_definitions.proofs.CarriedTests.{Correspond-passed, IsCarriedBack-passed}
-use Rattle.certificate_definitions.proofs.MadeExamples.{table_from}
-
-abbrev word : ℕ → List ℕ
-word i = slice_index_or words i []
-
--- the tables that are made
-abbrev made_0 : List Row
-made_0 = row (by 0 6) (by 0 6) (by 0 9) (by 0 18) ∷ []
-
-abbrev made_1 : List Row
-made_1 = row (by 1 0) (by 2 6) (by 3 8) (by 1 0) ∷ row (by 0 0) (by 2 0) (by 3 2) (by 0 0) ∷ row (by 0 6) (by 1 0) (by 3 0) (by 3 8) ∷ row (by 0 12) (by 1 2) (by 2 0) (by 2 12) ∷ []
+use Rattle.certificate_definitions.proofs.LongMaking.{word, made_0, made_1, made_table_0, made_table_1, made_by_0}
 
 abbrev made_2 : List Row
 made_2 = row (by 2 16) (by 2 16) (by 1 8) (by 4 4) ∷ row (by 0 12) (by 3 3) (by 3 3) (by 4 6) ∷ row (by 3 0) (by 4 6) (by 0 16) (by 0 16) ∷ row (by 2 0) (by 4 0) (by 1 4) (by 1 4) ∷ row (by 2 6) (by 3 0) (by 0 3) (by 1 6) ∷ []
@@ -59,15 +49,6 @@ now_0 = row (by 0 9) (by 0 18) (by 0 1) (by 0 1) ∷ []
 abbrev by_0 : Relabelling
 by_0 = record { images = 0 ∷ []; perms = word 23 ∷ [] }
 
--- are tables
-made_table_0 : IsTable made_0
-unfolding computed
-made_table_0 = table_from made_0 refl refl refl
-
-made_table_1 : IsTable made_1
-unfolding computed
-made_table_1 = table_from made_1 refl refl refl
-
 made_table_2 : IsTable made_2
 unfolding computed
 made_table_2 = table_from made_2 refl refl refl
@@ -91,11 +72,6 @@ now_table_2 = table_from now_2 refl refl refl
 now_table_1 : IsTable now_1
 unfolding computed
 now_table_1 = table_from now_1 refl refl refl
-
--- to which the moves lead, there and back
-made_by_0 : IsMoved made_0 (at 0 (0 ∷ 1 ∷ 2 ∷ 3 ∷ [])) made_1
-unfolding computed
-made_by_0 = IsMoved-passed made_0 (at 0 (0 ∷ 1 ∷ 2 ∷ 3 ∷ [])) made_1 (record { core = refl; legal = refl; length_is = refl; fours = refl; inner = refl; outer = refl })
 
 made_by_1 : IsMoved made_1 (at 2 (0 ∷ 2 ∷ 3 ∷ [])) made_2
 unfolding computed

@@ -15,12 +15,12 @@ use Rattle.cone_definitions.specs.declared.Order.TheVariants.{Free}
 use Rattle.cone_definitions.proofs.Large.{one_is_named_lem, none_is_named_lem}
 use Rattle.cone_definitions.proofs.NamedOrders.{one_named_order_lem}
 
-take_shorter : (rows : List Row) (n i : ℕ) → i ≤ n → n ≤ length rows → take i (take n rows) ≡ take i rows
-take_shorter rows n i less within =
-    sym (ap (λ (xs : List Row). take i xs) (sym (take-append-drop n rows)) ∙ take-append-le i (take n rows) (drop n rows) (let e = length-take n rows in omega arith))
+pub take_shorter : {A : Type 0} (xs : List A) (n i : ℕ) → i ≤ n → n ≤ length xs → take i (take n xs) ≡ take i xs
+take_shorter {A} xs n i less within =
+    sym (ap (λ (ys : List A). take i ys) (sym (take-append-drop n xs)) ∙ take-append-le i (take n xs) (drop n xs) (let e = length-take n xs in omega arith))
 
 -- the first n rows have the steps before n
-step_same : (columns : ℕ) (rows : List Row) (pairs : List Clash) (n i : ℕ) → i < n → n ≤ length rows → step_at columns (take n rows) pairs i ≡ step_at columns rows pairs i
+pub step_same : (columns : ℕ) (rows : List Row) (pairs : List Clash) (n i : ℕ) → i < n → n ≤ length rows → step_at columns (take n rows) pairs i ≡ step_at columns rows pairs i
 step_same columns rows pairs n i less within =
     let make : List Row → Row → Step = λ before row. record { columns = columns; pairs = pairs; before = before; row = row } in
     ap₂ make (take_shorter rows n i (omega arith) within) (get_or-take n rows i [] less)
@@ -33,7 +33,7 @@ large_longer limit columns rows pairs n k named less within h = record {
   at_step = subst (λ (s : Step). IsNamedAt limit s named) (step_same columns rows pairs n k less within) h.at_step;
 }
 
-length-in_order : (rows : List Row) (taken : List ℕ) → length (in_order rows taken) ≡ length taken
+pub length-in_order : (rows : List Row) (taken : List ℕ) → length (in_order rows taken) ≡ length taken
 length-in_order rows taken = length-map taken (λ k. slice_index_or rows k [])
 
 -- what is named is named in a longer list of rows that the order names

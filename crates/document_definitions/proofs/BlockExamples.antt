@@ -10,10 +10,10 @@ use Rattle.signature_definitions.specs.declared.InputFault.TheVariants.{Text}
 use Rattle.document_definitions.specs.Blocks.{Block, blocks_document, blocks_text}
 use Rattle.table_definitions.proofs.Tables.{sphere}
 
-abbrev line : List ℕ → List ℕ → List ℕ
+abbrev pub line : List ℕ → List ℕ → List ℕ
 line text rest = text ++ 10 ∷ rest
 
-place : {A : Type 0} → ℕ → ℕ → LexKind → Result A InputFault
+unfoldable pub place : {A : Type 0} → ℕ → ℕ → LexKind → Result A InputFault
 place l c kind = Err (Text (Lex (record { place = record { line = l; column = c }; kind = kind })))
 
 -- a table, and what follows it from line 2 on

@@ -1,25 +1,17 @@
 -- Documents, computed.
 use Rattle.document_definitions.proofs.Computed.{computed}
-use Rattle.std.proofs.Common.{◌≡◌, ℕ, pos, negsuc, List, [], ◌∷◌, ◌++◌, Result, Ok, Err, refl}
+use Rattle.std.proofs.Common.{◌≡◌, ℕ, pos, negsuc, [], ◌∷◌, ◌++◌, Ok, Err, refl}
 use Rattle.std.specs.Prelude.{codes}
-use Rattle.text_definitions.specs.declared.LexKind.{LexKind}
 use Rattle.text_definitions.specs.declared.LexKind.TheVariants.{MissingWord, NumberTooWide, ExtraWord, BadWord}
-use Rattle.table_definitions.specs.declared.TextFault.TheVariants.{Lex}
-use Rattle.signature_definitions.specs.declared.InputFault.{InputFault}
-use Rattle.signature_definitions.specs.declared.InputFault.TheVariants.{Text, Signature}
+use Rattle.signature_definitions.specs.declared.InputFault.TheVariants.{Signature}
 use Rattle.signature_definitions.specs.declared.SigFault.TheVariants.{Unreached}
 use Rattle.cone_text_definitions.specs.ConeText.{sparse}
 use Rattle.document_definitions.specs.Documents.{table_document, vectors_document, vector_document, two_tables_document, tables_document, cone_document}
 use Rattle.text_definitions.specs.Text.{lines_of, end_of}
 use Rattle.text_definitions.specs.declared.Place.{Place}
 use Rattle.document_definitions.specs.Signs.{shown, strange, line_end, input_end, signs_of}
+use Rattle.document_definitions.proofs.BlockExamples.{line, place}
 use Rattle.table_definitions.proofs.Tables.{sphere, other_sphere, table_gb, row, free}
-
-abbrev line : List ℕ → List ℕ → List ℕ
-line text rest = text ++ 10 ∷ rest
-
-place : {A : Type 0} → ℕ → ℕ → LexKind → Result A InputFault
-place l c kind = Err (Text (Lex (record { place = record { line = l; column = c }; kind = kind })))
 
 read : (vectors_document (line (codes "sig bkaagj") (line (codes "vec 1 1 0 0 1 0 0") (codes "vec"))) ≡ Ok (sphere, (1 ∷ 1 ∷ 0 ∷ 0 ∷ 1 ∷ 0 ∷ 0 ∷ []) ∷ [] ∷ []))
     × (tables_document (line (codes "sig bkaagn") (line (codes "sig bkaagb") (codes "sig bkaagj"))) ≡ Ok (other_sphere ∷ table_gb ∷ sphere ∷ []))

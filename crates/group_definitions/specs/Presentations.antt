@@ -2,13 +2,13 @@
 use Rattle.std.specs.Prelude.{◌≡◌, ℕ, ◌+◌, ◌<◌, Bool, not, List, ◌∷◌, [], ◌==◌, Option, Some, None, filter_map, slice_index, if◌then◌else◌, ◌↔◌}
 use Rattle.std.specs.List.{AllPairs, AllZip, Contains, position_or_len}
 use Rattle.table_definitions.specs.Lists.{has}
-use Rattle.table_definitions.specs.Table.{Gluing, Row, Face, glue}
+use Rattle.table_definitions.specs.Table.{Gluing, Row, Face, glue, face_number}
 use Rattle.table_definitions.specs.Classes.{least, is_least, degree}
 use Rattle.table_definitions.specs.Places.{face_of}
 use Rattle.skeleton_definitions.specs.Corners.{Corner, inner_edges}
 use Rattle.skeleton_definitions.specs.Skeleton.{Skeleton, IsAround}
 use Rattle.group_definitions.specs.declared.Letter.{Letter}
-use Rattle.group_definitions.specs.Trees.{IsTreeFace, IsTreePath, evens, is_odd_number, face_number}
+use Rattle.group_definitions.specs.Trees.{IsTreeFace, IsTreePath, evens, is_odd_number}
 
 -- a face of the class is a tree face
 abbrev pub HoldsTreeFace : Skeleton → ℕ → Type 0

@@ -3,16 +3,12 @@ use Rattle.std.proofs.Common.{◌≡◌, ℕ, ◌+◌, ◌<◌, ◌≤◌, ◌�
 use Rattle.std.specs.Prelude.{slice_index}
 use Rattle.std.proofs.Math.ListN.{get_or-append}
 use Rattle.std.proofs.Math.Seq.{get_or-append_seam}
-use Rattle.std.proofs.lemmas.Bool.{cases_lt}
+use Rattle.plain_facts.proofs.Numbers.{last_or_before}
 use Rattle.table_definitions.specs.Table.{Row, IsTable}
 use Rattle.table_definitions.specs.Classes.{IsNumbering}
 use Rattle.table_definitions.specs.Relabelling.{IsRelabelled}
 use Rattle.signature_definitions.specs.Spelling.{IsSignature}
 use Rattle.labelling_definitions.specs.Census.{table_in, signature_in, AreRelabelled, IsCensus, IsKnown, IsFresh, IsPlaced}
-
--- an index of a list and one more item is one of the list, or the last
-last_or_before : (n k : ℕ) → k < n + 1 → (k < n) ⊎ (k ≡ n)
-last_or_before n k h = ⊎_elim (λ (l : k < n). inl l) (λ more. inr (omega arith)) (cases_lt k n)
 
 -- what is known of the tables of a list, of one more, and of its signature's place
 pub record Step (tables : List (List Row)) (a : List Row) (classes : List ℕ) (before : List (List ℕ)) (text : List ℕ) (class : ℕ) (now : List (List ℕ)) : Type 0 where
@@ -187,16 +183,3 @@ module _ (tell : (a b : List Row) (s t : List ℕ) → IsTable a → IsTable b �
       };
       signed = λ i h. signed_at i (within i h);
     }
-
--- no tables
-pub empty_census : IsCensus [] [] []
-empty_census = record {
-  numbering = record {
-    one_each = refl;
-    in_range = λ i h. absurd (omega arith);
-    together = λ i j h k. absurd (omega arith);
-    ascending = λ i c h l. absurd (omega arith);
-    none_empty = λ c h. absurd (omega arith);
-  };
-  signed = λ k h. absurd (omega arith);
-}

@@ -1,25 +1,11 @@
 -- A list of tables has one census.
-use Rattle.std.proofs.Common.{◌≡◌, ℕ, ◌<◌, inl, inr, List, [], length, sym, ap, ◌∙◌, subst, arith, ext_get_or}
+use Rattle.std.proofs.Common.{◌≡◌, ℕ, ◌<◌, List, [], length, sym, ap, ◌∙◌, subst, arith, ext_get_or}
 use Rattle.std.specs.Prelude.{slice_index}
-use Rattle.std.proofs.lemmas.Bool.{cases_order}
 use Rattle.table_definitions.specs.Table.{Row}
 use Rattle.table_definitions.specs.Classes.{IsNumbering}
-use Rattle.table_definitions.proofs.ClassLaws.{numberings_agree}
+use Rattle.table_definitions.proofs.ClassLaws.{numberings_agree, one_count}
 use Rattle.signature_definitions.specs.Spelling.{IsSignature}
 use Rattle.labelling_definitions.specs.Census.{table_in, signature_in, AreRelabelled, IsCensus}
-
-no_more : (n : ℕ) (Same : ℕ → ℕ → Type 0) (classes : List ℕ) (k m : ℕ) → IsNumbering n Same classes k → IsNumbering n Same classes m → k < m → ⊥
-no_more n Same classes k m a b less =
-    let last = b.none_empty k less in
-    let below : slice_index classes last.0 < k = a.in_range last.0 last.1 in
-    let is : slice_index classes last.0 ≡ k = last.2 in omega arith
-
-one_count : (n : ℕ) (Same : ℕ → ℕ → Type 0) (classes : List ℕ) (k m : ℕ) → IsNumbering n Same classes k → IsNumbering n Same classes m → k ≡ m
-one_count n Same classes k m a b = elim (cases_order k m) [
-  | inl e ↦ e
-  | inr (inl less) ↦ absurd (no_more n Same classes k m a b less)
-  | inr (inr more) ↦ absurd (no_more n Same classes m k b a more)
-]
 
 module _ (one : (rows : List Row) (text other : List ℕ) → IsSignature rows text → IsSignature rows other → text ≡ other) where
   module _ (tables : List (List Row)) (classes others : List ℕ) (signatures texts : List (List ℕ)) (a : IsCensus tables classes signatures)

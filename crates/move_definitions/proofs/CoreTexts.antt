@@ -6,7 +6,7 @@ use Rattle.std.proofs.lemmas.Bool.{and_parts, ltb-true, false≢true}
 use Rattle.table_definitions.specs.Lists.{same_list}
 use Rattle.table_definitions.specs.Permutation.{digits_of}
 use Rattle.table_definitions.specs.Places.{edge_ends}
-use Rattle.table_definitions.proofs.ListLaws.{same_list-true}
+use Rattle.table_definitions.proofs.ListFacts.{same_list-true}
 use Rattle.move_definitions.specs.MoveText.{MoveKind, one_four, two_three, three_two, four_one, move_kind, digits_at, spelled, single, Step, undo, redo, step_word}
 
 -- the word of each kind

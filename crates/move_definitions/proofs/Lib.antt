@@ -1,4 +1,6 @@
 pub mod CoreTexts
+pub mod CoreTests
+pub mod StandIns
 pub mod MoveReadingLaws
 pub mod MoveFoundLaws
 pub mod WrittenLaws

@@ -6,14 +6,15 @@ use Rattle.table_definitions.specs.Places.{edge_ends}
 use Rattle.text_definitions.specs.Text.{Token, word, stray}
 use Rattle.text_definitions.specs.declared.LexFault.{LexFault}
 use Rattle.text_definitions.specs.Reading.{Reading, ◌>>=◌, word_at, number_at, end_line_at}
+use Rattle.text_definitions.proofs.Readers.{bind_ok}
 use Rattle.table_definitions.specs.Grammar.{AreWords, IsNumber}
-use Rattle.table_definitions.proofs.ReadingLaws.{bind_ok, ok_parts, with_tokens, behind, TakesWord, word_taken, TakesNumber, number_read}
+use Rattle.table_definitions.proofs.ReadingLaws.{ok_parts, with_tokens, behind, TakesWord, word_taken, TakesNumber, number_read}
+use Rattle.table_definitions.proofs.LineLaws.{line_ended}
 use Rattle.move_definitions.specs.Moves.{Move}
 use Rattle.move_definitions.specs.MoveText.{MoveKind, one_four, two_three, three_two, four_one, move_kind, spelled, spelled_at, single, vertices_at, core_at, kind_at, move_at, Step, play, undo, redo, step_word, named_step_at, step_at, played}
 use Rattle.move_definitions.specs.Grammar as grammar
 use Rattle.move_definitions.specs.Grammar.{IsCoreText, IsMoveLine, IsStepLine}
 use Rattle.move_definitions.proofs.CoreTexts.{kind_word, kind_named, names_step, step_named, vertex_spelled, edge_spelled}
-use Rattle.table_definitions.proofs.TableReadingLaws.{line_ended}
 
 -- a word is the first of the words of a line
 first_word : (ts : List Token) (c : Reading) (w : List ℕ) (d : Reading) (t : TakesWord ts c w d) (ws : List (List ℕ)) → AreWords t.rest ws → AreWords ts (w ∷ ws)

@@ -1,2 +1,3 @@
 pub mod OwnStatus
 pub mod CertificateStatus
+pub mod ClassTexts

@@ -9,8 +9,9 @@ use Rattle.move_definitions.specs.Sessions.{move_fault_text}
 use Rattle.certificate_definitions.specs.declared.CheckFault.{CheckFault}
 use Rattle.certificate_definitions.specs.declared.CheckFault.TheVariants.{NoMemory, Illegal, NotConnected, NotStandard}
 use Rattle.certificate_definitions.specs.Answers.{CheckAnswer, IsChecked, Descended, DescentAnswer, IsDescentAnswer}
+use Rattle.text_definitions.specs.Written.{line}
 use Rattle.outcome_definitions.specs.declared.Status.TheVariants.{Refused}
-use Rattle.outcome_definitions.specs.Lines.{line, accepted_text}
+use Rattle.outcome_definitions.specs.Lines.{accepted_text}
 use Rattle.outcome_definitions.specs.Outcomes.{Outcome}
 use Rattle.outcome_definitions.specs.Canonical.{done, not_connected_line, not_connected_outcome}
 

@@ -4,8 +4,8 @@ use Rattle.table_definitions.specs.Table.{Row}
 use Rattle.table_definitions.specs.TableText.{table_text}
 use Rattle.table_definitions.specs.Places.{IsConnected}
 use Rattle.cover_definitions.specs.Cover.{over, sheet, cover, cover_fault}
+use Rattle.text_definitions.specs.Written.{line}
 use Rattle.outcome_definitions.specs.declared.Status.TheVariants.{Refused}
-use Rattle.outcome_definitions.specs.Lines.{line}
 use Rattle.outcome_definitions.specs.Outcomes.{Outcome}
 use Rattle.outcome_definitions.specs.Information.{told, classes_text}
 use Rattle.outcome_definitions.specs.Canonical.{done}

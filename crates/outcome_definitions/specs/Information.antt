@@ -10,8 +10,8 @@ use Rattle.skeleton_definitions.specs.declared.LinkKind.{LinkKind}
 use Rattle.skeleton_definitions.specs.declared.LinkKind.TheVariants.{Sphere, Disc, Torus, Klein, Other}
 use Rattle.skeleton_definitions.specs.declared.Link.{Link}
 use Rattle.skeleton_definitions.specs.Skeleton.{Skeleton, IsSkeleton, IsValidClass, AreLinks}
+use Rattle.text_definitions.specs.Written.{line, yes_or_no}
 use Rattle.outcome_definitions.specs.declared.Status.TheVariants.{Done}
-use Rattle.outcome_definitions.specs.Lines.{line}
 use Rattle.outcome_definitions.specs.Outcomes.{Outcome}
 
 -- the skeleton of a table, the links of its vertex classes, which edge classes are valid, and whether the table is connected and orientable
@@ -39,10 +39,6 @@ pub record IsInformation (rows : List Row) (i : Information) : Type 0 where
   pub valid : AreValid i.skeleton i.skeleton.edges.count i.valid
   pub connected : IsTrue i.connected ↔ IsConnected rows
   pub orientable : IsTrue i.orientable ↔ IsOrientable rows
-
-abbrev pub yes_or_no : Bool → List ℕ
-yes_or_no true = codes "yes"
-yes_or_no false = codes "no"
 
 abbrev pub counted : List ℕ → ℕ → List ℕ
 counted name n = line (name ++ decimal n)

@@ -1,8 +1,9 @@
 -- The one line that is written for each refusal.
-use Rattle.std.specs.Prelude.{List, ℕ, [], ◌∷◌, ◌++◌, codes, decimal}
+use Rattle.std.specs.Prelude.{List, ℕ, [], ◌++◌, codes, decimal}
 use Rattle.text_definitions.specs.declared.LexKind.{LexKind}
 use Rattle.text_definitions.specs.declared.LexKind.TheVariants.{BadByte, MissingWord, NumberTooWide, ExtraWord, BadWord}
 use Rattle.text_definitions.specs.declared.LexFault.{LexFault}
+use Rattle.text_definitions.specs.Written.{line}
 use Rattle.table_definitions.specs.declared.TableFault.{TableFault}
 use Rattle.table_definitions.specs.declared.TableFault.TheVariants as table_faults
 use Rattle.table_definitions.specs.declared.TableFault.TheVariants.{NoSuchTet, SelfGlued, NotMutual}
@@ -15,10 +16,6 @@ use Rattle.signature_definitions.specs.declared.SigFault.TheVariants as sig_faul
 use Rattle.signature_definitions.specs.declared.SigFault.TheVariants.{BadChar, Short, BadType, Leftover, Destination, Gluing, FaceTaken, Trailing, Unreached, Width}
 use Rattle.signature_definitions.specs.declared.InputFault.{InputFault}
 use Rattle.signature_definitions.specs.declared.InputFault.TheVariants.{NoMemory, Text, Signature}
-
--- a text as a line
-abbrev pub line : List ℕ → List ℕ
-line text = text ++ 10 ∷ []
 
 abbrev pub kind_text : LexKind → List ℕ
 kind_text BadByte = codes "bad-byte"

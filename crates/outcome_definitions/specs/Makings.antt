@@ -6,7 +6,7 @@ use Rattle.cone_definitions.specs.Rows.{Row as EquationRow}
 use Rattle.cone_definitions.specs.Elimination.{Named}
 use Rattle.cone_definitions.specs.Listings.{Enumeration, IsListed, IsPastLimit}
 use Rattle.cone_definitions.specs.declared.Order.TheVariants.{Given}
-use Rattle.text_definitions.specs.Written.{limit}
+use Rattle.text_definitions.specs.Written.{limit, line}
 use Rattle.table_definitions.specs.Table.{Row}
 use Rattle.table_definitions.specs.TableText.{table_text}
 use Rattle.surface_definitions.specs.declared.Coords.TheVariants.{Standard}
@@ -18,7 +18,6 @@ use Rattle.move_definitions.specs.MoveText.{move_text}
 use Rattle.move_definitions.specs.Certificates.{IsCertificate}
 use Rattle.certificate_definitions.specs.Makings.{IsMade}
 use Rattle.outcome_definitions.specs.declared.Status.TheVariants.{Done}
-use Rattle.outcome_definitions.specs.Lines.{line}
 use Rattle.outcome_definitions.specs.Outcomes.{Outcome}
 use Rattle.outcome_definitions.specs.Enumerations.{large_outcome}
 

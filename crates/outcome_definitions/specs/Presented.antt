@@ -7,9 +7,9 @@ use Rattle.skeleton_definitions.specs.Skeleton.{Skeleton, IsSkeleton}
 use Rattle.group_definitions.specs.declared.Letter.{Letter}
 use Rattle.group_definitions.specs.Presentations.{Presentation, IsPresentation}
 use Rattle.group_definitions.specs.Groups.{HasGroup}
-use Rattle.outcome_definitions.specs.Lines.{line}
+use Rattle.text_definitions.specs.Written.{line, yes_or_no}
 use Rattle.outcome_definitions.specs.Outcomes.{Outcome}
-use Rattle.outcome_definitions.specs.Information.{yes_or_no, counted, classes_text}
+use Rattle.outcome_definitions.specs.Information.{counted, classes_text}
 use Rattle.outcome_definitions.specs.Canonical.{done, IsNotConnected}
 use Rattle.outcome_definitions.specs.Vectors.{IsInvalidTold}
 

@@ -5,8 +5,8 @@ use Rattle.table_definitions.specs.Table.{Row}
 use Rattle.table_definitions.specs.TableText.{table_text}
 use Rattle.move_definitions.specs.MoveText.{Step}
 use Rattle.move_definitions.specs.Sessions.{Session, IsTableOf, begun, StepAnswer, AreSteps, step_answer_text}
+use Rattle.text_definitions.specs.Written.{line}
 use Rattle.outcome_definitions.specs.declared.Status.TheVariants.{Done}
-use Rattle.outcome_definitions.specs.Lines.{line}
 use Rattle.outcome_definitions.specs.Outcomes.{Outcome}
 
 -- one line for each answer

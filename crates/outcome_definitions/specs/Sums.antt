@@ -1,7 +1,7 @@
 -- What `decompose` and `addup` are to answer: each vector as a sum of listed surfaces, or whether given sums are such.
 use Rattle.std.specs.Prelude.{◌≡◌, ◌⊎◌, ℕ, List, ◌∷◌, ◌++◌, length, Some, None, Result, Ok, Err, codes, decimal}
 use Rattle.std.specs.List.{All, AllZip}
-use Rattle.text_definitions.specs.Written.{limit}
+use Rattle.text_definitions.specs.Written.{limit, line}
 use Rattle.cone_definitions.specs.Rows.{Row as EquationRow}
 use Rattle.cone_definitions.specs.Elimination.{Named}
 use Rattle.cone_definitions.specs.Listings.{Enumeration, IsListed, IsPastLimit}
@@ -23,7 +23,7 @@ use Rattle.outcome_definitions.specs.declared.SumRefusal.{SumRefusal}
 use Rattle.outcome_definitions.specs.declared.SumRefusal.TheVariants.{Unfit, UnfitTerm, LargeTimes, NoSum}
 use Rattle.outcome_definitions.specs.declared.Status.{Status}
 use Rattle.outcome_definitions.specs.declared.Status.TheVariants as statuses
-use Rattle.outcome_definitions.specs.Lines.{line, accepted_text}
+use Rattle.outcome_definitions.specs.Lines.{accepted_text}
 use Rattle.outcome_definitions.specs.Outcomes.{Outcome}
 use Rattle.outcome_definitions.specs.Enumerations.{large_outcome}
 

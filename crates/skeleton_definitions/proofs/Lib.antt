@@ -1,3 +1,5 @@
 pub mod Computed
 pub mod Evaluators
+pub mod Signs
 pub mod SkeletonExamples
+pub mod OneSkeleton

@@ -1,10 +1,10 @@
 -- The link of a vertex class: a triangle for each member.
-use Rattle.std.specs.Prelude.{◌≡◌, ℕ, ◌+◌, ◌*◌, ◌/◌, ◌%◌, ◌<◌, Bool, true, false, ◌&&◌, not, ℤ, pos, ◌-ℤ◌, ◌↔◌, List, [], ◌∷◌, length, ◌==◌, Option, Some, None, count_by, filter, map, zero, suc, slice_index, IsTrue}
+use Rattle.std.specs.Prelude.{◌≡◌, ℕ, ◌+◌, ◌*◌, ◌/◌, ◌%◌, ◌<◌, Bool, true, false, ◌&&◌, not, ℤ, pos, ◌-ℤ◌, ◌↔◌, List, [], ◌∷◌, length, ◌==◌, Option, Some, None, count_by, map, zero, suc, slice_index, IsTrue}
 use Rattle.std.specs.List.{list_all, flat_map}
 use Rattle.table_definitions.specs.Lists.{below, times_in}
 use Rattle.table_definitions.specs.Permutation.{image, others}
 use Rattle.table_definitions.specs.Table.{Gluing, Row, Face, glue, other_side, is_face_before}
-use Rattle.table_definitions.specs.Classes.{is_least}
+use Rattle.table_definitions.specs.Classes.{is_least, members}
 use Rattle.table_definitions.specs.Places.{Place, IsJoined, is_boundary}
 use Rattle.skeleton_definitions.specs.Orientation.{sign_of, sign_across}
 use Rattle.skeleton_definitions.specs.declared.LinkKind.{LinkKind}
@@ -21,10 +21,6 @@ SameDirected rows i j = IsJoined rows (directed i) (directed j)
 -- the number of the vertex v of tetrahedron t
 abbrev pub vertex_number : ℕ → ℕ → ℕ
 vertex_number t v = 4 * t + v
-
--- the members of vertex class c
-abbrev pub members : List ℕ → ℕ → List ℕ
-members classes c = filter (λ i. slice_index classes i == c) (below (length classes))
 
 -- the sides of the triangles of a vertex class, each as the face that it lies in
 abbrev pub sides : List ℕ → ℕ → List Face

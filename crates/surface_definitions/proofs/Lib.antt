@@ -6,3 +6,4 @@ pub mod VerdictLaws
 pub mod EquationLaws
 pub mod QuadExamples
 pub mod VectorLaws
+pub mod OneSystem

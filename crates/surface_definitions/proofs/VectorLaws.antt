@@ -6,11 +6,12 @@ use Rattle.text_definitions.specs.Text.{Token, word, stray}
 use Rattle.text_definitions.specs.declared.LexFault.{LexFault}
 use Rattle.text_definitions.specs.Reading.{Reading, ◌>>=◌, exactly_at, numbers_at}
 use Rattle.text_definitions.specs.Written.{limit}
+use Rattle.text_definitions.proofs.Readers.{bind_ok}
 use Rattle.cone_text_definitions.specs.VectorText.{vector_at}
 use Rattle.table_definitions.specs.Grammar.{AreWords, IsNumber}
 use Rattle.surface_definitions.specs.Grammar.{IsVectorLine}
 use Rattle.surface_definitions.specs.Laws.{ReadsVector}
-use Rattle.table_definitions.proofs.ReadingLaws.{bind_ok, with_tokens, behind, TakesWord, TakesNumbers, numbers_read, exactly_read, FindsNumbers, numbers_found, exactly_found}
+use Rattle.table_definitions.proofs.ReadingLaws.{with_tokens, behind, TakesWord, TakesNumbers, numbers_read, exactly_read, FindsNumbers, numbers_found, exactly_found}
 
 -- a vector line that was read
 pub record VectorRead (c : Reading) (xs : List ℕ) (d : Reading) : Type 0 where

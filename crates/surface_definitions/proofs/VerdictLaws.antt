@@ -21,10 +21,10 @@ row_fault-none max i row xs h =
     let parts : (nat_lt max (plus_part row xs) ≡ false) × (nat_lt max (minus_part row xs) ≡ false) = or_parts (nat_lt max (plus_part row xs)) (nat_lt max (minus_part row xs)) t.0 in
     (eqb-true (plus_part row xs) (minus_part row xs) t.1, (ltb-false max (plus_part row xs) parts.0, ltb-false max (minus_part row xs) parts.1))
 
-abbrev fault_by : ℕ → Bool → Bool → Option VectorFault
+abbrev pub fault_by : ℕ → Bool → Bool → Option VectorFault
 fault_by i l e = if l then Some (Large i) else (if e then None else Some (NotSolution i))
 
-none-row_fault : (max i : ℕ) (row : EquationRow) (xs : List ℕ) → IsZeroAt row xs → HasPartsUpTo max xs row → row_fault max i row xs ≡ None
+pub none-row_fault : (max i : ℕ) (row : EquationRow) (xs : List ℕ) → IsZeroAt row xs → HasPartsUpTo max xs row → row_fault max i row xs ≡ None
 none-row_fault max i row xs z p =
     let l : (nat_lt max (plus_part row xs) || nat_lt max (minus_part row xs)) ≡ false = or_from (nat_lt max (plus_part row xs)) (nat_lt max (minus_part row xs)) (le-ltb max (plus_part row xs) p.0) (le-ltb max (minus_part row xs) p.1) in
     let e : (plus_part row xs == minus_part row xs) ≡ true = eq-eqb (plus_part row xs) (minus_part row xs) z in

@@ -12,12 +12,10 @@ use Rattle.std.proofs.lemmas.List.FromFn.{length-range_with_len, get_or-range_wi
 use Rattle.std.proofs.lemmas.Bool.{eqb-true, eq-eqb}
 use Rattle.table_definitions.specs.Lists.{below, has}
 use Rattle.std.specs.List.{slice_set}
-use Rattle.std.proofs.lemmas.List.{length-set, take_more}
 use Rattle.std.proofs.Common.{take, below_more, ◌≤◌, ◌-◌, length-take-le, get_or-take, inl, inr}
-use Rattle.std.proofs.lemmas.Bool.{cases_eq}
 use Rattle.std.specs.Prelude.{◌⊎◌, ◌||◌, nat_lt}
 
-range-push : (a n : ℕ) → range_with_len a n ++ (a + n) ∷ [] ≡ range_with_len a (suc n)
+pub range-push : (a n : ℕ) → range_with_len a n ++ (a + n) ∷ [] ≡ range_with_len a (suc n)
 range-push a zero = ap (λ k. k ∷ []) (omega arith)
 range-push a (suc n) = ap (λ ks. a ∷ ks) (ap (λ k. range_with_len (a + 1) n ++ k ∷ []) (omega arith) ∙ range-push (a + 1) n)
 
@@ -27,6 +25,9 @@ below-push n = ap (λ k. below n ++ k ∷ []) (omega arith) ∙ range-push 0 n
 -- an element that isn't n
 pub not_there : (xs : List ℕ) (n k : ℕ) → has xs n ≡ false → k < length xs → get_or xs k 0 ≢ n
 not_there xs n k h l e = let t = list_any_at (λ m. m == n) xs k 0 l (eq-eqb _ _ e) in cc
+
+pub contains_has : (xs : List ℕ) (n : ℕ) → Contains xs n → has xs n ≡ true
+contains_has xs n h = list_any_at (λ m. m == n) xs h.0 n h.1 (eq-eqb (get_or xs h.0 n) n h.2)
 
 -- an element that is
 pub there : (xs : List ℕ) (n : ℕ) → has xs n ≡ true → (k : ℕ) × (k < length xs) × (n ≡ get_or xs k n)

@@ -92,7 +92,7 @@ pub record StandsFor (rows new : List Row) (by : Relabelling) (y : Face) (x : Fa
   pub is : face_under (stand_in by x.tet) x ≡ y
   pub glued : glue new y ≡ option_map (λ g. gluing_under (stand_in by x.tet) (stand_in by g.tet) g) (glue rows x)
 
-stands_for : (rows new : List Row) (by : Relabelling) → IsRelabelling (length rows) by → Carries by rows new → (y : Face) → y.tet < length rows → y.face < 4 → (x : Face) × StandsFor rows new by y x
+pub stands_for : (rows new : List Row) (by : Relabelling) → IsRelabelling (length rows) by → Carries by rows new → (y : Face) → y.tet < length rows → y.face < 4 → (x : Face) × StandsFor rows new by y x
 stands_for rows new by h c y lt lf = from (comes_from (length rows) by h y.tet lt)
   where
     from : (t : ℕ) × (t < length rows) × (slice_index by.images t ≡ y.tet) → (x : Face) × StandsFor rows new by y x

@@ -1,14 +1,15 @@
 -- Chains of gluings: they can be joined, turned and, in a table, followed back.
-use Rattle.std.proofs.Common.{◌≡◌, ℕ, ◌<◌, Bool, true, false, List, [], ◌∷◌, ◌++◌, map, reverse, Option, Some, None, refl, sym, ap, ◌∙◌, subst}
+use Rattle.std.proofs.Common.{◌≡◌, ℕ, ◌<◌, Bool, true, false, List, [], ◌∷◌, ◌++◌, map, reverse, Option, Some, None, refl, sym, ap, ◌∙◌, subst, arith, inl, inr}
 use Rattle.std.specs.Prelude.{◌==◌, ◌||◌, option_map, option_and_then, if◌then◌else◌}
 use Rattle.std.specs.List.{AllByRecursion}
 use Rattle.std.proofs.Math.Bool.{or_comm}
 use Rattle.std.proofs.lemmas.List.{reverse-append, map-append}
 use Rattle.std.proofs.lemmas.List.Folds.{list_any-append}
+use Rattle.std.proofs.lemmas.Bool.{cases_order}
 use Rattle.table_definitions.specs.Lists.{has}
 use Rattle.table_definitions.specs.Permutation.{image, inverse, IsPermutationOfFour}
 use Rattle.table_definitions.specs.Table.{Gluing, Row, Face, glue, way_back, IsTable}
-use Rattle.table_definitions.specs.Places.{Place, IsPlace, carried, across, along, IsJoined, turned}
+use Rattle.table_definitions.specs.Places.{Place, IsPlace, carried, across, along, IsJoined, turned, whole, SameComponent, IsConnected, IsLeastUnreached}
 use Rattle.table_definitions.proofs.PermutationLaws.{image_below, image-of_inverse, image_same}
 use Rattle.table_definitions.proofs.TableLaws.{glued_face}
 
@@ -42,11 +43,11 @@ has-images g [] f h a l = refl
 has-images g (v ∷ vs) f h a l = λ i. image_same g v f h a.0 l i || has-images g vs f h a.1 l i
 
 -- a step over a gluing, and the step back
-record Steps (rows : List Row) (p : Place) (f : ℕ) (q : Place) : Type 0 where
-  gluing : Gluing
-  glued : glue rows (record { tet = p.tet; face = f }) ≡ Some gluing
-  off : has p.vertices f ≡ false
-  lands : q ≡ carried gluing p
+pub record Steps (rows : List Row) (p : Place) (f : ℕ) (q : Place) : Type 0 where
+  pub gluing : Gluing
+  pub glued : glue rows (record { tet = p.tet; face = f }) ≡ Some gluing
+  pub off : has p.vertices f ≡ false
+  pub lands : q ≡ carried gluing p
 
 step_of : (rows : List Row) (p : Place) (f : ℕ) (q : Place) (o : Option Gluing) (b : Bool) → glue rows (record { tet = p.tet; face = f }) ≡ o → has p.vertices f ≡ b
     → if◌then◌else◌ {A = Option Place} b None (option_map (λ g. carried g p) o) ≡ Some q → Steps rows p f q
@@ -54,26 +55,48 @@ step_of rows p f q o true e h s = absurd cc
 step_of rows p f q None false e h s = absurd cc
 step_of rows p f q (Some g) false e h s = record { gluing = g; glued = e; off = h; lands = let same : carried g p ≡ q = cc in sym same }
 
-steps_across : (rows : List Row) (p : Place) (f : ℕ) (q : Place) → across rows p f ≡ Some q → Steps rows p f q
+pub steps_across : (rows : List Row) (p : Place) (f : ℕ) (q : Place) → across rows p f ≡ Some q → Steps rows p f q
 steps_across rows p f q e = step_of rows p f q (glue rows (record { tet = p.tet; face = f })) (has p.vertices f) refl refl e
 
-across_by : (rows : List Row) (p : Place) (f : ℕ) (g : Gluing) → glue rows (record { tet = p.tet; face = f }) ≡ Some g → has p.vertices f ≡ false → across rows p f ≡ Some (carried g p)
+pub across_by : (rows : List Row) (p : Place) (f : ℕ) (g : Gluing) → glue rows (record { tet = p.tet; face = f }) ≡ Some g → has p.vertices f ≡ false → across rows p f ≡ Some (carried g p)
 across_by rows p f g e h =
     ap (λ (b : Bool). if◌then◌else◌ {A = Option Place} b None (option_map (λ k. carried k p) (glue rows (record { tet = p.tet; face = f })))) h
     ∙ ap (λ (o : Option Gluing). option_map (λ k. carried k p) o) e
 
+-- a step crosses one of the four faces
+pub face_crossed : (rows : List Row) (p : Place) (f : ℕ) (q : Place) → IsTable rows → across rows p f ≡ Some q → f < 4
+face_crossed rows p f q t e = let s = steps_across rows p f q e in glued_face rows (record { tet = p.tet; face = f }) s.gluing t.four_faces s.glued
+
+-- from where a step leads, a step leads back
+pub step_back : (rows : List Row) (p : Place) (f : ℕ) (q : Place) → IsTable rows → IsPlace p → across rows p f ≡ Some q → (g : ℕ) × (g < 4) × (across rows q g ≡ Some p)
+step_back rows p f q t a e = (image s.gluing.perm f, image_below s.gluing.perm f h l, subst (λ (r : Place). across rows r (image s.gluing.perm f) ≡ Some p) (sym s.lands) back)
+  where
+    s : Steps rows p f q
+    s = steps_across rows p f q e
+
+    x : Face
+    x = record { tet = p.tet; face = f }
+
+    h : IsPermutationOfFour s.gluing.perm
+    h = t.permutes x s.gluing s.glued
+
+    l : f < 4
+    l = glued_face rows x s.gluing t.four_faces s.glued
+
+    home : carried (way_back x s.gluing) (carried s.gluing p) ≡ p
+    home = λ i. record { tet = p.tet; vertices = images_back s.gluing.perm p.vertices h a i }
+
+    back : across rows (carried s.gluing p) (image s.gluing.perm f) ≡ Some p
+    back = across_by rows (carried s.gluing p) (image s.gluing.perm f) (way_back x s.gluing) (t.leads_back x s.gluing s.glued) (has-images s.gluing.perm p.vertices f h a l ∙ s.off)
+        ∙ ap (λ (r : Place). Some r) home
+
 pub across_back : (rows : List Row) (p : Place) (f : ℕ) (q : Place) → IsTable rows → IsPlace p → across rows p f ≡ Some q → IsPlace q × IsJoined rows q p
 across_back rows p f q t a e =
     let s : Steps rows p f q = steps_across rows p f q e in
-    let x : Face = record { tet = p.tet; face = f } in
-    let h : IsPermutationOfFour s.gluing.perm = t.permutes x s.gluing s.glued in
-    let l : f < 4 = glued_face rows x s.gluing t.four_faces s.glued in
-    let back : across rows (carried s.gluing p) (image s.gluing.perm f) ≡ Some (carried (way_back x s.gluing) (carried s.gluing p)) =
-    across_by rows (carried s.gluing p) (image s.gluing.perm f) (way_back x s.gluing) (t.leads_back x s.gluing s.glued) (has-images s.gluing.perm p.vertices f h a l ∙ s.off) in
-    let home : carried (way_back x s.gluing) (carried s.gluing p) ≡ p = λ i. record { tet = p.tet; vertices = images_back s.gluing.perm p.vertices h a i } in
-    let one : along rows (carried s.gluing p) (image s.gluing.perm f ∷ []) ≡ Some p = ap (λ (o : Option Place). option_and_then (λ r. Some r) o) back ∙ ap (λ (r : Place). Some r) home in (
+    let h : IsPermutationOfFour s.gluing.perm = t.permutes (record { tet = p.tet; face = f }) s.gluing s.glued in
+    let back : (g : ℕ) × (g < 4) × (across rows q g ≡ Some p) = step_back rows p f q t a e in (
       subst (λ (r : Place). IsPlace r) (sym s.lands) (images_below s.gluing.perm p.vertices h a),
-      subst (λ (r : Place). IsJoined rows r p) (sym s.lands) (image s.gluing.perm f ∷ [], one),
+      (back.0 ∷ [], ap (λ (o : Option Place). option_and_then (λ r. Some r) o) back.2),
     )
 
 -- in a table a chain can be followed back
@@ -146,3 +169,38 @@ joined_step rows p f q e = (f ∷ [], ap (λ (o : Option Place). option_and_then
 
 pub joined_more : (rows : List Row) (p q : Place) (f : ℕ) (r : Place) → IsJoined rows p q → across rows q f ≡ Some r → IsJoined rows p r
 joined_more rows p q f r j e = joined_trans rows p q r j (joined_step rows q f r e)
+
+-- a step of a whole tetrahedron crosses a glued face
+pub record Crossed (rows : List Row) (p : Place) (f : ℕ) (q : Place) : Type 0 where
+  pub g : Gluing
+  pub glued : glue rows (record { tet = p.tet; face = f }) ≡ Some g
+  pub to : g.tet ≡ q.tet
+  pub bare : q.vertices ≡ []
+
+pub crossed : (rows : List Row) (p : Place) (f : ℕ) (q : Place) → p.vertices ≡ [] → across rows p f ≡ Some q → Crossed rows p f q
+crossed rows p f q h e = cases (glue rows (record { tet = p.tet; face = f })) refl
+  where
+    cases : (o : Option Gluing) → glue rows (record { tet = p.tet; face = f }) ≡ o → Crossed rows p f q
+    cases None n = let z : None ≡ Some q = sym (rw (h, n) refl) ∙ e in absurd cc
+    cases (Some g) n =
+        let z : Some (carried g p) ≡ Some q = sym (rw (h, n) refl) ∙ e in
+        let same : carried g p ≡ q = cc in
+        record { g = g; glued = n; to = ap (λ (r : Place). r.tet) same; bare = ap (λ (r : Place). r.vertices) (sym same) ∙ rw h refl }
+
+-- a gluing joins, and in a table being joined goes both ways
+pub gluing_joins : (rows : List Row) (x : Face) (g : Gluing) → glue rows x ≡ Some g → SameComponent rows x.tet g.tet
+gluing_joins rows x g e = (x.face ∷ [], rw e refl)
+
+pub joins_back : (rows : List Row) (t u : ℕ) → IsTable rows → SameComponent rows t u → SameComponent rows u t
+joins_back rows t u table j = joined_sym rows (whole t) (whole u) table tt j
+
+-- one tetrahedron is the least that isn't reached; in a connected table none is
+pub one_unreached : (rows : List Row) (t u : ℕ) → IsLeastUnreached rows t → IsLeastUnreached rows u → t ≡ u
+one_unreached rows t u a b = elim (cases_order t u) [
+  | inl e ↦ e
+  | inr (inl less) ↦ absurd (a.unreached (b.reached_before t less))
+  | inr (inr more) ↦ absurd (b.unreached (a.reached_before u more))
+]
+
+pub connected_or_not : (rows : List Row) (t : ℕ) → IsConnected rows → IsLeastUnreached rows t → ⊥
+connected_or_not rows t connected a = let h = a.in_range in a.unreached (connected 0 t (omega arith) h)

@@ -1,5 +1,5 @@
 -- Classes are numbered in one way alone, and by their least members.
-use Rattle.std.proofs.Common.{◌≡◌, ℕ, zero, suc, ◌<◌, ◌≤◌, false, List, ◌⊎◌, refl, sym, ap, ◌∙◌, subst, arith, ⊎_elim}
+use Rattle.std.proofs.Common.{◌≡◌, ℕ, zero, suc, ◌<◌, ◌≤◌, false, List, ◌⊎◌, refl, sym, ◌∙◌, subst, arith, ⊎_elim, inl, inr}
 use Rattle.std.specs.Prelude.{◌==◌, slice_index}
 use Rattle.std.proofs.lemmas.Bool.{eq-eqb, false≢true, cases_order, cases_lt}
 use Rattle.std.proofs.lemmas.List.Sums.{fails_before_first}
@@ -46,11 +46,16 @@ module _ (n : ℕ) (Same : ℕ → ℕ → Type 0) where
       (λ (h : least classes (slice_index classes i) ≤ i). h)
       (cases_lt i (least classes (slice_index classes i)))
 
-  -- lesser classes have lesser least members
-  pub least_ascend : (classes : List ℕ) (k : ℕ) → IsNumbering n Same classes k → (i c : ℕ) → i < n → c < slice_index classes i → least classes c < i
-  least_ascend classes k a i c hi h =
-      let before : (j : ℕ) × (j < i) × (slice_index classes j ≡ c) = a.ascending i c hi h in
-      let hj : before.0 < n = omega (arith, before.1) in
-      let up : least classes (slice_index classes before.0) ≤ before.0 = least_is_least classes k a before.0 hj in
-      let same : least classes (slice_index classes before.0) ≡ least classes c = ap (least classes) before.2 in
-      omega (arith, before.1)
+  -- and their number is one
+  no_more_classes : (classes : List ℕ) (k m : ℕ) → IsNumbering n Same classes k → IsNumbering n Same classes m → k < m → ⊥
+  no_more_classes classes k m a b less =
+      let last = b.none_empty k less in
+      let below : slice_index classes last.0 < k = a.in_range last.0 last.1 in
+      let is : slice_index classes last.0 ≡ k = last.2 in omega arith
+
+  pub one_count : (classes : List ℕ) (k m : ℕ) → IsNumbering n Same classes k → IsNumbering n Same classes m → k ≡ m
+  one_count classes k m a b = elim (cases_order k m) [
+    | inl e ↦ e
+    | inr (inl less) ↦ absurd (no_more_classes classes k m a b less)
+    | inr (inr more) ↦ absurd (no_more_classes classes m k b a more)
+  ]

@@ -13,8 +13,8 @@ use Rattle.table_definitions.specs.Table.{Gluing}
 use Rattle.text_definitions.specs.Text.{decimal_value, is_decimal, digits_value}
 use Rattle.table_definitions.specs.TableText.{permutation_of, gluing_parts, gluing_of}
 use Rattle.table_definitions.specs.Grammar.{IsNumber, IsGluingWord}
-use Rattle.table_definitions.proofs.ListLaws.{same_list-true}
 use Rattle.table_definitions.proofs.Permutations.{by_words, permutation_of-digits}
+use Rattle.table_definitions.proofs.ListFacts.{same_list-true}
 
 -- the byte `:`
 abbrev is_colon : ℕ → Bool

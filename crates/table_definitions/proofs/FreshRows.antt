@@ -12,7 +12,8 @@ use Rattle.table_definitions.specs.Table.{Gluing, Row, Face, other_side, way_bac
 use Rattle.table_definitions.specs.Replacing.{Replacement, leads_to, fresh_faces, fresh_row, back_to_fresh}
 use Rattle.table_definitions.proofs.TableLaws.{Among, Among-left, Among-right, Among-map, Among-four}
 use Rattle.table_definitions.specs.Replaceable.{fresh_numbers, fresh_glue, CanReplace}
-use Rattle.table_definitions.proofs.Carried.{same_from, same_to}
+use Rattle.table_definitions.proofs.Carried.{same_to}
+use Rattle.table_definitions.proofs.Faces.{same_face-true}
 
 abbrev Numbered : Type 0
 Numbered = ℕ × Row
@@ -119,12 +120,6 @@ Among-fresh (x ∷ xs) u f h l = by_test (x.0 == u) refl (λ t. Among-fresh xs u
 
 abbrev pub gives_back : Replacement → Face → Face → Option Gluing
 gives_back r y x = option_and_then (leads_to y x) (fresh_glue r x)
-
-same_face-true : (x y : Face) → same_face x y ≡ true → x ≡ y
-same_face-true x y h =
-    let p = same_from x.tet y.tet x.face y.face h in
-    let mk : ℕ → ℕ → Face = λ a b. record { tet = a; face = b } in
-    ap (λ a. mk a x.face) p.0 ∙ ap (λ b. mk y.tet b) p.1
 
 same_face-refl : (x y : Face) → x ≡ y → same_face x y ≡ true
 same_face-refl x y e = same_to x.tet y.tet x.face y.face (ap (λ (z : Face). z.tet) e) (ap (λ (z : Face). z.face) e)

@@ -7,7 +7,12 @@ pub mod PermutationLaws
 pub mod TableLaws
 pub mod ReadingLaws
 pub mod Tests
+pub mod Listed
+pub mod InPlace
+pub mod WrittenWords
+pub mod WrittenLines
 pub mod RelationExamples
+pub mod LineLaws
 pub mod EntryLaws
 pub mod TableReadingLaws
 pub mod TableFoundLaws
@@ -21,6 +26,7 @@ pub mod Bijections
 pub mod Ranks
 pub mod Kept
 pub mod Carried
+pub mod Faces
 pub mod FreshRows
 pub mod Replaced
 pub mod Moves

@@ -1,12 +1,15 @@
 -- Facts on lists of numbers and on tests of them.
-use Rattle.std.proofs.Common.{◌≡◌, ℕ, zero, suc, ◌+◌, ◌<◌, Bool, true, false, List, [], ◌∷◌, length, get_or, map, ◌++◌, ◌∙◌, Option, Some, None, refl, arith, subst, ap}
-use lib.Pointwise.{pointwise}
+use Rattle.std.proofs.Common.{◌≡◌, ℕ, zero, suc, ◌+◌, ◌<◌, Bool, true, false, List, [], ◌∷◌, length, get_or, map, ◌++◌, ◌∙◌, Option, Some, None, refl, arith, subst, ap, sym}
 use Rattle.std.proofs.Math.Dec.{eqb}
-use Rattle.std.specs.Prelude.{◌==◌, ◌&&◌}
-use Rattle.std.proofs.lemmas.List.FromFn.{length-range_with_len, get_or-range_with_len}
+use Rattle.std.specs.Prelude.{◌==◌, ◌&&◌, sum_by}
+use Rattle.std.proofs.lemmas.List.FromFn.{length-range_with_len, get_or-range_with_len, map-range_with_len_more}
 use Rattle.std.specs.List.{list_all, range_with_len}
-use Rattle.table_definitions.specs.Lists.{below, same_list, first_some, pairs_of}
 use Rattle.std.specs.Option.{option_or}
+use Rattle.std.proofs.lemmas.List.Sums.{sum_by_push}
+use lib.Pointwise.{pointwise}
+use Rattle.table_definitions.specs.Lists.{below, same_list, first_some, pairs_of}
+use Rattle.plain_facts.proofs.Options.{both_none}
+use Rattle.plain_facts.proofs.Numbers.{range_next}
 
 pub both_true : (a b : Bool) → a && b ≡ true → (a ≡ true) × (b ≡ true)
 both_true true true h = (refl, refl)
@@ -28,6 +31,13 @@ list_all-below test n h i l =
     let s = list_all-at test (below n) h i 0 in_range in
     let P : ℕ → Type 0 = λ k. test k ≡ true in
     subst P f s
+
+-- one number more below a bound, and a sum over them
+pub below_next : (n : ℕ) → below (n + 1) ≡ below n ++ n ∷ []
+below_next n = let e : 0 + n ≡ n = omega arith in range_next 0 n ∙ ap (λ k. below n ++ k ∷ []) e
+
+pub sum_below_next : (f : ℕ → ℕ) (n : ℕ) → sum_by f (below (n + 1)) ≡ sum_by f (below n) + f n
+sum_below_next f n = ap (sum_by f) (below_next n) ∙ sum_by_push f (below n) n
 
 pub same_list-true : (xs ys : List ℕ) → same_list xs ys ≡ true → xs ≡ ys
 same_list-true [] [] h = refl
@@ -110,23 +120,11 @@ first_some-none_below f n none =
     let Misses : ℕ → Type 0 = λ k. f k ≡ None in
     first_some-none_from f 0 n (λ k m. subst Misses (omega arith) (none k m))
 
-first_none : {B : Type 0} (a b : Option B) → option_or a b ≡ None → (a ≡ None) × (b ≡ None)
-first_none None b h = (refl, h)
-first_none (Some a) b h = cc
-
 -- where nothing is found, nothing is at any place
 pub first_some-is_none : {A B : Type 0} (f : A → Option B) (xs : List A) → first_some f xs ≡ None → (i : ℕ) (d : A) → i < length xs → f (get_or xs i d) ≡ None
 first_some-is_none f [] h i d l = absurd (omega arith)
-first_some-is_none f (x ∷ xs) h zero d l = (first_none (f x) (first_some f xs) h).0
-first_some-is_none f (x ∷ xs) h (suc i) d l = first_some-is_none f xs (first_none (f x) (first_some f xs) h).1 i d (omega arith)
-
-pub first_some-is_none_below : {B : Type 0} (f : ℕ → Option B) (n : ℕ) → first_some f (below n) ≡ None → (i : ℕ) → i < n → f i ≡ None
-first_some-is_none_below f n h i l =
-    let in_range : i < length (below n) = rw length-range_with_len l in
-    let e : get_or (below n) i 0 ≡ 0 + i = get_or-range_with_len 0 n i 0 l in
-    let e' : get_or (below n) i 0 ≡ i = omega arith in
-    let Misses : ℕ → Type 0 = λ k. f k ≡ None in
-    subst Misses e' (first_some-is_none f (below n) h i 0 in_range)
+first_some-is_none f (x ∷ xs) h zero d l = (both_none (f x) (first_some f xs) h).0
+first_some-is_none f (x ∷ xs) h (suc i) d l = first_some-is_none f xs (both_none (f x) (first_some f xs) h).1 i d (omega arith)
 
 -- lists whose elements a test finds equal
 pub pointwise-true : {A : Type 0} (E : A → A → Bool) → ((x y : A) → E x y ≡ true → x ≡ y) → (xs ys : List A) → pointwise E xs ys ≡ true → xs ≡ ys
@@ -140,3 +138,16 @@ pointwise-true E tells (x ∷ xs) (y ∷ ys) h =
 pub pointwise-refl : {A : Type 0} (E : A → A → Bool) → ((x : A) → E x x ≡ true) → (xs : List A) → pointwise E xs xs ≡ true
 pointwise-refl E same [] = refl
 pointwise-refl E same (x ∷ xs) = rw (same x) (pointwise-refl E same xs)
+
+-- a list that is made number by number
+pub map_below_more : {X : Type 0} (f : ℕ → X) (t : ℕ) (xs new : List X) (x : X) → xs ≡ map f (below t) → new ≡ xs ++ x ∷ [] → x ≡ f t → new ≡ map f (below (t + 1))
+map_below_more {X} f t xs new x a b e = b ∙ ap (λ (ys : List X). ys ++ x ∷ []) a ∙ ap (λ (y : X). map f (below t) ++ y ∷ []) e ∙ sym (map-range_with_len_more f 0 t t (omega arith))
+
+-- what is made of four entries, one by one
+pub four_made : {A B : Type 0} (f : A → B) (d : A) (xs : List A) → length xs ≡ 4 → f (get_or xs 0 d) ∷ f (get_or xs 1 d) ∷ f (get_or xs 2 d) ∷ f (get_or xs 3 d) ∷ [] ≡ map f xs
+four_made f d [] h = absurd (omega (arith, h))
+four_made f d (a ∷ []) h = absurd (omega (arith, h))
+four_made f d (a ∷ b ∷ []) h = absurd (omega (arith, h))
+four_made f d (a ∷ b ∷ c ∷ []) h = absurd (omega (arith, h))
+four_made f d (a ∷ b ∷ c ∷ e ∷ []) h = refl
+four_made f d (a ∷ b ∷ c ∷ e ∷ g ∷ xs) h = absurd (omega (arith, h))

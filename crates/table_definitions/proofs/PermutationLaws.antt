@@ -1,9 +1,9 @@
 -- Further laws of the permutations of four. Those on images take the vertex before the permutation's fact.
-use Rattle.std.proofs.Common.{◌≡◌, ℕ, zero, suc, ◌<◌, Bool, true, List, refl, sym, ◌∙◌, subst, arith, ⊎_elim}
+use Rattle.std.proofs.Common.{◌≡◌, ℕ, zero, suc, ◌<◌, Bool, true, List, refl, sym, ◌∙◌, subst, arith, ⊎_elim, ◌≢◌}
 use Rattle.std.specs.Prelude.{◌==◌, ◌&&◌, not, if◌then◌else◌}
 use Rattle.std.specs.List.{list_all}
 use Rattle.std.specs.Bool.{beq}
-use Rattle.std.proofs.lemmas.Bool.{and_parts, cases_eq}
+use Rattle.std.proofs.lemmas.Bool.{and_parts, cases_eq, eqb-true, eq-eqb}
 use Rattle.table_definitions.specs.Permutation.{IsPermutationOfFour, image, preimage, inverse, compose, is_odd, inversions, words}
 use Rattle.table_definitions.proofs.Permutations as permutations
 use Rattle.table_definitions.proofs.Permutations.{by_words, by_pairs, bool_equal}
@@ -50,3 +50,6 @@ image_same p v w h lv lw =
   where
     tests : list_all (λ q. all_below (λ y. all_below (λ x. beq (image q y == image q x) (y == x)) 4) 4) words ≡ true
     tests = unfold all_below in refl
+
+pub images_apart : (p : List ℕ) (v w : ℕ) → IsPermutationOfFour p → v < 4 → w < 4 → v ≢ w → image p v ≢ image p w
+images_apart p v w h lv lw apart same = apart (eqb-true v w (sym (image_same p v w h lv lw) ∙ eq-eqb (image p v) (image p w) same))

@@ -22,8 +22,8 @@ OneIs a b c d v = (a ≡ v) ⊎ (b ≡ v) ⊎ (c ≡ v) ⊎ (d ≡ v)
 four_below : (a b c d : ℕ) → OneIs a b c d 0 → OneIs a b c d 1 → OneIs a b c d 2 → OneIs a b c d 3 → (a < 4) × (b < 4) × (c < 4) × (d < 4)
 four_below a b c d h0 h1 h2 h3 = (omega arith, omega arith, omega arith, omega arith)
 
-has_lem : (a b c d v : ℕ) → has (a ∷ b ∷ c ∷ d ∷ []) v ≡ true → OneIs a b c d v
-has_lem a b c d v h = grind arith
+pub one_is : (a b c d v : ℕ) → has (a ∷ b ∷ c ∷ d ∷ []) v ≡ true → OneIs a b c d v
+one_is a b c d v h = grind arith
 
 below_four : (test : ℕ → Bool) → list_all test four ≡ true → (a : ℕ) → a < 4 → test a ≡ true
 below_four test h zero l = grind arith
@@ -54,7 +54,7 @@ has_each a b c d h v l = below_four (has (a ∷ b ∷ c ∷ d ∷ [])) (grind ar
 
 four_is_word : (a b c d : ℕ) → is_permutation (a ∷ b ∷ c ∷ d ∷ []) ≡ true → list_any (same_list (a ∷ b ∷ c ∷ d ∷ [])) words ≡ true
 four_is_word a b c d h =
-    let each : (v : ℕ) → v < 4 → OneIs a b c d v = λ v l. has_lem a b c d v (has_each a b c d h v l) in
+    let each : (v : ℕ) → v < 4 → OneIs a b c d v = λ v l. one_is a b c d v (has_each a b c d h v l) in
     let small : (a < 4) × (b < 4) × (c < 4) × (d < 4) = four_below a b c d (each 0 (omega arith)) (each 1 (omega arith)) (each 2 (omega arith)) (each 3 (omega arith)) in
     grind (arith, found_below a b c d small)
 
@@ -346,3 +346,31 @@ index_apart p q h k e = let f = words_at p h in let g = words_at q k in cc
 -- the permutation at a place
 pub words_found : (p : List ℕ) (i : ℕ) → IsPermutationOfFour p → index p ≡ i → slice_index_or words i [] ≡ p
 words_found p i h e = rw (← e) (words_at p h)
+
+-- the identity
+
+pub identity_permutes : IsPermutationOfFour identity
+unfolding is_permutation
+identity_permutes = refl
+
+pub inverse-identity : inverse identity ≡ identity
+unfolding inverse preimage
+inverse-identity = refl
+
+pub image-identity : (v : ℕ) → v < 4 → image identity v ≡ v
+image-identity zero l = refl
+image-identity (suc zero) l = refl
+image-identity (suc (suc zero)) l = refl
+image-identity (suc (suc (suc zero))) l = refl
+image-identity (suc (suc (suc (suc v)))) l = absurd (omega arith)
+
+-- a permutation that was carried, carried further
+pub carried_twice : (s r t u p : List ℕ) → IsPermutationOfFour s → IsPermutationOfFour r → IsPermutationOfFour t → IsPermutationOfFour u → IsPermutationOfFour p
+    → compose u (compose (compose r (compose p (inverse s))) (inverse t)) ≡ compose (compose u r) (compose p (inverse (compose t s)))
+carried_twice s r t u p hs hr ht hu hp =
+    let qs = inverse_permutes s hs in
+    let qt = inverse_permutes t ht in
+    let a : List ℕ = compose p (inverse s) in
+    let ha = compose_permutes p (inverse s) hp qs in
+    ap (compose u) (compose-compose r a (inverse t) hr ha qt) ∙ sym (compose-compose u r (compose a (inverse t)) hu hr (compose_permutes a (inverse t) ha qt))
+    ∙ ap (compose (compose u r)) (compose-compose p (inverse s) (inverse t) hp qs qt ∙ ap (compose p) (sym (inverse-of-compose t s ht hs)))

@@ -6,7 +6,7 @@ use Rattle.std.proofs.Math.ListN.{get_or-append}
 use Rattle.std.proofs.Math.Seq.{get_or-append_seam}
 use Rattle.std.proofs.lemmas.List.Elements.{filter-append}
 use Rattle.std.proofs.lemmas.List.Sums.{length-filter, sum_by-append, sum_by-cons, position_or_len_is}
-use Rattle.std.proofs.lemmas.Bool.{eqb-true, eq-eqb, lt-ltb, le-ltb, cases_lt}
+use Rattle.std.proofs.lemmas.Bool.{eqb-true, eq-eqb, lt-ltb, le-ltb, cases_lt, ne_eqb}
 use Rattle.table_definitions.specs.Lists.{below, has, closed_up}
 use Rattle.table_definitions.specs.Replaceable.{gone_before}
 use Rattle.table_definitions.proofs.Bijections.{below-push}
@@ -90,13 +90,6 @@ of_rank p (suc n) i l = by_size (cases_lt i (rank p n)) (λ m. of_rank p n i m)
 pub ranks_apart : (p : ℕ → Bool) (n t u : ℕ) → t < n → u < n → p t ≡ true → p u ≡ true → rank p t ≡ rank p u → t ≡ u
 ranks_apart p n t u lt lu pt pu e = sym (at_rank p n t lt pt).is ∙ ap (λ i. get_or (picked p n) i 0) e ∙ (at_rank p n u lu pu).is
 
-pub unequal : (a b : ℕ) → a ≢ b → (a == b) ≡ false
-unequal a b d = by_test (a == b) refl
-  where
-    by_test : (t : Bool) → (a == b) ≡ t → (a == b) ≡ false
-    by_test true e = absurd (d (eqb-true a b e))
-    by_test false e = e
-
 -- its position is its rank
 pub position_is_rank : (p : ℕ → Bool) (n u : ℕ) → u < n → p u ≡ true → position_or_len (λ v. v == u) (picked p n) ≡ rank p u
 position_is_rank p n u l h =
@@ -111,7 +104,7 @@ position_is_rank p n u l h =
         let stands : get_or (picked p n) (rank p t) 0 ≡ t = (at_rank p n t o.1 o.2).is in
         let at : get_or (picked p n) k 0 ≡ t = ap (λ i. get_or (picked p n) i 0) (sym o.3) ∙ stands in
         let differs : t ≢ u = λ e. (let r : rank p t ≡ rank p u = ap (rank p) e in let q = o.3 in absurd (omega arith)) in
-        ap (λ v. v == u) at ∙ unequal t u differs
+        ap (λ v. v == u) at ∙ ne_eqb t u differs
 
 -- numbers that are taken out
 
@@ -155,7 +148,7 @@ times_one (x ∷ xs) t up =
     by_test : (b : Bool) → (x == t) ≡ b → count_by (λ u. u == t) xs ≡ one_if (has xs t) → one_if (x == t) + count_by (λ u. u == t) xs ≡ one_if ((x == t) || has xs t)
     by_test true e before =
         let none : count_by (λ u. u == t) xs ≡ 0 =
-        count_none (λ u. u == t) xs (λ k l. unequal (get_or xs k 0) t (λ same. (let above : x < get_or xs k 0 = up 0 (suc k) 0 (omega arith) (omega arith) in let at = eqb-true x t e in absurd (omega arith)))) in
+        count_none (λ u. u == t) xs (λ k l. ne_eqb (get_or xs k 0) t (λ same. (let above : x < get_or xs k 0 = up 0 (suc k) 0 (omega arith) (omega arith) in let at = eqb-true x t e in absurd (omega arith)))) in
         rw e (omega arith)
     by_test false e before = rw e (omega arith)
 

@@ -7,6 +7,7 @@ use Rattle.text_definitions.specs.Text.{Token, word, stray, decimal_value}
 use Rattle.text_definitions.specs.declared.LexKind.TheVariants.{NumberTooWide, BadWord}
 use Rattle.text_definitions.specs.declared.LexFault.{LexFault}
 use Rattle.text_definitions.specs.Reading.{same_word, Reading, ◌>>=◌, column_at, word_at, number_at, number_up_to, exactly_at, numbers_from, word_fault}
+use Rattle.text_definitions.proofs.Readers.{bind_ok}
 use Rattle.table_definitions.specs.Grammar.{IsWord, AreWords, IsNumber}
 
 -- words that pass the test are equal, and equal words pass
@@ -24,11 +25,6 @@ same_word_refl (x ∷ xs) = and_from (eqb x x) (same_word xs xs) (eq-eqb x x ref
 
 same_word_from : (xs ys : List ℕ) → xs ≡ ys → same_word xs ys ≡ true
 same_word_from xs ys e = subst (λ (zs : List ℕ). same_word xs zs ≡ true) e (same_word_refl xs)
-
--- where two readers in a row are Ok, so is the first, and the second behind it
-pub bind_ok : {A B E : Type 0} (r : Result A E) (f : A → Result B E) (y : B) → (r >>= f) ≡ Ok y → (x : A) × (r ≡ Ok x) × (f x ≡ Ok y)
-bind_ok (Ok x) f y e = (x, refl, e)
-bind_ok (Err e') f y e = absurd cc
 
 -- the parts of what an Ok holds
 pub ok_parts : {A B E : Type 0} (x y : A × B) → (let r : Result (A × B) E = Ok x in r ≡ Ok y) → (x.0 ≡ y.0) × (x.1 ≡ y.1)

@@ -9,7 +9,7 @@ use Rattle.table_definitions.specs.declared.TableFault.TheVariants.{TooMany}
 use Rattle.table_definitions.specs.declared.TextFault.{TextFault}
 use Rattle.table_definitions.specs.declared.TextFault.TheVariants.{Table}
 use Rattle.table_definitions.specs.Table.{max_tets, Gluing, Row, IsTable, table_fault}
-use Rattle.text_definitions.specs.Text.{Token, word, stray, Line, decimal_value}
+use Rattle.text_definitions.specs.Text.{Token, word, Line, decimal_value}
 use Rattle.text_definitions.specs.declared.LexKind.TheVariants.{NumberTooWide}
 use Rattle.text_definitions.specs.declared.LexFault.{LexFault}
 use Rattle.text_definitions.specs.Reading.{word_at, Reading, ◌>>=◌, begun, need_line_at, end_line_at, number_at, exactly_at, word_fault}
@@ -17,26 +17,13 @@ use Rattle.text_definitions.specs.Written.{limit}
 use Rattle.table_definitions.specs.TableText.{lexed, gluing_of, gluing_entry, entry_at, row_at, rows_at, checked, counted_rows_at, table_at, tri_table_at}
 use Rattle.table_definitions.specs.Grammar.{AreWords, IsEntry, IsRowLine, AreTriLines}
 use Rattle.table_definitions.specs.Laws.{ReadsTriTable}
-use Rattle.table_definitions.proofs.ListLaws.{same_list-true, same_list_from}
+use Rattle.table_definitions.proofs.ListLaws.{same_list_from}
 use Rattle.table_definitions.proofs.ReadingLaws.{with_tokens, behind, one_number, exactly_found}
 use Rattle.table_definitions.proofs.EntryLaws.{gluing_of-word}
 use Rattle.table_definitions.proofs.TableLaws.{table_fault-IsTable}
-
--- the first word of a line, and the others
-record FirstWord (ts : List Token) (w : List ℕ) (ws : List (List ℕ)) : Type 0 where
-  column : ℕ
-  rest : List Token
-  tokens : ts ≡ word column w ∷ rest
-  others : AreWords rest ws
-
-first_word : (ts : List Token) (w : List ℕ) (ws : List (List ℕ)) → AreWords ts (w ∷ ws) → FirstWord ts w ws
-first_word [] w ws a = absurd a
-first_word (stray column ∷ ts) w ws a = absurd a.0
-first_word (word column v ∷ ts) w ws a = record { column = column; rest = ts; tokens = ap (λ (u : List ℕ). word column u ∷ ts) a.0; others = a.1 }
-
-no_words : (ts : List Token) → AreWords ts [] → ts ≡ []
-no_words [] a = refl
-no_words (t ∷ ts) a = absurd a
+use Rattle.table_definitions.proofs.ListFacts.{same_list-true}
+use Rattle.table_definitions.proofs.LineLaws.{with_later, end_found, FirstWord, first_word, no_words}
+use Rattle.table_definitions.proofs.TableReadingLaws.{Entry, after_line}
 
 -- the word of the first entry, and those of the others
 record FirstEntry (ws : List (List ℕ)) (o : Option Gluing) (row : Row) : Type 0 where
@@ -103,21 +90,14 @@ entry_in ts ws o row c a z =
       entries = e.others;
     }
 
--- a line of four entries is read as a row
-abbrev Entry : Type 0
-Entry = Option Gluing × Reading
-
 record RowFound (c : Reading) (row : Row) (ls : List Line) : Type 0 where
   left : Reading
   read : row_at c ≡ Ok (row, left)
   later : left.later ≡ ls
   at_end : left.current.tokens ≡ []
 
-abbrev entries_from : Reading → Result (Row × Reading) LexFault
-entries_from c = entry_at c >>= λ (e0 : Entry). entry_at e0.1 >>= λ (e1 : Entry). entry_at e1.1 >>= λ (e2 : Entry). entry_at e2.1 >>= λ (e3 : Entry). end_line_at e3.1 >>= λ (end : Reading). Ok (e0.0 ∷ e1.0 ∷ e2.0 ∷ e3.0 ∷ [], end)
-
 four_found : (c : Reading) (o0 o1 o2 o3 : Option Gluing) (d0 d1 d2 d3 d : Reading) → entry_at c ≡ Ok (o0, d0) → entry_at d0 ≡ Ok (o1, d1) → entry_at d1 ≡ Ok (o2, d2) → entry_at d2 ≡ Ok (o3, d3) → end_line_at d3 ≡ Ok d
-    → entries_from c ≡ Ok (o0 ∷ o1 ∷ o2 ∷ o3 ∷ [], d)
+    → after_line c ≡ Ok (o0 ∷ o1 ∷ o2 ∷ o3 ∷ [], d)
 four_found c o0 o1 o2 o3 d0 d1 d2 d3 d r0 r1 r2 r3 r =
     ap (λ (r : Result Entry LexFault). r >>= λ (e0 : Entry). entry_at e0.1 >>= λ (e1 : Entry). entry_at e1.1 >>= λ (e2 : Entry). entry_at e2.1 >>= λ (e3 : Entry). end_line_at e3.1 >>= λ (end : Reading). Ok (e0.0 ∷ e1.0 ∷ e2.0 ∷ e3.0 ∷ [], end)) r0
     ∙ ap (λ (r : Result Entry LexFault). r >>= λ (e1 : Entry). entry_at e1.1 >>= λ (e2 : Entry). entry_at e2.1 >>= λ (e3 : Entry). end_line_at e3.1 >>= λ (end : Reading). Ok (o0 ∷ e1.0 ∷ e2.0 ∷ e3.0 ∷ [], end)) r1
@@ -125,14 +105,10 @@ four_found c o0 o1 o2 o3 d0 d1 d2 d3 d r0 r1 r2 r3 r =
     ∙ ap (λ (r : Result Entry LexFault). r >>= λ (e3 : Entry). end_line_at e3.1 >>= λ (end : Reading). Ok (o0 ∷ o1 ∷ o2 ∷ e3.0 ∷ [], end)) r3
     ∙ ap (λ (r : Result Reading LexFault). r >>= λ (end : Reading). Ok (o0 ∷ o1 ∷ o2 ∷ o3 ∷ [], end)) r
 
-end_found : (ts : List Token) (c : Reading) → ts ≡ [] → end_line_at (with_tokens ts c) ≡ Ok (with_tokens [] c)
-unfolding end_line_at
-end_found ts c e = ap (λ (us : List Token). end_line_at (with_tokens us c)) e
-
 -- the four entries and the end of a line, one after another
 entries_found : (c c1 c2 c3 c4 : Reading) (ts r0 r1 r2 r3 : List Token) (o0 o1 o2 o3 : Option Gluing) → entry_at (with_tokens ts c) ≡ Ok (o0, with_tokens r0 c1) → entry_at (with_tokens r0 c1) ≡ Ok (o1, with_tokens r1 c2)
     → entry_at (with_tokens r1 c2) ≡ Ok (o2, with_tokens r2 c3) → entry_at (with_tokens r2 c3) ≡ Ok (o3, with_tokens r3 c4) → r3 ≡ [] → c4.later ≡ c.later
-    → (d : Reading) × (entries_from (with_tokens ts c) ≡ Ok (o0 ∷ o1 ∷ o2 ∷ o3 ∷ [], d)) × (d.later ≡ c.later) × (d.current.tokens ≡ [])
+    → (d : Reading) × (after_line (with_tokens ts c) ≡ Ok (o0 ∷ o1 ∷ o2 ∷ o3 ∷ [], d)) × (d.later ≡ c.later) × (d.current.tokens ≡ [])
 entries_found c c1 c2 c3 c4 ts r0 r1 r2 r3 o0 o1 o2 o3 e0 e1 e2 e3 none later = (
   with_tokens [] c4,
   four_found (with_tokens ts c) o0 o1 o2 o3 (with_tokens r0 c1) (with_tokens r1 c2) (with_tokens r2 c3) (with_tokens r3 c4) (with_tokens [] c4) e0 e1 e2 e3 (end_found r3 c4 none),
@@ -141,10 +117,10 @@ entries_found c c1 c2 c3 c4 ts r0 r1 r2 r3 o0 o1 o2 o3 e0 e1 e2 e3 none later = 
 )
 
 abbrev LineFound : List Token → Option Gluing → Option Gluing → Option Gluing → Option Gluing → Reading → Type 0
-LineFound ts o0 o1 o2 o3 c = (d : Reading) × (entries_from (with_tokens ts c) ≡ Ok (o0 ∷ o1 ∷ o2 ∷ o3 ∷ [], d)) × (d.later ≡ c.later) × (d.current.tokens ≡ [])
+LineFound ts o0 o1 o2 o3 c = (d : Reading) × (after_line (with_tokens ts c) ≡ Ok (o0 ∷ o1 ∷ o2 ∷ o3 ∷ [], d)) × (d.later ≡ c.later) × (d.current.tokens ≡ [])
 
 line_found : (ts : List Token) (ws : List (List ℕ)) (o0 o1 o2 o3 : Option Gluing) (c : Reading) → AreWords ts ws → AllZip IsEntry ws (o0 ∷ o1 ∷ o2 ∷ o3 ∷ [])
-    → (d : Reading) × (entries_from (with_tokens ts c) ≡ Ok (o0 ∷ o1 ∷ o2 ∷ o3 ∷ [], d)) × (d.later ≡ c.later) × (d.current.tokens ≡ [])
+    → (d : Reading) × (after_line (with_tokens ts c) ≡ Ok (o0 ∷ o1 ∷ o2 ∷ o3 ∷ [], d)) × (d.later ≡ c.later) × (d.current.tokens ≡ [])
 line_found ts ws o0 o1 o2 o3 c a z = from_first (entry_in ts ws o0 (o1 ∷ o2 ∷ o3 ∷ []) c a z)
   where
     from_fourth : (f0 : EntryFound ts ws (o1 ∷ o2 ∷ o3 ∷ []) c o0) (f1 : EntryFound f0.rest f0.rest_words (o2 ∷ o3 ∷ []) (behind f0.column c) o1)
@@ -164,9 +140,6 @@ line_found ts ws o0 o1 o2 o3 c a z = from_first (entry_in ts ws o0 (o1 ∷ o2 �
     from_first : EntryFound ts ws (o1 ∷ o2 ∷ o3 ∷ []) c o0 → LineFound ts o0 o1 o2 o3 c
     from_first f0 = from_second f0 (entry_in f0.rest f0.rest_words o1 (o2 ∷ o3 ∷ []) (behind f0.column c) f0.words f0.entries)
 
-abbrev with_later : List Line → Reading → Reading
-with_later ls c = record c { later = ls }
-
 row_in : (l : Line) (ls : List Line) (ws : List (List ℕ)) (row : Row) (c : Reading) → AreWords l.tokens ws → AllZip IsEntry ws row → length row ≡ 4 → RowFound (with_later (l ∷ ls) c) row ls
 unfolding row_at need_line_at
 row_in l ls ws [] c a z f = absurd (omega arith)
@@ -174,7 +147,7 @@ row_in l ls ws (o0 ∷ []) c a z f = absurd (omega arith)
 row_in l ls ws (o0 ∷ o1 ∷ []) c a z f = absurd (omega arith)
 row_in l ls ws (o0 ∷ o1 ∷ o2 ∷ []) c a z f = absurd (omega arith)
 row_in l ls ws (o0 ∷ o1 ∷ o2 ∷ o3 ∷ []) c a z f =
-    let r : (d : Reading) × (entries_from (begun l ls c) ≡ Ok (o0 ∷ o1 ∷ o2 ∷ o3 ∷ [], d)) × (d.later ≡ ls) × (d.current.tokens ≡ []) = line_found l.tokens ws o0 o1 o2 o3 (begun l ls c) a z in
+    let r : (d : Reading) × (after_line (begun l ls c) ≡ Ok (o0 ∷ o1 ∷ o2 ∷ o3 ∷ [], d)) × (d.later ≡ ls) × (d.current.tokens ≡ []) = line_found l.tokens ws o0 o1 o2 o3 (begun l ls c) a z in
     record { left = r.0; read = r.1; later = r.2; at_end = r.3 }
 row_in l ls ws (o0 ∷ o1 ∷ o2 ∷ o3 ∷ o4 ∷ row) c a z f = absurd (omega arith)
 

@@ -5,11 +5,13 @@ use Rattle.std.specs.Option.{option_or}
 use Rattle.std.specs.List.{range_with_len, slice_index_or}
 use Rattle.std.proofs.lemmas.List.{get_or_past}
 use Rattle.std.proofs.lemmas.Bool.{eqb-true, ltb-true, ltb-false, lt-ltb, le-ltb, and_parts, and_from, false≢true, cases_eq, cases_lt, not-true, not-false, not_from_false, eq-eqb}
+use Rattle.plain_facts.proofs.Options.{both_none}
 use Rattle.table_definitions.specs.Lists.{below, same_list, first_some, pairs_of}
 use Rattle.table_definitions.specs.Permutation.{four, IsPermutationOfFour}
 use Rattle.table_definitions.specs.declared.TableFault.TheVariants.{TooMany, NoSuchTet, SelfGlued, NotMutual}
 use Rattle.table_definitions.specs.Table.{max_tets, Gluing, Row, Face, glue, other_side, way_back, faces, same_face, IsTable, is_glued_by, gluing_fault, table_fault}
-use Rattle.table_definitions.proofs.ListLaws.{same_list-true, same_list_from}
+use Rattle.table_definitions.proofs.ListLaws.{same_list_from}
+use Rattle.table_definitions.proofs.ListFacts.{same_list-true}
 
 -- x stands in the list
 abbrev pub Among : {A : Type 0} → A → List A → Type 0
@@ -50,20 +52,22 @@ Among-pairs {A} {B} x y (z ∷ xs) ys (inr h) hy = Among-right {A = A × B} (x, 
 pub Among-four : (f : ℕ) → f < 4 → Among f four
 Among-four f h = Among-below f 4 h
 
+pub four-among : (f : ℕ) → Among f four → f < 4
+four-among f (inl e) = omega arith
+four-among f (inr (inl e)) = omega arith
+four-among f (inr (inr (inl e))) = omega arith
+four-among f (inr (inr (inr (inl e)))) = omega arith
+four-among f (inr (inr (inr (inr h)))) = absurd h
+
 pub Among-faces : (x : Face) (n : ℕ) → x.tet < n → x.face < 4 → Among x (faces n)
 Among-faces x n ht hf =
     Among-map (λ (p : ℕ × ℕ). let y : Face = record { tet = p.0; face = p.1 } in y) (x.tet, x.face) (pairs_of (below n) four)
     (Among-pairs x.tet x.face (below n) four (Among-below x.tet n ht) (Among-four x.face hf))
 
--- where nothing is found first, nothing is found at any item
-pub none_parts : {A : Type 0} (a b : Option A) → option_or a b ≡ None → (a ≡ None) × (b ≡ None)
-none_parts None b e = (refl, e)
-none_parts (Some x) b e = (e, cc)
-
 pub first_some-none : {A B : Type 0} (f : A → Option B) (x : A) (ys : List A) → first_some f ys ≡ None → Among x ys → f x ≡ None
 first_some-none f x [] e h = absurd h
-first_some-none f x (y ∷ ys) e (inl s) = ap f s ∙ (none_parts (f y) (first_some f ys) e).0
-first_some-none f x (y ∷ ys) e (inr h) = first_some-none f x ys (none_parts (f y) (first_some f ys) e).1 h
+first_some-none f x (y ∷ ys) e (inl s) = ap f s ∙ (both_none (f y) (first_some f ys) e).0
+first_some-none f x (y ∷ ys) e (inr h) = first_some-none f x ys (both_none (f y) (first_some f ys) e).1 h
 
 pub first_some_never : {A B : Type 0} (f : A → Option B) (xs : List A) → ((x : A) → f x ≡ None) → first_some f xs ≡ None
 first_some_never f [] never = refl
@@ -89,7 +93,7 @@ glued_face rows x g fours e =
     (cases_lt x.face 4)
 
 -- a test of a gluing says that it is this one
-is_glued_by-true : (o : Option Gluing) (g : Gluing) → is_glued_by o g ≡ true → o ≡ Some g
+pub is_glued_by-true : (o : Option Gluing) (g : Gluing) → is_glued_by o g ≡ true → o ≡ Some g
 is_glued_by-true None g e = absurd (false≢true e)
 is_glued_by-true (Some h) g e =
     let parts : (eqb h.tet g.tet ≡ true) × (same_list h.perm g.perm ≡ true) = and_parts (eqb h.tet g.tet) (same_list h.perm g.perm) e in
@@ -97,7 +101,7 @@ is_glued_by-true (Some h) g e =
     let perms : h.perm ≡ g.perm = same_list-true h.perm g.perm parts.1 in
     λ i. Some (record { tet = tets i; perm = perms i })
 
-is_glued_by-itself : (g : Gluing) → is_glued_by (Some g) g ≡ true
+pub is_glued_by-itself : (g : Gluing) → is_glued_by (Some g) g ≡ true
 is_glued_by-itself g = and_from (eqb g.tet g.tet) (same_list g.perm g.perm) (eq-eqb g.tet g.tet refl) (same_list_from g.perm g.perm refl)
 
 is_glued_by-from : (o : Option Gluing) (g : Gluing) → o ≡ Some g → is_glued_by o g ≡ true

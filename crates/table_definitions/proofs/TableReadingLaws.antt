@@ -10,21 +10,19 @@ use Rattle.table_definitions.specs.declared.TableFault.TheVariants.{TooMany}
 use Rattle.table_definitions.specs.declared.TextFault.{TextFault}
 use Rattle.table_definitions.specs.declared.TextFault.TheVariants.{Table}
 use Rattle.table_definitions.specs.Table.{max_tets, Gluing, Row, IsTable, table_fault}
-use Rattle.text_definitions.specs.Text.{Token, word, stray, Line, decimal_value}
+use Rattle.text_definitions.specs.Text.{Token, word, Line, decimal_value}
 use Rattle.text_definitions.specs.declared.LexKind.TheVariants.{NumberTooWide}
 use Rattle.text_definitions.specs.declared.LexFault.{LexFault}
-use Rattle.text_definitions.specs.Reading.{Reading, ◌>>=◌, begun, need_line_at, word_at, end_line_at, number_at, exactly_at, word_fault}
+use Rattle.text_definitions.specs.Reading.{Reading, ◌>>=◌, need_line_at, word_at, end_line_at, number_at, exactly_at, word_fault}
 use Rattle.text_definitions.specs.Written.{limit}
+use Rattle.text_definitions.proofs.Readers.{bind_ok}
 use Rattle.table_definitions.specs.TableText.{lexed, gluing_of, gluing_entry, entry_at, row_at, rows_at, checked, counted_rows_at, table_at, tri_table_at}
 use Rattle.table_definitions.specs.Grammar.{AreWords, IsEntry, IsRowLine, AreTriLines}
-use Rattle.table_definitions.proofs.ListLaws.{same_list-true}
-use Rattle.table_definitions.proofs.ReadingLaws.{bind_ok, ok_parts, with_tokens, behind, TakesWord, word_taken, TakesNumber, number_read, exactly_read}
+use Rattle.table_definitions.proofs.ReadingLaws.{ok_parts, with_tokens, behind, TakesWord, word_taken, TakesNumber, number_read, exactly_read}
 use Rattle.table_definitions.proofs.EntryLaws.{gluing_of-some}
 use Rattle.table_definitions.proofs.TableLaws.{IsTable-no_fault}
-
--- what an entry's word gives
-Read : Type 0 → Type 0
-Read A = Result (A × Reading) LexFault
+use Rattle.table_definitions.proofs.ListFacts.{same_list-true}
+use Rattle.table_definitions.proofs.LineLaws.{BeginsLine, line_begun, line_ended}
 
 abbrev entry_with : List ℕ → Reading → Result (Option Gluing × Reading) LexFault
 entry_with w c = if same_list w (codes "-") then Ok (None, c) else gluing_entry (gluing_of w) c
@@ -64,30 +62,8 @@ entry_read ts c o d e =
     let w : TakesWord ts c (first.0).0 (first.0).1 = word_taken ts c (first.0).0 (first.0).1 first.1 in
     record { w = (first.0).0; word = record { column = w.column; rest = w.rest; tokens = w.tokens; left = taken.1 ∙ w.left }; entry = taken.0 }
 
--- a line that was begun
-record BeginsLine (c d : Reading) : Type 0 where
-  line : Line
-  rest : List Line
-  lines : c.later ≡ line ∷ rest
-  left : d ≡ begun line rest c
-
-abbrev with_later : List Line → Reading → Reading
-with_later ls c = record c { later = ls }
-
-line_begun : (ls : List Line) (c d : Reading) → need_line_at (with_later ls c) ≡ Ok d → BeginsLine (with_later ls c) d
-unfolding need_line_at
-line_begun [] c d e = absurd cc
-line_begun (l ∷ ls) c d e = record { line = l; rest = ls; lines = refl; left = cc }
-
--- a line that was ended
-pub line_ended : (ts : List Token) (c d : Reading) → end_line_at (with_tokens ts c) ≡ Ok d → (ts ≡ []) × (d ≡ with_tokens [] c)
-unfolding end_line_at
-line_ended [] c d e = (refl, cc)
-line_ended (stray column ∷ ts) c d e = absurd cc
-line_ended (word column w ∷ ts) c d e = absurd cc
-
 -- a row is read entry by entry
-abbrev Entry : Type 0
+abbrev pub Entry : Type 0
 Entry = Option Gluing × Reading
 
 abbrev after_third : Entry → Entry → Entry → Entry → Result (Row × Reading) LexFault
@@ -99,7 +75,7 @@ after_second e0 e1 e2 = entry_at e2.1 >>= after_third e0 e1 e2
 abbrev after_first_entry : Entry → Entry → Result (Row × Reading) LexFault
 after_first_entry e0 e1 = entry_at e1.1 >>= after_second e0 e1
 
-abbrev after_line : Reading → Result (Row × Reading) LexFault
+abbrev pub after_line : Reading → Result (Row × Reading) LexFault
 after_line c = entry_at c >>= λ (e0 : Entry). entry_at e0.1 >>= after_first_entry e0
 
 -- a row that was read
@@ -168,7 +144,7 @@ row_read : (c : Reading) (row : Row) (d : Reading) → row_at c ≡ Ok (row, d) 
 unfolding row_at
 row_read c row d e =
     let first : (x : Reading) × (need_line_at c ≡ Ok x) × (after_line x ≡ Ok (row, d)) = bind_ok (need_line_at c) after_line (row, d) e in
-    let line : BeginsLine c first.0 = line_begun c.later c first.0 first.1 in
+    let line : BeginsLine c first.0 = line_begun c first.0 first.1 in
     let read : IsRowLine (first.0).current row × (d.later ≡ (first.0).later) × (d.current.tokens ≡ []) = row_of_line first.0 row d first.2 in
     record {
       line = line.line;
@@ -336,7 +312,7 @@ tri_table_read c rows d e =
     bind_ok (lexed (need_line_at c)) (λ (x : Reading). lexed (exactly_at (codes "tri") x) >>= λ (y : Reading). table_at y) (rows, d) e in
     let second : (y : Reading) × (lexed (exactly_at (codes "tri") first.0) ≡ Ok y) × (table_at y ≡ Ok (rows, d)) =
     bind_ok (lexed (exactly_at (codes "tri") first.0)) (λ (y : Reading). table_at y) (rows, d) first.2 in
-    from_line first.0 second.0 (line_begun c.later c first.0 (lexed_ok (need_line_at c) first.0 first.1))
+    from_line first.0 second.0 (line_begun c first.0 (lexed_ok (need_line_at c) first.0 first.1))
     (exactly_read (codes "tri") (first.0).current.tokens first.0 second.0 (lexed_ok (exactly_at (codes "tri") first.0) second.0 second.1)) second.2
   where
     from_table : (x y : Reading) → BeginsLine c x → (w : TakesWord x.current.tokens x (codes "tri") y) → TableRead w.rest (behind w.column x) rows d → TriTableRead c rows d

@@ -1,14 +1,15 @@
 -- Tests that decide the relations between tables, and what passes them: so the relations are met by the tables of the examples.
-use Rattle.std.proofs.Common.{◌≡◌, ℕ, ◌<◌, Bool, true, false, eqb, List, [], ◌∷◌, length, Option, Some, None, inl, inr, refl, ap, ◌∙◌}
+use Rattle.std.proofs.Common.{◌≡◌, ℕ, ◌<◌, Bool, true, false, eqb, List, [], ◌∷◌, length, Option, Some, None, inl, inr, refl, ap, ◌∙◌, subst}
 use Rattle.std.specs.Prelude.{◌&&◌, ◌==◌, All, option_map, slice_index_or}
 use Rattle.std.specs.List.{list_all}
 use Rattle.std.proofs.lemmas.Bool.{eqb-true, and_parts, false≢true}
 use Rattle.std.proofs.lemmas.List.Sums.{AllPass-from_list_all}
 use Rattle.table_definitions.specs.Lists.{same_list}
-use Rattle.table_definitions.specs.Table.{Gluing, Row, Face, glue, faces}
+use Rattle.table_definitions.specs.Permutation.{is_permutation}
+use Rattle.table_definitions.specs.Table.{Gluing, Row, Face, glue, faces, table_fault, IsTable}
 use Rattle.table_definitions.specs.Relabelling.{Relabelling, Carries, stand_in, face_under, gluing_under}
-use Rattle.table_definitions.proofs.ListLaws.{same_list-true}
-use Rattle.table_definitions.proofs.TableLaws.{Among, Among-faces}
+use Rattle.table_definitions.proofs.TableLaws.{Among, Among-faces, IsTable-no_fault, glued_tet, glued_face}
+use Rattle.table_definitions.proofs.ListFacts.{same_list-true}
 
 -- a test that each item passes is passed by one that stands there
 pub list_all-among : {A : Type 0} (t : A → Bool) (x : A) (ys : List A) → list_all t ys ≡ true → Among x ys → t x ≡ true
@@ -55,3 +56,15 @@ Carries-passed by old new l f e = record {
   four_faces = fours_from new f;
   glued = λ x ht hf. same_glue-true (glue new (face_under (stand_in by x.tet) x)) (option_map (λ g. gluing_under (stand_in by x.tet) (stand_in by g.tet) g) (glue old x)) (each_face (is_carried by old new) (length old) e x ht hf);
 }
+
+-- rows whose faces are glued by permutations, tested face by face
+abbrev pub permutes_at : Option Gluing → Bool
+permutes_at None = true
+permutes_at (Some g) = is_permutation g.perm
+
+pub table_from : (rows : List Row) → has_fours rows ≡ true → list_all (λ x. permutes_at (glue rows x)) (faces (length rows)) ≡ true → table_fault rows ≡ None → IsTable rows
+table_from rows f p n =
+    IsTable-no_fault rows (fours_from rows f)
+    (λ x g e. subst (λ (o : Option Gluing). permutes_at o ≡ true) e
+    (each_face (λ (y : Face). permutes_at (glue rows y)) (length rows) p x (glued_tet rows x g e) (glued_face rows x g (fours_from rows f) e)))
+    n

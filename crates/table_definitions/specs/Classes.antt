@@ -1,7 +1,7 @@
 -- Classes of things that are numbered from 0: a list names the class of each, and classes are numbered by their least member.
-use Rattle.std.specs.Prelude.{◌≡◌, ℕ, ◌<◌, Bool, ◌==◌, ◌↔◌, List, length, slice_index}
+use Rattle.std.specs.Prelude.{◌≡◌, ℕ, ◌<◌, Bool, ◌==◌, ◌↔◌, List, length, filter, slice_index}
 use Rattle.std.specs.List.{position_or_len}
-use Rattle.table_definitions.specs.Lists.{times_in}
+use Rattle.table_definitions.specs.Lists.{times_in, below}
 
 -- classes names the class of each of n things; Same says that two are in one class; there are count classes
 pub record IsNumbering (n : ℕ) (Same : ℕ → ℕ → Type 0) (classes : List ℕ) (count : ℕ) : Type 0 where
@@ -23,3 +23,7 @@ is_least classes i = least classes (slice_index classes i) == i
 -- the number of members of a class
 abbrev pub degree : List ℕ → ℕ → ℕ
 degree classes c = times_in classes c
+
+-- the members of a class, ascending
+abbrev pub members : List ℕ → ℕ → List ℕ
+members classes c = filter (λ i. slice_index classes i == c) (below (length classes))

@@ -1,5 +1,5 @@
 -- Gluing tables: a row for each tetrahedron, with what each of its faces 0 to 3 is glued by.
-use Rattle.std.specs.Prelude.{◌≡◌, ℕ, ◌<◌, ◌≤◌, Bool, false, ◌&&◌, ◌||◌, not, List, [], length, map, ◌==◌, nat_lt, Option, Some, None, IsTrue, All, if◌then◌else◌}
+use Rattle.std.specs.Prelude.{◌≡◌, ℕ, ◌+◌, ◌*◌, ◌<◌, ◌≤◌, Bool, false, ◌&&◌, ◌||◌, not, List, [], length, map, ◌==◌, nat_lt, Option, Some, None, IsTrue, All, if◌then◌else◌}
 use Rattle.std.specs.List.{slice_index_or}
 use Rattle.table_definitions.specs.declared.TableFault.{TableFault}
 use Rattle.table_definitions.specs.declared.TableFault.TheVariants.{TooMany, NoSuchTet, SelfGlued, NotMutual}
@@ -28,6 +28,10 @@ pub record Face : Type 0 where
 -- what a face is glued by
 abbrev pub glue : List Row → Face → Option Gluing
 glue rows x = slice_index_or (slice_index_or rows x.tet []) x.face None
+
+-- the number of a face, among all faces of a table
+abbrev pub face_number : Face → ℕ
+face_number x = 4 * x.tet + x.face
 
 -- the face to which the gluing g of the face x leads
 abbrev pub other_side : Face → Gluing → Face

@@ -1,5 +1,5 @@
--- A line as it is written from words, and the greatest number that may stand in one.
-use Rattle.std.specs.Prelude.{ℕ, List, [], ◌∷◌, ◌++◌}
+-- A line as it is written from words, truth values, and the greatest number that may stand in one.
+use Rattle.std.specs.Prelude.{ℕ, Bool, true, false, List, [], ◌∷◌, ◌++◌, codes}
 
 -- the greatest number that a document may name, 2 ^ 127 - 1
 abbrev pub limit : ℕ
@@ -10,3 +10,11 @@ abbrev pub spaced : List (List ℕ) → List ℕ
 spaced [] = 10 ∷ []
 spaced (w ∷ []) = w ++ 10 ∷ []
 spaced (w ∷ x ∷ ws) = w ++ (32 ∷ spaced (x ∷ ws))
+
+-- a text as a line
+abbrev pub line : List ℕ → List ℕ
+line text = text ++ 10 ∷ []
+
+abbrev pub yes_or_no : Bool → List ℕ
+yes_or_no true = codes "yes"
+yes_or_no false = codes "no"

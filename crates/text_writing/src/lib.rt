@@ -21,8 +21,8 @@ pub fn append_decimal(alloc: Global, out: &mut Vec<u8>, number: u128) -> Result<
     ensures ok { OnOk result (out.new.items ≡ out.old.items ++ decimal number) }
     ensures err { OnErr result (out.new.items ≡ out.old.items) }
 {
-    let text = number.to_string(alloc)?;
-    append(out, text.as_bytes())
+    let digits = number.to_string(alloc)?;
+    append(out, digits.as_bytes())
 }
 
 /// Appends the decimal digits of a number, with one `-` in front where it is negative. Without memory nothing is

@@ -1,12 +1,12 @@
 -- The properties of a vector, computed, for the examples.
-use Rattle.std.proofs.Common.{◌≡◌, ℕ, List, Option, Some, None, Result, Ok, Err, refl}
+use Rattle.std.proofs.Common.{ℕ, List, Option, Some, None, Result, Ok, Err}
 use Rattle.std.specs.Prelude.{sum}
 use Rattle.table_definitions.specs.Table.{Row}
 use Rattle.surface_definitions.specs.declared.Coords.{Coords}
 use Rattle.surface_definitions.specs.Characteristic.{points, arcs, euler, is_linking, meets_boundary}
 use Rattle.skeleton_definitions.specs.Skeleton.{Skeleton}
 use Rattle.skeleton_definitions.proofs.Evaluators.{vertex_classes, edge_classes, face_classes, count_of}
-use Rattle.vector_definitions.specs.Properties.{first_large, IsPropertyAnswer}
+use Rattle.vector_definitions.specs.Properties.{first_large}
 use Rattle.vector_definitions.specs.declared.Properties.{Properties}
 use Rattle.vector_definitions.specs.declared.Sum.{Sum}
 use Rattle.vector_definitions.specs.declared.PropertyFault.{PropertyFault}
@@ -36,11 +36,3 @@ answer_by (Some sum) p = Err (Large sum)
 
 abbrev pub answer : ℕ → Skeleton → Coords → List ℕ → Result Properties PropertyFault
 answer max s coords xs = answer_by (first_large max s coords xs) (properties_of s coords xs)
-
--- what is computed is what is told
-pub answer_is : (max : ℕ) (s : Skeleton) (coords : Coords) (xs : List ℕ) → IsPropertyAnswer max s coords xs (answer max s coords xs)
-answer_is max s coords xs = go (first_large max s coords xs) refl
-  where
-    go : (o : Option Sum) → first_large max s coords xs ≡ o → IsPropertyAnswer max s coords xs (answer_by o (properties_of s coords xs))
-    go None e = (e, record { points = refl; arcs = refl; pieces = refl; euler = refl; linking = refl; boundary = refl })
-    go (Some large) e = e

@@ -1,8 +1,9 @@
 -- A component of one piece, which is one-sided, and a vector of too many pieces.
 use Rattle.surface_definitions.proofs.Computed.{computed}
-use Rattle.std.proofs.Common.{◌≡◌, ℕ, zero, suc, ◌<◌, Bool, true, false, not, List, [], ◌∷◌, Ok, Err, ◌↔◌, refl, sym, arith}
+use Rattle.std.proofs.Common.{◌≡◌, ℕ, zero, suc, ◌<◌, false, List, [], ◌∷◌, Ok, Err, ◌↔◌, refl, arith}
 use Rattle.std.specs.Prelude.{slice_index}
 use Rattle.std.proofs.lemmas.Bool.{false≢true, ltb-true, leb-true}
+use Rattle.plain_facts.proofs.Truths.{not_itself}
 use Rattle.table_definitions.specs.Classes.{IsNumbering}
 use Rattle.table_definitions.specs.Table.{Gluing}
 use Rattle.table_definitions.proofs.Tables.{sphere, table_jj}
@@ -51,10 +52,6 @@ across = record { tet = 0; perm = 1 ∷ 2 ∷ 3 ∷ 0 ∷ [] }
 meets : Meets table_jj Standard one_quad arc across
 unfolding computed arc across
 meets = record { in_range = ltb-true 0 1 refl; is_vertex = ltb-true 2 4 refl; off_vertex = λ e. absurd (omega arith); there = ltb-true 0 1 refl; glued = refl }
-
-not_itself : (b : Bool) → b ≡ not b → ⊥
-not_itself true e = false≢true (sym e)
-not_itself false e = false≢true e
 
 one_sided : IsTwoSided table_jj Standard one_quad (0 ∷ []) 0 → ⊥
 unfolding computed arc across

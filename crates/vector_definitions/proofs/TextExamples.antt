@@ -6,11 +6,12 @@ use Rattle.table_definitions.proofs.Tables.{sphere, table_jj}
 use Rattle.surface_definitions.specs.declared.Coords.TheVariants.{Standard, Octagon}
 use Rattle.surface_definitions.specs.Equations.{matching_rows}
 use Rattle.surface_definitions.specs.declared.VectorFault.TheVariants as faults
+use Rattle.text_definitions.specs.Written.{line}
 use Rattle.vector_definitions.specs.Components.{Component}
 use Rattle.vector_definitions.specs.declared.Sum.TheVariants.{Points}
 use Rattle.vector_definitions.specs.Answers.{Description, verdict_in}
 use Rattle.vector_definitions.specs.declared.Refusal.TheVariants as causes
-use Rattle.vector_definitions.specs.Texts.{line, description_text, lifts_text, refusal_line, invalid_edge_line}
+use Rattle.vector_definitions.specs.Texts.{description_text, lifts_text, refusal_line, invalid_edge_line}
 use Rattle.vector_definitions.proofs.Evaluators.{skeleton_of, properties_of}
 
 of_one_component : List ℕ → Component → Description

@@ -1,5 +1,5 @@
 -- What is written of the vectors of a document, and the line for one that is refused.
-use Rattle.std.specs.Prelude.{ℕ, Bool, true, false, ℤ, List, [], ◌∷◌, ◌++◌, length, Err, codes, decimal, sum}
+use Rattle.std.specs.Prelude.{ℕ, Bool, true, false, ℤ, List, ◌++◌, length, Err, codes, decimal, sum}
 use Rattle.std.specs.Fmt.{signed_decimal}
 use Rattle.std.specs.List.{flat_map}
 use Rattle.cone_text_definitions.specs.VectorText.{vector_text}
@@ -7,6 +7,7 @@ use Rattle.skeleton_definitions.specs.Skeleton.{Skeleton}
 use Rattle.surface_definitions.specs.declared.Coords.{Coords}
 use Rattle.surface_definitions.specs.Verdict.{verdict_text}
 use Rattle.surface_definitions.specs.Characteristic.{points, arcs, euler}
+use Rattle.text_definitions.specs.Written.{line, yes_or_no}
 use Rattle.vector_definitions.specs.declared.Properties.{Properties}
 use Rattle.vector_definitions.specs.declared.Sum.{Sum}
 use Rattle.vector_definitions.specs.declared.Sum.TheVariants.{Points, Arcs, PointsAndPieces}
@@ -14,14 +15,6 @@ use Rattle.vector_definitions.specs.Components.{Component}
 use Rattle.vector_definitions.specs.Answers.{Description}
 use Rattle.vector_definitions.specs.declared.Refusal.{Refusal}
 use Rattle.vector_definitions.specs.declared.Refusal.TheVariants.{Unfit, LargeSum, TooManyPieces, LargeLift, NoLift}
-
--- a text as a line
-abbrev pub line : List ℕ → List ℕ
-line text = text ++ 10 ∷ []
-
-abbrev pub yes_or_no : Bool → List ℕ
-yes_or_no true = codes "yes"
-yes_or_no false = codes "no"
 
 abbrev pub sides_word : Bool → List ℕ
 sides_word true = codes "two"

@@ -1,0 +1,5 @@
+pub mod Lists
+pub mod Members
+pub mod Numbers
+pub mod Options
+pub mod Truths

@@ -1,0 +1,28 @@
+-- Facts of lists.
+use Rattle.std.proofs.Common.{◌≡◌, Bool, true, false, cond, List, [], ◌∷◌, Some, refl, sym, ap, ◌∙◌, ◌≢◌, length, take, get_or, get_or-take, length-take, ⊎_elim, arith, ℕ, ◌+◌, ◌++◌}
+use Rattle.std.specs.Prelude.{find}
+use Rattle.std.proofs.lemmas.Bool.{cases_lt}
+use Rattle.std.proofs.lemmas.List.{get_or_past}
+use Rattle.std.specs.List.{AllZip}
+
+-- what is found passes the test
+pub found_passes : {A : Type 0} (p : A → Bool) (xs : List A) (x : A) → find p xs ≡ Some x → p x ≡ true
+found_passes p [] x e = cc
+found_passes {A} p (y ∷ ys) x e = by_test (p y) refl e (λ f. found_passes p ys x f)
+  where
+    by_test : (b : Bool) → p y ≡ b → cond b (Some y) (find p ys) ≡ Some x → (find p ys ≡ Some x → p x ≡ true) → p x ≡ true
+    by_test true t f later = let is : y ≡ x = cc in ap p (sym is) ∙ t
+    by_test false t f later = later f
+
+-- an entry of the first ones, but the last of them
+pub take_other : (x : List ℕ) (i column : ℕ) → column ≢ i → get_or (take (i + 1) x) column 0 ≡ get_or (take i x) column 0
+take_other x i column other =
+    ⊎_elim (λ h. get_or-take (i + 1) x column 0 (omega arith) ∙ sym (get_or-take i x column 0 h))
+    (λ h. get_or_past (take (i + 1) x) column 0 (omega (arith, length-take (i + 1) x, other)) ∙ sym (get_or_past (take i x) column 0 (omega (arith, length-take i x))))
+    (cases_lt column i)
+
+pub zip_more : {A B : Type 0} (R : A → B → Type 0) (xs : List A) (ys : List B) (x : A) (y : B) → AllZip R xs ys → R x y → AllZip R (xs ++ x ∷ []) (ys ++ y ∷ [])
+zip_more R [] [] x y h r = (r, tt)
+zip_more R [] (b ∷ bs) x y h r = absurd h
+zip_more R (a ∷ rest) [] x y h r = absurd h
+zip_more R (a ∷ rest) (b ∷ bs) x y h r = (h.0, zip_more R rest bs x y h.1 r)

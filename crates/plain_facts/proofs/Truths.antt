@@ -1,0 +1,28 @@
+-- Facts of truth values.
+use Rattle.std.proofs.Common.{◌≡◌, Bool, true, false, ◌⊎◌, inl, inr, refl}
+use Rattle.std.specs.Prelude.{not, if◌then◌else◌}
+
+pub true_or_false : (b : Bool) → (b ≡ true) ⊎ (b ≡ false)
+true_or_false true = inl refl
+true_or_false false = inr refl
+
+pub by_bool : {P : Type 0} (b : Bool) → (b ≡ true → P) → (b ≡ false → P) → P
+by_bool true on off = on refl
+by_bool false on off = off refl
+
+pub not_itself : (b : Bool) → b ≡ not b → ⊥
+not_itself true e = cc
+not_itself false e = cc
+
+-- two truth values that agree, from either side
+pub agree_if : (x y : Bool) → (if y then x else not x) ≡ (if x then y else not y)
+agree_if true true = refl
+agree_if true false = refl
+agree_if false true = refl
+agree_if false false = refl
+
+pub if_true : {A : Type 0} (b : Bool) (x y : A) → b ≡ true → (if b then x else y) ≡ x
+if_true b x y h = rw h refl
+
+pub if_false : {A : Type 0} (b : Bool) (x y : A) → b ≡ false → (if b then x else y) ≡ y
+if_false b x y h = rw h refl
