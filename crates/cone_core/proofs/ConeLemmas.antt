@@ -1,10 +1,11 @@
 -- How a loop reads the rows of a cone: what is read so far, before what a reader gives of the rest.
 use Rattle.std.proofs.Common.{ap₂, ◌≡◌, ℕ, zero, suc, ℤ, pos, negsuc, ◌+◌, ◌-◌, ◌<◌, ◌≤◌, true, false, cond, Bool, not, filter, List, [], ◌∷◌, ◌++◌, map, refl, sym, ap, ◌∙◌, subst, append_assoc, append-nil, arith, Option, Some, None, Result, Ok, Err, replicate}
-use Rattle.std.specs.Prelude.{◌==◌, nat_lt, unsigned_abs, codes}
-use Rattle.std.proofs.lemmas.Bool.Decides.{nat_tests}
+use Rattle.std.specs.Prelude.{nat_lt, unsigned_abs, codes}
 use Rattle.std.specs.List.{enumerate_from}
 use Rattle.std.proofs.lemmas.List.Elements.{All-push, All-weaker, All-get_or}
 use Rattle.std.proofs.lemmas.List.Quantifiers.{all_pairs_push}
+use Rattle.plain_facts.proofs.Options.{ok_value}
+use Rattle.plain_facts.proofs.Numbers.{not_zero}
 use Rattle.text_definitions.specs.declared.LexFault.{LexFault}
 use Rattle.text_definitions.specs.declared.LexKind.TheVariants.{NumberTooWide}
 use Rattle.text_definitions.specs.Text.{decimal_value}
@@ -17,9 +18,6 @@ use Rattle.cone_text_definitions.specs.ConeText.{Cone as ConeText, is_zero, spar
 use Rattle.cone_definitions.specs.Rows.{Row}
 use Rattle.cone_core.specs.Sparse.{IsSparse, IsInRange}
 use Rattle.cone_core.specs.ConeReads.{FailsHere, GivesCone, entries_of, sparse_row_at}
-
-ok_value : {A E : Type 0} (x y : A) → ◌≡◌ {A = Result A E} (Ok x) (Ok y) → y ≡ x
-ok_value x y e = cc
 
 -- a number is at most the greatest one that is read
 up_to : (max : ℕ) (value : Option ℕ) (c : Reading) (x : ℕ × Reading) → number_up_to max value c ≡ Ok x → x.0 ≤ max
@@ -60,10 +58,6 @@ with_entries-end front k columns c h =
     let none : columns - k ≡ zero = omega arith in
     rw none (ap (λ xs. Ok (xs, c)) (append-nil front))
 
--- the reader of one coefficient and the rest
-one_more : ℕ → Reading → Result (List ℤ × Reading) LexFault
-one_more n c = signed_at 1000000 c >>= λ first. coefficients_at n first.1 >>= λ others. Ok (first.0 ∷ others.0, others.1)
-
 more-is : (k columns : ℕ) (c : Reading) → k < columns → coefficients_at (columns - k) c ≡ (signed_at 1000000 c >>= λ first. coefficients_at (columns - (k + 1)) first.1 >>= λ others. Ok (first.0 ∷ others.0, others.1))
 unfolding coefficients_at
 more-is k columns c h =
@@ -73,9 +67,6 @@ more-is k columns c h =
 pub with_entries-fault : (front : Row) (k columns : ℕ) (c : Reading) (fault : LexFault) → k < columns → signed_at 1000000 c ≡ Err fault →
     with_entries front k (coefficients_at (columns - k) c) ≡ Err fault
 with_entries-fault front k columns c fault h e = rw (more-is k columns c h, e) refl
-
-is_positive : (n : ℕ) → 0 < n → (n == 0) ≡ false
-is_positive n h = grind (arith, nat_tests)
 
 entries_more : (front : Row) (k : ℕ) (z : ℤ) (read : Result (List ℤ × Reading) LexFault) →
     with_entries (front ++ entries_of k z) (k + 1) read ≡ with_entries front k (read >>= λ others. Ok (z ∷ others.0, others.1))
@@ -106,7 +97,7 @@ sparse_more row k z is below bound = by_value z bound
 
     by_value : (y : ℤ) → unsigned_abs y ≤ 1000000 → IsSparse (row ++ entries_of k y)
     by_value (pos zero) most = rw (append-nil row) is
-    by_value (pos (suc n)) most = rw (is_positive (suc n) (omega arith)) (pushed (pos (suc n)) (omega arith) most)
+    by_value (pos (suc n)) most = rw (not_zero (suc n) (omega arith)) (pushed (pos (suc n)) (omega arith) most)
     by_value (negsuc n) most = pushed (negsuc n) (omega arith) most
 
 pub in_range_more : (row : Row) (k : ℕ) (z : ℤ) → IsInRange k row → IsInRange (k + 1) (row ++ entries_of k z)

@@ -1,8 +1,9 @@
 -- How many columns the unions of pairs have.
 use Rattle.std.specs.Prelude.{ℕ, ◌<◌, ◌≤◌, List, length}
 use Rattle.cone_definitions.specs.Surfaces.{Clash}
+use Rattle.cone_definitions.specs.Vectors.{ray_at}
 use Rattle.bound_laws.specs.Unions.{union_size}
-use Rattle.double_description.specs.Signs.{ray_at, IsFacePair}
+use Rattle.double_description.specs.Signs.{IsFacePair}
 
 -- no pair of places has more than so many columns in its union
 abbrev pub HaveSmallUnions : ℕ → ℕ → List Clash → List (List ℕ) → Type 0

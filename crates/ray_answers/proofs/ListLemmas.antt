@@ -1,13 +1,8 @@
 -- A vector's line, piece by piece.
-use Rattle.std.proofs.Common.{◌≡◌, ℕ, List, [], ◌∷◌, ◌++◌, map, refl, ap, sym, ◌∙◌, append_assoc, append-nil}
-use Rattle.std.specs.Prelude.{codes, decimal}
-use Rattle.text_definitions.specs.Written.{spaced}
+use Rattle.std.proofs.Common.{◌≡◌, ℕ, List, [], ◌∷◌, ◌++◌, ap, sym, ◌∙◌, append_assoc}
+use Rattle.std.specs.Prelude.{codes}
 use Rattle.cone_text_definitions.specs.VectorText.{vector_text, entries_text}
-
-spaced_entries : (w x : List ℕ) → spaced (w ∷ map decimal x) ≡ (w ++ entries_text x) ++ 10 ∷ []
-spaced_entries w [] = ap (λ v. v ++ 10 ∷ []) (sym (append-nil w))
-spaced_entries w (entry ∷ x) =
-    ap (λ v. w ++ 32 ∷ v) (spaced_entries (decimal entry) x) ∙ sym (append_assoc w (32 ∷ (decimal entry ++ entries_text x)) (10 ∷ []))
+use Rattle.cone_text_definitions.proofs.VectorLines.{spaced_entries}
 
 -- the word, the entries and the line's end are the line
 pub vector_line : (old named entries : List ℕ) (x : List ℕ) → named ≡ old ++ codes "vec" → entries ≡ named ++ entries_text x →

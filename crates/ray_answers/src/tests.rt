@@ -1,6 +1,6 @@
 use super::*;
 use bench_io::Lexer;
-use cone_core::{MAX_ENTRY, read_cone};
+use cone_core::{MAX_ENTRY, Ray, read_cone};
 use double_description::Order;
 use std::test::Fail;
 
@@ -19,5 +19,11 @@ fn writes_the_rays_of_a_cone(rt: HostRuntime) -> Result<(), Fail> {
         out.as_slice(),
         b"# rays 2\nvec 0 2 1\nvec 2 0 1\n".as_slice()
     );
+    write_vector(alloc, &[0, MAX_ENTRY], &mut out)?;
+    write_vector(alloc, &[], &mut out)?;
+    write_entries(alloc, &Ray::unit(alloc, 3, 1)?, &mut out)?;
+    let line =
+        b"# rays 2\nvec 0 2 1\nvec 2 0 1\nvec 0 170141183460469231731687303715884105727\nvec\n 0 1 0";
+    assert_eq!(rt; out.as_slice(), line.as_slice());
     Ok(())
 }

@@ -85,16 +85,6 @@ ratio_trans xk vk xn vn xj vj some less least =
     let q : vn * (xk * vj) ≤ vn * (xj * vk) = mul-le-mul_left vn least in
     le_of_mul-le-mul_left {k = vk} (omega arith) (omega arith)
 
-pub first_least : (r v : List ℕ) (n : ℕ) → slice_index v n ≢ 0 → ((k : ℕ) → k < n → slice_index v k ≡ 0) → IsLeastColumn r v (n + 1) n
-first_least r v n some zeros = record {
-  in_range = omega arith;
-  some = some;
-  least = λ j l. elim (cases_lt j n) [
-    | inl less ↦ not_zero (slice_index r n) (slice_index r j) (slice_index v n) (slice_index v j) (zeros j less)
-    | inr not ↦ let e : j ≡ n = omega arith in rw e (omega arith)
-  ];
-}
-
 -- the column kept is least with one column more
 pub kept_least : (r v : List ℕ) (n k : ℕ) → IsLeastColumn r v n k → slice_index r k * slice_index v n ≤ slice_index r n * slice_index v k → IsLeastColumn r v (n + 1) k
 kept_least r v n k h here = record {

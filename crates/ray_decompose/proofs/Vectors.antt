@@ -1,18 +1,10 @@
 -- Vectors and terms by their entries.
-use Rattle.std.proofs.Common.{◌≡◌, ℕ, ◌*◌, ◌-◌, ◌<◌, ◌≤◌, ◌++◌, inl, inr, List, take, drop, map, length, slice_index, slice_index_or, sym, ◌∙◌, arith}
-use Rattle.std.proofs.lemmas.Bool.{cases_lt}
+use Rattle.std.proofs.Common.{◌≡◌, ℕ, ◌*◌, ◌-◌, ◌<◌, ◌++◌, List, take, drop, map, length, slice_index, slice_index_or, sym, ◌∙◌, arith}
 use Rattle.std.proofs.lemmas.List.{length-map, get_or-map, ext_get_or, take-append-le, take_all}
 use Rattle.cone_definitions.specs.Vectors.{multiple}
-use Rattle.cone_definitions.proofs.Entries.{length-multiple, entry-multiple, entry_past}
-use Rattle.sum_definitions.specs.Sums.{Term, IsWithinTimes, repeated, difference}
+use Rattle.cone_definitions.proofs.Entries.{length-multiple, entry-multiple}
+use Rattle.sum_definitions.specs.Sums.{Term, repeated, difference}
 use Rattle.sum_laws.proofs.Turns.{length-difference, entry-difference}
-
--- entries below the length are all that there are
-pub past_zero : (x : List ℕ) (times limit : ℕ) → ((k : ℕ) → k < length x → times * slice_index x k ≤ limit) → IsWithinTimes limit x times
-past_zero x times limit h j = elim (cases_lt j (length x)) [
-  | inl l ↦ h j l
-  | inr past ↦ let z : slice_index x j ≡ 0 = entry_past x (length x) j (λ i. length x) past in rw z (omega arith)
-]
 
 pub is_difference : (rest r v : List ℕ) (q p : ℕ) → length r ≡ length rest → length v ≡ length r →
     ((k : ℕ) → k < length rest → slice_index rest k ≡ q * slice_index r k - p * slice_index v k) → rest ≡ difference (multiple q r) (multiple p v)

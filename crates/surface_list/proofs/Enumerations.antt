@@ -19,7 +19,7 @@ use Rattle.double_description.specs.declared.engine.EnumFault.TheVariants.{Large
 use Rattle.double_description.specs.Turns.{AreTaken}
 use Rattle.double_description.specs.Enumerated.{IsEnumerated, IsRefused}
 use Rattle.ray_answers.specs.Answers.{AreRefused}
-use Rattle.surface_list.specs.Surfaces.{AreTableSurfaces, IsTableRefused}
+use Rattle.surface_list.specs.Surfaces.{AreTableSurfaces}
 use denote.Ref.{Bor}
 
 abbrev pub Listed : Enumeration → Rays → Type 0
@@ -71,7 +71,3 @@ module _ (limit : ℕ) (coords : Coords) (rows : List Row) (system : Cone) (n : 
               (IsPermutation-refl system.rows) is_list there.surfaces;
         },
       )
-
-  pub refused_by : (fault : EnumFault) → AreRefused (given system n) fault → IsTableRefused limit coords rows order fault
-  refused_by NoMemory h = tt
-  refused_by (Large taken kind) h = (system.rows, equations, of_table (λ e. AreRefused e (Large taken kind)) h)

@@ -10,7 +10,7 @@ use Rattle.std.proofs.lemmas.Nat.{ones_cat}
 use Rattle.std.proofs.lemmas.Nat.Bits.{bit_at_lowest, bit_at-suc, bit_at_or, bit_at-lt}
 use Rattle.support_bits.specs.Columns.{support_of}
 use Rattle.support_bits.specs.Words.{bit_of, AreWordsOf}
-use Rattle.support_bits.proofs.WordLemmas.{get_or-support_of}
+use Rattle.support_bits.proofs.WordLemmas.{get_or-support_of, bit_of-column}
 use Rattle.bound_laws.specs.Unions.{union_size}
 use Rattle.bound_laws.proofs.Counts.{count_cons}
 use Rattle.union_counts.specs.Counts.{bits_in_either, columns_in_either}
@@ -76,16 +76,12 @@ either_bit (suc zero) (suc zero) h l = refl
 either_bit (suc (suc x)) y h l = absurd (omega arith)
 either_bit x (suc (suc y)) h l = absurd (omega arith)
 
-column_bit : (words : List ℕ) (k i : ℕ) → i < 64 → bit_of words (64 * k + i) ≡ eqb (bit_at (get_or words k 0) i) 1
-column_bit words k i h = let e : (64 * k + i) / 64 ≡ k = omega arith in let f : (64 * k + i) % 64 ≡ i = omega arith in
-    ap₂ (λ m j. eqb (bit_at (get_or words m 0) j) 1) e f
-
 pub ones_of_word : (a b : List ℕ) (k : ℕ) → bit_or (get_or a k 0) (get_or b k 0) < 2 ^ 64 →
     ones (bit_or (get_or a k 0) (get_or b k 0)) ≡ count_by (λ column. bit_of a column || bit_of b column) (range_with_len (64 * k) 64)
 ones_of_word a b k fits = ones_counted 64 (bit_or (get_or a k 0) (get_or b k 0)) fits
     ∙ count_same _ (λ j. bit_of a (64 * k + j) || bit_of b (64 * k + j)) 0 64 (λ i l m. ap (λ n. eqb n 1) (bit_at_or (get_or a k 0) (get_or b k 0) i)
     ∙ either_bit (bit_at (get_or a k 0) i) (bit_at (get_or b k 0) i) (bit_at-lt (get_or a k 0) i) (bit_at-lt (get_or b k 0) i)
-    ∙ ap₂ (λ x y. x || y) (sym (column_bit a k i (omega arith))) (sym (column_bit b k i (omega arith))))
+    ∙ ap₂ (λ x y. x || y) (sym (bit_of-column a k i (omega arith))) (sym (bit_of-column b k i (omega arith))))
     ∙ sym (count_from (λ column. bit_of a column || bit_of b column) (64 * k) 0 (64 * k) 64 (omega arith))
 
 same_bits : (m n : ℕ) (a b : List ℕ) → m ≡ n → bits_in_either m a b ≡ bits_in_either n a b

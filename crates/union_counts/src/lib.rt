@@ -1,12 +1,9 @@
 //! How many columns two supports have together.
 #![tactic(auto)]
 
-ghost use Rattle.std.specs.Prelude.{◌≡◌, ℕ, ◌*◌, ◌<◌, ◌^◌, List, length};
-ghost use Rattle.support_bits.specs.Columns.{support_of};
-ghost use Rattle.bound_laws.specs.Unions.{union_size};
+ghost use Rattle.std.specs.Prelude.{◌≡◌, ◌*◌, ◌<◌, ◌^◌, List, Bool, length};
+ghost use Rattle.support_bits.specs.Words.{AreWordsOf};
 ghost use Rattle.union_counts.specs.Counts.{bits_in_either, columns_in_either};
-
-use support_bits::Support;
 
 /// How many bits are set in one of two slices of words or in the other.
 fn count_bits(a: &[u64], b: &[u64]) -> u64
@@ -21,35 +18,35 @@ fn count_bits(a: &[u64], b: &[u64]) -> u64
     count
 }
 
-/// How many columns are in one support or in the other.
-pub fn union_count(a: &Support, b: &Support) -> u64
-    requires { length a.now ≡ length b.now }
-    ensures columns { result ≡ columns_in_either a.now b.now }
-    ensures vectors { (u w : List ℕ) → a.now ≡ support_of u → b.now ≡ support_of w → result ≡ union_size (length u) u w }
+/// How many columns are in one support or in the other, by their words.
+pub fn union_count(a: &[u64], b: &[u64]) -> u64
+    requires lengths { length b.now ≡ length a.now }
+    requires short { length a.now < 2 ^ 32 }
+    ensures { (s t : List Bool) → AreWordsOf s a.now → AreWordsOf t b.now → length s ≡ length t → result ≡ columns_in_either s t }
 {
-    let _columns = a.columns();
-    count_bits(a.words(), b.words())
+    count_bits(a, b)
 }
 
 #[cfg(test)]
 mod tests {
     use super::*;
     use no_memory::NoMemory;
+    use support_bits::Support;
 
     #[test]
     fn counts_each_column_once(rt: HostRuntime) -> Result<(), NoMemory> {
         let u = Support::of(rt.alloc(), &[2, 0, 1])?;
         let w = Support::of(rt.alloc(), &[0, 2, 1])?;
-        assert_eq!(rt; union_count(&u, &w), 3);
-        assert_eq!(rt; union_count(&u, &u), 2);
+        assert_eq!(rt; union_count(u.words(), w.words()), 3);
+        assert_eq!(rt; union_count(u.words(), u.words()), 2);
         let none = Support::of(rt.alloc(), &[])?;
-        assert_eq!(rt; union_count(&none, &none), 0);
+        assert_eq!(rt; union_count(none.words(), none.words()), 0);
         let x = vec![in rt.alloc(); 0u128; 65]?;
         let y = vec![in rt.alloc(); 3u128; 65]?;
         let empty = Support::of(rt.alloc(), &x)?;
         let full = Support::of(rt.alloc(), &y)?;
-        assert_eq!(rt; union_count(&empty, &full), 65);
-        assert_eq!(rt; union_count(&empty, &empty), 0);
+        assert_eq!(rt; union_count(empty.words(), full.words()), 65);
+        assert_eq!(rt; union_count(empty.words(), empty.words()), 0);
         Ok(())
     }
 }
