@@ -1,29 +1,17 @@
 // The command `check`: whether moves certify a table as a triangulated 3-sphere.
-ghost use Rattle.std.specs.Prelude.{◌≡◌, ◌<◌, ◌≤◌, ◌-◌, ◌^◌, length, Ok, IfOk};
+ghost use Rattle.std.specs.Prelude.{◌<◌, ◌≤◌, ◌-◌, ◌^◌, length, IfOk};
 ghost use Rattle.document_definitions.specs.Documents.{moves_document};
 ghost use Rattle.outcome_definitions.specs.Outcomes.{IsReadOutcome};
-ghost use Rattle.outcome_definitions.specs.Certificates.{check_outcome, IsCheckAnswer};
+ghost use Rattle.outcome_definitions.specs.Certificates.{IsCheckAnswer};
 
 use crate::documents::read_table_and_moves;
 use crate::faults::refused_outcome;
-use command_answers::{Outcome, fault_outcome};
+use command_answers::{Outcome, accepted_outcome, fault_outcome};
 use gluing_table::Table;
 use no_memory::NoMemory;
-use outcome_definitions::Status;
 use pachner_moves::Move;
 use sphere_certificate::check as check_moves;
 use std::alloc::Global;
-use text_writing::append;
-
-// The moves are a certificate.
-#[tactic(auto, unfolding(outcome_definitions::specs::Lines::accepted_text))]
-fn accepted_outcome(alloc: Global) -> Result<Outcome, NoMemory>
-    ensures { IfOk result (λ o. o ≡ check_outcome (Ok tt)) }
-{
-    let mut text = Vec::new(alloc);
-    append(&mut text, b"accepted\n")?;
-    Ok(Outcome::built(Status::Done, text))
-}
 
 // The answer to a table and moves.
 fn answer(alloc: Global, table: &Table, moves: &[Move]) -> Result<Outcome, NoMemory>

@@ -1,7 +1,7 @@
 // The command `descend`: the moves of a table's descent, and the table at which it ends.
 ghost use Rattle.std.specs.Prelude.{◌≡◌, ◌≤◌, ◌^◌, ◌++◌, length, decimal, Ok, IfOk, OnOk};
 ghost use Rattle.document_definitions.specs.Documents.{table_document};
-ghost use Rattle.outcome_definitions.specs.Lines.{line};
+ghost use Rattle.text_definitions.specs.Written.{line};
 ghost use Rattle.outcome_definitions.specs.Outcomes.{IsReadOutcome};
 ghost use Rattle.outcome_definitions.specs.Certificates as certificates;
 ghost use Rattle.outcome_definitions.specs.Certificates.{moves_text, IsDescendAnswer};

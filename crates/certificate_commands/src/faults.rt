@@ -1,57 +1,17 @@
 // The one line of each refused check.
-ghost use Rattle.std.specs.Prelude.{◌≡◌, ◌≢◌, ◌++◌, codes, decimal, Err, IfOk, OnOk};
-ghost use Rattle.move_definitions.specs.Sessions.{move_fault_text};
+ghost use Rattle.std.specs.Prelude.{◌≡◌, ◌≢◌, Err, IfOk, OnOk};
 ghost use Rattle.certificate_definitions.specs.declared.CheckFault.TheVariants as check_faults;
 ghost use Rattle.outcome_definitions.specs.Certificates.{check_line, check_outcome};
 ghost use Rattle.sphere_certificate.specs.Checks.{told};
 
 use command_answers::{Outcome, not_connected_outcome};
+use move_undo::append_move_fault;
 use no_memory::NoMemory;
 use outcome_definitions::Status;
 use pachner_moves::MoveFault;
 use sphere_certificate::CheckFault;
 use std::alloc::Global;
 use text_writing::{append, append_decimal};
-
-// Two labels.
-fn append_labels(alloc: Global, out: &mut Vec<u8>, first: u8, second: u8) -> Result<(), NoMemory>
-    ensures { OnOk result (out.new.items ≡ out.old.items ++ codes "not-matched " ++ decimal first ++ codes " " ++ decimal second) }
-{
-    append(out, b"not-matched ")?;
-    append_decimal(alloc, out, u128::from(first))?;
-    append(out, b" ")?;
-    append_decimal(alloc, out, u128::from(second))?;
-    Ok(())
-}
-
-// A word and a label.
-fn append_label(alloc: Global, out: &mut Vec<u8>, word: &[u8], label: u8) -> Result<(), NoMemory>
-    ensures { OnOk result (out.new.items ≡ out.old.items ++ word.now ++ decimal label) }
-{
-    append(out, word)?;
-    append_decimal(alloc, out, u128::from(label))?;
-    Ok(())
-}
-
-fn append_word(out: &mut Vec<u8>, word: &[u8]) -> Result<(), NoMemory>
-    ensures { OnOk result (out.new.items ≡ out.old.items ++ word.now) }
-{
-    append(out, word)?;
-    Ok(())
-}
-
-// Why a move can't be made.
-fn append_fault(alloc: Global, out: &mut Vec<u8>, fault: MoveFault) -> Result<(), NoMemory>
-    ensures { OnOk result (out.new.items ≡ out.old.items ++ move_fault_text fault) }
-{
-    match fault {
-        MoveFault::NoSuchTet => append_word(out, b"no-such-tet"),
-        MoveFault::Boundary { label } => append_label(alloc, out, b"boundary ", label),
-        MoveFault::Repeated { label } => append_label(alloc, out, b"repeated ", label),
-        MoveFault::NotMatched { first, second } => append_labels(alloc, out, first, second),
-        MoveFault::TooMany => append_word(out, b"too-many"),
-    }
-}
 
 // The move that is refused first, and why.
 #[tactic(auto, unfolding(outcome_definitions::specs::Certificates::check_line))]
@@ -62,7 +22,7 @@ fn illegal_outcome(alloc: Global, step: u32, fault: MoveFault) -> Result<Outcome
     append(&mut text, b"refused: check illegal ")?;
     append_decimal(alloc, &mut text, u128::from(step))?;
     append(&mut text, b" ")?;
-    append_fault(alloc, &mut text, fault)?;
+    append_move_fault(alloc, &mut text, fault)?;
     append(&mut text, b"\n")?;
     Ok(Outcome::built(Status::Refused, text))
 }

@@ -7,12 +7,13 @@ use Rattle.table_definitions.specs.Table.{Row, IsTable}
 use Rattle.table_definitions.specs.Places.{Place, whole, across, along, SameComponent, IsConnected}
 use Rattle.table_definitions.proofs.ChainLaws.{joined_refl}
 use Rattle.table_definitions.proofs.Tables.{table_gb, row, free}
+use Rattle.table_definitions.proofs.Tests.{table_from}
 use Rattle.signature_definitions.specs.Spelling.{IsSignature}
 use Rattle.certificate_definitions.specs.Answers.{IsChecked, sphere_text, IsDescended}
 use Rattle.certificate_definitions.specs.declared.CheckFault.TheVariants.{NotConnected, NotStandard}
 use Rattle.certificate_definitions.proofs.Computed.{computed}
-use Rattle.perm_four.proofs.ListFacts.{same_list-refl}
-use Rattle.certificate_laws.proofs.OneTetrahedron.{table_from, turned, carried_test, least_test, one_tet_signature}
+use Rattle.table_definitions.proofs.ListFacts.{same_list-refl}
+use Rattle.certificate_laws.proofs.OneTetrahedron.{turned, carried_test, least_test, one_tet_signature}
 use Rattle.certificate_laws.proofs.Checked.{standard_text}
 
 gb_table : IsTable table_gb

@@ -1,25 +1,27 @@
 -- A table and moves with cores have an answer, and a table has a descent.
-use Rattle.std.proofs.Common.{◌≡◌, ℕ, zero, suc, ◌+◌, ◌<◌, ◌≤◌, Bool, true, false, cond, List, [], ◌∷◌, length, Option, Some, None, Ok, Err, refl, sym, ap, ◌∙◌, arith, inl, inr}
+use Rattle.std.proofs.Common.{◌≡◌, ℕ, zero, suc, ◌+◌, ◌<◌, ◌≤◌, Bool, true, false, List, [], ◌∷◌, length, Option, Some, None, Ok, Err, refl, sym, ap, ◌∙◌, arith, inl, inr}
 use Rattle.std.specs.Prelude.{◌⊎◌, ◌≢◌, All, find}
-use Rattle.std.specs.Option.{option_or}
 use Rattle.std.proofs.lemmas.Bool.{false≢true}
+use Rattle.plain_facts.proofs.Options.{one_or_other}
+use Rattle.plain_facts.proofs.Lists.{found_passes}
 use Rattle.table_definitions.specs.Lists.{same_list}
 use Rattle.table_definitions.specs.Table.{Row, IsTable}
 use Rattle.table_definitions.specs.Places.{IsConnected}
+use Rattle.table_definitions.proofs.ChainLaws.{connected_or_not}
 use Rattle.signature_definitions.specs.Spelling.{IsSignature}
 use Rattle.move_definitions.specs.Moves.{Move, IsCore, play_fault, Plays, PlaysAll}
 use Rattle.move_definitions.specs.declared.MoveFault.{MoveFault}
 use Rattle.move_definitions.specs.Certificates.{IsStandard, four_one_moves, three_two_moves, is_accepted, descent_move, IsDescent}
 use Rattle.certificate_definitions.specs.Answers.{CheckAnswer, IsRefusedAt, IsChecked, sphere_text, Descended, IsDescended}
 use Rattle.certificate_definitions.specs.declared.CheckFault.TheVariants.{Illegal, NotConnected, NotStandard}
-use Rattle.perm_four.proofs.ListFacts.{same_list-true, same_list-refl}
+use Rattle.table_definitions.proofs.ListFacts.{same_list-true, same_list-refl}
 use Rattle.move_laws.proofs.Cores.{descent_core}
+use Rattle.move_laws.proofs.Played.{played_table}
 use Rattle.signature_laws.proofs.Connected.{connected_or_unreached_lem}
 use Rattle.signature_laws.proofs.Walks.{signatures_exist_lem}
 use Rattle.certificate_laws.specs.Laws.{AnswersExist, StandardOrNot, DescentsExist}
-use Rattle.certificate_laws.proofs.CarriedWays.{led_table}
 use Rattle.certificate_laws.proofs.Made.{accepted_leads, accepted_none}
-use Rattle.certificate_laws.proofs.Checked.{all_led_table, standard_connected, connected_or_not, standard_text, text_standard}
+use Rattle.certificate_laws.proofs.Checked.{all_led_table, standard_connected, standard_text, text_standard}
 use Rattle.certificate_laws.proofs.Descents.{descents_lessen_lem, descent_leads}
 
 -- moves lead on, or one is refused
@@ -45,7 +47,7 @@ led_or_refused rows (m ∷ ms) table cores = by_fault (play_fault rows m) refl (
     by_fault (Some fault) e go = inr (1, fault, record { before = []; refused = m; after = ms; all = refl; place = refl; table = rows; led = refl; refuses = e })
     by_fault None e go =
         let led = accepted_leads rows m table (cores 0 m (omega arith)) e in
-        elim (go led.0 (led_table rows m led.0 led.1)) [
+        elim (go led.0 (played_table rows m led.0 led.1)) [
           | inl w ↦ inl (w.0, (led.0, led.1, w.1))
           | inr r ↦ inr (r.0 + 1, r.1, refused_later rows m led.0 ms r.0 r.1 led.1 r.2)
         ]
@@ -90,22 +92,10 @@ standard_or_not_lem rows table = elim (connected_or_unreached_lem rows table) [
 
 -- so it has a descent
 
-found_passes : {A : Type 0} (p : A → Bool) (xs : List A) (x : A) → find p xs ≡ Some x → p x ≡ true
-found_passes p [] x e = cc
-found_passes {A} p (y ∷ ys) x e = by_test (p y) refl e (λ f. found_passes p ys x f)
-  where
-    by_test : (b : Bool) → p y ≡ b → cond b (Some y) (find p ys) ≡ Some x → (find p ys ≡ Some x → p x ≡ true) → p x ≡ true
-    by_test true t f later = let is : y ≡ x = cc in ap p (sym is) ∙ t
-    by_test false t f later = later f
-
-one_or : {A : Type 0} (o p : Option A) (x : A) → option_or o p ≡ Some x → (o ≡ Some x) ⊎ (p ≡ Some x)
-one_or None p x e = inr e
-one_or (Some y) p x e = inl e
-
-descent_accepted : (rows : List Row) (m : Move) → descent_move rows ≡ Some m → play_fault rows m ≡ None
+pub descent_accepted : (rows : List Row) (m : Move) → descent_move rows ≡ Some m → play_fault rows m ≡ None
 unfolding descent_move
 descent_accepted rows m e =
-    elim (one_or (find (is_accepted rows) (four_one_moves (length rows))) (find (is_accepted rows) (three_two_moves (length rows))) m e) [
+    elim (one_or_other (find (is_accepted rows) (four_one_moves (length rows))) (find (is_accepted rows) (three_two_moves (length rows))) m e) [
       | inl f ↦ accepted_none (play_fault rows m) (found_passes (is_accepted rows) (four_one_moves (length rows)) m f)
       | inr f ↦ accepted_none (play_fault rows m) (found_passes (is_accepted rows) (three_two_moves (length rows)) m f)
     ]
@@ -129,7 +119,7 @@ descent_by (suc fuel) rows table l = from (standard_or_not_lem rows table) (desc
     from (inr n) (Some m) e go =
         let led = accepted_leads rows m table (descent_core rows m e) (descent_accepted rows m e) in
         let less : length led.0 < length rows = descents_lessen_lem rows m led.0 e led.1 in
-        let rest = go led.0 (led_table rows m led.0 led.1) (omega arith) in
+        let rest = go led.0 (played_table rows m led.0 led.1) (omega arith) in
         (m ∷ rest.0, rest.1, (n, e, (led.0, led.1, rest.2)))
 
 descent_table : (rows : List Row) (moves : List Move) (last : List Row) → IsTable rows → IsDescent rows moves last → IsTable last

@@ -7,16 +7,14 @@ use Rattle.std.proofs.lemmas.List.Elements.{All-from_get_or}
 use Rattle.std.proofs.lemmas.List.FromFn.{length-range_with_len, get_or-range_with_len, get_or-map-range_with_len}
 use Rattle.std.proofs.lemmas.List.Sorted.{IsPermutation-refl}
 use Rattle.table_definitions.specs.Lists.{below}
-use Rattle.table_definitions.specs.Permutation.{IsPermutationOfFour, preimage, inverse, compose, identity}
+use Rattle.table_definitions.specs.Permutation.{IsPermutationOfFour, inverse, compose, identity}
 use Rattle.table_definitions.specs.Table.{max_tets, Gluing, Row, Face, glue, IsTable}
 use Rattle.table_definitions.specs.Relabelling.{Relabelling, IsRelabelling, Carries, stand_in, face_under, gluing_under}
+use Rattle.table_definitions.proofs.Permutations.{identity_permutes, inverse-identity, image-identity, identity-compose, compose-identity}
 use Rattle.move_definitions.specs.Moves.{Move, new_length, Plays, PlaysAll}
 use Rattle.certificate_definitions.specs.CarriedBack.{staying, move_back, AreCarriedBack}
-use Rattle.perm_four.proofs.Permutations.{identity-compose, compose-identity}
-use Rattle.move_laws.proofs.Covered.{face_at, gluing_to, image-identity}
-use Rattle.move_laws.proofs.SecondStand.{identity_permutes}
+use Rattle.move_laws.proofs.Covered.{face_at, gluing_to}
 use Rattle.move_laws.proofs.InverseFacets.{played}
-use Rattle.move_laws.proofs.Played.{plays_agree_lem}
 use Rattle.certificate_laws.proofs.BackLabels.{IsSteppedOn}
 use Rattle.certificate_laws.proofs.StepBack.{IsLedBack, led_back_by, no_limit}
 use Rattle.certificate_laws.specs.Laws.{PlaysGoOn, StepsGoBack}
@@ -26,6 +24,7 @@ use Rattle.certificate_laws.proofs.CarriedPlaces.{kept_same}
 use Rattle.certificate_laws.proofs.CarriedOn.{is_carried}
 use Rattle.certificate_definitions.specs.CarriedMoves.{move_under}
 use Rattle.move_laws.proofs.LedOn.{legal_moves_lead_on_lem}
+use Rattle.move_laws.proofs.Played.{played_table}
 
 -- each tetrahedron stays
 
@@ -43,9 +42,6 @@ staying_relabels n = record {
       subst IsPermutationOfFour (sym (get_or-map-range_with_len (λ t. identity) 0 n k k [] l' (omega arith))) identity_permutes));
 }
 
-inverse_identity : inverse identity ≡ identity
-inverse_identity = unfold inverse preimage in refl
-
 pub staying_carries : (rows : List Row) → IsTable rows → Carries (staying (length rows)) rows rows
 staying_carries rows table = record { same_length = refl; four_faces = table.four_faces; glued = λ x lt lf. glued_at x lt lf }
   where
@@ -60,21 +56,15 @@ staying_carries rows table = record { same_length = refl; four_faces = table.fou
         cases (Some g) e =
             let hg : IsPermutationOfFour g.perm = table.permutes x g e in
             let perms : compose identity (compose g.perm (inverse identity)) ≡ g.perm =
-            ap (λ q. compose identity (compose g.perm q)) inverse_identity ∙ ap (compose identity) (compose-identity g.perm hg) ∙ identity-compose g.perm hg in
+            ap (λ q. compose identity (compose g.perm q)) inverse-identity ∙ ap (compose identity) (compose-identity g.perm hg) ∙ identity-compose g.perm hg in
             let same : gluing_under (s x.tet) (s g.tet) g ≡ g =
             ap (λ (k : Gluing). gluing_under k (s g.tet) g) (stays_there (length rows) x.tet lt) ∙ ap (λ (k : Gluing). gluing_under (gluing_to x.tet identity) k g) (stays_there (length rows) g.tet (table.in_range x g e)) ∙ ap (gluing_to g.tet) perms in
             e ∙ ap (λ (k : Gluing). Some k) (sym same) ∙ ap (option_map (λ g. gluing_under (s x.tet) (s g.tet) g)) (sym e)
 
 -- tables to which moves lead
 
-pub led_table : (old : List Row) (m : Move) (new : List Row) → Plays old m new → IsTable new
-led_table old m new p = (plays_agree_lem old (m ∷ []) new new p.table (new, p, refl) (new, p, refl)).0
-
-pub led_same : (old : List Row) (m : Move) (new new' : List Row) → Plays old m new → Plays old m new' → new ≡ new'
-led_same old m new new' p p' = (plays_agree_lem old (m ∷ []) new new' p.table (new, p, refl) (new', p', refl)).1
-
 pub stepped : (rows : List Row) (m : Move) (next now : List Row) (on : Relabelling) → Plays rows m next → IsRelabelling (length next) on → Carries on next now → IsSteppedOn rows m next now on
-stepped rows m next now on p r c = record { played = played rows m next p.table p.moved; new_table = led_table rows m next p; relabels = r; carries = c }
+stepped rows m next now on p r c = record { played = played rows m next p.table p.moved; new_table = played_table rows m next p; relabels = r; carries = c }
 
 -- moves that lead on can be carried back
 pub record IsWayBack (rows : List Row) (moves : List Move) (last : List Row) : Type 0 where
@@ -97,7 +87,7 @@ way_back_of rows [] last table led = subst (λ (t : List Row). IsWayBack rows []
   carries = staying_carries rows table;
 })
 way_back_of rows (m ∷ ms) last table (next, first, rest) =
-    let w : IsWayBack next ms last = way_back_of next ms last (led_table rows m next first) rest in
+    let w : IsWayBack next ms last = way_back_of next ms last (played_table rows m next first) rest in
     let l : IsLedBack rows m next w.end w.by = led_back_by rows m next w.end w.by (stepped rows m next w.end w.by first w.relabels w.carries) in
     record {
       back = w.back ++ move_back rows m w.by ∷ [];
@@ -115,7 +105,7 @@ plays_go_on_lem by old other m new p relabels carries =
     let h : IsCarried by old other m = is_carried by old other m new p.table relabels carries p.moved in
     let led = legal_moves_lead_on_lem other (move_under by m) (other_table by old other m h) (other_core by old other m h) (carried_legal by old other m h) in
     let same : new_length other (move_under by m) ≡ new_length old m = omega (arith, kept_same by old other m h, other_size by old other m h) in
-    let fits : length new ≤ max_tets = (led_table old m new p).few in
+    let fits : length new ≤ max_tets = (played_table old m new p).few in
     (led.0, record { table = other_table by old other m h; moved = led.1; accepted = no_limit other (move_under by m) (carried_legal by old other m h) (omega (arith, same, p.moved.length_is)) })
 
 pub steps_go_back_lem : StepsGoBack

@@ -1,10 +1,8 @@
 -- A table and moves are answered in one way.
-use Rattle.std.proofs.Common.{◌≡◌, ℕ, zero, suc, ◌+◌, ◌<◌, ◌≤◌, List, [], ◌∷◌, ◌++◌, length, Option, Some, None, Ok, Err, refl, sym, ap, ◌∙◌, subst, arith, inl, inr}
-use Rattle.std.specs.Prelude.{◌⊎◌}
-use Rattle.std.proofs.lemmas.Bool.{cases_lt}
+use Rattle.std.proofs.Common.{◌≡◌, ℕ, zero, suc, ◌+◌, List, [], ◌∷◌, ◌++◌, length, Option, Some, None, Ok, Err, refl, sym, ap, ◌∙◌, subst, arith}
 use Rattle.table_definitions.specs.Table.{Row, IsTable}
 use Rattle.table_definitions.specs.Places.{whole, IsConnected, IsLeastUnreached}
-use Rattle.table_definitions.proofs.ChainLaws.{joined_refl}
+use Rattle.table_definitions.proofs.ChainLaws.{joined_refl, one_unreached, connected_or_not}
 use Rattle.signature_definitions.specs.Spelling.{IsSignature}
 use Rattle.move_definitions.specs.Moves.{Move, play_fault, PlaysAll, Plays}
 use Rattle.move_definitions.specs.declared.MoveFault.{MoveFault}
@@ -14,19 +12,13 @@ use Rattle.certificate_definitions.specs.declared.CheckFault.TheVariants.{NoMemo
 use Rattle.canonical_labelling.proofs.Kept.{relabels_back, relabels_connected}
 use Rattle.canonical_labelling.proofs.Told.{one_signature, tells_tables}
 use Rattle.certificate_laws.specs.Laws.{TextsTellStandard, AnswersAgree}
-use Rattle.certificate_laws.proofs.CarriedWays.{led_table, led_same}
 use Rattle.certificate_laws.proofs.Sphere.{sphere_table, sphere_signature}
+use Rattle.move_laws.proofs.Played.{played_same, played_table, all_played_same}
 
 -- moves that lead on lead to one table
 pub all_led_table : (rows : List Row) (moves : List Move) (last : List Row) → IsTable rows → PlaysAll rows moves last → IsTable last
 all_led_table rows [] last table e = subst (λ (t : List Row). IsTable t) e table
-all_led_table rows (m ∷ ms) last table (next, first, rest) = all_led_table next ms last (led_table rows m next first) rest
-
-pub all_led_same : (rows : List Row) (moves : List Move) (last last' : List Row) → PlaysAll rows moves last → PlaysAll rows moves last' → last ≡ last'
-all_led_same rows [] last last' e e' = sym e ∙ e'
-all_led_same rows (m ∷ ms) last last' (next, first, rest) (next', first', rest') =
-    let same : next' ≡ next = led_same rows m next' next first' first in
-    all_led_same next ms last last' rest (subst (λ (t : List Row). PlaysAll t ms last') same rest')
+all_led_table rows (m ∷ ms) last table (next, first, rest) = all_led_table next ms last (played_table rows m next first) rest
 
 -- a move that is refused leads nowhere
 refused_not_led : (rows : List Row) (m : Move) (next : List Row) (fault : MoveFault) → play_fault rows m ≡ Some fault → Plays rows m next → ⊥
@@ -40,7 +32,7 @@ refused_at_most : (rows : List Row) (before : List Move) (m : Move) (after : Lis
 refused_at_most rows [] m after table fault last e refused (next, first, rest) =
     refused_not_led rows m next fault (ap (λ (t : List Row). play_fault t m) e ∙ refused) first
 refused_at_most rows (k ∷ ks) m after table fault last (next, first, rest) refused (next', first', rest') =
-    let same : next' ≡ next = led_same rows k next' next first' first in
+    let same : next' ≡ next = played_same rows k next' next first' first in
     refused_at_most next ks m after table fault last rest refused (subst (λ (t : List Row). PlaysAll t (ks ++ m ∷ after) last) same rest')
 
 abbrev AreSame : ℕ → MoveFault → ℕ → MoveFault → Type 0
@@ -70,7 +62,7 @@ refused_once rows (k ∷ ks) [] m m' after after' table table' fault fault' e (n
 refused_once rows (k ∷ ks) (k' ∷ ks') m m' after after' table table' fault fault' e (next, first, rest) (next', first', rest') r r' =
     let moves : k' ≡ k = sym (first_of k k' (ks ++ m ∷ after) (ks' ++ m' ∷ after') e) in
     let too : Plays rows k next' = subst (λ (q : Move). Plays rows q next') moves first' in
-    let same : next' ≡ next = led_same rows k next' next too first in
+    let same : next' ≡ next = played_same rows k next' next too first in
     let p : AreSame (length ks) fault (length ks') fault' =
     refused_once next ks ks' m m' after after' table table' fault fault' (rest_of k k' (ks ++ m ∷ after) (ks' ++ m' ∷ after') e) rest (subst (λ (t : List Row). PlaysAll t ks' table') same rest') r r' in
     (ap suc p.0, p.1)
@@ -83,17 +75,6 @@ sphere_connected t (suc u) lt lu = absurd (omega arith)
 
 pub standard_connected : (rows : List Row) → IsTable rows → IsStandard rows → IsConnected rows
 standard_connected rows table s = relabels_connected standard_sphere rows sphere_table (relabels_back rows standard_sphere table s) sphere_connected
-
-pub connected_or_not : (rows : List Row) (t : ℕ) → IsConnected rows → IsLeastUnreached rows t → ⊥
-connected_or_not rows t c u = let l = u.in_range in u.unreached (c 0 t (omega arith) u.in_range)
-
-pub one_unreached : (rows : List Row) (t u : ℕ) → IsLeastUnreached rows t → IsLeastUnreached rows u → t ≡ u
-one_unreached rows t u h k = by_size (cases_lt t u) (cases_lt u t)
-  where
-    by_size : (t < u) ⊎ (u ≤ t) → (u < t) ⊎ (t ≤ u) → t ≡ u
-    by_size (inl l) q = absurd (h.unreached (k.reached_before t l))
-    by_size (inr l) (inl l') = absurd (k.unreached (h.reached_before u l'))
-    by_size (inr l) (inr l') = omega arith
 
 -- a standard table has the text of the standard sphere
 pub standard_text : (rows : List Row) (text : List ℕ) → IsTable rows → IsStandard rows → IsSignature rows text → text ≡ sphere_text
@@ -115,10 +96,10 @@ pub answers_agree_lem : AnswersAgree
 answers_agree_lem rows moves (Ok done) (Ok done') table h k = refl
 answers_agree_lem rows moves (Ok done) (Err (Illegal step fault)) table (last, led, s) k = absurd (whole_not_refused rows moves last step fault led k)
 answers_agree_lem rows moves (Ok done) (Err (NotConnected t)) table (last, led, s) (last', led', u) =
-    let same : last ≡ last' = all_led_same rows moves last last' led led' in
+    let same : last ≡ last' = all_played_same rows moves last last' led led' in
     absurd (connected_or_not last' t (subst (λ (q : List Row). IsConnected q) same (standard_connected last (all_led_table rows moves last table led) s)) u)
 answers_agree_lem rows moves (Ok done) (Err (NotStandard text)) table (last, led, s) (last', led', c, h, n) =
-    let same : last ≡ last' = all_led_same rows moves last last' led led' in
+    let same : last ≡ last' = all_played_same rows moves last last' led led' in
     absurd (n (standard_text last' text (all_led_table rows moves last' table led') (subst (λ (q : List Row). IsStandard q) same s) h))
 answers_agree_lem rows moves (Err (Illegal step fault)) (Ok done) table h (last, led, s) = absurd (whole_not_refused rows moves last step fault led h)
 answers_agree_lem rows moves (Err (Illegal step fault)) (Err (Illegal step' fault')) table h k =
@@ -127,24 +108,24 @@ answers_agree_lem rows moves (Err (Illegal step fault)) (Err (Illegal step' faul
 answers_agree_lem rows moves (Err (Illegal step fault)) (Err (NotConnected t)) table h (last, led, u) = absurd (whole_not_refused rows moves last step fault led h)
 answers_agree_lem rows moves (Err (Illegal step fault)) (Err (NotStandard text)) table h (last, led, q, z, n) = absurd (whole_not_refused rows moves last step fault led h)
 answers_agree_lem rows moves (Err (NotConnected t)) (Ok done) table (last', led', u) (last, led, s) =
-    let same : last ≡ last' = all_led_same rows moves last last' led led' in
+    let same : last ≡ last' = all_played_same rows moves last last' led led' in
     absurd (connected_or_not last' t (subst (λ (q : List Row). IsConnected q) same (standard_connected last (all_led_table rows moves last table led) s)) u)
 answers_agree_lem rows moves (Err (NotConnected t)) (Err (Illegal step fault)) table (last, led, u) k = absurd (whole_not_refused rows moves last step fault led k)
 answers_agree_lem rows moves (Err (NotConnected t)) (Err (NotConnected t')) table (last, led, u) (last', led', u') =
-    let same : last' ≡ last = all_led_same rows moves last' last led' led in
+    let same : last' ≡ last = all_played_same rows moves last' last led' led in
     ap (λ z. Err (NotConnected z)) (one_unreached last t t' u (subst (λ (q : List Row). IsLeastUnreached q t') same u'))
 answers_agree_lem rows moves (Err (NotConnected t)) (Err (NotStandard text)) table (last, led, u) (last', led', c, h, n) =
-    let same : last' ≡ last = all_led_same rows moves last' last led' led in
+    let same : last' ≡ last = all_played_same rows moves last' last led' led in
     absurd (connected_or_not last t (subst (λ (q : List Row). IsConnected q) same c) u)
 answers_agree_lem rows moves (Err (NotStandard text)) (Ok done) table (last', led', c, h, n) (last, led, s) =
-    let same : last ≡ last' = all_led_same rows moves last last' led led' in
+    let same : last ≡ last' = all_played_same rows moves last last' led led' in
     absurd (n (standard_text last' text (all_led_table rows moves last' table led') (subst (λ (q : List Row). IsStandard q) same s) h))
 answers_agree_lem rows moves (Err (NotStandard text)) (Err (Illegal step fault)) table (last, led, q, z, n) k = absurd (whole_not_refused rows moves last step fault led k)
 answers_agree_lem rows moves (Err (NotStandard text)) (Err (NotConnected t)) table (last', led', c, h, n) (last, led, u) =
-    let same : last' ≡ last = all_led_same rows moves last' last led' led in
+    let same : last' ≡ last = all_played_same rows moves last' last led' led in
     absurd (connected_or_not last t (subst (λ (q : List Row). IsConnected q) same c) u)
 answers_agree_lem rows moves (Err (NotStandard text)) (Err (NotStandard text')) table (last, led, c, h, n) (last', led', c', h', n') =
-    let same : last' ≡ last = all_led_same rows moves last' last led' led in
+    let same : last' ≡ last = all_played_same rows moves last' last led' led in
     ap (λ (z : List ℕ). Err (NotStandard z)) (one_signature last text text' h (subst (λ (q : List Row). IsSignature q text') same h'))
 answers_agree_lem rows moves (Ok done) (Err NoMemory) table h k = absurd k
 answers_agree_lem rows moves (Err (Illegal step fault)) (Err NoMemory) table h k = absurd k

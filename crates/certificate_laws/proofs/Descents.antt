@@ -1,53 +1,35 @@
 -- Each move of a descent lessens the number of tetrahedra, and a descent that reaches the standard sphere certifies its table.
-use Rattle.std.proofs.Common.{◌≡◌, ℕ, ◌+◌, ◌-◌, ◌<◌, ◌≤◌, Bool, true, false, cond, List, [], ◌∷◌, length, map, Option, Some, None, refl, sym, ap, subst, arith, inl, inr}
-use Rattle.std.specs.Prelude.{◌⊎◌, ◌↔◌, nat_lt, find}
-use Rattle.std.specs.Option.{option_or}
+use Rattle.std.proofs.Common.{◌≡◌, ℕ, ◌+◌, ◌-◌, ◌<◌, ◌≤◌, Bool, true, false, List, [], ◌∷◌, length, map, Some, refl, sym, ap, subst, arith, inl, inr}
+use Rattle.std.specs.Prelude.{◌↔◌, nat_lt, find}
 use Rattle.std.specs.List.{list_all}
 use Rattle.std.proofs.lemmas.Bool.{ltb-true}
+use Rattle.plain_facts.proofs.Options.{one_or_other}
 use Rattle.table_definitions.specs.Lists.{below, pairs_of}
 use Rattle.table_definitions.specs.Permutation.{four}
 use Rattle.table_definitions.specs.Places.{edge_ends}
 use Rattle.table_definitions.specs.Table.{Row, IsTable}
 use Rattle.table_definitions.proofs.TableLaws.{Among}
 use Rattle.table_definitions.proofs.Tests.{list_all-among}
+use Rattle.table_definitions.proofs.Listed.{map-among, pairs-among, found_among}
 use Rattle.move_definitions.specs.Moves.{Move, PlaysAll}
 use Rattle.move_definitions.specs.Certificates.{IsStandard, moves_with, four_one_moves, three_two_moves, is_accepted, descent_move, IsDescent}
-use Rattle.move_laws.proofs.InverseFacets.{paired}
 use Rattle.move_laws.proofs.Legal.{no_fault}
 use Rattle.move_laws.proofs.Covered.{kept-count}
-use Rattle.move_laws.proofs.Played.{descents_agree_lem}
+use Rattle.move_laws.proofs.Played.{descents_agree_lem, played_table}
 use Rattle.certificate_laws.specs.Laws.{DescentsLessen, DescentsEnd, DescentsCertify, OneDescent}
-use Rattle.certificate_laws.proofs.CarriedWays.{led_table}
 
 -- the cores of a descent are small
 
-mapped_from : {A B : Type 0} (f : A → B) (xs : List A) (y : B) → Among y (map f xs) → (x : A) × Among x xs × (y ≡ f x)
-mapped_from f [] y h = absurd h
-mapped_from f (x ∷ xs) y (inl e) = (x, inl refl, e)
-mapped_from f (x ∷ xs) y (inr h) = let q = mapped_from f xs y h in (q.0, inr q.1, q.2)
-
 small_among : (cores : List (List ℕ)) (n : ℕ) (m : Move) → list_all (λ vs. nat_lt (length vs) 3) cores ≡ true → Among m (moves_with cores n) → length m.core < 3
 small_among cores n m all h =
-    let q = mapped_from (λ (p : ℕ × List ℕ). record { tet = p.0; core = p.1 }) (pairs_of (below n) cores) m h in
-    let at : nat_lt (length q.0.1) 3 ≡ true = list_all-among (λ (vs : List ℕ). nat_lt (length vs) 3) q.0.1 cores all (paired (below n) cores q.0 q.1).1 in
+    let q = map-among (λ (p : ℕ × List ℕ). record { tet = p.0; core = p.1 }) m (pairs_of (below n) cores) h in
+    let at : nat_lt (length q.0.1) 3 ≡ true = list_all-among (λ (vs : List ℕ). nat_lt (length vs) 3) q.0.1 cores all (pairs-among q.0 (below n) cores q.1).1 in
     subst (λ (k : Move). length k.core < 3) (sym q.2) (ltb-true (length q.0.1) 3 at)
-
-found_among : {A : Type 0} (p : A → Bool) (xs : List A) (x : A) → find p xs ≡ Some x → Among x xs
-found_among p [] x e = cc
-found_among {A} p (y ∷ ys) x e = by_test (p y) e (λ f. found_among p ys x f)
-  where
-    by_test : (b : Bool) → cond b (Some y) (find p ys) ≡ Some x → (find p ys ≡ Some x → Among x ys) → Among x (y ∷ ys)
-    by_test true f later = let is : y ≡ x = cc in inl (sym is)
-    by_test false f later = inr (later f)
-
-one_or : {A : Type 0} (o p : Option A) (x : A) → option_or o p ≡ Some x → (o ≡ Some x) ⊎ (p ≡ Some x)
-one_or None p x e = inr e
-one_or (Some y) p x e = inl e
 
 descent_small : (rows : List Row) (m : Move) → descent_move rows ≡ Some m → length m.core < 3
 unfolding descent_move
 descent_small rows m e =
-    elim (one_or (find (is_accepted rows) (four_one_moves (length rows))) (find (is_accepted rows) (three_two_moves (length rows))) m e) [
+    elim (one_or_other (find (is_accepted rows) (four_one_moves (length rows))) (find (is_accepted rows) (three_two_moves (length rows))) m e) [
       | inl f ↦ small_among (map (λ v. v ∷ []) four) (length rows) m refl (found_among (is_accepted rows) (four_one_moves (length rows)) m f)
       | inr f ↦ small_among edge_ends (length rows) m refl (found_among (is_accepted rows) (three_two_moves (length rows)) m f)
     ]
@@ -62,13 +44,13 @@ pub descents_end_lem : DescentsEnd
 descents_end_lem rows [] last table d = omega (arith, ap (λ (t : List Row). length t) d.0)
 descents_end_lem rows (m ∷ ms) last table (go, first, (next, p, rest)) =
     let less : length next < length rows = descents_lessen_lem rows m next first p in
-    let later : length last + length ms ≤ length next = descents_end_lem next ms last (led_table rows m next p) rest in
+    let later : length last + length ms ≤ length next = descents_end_lem next ms last (played_table rows m next p) rest in
     omega arith
 
 pub descent_leads : (rows : List Row) (moves : List Move) (last : List Row) → IsTable rows → IsDescent rows moves last → PlaysAll rows moves last
 descent_leads rows [] last table d = d.0
 descent_leads rows (m ∷ ms) last table (go, first, (next, p, rest)) =
-    (next, p, descent_leads next ms last (led_table rows m next p) rest)
+    (next, p, descent_leads next ms last (played_table rows m next p) rest)
 
 pub descents_certify_lem : DescentsCertify
 descents_certify_lem rows moves last table d s = (last, descent_leads rows moves last table d, s)

@@ -1,24 +1,26 @@
 -- The generator makes one table with one certificate.
-use Rattle.std.proofs.Common.{◌≡◌, ℕ, zero, suc, true, List, [], ◌∷◌, ◌++◌, length, get_or, Option, Some, None, refl, sym, ◌∙◌, subst, arith, inl, inr}
+use Rattle.std.proofs.Common.{◌≡◌, ℕ, zero, suc, true, List, [], ◌∷◌, ◌++◌, length, Option, Some, None, refl, sym, subst, arith, inl, inr}
 use Rattle.std.specs.Prelude.{◌⊎◌, filter, is_none, nat_lt, if◌then◌else◌}
-use Rattle.std.specs.Option.{option_or}
+use Rattle.plain_facts.proofs.Options.{both_none}
 use Rattle.table_definitions.specs.Table.{max_tets, Row, IsTable}
 use Rattle.table_definitions.specs.Relabelling.{IsRelabelled}
 use Rattle.table_definitions.proofs.TableLaws.{Among}
+use Rattle.table_definitions.proofs.Listed.{filter-among}
 use Rattle.move_definitions.specs.Moves.{Move, IsCore, move_fault, play_fault, new_length, Plays, PlaysAll}
 use Rattle.move_definitions.specs.declared.MoveFault.{MoveFault}
 use Rattle.move_definitions.specs.declared.MoveFault.TheVariants.{TooMany}
-use Rattle.move_definitions.specs.Certificates.{standard_sphere, is_accepted, two_three_moves, three_two_moves, one_four_moves, or_these, candidates, drawn, next_state, IsMaking}
+use Rattle.move_definitions.specs.Certificates.{standard_sphere, is_accepted, two_three_moves, three_two_moves, one_four_moves, candidates, drawn, next_state, IsMaking}
 use Rattle.certificate_definitions.specs.CarriedBack.{AreCarriedBack}
+use Rattle.certificate_definitions.specs.Makings.{IsMade}
 use Rattle.canonical_labelling.proofs.Kept.{relabels_back}
-use Rattle.move_laws.proofs.InverseFacets.{filtered}
-use Rattle.move_laws.proofs.Cores.{drawn_core}
-use Rattle.move_laws.proofs.Played.{makings_agree_lem}
+use Rattle.move_laws.proofs.Cores.{drawn_core, these_or, drawn_among}
+use Rattle.move_laws.proofs.Played.{makings_agree_lem, played_table}
 use Rattle.move_laws.proofs.LedOn.{legal_moves_lead_on_lem}
 use Rattle.certificate_laws.specs.Laws.{WaysLeadBack, WaysBackLead, WaysBackAgree, TablesAreMade, OneIsMade, MadeAreCertified}
-use Rattle.certificate_laws.proofs.CarriedWays.{led_table, IsWayBack, way_back_of}
+use Rattle.certificate_laws.proofs.CarriedWays.{IsWayBack, way_back_of}
 use Rattle.certificate_laws.proofs.OneWay.{IsThere, carried_leads, carried_long, IsOneWay, carried_agree}
 use Rattle.certificate_laws.proofs.Sphere.{sphere_table}
+use Rattle.certificate_laws.proofs.Checked.{all_led_table}
 
 pub ways_lead_back_lem : WaysLeadBack
 ways_lead_back_lem rows moves last table led = let w : IsWayBack rows moves last = way_back_of rows moves last table led in (w.back, w.end, w.by, w.are)
@@ -32,13 +34,9 @@ ways_back_agree_lem rows moves last last' back back' end end' by by' table a b =
 
 -- an accepted move leads on
 
-first_none : (a b : Option MoveFault) → option_or a b ≡ None → a ≡ None
-first_none None b e = refl
-first_none (Some a) b e = cc
-
 pub accepted_leads : (rows : List Row) (m : Move) → IsTable rows → IsCore m.core → play_fault rows m ≡ None → (next : List Row) × Plays rows m next
 accepted_leads rows m table c e =
-    let legal : move_fault rows m ≡ None = first_none (move_fault rows m) (if nat_lt max_tets (new_length rows m) then Some TooMany else None) e in
+    let legal : move_fault rows m ≡ None = (both_none (move_fault rows m) (if nat_lt max_tets (new_length rows m) then Some TooMany else None) e).0 in
     let led = legal_moves_lead_on_lem rows m table c legal in
     (led.0, record { table = table; moved = led.1; accepted = e })
 
@@ -48,31 +46,13 @@ accepted_none (Some f) e = cc
 
 -- a drawn move is accepted
 
-these_or : (ms rest : List Move) (m : Move) → Among m (or_these ms rest) → Among m ms ⊎ Among m rest
-these_or [] rest m h = inr h
-these_or (k ∷ ks) rest m h = inl h
-
 candidate_accepted : (rows : List Row) (m : Move) → Among m (candidates rows) → play_fault rows m ≡ None
 unfolding candidates
 candidate_accepted rows m h =
     elim (these_or (filter (is_accepted rows) (two_three_moves (length rows) ++ three_two_moves (length rows))) (filter (is_accepted rows) (one_four_moves (length rows))) m h) [
-      | inl a ↦ accepted_none (play_fault rows m) (filtered (is_accepted rows) m (two_three_moves (length rows) ++ three_two_moves (length rows)) a).1
-      | inr a ↦ accepted_none (play_fault rows m) (filtered (is_accepted rows) m (one_four_moves (length rows)) a).1
+      | inl a ↦ accepted_none (play_fault rows m) (filter-among (is_accepted rows) m (two_three_moves (length rows) ++ three_two_moves (length rows)) a).1
+      | inr a ↦ accepted_none (play_fault rows m) (filter-among (is_accepted rows) m (one_four_moves (length rows)) a).1
     ]
-
-among_or_first : (ms : List Move) (k : Move) (i : ℕ) → Among (get_or ms i k) ms ⊎ (get_or ms i k ≡ k)
-among_or_first [] k i = inr refl
-among_or_first (m ∷ ms) k zero = inl (inl refl)
-among_or_first (m ∷ ms) k (suc i) = elim (among_or_first ms k i) [ inl a ↦ inl (inr a) | inr e ↦ inr e ]
-
-drawn_among : (x : ℕ) (ms : List Move) (m : Move) → drawn x ms ≡ Some m → Among m ms
-drawn_among x [] m e = cc
-drawn_among x (k ∷ ks) m e = at _ e
-  where
-    at : (i : ℕ) → Some (get_or (k ∷ ks) i k) ≡ Some m → Among m (k ∷ ks)
-    at i f =
-        let is : get_or (k ∷ ks) i k ≡ m = cc in
-        elim (among_or_first (k ∷ ks) k i) [ inl a ↦ subst (λ (q : Move). Among q (k ∷ ks)) is a | inr g ↦ inl (sym is ∙ g) ]
 
 pub drawn_leads : (x : ℕ) (rows : List Row) (m : Move) → IsTable rows → drawn x (candidates rows) ≡ Some m → (next : List Row) × Plays rows m next
 drawn_leads x rows m table e = accepted_leads rows m table (drawn_core x rows m e) (candidate_accepted rows m (drawn_among x (candidates rows) m e))
@@ -93,13 +73,13 @@ making_of (suc most) x rows table = from (some_drawn (next_state x) (candidates 
     from (inl none) go = ([], rows, (refl, inr none))
     from (inr (m, e)) go =
         let led = drawn_leads (next_state x) rows m table e in
-        let rest = go led.0 (led_table rows m led.0 led.1) in
+        let rest = go led.0 (played_table rows m led.0 led.1) in
         (m ∷ rest.0, rest.1, (most, omega arith, e, (led.0, led.1, rest.2)))
 
 pub making_leads : (most x : ℕ) (rows : List Row) (moves : List Move) (last : List Row) → IsTable rows → IsMaking most x rows moves last → PlaysAll rows moves last
 making_leads most x rows [] last table h = h.0
 making_leads most x rows (m ∷ ms) last table (rest, e, first, (next, plays, later)) =
-    (next, plays, making_leads rest (next_state x) next ms last (led_table rows m next plays) later)
+    (next, plays, making_leads rest (next_state x) next ms last (played_table rows m next plays) later)
 
 pub tables_are_made_lem : TablesAreMade
 tables_are_made_lem seed most =
@@ -118,3 +98,7 @@ made_are_certified_lem seed most table certificate (moves, making, (end, by, are
     let t : IsThere standard_sphere table certificate end by = carried_leads standard_sphere moves table certificate end by sphere_table are in
     let r : IsRelabelled standard_sphere end = (by, t.relabels, t.carries) in
     (end, t.leads, relabels_back standard_sphere end sphere_table r)
+
+-- what is made is a table
+pub made_table : (seed most : ℕ) (table : List Row) (certificate : List Move) → IsMade seed most table certificate → IsTable table
+made_table seed most table certificate (moves, making, back) = all_led_table standard_sphere moves table sphere_table (making_leads most seed standard_sphere moves table sphere_table making)

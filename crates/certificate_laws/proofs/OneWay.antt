@@ -9,27 +9,23 @@ use Rattle.table_definitions.specs.Lists.{below, has}
 use Rattle.table_definitions.specs.Permutation.{image}
 use Rattle.table_definitions.specs.Table.{Row, IsTable}
 use Rattle.table_definitions.specs.Relabelling.{Relabelling, IsRelabelling, Carries, stand_in}
+use Rattle.table_definitions.proofs.Permutations.{OneIs, one_is}
 use Rattle.move_definitions.specs.Moves.{Move, IsCore, Facet, facet, new_facet, Plays, PlaysAll}
 use Rattle.certificate_definitions.specs.CarriedMoves.{by_labels, is_taken}
 use Rattle.certificate_definitions.specs.CarriedBack.{is_renaming, facet_at, Correspond, IsCarriedBack, staying, move_back, AreCarriedBack}
-use Rattle.perm_four.proofs.ListFacts.{list_all-below}
+use Rattle.table_definitions.proofs.ListFacts.{list_all-below}
 use Rattle.canonical_labelling.proofs.Standing.{same_relabelling}
-use Rattle.move_laws.proofs.CoreTests.{core_size}
+use Rattle.move_definitions.proofs.CoreTests.{core_size}
 use Rattle.move_laws.proofs.Labels.{ascending}
 use Rattle.move_laws.proofs.ListedFacets.{same_some}
 use Rattle.move_laws.proofs.Legal.{OldFacet, gone_facet}
+use Rattle.move_laws.proofs.Played.{played_same, played_table}
 use Rattle.certificate_laws.proofs.StepBack.{IsLedBack, led_back_by}
-use Rattle.certificate_laws.proofs.CarriedWays.{staying_relabels, staying_carries, led_table, led_same, stepped}
+use Rattle.certificate_laws.proofs.CarriedWays.{staying_relabels, staying_carries, stepped}
 
 -- five labels, each once, are determined by four of them
 
-abbrev OneOf : ℕ → ℕ → ℕ → ℕ → ℕ → Type 0
-OneOf b c d e x = (b ≡ x) ⊎ ((c ≡ x) ⊎ ((d ≡ x) ⊎ (e ≡ x)))
-
-one_of : (b c d e x : ℕ) → has (b ∷ c ∷ d ∷ e ∷ []) x ≡ true → OneOf b c d e x
-one_of b c d e x h = grind arith
-
-four_hold_four : (b c d e : ℕ) → OneOf b c d e 0 → OneOf b c d e 1 → OneOf b c d e 2 → OneOf b c d e 3 → OneOf b c d e 4 → ⊥
+four_hold_four : (b c d e : ℕ) → OneIs b c d e 0 → OneIs b c d e 1 → OneIs b c d e 2 → OneIs b c d e 3 → OneIs b c d e 4 → ⊥
 four_hold_four b c d e h0 h1 h2 h3 h4 = omega arith
 
 without : (a a' x : ℕ) (h : Bool) → (a ≡ a' → ⊥) → ((a == x) || h) ≡ true → ((a' == x) || h) ≡ true → h ≡ true
@@ -38,8 +34,8 @@ without a a' x h n p q = grind arith
 same_head : (a a' b c d e : ℕ) → list_all (has (a ∷ b ∷ c ∷ d ∷ e ∷ [])) (below 5) ≡ true → list_all (has (a' ∷ b ∷ c ∷ d ∷ e ∷ [])) (below 5) ≡ true → a ≡ a'
 same_head a a' b c d e h h' = by_case (cases_eq a a')
   where
-    among : (x : ℕ) → x < 5 → (a ≡ a' → ⊥) → OneOf b c d e x
-    among x l n = one_of b c d e x (without a a' x (has (b ∷ c ∷ d ∷ e ∷ []) x) n (list_all-below (has (a ∷ b ∷ c ∷ d ∷ e ∷ [])) 5 h x l) (list_all-below (has (a' ∷ b ∷ c ∷ d ∷ e ∷ [])) 5 h' x l))
+    among : (x : ℕ) → x < 5 → (a ≡ a' → ⊥) → OneIs b c d e x
+    among x l n = one_is b c d e x (without a a' x (has (b ∷ c ∷ d ∷ e ∷ []) x) n (list_all-below (has (a ∷ b ∷ c ∷ d ∷ e ∷ [])) 5 h x l) (list_all-below (has (a' ∷ b ∷ c ∷ d ∷ e ∷ [])) 5 h' x l))
 
     by_case : (a ≡ a') ⊎ (a ≡ a' → ⊥) → a ≡ a'
     by_case (inl e) = e
@@ -87,7 +83,7 @@ ascends (suc (suc (suc zero))) m l = (2, omega arith, refl)
 ascends (suc (suc (suc (suc zero)))) m l = (3, omega arith, refl)
 ascends (suc (suc (suc (suc (suc l))))) m h = absurd (omega arith)
 
-correspond_once : (old : List Row) (m : Move) (now : List Row) (back : Move) (on : Relabelling) (ls ls' : List ℕ) → IsCore m.core → Correspond old m now back on ls → Correspond old m now back on ls' → ls ≡ ls'
+pub correspond_once : (old : List Row) (m : Move) (now : List Row) (back : Move) (on : Relabelling) (ls ls' : List ℕ) → IsCore m.core → Correspond old m now back on ls → Correspond old m now back on ls' → ls ≡ ls'
 correspond_once old m now back on ls ls' c h h' = same_renaming ls ls' h.each_once h'.each_once same
   where
     same : (l : ℕ) → 0 < l → l < 5 → slice_index ls l ≡ slice_index ls' l
@@ -134,9 +130,9 @@ carried_leads rows [] last back end by table (at, none, ends, stays) =
     let b : IsThere rows last back last (staying (length last)) = subst (λ (ms : List Move). IsThere rows last ms last (staying (length last))) (sym none) a in
     subst (λ (r : Relabelling). IsThere rows last back end r) (sym stays) (subst (λ (t : List Row). IsThere rows last back t (staying (length last))) (sym ends) b)
 carried_leads rows (m ∷ ms) last back end by table (next, first, (later, now, on, are, is, leads, carried)) =
-    let t : IsThere next last later now on = carried_leads next ms last later now on (led_table rows m next first) are in
+    let t : IsThere next last later now on = carried_leads next ms last later now on (played_table rows m next first) are in
     let l : IsLedBack rows m next now on = led_back_by rows m next now on (stepped rows m next now on first t.relabels t.carries) in
-    let ends : l.end ≡ end = led_same now (move_back rows m on) l.end end l.leads leads in
+    let ends : l.end ≡ end = played_same now (move_back rows m on) l.end end l.leads leads in
     let same : l.by ≡ by = carried_once rows m now (move_back rows m on) on l.by by first.moved.core l.carried carried in
     record {
       leads = subst (λ (ms : List Move). PlaysAll last ms end) (sym is) (FoldsTo-push Plays last later now (move_back rows m on) end t.leads leads);
@@ -163,15 +159,15 @@ carried_agree rows [] last last' back back' end end' by by' table a b =
     let same : last ≡ last' = sym a.0 ∙ b.0 in
     record { last_is = same; back_is = a.1 ∙ sym b.1; end_is = a.2 ∙ same ∙ sym b.2; by_is = a.3 ∙ ap (λ (t : List Row). staying (length t)) same ∙ sym b.3 }
 carried_agree rows (m ∷ ms) last last' back back' end end' by by' table (next, first, (later, now, on, are, is, leads, carried)) (next', first', (later', now', on', are', is', leads', carried')) =
-    let same : next' ≡ next = led_same rows m next' next first' first in
+    let same : next' ≡ next = played_same rows m next' next first' first in
     let there : AreCarriedBack next ms last' later' now' on' = subst (λ (t : List Row). AreCarriedBack t ms last' later' now' on') same are' in
-    let w : IsOneWay last last' later later' now now' on on' = carried_agree next ms last last' later later' now now' on on' (led_table rows m next first) are there in
+    let w : IsOneWay last last' later later' now now' on on' = carried_agree next ms last last' later later' now now' on on' (played_table rows m next first) are there in
     let leads_too : Plays now (move_back rows m on) end' = subst (λ (r : Relabelling). Plays now (move_back rows m r) end') (sym w.by_is) (subst (λ (t : List Row). Plays t (move_back rows m on') end') (sym w.end_is) leads') in
     let carried_too : IsCarriedBack rows m now (move_back rows m on) on by' =
     subst (λ (r : Relabelling). IsCarriedBack rows m now (move_back rows m r) r by') (sym w.by_is) (subst (λ (t : List Row). IsCarriedBack rows m t (move_back rows m on') on' by') (sym w.end_is) carried') in
     record {
       last_is = w.last_is;
       back_is = is ∙ (λ i. w.back_is i ++ move_back rows m (w.by_is i) ∷ []) ∙ sym is';
-      end_is = led_same now (move_back rows m on) end end' leads leads_too;
+      end_is = played_same now (move_back rows m on) end end' leads leads_too;
       by_is = carried_once rows m now (move_back rows m on) on by by' first.moved.core carried carried_too;
     }

@@ -8,24 +8,23 @@ use Rattle.table_definitions.specs.Table.{Gluing, Row, Face, glue, other_side, I
 use Rattle.table_definitions.specs.Relabelling.{face_under, gluing_under}
 use Rattle.table_definitions.specs.Places.{Place, whole, across, SameComponent, IsConnected}
 use Rattle.table_definitions.proofs.TableLaws.{glued_tet, glued_face}
-use Rattle.table_definitions.proofs.ChainLaws.{kept_along, joined_refl, joined_trans, joined_sym}
+use Rattle.table_definitions.proofs.ChainLaws.{kept_along, joined_refl, joined_trans, Crossed, crossed, gluing_joins, joins_back, one_unreached, connected_or_not}
 use Rattle.move_definitions.specs.Moves.{Move, IsCore, Facet, own_facet, opposite, facet, new_facet, kept, old_labels, facet_stand_in, stand_in_at, moved_gluing, IsMoved}
 use Rattle.certificate_definitions.specs.Answers.{Descended}
-use Rattle.canonical_labelling.proofs.Kept.{Crossed, crossed}
 use Rattle.signature_laws.proofs.Connected.{connected_or_unreached_lem}
-use Rattle.perm_four.proofs.Permutations.{image_below}
-use Rattle.move_laws.proofs.CoreTests.{core_size}
+use Rattle.table_definitions.proofs.Permutations.{image_below}
+use Rattle.move_definitions.proofs.CoreTests.{core_size}
+use Rattle.move_definitions.proofs.StandIns.{facet_stand_in-new}
 use Rattle.move_laws.proofs.Labels.{HasLabel, label_at}
 use Rattle.move_laws.proofs.ListedFacets.{same_some, has_tet}
 use Rattle.move_laws.proofs.Legal.{IsFacet, facet_is, facet-four, HasNoFault, no_fault, old_facet, old_label, gone, OldFacet, gone_facet}
-use Rattle.move_laws.proofs.Covered.{face_at, stand_in-kept, stand_in-old, facet_gluing, facet_stand_in-new}
+use Rattle.move_laws.proofs.Covered.{face_at, stand_in-kept, stand_in-old, facet_gluing}
 use Rattle.move_laws.proofs.Matched.{AreGlued, old_glued}
 use Rattle.move_laws.proofs.SecondStand.{other_stands}
 use Rattle.move_laws.proofs.Shapes.{shape}
+use Rattle.move_laws.proofs.Played.{played_table}
 use Rattle.certificate_laws.specs.Laws.{MovesKeepConnected, WaysKeepConnected, DescentAnswersExist, DescentAnswersAgree}
 use Rattle.certificate_laws.proofs.CarriedPlaces.{IsKeptNumber, IsNewNumber, number_cases}
-use Rattle.certificate_laws.proofs.CarriedWays.{led_table}
-use Rattle.certificate_laws.proofs.Checked.{connected_or_not, one_unreached}
 use Rattle.certificate_laws.proofs.Descents.{one_descent_lem}
 use Rattle.certificate_laws.proofs.Answered.{descents_exist_lem}
 
@@ -49,13 +48,6 @@ then_taken : (old : List Row) (m : Move) (t : ℕ) → has (gone old m) t ≡ tr
 unfolding where_then
 then_taken old m t e = ap (λ (b : Bool). if b then kept old m else closed_up (gone old m) t) e
 
--- a glued face joins
-joined_by : (rows : List Row) (x : Face) (g : Gluing) → glue rows x ≡ Some g → SameComponent rows x.tet g.tet
-joined_by rows x g e = (x.face ∷ [], rw e refl)
-
-turn_back : (rows : List Row) (t u : ℕ) → IsTable rows → SameComponent rows t u → SameComponent rows u t
-turn_back rows t u table j = joined_sym rows (whole t) (whole u) table tt j
-
 go_on : (rows : List Row) (t u v : ℕ) → SameComponent rows t u → SameComponent rows u v → SameComponent rows t v
 go_on rows t u v j k = joined_trans rows (whole t) (whole u) (whole v) j k
 
@@ -66,7 +58,7 @@ same_place rows t u e = subst (λ v. SameComponent rows t v) e (joined_refl rows
 new_joined : (old : List Row) (m : Move) (new : List Row) → IsStep old m new → (j : ℕ) → j < length m.core → SameComponent new (kept old m + j) (kept old m)
 new_joined old m new h zero l = same_place new (kept old m + 0) (kept old m) (omega arith)
 new_joined old m new h (suc j) l =
-    let to : SameComponent new (kept old m + suc j) (kept old m + 0) = joined_by new (opposite (new_facet old m (suc j)) 0) _ (h.moved.inner (suc j) 0 l (omega arith) (λ e. absurd (omega arith))) in
+    let to : SameComponent new (kept old m + suc j) (kept old m + 0) = gluing_joins new (opposite (new_facet old m (suc j)) 0) _ (h.moved.inner (suc j) 0 l (omega arith) (λ e. absurd (omega arith))) in
     go_on new (kept old m + suc j) (kept old m + 0) (kept old m) to (same_place new (kept old m + 0) (kept old m) (omega arith))
 
 -- what stands for a face is where its tetrahedron is then
@@ -131,7 +123,7 @@ step_then old m new h x g e = by_stand (stand_in_at old m x) refl
         let glued : glue new (face_under s x) ≡ Some _ = h.moved.outer x s lt lf stands ∙ ap (option_and_then (moved_gluing old m x s)) e ∙ ap (option_map (λ (r : Gluing). gluing_under s r g)) reached.1 in
         let near : SameComponent new s.tet (where_then old m x.tet) = stands_then old m new h x s lt lf stands in
         let far : SameComponent new r.tet (where_then old m g.tet) = stands_then old m new h (other_side x g) r (h.table.in_range x g e) (image_below g.perm (h.table.permutes x g e) x.face lf) reached.1 in
-        go_on new (where_then old m x.tet) s.tet (where_then old m g.tet) (turn_back new s.tet (where_then old m x.tet) h.new_table near) (go_on new s.tet r.tet (where_then old m g.tet) (joined_by new (face_under s x) (gluing_under s r g) glued) far)
+        go_on new (where_then old m x.tet) s.tet (where_then old m g.tet) (joins_back new s.tet (where_then old m x.tet) h.new_table near) (go_on new s.tet r.tet (where_then old m g.tet) (gluing_joins new (face_under s x) (gluing_under s r g) glued) far)
 
 abbrev Then : List Row → Move → List Row → ℕ → Place → Type 0
 Then old m new t p = (p.vertices ≡ []) × SameComponent new (where_then old m t) (where_then old m p.tet)
@@ -153,15 +145,15 @@ from_old old m new h u (inr n) =
 
 pub moves_keep_connected_lem : MovesKeepConnected
 moves_keep_connected_lem old m new p connected t u lt lu =
-    let h : IsStep old m new = record { table = p.table; core = p.moved.core; fine = no_fault old m p.moved.legal; moved = p.moved; new_table = led_table old m new p } in
+    let h : IsStep old m new = record { table = p.table; core = p.moved.core; fine = no_fault old m p.moved.legal; moved = p.moved; new_table = played_table old m new p } in
     let long = p.moved.length_is in
     let a = from_old old m new h t (number_cases old m h.table h.fine h.core t (omega (arith, long))) in
     let b = from_old old m new h u (number_cases old m h.table h.fine h.core u (omega (arith, long))) in
-    go_on new t (where_then old m a.0) u a.2 (go_on new (where_then old m a.0) (where_then old m b.0) u (chain_then old m new h a.0 b.0 (connected a.0 b.0 a.1 b.1)) (turn_back new u (where_then old m b.0) h.new_table b.2))
+    go_on new t (where_then old m a.0) u a.2 (go_on new (where_then old m a.0) (where_then old m b.0) u (chain_then old m new h a.0 b.0 (connected a.0 b.0 a.1 b.1)) (joins_back new u (where_then old m b.0) h.new_table b.2))
 
 pub ways_keep_connected_lem : WaysKeepConnected
 ways_keep_connected_lem rows [] last table e connected = subst (λ (t : List Row). IsConnected t) e connected
-ways_keep_connected_lem rows (m ∷ ms) last table (next, first, rest) connected = ways_keep_connected_lem next ms last (led_table rows m next first) rest (moves_keep_connected_lem rows m next first connected)
+ways_keep_connected_lem rows (m ∷ ms) last table (next, first, rest) connected = ways_keep_connected_lem next ms last (played_table rows m next first) rest (moves_keep_connected_lem rows m next first connected)
 
 pub descent_answers_exist_lem : DescentAnswersExist
 descent_answers_exist_lem rows table = elim (connected_or_unreached_lem rows table) [

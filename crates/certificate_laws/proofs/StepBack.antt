@@ -13,7 +13,7 @@ use Rattle.certificate_definitions.specs.CarriedMoves.{by_labels, is_taken, numb
 use Rattle.certificate_definitions.specs.CarriedBack.{IsCarriedBack, move_back}
 use Rattle.canonical_labelling.specs.Between.{after}
 use Rattle.canonical_labelling.proofs.Back.{after_stands, after_relabelling, carries_on}
-use Rattle.perm_four.proofs.Permutations.{compose-identity}
+use Rattle.table_definitions.proofs.Permutations.{compose-identity}
 use Rattle.move_laws.proofs.Labels.{AreLabels, ascending, new_labels, HasLabel, label_at, HasVertex, vertex_at, length-labels, image-map}
 use Rattle.move_laws.proofs.Legal.{IsFacet, facet_is, HasNoFault, no_fault, old_facet}
 use Rattle.move_laws.proofs.Covered.{gluing_to}
@@ -22,7 +22,7 @@ use Rattle.move_laws.proofs.Renamed.{renamed, renamed_back, back-renamed, rename
 use Rattle.move_laws.proofs.InverseFacets.{inverse_of}
 use Rattle.move_laws.proofs.Placed.{moved_perm, place, facet_place, place-kept, place-old, relabelling, stand_in-placed, is_relabelling, led_back, carries_back, closed_up_small}
 use Rattle.move_laws.proofs.SecondStand.{kept-inverse}
-use Rattle.certificate_laws.proofs.LedByPlaces.{led_back_moved}
+use Rattle.move_laws.proofs.LedBack.{led_back_moved}
 use Rattle.move_laws.proofs.LedOn.{legal_moves_lead_on_lem}
 use Rattle.certificate_laws.proofs.Names.{named, named_perm}
 use Rattle.certificate_laws.proofs.CarriedCores.{naming}
@@ -30,7 +30,7 @@ use Rattle.certificate_laws.proofs.CarriedFacets.{IsCarried, perm_at, perm_fine,
 use Rattle.certificate_laws.proofs.CarriedLegal.{carried_legal}
 use Rattle.certificate_laws.proofs.CarriedPlaces.{new_over, over, over_new, kept_same, on as carried_by, on_relabelling, on_stands, on_goes_on}
 use Rattle.certificate_laws.proofs.CarriedOn.{carried_on}
-use Rattle.certificate_laws.proofs.KeptLow.{closed_up_low, stays_low}
+use Rattle.move_laws.proofs.SecondStand.{closed_up_low, stays_low}
 use Rattle.certificate_laws.proofs.BackLabels.{IsSteppedOn, at_label, back_label, back_labels, carried_inverse, each_once, held, inv}
 
 -- the relabelling of the table before the step: up to the table to which the inverse leads, and then along

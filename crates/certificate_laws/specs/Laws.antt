@@ -1,10 +1,10 @@
 -- Laws of certificates.
-use Rattle.std.specs.Prelude.{◌≡◌, ◌↔◌, ℕ, ◌+◌, ◌<◌, ◌≤◌, ◌⊎◌, List, length, Some, All}
+use Rattle.std.specs.Prelude.{◌≡◌, ◌↔◌, ℕ, ◌+◌, ◌<◌, ◌≤◌, ◌⊎◌, List, length, None, Some, All}
 use Rattle.table_definitions.specs.Table.{Row, IsTable}
 use Rattle.table_definitions.specs.Places.{IsConnected}
 use Rattle.table_definitions.specs.Relabelling.{Relabelling, IsRelabelling, Carries}
-use Rattle.signature_definitions.specs.Spelling.{IsSignature}
-use Rattle.move_definitions.specs.Moves.{Move, IsCore, IsMoved, Plays, PlaysAll}
+use Rattle.signature_definitions.specs.Spelling.{Spells, IsSignature}
+use Rattle.move_definitions.specs.Moves.{Move, IsCore, move_fault, IsMoved, Plays, PlaysAll}
 use Rattle.move_definitions.specs.Certificates.{standard_sphere, IsStandard, IsCertificate, descent_move, IsDescent}
 use Rattle.certificate_definitions.specs.CarriedMoves.{move_under, GoesOn}
 use Rattle.certificate_definitions.specs.CarriedBack.{IsCarriedBack, move_back, AreCarriedBack}
@@ -23,6 +23,19 @@ abbrev pub MovesGoOnOnce : Type 0
 MovesGoOnOnce =
     (by : Relabelling) (old other : List Row) (m : Move) (new : List Row) (on on' : Relabelling) → IsTable old → IsRelabelling (length old) by → Carries by old other → IsMoved old m new
     → IsRelabelling (length new) on → IsRelabelling (length new) on' → GoesOn by old m other on → GoesOn by old m other on' → on ≡ on'
+
+-- where a relabelling carries the table, a move is legal exactly if the move that stands for it is
+abbrev pub IsLegalAlong : Relabelling → List Row → List Row → Type 0
+IsLegalAlong by old other = (m : Move) → m.tet < length old → IsCore m.core → (move_fault old m ≡ None) ↔ (move_fault other (move_under by m) ≡ None)
+
+abbrev pub LegalMovesGoAlong : Type 0
+LegalMovesGoAlong = (by : Relabelling) (old other : List Row) → IsTable old → IsRelabelling (length old) by → Carries by old other → IsLegalAlong by old other
+
+-- so a table has the legal moves of the table that its signature spells, along a relabelling that carries it there
+abbrev pub SignaturesKeepLegalMoves : Type 0
+SignaturesKeepLegalMoves =
+    (rows spelled : List Row) (text : List ℕ) → IsTable rows → IsSignature rows text → Spells text spelled
+    → (by : Relabelling) × IsRelabelling (length rows) by × Carries by rows spelled × IsLegalAlong by rows spelled
 
 -- and the limit of tetrahedra is kept where it was
 abbrev pub PlaysGoOn : Type 0

@@ -3,13 +3,20 @@
 #![tactic(auto)]
 
 ghost use Rattle.certificate_laws.specs.LoopLaws.{ChecksGoOn, ChecksRefuse, DescentsGoOn, DescentsAreDone, MakingsGoOn, MakingsAreDone, WaysBackGoOn};
-ghost use Rattle.certificate_laws.specs.Laws.{MovesGoOn, MovesGoOnOnce, PlaysGoOn, MovesKeepConnected, WaysKeepConnected, StepsGoBack, WaysLeadBack, WaysBackLead, WaysBackAgree, TablesAreMade, OneIsMade, MadeAreCertified, SphereIsTable, SphereHasSignature, TextsTellStandard, AnswersAgree, AnswersExist, DescentsLessen, DescentsEnd, DescentsCertify, StandardOrNot, DescentsExist, OneDescent, DescentAnswersExist, DescentAnswersAgree};
+ghost use Rattle.certificate_laws.specs.Laws.{LegalMovesGoAlong, SignaturesKeepLegalMoves, MovesGoOn, MovesGoOnOnce, PlaysGoOn, MovesKeepConnected, WaysKeepConnected, StepsGoBack, WaysLeadBack, WaysBackLead, WaysBackAgree, TablesAreMade, OneIsMade, MadeAreCertified, SphereIsTable, SphereHasSignature, TextsTellStandard, AnswersAgree, AnswersExist, DescentsLessen, DescentsEnd, DescentsCertify, StandardOrNot, DescentsExist, OneDescent, DescentAnswersExist, DescentAnswersAgree};
 
 /// The move that stands for a legal move, where a relabelling carries the table, is legal, and one relabelling carries on.
 pub fn moves_go_on()
     ensures tables { MovesGoOn }
     ensures once { MovesGoOnOnce }
     ensures plays { PlaysGoOn }
+{}
+
+/// Where a relabelling carries the table, a move is legal exactly if the one that stands for it is; so a table has the
+/// legal moves of the table that its signature spells.
+pub fn legal_moves_go_along()
+    ensures tables { LegalMovesGoAlong }
+    ensures signatures { SignaturesKeepLegalMoves }
 {}
 
 /// Moves keep a table connected.

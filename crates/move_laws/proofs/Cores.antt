@@ -1,8 +1,8 @@
 -- The moves of lines, of descents and of the generator have cores.
-use Rattle.std.proofs.Common.{◌≡◌, ℕ, zero, suc, Bool, true, false, cond, List, [], ◌∷◌, ◌++◌, length, map, get_or, Option, Some, None, refl, sym, ◌∙◌, subst, arith, inl, inr}
+use Rattle.std.proofs.Common.{◌≡◌, ℕ, zero, suc, Bool, true, List, [], ◌∷◌, ◌++◌, length, map, get_or, Some, refl, sym, ◌∙◌, subst, arith, inl, inr}
 use Rattle.std.specs.Prelude.{◌⊎◌, ◌&&◌, ◌||◌, nat_lt, not, filter, find}
-use Rattle.std.specs.Option.{option_or}
 use Rattle.std.specs.List.{list_all}
+use Rattle.plain_facts.proofs.Options.{one_or_other}
 use Rattle.table_definitions.specs.Lists.{below, has, same_list, pairs_of}
 use Rattle.table_definitions.specs.Permutation.{four, others}
 use Rattle.table_definitions.specs.Places.{edge_ends}
@@ -14,7 +14,7 @@ use Rattle.move_definitions.specs.Grammar.{IsCoreText, one_four, two_three, thre
 use Rattle.move_definitions.specs.Certificates.{moves_with, four_one_moves, three_two_moves, two_three_moves, one_four_moves, is_accepted, descent_move, candidates, or_these, drawn}
 use Rattle.move_definitions.specs.Laws.{MoveLinesHaveCores}
 use Rattle.table_definitions.proofs.ListFacts.{list_all-below}
-use Rattle.move_laws.proofs.InverseFacets.{filtered, appended, paired}
+use Rattle.table_definitions.proofs.Listed.{filter-among, appended-among, map-among, pairs-among, found_among}
 use Rattle.move_laws.proofs.Renamed.{given_lt}
 
 abbrev is_core : List ℕ → Bool
@@ -40,15 +40,10 @@ move_lines_have_cores_lem line m h = core_of_text h.kind h.core m.core h.core_te
 
 -- of lists of moves
 
-mapped_from : {A B : Type 0} (f : A → B) (xs : List A) (y : B) → Among y (map f xs) → (x : A) × Among x xs × (y ≡ f x)
-mapped_from f [] y h = absurd h
-mapped_from f (x ∷ xs) y (inl e) = (x, inl refl, e)
-mapped_from f (x ∷ xs) y (inr h) = let q = mapped_from f xs y h in (q.0, inr q.1, q.2)
-
 core_among : (cores : List (List ℕ)) (n : ℕ) (m : Move) → list_all is_core cores ≡ true → Among m (moves_with cores n) → IsCore m.core
 core_among cores n m all h =
-    let q = mapped_from (λ (p : ℕ × List ℕ). record { tet = p.0; core = p.1 }) (pairs_of (below n) cores) m h in
-    let at : is_core q.0.1 ≡ true = list_all-among is_core q.0.1 cores all (paired (below n) cores q.0 q.1).1 in
+    let q = map-among (λ (p : ℕ × List ℕ). record { tet = p.0; core = p.1 }) m (pairs_of (below n) cores) h in
+    let at : is_core q.0.1 ≡ true = list_all-among is_core q.0.1 cores all (pairs-among q.0 (below n) cores q.1).1 in
     subst (λ (k : Move). IsCore k.core) (sym q.2) at
 
 four_one_core : (n : ℕ) (m : Move) → Among m (four_one_moves n) → IsCore m.core
@@ -65,29 +60,17 @@ one_four_core n m h = core_among (four ∷ []) n m refl h
 
 -- of descents
 
-found_among : {A : Type 0} (p : A → Bool) (xs : List A) (x : A) → find p xs ≡ Some x → Among x xs
-found_among p [] x e = cc
-found_among {A} p (y ∷ ys) x e = by_test (p y) e (λ f. found_among p ys x f)
-  where
-    by_test : (b : Bool) → cond b (Some y) (find p ys) ≡ Some x → (find p ys ≡ Some x → Among x ys) → Among x (y ∷ ys)
-    by_test true f later = let is : y ≡ x = cc in inl (sym is)
-    by_test false f later = inr (later f)
-
-one_or : {A : Type 0} (o p : Option A) (x : A) → option_or o p ≡ Some x → (o ≡ Some x) ⊎ (p ≡ Some x)
-one_or None p x e = inr e
-one_or (Some y) p x e = inl e
-
 pub descent_core : (rows : List Row) (m : Move) → descent_move rows ≡ Some m → IsCore m.core
 unfolding descent_move
 descent_core rows m e =
-    elim (one_or (find (is_accepted rows) (four_one_moves (length rows))) (find (is_accepted rows) (three_two_moves (length rows))) m e) [
+    elim (one_or_other (find (is_accepted rows) (four_one_moves (length rows))) (find (is_accepted rows) (three_two_moves (length rows))) m e) [
       | inl f ↦ four_one_core (length rows) m (found_among (is_accepted rows) (four_one_moves (length rows)) m f)
       | inr f ↦ three_two_core (length rows) m (found_among (is_accepted rows) (three_two_moves (length rows)) m f)
     ]
 
 -- of the generator
 
-these_or : (ms rest : List Move) (m : Move) → Among m (or_these ms rest) → Among m ms ⊎ Among m rest
+pub these_or : (ms rest : List Move) (m : Move) → Among m (or_these ms rest) → Among m ms ⊎ Among m rest
 these_or [] rest m h = inr h
 these_or (k ∷ ks) rest m h = inl h
 
@@ -95,19 +78,19 @@ candidate_core : (rows : List Row) (m : Move) → Among m (candidates rows) → 
 unfolding candidates
 candidate_core rows m h =
     elim (these_or (filter (is_accepted rows) (two_three_moves n ++ three_two_moves n)) (filter (is_accepted rows) (one_four_moves n)) m h) [
-      | inl a ↦ elim (appended m (two_three_moves n) (three_two_moves n) (filtered (is_accepted rows) m (two_three_moves n ++ three_two_moves n) a).0) [ inl b ↦ two_three_core n m b | inr b ↦ three_two_core n m b ]
-      | inr a ↦ one_four_core n m (filtered (is_accepted rows) m (one_four_moves n) a).0
+      | inl a ↦ elim (appended-among m (two_three_moves n) (three_two_moves n) (filter-among (is_accepted rows) m (two_three_moves n ++ three_two_moves n) a).0) [ inl b ↦ two_three_core n m b | inr b ↦ three_two_core n m b ]
+      | inr a ↦ one_four_core n m (filter-among (is_accepted rows) m (one_four_moves n) a).0
     ]
   where
     n : ℕ
     n = length rows
 
-among_or_first : (ms : List Move) (k : Move) (i : ℕ) → Among (get_or ms i k) ms ⊎ (get_or ms i k ≡ k)
+pub among_or_first : (ms : List Move) (k : Move) (i : ℕ) → Among (get_or ms i k) ms ⊎ (get_or ms i k ≡ k)
 among_or_first [] k i = inr refl
 among_or_first (m ∷ ms) k zero = inl (inl refl)
 among_or_first (m ∷ ms) k (suc i) = elim (among_or_first ms k i) [ inl a ↦ inl (inr a) | inr e ↦ inr e ]
 
-drawn_among : (x : ℕ) (ms : List Move) (m : Move) → drawn x ms ≡ Some m → Among m ms
+pub drawn_among : (x : ℕ) (ms : List Move) (m : Move) → drawn x ms ≡ Some m → Among m ms
 drawn_among x [] m e = cc
 drawn_among x (k ∷ ks) m e = at _ e
   where

@@ -1,13 +1,16 @@
 -- Each face of the table to which a move leads stands for one of the old table, or lies between facets that are put in.
-use Rattle.std.proofs.Common.{◌≡◌, ℕ, zero, suc, ◌+◌, ◌-◌, ◌<◌, ◌≤◌, Bool, true, false, List, length, Some, None, refl, sym, ap, ◌∙◌, subst, arith, inl, inr}
-use Rattle.std.specs.Prelude.{◌⊎◌, ◌==◌, ◌≢◌, if◌then◌else◌}
-use Rattle.std.proofs.lemmas.Bool.{lt-ltb, le-ltb, cases_lt}
+use Rattle.std.proofs.Common.{◌≡◌, ℕ, ◌+◌, ◌-◌, ◌<◌, ◌≤◌, false, List, length, Some, sym, ap, ◌∙◌, subst, arith, inl, inr, refl}
+use Rattle.std.specs.Prelude.{◌⊎◌, ◌≢◌}
+use Rattle.std.proofs.lemmas.Bool.{cases_lt}
 use Rattle.table_definitions.specs.Lists.{has, in_place_of, closed_up}
-use Rattle.table_definitions.specs.Permutation.{image, preimage, identity}
+use Rattle.table_definitions.specs.Permutation.{image, preimage}
 use Rattle.table_definitions.specs.Table.{Gluing, Row, Face, IsTable}
 use Rattle.table_definitions.specs.Relabelling.{face_under}
+use Rattle.table_definitions.proofs.Permutations.{image-identity}
+use Rattle.table_definitions.proofs.InPlace.{in_place-same}
 use Rattle.move_definitions.specs.Moves.{Move, IsCore, Facet, opposite, facet, old_labels, new_length, new_facet, label_by_label, facet_stand_in, kept_stand_in, stand_in_of, stand_in_at, kept}
-use Rattle.move_laws.proofs.CoreTests.{core_size}
+use Rattle.move_definitions.proofs.CoreTests.{core_size}
+use Rattle.move_definitions.proofs.StandIns.{facet_stand_in-new}
 use Rattle.move_laws.proofs.Labels.{ascending, new_labels, HasLabel, label_at, HasVertex, vertex_at, length-labels, image-map}
 use Rattle.move_laws.proofs.ListedFacets.{not_found, is_found, comes_from, stays-count}
 use Rattle.move_laws.proofs.Legal.{IsFacet, facet_is, HasNoFault, old_facet, old_label, facets_apart, gone, gone_distinct, length-gone, gone_below}
@@ -30,19 +33,6 @@ stand_in-old rows m i f v h c low high e =
 
 abbrev pub facet_gluing : List Row → Move → Facet → ℕ → Gluing
 facet_gluing rows m f j = record { tet = (new_facet rows m j).tet; perm = label_by_label f (new_facet rows m j) }
-
-pub facet_stand_in-new : (rows : List Row) (m : Move) (f : Facet) (j : ℕ) → j < length m.core → facet_stand_in rows m f j ≡ Some (facet_gluing rows m f j)
-facet_stand_in-new rows m f j l = ap (λ b. if b then Some (facet_gluing rows m f j) else None) (lt-ltb j (length m.core) l)
-
-pub facet_stand_in-old : (rows : List Row) (m : Move) (f : Facet) (j : ℕ) → length m.core ≤ j → facet_stand_in rows m f j ≡ None
-facet_stand_in-old rows m f j l = ap (λ b. if b then Some (facet_gluing rows m f j) else None) (le-ltb j (length m.core) l)
-
-pub image-identity : (v : ℕ) → v < 4 → image identity v ≡ v
-image-identity zero l = refl
-image-identity (suc zero) l = refl
-image-identity (suc (suc zero)) l = refl
-image-identity (suc (suc (suc zero))) l = refl
-image-identity (suc (suc (suc (suc v)))) l = absurd (omega arith)
 
 -- as many tetrahedra are kept as stay, and no fewer than those that are taken out were there
 pub kept-count : (rows : List Row) (m : Move) → IsTable rows → HasNoFault rows m → IsCore m.core → 5 - length m.core ≤ length rows
@@ -67,19 +57,13 @@ pub record IsInner (rows : List Row) (m : Move) (y : Face) : Type 0 where
   pub apart : j ≢ l
   pub is : opposite (new_facet rows m j) l ≡ y
 
-pub in_place-same : (a b : ℕ) → in_place_of a b a ≡ b
-in_place-same a b = let t : (a == a) ≡ true = grind arith in ap (λ (c : Bool). if c then b else a) t
-
-pub in_place-other : (a b l : ℕ) → l ≢ a → in_place_of a b l ≡ l
-in_place-other a b l d = let t : (l == a) ≡ false = grind arith in ap (λ (c : Bool). if c then b else l) t
-
 -- the vertex of facet i with label j goes to that of the new facet j with label i
 pub crossed : (rows : List Row) (m : Move) (i j : ℕ) (f : Facet) → IsFacet rows i f → j < 5 → j ≢ i → image (label_by_label f (new_facet rows m j)) (preimage f.labels j) ≡ preimage (ascending j) i
 crossed rows m i j f is l apart =
     let at : HasVertex f.labels j = vertex_at i f.labels is.labels j l apart in
     image-map (λ l. preimage (ascending j) (in_place_of j f.missing l)) f.labels (preimage f.labels j) (rw (length-labels i f.labels is.labels) at.small)
     ∙ ap (λ l. preimage (ascending j) (in_place_of j f.missing l)) at.label
-    ∙ ap (preimage (ascending j)) (in_place-same j f.missing ∙ is.missing)
+    ∙ ap (preimage (ascending j)) (in_place-same j f.missing j refl ∙ is.missing)
 
 -- a face of a new facet opposite an old label
 pub facet_covered : (rows : List Row) (m : Move) (i j : ℕ) → IsTable rows → HasNoFault rows m → IsCore m.core → length m.core ≤ i → i < 5 → j < length m.core → StandsForOld rows m (face_at (kept rows m + j) (preimage (ascending j) i))

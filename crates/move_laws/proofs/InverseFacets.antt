@@ -1,54 +1,20 @@
 -- The inverse move is legal: the facets that were put in are those that it takes out.
-use Rattle.std.proofs.Common.{◌≡◌, ℕ, zero, suc, ◌+◌, ◌-◌, ◌<◌, ◌≤◌, Bool, true, false, cond, List, [], ◌∷◌, ◌++◌, length, map, drop, Option, Some, None, refl, sym, ap, ◌∙◌, subst, arith, inl, inr}
-use Rattle.std.specs.Prelude.{◌⊎◌, ◌==◌, ◌≢◌, nat_lt, filter, option_map, if◌then◌else◌}
-use Rattle.std.specs.Option.{option_or}
+use Rattle.std.proofs.Common.{◌≡◌, ℕ, zero, suc, ◌+◌, ◌-◌, ◌<◌, ◌≤◌, Bool, true, false, List, length, map, drop, Option, Some, None, refl, sym, ap, ◌∙◌, subst, arith, inl, inr}
+use Rattle.std.specs.Prelude.{◌==◌, ◌≢◌, nat_lt, filter, option_map, if◌then◌else◌}
 use Rattle.std.proofs.lemmas.Bool.{eqb-true, eq-eqb, lt-ltb, ltb-true, and_from, or_cases}
-use Rattle.table_definitions.specs.Lists.{has, same_list, in_place_of, first_some, pairs_of}
+use Rattle.table_definitions.specs.Lists.{has, same_list, in_place_of, pairs_of}
 use Rattle.table_definitions.specs.Permutation.{four, image, preimage, compose}
 use Rattle.table_definitions.specs.Table.{Row, glue, IsTable}
 use Rattle.table_definitions.proofs.TableLaws.{Among}
+use Rattle.table_definitions.proofs.Listed.{filter-among, pairs-among, first_some-nowhere}
 use Rattle.move_definitions.specs.declared.MoveFault.TheVariants.{Repeated, NotMatched}
 use Rattle.move_definitions.specs.Moves.{Move, IsCore, Facet, own_facet, opposite, facet_behind, facet, found_labels, tets_before, facet_fault, pair_fault, is_matched, move_fault, kept, inverse_move, IsMoved}
-use Rattle.move_laws.proofs.CoreTests.{core_size}
+use Rattle.move_definitions.proofs.CoreTests.{core_size}
 use Rattle.move_laws.proofs.Labels.{ascending, new_labels, label_at, HasVertex, vertex_at, length-labels, image-map}
 use Rattle.move_laws.proofs.ListedFacets.{same_some, tets_of, IsOf, facet_with}
 use Rattle.move_laws.proofs.Legal.{facet-found, no_fault}
 use Rattle.move_laws.proofs.Covered.{face_at, kept-count}
 use Rattle.move_laws.proofs.Renamed.{renamed, renamed_back, renamed-back, back-new, IsInverseCore, inverse_core, new_as_old_labels, renamed_labels, across, behind-renamed, match-renamed}
-
--- lists in which nothing is found
-
-first_some-nowhere : {A B : Type 0} (f : A → Option B) (xs : List A) → ((x : A) → Among x xs → f x ≡ None) → first_some f xs ≡ None
-first_some-nowhere f [] none = refl
-first_some-nowhere {A} {B} f (x ∷ xs) none =
-    ap (λ (o : Option B). option_or o (first_some f xs)) (none x (inl refl)) ∙ first_some-nowhere f xs (λ y a. none y (inr a))
-
-pub filtered : {A : Type 0} (p : A → Bool) (x : A) (xs : List A) → Among x (filter p xs) → Among x xs × (p x ≡ true)
-filtered p x [] a = absurd a
-filtered {A} p x (y ∷ ys) a = by_test (p y) refl a (λ b. filtered p x ys b)
-  where
-    by_test : (b : Bool) → p y ≡ b → Among x (cond b (y ∷ filter p ys) (filter p ys)) → (Among x (filter p ys) → Among x ys × (p x ≡ true)) → Among x (y ∷ ys) × (p x ≡ true)
-    by_test true t (inl e) later = (inl e, ap p e ∙ t)
-    by_test true t (inr b) later = let q = later b in (inr q.0, q.1)
-    by_test false t b later = let q = later b in (inr q.0, q.1)
-
-pub appended : {A : Type 0} (x : A) (ys zs : List A) → Among x (ys ++ zs) → Among x ys ⊎ Among x zs
-appended x [] zs a = inr a
-appended x (y ∷ ys) zs (inl e) = inl (inl e)
-appended x (y ∷ ys) zs (inr a) = elim (appended x ys zs a) [ inl b ↦ inl (inr b) | inr b ↦ inr b ]
-
-of_row : {A B : Type 0} (z : A) (ys : List B) (p : A × B) → Among {A = A × B} p (map (λ (w : B). (z, w)) ys) → (p.0 ≡ z) × Among p.1 ys
-of_row z [] p a = absurd a
-of_row z (y ∷ ys) p (inl e) = (λ i. (e i).0, inl (λ i. (e i).1))
-of_row z (y ∷ ys) p (inr a) = let q = of_row z ys p a in (q.0, inr q.1)
-
-pub paired : {A B : Type 0} (xs : List A) (ys : List B) (p : A × B) → Among {A = A × B} p (pairs_of xs ys) → Among p.0 xs × Among p.1 ys
-paired [] ys p a = absurd a
-paired {A} {B} (z ∷ xs) ys p a = pick (appended {A = A × B} p (map (λ (w : B). (z, w)) ys) (pairs_of xs ys) a) (λ b. paired xs ys p b)
-  where
-    pick : Among {A = A × B} p (map (λ (w : B). (z, w)) ys) ⊎ Among {A = A × B} p (pairs_of xs ys) → (Among {A = A × B} p (pairs_of xs ys) → Among p.0 xs × Among p.1 ys) → Among p.0 (z ∷ xs) × Among p.1 ys
-    pick (inl b) later = let q = of_row z ys p b in (inl q.0, q.1)
-    pick (inr b) later = let q = later b in (inr q.0, q.1)
 
 -- the inverse, and new facet j as a facet of it
 
@@ -188,7 +154,7 @@ new_tet old m new p i low high j is small = by_test (has (tets_before new (inver
 
     not_found : IsOf (facet new (inverse_of old m)) (filter (λ l. nat_lt l i) (found_labels (inverse_of old m))) (kept old m + j) → ⊥
     not_found o =
-        let a : Among o.label (found_labels (inverse_of old m)) × (nat_lt o.label i ≡ true) = filtered (λ l. nat_lt l i) o.label (found_labels (inverse_of old m)) o.among in
+        let a : Among o.label (found_labels (inverse_of old m)) × (nat_lt o.label i ≡ true) = filter-among (λ l. nat_lt l i) o.label (found_labels (inverse_of old m)) o.among in
         let less : o.label < i = ltb-true o.label i a.1 in
         let r : (5 - length m.core ≤ o.label) × (o.label < 4) = among_found old m new p o.label a.0 in
         let n : IsNewLabel old m new o.label = new_label old m new p o.label r.0 (omega arith) in
@@ -229,8 +195,8 @@ pair_fine old m new p a b ha hb d =
 pair_at : (old : List Row) (m : Move) (new : List Row) → IsPlayed old m new → (q : ℕ × ℕ) → Among {A = ℕ × ℕ} q (filter (λ (p : ℕ × ℕ). nat_lt p.0 p.1) (pairs_of (found_labels (inverse_of old m)) (found_labels (inverse_of old m))))
     → pair_fault new (facet new (inverse_of old m) q.0) (facet new (inverse_of old m) q.1) ≡ None
 pair_at old m new p q a =
-    let t : Among {A = ℕ × ℕ} q (pairs_of (found_labels (inverse_of old m)) (found_labels (inverse_of old m))) × (nat_lt q.0 q.1 ≡ true) = filtered (λ (p : ℕ × ℕ). nat_lt p.0 p.1) q (pairs_of (found_labels (inverse_of old m)) (found_labels (inverse_of old m))) a in
-    let both = paired (found_labels (inverse_of old m)) (found_labels (inverse_of old m)) q t.0 in
+    let t : Among {A = ℕ × ℕ} q (pairs_of (found_labels (inverse_of old m)) (found_labels (inverse_of old m))) × (nat_lt q.0 q.1 ≡ true) = filter-among (λ (p : ℕ × ℕ). nat_lt p.0 p.1) q (pairs_of (found_labels (inverse_of old m)) (found_labels (inverse_of old m))) a in
+    let both = pairs-among q (found_labels (inverse_of old m)) (found_labels (inverse_of old m)) t.0 in
     let less : q.0 < q.1 = ltb-true q.0 q.1 t.1 in
     let r : (5 - length m.core ≤ q.0) × (q.0 < 4) = among_found old m new p q.0 both.0 in
     let r' : (5 - length m.core ≤ q.1) × (q.1 < 4) = among_found old m new p q.1 both.1 in

@@ -4,6 +4,7 @@ use Rattle.std.specs.Prelude.{◌&&◌, ◌||◌, ◌==◌, ◌≢◌, nat_lt, n
 use Rattle.std.specs.List.{list_all}
 use Rattle.std.proofs.lemmas.Bool.{eqb-true, ltb-true, and_parts}
 use Rattle.std.proofs.lemmas.List.{get_or-map, length-map}
+use Rattle.plain_facts.proofs.Numbers.{not_equal, given_apart}
 use Rattle.table_definitions.specs.Lists.{below, same_list, in_place_of}
 use Rattle.table_definitions.specs.Permutation.{IsPermutationOfFour, is_permutation, image, preimage, words}
 use Rattle.table_definitions.proofs.ListFacts.{list_all-below, same_list-true}
@@ -46,9 +47,6 @@ pub record HasLabel (i : ℕ) (labels : List ℕ) (v : ℕ) : Type 0 where
   pub present : image labels v ≢ i
   pub vertex : preimage labels (image labels v) ≡ v
 
-not_equal : (a b : ℕ) → not (a == b) ≡ true → a ≢ b
-not_equal a b h = grind arith
-
 pub label_at : (i : ℕ) (labels : List ℕ) → AreLabels i labels → (v : ℕ) → v < 4 → HasLabel i labels v
 unfolding vertex_test
 label_at i labels h v l =
@@ -69,14 +67,11 @@ pub record HasVertex (labels : List ℕ) (l : ℕ) : Type 0 where
   pub small : preimage labels l < 4
   pub label : image labels (preimage labels l) ≡ l
 
-other_one : (a b : ℕ) (c : Bool) → ((a == b) || c) ≡ true → a ≢ b → c ≡ true
-other_one a b c h d = grind arith
-
 pub vertex_at : (i : ℕ) (labels : List ℕ) → AreLabels i labels → (l : ℕ) → l < 5 → l ≢ i → HasVertex labels l
 unfolding place_test
 vertex_at i labels h l small apart =
     let at = list_all-below (λ l. (l == i) || (nat_lt (preimage labels l) 4 && (slice_index labels (preimage labels l) == l))) 5 (on_labels place_test place_tests i labels h) l small in
-    let p = and_parts (nat_lt (preimage labels l) 4) (slice_index labels (preimage labels l) == l) (other_one l i (nat_lt (preimage labels l) 4 && (slice_index labels (preimage labels l) == l)) at apart) in
+    let p = and_parts (nat_lt (preimage labels l) 4) (slice_index labels (preimage labels l) == l) (given_apart l i (nat_lt (preimage labels l) 4 && (slice_index labels (preimage labels l) == l)) at apart) in
     record { small = ltb-true (preimage labels l) 4 p.0; label = eqb-true (image labels (preimage labels l)) l p.1 }
 
 -- a permutation is labels of facet 4

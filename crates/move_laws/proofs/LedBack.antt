@@ -1,7 +1,8 @@
 -- The inverse move leads to the old table, relabelled.
-use Rattle.std.proofs.Common.{◌≡◌, ℕ, ◌+◌, ◌-◌, ◌<◌, ◌≤◌, Bool, true, List, length, map, Option, Some, None, refl, sym, ap, ◌∙◌, subst, arith, inl, inr}
+use Rattle.std.proofs.Common.{◌≡◌, ℕ, ◌+◌, ◌-◌, ◌<◌, ◌≤◌, true, List, length, map, Option, Some, None, refl, sym, ap, ◌∙◌, subst, arith, inl, inr}
 use Rattle.std.specs.Prelude.{◌⊎◌, ◌==◌, ◌||◌, ◌≢◌, option_map, option_and_then}
 use Rattle.std.specs.List.{list_all}
+use Rattle.plain_facts.proofs.Numbers.{given_apart}
 use Rattle.table_definitions.specs.Lists.{below, in_place_of}
 use Rattle.table_definitions.specs.Permutation.{IsPermutationOfFour, is_permutation, image, preimage, inverse, compose}
 use Rattle.table_definitions.specs.Table.{Gluing, Row, Face, glue, other_side}
@@ -9,14 +10,15 @@ use Rattle.table_definitions.specs.Relabelling.{Carries, stand_in, face_under, g
 use Rattle.move_definitions.specs.Moves.{Move, Facet, opposite, facet, kept, facet_stand_in, stand_in_at, moved_gluing, new_facet, IsMoved}
 use Rattle.move_definitions.specs.Laws.{InversesHaveCores, InversesLeadBackUpToLabels}
 use Rattle.table_definitions.proofs.ListFacts.{list_all-below}
-use Rattle.table_definitions.proofs.Permutations.{image_below, preimage_below, image-preimage, preimage-image, image-inverse, inverse_permutes, inverse-of-compose, compose_permutes, compose-compose, image-compose, same_images}
-use Rattle.move_laws.proofs.CoreTests.{core_size}
+use Rattle.table_definitions.proofs.Permutations.{image_below, preimage_below, image-preimage, preimage-image, image-inverse, inverse_permutes, compose_permutes, image-compose, same_images, carried_twice}
+use Rattle.move_definitions.proofs.CoreTests.{core_size}
+use Rattle.move_definitions.proofs.StandIns.{facet_stand_in-old}
 use Rattle.move_laws.proofs.ListedFacets.{same_some}
 use Rattle.move_laws.proofs.Labels.{AreLabels, ascending, new_labels, HasLabel, label_at, HasVertex, vertex_at, length-labels, image-map}
 use Rattle.move_laws.proofs.Legal.{IsFacet, facet_is, HasNoFault, no_fault, old_facet}
-use Rattle.move_laws.proofs.Covered.{gluing_to, face_at, StandsForOld, IsInner, covered, stand_in-old, facet_stand_in-old}
+use Rattle.move_laws.proofs.Covered.{gluing_to, face_at, StandsForOld, IsInner, covered, stand_in-old}
 use Rattle.move_laws.proofs.Matched.{AreGlued, old_glued, label_across}
-use Rattle.move_laws.proofs.Renamed.{renamed, renamed_back, back-renamed, renamed-old, renamed-new, renamed_below, renamed-place, new_as_old_labels, across, given_apart, inverse_core}
+use Rattle.move_laws.proofs.Renamed.{renamed, renamed_back, back-renamed, renamed-old, renamed-new, renamed_below, renamed-place, new_as_old_labels, across, inverse_core}
 use Rattle.move_laws.proofs.InverseFacets.{inverse_of, new_as_old, IsPlayed, played, facet-inverse, inverse_legal}
 use Rattle.move_laws.proofs.Placed.{moved_perm, moved_perm_permutes, place, facet_place, place-old, relabelling, stand_in-placed, is_relabelling, led_back, carries_back}
 use Rattle.move_laws.proofs.SecondStand.{kept-inverse, StandsAgain, stands_again, other_stands}
@@ -39,9 +41,6 @@ carried_at old m new p x lt lf o e =
         ∙ ap (λ (r : Gluing). Some (gluing_under (place old m x.tet) r g)) (stand_in-placed old m g.tet (p.table.in_range x g e))
 
 -- between the facets that the inverse puts in
-
-across_test : ℕ → ℕ → Bool
-across_test j l = (j == l) || is_permutation (across j l)
 
 pub across_permutes : (j l : ℕ) → j < 5 → l < 5 → j ≢ l → IsPermutationOfFour (across j l)
 across_permutes j l hj hl d =
@@ -193,17 +192,6 @@ inner_none old m new p x n =
     ∙ ap (facet_stand_in new (inverse_of old m) (new_as_old old m n.j)) label
     ∙ facet_stand_in-old new (inverse_of old m) (new_as_old old m n.j) (renamed s n.l) (low n.l n.l_small)
 
--- what stands for what stands for a gluing
-under_twice : (s s' r r' q : List ℕ) → IsPermutationOfFour s → IsPermutationOfFour s' → IsPermutationOfFour r → IsPermutationOfFour r' → IsPermutationOfFour q
-    → compose r' (compose (compose r (compose q (inverse s))) (inverse s')) ≡ compose (compose r' r) (compose q (inverse (compose s' s)))
-under_twice s s' r r' q hs hs' hr hr' hq =
-    let is = inverse_permutes s hs in
-    let is' = inverse_permutes s' hs' in
-    let qs = compose_permutes q (inverse s) hq is in
-    ap (compose r') (compose-compose r (compose q (inverse s)) (inverse s') hr qs is' ∙ ap (compose r) (compose-compose q (inverse s) (inverse s') hq is is'))
-    ∙ ap (λ z. compose r' (compose r (compose q z))) (sym (inverse-of-compose s' s hs' hs))
-    ∙ sym (compose-compose r' r (compose q (inverse (compose s' s))) hr' hr (compose_permutes q (inverse (compose s' s)) hq (inverse_permutes (compose s' s) (compose_permutes s' s hs' hs))))
-
 -- where the face that stands for x leads
 pub over_there : (x : Face) (s r g : Gluing) → IsPermutationOfFour s.perm → IsPermutationOfFour r.perm → IsPermutationOfFour g.perm → x.face < 4 → other_side (face_under s x) (gluing_under s r g) ≡ face_under r (other_side x g)
 over_there x s r g hs hr hg l =
@@ -278,7 +266,7 @@ outer_at old m new p x s s' lt lf stands stands' = by_gluing (glue old x) refl
 
         perms : compose again'.second.perm (compose g'.perm (inverse s'.perm)) ≡ compose (place old m g.tet).perm (compose g.perm (inverse (place old m x.tet).perm))
         perms =
-            under_twice s.perm s'.perm r.perm again'.second.perm g.perm again.first_permutes hs' again'.first_permutes again'.second_permutes hg
+            carried_twice s.perm r.perm s'.perm again'.second.perm g.perm again.first_permutes again'.first_permutes hs' again'.second_permutes hg
             ∙ ap (λ (q : List ℕ). compose q (compose g.perm (inverse (compose s'.perm s.perm)))) again'.perm
             ∙ ap (λ (q : List ℕ). compose (place old m g.tet).perm (compose g.perm (inverse q))) perm
 
@@ -299,7 +287,7 @@ outer_back old m new p x s' lt lf stands = by_cover (covered old m x p.table (no
     by_cover (inl o) = subst (λ (y : Face). stand_in_at new (inverse_of old m) y ≡ Some s' → glue (led_back old m) (face_under s' y) ≡ option_and_then (moved_gluing new (inverse_of old m) y s') (glue new y)) o.is (λ st. outer_at old m new p o.old o.by s' o.tet o.face o.stands st) stands
     by_cover (inr n) = absurd (none (stand_in_at new (inverse_of old m) x) (inner_none old m new p x n) stands)
 
-led_back_moved : (old : List Row) (m : Move) (new : List Row) → IsPlayed old m new → IsMoved new (inverse_of old m) (led_back old m)
+pub led_back_moved : (old : List Row) (m : Move) (new : List Row) → IsPlayed old m new → IsMoved new (inverse_of old m) (led_back old m)
 led_back_moved old m new p =
     let c : Carries (relabelling old m) old (led_back old m) = carries_back old m p.table (no_fault old m p.moved.legal) p.core in
     record {

@@ -11,7 +11,7 @@ use Rattle.table_definitions.specs.Table.{Gluing, Row, Face, glue, IsTable}
 use Rattle.table_definitions.specs.Relabelling.{face_under}
 use Rattle.move_definitions.specs.Moves.{Move, IsCore, opposite, new_length, new_facet, label_by_label, moved_gluing, stand_in_at}
 use Rattle.move_definitions.specs.Laws.{LegalMovesLeadOn}
-use Rattle.move_laws.proofs.CoreTests.{core_size}
+use Rattle.move_definitions.proofs.CoreTests.{core_size}
 use Rattle.move_laws.proofs.ListedFacets.{same_some}
 use Rattle.move_laws.proofs.Labels.{ascending, new_labels, HasVertex, vertex_at}
 use Rattle.move_laws.proofs.Legal.{HasNoFault, no_fault}

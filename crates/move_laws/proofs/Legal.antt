@@ -3,17 +3,18 @@ use Rattle.std.proofs.Common.{◌≡◌, ℕ, zero, suc, ◌-◌, ◌<◌, ◌�
 use Rattle.std.specs.Prelude.{◌⊎◌, ◌==◌, ◌||◌, ◌&&◌, nat_lt, not, filter, option_map, if◌then◌else◌}
 use Rattle.std.specs.List.{list_all}
 use Rattle.std.specs.Option.{option_or}
-use Rattle.std.proofs.lemmas.Bool.{eqb-true, eq-eqb, ltb-true, lt-ltb, le-ltb, and_parts, false≢true, cases_eq, cases_lt}
+use Rattle.std.proofs.lemmas.Bool.{eqb-true, eq-eqb, ltb-true, lt-ltb, le-ltb, and_parts, false≢true, cases_eq, cases_lt, not-false}
+use Rattle.plain_facts.proofs.Options.{both_none}
 use Rattle.table_definitions.specs.Lists.{below, has, in_place_of, first_some, pairs_of}
 use Rattle.table_definitions.specs.Permutation.{four, IsPermutationOfFour, image, preimage, inverse, compose}
 use Rattle.table_definitions.specs.Table.{Gluing, Row, glue, IsTable}
-use Rattle.table_definitions.proofs.TableLaws.{Among, first_some-none, none_parts as both_none, guarded}
+use Rattle.table_definitions.proofs.TableLaws.{Among, first_some-none, guarded}
 use Rattle.move_definitions.specs.declared.MoveFault.{MoveFault}
 use Rattle.move_definitions.specs.declared.MoveFault.TheVariants.{NoSuchTet, Repeated}
 use Rattle.move_definitions.specs.Moves.{Move, IsCore, Facet, own_facet, opposite, facet_behind, facet, old_labels, found_labels, tets_before, facet_fault, pair_fault, move_fault, vertices_by_label}
 use Rattle.table_definitions.proofs.ListFacts.{list_all-below}
 use Rattle.table_definitions.proofs.Permutations.{inverse_permutes, compose_permutes}
-use Rattle.move_laws.proofs.CoreTests.{core_size, own_permutes}
+use Rattle.move_definitions.proofs.CoreTests.{core_size, own_permutes}
 use Rattle.move_laws.proofs.Labels.{AreLabels, own_labels}
 use Rattle.move_laws.proofs.ListedFacets.{same_some, Among_from_has, has_tet, tets_of, IsOf, facet_with, AreApart, is_distinct, tets_distinct, length-tets}
 use Rattle.table_definitions.proofs.Carried.{lesser}
@@ -101,7 +102,7 @@ behind_is rows m i g table c l e = record {
   labels = behind_labels i (inverse (vertices_by_label m.core)) g.perm l (own_permutes m.core c) (table.permutes (opposite (own_facet m) i) g e);
 }
 
-behind_some : (own : Facet) (i : ℕ) (o : Option Gluing) (f : Facet) → option_map (facet_behind own i) o ≡ Some f → (g : Gluing) × (o ≡ Some g) × (facet_behind own i g ≡ f)
+pub behind_some : (own : Facet) (i : ℕ) (o : Option Gluing) (f : Facet) → option_map (facet_behind own i) o ≡ Some f → (g : Gluing) × (o ≡ Some g) × (facet_behind own i g ≡ f)
 behind_some own i None f e = absurd cc
 behind_some own i (Some g) f e = (g, refl, cc)
 
@@ -136,10 +137,6 @@ pub record HasNoFault (rows : List Row) (m : Move) : Type 0 where
   pub facets : first_some (λ i. facet_fault rows m i (facet rows m i)) (found_labels m) ≡ None
   pub pairs : first_some (λ p. pair_fault rows (facet rows m p.0) (facet rows m p.1)) (filter (λ p. nat_lt p.0 p.1) (pairs_of (found_labels m) (found_labels m))) ≡ None
 
-un_not : (b : Bool) → not b ≡ false → b ≡ true
-un_not true e = refl
-un_not false e = absurd (false≢true (sym e))
-
 pub no_fault : (rows : List Row) (m : Move) → move_fault rows m ≡ None → HasNoFault rows m
 unfolding move_fault
 no_fault rows m e =
@@ -147,7 +144,7 @@ no_fault rows m e =
     let pairs : Option MoveFault = first_some (λ p. pair_fault rows (facet rows m p.0) (facet rows m p.1)) (filter (λ p. nat_lt p.0 p.1) (pairs_of (found_labels m) (found_labels m))) in
     let p : (not (nat_lt m.tet (length rows)) ≡ false) × (option_or facets pairs ≡ None) = guarded (not (nat_lt m.tet (length rows))) NoSuchTet (option_or facets pairs) e in
     let q : (facets ≡ None) × (pairs ≡ None) = both_none facets pairs p.1 in
-    record { in_range = ltb-true m.tet (length rows) (un_not (nat_lt m.tet (length rows)) p.0); facets = q.0; pairs = q.1 }
+    record { in_range = ltb-true m.tet (length rows) (not-false (nat_lt m.tet (length rows)) p.0); facets = q.0; pairs = q.1 }
 
 -- a facet without a fault
 pub record IsNew (rows : List Row) (m : Move) (i : ℕ) : Type 0 where

@@ -1,4 +1,3 @@
-pub mod CoreTests
 pub mod Labels
 pub mod ListedFacets
 pub mod Legal
@@ -15,3 +14,5 @@ pub mod LedOn
 pub mod MadeTables
 pub mod Cores
 pub mod Played
+pub mod LegalFacets
+pub mod StarLaws

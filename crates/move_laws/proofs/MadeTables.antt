@@ -2,6 +2,7 @@
 use Rattle.std.proofs.Common.{◌≡◌, ℕ, ◌+◌, ◌<◌, Bool, true, List, length, Option, Some, None, refl, sym, ap, ◌∙◌, subst, arith, inl, inr}
 use Rattle.std.specs.Prelude.{◌⊎◌, ◌==◌, ◌||◌, ◌≢◌, option_map, option_and_then}
 use Rattle.std.specs.List.{list_all}
+use Rattle.plain_facts.proofs.Numbers.{given_apart}
 use Rattle.table_definitions.specs.Lists.{below, same_list, in_place_of}
 use Rattle.table_definitions.specs.Permutation.{IsPermutationOfFour, image, preimage, inverse, compose}
 use Rattle.table_definitions.specs.Table.{Gluing, Row, Face, glue, other_side, way_back, same_face, IsTable}
@@ -10,13 +11,15 @@ use Rattle.table_definitions.proofs.TableLaws.{glued_tet, glued_face}
 use Rattle.move_definitions.specs.Moves.{Move, opposite, kept, new_length, new_facet, stand_in_at, moved_gluing, inverse_move, IsMoved}
 use Rattle.move_definitions.specs.Laws.{MovesMakeTables, InversesLeadOnlyBack}
 use Rattle.table_definitions.proofs.ListFacts.{list_all-below, same_list-true}
-use Rattle.table_definitions.proofs.Permutations.{image_below, image-inverse, inverse_permutes, preimage-image, inverse-of-compose, inverse-inverse, compose_permutes, compose-compose}
-use Rattle.table_definitions.proofs.Carried.{IsGood, not_from, same_from, same_to, carried_back as turned}
-use Rattle.move_laws.proofs.CoreTests.{core_size}
+use Rattle.table_definitions.proofs.Permutations.{image_below, image-inverse, inverse_permutes, preimage-image, compose_permutes}
+use Rattle.table_definitions.proofs.Carried.{IsGood, not_from, same_from, carried_back as turned}
+use Rattle.table_definitions.proofs.InPlace.{in_place-same}
+use Rattle.move_definitions.proofs.CoreTests.{core_size}
+use Rattle.table_definitions.proofs.Faces.{same_face-itself}
 use Rattle.move_laws.proofs.Labels.{ascending, new_labels, HasVertex, vertex_at, length-labels, image-map}
 use Rattle.move_laws.proofs.Legal.{HasNoFault, no_fault}
-use Rattle.move_laws.proofs.Covered.{gluing_to, face_at, StandsForOld, IsInner, covered, in_place-same}
-use Rattle.move_laws.proofs.Renamed.{across, given_apart}
+use Rattle.move_laws.proofs.Covered.{gluing_to, face_at, StandsForOld, IsInner, covered}
+use Rattle.move_laws.proofs.Renamed.{across}
 use Rattle.move_laws.proofs.SecondStand.{other_stands}
 use Rattle.move_laws.proofs.LedBack.{across_permutes, over_there, inverses_lead_back_lem}
 use Rattle.move_laws.proofs.Shapes.{IsKeptFace, IsFacetFace, shape, stands_for_one, stand_permutes, stand_in_range}
@@ -39,7 +42,7 @@ across_vertex j l hj hl d =
     let v : HasVertex (ascending j) l = vertex_at j (ascending j) (new_labels j hj) l hl (λ e. d (sym e)) in
     image-map (λ q. preimage (ascending l) (in_place_of l j q)) (ascending j) (preimage (ascending j) l) (rw (length-labels j (ascending j) (new_labels j hj)) v.small)
     ∙ ap (λ q. preimage (ascending l) (in_place_of l j q)) v.label
-    ∙ ap (preimage (ascending l)) (in_place-same l j)
+    ∙ ap (preimage (ascending l)) (in_place-same l j l refl)
 
 good_inner : (old : List Row) (m : Move) (new : List Row) → IsMoved old m new → (j l : ℕ) → j < length m.core → l < length m.core → j ≢ l → IsGood (length new) new (opposite (new_facet old m j) l) (record { tet = kept old m + l; perm = across j l })
 good_inner old m new h j l hj hl d = record {
@@ -68,9 +71,6 @@ good_inner old m new h j l hj hl d = record {
     apart_tets e = omega arith
 
 -- the other faces
-
-itself : (w : Face) → same_face w w ≡ true
-itself w = same_to w.tet w.tet w.face w.face refl refl
 
 -- the gluing that stands for the gluing g of x
 good_outer : (old : List Row) (m : Move) (new : List Row) → IsTable old → IsMoved old m new → (x : Face) (s g r : Gluing) → x.tet < length old → x.face < 4 → stand_in_at old m x ≡ Some s → glue old x ≡ Some g → stand_in_at old m (other_side x g) ≡ Some r
@@ -127,7 +127,7 @@ good_outer old m new table h x s g r lt lf stands glued stands' = record {
         let q = same_from r.tet s.tet (image g'.perm (image s.perm x.face)) (image s.perm x.face) t in
         let faces : face_under r y ≡ face_under s x = sym over ∙ ap (λ u. face_at u (image g'.perm (image s.perm x.face))) q.0 ∙ ap (face_at s.tet) q.1 in
         let same : y ≡ x = stands_for_one old m table f h.core y x (face_under r y) r s yt lt (shape old m table f h.core y r yt yf stands') (subst (λ (w : Face). IsKeptFace old m x w s ⊎ IsFacetFace old m x w s) (sym faces) (shape old m table f h.core x s lt lf stands)) in
-        let whole : same_face (other_side x g) x ≡ true = ap (λ (w : Face). same_face w x) same ∙ itself x in
+        let whole : same_face (other_side x g) x ≡ true = ap (λ (w : Face). same_face w x) same ∙ same_face-itself x in
         let apart = table.apart x g glued in
         cc
 

@@ -1,7 +1,7 @@
 -- The old facets of a legal move are glued among themselves label by label.
-use Rattle.std.proofs.Common.{◌≡◌, ℕ, zero, suc, ◌<◌, ◌≤◌, Bool, true, false, cond, List, [], ◌∷◌, length, map, Option, Some, None, refl, sym, ap, ◌∙◌, subst, arith, inl, inr}
+use Rattle.std.proofs.Common.{◌≡◌, ℕ, zero, suc, ◌<◌, ◌≤◌, Bool, true, false, List, length, map, Option, Some, None, refl, sym, ap, ◌∙◌, subst, arith, inl, inr}
 use Rattle.std.specs.Prelude.{◌⊎◌, ◌==◌, ◌≢◌, nat_lt, filter, option_map, if◌then◌else◌}
-use Rattle.std.proofs.lemmas.Bool.{eqb-true, lt-ltb, and_parts, cases_eq, cases_lt}
+use Rattle.std.proofs.lemmas.Bool.{eqb-true, lt-ltb, and_parts, cases_lt}
 use Rattle.std.proofs.lemmas.List.{ext_get_or, get_or-map, length-map}
 use Rattle.table_definitions.specs.Lists.{same_list, in_place_of, pairs_of}
 use Rattle.table_definitions.specs.Permutation.{four, IsPermutationOfFour, image, preimage, inverse, compose}
@@ -12,10 +12,12 @@ use Rattle.move_definitions.specs.declared.MoveFault.TheVariants.{NotMatched}
 use Rattle.move_definitions.specs.Moves.{Move, IsCore, Facet, own_facet, opposite, facet_behind, facet, found_labels, is_matched, pair_fault, vertices_by_label}
 use Rattle.table_definitions.proofs.ListFacts.{same_list-true}
 use Rattle.table_definitions.proofs.Permutations.{image_below, preimage_below, image-preimage, preimage-image, image-inverse, inverse_permutes, length-permutation}
-use Rattle.move_laws.proofs.CoreTests.{core_size, own_permutes}
+use Rattle.table_definitions.proofs.Listed.{Among-filter}
+use Rattle.table_definitions.proofs.InPlace.{in_place-back, in_place-same}
+use Rattle.move_definitions.proofs.CoreTests.{core_size, own_permutes}
 use Rattle.move_laws.proofs.Labels.{AreLabels, label_at, HasVertex, vertex_at, length-labels, image-map}
 use Rattle.move_laws.proofs.Legal.{IsFacet, facet_is, HasNoFault, found_label, facet-found}
-use Rattle.move_laws.proofs.Covered.{face_at, in_place-same, in_place-other}
+use Rattle.move_laws.proofs.Covered.{face_at}
 
 -- the face of f opposite label k is glued to g, label k going to label i and the others staying
 pub record AreGlued (rows : List Row) (i k : ℕ) (f g : Facet) : Type 0 where
@@ -73,15 +75,6 @@ own_glued rows m k f table c l e = from_behind rows m k (glue rows (opposite (ow
 
 -- between facets that are found
 
-pub Among-filter : {A : Type 0} (p : A → Bool) (x : A) (xs : List A) → Among x xs → p x ≡ true → Among x (filter p xs)
-Among-filter p x [] h t = absurd h
-Among-filter {A} p x (y ∷ ys) (inl e) t = let at : p y ≡ true = ap p (sym e) ∙ t in subst (λ b. Among x (cond b (y ∷ filter p ys) (filter p ys))) (sym at) (inl e)
-Among-filter {A} p x (y ∷ ys) (inr h) t = by_test (p y) (Among-filter p x ys h t)
-  where
-    by_test : (b : Bool) → Among x (filter p ys) → Among x (cond b (y ∷ filter p ys) (filter p ys))
-    by_test true a = inr a
-    by_test false a = a
-
 is_glued : (rows : List Row) (i k : ℕ) (f g : Facet) (o : Option Gluing) → f.missing ≡ i → g.missing ≡ k → glue rows (opposite f g.missing) ≡ o → is_matched f g o ≡ true → AreGlued rows i k f g
 is_glued rows i k f g None ei ek e t = cc
 is_glued rows i k f g (Some by) ei ek e t =
@@ -112,13 +105,6 @@ found_glued rows m i k f g table h c low less high ef eg =
 
 -- and the other way round
 
-there_and_back : (i k x : ℕ) → x ≢ i → in_place_of i k (in_place_of k i x) ≡ x
-there_and_back i k x d = by_case (cases_eq x k)
-  where
-    by_case : (x ≡ k) ⊎ (x ≡ k → ⊥) → in_place_of i k (in_place_of k i x) ≡ x
-    by_case (inl e) = ap (λ y. in_place_of i k (in_place_of k i y)) e ∙ ap (in_place_of i k) (in_place-same k i) ∙ in_place-same i k ∙ sym e
-    by_case (inr n) = ap (in_place_of i k) (in_place-other k i x n) ∙ in_place-other i k x d
-
 turned_labels : (i k : ℕ) (a b p : List ℕ) → AreLabels i a → AreLabels k b → IsPermutationOfFour p → compose b p ≡ map (in_place_of k i) a → compose a (inverse p) ≡ map (in_place_of i k) b
 turned_labels i k a b p ha hb hp e =
     same_four (compose a (inverse p)) (map (in_place_of i k) b) (length-composed a (inverse p) ∙ length-permutation (inverse p) (inverse_permutes p hp)) (length-map b (in_place_of i k) ∙ length-labels k b hb) at
@@ -132,7 +118,7 @@ turned_labels i k a b p ha hb hp e =
         ∙ image-map (in_place_of k i) a w (rw (length-labels i a ha) lw) in
         image-composed a (inverse p) v (rw (length-permutation (inverse p) (inverse_permutes p hp)) l)
         ∙ ap (image a) (image-inverse p v l)
-        ∙ sym (there_and_back i k (image a w) (label_at i a ha w lw).present)
+        ∙ sym (in_place-back i k (image a w) (label_at i a ha w lw).present)
         ∙ ap (in_place_of i k) (sym there)
         ∙ sym (image-map (in_place_of i k) b v (rw (length-labels k b hb) l))
 
@@ -158,7 +144,7 @@ glued_back rows i k f g table hf hg apart a = record {
     at = vertex_at i f.labels hf.labels k hg.labels.missing (λ e. apart (sym e))
 
     label : image g.labels (image a.by.perm w) ≡ i
-    label = label_across i k f.labels g.labels a.by.perm w hf.labels hp a.labels at.small ∙ ap (in_place_of k i) at.label ∙ in_place-same k i
+    label = label_across i k f.labels g.labels a.by.perm w hf.labels hp a.labels at.small ∙ ap (in_place_of k i) at.label ∙ in_place-same k i k refl
 
     vertex : image a.by.perm w ≡ preimage g.labels i
     vertex = sym (label_at k g.labels hg.labels (image a.by.perm w) (image_below a.by.perm hp w at.small)).vertex ∙ ap (preimage g.labels) label

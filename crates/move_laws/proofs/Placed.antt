@@ -6,7 +6,7 @@ use Rattle.std.proofs.lemmas.List.{get_or-map, length-map}
 use Rattle.std.proofs.lemmas.List.Sums.{position_or_len_is}
 use Rattle.std.proofs.lemmas.List.Elements.{All-from_get_or}
 use Rattle.std.proofs.lemmas.List.FromFn.{length-range_with_len, get_or-range_with_len}
-use Rattle.std.proofs.lemmas.Bool.{eq-eqb}
+use Rattle.std.proofs.lemmas.Bool.{eq-eqb, ne_eqb}
 use Rattle.table_definitions.specs.Lists.{below, has, closed_up}
 use Rattle.table_definitions.specs.Permutation.{IsPermutationOfFour, is_permutation, preimage}
 use Rattle.table_definitions.specs.Table.{Gluing, Row, IsTable}
@@ -14,14 +14,14 @@ use Rattle.table_definitions.specs.Relabelling.{Relabelling, IsRelabelling, Carr
 use Rattle.move_definitions.specs.Moves.{Move, IsCore, Facet, facet, old_labels, kept, kept_stand_in}
 use Rattle.table_definitions.proofs.ListFacts.{list_all-below}
 use Rattle.table_definitions.specs.Moved.{moved_row}
-use Rattle.table_definitions.proofs.Ranks.{rank, stays, at_rank, StandsAt, ranks_apart, unequal}
+use Rattle.table_definitions.proofs.Ranks.{rank, stays, at_rank, StandsAt, ranks_apart}
 use Rattle.table_definitions.proofs.Bijections.{onto, IsDistinct-from_before}
 use Rattle.table_definitions.proofs.Moves.{carries_from}
 use Rattle.move_laws.proofs.Labels.{AreLabels, ascending, on_labels, label_tests}
 use Rattle.move_laws.proofs.ListedFacets.{same_some, found_by, not_found, is_found, closed_up-rank, stays-count}
 use Rattle.move_laws.proofs.Legal.{facet_is, HasNoFault, old_label, facets_apart, gone, gone_distinct, length-gone, gone_below, OldFacet, gone_facet}
 use Rattle.move_laws.proofs.Covered.{gluing_to, kept-count}
-use Rattle.move_laws.proofs.CoreTests.{core_size}
+use Rattle.move_definitions.proofs.CoreTests.{core_size}
 use Rattle.move_laws.proofs.Renamed.{renamed, given_le}
 
 -- where the vertices of old facet i go, by their labels
@@ -221,7 +221,7 @@ carries_back old m table h c = carries_from old (led_back old m) (relabelling ol
 
     other : (t : ℕ) → t < n → (k : ℕ) → k < t → (get_or images k 0 == slice_index images t) ≡ false
     other t l k less =
-        unequal (get_or images k 0) (slice_index images t)
+        ne_eqb (get_or images k 0) (slice_index images t)
         (λ e. (let lk : k < n = omega arith in
         let same : k ≡ t = place_apart old m k t table h c lk l (sym (mapped (λ t. (place old m t).tet) n k 0 lk) ∙ e ∙ mapped (λ t. (place old m t).tet) n t 0 l) in
         absurd (omega arith)))

@@ -25,11 +25,17 @@ played_fits : (rows : List Row) (m : Move) → play_fault rows m ≡ None → ne
 played_fits rows m e =
     ltb-false max_tets (new_length rows m) (limit (nat_lt max_tets (new_length rows m)) (second_none (move_fault rows m) (if nat_lt max_tets (new_length rows m) then Some TooMany else None) e))
 
-played_table : (old : List Row) (m : Move) (new : List Row) → Plays old m new → IsTable new
+pub played_table : (old : List Row) (m : Move) (new : List Row) → Plays old m new → IsTable new
 played_table old m new p = moves_make_tables_lem old m new p.table (let fits = played_fits old m p.accepted in rw p.moved.length_is fits) p.moved
 
 pub played_same : (old : List Row) (m : Move) (new new' : List Row) → Plays old m new → Plays old m new' → new ≡ new'
 played_same old m new new' p p' = moves_agree_lem old m new new' p.table p.moved p'.moved
+
+pub all_played_same : (rows : List Row) (moves : List Move) (last last' : List Row) → PlaysAll rows moves last → PlaysAll rows moves last' → last ≡ last'
+all_played_same rows [] last last' e e' = sym e ∙ e'
+all_played_same rows (m ∷ ms) last last' (next, first, rest) (next', first', rest') =
+    let same : next' ≡ next = played_same rows m next' next first' first in
+    all_played_same next ms last last' rest (subst (λ (t : List Row). PlaysAll t ms last') same rest')
 
 pub plays_agree_lem : PlaysAgree
 plays_agree_lem old [] last last' table p p' = (subst (λ (rows : List Row). IsTable rows) p table, sym p ∙ p')

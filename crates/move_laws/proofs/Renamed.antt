@@ -3,6 +3,7 @@ use Rattle.std.proofs.Common.{◌≡◌, ℕ, ◌+◌, ◌-◌, ◌<◌, ◌≤�
 use Rattle.std.specs.Prelude.{◌==◌, ◌&&◌, ◌||◌, ◌≢◌, nat_lt, not, filter, if◌then◌else◌}
 use Rattle.std.specs.List.{list_all}
 use Rattle.std.proofs.lemmas.Bool.{eqb-true, ltb-true, lt-ltb, le-ltb, and_parts}
+use Rattle.plain_facts.proofs.Numbers.{given_apart}
 use Rattle.table_definitions.specs.Lists.{below, has, same_list, in_place_of}
 use Rattle.table_definitions.specs.Permutation.{four, is_permutation, image, preimage, inverse, compose}
 use Rattle.table_definitions.proofs.ListFacts.{list_all-below, same_list-true}
@@ -36,9 +37,6 @@ given_le s i b h l = let e : nat_lt i s ≡ false = le-ltb i s l in grind arith
 
 pub given_lt : (j s : ℕ) (b : Bool) → (not (nat_lt j s) || b) ≡ true → j < s → b ≡ true
 given_lt j s b h l = let e : nat_lt j s ≡ true = lt-ltb j s l in grind arith
-
-pub given_apart : (i j : ℕ) (b : Bool) → ((i == j) || b) ≡ true → i ≢ j → b ≡ true
-given_apart i j b h d = grind arith
 
 -- renaming
 

@@ -4,21 +4,24 @@ use Rattle.std.specs.Prelude.{◌⊎◌, ◌==◌, ◌||◌, ◌≢◌, nat_lt, 
 use Rattle.std.specs.List.{list_all}
 use Rattle.std.proofs.lemmas.List.Sums.{sum_by-cons}
 use Rattle.std.proofs.lemmas.Bool.{eq-eqb, le-ltb, cases_lt}
+use Rattle.plain_facts.proofs.Numbers.{given_apart}
 use Rattle.table_definitions.specs.Lists.{below, has, same_list, in_place_of, closed_up}
 use Rattle.table_definitions.specs.Permutation.{IsPermutationOfFour, is_permutation, image, preimage, identity, compose}
 use Rattle.table_definitions.specs.Table.{Gluing, Row, Face, glue, other_side, way_back, IsTable}
 use Rattle.table_definitions.specs.Relabelling.{face_under}
 use Rattle.move_definitions.specs.Moves.{Move, IsCore, Facet, opposite, facet, kept, kept_stand_in, facet_stand_in, stand_in_at}
+use Rattle.move_definitions.proofs.StandIns.{facet_stand_in-new, facet_stand_in-old}
 use Rattle.table_definitions.proofs.ListFacts.{list_all-below, same_list-true}
-use Rattle.table_definitions.proofs.Permutations.{image_below, preimage-image, image-inverse}
+use Rattle.table_definitions.proofs.Permutations.{image_below, preimage-image, image-inverse, identity_permutes}
 use Rattle.table_definitions.specs.Replaceable.{gone_before}
 use Rattle.table_definitions.proofs.Ranks.{one_if}
+use Rattle.table_definitions.proofs.InPlace.{in_place-same}
 use Rattle.move_laws.proofs.ListedFacets.{same_some}
 use Rattle.move_laws.proofs.Labels.{AreLabels, ascending, new_labels, on_labels, label_tests, HasLabel, label_at, HasVertex, vertex_at, length-labels, image-map}
 use Rattle.move_laws.proofs.Legal.{IsFacet, facet_is, HasNoFault, no_fault, gone, OldFacet, gone_facet, old_facet}
-use Rattle.move_laws.proofs.Covered.{face_at, stand_in-kept, stand_in-old, facet_gluing, facet_stand_in-new, facet_stand_in-old, in_place-same, crossed}
+use Rattle.move_laws.proofs.Covered.{face_at, stand_in-kept, stand_in-old, facet_gluing, crossed}
 use Rattle.move_laws.proofs.Matched.{AreGlued, old_glued, label_across}
-use Rattle.move_laws.proofs.Renamed.{renamed, renamed-old, renamed-new, renamed_below, new_as_old_labels, renamed_labels, given_le, given_lt, given_apart}
+use Rattle.move_laws.proofs.Renamed.{renamed, renamed-old, renamed-new, renamed_below, new_as_old_labels, renamed_labels, given_le, given_lt}
 use Rattle.move_laws.proofs.InverseFacets.{inverse_of, new_as_old, IsPlayed, facet-inverse, IsNewLabel, new_label, inverse_legal}
 use Rattle.move_laws.proofs.Placed.{moved_perm, place, facet_place, place-kept, place-old, closed_up_small}
 
@@ -87,14 +90,14 @@ none_before (x ∷ xs) t high =
     let b : one_if (nat_lt x t) ≡ 0 = ap one_if (le-ltb x t (high x here)) in
     omega (arith, none_before xs t (λ u h. high u (let h' : has xs u ≡ true = h in grind arith)))
 
-stays_low : (old : List Row) (m : Move) (new : List Row) → IsPlayed old m new → (u : ℕ) → u < kept old m → has (gone new (inverse_of old m)) u ≡ false
+pub stays_low : (old : List Row) (m : Move) (new : List Row) → IsPlayed old m new → (u : ℕ) → u < kept old m → has (gone new (inverse_of old m)) u ≡ false
 stays_low old m new p u l = by_test (has (gone new (inverse_of old m)) u) refl
   where
     by_test : (b : Bool) → has (gone new (inverse_of old m)) u ≡ b → has (gone new (inverse_of old m)) u ≡ false
     by_test false e = e
     by_test true e = absurd (let high = gone_high old m new p u e in omega arith)
 
-closed_up_low : (old : List Row) (m : Move) (new : List Row) → IsPlayed old m new → (u : ℕ) → u < kept old m → closed_up (gone new (inverse_of old m)) u ≡ u
+pub closed_up_low : (old : List Row) (m : Move) (new : List Row) → IsPlayed old m new → (u : ℕ) → u < kept old m → closed_up (gone new (inverse_of old m)) u ≡ u
 closed_up_low old m new p u l =
     omega (arith, none_before (gone new (inverse_of old m)) u (λ v h. (let high = gone_high old m new p v h in omega arith)))
 
@@ -106,10 +109,6 @@ pub record StandsAgain (old : List Row) (m : Move) (new : List Row) (x : Face) (
   pub perm : compose second.perm s.perm ≡ (place old m x.tet).perm
   pub first_permutes : IsPermutationOfFour s.perm
   pub second_permutes : IsPermutationOfFour second.perm
-
-pub identity_permutes : IsPermutationOfFour identity
-unfolding is_permutation
-identity_permutes = refl
 
 identity_twice : compose identity identity ≡ identity
 unfolding compose
@@ -238,7 +237,7 @@ other_stands old m table h c x s g lf stands glued = by_test (has (gone old m) g
         let to : image a.by.perm y.face ≡ x.face = ap (λ (b : Gluing). image b.perm y.face) back ∙ image-inverse g.perm y.face yf ∙ preimage-image g.perm hp x.face lf in
         let across : image f'.labels (image a.by.perm y.face) ≡ in_place_of l k (image f.labels y.face) =
         label_across k l f.labels f'.labels a.by.perm y.face is.labels (table.permutes (opposite f l) a.by a.glued) a.labels yf in
-        let there : image f'.labels x.face ≡ k = ap (image f'.labels) (sym to) ∙ across ∙ ap (in_place_of l k) label ∙ in_place-same l k in
+        let there : image f'.labels x.face ≡ k = ap (image f'.labels) (sym to) ∙ across ∙ ap (in_place_of l k) label ∙ in_place-same l k l refl in
         let n : HasNewLabel old m f' x.face s = has_new_label old m l f' x.face s h c low' high' ef' (ap (λ u. stand_in_at old m (face_at u x.face)) tets ∙ stands) in
         let small = n.small in
         absurd (omega arith)

@@ -1,8 +1,17 @@
-//! What follows from the definitions of moves alone, whatever the code: a legal move leads to one table, and its inverse
-//! leads back up to labels. Scripts of moves, descents and the generator end at one table.
+//! What follows from the definitions of moves alone, whatever the code: a move is legal exactly if the star of its core
+//! is a part of the boundary of a 4-simplex, it leads to one table, and its inverse leads back up to labels. Scripts of
+//! moves, descents and the generator end at one table.
 #![tactic(auto)]
 
+ghost use Rattle.move_laws.specs.Stars.{LegalExactlyByStars, StarsAreTakenOut};
 ghost use Rattle.move_definitions.specs.Laws.{LegalMovesLeadOn, MovesAgree, MovesMakeTables, InversesHaveCores, InversesLeadBackUpToLabels, InversesLeadOnlyBack, MoveLinesHaveCores, PlaysAgree, DescentsAgree, MakingsAgree};
+
+/// A move is legal exactly if the star of its core is a part of the boundary of a 4-simplex: as many facets as the core
+/// leaves, in different tetrahedra, of which any two meet label by label. These are the facets that it takes out.
+pub fn legal_moves_have_stars()
+    ensures exactly { LegalExactlyByStars }
+    ensures taken_out { StarsAreTakenOut }
+{}
 
 /// A legal move leads on, the limit of tetrahedra left aside.
 pub fn legal_moves_lead_on()

@@ -21,14 +21,6 @@ pub first_none : (table : List Row) → first_table [] table ≡ table
 unfolding first_table
 first_none table = refl
 
--- the records lead back to where they begin
-pub recorded-first : (rows : List Row) (moves : List Move) (us : List Undo) (table : List Row) → Recorded rows moves us table → first_table us table ≡ rows
-unfolding first_table Recorded
-recorded-first rows moves [] table h = sym h.0
-recorded-first rows [] (u ∷ us) table h = absurd h
-recorded-first rows (m ∷ ms) (u ∷ us) table h =
-    ap (λ (t : List Row). former t u) (recorded-first h.0 ms us table h.2) ∙ ap (λ (v : Undo). former h.0 v) h.1.kept ∙ takes_back rows m h.0 h.1.plays
-
 pub recorded-none : (table : List Row) → Recorded table [] [] table
 unfolding Recorded
 recorded-none table = (refl, (table, refl))

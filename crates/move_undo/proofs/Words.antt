@@ -2,7 +2,7 @@
 use Rattle.std.proofs.Common.{◌≡◌, ℕ, ◌≤◌, false, List, None, Ok, refl, sym, ◌∙◌, subst, eqb}
 use Rattle.std.specs.Cmp.Lexicographic.{pointwise}
 use Rattle.std.specs.Prelude.{codes}
-use Rattle.perm_four.proofs.ListFacts.{pointwise-same_list}
+use Rattle.table_definitions.proofs.ListFacts.{pointwise-same_list}
 use Rattle.table_definitions.specs.Lists.{same_list}
 use Rattle.text_definitions.specs.Reading.{Reading, number_at}
 use Rattle.table_definitions.proofs.ReadingLaws.{number_read}

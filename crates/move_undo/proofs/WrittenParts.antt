@@ -3,8 +3,8 @@ use Rattle.std.proofs.Common.{◌≡◌, ℕ, zero, suc, ◌<◌, ◌≤◌, Lis
 use Rattle.std.specs.Prelude.{not, filter, ◌==◌, if◌then◌else◌, decimal, nat_lt}
 use Rattle.std.proofs.lemmas.Bool.{and_parts}
 use Rattle.table_definitions.specs.Lists.{has, same_list}
-use Rattle.table_definitions.proofs.ListLaws.{same_list-true}
 use Rattle.table_definitions.specs.Permutation.{four, digits_of}
+use Rattle.table_definitions.proofs.ListFacts.{same_list-true}
 use Rattle.text_definitions.specs.Written.{spaced}
 use Rattle.move_definitions.specs.Moves.{Move, IsCore}
 use Rattle.move_definitions.specs.MoveText.{core_words, digits_at, move_text}

@@ -1,10 +1,12 @@
 //! Scripts of moves: steps in text, and sessions that play, undo and redo moves.
 #![tactic(auto)]
 
+mod faults;
 mod reader;
 mod session;
 mod writer;
 
+pub use faults::append_move_fault;
 pub use reader::{Step, read_move, read_step};
 pub use session::{PlayFault, Session};
 pub use writer::write_move;

@@ -1,7 +1,9 @@
 use super::*;
-use gluing_table::{Glue, Row, Table};
+use gluing_table::{Glue, Row, Table, write_table};
+use no_memory::NoMemory;
 use pachner_moves::{Core, Move, MoveFault};
 use perm_four::Perm4;
+use std::alloc::Global;
 use std::test::Fail;
 
 fn to_itself(word: &[u8]) -> Option<Glue> {
@@ -11,7 +13,7 @@ fn to_itself(word: &[u8]) -> Option<Glue> {
     }
 }
 
-fn sphere() -> [Row; 1] {
+fn sphere_rows() -> [Row; 1] {
     [[
         to_itself(b"1023"),
         to_itself(b"1023"),
@@ -20,10 +22,20 @@ fn sphere() -> [Row; 1] {
     ]]
 }
 
+/// The text of the table of a session.
+fn text(alloc: Global, session: &Session) -> Result<Vec<u8>, NoMemory> {
+    let mut out = Vec::new(alloc);
+    write_table(alloc, session.table(), &mut out)?;
+    Ok(out)
+}
+
 #[test]
 fn a_session_plays_its_moves(rt: HostRuntime) -> Result<(), Fail> {
     let alloc = rt.alloc();
-    let table = Table::from_rows(alloc, &sphere()).expect(&rt, "a table");
+    let sphere = b"tri 1\n0:1023 0:1023 0:1230 0:3012\n".as_slice();
+    let four =
+        b"tri 4\n1:0123 2:1023 3:1203 1:0123\n0:0123 2:0123 3:0213 0:0123\n0:1023 1:0123 3:0123 3:1203\n0:2013 1:0213 2:0123 2:2013\n".as_slice();
+    let table = Table::from_rows(alloc, &sphere_rows()).expect(&rt, "a table");
     let mut session = Session::new(alloc, table);
     let one_four = Move {
         tet: 0,
@@ -34,12 +46,14 @@ fn a_session_plays_its_moves(rt: HostRuntime) -> Result<(), Fail> {
         core: Core::new(14).expect(&rt, "a core"),
     };
     assert_eq!(rt; session.play(one_four), Ok(()));
-    assert_eq!(rt; session.table().len(), 4);
+    assert_eq!(rt; text(alloc, &session)?.as_slice(), four);
     assert!(rt; session.undo());
+    assert_eq!(rt; text(alloc, &session)?.as_slice(), sphere);
     assert!(rt; !session.undo());
     let repeated = MoveFault::Repeated { label: 3 };
     assert_eq!(rt; session.play(two_three), Err(PlayFault::Illegal(repeated)));
     assert!(rt; session.redo());
+    assert_eq!(rt; text(alloc, &session)?.as_slice(), four);
     assert!(rt; !session.redo());
     assert_eq!(rt; session.played(), 1);
     Ok(())

@@ -1,5 +1,5 @@
 -- What takes a move back.
-use Rattle.std.proofs.Common.{◌≡◌, ℕ, suc, ◌+◌, ◌<◌, ◌≤◌, Bool, true, false, cond, List, [], ◌∷◌, length, get_or, Option, Some, None, refl, sym, ap, ◌∙◌, subst, arith}
+use Rattle.std.proofs.Common.{◌≡◌, ℕ, suc, ◌+◌, ◌<◌, Bool, true, false, cond, List, [], ◌∷◌, length, get_or, Option, Some, None, refl, sym, ap, ◌∙◌, subst, arith}
 use Rattle.std.specs.Prelude.{not, option_map, option_and_then, All}
 use Rattle.std.specs.List.{range_with_len}
 use Rattle.std.specs.List.Sorted.{IsStrictlyIncreasing}
@@ -13,18 +13,19 @@ use Rattle.table_definitions.specs.Table.{Gluing, Row, Face, glue, other_side, w
 use Rattle.table_definitions.specs.Replacing.{Replacement, replaced_length, number_of_kept, free_numbers, kept_gluing, back_to_fresh, replaced}
 use Rattle.table_definitions.specs.Relabelling.{gluing_under}
 use Rattle.table_definitions.proofs.TableLaws.{glued_tet, glued_face}
-use Rattle.perm_four.proofs.Permutations.{image_below}
-use Rattle.gluing_table.specs.Replaceable.{fresh_numbers, fresh_glue, IsFreed, CanReplace}
-use Rattle.gluing_table.proofs.Ranks.{rank, stays, closed_up-rank, at_rank}
-use Rattle.gluing_table.proofs.Kept.{IsKeptAs, kept_as, length-replaced, fresh_row_at, kept_row_at, glue-fresh, glue-kept}
-use Rattle.gluing_table.proofs.FreshRows.{fresh_tet, length-fresh_row, back_is}
+use Rattle.table_definitions.proofs.Faces.{there_and_back, back_again}
+use Rattle.table_definitions.proofs.Permutations.{image_below}
+use Rattle.table_definitions.specs.Replaceable.{fresh_numbers, fresh_glue, IsFreed, CanReplace}
+use Rattle.table_definitions.proofs.Ranks.{rank, stays, closed_up-rank, at_rank}
+use Rattle.table_definitions.proofs.Kept.{IsKeptAs, kept_as, length-replaced, fresh_row_at, kept_row_at, glue-fresh, glue-kept}
+use Rattle.table_definitions.proofs.FreshRows.{fresh_tet, length-fresh_row, back_is}
 use Rattle.move_definitions.specs.Moves.{Move, Facet, kept, kept_stand_in, stand_in_at, moved_gluing, IsMoved, Plays}
 use Rattle.move_definitions.specs.Undos.{Undo, taken_numbers, undo_of, back_exchange, former, CanTakeBack, IsTakenBack, TakesBack}
 use Rattle.pachner_moves.specs.Facets.{stands_for, numbered}
 use Rattle.pachner_moves.proofs.LegalLaws.{IsLegal, legal_from}
 use Rattle.pachner_moves.proofs.NumberLaws.{numbers-of, row-of, has-range, range-has, not-has, range-up, range-within, picked-up, picked-within, rank-all, filter-has}
 use Rattle.pachner_moves.proofs.ListedLaws.{tets, old_of_tet, taken-has, length-taken, enough, stand_kept}
-use Rattle.pachner_moves.proofs.StandLaws.{there_and_back, back_again, under_kept, closes, stand_put, face_at, outer_label}
+use Rattle.pachner_moves.proofs.StandLaws.{under_kept, closes, stand_put, face_at, outer_label}
 use Rattle.pachner_moves.proofs.ExchangeLaws.{one_face}
 use Rattle.pachner_moves.proofs.MovedLaws.{kept_under, kept_place}
 
@@ -271,6 +272,3 @@ back_by rows u removed fresh (old, plays, e) er ef =
     let mk : List ℕ → List (ℕ × Row) → Replacement = λ ns xs. record { removed = ns; fresh = xs } in
     let whole : mk removed fresh ≡ back_exchange (undo_of old u.played) = ap (λ ns. mk ns fresh) er ∙ ap (mk (back_exchange u).removed) ef ∙ ap back_exchange e in
     subst (λ (r : Replacement). CanReplace rows r) (sym whole) (can_take_back old u.played rows (has_moved old u.played rows plays))
-
-pub few_back : (rows : List Row) (u : Undo) → CanTakeBack rows u → u.tets ≤ 1000
-few_back rows u (old, plays, e) = let n : u.tets ≡ length old = ap (λ (v : Undo). v.tets) e in omega (arith, plays.table.few)

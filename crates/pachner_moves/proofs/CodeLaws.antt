@@ -3,20 +3,19 @@ use Rattle.std.proofs.Common.{◌≡◌, ℕ, zero, suc, ◌+◌, ◌-◌, ◌<�
 use Rattle.std.specs.Prelude.{◌==◌, ◌≢◌, filter, find, option_and_then}
 use Rattle.std.specs.List.{range_with_len}
 use Rattle.std.specs.Option.{option_or}
-use Rattle.std.proofs.lemmas.Bool.{eq-eqb, le-ltb}
-use Rattle.std.proofs.lemmas.List.{take_more, length-map, map-append}
+use Rattle.std.proofs.lemmas.Bool.{eq-eqb, le-ltb, ne_eqb}
+use Rattle.std.proofs.lemmas.List.{take_more}
 use Rattle.std.proofs.lemmas.List.FromFn.{length-range_with_len}
 use Rattle.std.proofs.lemmas.List.Elements.{filter-append}
 use Rattle.std.proofs.lemmas.List.Folds.{find-append}
 use Rattle.table_definitions.specs.Lists.{has, below}
 use Rattle.table_definitions.specs.Permutation.{image}
 use Rattle.table_definitions.specs.Table.{Gluing, Row, Face}
-use Rattle.gluing_table.proofs.Bijections.{below-push}
-use Rattle.gluing_table.proofs.Ranks.{rank, length-picked, at_rank, unequal}
-use Rattle.move_definitions.specs.Moves.{Move, Facet, facet, kept, old_facets, new_facet, facet_stand_in, kept_stand_in, stand_in_of, stand_in_at}
+use Rattle.table_definitions.proofs.Bijections.{range-push, below-push}
+use Rattle.table_definitions.proofs.Ranks.{rank, length-picked, at_rank}
+use Rattle.move_definitions.specs.Moves.{Move, Facet, facet, old_facets, new_facet, facet_stand_in, kept_stand_in, stand_in_of, stand_in_at}
 use Rattle.move_definitions.specs.Undos.{taken_numbers}
-use Rattle.pachner_moves.specs.Facets.{IsOldFacet, AreOldFacets, stands_for, outer_gluing, fresh_gluing, put_row, numbered}
-use Rattle.pachner_moves.proofs.FindLaws.{range-push}
+use Rattle.pachner_moves.specs.Facets.{IsOldFacet, AreOldFacets, stands_for, outer_gluing, fresh_gluing}
 
 -- the first facet of a tetrahedron
 
@@ -35,7 +34,7 @@ pub not_yet : (t : ℕ) (fs : List Facet) (i : ℕ) (f : Facet) → i < length f
 not_yet t fs i f l is none d =
     ap (find (λ (f : Facet). f.tet == t)) (take_more fs i f l) ∙ find-append (λ (f : Facet). f.tet == t) (take i fs) (get_or fs i f ∷ [])
     ∙ ap (λ o. option_or o (find (λ (f : Facet). f.tet == t) (get_or fs i f ∷ []))) none
-    ∙ ap (λ (g : Facet). find (λ (f : Facet). f.tet == t) (g ∷ [])) (sym is) ∙ ap (λ b. cond b (Some f) None) (unequal f.tet t d)
+    ∙ ap (λ (g : Facet). find (λ (f : Facet). f.tet == t) (g ∷ [])) (sym is) ∙ ap (λ b. cond b (Some f) None) (ne_eqb f.tet t d)
 
 -- numbers and rows that are put in
 
@@ -44,24 +43,6 @@ one_number numbers more first label so_far e = let s : suc label ≡ label + 1 =
 
 pub few_numbers : (numbers : List ℕ) (first label : ℕ) → numbers ≡ range_with_len first label → length numbers ≡ label
 few_numbers numbers first label e = ap length e ∙ length-range_with_len first label
-
-pub one_row : (rows : List Row) (m : Move) (so more : List (ℕ × Row)) (first label number : ℕ) (row : Row) → first ≡ kept rows m → number ≡ first + label → row ≡ put_row rows m label
-    → so ≡ numbered (λ u. put_row rows m (u - kept rows m)) (range_with_len (kept rows m) label) → more ≡ so ++ (number, row) ∷ []
-    → more ≡ numbered (λ u. put_row rows m (u - kept rows m)) (range_with_len (kept rows m) (label + 1))
-one_row rows m so more first label number row ef en er so_far e =
-    let s : suc label ≡ label + 1 = omega arith in
-    let n : number ≡ kept rows m + label = omega arith in
-    let back : kept rows m + label - kept rows m ≡ label = omega arith in
-    let pair : ℕ → ℕ × Row = λ u. (u, put_row rows m (u - kept rows m)) in
-    let mk : ℕ → Row → ℕ × Row = λ u r. (u, r) in
-    let here : mk number row ≡ pair (kept rows m + label) = ap (λ u. mk u row) n ∙ ap (mk (kept rows m + label)) (er ∙ ap (put_row rows m) (sym back)) in
-    e ∙ ap (λ (xs : List (ℕ × Row)). xs ++ (number, row) ∷ []) so_far ∙ ap (λ (x : ℕ × Row). map pair (range_with_len (kept rows m) label) ++ x ∷ []) here
-    ∙ sym (map-append pair (range_with_len (kept rows m) label) ((kept rows m + label) ∷ [])) ∙ ap (map pair) (range-push (kept rows m) label ∙ ap (range_with_len (kept rows m)) s)
-
-pub few_rows : (rows : List Row) (m : Move) (so : List (ℕ × Row)) (label : ℕ) → so ≡ numbered (λ u. put_row rows m (u - kept rows m)) (range_with_len (kept rows m) label) → length so ≡ label
-few_rows rows m so label e =
-    let pair : ℕ → ℕ × Row = λ u. (u, put_row rows m (u - kept rows m)) in
-    ap length e ∙ length-map (range_with_len (kept rows m) label) pair ∙ length-range_with_len (kept rows m) label
 
 -- numbers that pass
 
@@ -84,9 +65,6 @@ few_taken rows m facets so t old so_far l h =
     let c : rank p (length rows) ≡ length (taken_numbers rows m) = sym (length-picked p (length rows)) ∙ ap (λ (fs : List Facet). length (filter (has (map (λ (f : Facet). f.tet) fs)) (below (length rows)))) old.are in
     let d = old.few in
     omega arith
-
-pub all_taken : (rows : List Row) (m : Move) (facets : List Facet) (so : List ℕ) (t : ℕ) → AreOldFacets rows m facets → so ≡ filter (has (map (λ (f : Facet). f.tet) facets)) (below t) → t ≡ length rows → so ≡ taken_numbers rows m
-all_taken rows m facets so t old so_far e = so_far ∙ ap (λ (fs : List Facet). filter (has (map (λ (f : Facet). f.tet) fs)) (below t)) old.are ∙ ap (λ n. filter (has (map (λ (f : Facet). f.tet) (old_facets rows m))) (below n)) e
 
 -- what stands for a face
 

@@ -12,19 +12,21 @@ use Rattle.table_definitions.specs.Permutation.{image, IsPermutationOfFour}
 use Rattle.table_definitions.specs.Table.{max_tets, Gluing, Row, Face, glue, other_side, way_back, same_face, IsTable}
 use Rattle.table_definitions.specs.Replacing.{replaced_length, number_of_kept, free_numbers}
 use Rattle.table_definitions.specs.Relabelling.{face_under, gluing_under}
-use Rattle.perm_four.proofs.Permutations.{image_below}
-use Rattle.gluing_table.specs.Replaceable.{fresh_numbers, fresh_glue, IsFreed, CanReplace}
-use Rattle.gluing_table.proofs.Ranks.{rank, stays, closed_up-rank, at_rank}
-use Rattle.gluing_table.proofs.Carried.{not_from, same_from, same_to}
+use Rattle.table_definitions.proofs.Permutations.{identity_permutes, image-identity, image_below}
+use Rattle.table_definitions.proofs.InPlace.{in_place-same}
+use Rattle.table_definitions.proofs.Faces.{there_and_back}
+use Rattle.table_definitions.specs.Replaceable.{fresh_numbers, fresh_glue, IsFreed, CanReplace}
+use Rattle.table_definitions.proofs.Ranks.{rank, stays, closed_up-rank, at_rank}
+use Rattle.table_definitions.proofs.Carried.{not_from, same_from, same_to}
 use Rattle.move_definitions.specs.Moves.{Move, Facet, vertex_of, opposite, kept, new_length, new_facet, label_by_label, stand_in_at, moved_gluing}
 use Rattle.move_definitions.specs.Undos.{taken_numbers}
 use Rattle.pachner_moves.specs.Facets.{IsOldFacet, stands_for, fresh_gluing, put_row, put_rows, exchange}
-use Rattle.pachner_moves.proofs.LabelLaws.{by_permutes, by_back, vertex_by, in_place_same}
+use Rattle.pachner_moves.proofs.LabelLaws.{by_permutes, by_back, vertex_by}
 use Rattle.pachner_moves.proofs.FacetLaws.{new_is_facet, core_few}
 use Rattle.pachner_moves.proofs.LegalLaws.{IsLegal, same_facet, label_in}
 use Rattle.pachner_moves.proofs.NumberLaws.{range-up, range-within, picked-up, picked-within, rank-all}
 use Rattle.pachner_moves.proofs.ListedLaws.{tets, tet_of_old, taken-has}
-use Rattle.pachner_moves.proofs.StandLaws.{side_under, way_under, under_permutes, there_and_back, identity_permutes, image_identity, closes, closed-apart, StandsKept, StandsPut, stands, vertex_small, stand_put, put_permutes, put_face}
+use Rattle.pachner_moves.proofs.StandLaws.{side_under, way_under, under_permutes, closes, closed-apart, StandsKept, StandsPut, stands, vertex_small, stand_put, put_permutes, put_face}
 use Rattle.pachner_moves.proofs.PutLaws.{put-numbers, put-length, is-put, put-is, not-put, glue-inner, glue-outer, LeadsIn, LeadsOut, leads}
 
 -- the new number of a tetrahedron that is kept
@@ -129,7 +131,7 @@ in_side rows m x g legal i =
     let new = i.new in
     let N = new_is_facet rows m i.j (omega arith) in
     let at : image (label_by_label (new_facet rows m i.j) (new_facet rows m i.l)) (vertex_of (new_facet rows m i.j) i.l) ≡ vertex_of (new_facet rows m i.l) i.j =
-    vertex_by (new_facet rows m i.j) (new_facet rows m i.l) i.l N (omega arith) i.other ∙ ap (vertex_of (new_facet rows m i.l)) (in_place_same i.l i.j i.l refl) in
+    vertex_by (new_facet rows m i.j) (new_facet rows m i.l) i.l N (omega arith) i.other ∙ ap (vertex_of (new_facet rows m i.l)) (in_place-same i.l i.j i.l refl) in
     ap (λ (y : Face). other_side y g) i.at ∙ ap (other_side (opposite (new_facet rows m i.j) i.l)) i.is ∙ ap (λ v. record { tet = (new_facet rows m i.l).tet; face = v }) at
 
 in_permutes : (rows : List Row) (m : Move) (j l : ℕ) → IsLegal rows m → j < length m.core → l < length m.core → l ≢ j → IsPermutationOfFour (label_by_label (new_facet rows m j) (new_facet rows m l))
@@ -269,7 +271,7 @@ kept_side : (rows : List Row) (m : Move) (x : Face) (g : Gluing) (o : Outer rows
     → other_side x g ≡ record { tet = closed_up (tets rows m) o.before.tet; face = (other_side (opposite o.f o.j) o.before).face }
 kept_side rows m x g o k =
     o.side ∙ ap (λ (s : Gluing). face_under s (other_side (opposite o.f o.j) o.before)) k.is
-    ∙ ap (λ v. record { tet = closed_up (tets rows m) o.before.tet; face = v }) (image_identity (other_side (opposite o.f o.j) o.before).face o.there_small)
+    ∙ ap (λ v. record { tet = closed_up (tets rows m) o.before.tet; face = v }) (image-identity (other_side (opposite o.f o.j) o.before).face o.there_small)
 
 freed_by : (rows : List Row) (m : Move) (x : Face) (g : Gluing) → IsLegal rows m → Kinds rows m x g → has (fresh_numbers (exchange rows m)) g.tet ≡ false → IsFreed rows (exchange rows m) (other_side x g)
 freed_by rows m x g legal kind h =

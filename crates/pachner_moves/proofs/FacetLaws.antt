@@ -1,16 +1,19 @@
 -- The facets of a move have each label but one.
-use Rattle.std.proofs.Common.{◌≡◌, ℕ, zero, suc, ◌<◌, Bool, true, false, cond, List, [], ◌∷◌, length, refl, sym, ap, ◌∙◌, arith, inl, inr}
+use Rattle.std.proofs.Common.{◌≡◌, ℕ, zero, suc, ◌<◌, Bool, true, List, length, refl, sym, ap, ◌∙◌, arith, inl, inr}
 use Rattle.std.specs.Prelude.{◌⊎◌, ◌==◌, ◌&&◌, ◌||◌, ◌≢◌, nat_lt, not, filter}
 use Rattle.std.specs.List.{list_all}
-use Rattle.std.proofs.lemmas.Bool.{eqb-true, eq-eqb, ltb-true, or_cases}
-use Rattle.table_definitions.specs.Lists.{has, below, in_place_of, same_list}
-use Rattle.table_definitions.specs.Permutation.{four, image, preimage, inverse, is_permutation, IsPermutationOfFour}
+use Rattle.std.proofs.lemmas.Bool.{eqb-true, ltb-true, or_cases, cases_eq}
+use Rattle.plain_facts.proofs.Numbers.{not_equal}
+use Rattle.table_definitions.specs.Lists.{below, in_place_of}
+use Rattle.table_definitions.specs.Permutation.{image, preimage, inverse, IsPermutationOfFour}
 use Rattle.table_definitions.specs.Table.{Gluing, Row}
-use Rattle.perm_four.proofs.ListFacts.{list_all-below, both_true, same_list-true}
-use Rattle.perm_four.proofs.Permutations.{length-permutation, image_below, preimage_below, image-preimage, preimage-image}
+use Rattle.table_definitions.proofs.InPlace.{in_place-back}
+use Rattle.table_definitions.proofs.ListFacts.{list_all-below, both_true}
+use Rattle.table_definitions.proofs.Permutations.{length-permutation, image_below, preimage_below, image-preimage, preimage-image}
 use Rattle.move_definitions.specs.Moves.{Move, Facet, IsCore, vertices_by_label, own_facet, vertex_of, facet_behind, new_facet, label_by_label}
+use Rattle.move_definitions.proofs.CoreTests.{core_size, own_permutes}
 use Rattle.pachner_moves.specs.Facets.{IsFacet}
-use Rattle.pachner_moves.proofs.LabelLaws.{facet_from, same_or_not, goes_below, goes_other, goes_back, by_is}
+use Rattle.pachner_moves.proofs.LabelLaws.{facet_from, goes_below, goes_other, by_is}
 
 -- a test of labels
 vertex_test : ℕ → List ℕ → ℕ → Bool
@@ -22,9 +25,6 @@ label_test i labels l = (l == i) || (nat_lt (preimage labels l) 4 && (image labe
 facet_test : ℕ → List ℕ → Bool
 facet_test i labels = (length labels == 4) && (list_all (vertex_test i labels) (below 4) && list_all (label_test i labels) (below 5))
 
-not_same : (a b : ℕ) → not (a == b) ≡ true → a ≢ b
-not_same a b h e = let q = eq-eqb a b e in let z : false ≡ true = ap not (sym q) ∙ h in absurd cc
-
 passed : (f : Facet) → f.missing < 5 → facet_test f.missing f.labels ≡ true → IsFacet f
 unfolding facet_test vertex_test label_test
 passed f few h =
@@ -34,7 +34,7 @@ passed f few h =
       missing_below = few;
       four_labels = eqb-true (length f.labels) 4 p.0;
       label_below = λ v l. ltb-true (image f.labels v) 5 (vertices q.0 v l).0;
-      label_other = λ v l. not_same (image f.labels v) f.missing (vertices q.0 v l).1;
+      label_other = λ v l. not_equal (image f.labels v) f.missing (vertices q.0 v l).1;
       vertex_back = λ v l. eqb-true (preimage f.labels (image f.labels v)) v (vertices q.0 v l).2;
       vertex_below = λ l b d. ltb-true (preimage f.labels l) 4 (labels q.1 l b d).0;
       label_back = λ l b d. eqb-true (image f.labels (preimage f.labels l)) l (labels q.1 l b d).1;
@@ -71,70 +71,20 @@ permuted t p h =
     (λ v l. preimage-image p h v l) (λ l b d. preimage_below p h l (below_four l b d)) (λ l b d. image-preimage p h l (below_four l b d))
   where
     below_four : (l : ℕ) → l < 5 → l ≢ 4 → l < 4
-    below_four l b d = by_case (same_or_not l 4)
+    below_four l b d = by_case (cases_eq l 4)
       where
         by_case : (l ≡ 4) ⊎ (l ≢ 4) → l < 4
         by_case (inl e) = absurd (d e)
         by_case (inr e) = grind arith
 
--- a core, by its vertices
-abbrev chosen : Bool → Bool → Bool → Bool → List ℕ
-chosen a b c d = cond a (0 ∷ cond b (1 ∷ cond c (2 ∷ cond d (3 ∷ []) []) (cond d (3 ∷ []) [])) (cond c (2 ∷ cond d (3 ∷ []) []) (cond d (3 ∷ []) [])))
-    (cond b (1 ∷ cond c (2 ∷ cond d (3 ∷ []) []) (cond d (3 ∷ []) [])) (cond c (2 ∷ cond d (3 ∷ []) []) (cond d (3 ∷ []) [])))
-
-chosen_permutes : (a b c d : Bool) → IsPermutationOfFour (inverse (vertices_by_label (chosen a b c d)))
-unfolding is_permutation inverse preimage
-chosen_permutes true true true true = refl
-chosen_permutes true true true false = refl
-chosen_permutes true true false true = refl
-chosen_permutes true true false false = refl
-chosen_permutes true false true true = refl
-chosen_permutes true false true false = refl
-chosen_permutes true false false true = refl
-chosen_permutes true false false false = refl
-chosen_permutes false true true true = refl
-chosen_permutes false true true false = refl
-chosen_permutes false true false true = refl
-chosen_permutes false true false false = refl
-chosen_permutes false false true true = refl
-chosen_permutes false false true false = refl
-chosen_permutes false false false true = refl
-chosen_permutes false false false false = refl
-
-chosen_few : (a b c d : Bool) → nat_lt (length (chosen a b c d)) 5 ≡ true
-chosen_few true true true true = refl
-chosen_few true true true false = refl
-chosen_few true true false true = refl
-chosen_few true true false false = refl
-chosen_few true false true true = refl
-chosen_few true false true false = refl
-chosen_few true false false true = refl
-chosen_few true false false false = refl
-chosen_few false true true true = refl
-chosen_few false true true false = refl
-chosen_few false true false true = refl
-chosen_few false true false false = refl
-chosen_few false false true true = refl
-chosen_few false false true false = refl
-chosen_few false false false true = refl
-chosen_few false false false false = refl
-
-core_chosen : (core : List ℕ) → IsCore core → core ≡ chosen (has core 0) (has core 1) (has core 2) (has core 3)
-core_chosen core h = let p = both_true (nat_lt 0 (length core)) (same_list (filter (has core) four) core) h in sym (same_list-true (filter (has core) four) core p.1)
-
 pub core_some : (core : List ℕ) → IsCore core → 0 < length core
-core_some core h = let p = both_true (nat_lt 0 (length core)) (same_list (filter (has core) four) core) h in ltb-true 0 (length core) p.0
+core_some core h = (core_size core h).0
 
 pub core_few : (core : List ℕ) → IsCore core → length core < 5
-core_few core h =
-    let e = core_chosen core h in
-    ltb-true (length core) 5 (ap (λ (vs : List ℕ). nat_lt (length vs) 5) e ∙ chosen_few (has core 0) (has core 1) (has core 2) (has core 3))
-
-pub core_permutes : (core : List ℕ) → IsCore core → IsPermutationOfFour (inverse (vertices_by_label core))
-core_permutes core h = ap (λ (vs : List ℕ). is_permutation (inverse (vertices_by_label vs))) (core_chosen core h) ∙ chosen_permutes (has core 0) (has core 1) (has core 2) (has core 3)
+core_few core h = (core_size core h).1
 
 pub own_is_facet : (m : Move) → IsCore m.core → IsFacet (own_facet m)
-own_is_facet m h = permuted m.tet (inverse (vertices_by_label m.core)) (core_permutes m.core h)
+own_is_facet m h = permuted m.tet (inverse (vertices_by_label m.core)) (own_permutes m.core h)
 
 -- the facet behind a face of the move's own
 behind_at : (own : Facet) (i : ℕ) (g : Gluing) (v : ℕ) → v < 4 → image (facet_behind own i g).labels v ≡ in_place_of i 4 (image own.labels (preimage g.perm v))
@@ -149,12 +99,12 @@ behind_is_facet own i g O four_missing small h =
     facet_from (facet_behind own i g) (λ l. image g.perm (vertex_of own (in_place_of 4 i l))) (omega arith) refl
     (λ v l. (let e = behind_at own i g v l in let b = goes_below 4 i (label v) (omega arith) (O.label_below (preimage g.perm v) (back v l)) in omega arith))
     (λ v l e. goes_other 4 i (label v) (λ q. absurd (omega arith)) (sym (behind_at own i g v l) ∙ e))
-    (λ v l. ap (λ k. image g.perm (vertex_of own (in_place_of 4 i k))) (behind_at own i g v l) ∙ ap (λ k. image g.perm (vertex_of own k)) (goes_back 4 i (label v) (other v l))
+    (λ v l. ap (λ k. image g.perm (vertex_of own (in_place_of 4 i k))) (behind_at own i g v l) ∙ ap (λ k. image g.perm (vertex_of own k)) (in_place-back 4 i (label v) (other v l))
     ∙ ap (image g.perm) (O.vertex_back (preimage g.perm v) (back v l)) ∙ image-preimage g.perm h v l)
     (λ l b d. image_below g.perm h (vertex_of own (in_place_of 4 i l)) (inside l b d))
     (λ l b d. behind_at own i g (image g.perm (vertex_of own (in_place_of 4 i l))) (image_below g.perm h (vertex_of own (in_place_of 4 i l)) (inside l b d))
     ∙ ap (λ v. in_place_of i 4 (image own.labels v)) (preimage-image g.perm h (vertex_of own (in_place_of 4 i l)) (inside l b d))
-    ∙ ap (in_place_of i 4) (O.label_back (in_place_of 4 i l) (goes_below i 4 l (omega arith) b) (not_four l d)) ∙ goes_back i 4 l d)
+    ∙ ap (in_place_of i 4) (O.label_back (in_place_of 4 i l) (goes_below i 4 l (omega arith) b) (not_four l d)) ∙ in_place-back i 4 l d)
   where
     label : ℕ → ℕ
     label v = image own.labels (preimage g.perm v)

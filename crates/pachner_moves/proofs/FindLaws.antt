@@ -1,7 +1,7 @@
 -- The facets behind faces, one label after the other.
 use Rattle.std.proofs.Common.{◌≡◌, ℕ, zero, suc, ◌+◌, ◌-◌, ◌<◌, ◌≤◌, Bool, true, false, cond, List, [], ◌∷◌, ◌++◌, length, map, drop, get_or, refl, sym, ap, ◌∙◌, subst, Option, Some, None, arith, inl, inr}
-use Rattle.std.specs.Prelude.{◌⊎◌, ◌==◌, ◌||◌, nat_lt, filter, filter_map, option_map, if◌then◌else◌, All, Result, Ok, Err}
-use Rattle.std.specs.List.{range_with_len, list_any, list_all, cons_option}
+use Rattle.std.specs.Prelude.{◌⊎◌, ◌==◌, nat_lt, filter, filter_map, option_map, if◌then◌else◌, All, Result, Ok, Err}
+use Rattle.std.specs.List.{range_with_len, list_all, cons_option}
 use Rattle.std.specs.Option.{option_or}
 use Rattle.std.proofs.lemmas.List.Elements.{filter_map-append}
 use Rattle.std.proofs.lemmas.List.Folds.{list_any_at}
@@ -11,17 +11,14 @@ use Rattle.std.proofs.lemmas.List.FromFn.{length-range_with_len, get_or-range_wi
 use Rattle.table_definitions.specs.Lists.{has, below, first_some, same_list, pairs_of}
 use Rattle.table_definitions.specs.Permutation.{four}
 use Rattle.table_definitions.specs.Table.{Gluing, Row, glue, IsTable}
+use Rattle.table_definitions.proofs.Bijections.{range-push}
 use Rattle.move_definitions.specs.declared.MoveFault.{MoveFault}
 use Rattle.move_definitions.specs.declared.MoveFault.TheVariants.{Boundary, Repeated, NoSuchTet}
 use Rattle.move_definitions.specs.Moves.{Move, Facet, facet, facet_fault, found_labels, tets_before, own_facet, opposite, facet_behind, pair_fault, move_fault}
-use Rattle.perm_four.proofs.ListFacts.{list_all-below, same_list-true, first_some-from, first_some-none_from, first_some-is_none}
+use Rattle.table_definitions.proofs.ListFacts.{list_all-below, same_list-true, first_some-from, first_some-none_from, first_some-is_none}
 use Rattle.pachner_moves.specs.Faults.{facets_below, first_facet_fault, found_facets, pairs_fault, verdict, IsPattern}
 
 -- lists of labels
-
-pub range-push : (a n : ℕ) → range_with_len a n ++ (a + n) ∷ [] ≡ range_with_len a (suc n)
-range-push a zero = ap (λ k. k ∷ []) (omega arith)
-range-push a (suc n) = ap (λ ks. a ∷ ks) (ap (λ k. range_with_len (a + 1) n ++ k ∷ []) (omega arith) ∙ range-push (a + 1) n)
 
 range_step : (s label : ℕ) → s ≤ label → range_with_len s (label - s) ++ label ∷ [] ≡ range_with_len s (label + 1 - s)
 range_step s label l =
@@ -41,11 +38,6 @@ before_label s i ls li =
 pub to_five : (s : ℕ) → s < 5 → drop s (below 5) ≡ drop s four ++ 4 ∷ []
 to_five s l = same_list-true (drop s (below 5)) (drop s four ++ 4 ∷ []) (list_all-below (λ k. same_list (drop k (below 5)) (drop k four ++ 4 ∷ [])) 5 refl s l)
 
-pub no_facets : (rows : List Row) (m : Move) (label : ℕ) (facets : List Facet) → label ≡ length m.core → facets ≡ [] → facets ≡ facets_below rows m label
-no_facets rows m label facets e n =
-    let z : label - length m.core ≡ 0 = omega arith in
-    n ∙ ap (λ k. filter_map (facet rows m) (range_with_len (length m.core) k)) (sym z)
-
 pub one_facet : (rows : List Row) (m : Move) (label : ℕ) (facets more : List Facet) (f : Facet) → length m.core ≤ label → facets ≡ facets_below rows m label → Some f ≡ facet rows m label → more ≡ facets ++ f ∷ []
     → more ≡ facets_below rows m (label + 1)
 one_facet rows m label facets more f l so_far is e =
@@ -57,11 +49,6 @@ one_facet rows m label facets more f l so_far is e =
 pub all_facets : (rows : List Row) (m : Move) (label : ℕ) (facets : List Facet) → length m.core < 5 → label ≡ 4 → facets ≡ facets_below rows m label → facets ≡ found_facets rows m
 all_facets rows m label facets small e so_far =
     so_far ∙ ap (λ k. facets_below rows m k) e ∙ ap (filter_map (facet rows m)) (sym (from_four (length m.core) small))
-
--- whether a tetrahedron stands among those before
-pub any_tet : (facets : List Facet) (t : ℕ) → list_any (λ (f : Facet). f.tet == t) facets ≡ has (map (λ (f : Facet). f.tet) facets) t
-any_tet [] t = refl
-any_tet (f ∷ facets) t = ap (λ b. (f.tet == t) || b) (any_tet facets t)
 
 pub taken_is : (rows : List Row) (m : Move) (label : ℕ) (facets : List Facet) (t : ℕ) → length m.core < 5 → label < 5 → facets ≡ facets_below rows m label
     → has (m.tet ∷ map (λ (f : Facet). f.tet) facets) t ≡ has (tets_before rows m label) t

@@ -1,21 +1,21 @@
 -- Facets by their labels, and where vertices go label by label.
-use Rattle.std.proofs.Common.{◌≡◌, ℕ, ◌<◌, Bool, true, false, cond, List, length, get_or, refl, sym, ap, ◌∙◌, arith, inl, inr}
+use Rattle.std.proofs.Common.{◌≡◌, ℕ, ◌<◌, true, List, length, get_or, refl, sym, ap, ◌∙◌, arith, inl, inr}
 use Rattle.std.specs.Prelude.{◌⊎◌, ◌==◌, ◌&&◌, ◌≢◌}
-use Rattle.std.proofs.lemmas.Bool.{eqb-true, eq-eqb}
+use Rattle.std.proofs.lemmas.Bool.{eq-eqb, cases_eq, ne_eqb}
 use Rattle.std.proofs.lemmas.List.{get_or-map, length-map}
 use Rattle.std.proofs.lemmas.List.Folds.{list_any_at}
 use Rattle.std.proofs.lemmas.List.Sums.{position_or_len_is}
 use Rattle.table_definitions.specs.Lists.{has, in_place_of}
 use Rattle.table_definitions.specs.Permutation.{image, preimage, inverse, IsPermutationOfFour}
-use Rattle.perm_four.proofs.Permutations.{is_permutation-four, same_images, image-inverse, preimage_at, inverse_permutes}
-use Rattle.gluing_table.proofs.Ranks.{unequal}
+use Rattle.table_definitions.proofs.InPlace.{in_place-same, in_place-other, in_place-back}
+use Rattle.table_definitions.proofs.Permutations.{is_permutation-four, same_images, image-inverse, preimage_at, inverse_permutes}
 use Rattle.move_definitions.specs.Moves.{Facet, vertex_of, label_by_label}
 use Rattle.pachner_moves.specs.Facets.{IsFacet}
 
 -- the first place of a number
 pub stands_first : (xs : List ℕ) (w l : ℕ) → w < length xs → get_or xs w 0 ≡ l → ((v : ℕ) → v < w → get_or xs v 0 ≢ l) → preimage xs l ≡ w
 unfolding preimage
-stands_first xs w l b e before = position_or_len_is (λ v. v == l) xs w 0 (omega arith) (λ k m. unequal (get_or xs k 0) l (before k m)) (λ _. eq-eqb _ l e)
+stands_first xs w l b e before = position_or_len_is (λ v. v == l) xs w 0 (omega arith) (λ k m. ne_eqb (get_or xs k 0) l (before k m)) (λ _. eq-eqb _ l e)
 
 -- labels with a way back
 pub facet_from : (f : Facet) (back : ℕ → ℕ) → f.missing < 5 → length f.labels ≡ 4
@@ -40,41 +40,20 @@ facet_from f back few long small other there inside here = record {
     place : (l : ℕ) → l < 5 → l ≢ f.missing → preimage f.labels l ≡ back l
     place l b d = ap (preimage f.labels) (sym (here l b d)) ∙ vertex_is (back l) (inside l b d)
 
--- one label in the place of another
-pub in_place_same : (a b l : ℕ) → l ≡ a → in_place_of a b l ≡ b
-in_place_same a b l e = ap (λ t. cond t b l) (eq-eqb l a e)
-
-pub in_place_other : (a b l : ℕ) → l ≢ a → in_place_of a b l ≡ l
-in_place_other a b l d = ap (λ t. cond t b l) (unequal l a d)
-
-pub same_or_not : (a b : ℕ) → (a ≡ b) ⊎ (a ≢ b)
-same_or_not a b = by_test (a == b) refl
-  where
-    by_test : (t : Bool) → (a == b) ≡ t → (a ≡ b) ⊎ (a ≢ b)
-    by_test true e = inl (eqb-true a b e)
-    by_test false e = inr (λ s. (let q = eq-eqb a b s in let z : false ≡ true = sym e ∙ q in absurd cc))
-
 -- the label to which a label goes, where the labels a and b are missing on the two sides
 pub goes_below : (a b l : ℕ) → a < 5 → l < 5 → in_place_of b a l < 5
-goes_below a b l la ll = by_case (same_or_not l b)
+goes_below a b l la ll = by_case (cases_eq l b)
   where
     by_case : (l ≡ b) ⊎ (l ≢ b) → in_place_of b a l < 5
-    by_case (inl e) = let q = in_place_same b a l e in omega arith
-    by_case (inr d) = let q = in_place_other b a l d in omega arith
+    by_case (inl e) = let q = in_place-same b a l e in omega arith
+    by_case (inr d) = let q = in_place-other b a l d in omega arith
 
 pub goes_other : (a b l : ℕ) → a ≢ b → in_place_of b a l ≢ b
-goes_other a b l apart s = by_case (same_or_not l b)
+goes_other a b l apart s = by_case (cases_eq l b)
   where
     by_case : (l ≡ b) ⊎ (l ≢ b) → ⊥
-    by_case (inl e) = apart (sym (in_place_same b a l e) ∙ s)
-    by_case (inr d) = d (sym (in_place_other b a l d) ∙ s)
-
-pub goes_back : (a b l : ℕ) → l ≢ a → in_place_of a b (in_place_of b a l) ≡ l
-goes_back a b l other = by_case (same_or_not l b)
-  where
-    by_case : (l ≡ b) ⊎ (l ≢ b) → in_place_of a b (in_place_of b a l) ≡ l
-    by_case (inl e) = in_place_same a b (in_place_of b a l) (in_place_same b a l e) ∙ sym e
-    by_case (inr d) = ap (in_place_of a b) (in_place_other b a l d) ∙ in_place_other a b l other
+    by_case (inl e) = apart (sym (in_place-same b a l e) ∙ s)
+    by_case (inr d) = d (sym (in_place-other b a l d) ∙ s)
 
 -- a list of four places on which each of the four numbers stands
 pub permutes_from : (p : List ℕ) (back : ℕ → ℕ) → length p ≡ 4 → ((w : ℕ) → w < 4 → back w < 4) → ((w : ℕ) → w < 4 → image p (back w) ≡ w) → IsPermutationOfFour p
@@ -110,7 +89,7 @@ to_vertex f g w F G apart l =
     let label : ℕ = in_place_of f.missing g.missing (image g.labels w) in
     let small : label < 5 = goes_below g.missing f.missing (image g.labels w) G.missing_below (G.label_below w l) in
     let other : label ≢ f.missing = goes_other g.missing f.missing (image g.labels w) (λ e. apart (sym e)) in
-    vertex_by f g label F small other ∙ ap (vertex_of g) (goes_back g.missing f.missing (image g.labels w) (G.label_other w l)) ∙ G.vertex_back w l
+    vertex_by f g label F small other ∙ ap (vertex_of g) (in_place-back g.missing f.missing (image g.labels w) (G.label_other w l)) ∙ G.vertex_back w l
 
 pub by_permutes : (f g : Facet) → IsFacet f → IsFacet g → f.missing ≢ g.missing → IsPermutationOfFour (label_by_label f g)
 by_permutes f g F G apart = permutes_from (label_by_label f g) (from_vertex f g) (length_by f g F) (λ w l. from_below f g w F G apart l) (λ w l. to_vertex f g w F G apart l)

@@ -1,24 +1,24 @@
 -- The facets that a legal move takes out.
-use Rattle.std.proofs.Common.{◌≡◌, ℕ, ◌-◌, ◌<◌, ◌≤◌, Bool, true, false, cond, List, [], ◌∷◌, length, map, Option, Some, None, refl, sym, ap, ◌∙◌, subst, arith, inl, inr}
+use Rattle.std.proofs.Common.{◌≡◌, ℕ, ◌-◌, ◌<◌, ◌≤◌, Bool, true, false, List, [], ◌∷◌, length, map, Option, Some, None, refl, sym, ap, ◌∙◌, subst, arith, inl, inr}
 use Rattle.std.specs.Prelude.{◌⊎◌, ◌==◌, ◌||◌, ◌≢◌, nat_lt, filter, filter_map, option_map, if◌then◌else◌}
-use Rattle.std.specs.List.{cons_option}
-use Rattle.std.specs.Option.{option_or}
-use Rattle.std.proofs.lemmas.Bool.{eqb-true, eq-eqb, lt-ltb, cases_lt}
+use Rattle.std.proofs.lemmas.Bool.{eqb-true, eq-eqb, lt-ltb, cases_lt, cases_eq, ne_eqb, or_parts}
 use Rattle.std.proofs.lemmas.List.{get_or-map}
+use Rattle.plain_facts.proofs.Options.{both_none}
 use Rattle.table_definitions.specs.Lists.{has, in_place_of, same_list, pairs_of}
 use Rattle.table_definitions.specs.Permutation.{image, compose}
 use Rattle.table_definitions.specs.Table.{Gluing, Row, glue, other_side, way_back, IsTable}
 use Rattle.table_definitions.proofs.TableLaws.{Among, Among-range, Among-pairs, first_some-none}
-use Rattle.perm_four.proofs.ListFacts.{both_true, same_list-true}
-use Rattle.perm_four.proofs.Permutations.{image_below, image-compose}
-use Rattle.gluing_table.proofs.Ranks.{unequal}
+use Rattle.table_definitions.proofs.Listed.{Among-filter, Among-filter_map}
+use Rattle.table_definitions.proofs.InPlace.{in_place-same}
+use Rattle.table_definitions.proofs.ListFacts.{both_true, same_list-true}
+use Rattle.table_definitions.proofs.Permutations.{image_below, image-compose}
 use Rattle.move_definitions.specs.declared.MoveFault.{MoveFault}
 use Rattle.move_definitions.specs.declared.MoveFault.TheVariants.{NotMatched, Repeated}
 use Rattle.move_definitions.specs.Moves.{Move, Facet, IsCore, own_facet, vertex_of, opposite, facet, facet_behind, facet_fault, found_labels, tets_before, pair_fault, is_matched, move_fault, label_by_label}
 use Rattle.pachner_moves.specs.Facets.{IsFacet, IsOldFacet}
 use Rattle.pachner_moves.specs.Faults.{first_facet_fault}
 use Rattle.pachner_moves.proofs.FindLaws.{from_four, move_fault_is, pairs_first, some_facet, none_such}
-use Rattle.pachner_moves.proofs.LabelLaws.{by_back, by_is, vertex_by, in_place_same, same_or_not}
+use Rattle.pachner_moves.proofs.LabelLaws.{by_back, by_is, vertex_by}
 use Rattle.pachner_moves.proofs.FacetLaws.{core_few, own_is_facet, behind_is_facet, behind_glued}
 
 pub record IsLegal (rows : List Row) (m : Move) : Type 0 where
@@ -28,46 +28,7 @@ pub record IsLegal (rows : List Row) (m : Move) : Type 0 where
   pub apart : (i k : ℕ) (f g : Facet) → IsOldFacet rows m i f → IsOldFacet rows m k g → f.tet ≡ g.tet → i ≡ k
   pub inner : (i k : ℕ) (f g : Facet) → IsOldFacet rows m i f → IsOldFacet rows m k g → i ≢ k → glue rows (opposite f k) ≡ Some (record { tet = g.tet; perm = label_by_label f g })
 
-pub both_none : {A : Type 0} (a b : Option A) → option_or a b ≡ None → (a ≡ None) × (b ≡ None)
-both_none None b e = (refl, e)
-both_none (Some x) b e = absurd cc
-
 -- lists of facets
-
-pub Among-filter : {A : Type 0} (p : A → Bool) (x : A) (xs : List A) → Among x xs → p x ≡ true → Among x (filter p xs)
-Among-filter p x [] a h = absurd a
-Among-filter {A} p x (y ∷ ys) a h = by_test (p y) refl a (λ b. Among-filter p x ys b h)
-  where
-    by_test : (t : Bool) → p y ≡ t → (x ≡ y) ⊎ Among x ys → (Among x ys → Among x (filter p ys)) → Among x (cond t (y ∷ filter p ys) (filter p ys))
-    by_test true e (inl s) later = inl s
-    by_test true e (inr b) later = inr (later b)
-    by_test false e (inl s) later = let z : true ≡ false = sym h ∙ ap p s ∙ e in absurd cc
-    by_test false e (inr b) later = later b
-
-pub Among-found : (h : ℕ → Option Facet) (i : ℕ) (ls : List ℕ) (f : Facet) → Among i ls → h i ≡ Some f → Among f (filter_map h ls)
-Among-found h i [] f a e = absurd a
-Among-found h i (l ∷ ls) f a e = by_head (h l) refl a (λ b. Among-found h i ls f b e)
-  where
-    by_head : (o : Option Facet) → h l ≡ o → (i ≡ l) ⊎ Among i ls → (Among i ls → Among f (filter_map h ls)) → Among f (cons_option o (filter_map h ls))
-    by_head None q (inl s) later = let z : None ≡ Some f = sym q ∙ ap h (sym s) ∙ e in absurd cc
-    by_head None q (inr b) later = later b
-    by_head (Some g) q (inl s) later = let z : Some g ≡ Some f = sym q ∙ ap h (sym s) ∙ e in let y : f ≡ g = cc in inl y
-    by_head (Some g) q (inr b) later = inr (later b)
-
-pub found-from : (h : ℕ → Option Facet) (ls : List ℕ) (f : Facet) → Among f (filter_map h ls) → (i : ℕ) × Among i ls × (h i ≡ Some f)
-found-from h [] f a = absurd a
-found-from h (l ∷ ls) f a = by_head (h l) refl a (λ b. found-from h ls f b)
-  where
-    Found : List ℕ → Type 0
-    Found ks = (i : ℕ) × Among i ks × (h i ≡ Some f)
-
-    further : Found ls → Found (l ∷ ls)
-    further x = (x.0, inr x.1, x.2)
-
-    by_head : (o : Option Facet) → h l ≡ o → Among f (cons_option o (filter_map h ls)) → (Among f (filter_map h ls) → Found ls) → Found (l ∷ ls)
-    by_head None q b later = further (later b)
-    by_head (Some g) q (inl s) later = (l, inl refl, q ∙ ap (λ (x : Facet). Some x) (sym s))
-    by_head (Some g) q (inr b) later = further (later b)
 
 pub has-among : (fs : List Facet) (f : Facet) → Among f fs → has (map (λ (f : Facet). f.tet) fs) f.tet ≡ true
 has-among [] f a = absurd a
@@ -100,7 +61,7 @@ found_behind rows m i f small e = by_glue (glue rows (opposite (own_facet m) i))
   where
     shown : option_map (facet_behind (own_facet m) i) (glue rows (opposite (own_facet m) i)) ≡ Some f
     shown =
-        sym (ap (λ b. if◌then◌else◌ {A = Option Facet} b (Some (own_facet m)) (option_map (facet_behind (own_facet m) i) (glue rows (opposite (own_facet m) i)))) (unequal i 4 (λ q. absurd (omega arith)))) ∙ e
+        sym (ap (λ b. if◌then◌else◌ {A = Option Facet} b (Some (own_facet m)) (option_map (facet_behind (own_facet m) i) (glue rows (opposite (own_facet m) i)))) (ne_eqb i 4 (λ q. absurd (omega arith)))) ∙ e
 
     by_glue : (o : Option Gluing) → glue rows (opposite (own_facet m) i) ≡ o → (g : Gluing) × (glue rows (opposite (own_facet m) i) ≡ Some g) × (facet_behind (own_facet m) i g ≡ f)
     by_glue None h = let z : None ≡ Some f = sym (ap (option_map (facet_behind (own_facet m) i)) h) ∙ shown in absurd cc
@@ -123,7 +84,7 @@ leads_by rows table f g F G apart e =
     let to : Gluing = record { tet = g.tet; perm = label_by_label f g } in
     let back : glue rows (other_side (opposite f g.missing) to) ≡ Some (way_back (opposite f g.missing) to) = table.leads_back (opposite f g.missing) to e in
     let at : image (label_by_label f g) (vertex_of f g.missing) ≡ vertex_of g f.missing =
-    vertex_by f g g.missing F G.missing_below (λ q. apart (sym q)) ∙ ap (vertex_of g) (in_place_same g.missing f.missing g.missing refl) in
+    vertex_by f g g.missing F G.missing_below (λ q. apart (sym q)) ∙ ap (vertex_of g) (in_place-same g.missing f.missing g.missing refl) in
     ap (λ v. glue rows (record { tet = g.tet; face = v })) (sym at) ∙ back ∙ ap (λ (p : List ℕ). Some (record { tet = f.tet; perm = p })) (by_back f g F G apart)
 
 record Faultless (rows : List Row) (m : Move) : Type 0 where
@@ -177,12 +138,8 @@ free_tet : (rows : List Row) (m : Move) (i : ℕ) (f : Facet) → IsCore m.core 
 free_tet rows m i f core no_fault low high e =
     not_taken (has (tets_before rows m i) f.tet) (Repeated i) (ap (facet_fault rows m i) (sym e) ∙ fault_at rows m i core no_fault low high)
 
-either_false : (a b : Bool) → (a || b) ≡ false → (a ≡ false) × (b ≡ false)
-either_false true b h = absurd cc
-either_false false b h = (refl, h)
-
 apart_below : (rows : List Row) (m : Move) (i k : ℕ) (f g : Facet) → IsCore m.core → Faultless rows m → i < k → IsOldFacet rows m i f → IsOldFacet rows m k g → f.tet ≡ g.tet → ⊥
-apart_below rows m i k f g core no_fault less F G same = by_last (same_or_not k 4)
+apart_below rows m i k f g core no_fault less F G same = by_last (cases_eq k 4)
   where
     few : length m.core < 5
     few = core_few m.core core
@@ -191,7 +148,7 @@ apart_below rows m i k f g core no_fault less F G same = by_last (same_or_not k 
     by_last (inl e) =
         let small : i < 4 = omega arith in
         let free = free_tet rows m i f core no_fault F.old_label small F.found in
-        let first : (m.tet == f.tet) ≡ false = (either_false (m.tet == f.tet) _ free).0 in
+        let first : (m.tet == f.tet) ≡ false = (or_parts (m.tet == f.tet) _ free).0 in
         let mine : own_facet m ≡ g = same_facet rows m 4 (own_facet m) g (own_old rows m core no_fault) (subst (λ j. IsOldFacet rows m j g) e G) in
         let t : m.tet ≡ f.tet = ap (λ (x : Facet). x.tet) mine ∙ sym same in
         let z : false ≡ true = sym first ∙ eq-eqb m.tet f.tet t in
@@ -199,11 +156,11 @@ apart_below rows m i k f g core no_fault less F G same = by_last (same_or_not k 
     by_last (inr d) =
         let small : k < 4 = (let b = label_in rows m k g G in grind arith) in
         let free = free_tet rows m k g core no_fault G.old_label small G.found in
-        let rest : has (map (λ (x : Facet). x.tet) (filter_map (facet rows m) (filter (λ l. nat_lt l k) (found_labels m)))) g.tet ≡ false = (either_false (m.tet == g.tet) _ free).1 in
+        let rest : has (map (λ (x : Facet). x.tet) (filter_map (facet rows m) (filter (λ l. nat_lt l k) (found_labels m)))) g.tet ≡ false = (or_parts (m.tet == g.tet) _ free).1 in
         let low = F.old_label in
         let among : Among i (filter (λ l. nat_lt l k) (found_labels m)) =
         Among-filter (λ l. nat_lt l k) i (found_labels m) (among_found m i core low (omega arith)) (lt-ltb i k less) in
-        let taken = has-among (filter_map (facet rows m) (filter (λ l. nat_lt l k) (found_labels m))) f (Among-found (facet rows m) i (filter (λ l. nat_lt l k) (found_labels m)) f among F.found) in
+        let taken = has-among (filter_map (facet rows m) (filter (λ l. nat_lt l k) (found_labels m))) f (Among-filter_map (facet rows m) i f (filter (λ l. nat_lt l k) (found_labels m)) among F.found) in
         let z : false ≡ true = sym rest ∙ ap (has (map (λ (x : Facet). x.tet) (filter_map (facet rows m) (filter (λ l. nat_lt l k) (found_labels m))))) (sym same) ∙ taken in
         absurd cc
 
@@ -257,7 +214,7 @@ found_glued rows m i k f g table core no_fault less small F G =
 
 glued_below : (rows : List Row) (m : Move) (i k : ℕ) (f g : Facet) → IsTable rows → IsCore m.core → Faultless rows m → i < k → IsOldFacet rows m i f → IsOldFacet rows m k g
     → (glue rows (opposite f k) ≡ Some (record { tet = g.tet; perm = label_by_label f g })) × (glue rows (opposite g i) ≡ Some (record { tet = f.tet; perm = label_by_label g f }))
-glued_below rows m i k f g table core no_fault less F G = by_last (same_or_not k 4)
+glued_below rows m i k f g table core no_fault less F G = by_last (cases_eq k 4)
   where
     apart : f.missing ≢ g.missing
     apart e = let fm = F.missing_is in let gm = G.missing_is in absurd (omega arith)
@@ -290,7 +247,7 @@ legal_from rows m table core none = record {
     no_fault = faultless rows m none
 
     at : (i : ℕ) → length m.core ≤ i → i < 5 → (f : Facet) × IsOldFacet rows m i f
-    at i low high = by_last (same_or_not i 4)
+    at i low high = by_last (cases_eq i 4)
       where
         by_last : (i ≡ 4) ⊎ (i ≢ 4) → (f : Facet) × IsOldFacet rows m i f
         by_last (inl e) = (own_facet m, subst (λ j. IsOldFacet rows m j (own_facet m)) (sym e) (own_old rows m core no_fault))
@@ -301,7 +258,7 @@ legal_from rows m table core none = record {
 
     pick_apart : (i k : ℕ) (f g : Facet) → IsOldFacet rows m i f → IsOldFacet rows m k g → f.tet ≡ g.tet → (i < k) ⊎ (k ≤ i) → i ≡ k
     pick_apart i k f g F G e (inl l) = absurd (apart_below rows m i k f g core no_fault l F G e)
-    pick_apart i k f g F G e (inr l) = further (same_or_not i k)
+    pick_apart i k f g F G e (inr l) = further (cases_eq i k)
       where
         further : (i ≡ k) ⊎ (i ≢ k) → i ≡ k
         further (inl s) = s

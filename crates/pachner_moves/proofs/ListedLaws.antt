@@ -1,20 +1,21 @@
 -- The list of the facets that are taken out, their tetrahedra, and what stands for the old faces.
 use Rattle.std.proofs.Common.{◌≡◌, ℕ, zero, suc, ◌+◌, ◌-◌, ◌<◌, ◌≤◌, Bool, true, false, cond, List, [], ◌∷◌, length, map, drop, get_or, Option, Some, None, refl, sym, ap, ◌∙◌, subst, arith, inl, inr}
-use Rattle.std.specs.Prelude.{◌⊎◌, ◌==◌, ◌||◌, nat_lt, filter_map, find, if◌then◌else◌}
+use Rattle.std.specs.Prelude.{◌⊎◌, ◌==◌, ◌||◌, nat_lt, filter_map, find}
 use Rattle.std.specs.List.{range_with_len, cons_option}
-use Rattle.std.proofs.lemmas.Bool.{eqb-true, eq-eqb, lt-ltb, le-ltb}
+use Rattle.std.proofs.lemmas.Bool.{eqb-true, eq-eqb, lt-ltb}
 use Rattle.std.proofs.lemmas.List.{get_or-map, length-map}
 use Rattle.table_definitions.specs.Lists.{has, below, closed_up, same_list}
 use Rattle.table_definitions.specs.Permutation.{image}
-use Rattle.table_definitions.specs.Table.{Gluing, Row, Face}
+use Rattle.table_definitions.specs.Table.{Row, Face}
 use Rattle.table_definitions.proofs.TableLaws.{Among, Among-range}
-use Rattle.perm_four.proofs.ListFacts.{list_all-below, same_list-true}
-use Rattle.gluing_table.proofs.Ranks.{length-picked, rank_fits, count_whole}
+use Rattle.table_definitions.proofs.Listed.{range-among, Among-filter_map, filter_map-among}
+use Rattle.table_definitions.proofs.ListFacts.{list_all-below, same_list-true}
+use Rattle.table_definitions.proofs.Ranks.{length-picked, rank_fits, count_whole}
 use Rattle.move_definitions.specs.Moves.{Move, Facet, facet, old_labels, old_facets, facet_stand_in, kept_stand_in, stand_in_of, stand_in_at}
 use Rattle.move_definitions.specs.Undos.{taken_numbers}
-use Rattle.pachner_moves.specs.Facets.{IsOldFacet, AreOldFacets, stands_for}
+use Rattle.pachner_moves.specs.Facets.{IsOldFacet, AreOldFacets}
 use Rattle.pachner_moves.proofs.FacetLaws.{core_some, core_few}
-use Rattle.pachner_moves.proofs.LegalLaws.{IsLegal, Among-found, found-from, has-among, among-has, same_facet, label_in}
+use Rattle.pachner_moves.proofs.LegalLaws.{IsLegal, has-among, among-has, same_facet, label_in}
 use Rattle.pachner_moves.proofs.NumberLaws.{Apart, rank-same, rank-has, picked-up, picked-has, increasing-apart}
 
 -- where something is found for each number of a range
@@ -38,11 +39,6 @@ found-at h (suc n) a (suc k) d all l =
     let f = all a (omega arith) (omega arith) in
     ap h (omega arith) ∙ found-at h n (a + 1) k d (λ i l m. all i (omega arith) (omega arith)) (omega arith)
     ∙ ap (λ o. Some (get_or (cons_option o (filter_map h (range_with_len (a + 1) n))) (suc k) d)) (sym f.1)
-
-within : (i a n : ℕ) → Among i (range_with_len a n) → (a ≤ i) × (i < a + n)
-within i a zero h = absurd h
-within i a (suc n) (inl e) = (omega arith, omega arith)
-within i a (suc n) (inr h) = let w = within i (a + 1) n h in let w0 = w.0 in let w1 = w.1 in (omega arith, omega arith)
 
 labels-range : (s : ℕ) → s < 5 → drop s (below 5) ≡ range_with_len s (5 - s)
 labels-range s l = same_list-true (drop s (below 5)) (range_with_len s (5 - s)) (list_all-below (λ k. same_list (drop k (below 5)) (range_with_len k (5 - k))) 5 refl s l)
@@ -74,14 +70,14 @@ listed : (rows : List Row) (m : Move) (i : ℕ) (f : Facet) → IsLegal rows m �
 listed rows m i f legal F =
     let b = label_in rows m i f F in
     let low = F.old_label in
-    Among-found (facet rows m) i (old_labels m) f
+    Among-filter_map (facet rows m) i f (old_labels m)
     (subst (λ (ls : List ℕ). Among i ls) (sym (labels-range (length m.core) (core_few m.core legal.core))) (Among-range i (length m.core) (5 - length m.core) low (omega arith))) F.found
 
 from_list : (rows : List Row) (m : Move) (f : Facet) → IsLegal rows m → Among f (old_facets rows m) → (i : ℕ) × IsOldFacet rows m i f
 from_list rows m f legal a =
-    let x = found-from (facet rows m) (old_labels m) f a in
+    let x = filter_map-among (facet rows m) f (old_labels m) a in
     let i : ℕ = x.0 in
-    let w = within i (length m.core) (5 - length m.core) (subst (λ (ls : List ℕ). Among i ls) (labels-range (length m.core) (core_few m.core legal.core)) x.1) in
+    let w = range-among i (length m.core) (5 - length m.core) (subst (λ (ls : List ℕ). Among i ls) (labels-range (length m.core) (core_few m.core legal.core)) x.1) in
     let w0 = w.0 in
     let w1 = w.1 in
     let F = legal.facet_at i w0 (omega arith) in
@@ -131,12 +127,6 @@ stand_old rows m i f x legal F e =
 
 pub stand_kept : (rows : List Row) (m : Move) (x : Face) → has (tets rows m) x.tet ≡ false → stand_in_at rows m x ≡ Some (kept_stand_in rows m x.tet)
 stand_kept rows m x h = ap (stand_in_of rows m x) (find-none (old_facets rows m) x.tet h)
-
-pub facet_put : (rows : List Row) (m : Move) (f : Facet) (j : ℕ) → j < length m.core → facet_stand_in rows m f j ≡ Some (stands_for rows m f j)
-facet_put rows m f j l = ap (λ b. if◌then◌else◌ {A = Option Gluing} b (Some (stands_for rows m f j)) None) (lt-ltb j (length m.core) l)
-
-pub facet_none : (rows : List Row) (m : Move) (f : Facet) (j : ℕ) → length m.core ≤ j → facet_stand_in rows m f j ≡ None
-facet_none rows m f j l = ap (λ b. if◌then◌else◌ {A = Option Gluing} b (Some (stands_for rows m f j)) None) (le-ltb j (length m.core) l)
 
 -- the tetrahedra that are taken out
 

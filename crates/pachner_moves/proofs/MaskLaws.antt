@@ -6,7 +6,7 @@ use Rattle.table_definitions.specs.Lists.{has, below, same_list}
 use Rattle.std.specs.List.{list_all}
 use Rattle.table_definitions.specs.Permutation.{four, is_permutation, IsPermutationOfFour, inverse, preimage, index}
 use Rattle.move_definitions.specs.Moves.{IsCore, vertices_by_label}
-use Rattle.perm_four.proofs.ListFacts.{list_all-below}
+use Rattle.table_definitions.proofs.ListFacts.{list_all-below}
 use Rattle.pachner_moves.specs.Cores.{core_of}
 
 abbrev same_test : Bool → Bool → Bool

@@ -3,25 +3,27 @@ use Rattle.std.proofs.Common.{◌≡◌, ℕ, ◌+◌, ◌<◌, ◌≤◌, Bool,
 use Rattle.std.specs.Prelude.{◌⊎◌, nat_lt, option_map, option_and_then, All}
 use Rattle.std.specs.Option.{option_or}
 use Rattle.std.proofs.lemmas.Bool.{lt-ltb, le-ltb, cases_lt}
+use Rattle.plain_facts.proofs.Options.{both_none}
 use Rattle.table_definitions.specs.Lists.{has, closed_up}
 use Rattle.table_definitions.specs.Permutation.{image, IsPermutationOfFour}
 use Rattle.table_definitions.specs.Table.{max_tets, Gluing, Row, Face, glue, other_side, way_back, IsTable}
 use Rattle.table_definitions.specs.Replacing.{Replacement, replaced, number_of_kept, kept_gluing, back_to_fresh}
 use Rattle.table_definitions.specs.Relabelling.{face_under, gluing_under}
-use Rattle.perm_four.proofs.Permutations.{image_below}
+use Rattle.table_definitions.proofs.Permutations.{image_below, identity_permutes, image-identity}
 use Rattle.table_definitions.proofs.TableLaws.{glued_tet}
-use Rattle.gluing_table.specs.Replaceable.{fresh_numbers, fresh_glue, CanReplace}
-use Rattle.gluing_table.proofs.Kept.{IsKeptAs, kept_as, length-replaced, glue-fresh, glue-kept}
-use Rattle.gluing_table.proofs.FreshRows.{back_is}
-use Rattle.gluing_table.proofs.Replaced.{replaced_is_table}
+use Rattle.table_definitions.proofs.Faces.{there_and_back, back_again}
+use Rattle.table_definitions.specs.Replaceable.{fresh_numbers, fresh_glue, CanReplace}
+use Rattle.table_definitions.proofs.Kept.{IsKeptAs, kept_as, length-replaced, glue-fresh, glue-kept}
+use Rattle.table_definitions.proofs.FreshRows.{back_is}
+use Rattle.table_definitions.proofs.Replaced.{replaced_is_table}
 use Rattle.move_definitions.specs.declared.MoveFault.TheVariants.{TooMany}
-use Rattle.move_definitions.specs.Moves.{Move, Facet, old_facets, vertex_of, opposite, move_fault, play_fault, IsCore, kept, new_length, new_facet, kept_stand_in, stand_in_at, moved_gluing, IsMoved, Plays}
+use Rattle.move_definitions.specs.Moves.{Move, Facet, old_facets, vertex_of, opposite, move_fault, IsCore, kept, new_length, new_facet, kept_stand_in, stand_in_at, moved_gluing, IsMoved, Plays}
 use Rattle.pachner_moves.specs.Facets.{IsOldFacet, AreOldFacets, CanPlay, put_rows, stands_for, exchange}
-use Rattle.pachner_moves.proofs.LegalLaws.{IsLegal, legal_from, both_none}
+use Rattle.pachner_moves.proofs.LegalLaws.{IsLegal, legal_from}
 use Rattle.pachner_moves.proofs.ListedLaws.{tets, old_of_tet, taken-has, are_old, stand_kept}
 use Rattle.pachner_moves.proofs.NumberLaws.{picked-within}
 use Rattle.move_definitions.specs.Undos.{taken_numbers}
-use Rattle.pachner_moves.proofs.StandLaws.{side_under, way_under, there_and_back, back_again, identity_permutes, image_identity, under_kept, closes, StandsKept, StandsPut, stands, stand_put, put_permutes, put_face, face_at, outer_label}
+use Rattle.pachner_moves.proofs.StandLaws.{side_under, way_under, under_kept, closes, StandsKept, StandsPut, stands, stand_put, put_permutes, put_face, face_at, outer_label}
 use Rattle.pachner_moves.proofs.PutLaws.{put-length, is-put, not-put, glue-inner, glue-outer}
 use Rattle.pachner_moves.proofs.ExchangeLaws.{number-kept, can_exchange}
 
@@ -44,7 +46,7 @@ abbrev pub kept_place : List Row → Move → Face → Face
 kept_place rows m x = record { tet = closed_up (tets rows m) x.tet; face = x.face }
 
 pub kept_under : (rows : List Row) (m : Move) (x : Face) → x.face < 4 → face_under (kept_stand_in rows m x.tet) x ≡ kept_place rows m x
-kept_under rows m x l = ap (λ v. record { tet = closed_up (tets rows m) x.tet; face = v }) (image_identity x.face l)
+kept_under rows m x l = ap (λ v. record { tet = closed_up (tets rows m) x.tet; face = v }) (image-identity x.face l)
 
 to_old : (rows : List Row) (m : Move) (x : Face) (g : Gluing) (i j : ℕ) (f : Facet) → IsLegal rows m → CanReplace rows (exchange rows m) → x.face < 4 → has (tets rows m) x.tet ≡ false → glue rows x ≡ Some g
     → IsOldFacet rows m i f → j < length m.core → other_side x g ≡ opposite f j
@@ -179,7 +181,3 @@ can_play rows m table core none fits = record {
 
 pub are_old_by : (rows : List Row) (m : Move) (facets found : List Facet) → IsTable rows → IsCore m.core → move_fault rows m ≡ None → facets ≡ found → found ≡ old_facets rows m → AreOldFacets rows m facets
 are_old_by rows m facets found table core none e are = are_old rows m facets (legal_from rows m table core none) (e ∙ are)
-
-pub too_long : (rows : List Row) (m : Move) → move_fault rows m ≡ None → max_tets < new_length rows m → play_fault rows m ≡ Some TooMany
-too_long rows m none l =
-    ap (λ o. option_or o (cond (nat_lt max_tets (new_length rows m)) (Some TooMany) None)) none ∙ ap (λ t. cond t (Some TooMany) None) (lt-ltb max_tets (new_length rows m) l)

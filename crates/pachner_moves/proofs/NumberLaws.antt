@@ -11,9 +11,9 @@ use Rattle.std.proofs.lemmas.List.Sums.{sum_by-cons}
 use Rattle.table_definitions.specs.Lists.{has, below}
 use Rattle.table_definitions.specs.Table.{Row}
 use Rattle.table_definitions.specs.Replacing.{fresh_row}
-use Rattle.gluing_table.specs.Replaceable.{gone_before}
-use Rattle.gluing_table.proofs.Ranks.{picked, rank, rank-suc, length-picked, of_rank, at_rank, one_if}
-use Rattle.gluing_table.proofs.Bijections.{get_or-any}
+use Rattle.table_definitions.specs.Replaceable.{gone_before}
+use Rattle.table_definitions.proofs.Ranks.{picked, rank, rank-suc, length-picked, of_rank, at_rank, one_if}
+use Rattle.table_definitions.proofs.Bijections.{get_or-any}
 use Rattle.gluing_table.proofs.Opened.{has-none}
 use Rattle.pachner_moves.specs.Facets.{numbered}
 

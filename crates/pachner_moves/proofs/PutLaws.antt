@@ -10,8 +10,8 @@ use Rattle.table_definitions.specs.Permutation.{image}
 use Rattle.table_definitions.specs.Table.{Gluing, Row, Face, glue, other_side}
 use Rattle.table_definitions.specs.Replacing.{replaced_length, fresh_row}
 use Rattle.table_definitions.specs.Relabelling.{gluing_under}
-use Rattle.gluing_table.specs.Replaceable.{fresh_numbers, fresh_glue}
-use Rattle.gluing_table.proofs.FreshRows.{fresh_tet}
+use Rattle.table_definitions.specs.Replaceable.{fresh_numbers, fresh_glue}
+use Rattle.table_definitions.proofs.FreshRows.{fresh_tet}
 use Rattle.move_definitions.specs.Moves.{Move, Facet, vertex_of, opposite, facet, kept, new_length, new_facet, stand_in_at, moved_gluing}
 use Rattle.move_definitions.specs.Undos.{taken_numbers}
 use Rattle.pachner_moves.specs.Facets.{IsFacet, IsOldFacet, stands_for, outer_gluing, fresh_gluing, put_row, put_rows, exchange}

@@ -1,24 +1,25 @@
 -- What stands for the faces of a table on which a legal move is played, and how gluings are carried over.
-use Rattle.std.proofs.Common.{◌≡◌, ℕ, zero, suc, ◌+◌, ◌<◌, ◌≤◌, Bool, true, false, List, length, Some, None, refl, sym, ap, ◌∙◌, arith, inl, inr}
+use Rattle.std.proofs.Common.{◌≡◌, ℕ, ◌+◌, ◌<◌, ◌≤◌, Bool, true, false, List, length, Some, None, refl, sym, ap, ◌∙◌, arith, inl, inr}
 use Rattle.std.specs.Prelude.{◌⊎◌, ◌≢◌, not}
 use Rattle.std.proofs.lemmas.Bool.{cases_lt}
 use Rattle.table_definitions.specs.Lists.{has, closed_up}
-use Rattle.table_definitions.specs.Permutation.{image, preimage, inverse, compose, identity, is_permutation, IsPermutationOfFour}
+use Rattle.table_definitions.specs.Permutation.{image, inverse, compose, identity, IsPermutationOfFour}
 use Rattle.table_definitions.specs.Table.{Gluing, Row, Face, glue, other_side, way_back}
 use Rattle.table_definitions.specs.Relabelling.{face_under, gluing_under}
-use Rattle.table_definitions.proofs.PermutationLaws.{image-of_inverse}
-use Rattle.perm_four.proofs.Permutations.{image_below, preimage-image, image-inverse, inverse_permutes, inverse-inverse, inverse-of-compose, compose_permutes, compose-compose, image-compose, identity-compose, compose-identity}
-use Rattle.gluing_table.proofs.Ranks.{rank, stays, closed_up-rank, at_rank, ranks_apart, stays-count}
+use Rattle.table_definitions.proofs.Permutations.{inverse_permutes, compose_permutes, identity-compose, compose-identity, inverse-identity}
+use Rattle.table_definitions.proofs.Ranks.{rank, stays, closed_up-rank, at_rank, ranks_apart, stays-count}
 use Rattle.std.proofs.lemmas.List.Kept.{AllPairs-from_increasing}
 use Rattle.move_definitions.specs.Moves.{Move, Facet, vertex_of, opposite, kept, new_facet, label_by_label, facet_stand_in, kept_stand_in, stand_in_at}
 use Rattle.move_definitions.specs.Undos.{taken_numbers}
+use Rattle.move_definitions.proofs.StandIns.{facet_stand_in-new, facet_stand_in-old}
 use Rattle.pachner_moves.specs.Facets.{IsFacet, IsOldFacet, stands_for}
-use Rattle.pachner_moves.proofs.LabelLaws.{by_permutes, vertex_by, in_place_same}
+use Rattle.pachner_moves.proofs.LabelLaws.{by_permutes, vertex_by}
 use Rattle.pachner_moves.proofs.FacetLaws.{new_is_facet, core_few}
 use Rattle.pachner_moves.proofs.LegalLaws.{IsLegal}
 use Rattle.pachner_moves.proofs.NumberLaws.{picked-up, picked-within}
-use Rattle.pachner_moves.proofs.ListedLaws.{tets, tet_of_old, old_of_tet, stand_old, stand_kept, facet_put, facet_none, taken-has, length-taken, closed-taken}
+use Rattle.pachner_moves.proofs.ListedLaws.{tets, tet_of_old, old_of_tet, stand_old, stand_kept, taken-has, length-taken, closed-taken}
 use Rattle.table_definitions.proofs.Carried.{carried_image as image_under, carried_back as back_under}
+use Rattle.table_definitions.proofs.InPlace.{in_place-same}
 
 -- a gluing that is carried over
 
@@ -34,32 +35,11 @@ side_under s r g x hs hr hg l = ap (λ v. record { tet = r.tet; face = v }) (ima
 pub way_under : (s r g : Gluing) (x : Face) → IsPermutationOfFour s.perm → IsPermutationOfFour r.perm → IsPermutationOfFour g.perm → way_back (face_under s x) (gluing_under s r g) ≡ gluing_under r s (way_back x g)
 way_under s r g x hs hr hg = ap (λ (p : List ℕ). record { tet = s.tet; perm = p }) (sym (back_under s.perm r.perm g.perm hs hr hg))
 
-pub there_and_back : (x : Face) (g : Gluing) → IsPermutationOfFour g.perm → x.face < 4 → other_side (other_side x g) (way_back x g) ≡ x
-there_and_back x g h l = ap (λ v. record { tet = x.tet; face = v }) (image-of_inverse g.perm x.face h l)
-
-pub back_again : (x : Face) (g : Gluing) → IsPermutationOfFour g.perm → way_back (other_side x g) (way_back x g) ≡ g
-back_again x g h = ap (λ (p : List ℕ). record { tet = g.tet; perm = p }) (inverse-inverse g.perm h)
-
-pub identity_permutes : IsPermutationOfFour identity
-unfolding is_permutation
-identity_permutes = refl
-
-inverse-identity : inverse identity ≡ identity
-unfolding inverse preimage
-inverse-identity = refl
-
 -- between tetrahedra that are kept permutations stay
 pub under_kept : (t u : ℕ) (g : Gluing) → IsPermutationOfFour g.perm → gluing_under (record { tet = t; perm = identity }) (record { tet = u; perm = identity }) g ≡ record { tet = u; perm = g.perm }
 under_kept t u g h =
     ap (λ (p : List ℕ). record { tet = u; perm = p })
     (ap (λ (q : List ℕ). compose identity (compose g.perm q)) inverse-identity ∙ ap (compose identity) (compose-identity g.perm h) ∙ identity-compose g.perm h)
-
-pub image_identity : (v : ℕ) → v < 4 → image identity v ≡ v
-image_identity zero l = refl
-image_identity (suc zero) l = refl
-image_identity (suc (suc zero)) l = refl
-image_identity (suc (suc (suc zero))) l = refl
-image_identity (suc (suc (suc (suc v)))) l = absurd (omega arith)
 
 -- the numbers of the tetrahedra that are kept
 
@@ -112,10 +92,10 @@ stands rows m x s legal l e = by_test (has (tets rows m) x.tet) refl
   where
     by_label : (i : ℕ) (f : Facet) → IsOldFacet rows m i f → f.tet ≡ x.tet → (image f.labels x.face < length m.core) ⊎ (length m.core ≤ image f.labels x.face) → StandsPut rows m x s
     by_label i f F t (inl b) =
-        let z : Some (stands_for rows m f (image f.labels x.face)) ≡ Some s = sym (facet_put rows m f (image f.labels x.face) b) ∙ sym (stand_old rows m i f x legal F (sym t)) ∙ e in
+        let z : Some (stands_for rows m f (image f.labels x.face)) ≡ Some s = sym (facet_stand_in-new rows m f (image f.labels x.face) b) ∙ sym (stand_old rows m i f x legal F (sym t)) ∙ e in
         record { i = i; j = image f.labels x.face; f = f; old = F; new = b; at = face_at f x F.labelled (sym t) l; is = cc }
     by_label i f F t (inr b) =
-        let z : None ≡ Some s = sym (facet_none rows m f (image f.labels x.face) b) ∙ sym (stand_old rows m i f x legal F (sym t)) ∙ e in
+        let z : None ≡ Some s = sym (facet_stand_in-old rows m f (image f.labels x.face) b) ∙ sym (stand_old rows m i f x legal F (sym t)) ∙ e in
         absurd cc
 
     by_test : (b : Bool) → has (tets rows m) x.tet ≡ b → StandsKept rows m x s ⊎ StandsPut rows m x s
@@ -143,7 +123,7 @@ label_again rows m i j f legal F l =
 
 pub stand_put : (rows : List Row) (m : Move) (i j : ℕ) (f : Facet) → IsLegal rows m → IsOldFacet rows m i f → j < length m.core → stand_in_at rows m (opposite f j) ≡ Some (stands_for rows m f j)
 stand_put rows m i j f legal F l =
-    stand_old rows m i f (opposite f j) legal F refl ∙ ap (facet_stand_in rows m f) (label_again rows m i j f legal F l) ∙ facet_put rows m f j l
+    stand_old rows m i f (opposite f j) legal F refl ∙ ap (facet_stand_in rows m f) (label_again rows m i j f legal F l) ∙ facet_stand_in-new rows m f j l
 
 pub put_permutes : (rows : List Row) (m : Move) (i j : ℕ) (f : Facet) → IsLegal rows m → IsOldFacet rows m i f → j < length m.core → IsPermutationOfFour (stands_for rows m f j).perm
 put_permutes rows m i j f legal F l =
@@ -159,7 +139,7 @@ put_face rows m i j f legal F l =
     let a = F.missing_is in
     let b = F.old_label in
     let at : image (label_by_label f (new_facet rows m j)) (vertex_of f j) ≡ vertex_of (new_facet rows m j) i =
-    vertex_by f (new_facet rows m j) j F.labelled (omega arith) (λ e. absurd (omega arith)) ∙ ap (vertex_of (new_facet rows m j)) (in_place_same j f.missing j refl ∙ a) in
+    vertex_by f (new_facet rows m j) j F.labelled (omega arith) (λ e. absurd (omega arith)) ∙ ap (vertex_of (new_facet rows m j)) (in_place-same j f.missing j refl ∙ a) in
     ap (λ v. record { tet = (new_facet rows m j).tet; face = v }) at
 
 -- an old face that leads to a tetrahedron that is kept lies opposite a new label

@@ -2,7 +2,7 @@
 use Rattle.std.proofs.Common.{◌≡◌, ℕ, ◌<◌, refl}
 use Rattle.std.specs.Prelude.{◌==◌}
 use Rattle.std.proofs.lemmas.Bool.{eqb-true}
-use Rattle.perm_four.proofs.ListFacts.{list_all-below}
+use Rattle.table_definitions.proofs.ListFacts.{list_all-below}
 use Rattle.pachner_moves.specs.Cores.{core_of, mask_of}
 
 -- the vertices tell the mask

@@ -3,6 +3,7 @@
 ghost use Rattle.std.specs.Prelude.{◌≡◌, ◌<◌, ◌≤◌, ◌-◌, ◌↔◌, length, drop, IsSome, IfSome};
 ghost use Rattle.table_definitions.specs.Lists.{has};
 ghost use Rattle.table_definitions.specs.Permutation.{four, IsPermutationOfFour, inverse};
+ghost use Rattle.table_definitions.specs.Places.{edge_ends};
 ghost use Rattle.move_definitions.specs.Moves.{IsCore, vertices_by_label};
 ghost use Rattle.pachner_moves.specs.Cores.{core_of};
 
@@ -52,6 +53,32 @@ impl Core {
             return None;
         }
         Some(Core { mask })
+    }
+
+    /// The core whose vertices are the bits of a mask.
+    pub fn of_mask(mask: u8) -> Core
+        requires some { 0 < mask }
+        requires four_bits { mask < 16 }
+        ensures { result ≡ core_of mask }
+    {
+        match Core::new(mask) {
+            Some(core) => core,
+            None => unreachable!(),
+        }
+    }
+
+    /// The ends of each edge, by its number.
+    pub fn edges() -> [Core; 6]
+        ensures { result ≡ edge_ends }
+    {
+        [
+            Core::of_mask(3),
+            Core::of_mask(5),
+            Core::of_mask(9),
+            Core::of_mask(6),
+            Core::of_mask(10),
+            Core::of_mask(12),
+        ]
     }
 
     /// Whether a number is that of a vertex of the core; from 4 on none is.

@@ -92,24 +92,13 @@ fn facet_stand_in(table: &Table, m: &Move, f: Facet, label: u8) -> Option<Glue>
     })
 }
 
-/// The number once the facets are taken out.
-fn closed_number(facets: &[Facet], tet: u32) -> u32
+/// The number of a tetrahedron once the facets are taken out.
+pub fn closed_number(facets: &[Facet], tet: u32) -> u32
     requires { length facets.now ≤ 5 }
     ensures { result ≡ closed_up (map (λ f. f.tet) facets.now) tet }
 {
     let before = facets.iter().filter(|f| f.tet < tet).count();
     tet.saturating_sub(before as u32)
-}
-
-/// The permutation that leaves each vertex where it is.
-#[tactic(auto, unfolding(table_definitions::specs::Permutation::is_permutation))]
-fn unmoved() -> Perm4
-    ensures { result ≡ identity }
-{
-    match Perm4::new(0, 1, 2, 3) {
-        Some(perm) => perm,
-        None => unreachable!(),
-    }
 }
 
 /// What stands for a tetrahedron that is kept.
@@ -119,12 +108,12 @@ fn kept_stand_in(table: &Table, m: &Move, facets: &[Facet], tet: u32) -> Glue
 {
     Glue {
         tet: closed_number(facets, tet),
-        perm: unmoved(),
+        perm: Perm4::identity(),
     }
 }
 
 /// The facet of a tetrahedron.
-fn facet_of(facets: &[Facet], tet: u32) -> Option<Facet>
+pub fn facet_of(facets: &[Facet], tet: u32) -> Option<Facet>
     ensures { result ≡ find (λ f. f.tet == tet) facets.now }
 {
     for facet in facets {

@@ -1,6 +1,7 @@
 use super::*;
 use gluing_table::{Glue, Row, Table};
 use perm_four::Perm4;
+use std::process::Abort;
 
 fn by(tet: u32, word: &[u8]) -> Option<Glue> {
     match Perm4::from_word(word) {
@@ -47,9 +48,15 @@ fn four() -> [Row; 4] {
     ]
 }
 
-fn refusal(table: &Table, mask: u8) -> Option<MoveFault> {
-    let core = Core::new(mask)?;
-    legal(table, Move { tet: 0, core }).err()
+/// The move of a tetrahedron whose core's vertices are the bits of the mask.
+fn at(rt: &impl Abort, tet: u32, mask: u8) -> Move {
+    let core = Core::new(mask).expect(rt, "a core");
+    Move { tet, core }
+}
+
+/// The first fault of a move at tetrahedron 0.
+fn refusal(rt: &impl Abort, table: &Table, mask: u8) -> Option<MoveFault> {
+    legal(table, at(rt, 0, mask)).err()
 }
 
 #[test]
@@ -58,31 +65,75 @@ fn worked_moves_are_told_apart(rt: HostRuntime) {
     let free = Table::from_rows(rt.alloc(), &free).expect(&rt, "a table");
     let sphere = Table::from_rows(rt.alloc(), &sphere()).expect(&rt, "a table");
     let four = Table::from_rows(rt.alloc(), &four()).expect(&rt, "a table");
-    assert_eq!(rt; refusal(&free, 14), Some(MoveFault::Boundary { label: 3 }));
-    assert_eq!(rt;
-        refusal(&sphere, 14),
-        Some(MoveFault::Repeated { label: 3 })
-    );
-    assert_eq!(rt; refusal(&sphere, 15), None);
+    let boundary = MoveFault::Boundary { label: 3 };
+    assert_eq!(rt; refusal(&rt, &free, 14), Some(boundary));
+    let repeated = MoveFault::Repeated { label: 3 };
+    assert_eq!(rt; refusal(&rt, &sphere, 14), Some(repeated));
+    assert_eq!(rt; refusal(&rt, &sphere, 15), None);
     let not_matched = MoveFault::NotMatched {
         first: 1,
         second: 3,
     };
-    assert_eq!(rt; refusal(&four, 1), Some(not_matched));
-    assert_eq!(rt; refusal(&four, 8), None);
+    assert_eq!(rt; refusal(&rt, &four, 1), Some(not_matched));
+    assert_eq!(rt; refusal(&rt, &four, 8), None);
 }
 
-fn play(table: &mut Table, mask: u8) -> Option<Undo> {
-    let core = Core::new(mask)?;
-    apply(table, Move { tet: 0, core }).ok()
+#[test]
+fn refused_moves_leave_the_table(rt: HostRuntime) {
+    let mut table = Table::from_rows(rt.alloc(), &four()).expect(&rt, "a table");
+    let four = Table::from_rows(rt.alloc(), &four()).expect(&rt, "a table");
+    let fault = apply(&mut table, at(&rt, 4, 15)).err();
+    assert_eq!(rt; fault, Some(MoveFault::NoSuchTet));
+    let not_matched = MoveFault::NotMatched {
+        first: 1,
+        second: 3,
+    };
+    let fault = apply(&mut table, at(&rt, 0, 1)).err();
+    assert_eq!(rt; fault, Some(not_matched));
+    assert!(rt; table.equals(&four));
+    let loose = vec![in rt.alloc(); [None, None, None, None]; 998].expect(&rt, "memory");
+    let mut table = Table::from_rows(rt.alloc(), &loose).expect(&rt, "a table");
+    let fault = apply(&mut table, at(&rt, 0, 15)).err();
+    assert_eq!(rt; fault, Some(MoveFault::TooMany));
+    assert_eq!(rt; table.rows(), loose.as_slice());
 }
 
 #[test]
 fn a_sphere_is_parted_and_joined(rt: HostRuntime) {
     let four = Table::from_rows(rt.alloc(), &four()).expect(&rt, "a table");
     let mut table = Table::from_rows(rt.alloc(), &sphere()).expect(&rt, "a table");
-    let parted = play(&mut table, 15);
-    assert!(rt; parted.is_some() && table.equals(&four));
-    let joined = play(&mut table, 8);
-    assert!(rt; joined.is_some() && table.len() == 1);
+    let parted = apply(&mut table, at(&rt, 0, 15)).expect(&rt, "a legal move");
+    assert!(rt; table.equals(&four));
+    assert_eq!(rt; inverse_move(&parted), at(&rt, 0, 8));
+    let joined = apply(&mut table, at(&rt, 0, 8)).expect(&rt, "a legal move");
+    let other = [[
+        by(0, b"3120"),
+        by(0, b"1230"),
+        by(0, b"3012"),
+        by(0, b"3120"),
+    ]];
+    let other = Table::from_rows(rt.alloc(), &other).expect(&rt, "a table");
+    assert!(rt; table.equals(&other));
+    assert_eq!(rt; inverse_move(&joined), at(&rt, 0, 15));
+}
+
+/// Plays a move and takes it back; answers whether it was legal.
+fn is_taken_back(table: &mut Table, m: Move) -> bool {
+    match apply(table, m) {
+        Ok(undo) => {
+            take_back(table, &undo);
+            true
+        }
+        Err(_) => false,
+    }
+}
+
+#[test]
+fn moves_are_taken_back(rt: HostRuntime) {
+    let mut table = Table::from_rows(rt.alloc(), &four()).expect(&rt, "a table");
+    let four = Table::from_rows(rt.alloc(), &four()).expect(&rt, "a table");
+    assert!(rt; is_taken_back(&mut table, at(&rt, 0, 8)));
+    assert!(rt; table.equals(&four));
+    assert!(rt; is_taken_back(&mut table, at(&rt, 3, 15)));
+    assert!(rt; table.equals(&four));
 }

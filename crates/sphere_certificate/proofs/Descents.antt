@@ -1,57 +1,23 @@
 -- What a descent has done so far, and how it ends.
-use Rattle.std.proofs.Common.{◌≡◌, ℕ, ◌+◌, ◌≤◌, Bool, true, false, cond, List, [], ◌∷◌, ◌++◌, length, map, Option, Some, None, refl, sym, ap, ◌∙◌, subst, inl, inr}
+use Rattle.std.proofs.Common.{◌≡◌, ℕ, ◌+◌, ◌≤◌, Bool, true, List, [], ◌∷◌, ◌++◌, length, map, Option, Some, None, sym, ap, ◌∙◌, subst}
 use Rattle.std.specs.Prelude.{◌⊎◌, ◌↔◌, find, MatchOption}
 use Rattle.std.specs.Option.{option_or}
-use Rattle.std.proofs.lemmas.Bool.{false≢true}
 use Rattle.table_definitions.specs.Table.{Row, IsTable}
 use Rattle.table_definitions.specs.Permutation.{four}
-use Rattle.table_definitions.specs.Places.{edge_ends, IsLeastUnreached}
+use Rattle.table_definitions.specs.Places.{edge_ends}
 use Rattle.signature_definitions.specs.Spelling.{IsSignature}
-use Rattle.move_definitions.specs.Moves.{Move, play_fault, Plays}
+use Rattle.move_definitions.specs.Moves.{Move, Plays}
 use Rattle.move_definitions.specs.Certificates.{IsStandard, IsCertificate, moves_with, four_one_moves, three_two_moves, is_accepted, descent_move}
 use Rattle.certificate_definitions.specs.Answers.{sphere_text, IsDescended}
 use Rattle.certificate_definitions.specs.SoFar.{DescendsSoFar}
-use Rattle.certificate_laws.proofs.Made.{accepted_none}
-use Rattle.certificate_laws.proofs.Checked.{standard_connected, connected_or_not, text_standard, standard_text}
+use Rattle.certificate_laws.proofs.Checked.{text_standard, standard_text}
 use Rattle.certificate_laws.proofs.Descents.{descents_end_lem, descents_certify_lem}
 use Rattle.certificate_laws.proofs.Loops.{descents_go_on_lem, descents_are_done_lem}
-
--- what is standard has one tetrahedron, and is connected
-standard_one : (rows : List Row) → IsStandard rows → length rows ≡ 1
-standard_one rows (by, r, carried) = sym carried.same_length
-
-pub not_by_size : (rows : List Row) → (length rows ≡ 1 → ⊥) → (false ≡ true) ↔ IsStandard rows
-not_by_size rows other = (λ e. absurd (false≢true e), λ s. absurd (other (standard_one rows s)))
-
-pub not_loose : (rows : List Row) (t : ℕ) → IsTable rows → IsLeastUnreached rows t → (false ≡ true) ↔ IsStandard rows
-not_loose rows t table u = (λ e. absurd (false≢true e), λ s. absurd (connected_or_not rows t (standard_connected rows table s) u))
 
 -- its signature tells it
 pub told_by_text : (rows : List Row) (text : List ℕ) (told : Bool) → IsTable rows → IsSignature rows text → (told ≡ true) ↔ (text ≡ sphere_text) → (told ≡ true) ↔ IsStandard rows
 told_by_text rows text told table signature same =
     (λ e. text_standard rows text table signature (same.0 e), λ s. same.1 (standard_text rows text table s signature))
-
--- the move of a descent is accepted
-
-found_passes : {A : Type 0} (p : A → Bool) (xs : List A) (x : A) → find p xs ≡ Some x → p x ≡ true
-found_passes p [] x e = cc
-found_passes {A} p (y ∷ ys) x e = by_test (p y) refl e (λ f. found_passes p ys x f)
-  where
-    by_test : (b : Bool) → p y ≡ b → cond b (Some y) (find p ys) ≡ Some x → (find p ys ≡ Some x → p x ≡ true) → p x ≡ true
-    by_test true t f later = let is : y ≡ x = cc in ap p (sym is) ∙ t
-    by_test false t f later = later f
-
-one_or : {A : Type 0} (o p : Option A) (x : A) → option_or o p ≡ Some x → (o ≡ Some x) ⊎ (p ≡ Some x)
-one_or None p x e = inr e
-one_or (Some y) p x e = inl e
-
-pub descent_accepted : (rows : List Row) (m : Move) → descent_move rows ≡ Some m → play_fault rows m ≡ None
-unfolding descent_move
-descent_accepted rows m e =
-    elim (one_or (find (is_accepted rows) (four_one_moves (length rows))) (find (is_accepted rows) (three_two_moves (length rows))) m e) [
-      | inl f ↦ accepted_none (play_fault rows m) (found_passes (is_accepted rows) (four_one_moves (length rows)) m f)
-      | inr f ↦ accepted_none (play_fault rows m) (found_passes (is_accepted rows) (three_two_moves (length rows)) m f)
-    ]
 
 -- by which of both searches it is found
 pub first_search : (rows : List Row) (vertices : List (List ℕ)) (m : Move) → vertices ≡ map (λ v. v ∷ []) four → Some m ≡ find (is_accepted rows) (moves_with vertices (length rows)) → Some m ≡ descent_move rows

@@ -1,18 +1,15 @@
 -- The first move that is accepted, tetrahedron by tetrahedron.
-use Rattle.std.proofs.Common.{◌≡◌, ℕ, zero, suc, ◌+◌, ◌-◌, ◌<◌, Bool, true, false, cond, List, [], ◌∷◌, ◌++◌, map, Option, Some, None, refl, sym, ap, ◌∙◌, arith}
-use Rattle.std.specs.Prelude.{find, not, nat_lt, is_none}
+use Rattle.std.proofs.Common.{◌≡◌, ℕ, zero, suc, ◌+◌, ◌-◌, ◌<◌, Bool, List, [], ◌∷◌, ◌++◌, map, Option, Some, None, refl, sym, ap, ◌∙◌, arith}
+use Rattle.std.specs.Prelude.{find}
 use Rattle.std.specs.Option.{option_or}
 use Rattle.std.specs.List.{flat_map}
 use Rattle.std.proofs.lemmas.Grind.{flat_map-append}
 use Rattle.std.proofs.lemmas.List.{map-append}
 use Rattle.std.proofs.lemmas.List.Folds.{find-append}
 use Rattle.table_definitions.specs.Lists.{below}
-use Rattle.table_definitions.specs.Table.{max_tets, Row}
 use Rattle.table_definitions.proofs.Bijections.{below-push}
-use Rattle.move_definitions.specs.Moves.{Move, move_fault, new_length}
-use Rattle.move_definitions.specs.declared.MoveFault.{MoveFault}
-use Rattle.move_definitions.specs.declared.MoveFault.TheVariants.{TooMany}
-use Rattle.move_definitions.specs.Certificates.{moves_with, is_accepted}
+use Rattle.move_definitions.specs.Moves.{Move}
+use Rattle.move_definitions.specs.Certificates.{moves_with}
 
 -- the moves of a tetrahedron with these cores
 abbrev pub moves_of : List (List ℕ) → ℕ → List Move
@@ -55,14 +52,3 @@ pub found_none : (p : Move → Bool) (cores : List (List ℕ)) (t : ℕ) → fin
 found_none p cores t none e =
     let next : t + 1 ≡ suc t = omega arith in
     ap (λ k. find p (moves_with cores k)) next ∙ found_next p cores t none ∙ e
-
--- whether a move is accepted
-pub accepted_legal : (rows : List Row) (m : Move) → move_fault rows m ≡ None → is_accepted rows m ≡ not (nat_lt max_tets (new_length rows m))
-accepted_legal rows m e = ap (λ (o : Option MoveFault). is_none (option_or o (cond (nat_lt max_tets (new_length rows m)) (Some TooMany) None))) e ∙ by_test (nat_lt max_tets (new_length rows m))
-  where
-    by_test : (b : Bool) → is_none (cond b (Some TooMany) None) ≡ not b
-    by_test true = refl
-    by_test false = refl
-
-pub refused_illegal : (rows : List Row) (m : Move) (fault : MoveFault) → move_fault rows m ≡ Some fault → is_accepted rows m ≡ false
-refused_illegal rows m fault e = ap (λ (o : Option MoveFault). is_none (option_or o (cond (nat_lt max_tets (new_length rows m)) (Some TooMany) None))) e

@@ -2,40 +2,24 @@
 
 ghost use Rattle.std.specs.Prelude.{◌≡◌, ◌<◌, ◌∷◌, [], length, map, find, not, nat_lt};
 ghost use Rattle.table_definitions.specs.Permutation.{four};
-ghost use Rattle.table_definitions.specs.Places.{edge_ends};
 ghost use Rattle.table_definitions.specs.Table.{max_tets};
 ghost use Rattle.move_definitions.specs.Moves.{new_length};
 ghost use Rattle.move_definitions.specs.Certificates as certificates;
 ghost use Rattle.move_definitions.specs.Certificates.{moves_with};
-ghost use Rattle.pachner_moves.specs.Cores.{core_of};
 
 use gluing_table::{MAX_TETS, Table};
 use pachner_moves::{Core, Move, legal};
-
-/// The core whose vertices are the bits of a mask.
-fn core(mask: u8) -> Core
-    requires some { 0 < mask }
-    requires four_bits { mask < 16 }
-    ensures { result ≡ core_of mask }
-{
-    match Core::new(mask) {
-        Some(core) => core,
-        None => unreachable!(),
-    }
-}
 
 /// The cores of the moves 4-1: each vertex.
 pub fn vertices() -> [Core; 4]
     ensures { result ≡ map (λ v. v ∷ []) four }
 {
-    [core(1), core(2), core(4), core(8)]
-}
-
-/// The cores of the moves 3-2: the ends of each edge.
-pub fn edges() -> [Core; 6]
-    ensures { result ≡ edge_ends }
-{
-    [core(3), core(5), core(9), core(6), core(10), core(12)]
+    [
+        Core::of_mask(1),
+        Core::of_mask(2),
+        Core::of_mask(4),
+        Core::of_mask(8),
+    ]
 }
 
 /// Whether the table to which a move leads has no more tetrahedra than a table may have.

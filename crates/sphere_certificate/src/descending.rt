@@ -7,12 +7,12 @@ ghost use Rattle.move_definitions.specs.Certificates as certificates;
 ghost use Rattle.move_definitions.specs.Certificates.{IsStandard, IsCertificate};
 ghost use Rattle.certificate_definitions.specs.Answers.{IsDescended};
 
-use crate::accepted::{edges, first_accepted, vertices};
+use crate::accepted::{first_accepted, vertices};
 use crate::checking::is_sphere;
 use canonical_labelling::{WalkFault, signature};
 use gluing_table::Table;
 use no_memory::NoMemory;
-use pachner_moves::{Move, apply};
+use pachner_moves::{Core, Move, apply};
 use std::alloc::Global;
 
 /// A descent: whether it reached the standard sphere, its moves, and the table at which it ended.
@@ -44,7 +44,7 @@ fn descent_move(table: &Table) -> Option<Move>
 {
     match first_accepted(table, &vertices()) {
         Some(m) => Some(m),
-        None => first_accepted(table, &edges()),
+        None => first_accepted(table, &Core::edges()),
     }
 }
 

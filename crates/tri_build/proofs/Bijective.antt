@@ -10,8 +10,8 @@ use Rattle.table_definitions.specs.Table.{Gluing}
 use Rattle.table_definitions.specs.Relabelling.{Relabelling, IsRelabelling, stand_in}
 use Rattle.certificate_definitions.specs.CarriedBack.{staying}
 use Rattle.gluing_table.specs.Positions.{is_bad_at, IsFirstBad}
-use Rattle.gluing_table.proofs.Bijections.{there, below-push}
-use Rattle.gluing_table.proofs.Carried.{length-images, images_apart, image_in_range}
+use Rattle.table_definitions.proofs.Bijections.{there, below-push}
+use Rattle.table_definitions.proofs.Carried.{length-images, images_apart, image_in_range}
 
 by_bool : (b : Bool) → (b ≡ true → ⊥) → (b ≡ false → ⊥) → ⊥
 by_bool true t f = t refl

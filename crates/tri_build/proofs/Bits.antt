@@ -5,11 +5,11 @@ use Rattle.std.specs.List.{list_all}
 use Rattle.std.proofs.lemmas.Bool.{ltb-true, and_parts}
 use Rattle.table_definitions.specs.Lists.{has, same_list}
 use Rattle.table_definitions.specs.Permutation.{IsPermutationOfFour, image, words}
-use Rattle.perm_four.proofs.ListFacts.{same_list-true}
-use Rattle.perm_four.proofs.Permutations.{by_words}
+use Rattle.table_definitions.proofs.ListFacts.{same_list-true}
+use Rattle.table_definitions.proofs.Permutations.{by_words}
 use Rattle.move_definitions.specs.Moves.{IsCore}
+use Rattle.move_definitions.proofs.CoreTests.{cores, on_cores}
 use Rattle.certificate_definitions.specs.CarriedMoves.{core_under}
-use Rattle.certificate_laws.proofs.EachCore.{each_core, core_passes}
 use Rattle.pachner_moves.specs.Cores.{core_of}
 
 pub bit_low : (v : ℕ) → v < 4 → (1 * 2 ^ v) % 256 ≤ 8
@@ -29,9 +29,9 @@ mask_test : List ℕ → List ℕ → Bool
 mask_test q core = nat_lt 0 (mask_under q core) && (nat_lt (mask_under q core) 16 && same_list (core_of (mask_under q core)) (core_under q core))
 
 mask_tested : (q core : List ℕ) → IsPermutationOfFour q → IsCore core → mask_test q core ≡ true
-mask_tested q core h c = by_words (λ q. mask_test q core) (core_passes (λ vs. list_all (λ q. mask_test q vs) words) all core c) q h
+mask_tested q core h c = by_words (λ q. mask_test q core) (on_cores (λ vs. list_all (λ q. mask_test q vs) words) all core c) q h
   where
-    all : list_all (λ vs. list_all (λ q. mask_test q vs) words) each_core ≡ true
+    all : list_all (λ vs. list_all (λ q. mask_test q vs) words) cores ≡ true
     all = unfold mask_test in refl
 
 -- it is the mask of a core, which has these vertices

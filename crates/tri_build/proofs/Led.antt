@@ -6,7 +6,7 @@ use Rattle.table_definitions.specs.Lists.{below}
 use Rattle.table_definitions.specs.Permutation.{IsPermutationOfFour}
 use Rattle.table_definitions.specs.Table.{Gluing, Row}
 use Rattle.table_definitions.specs.Relabelling.{Relabelling, IsRelabelling, Carries, stand_in}
-use Rattle.gluing_table.proofs.Carried.{length-images, perm_permutes}
+use Rattle.table_definitions.proofs.Carried.{length-images, perm_permutes}
 use Rattle.move_definitions.specs.Moves.{Move, Facet, facet, kept, new_facet, inverse_move, play_fault, old_facets, Plays}
 use Rattle.move_definitions.specs.declared.MoveFault.{MoveFault}
 use Rattle.certificate_definitions.specs.CarriedMoves.{move_under, by_labels, is_taken}
@@ -14,18 +14,20 @@ use Rattle.certificate_definitions.specs.CarriedBack.{IsCarriedBack, move_back}
 use Rattle.move_laws.proofs.ListedFacets.{same_some}
 use Rattle.move_laws.proofs.Legal.{no_fault}
 use Rattle.move_laws.proofs.Placed.{closed_up_small}
+use Rattle.move_laws.proofs.Played.{played_same}
 use Rattle.pachner_moves.specs.Facets.{IsOldFacet, AreOldFacets}
 use Rattle.pachner_moves.proofs.LegalLaws.{legal_from}
 use Rattle.pachner_moves.proofs.ListedLaws.{are_old}
 use Rattle.pachner_moves.proofs.CodeLaws.{old_found}
 use Rattle.certificate_laws.proofs.BackLabels.{IsSteppedOn, carried_inverse, back_labels}
 use Rattle.certificate_laws.proofs.StepBack.{IsLedBack, led_back_by}
-use Rattle.certificate_laws.proofs.CarriedWays.{stepped, led_same}
+use Rattle.certificate_laws.proofs.CarriedWays.{stepped}
+use Rattle.certificate_laws.proofs.OneWay.{correspond_once}
 use Rattle.tri_build.specs.Steps.{Step, IsBefore, GoesBack}
 use Rattle.tri_build.specs.Standing.{Back, IsBack, number_without, put_in, stands_by, stands_at, CanStandBy, StandsFor}
 use Rattle.tri_build.proofs.Bijective.{are_of}
 use Rattle.tri_build.proofs.Found.{find_at, none_has, found_tet}
-use Rattle.tri_build.proofs.Correspondence.{correspond_once, back_corresponds, labels_are}
+use Rattle.tri_build.proofs.Correspondence.{back_corresponds, labels_are}
 
 abbrev stepped_on : (old : List Row) (step : Step) (now : List Row) (on : Relabelling) → (b : IsBefore old step now on) → IsSteppedOn old step.played b.new now on
 stepped_on old step now on b = stepped old step.played b.new now on b.is_step.plays b.relabels b.carries
@@ -166,7 +168,7 @@ gone_back old step now on back m before after end by b k e moves plays one =
     let is : m ≡ move_back old step.played on = played_is old step now on back m b k e in
     let same : by ≡ l.by = one l.by l.stands in
     let leads : Plays now (move_back old step.played on) end = subst (λ (q : Move). Plays now q end) is plays in
-    let ends : end ≡ l.end = led_same now (move_back old step.played on) end l.end leads l.plays in
+    let ends : end ≡ l.end = played_same now (move_back old step.played on) end l.end leads l.plays in
     record {
       moves = moves ∙ ap (λ (q : Move). before ++ q ∷ []) is;
       plays = leads;

@@ -9,7 +9,7 @@ use Rattle.table_definitions.specs.Lists.{below}
 use Rattle.table_definitions.specs.Permutation.{four, others}
 use Rattle.table_definitions.specs.Places.{edge_ends}
 use Rattle.table_definitions.specs.Table.{Row}
-use Rattle.gluing_table.proofs.Bijections.{below-push}
+use Rattle.table_definitions.proofs.Bijections.{below-push}
 use Rattle.move_definitions.specs.Moves.{Move}
 use Rattle.move_definitions.specs.Certificates.{moves_with, is_accepted, two_three_moves, three_two_moves, one_four_moves, or_these, candidates}
 use Rattle.tri_build.specs.Candidates.{moves_at}

@@ -2,10 +2,8 @@
 
 ghost use Rattle.std.specs.Prelude.{◌≡◌, ◌∷◌, ◌++◌, ◌<◌, [], length, map, filter, IfOk, OnOk};
 ghost use Rattle.table_definitions.specs.Permutation.{four, others};
-ghost use Rattle.table_definitions.specs.Places.{edge_ends};
 ghost use Rattle.move_definitions.specs.Certificates as certificates;
 ghost use Rattle.move_definitions.specs.Certificates.{moves_with};
-ghost use Rattle.pachner_moves.specs.Cores.{core_of};
 ghost use Rattle.tri_build.specs.Candidates.{moves_at};
 
 use gluing_table::{MAX_TETS, Table};
@@ -13,30 +11,16 @@ use no_memory::NoMemory;
 use pachner_moves::{Core, Move, legal};
 use std::alloc::Global;
 
-/// The core whose vertices are the bits of a mask.
-pub fn core(mask: u8) -> Core
-    requires some { 0 < mask }
-    requires four { mask < 16 }
-    ensures { result ≡ core_of mask }
-{
-    match Core::new(mask) {
-        Some(core) => core,
-        None => unreachable!(),
-    }
-}
-
 /// The vertices of each face, by the vertex opposite it.
 fn faces() -> [Core; 4]
     ensures { result ≡ map others four }
 {
-    [core(14), core(13), core(11), core(7)]
-}
-
-/// The ends of each edge, by its number.
-fn edges() -> [Core; 6]
-    ensures { result ≡ edge_ends }
-{
-    [core(3), core(5), core(9), core(6), core(10), core(12)]
+    [
+        Core::of_mask(14),
+        Core::of_mask(13),
+        Core::of_mask(11),
+        Core::of_mask(7),
+    ]
 }
 
 /// Whether `apply` accepts a move.
@@ -77,9 +61,9 @@ pub fn candidates(alloc: Global, table: &Table) -> Result<Vec<Move>, NoMemory>
 {
     let mut moves = Vec::new(alloc);
     append_accepted(&mut moves, table, &faces())?;
-    append_accepted(&mut moves, table, &edges())?;
+    append_accepted(&mut moves, table, &Core::edges())?;
     if moves.is_empty() {
-        append_accepted(&mut moves, table, &[core(15)])?;
+        append_accepted(&mut moves, table, &[Core::of_mask(15)])?;
     }
     Ok(moves)
 }

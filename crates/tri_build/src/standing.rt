@@ -1,6 +1,6 @@
 //! What stands for a tetrahedron of the table before a step, once the move back is played.
 
-ghost use Rattle.std.specs.Prelude.{◌≡◌, ◌<◌, ◌≤◌, ◌==◌, length, map, find, not, filter, slice_index, All};
+ghost use Rattle.std.specs.Prelude.{◌≡◌, ◌<◌, ◌≤◌, ◌==◌, length, map, not, filter, slice_index, All};
 ghost use Rattle.table_definitions.specs.Lists.{below};
 ghost use Rattle.table_definitions.specs.Permutation.{preimage};
 ghost use Rattle.tri_build.specs.Standing.{CanStand, CanStandAt, number_without, put_in, kept_stands, facet_stands, stands_at};
@@ -8,7 +8,7 @@ ghost use Rattle.tri_build.specs.Standing.{CanStand, CanStandAt, number_without,
 use crate::steps::Step;
 use arrayvec::ArrayVec;
 use gluing_table::{Glue, Relabelling};
-use pachner_moves::{Facet, Move};
+use pachner_moves::{Facet, Move, closed_number, facet_of};
 use perm_four::Perm4;
 use std::marker::Model;
 
@@ -30,15 +30,6 @@ impl Model for Back {
     ghost view = { λ b. record { played = b.played; kept = b.kept; facets = b.facets.items; labels = b.labels } };
 }
 
-/// The number of a tetrahedron once facets are taken out.
-fn number_without(facets: &[Facet], tet: u32) -> u32
-    requires { length facets.now ≤ 4 }
-    ensures { result ≡ number_without facets.now tet }
-{
-    let before = facets.iter().filter(|f| f.tet < tet).count();
-    tet.saturating_sub(before as u32)
-}
-
 /// The vertex with a label of the facet that lacks one, or 4.
 fn vertex_without(missing: u8, label: u8) -> u8
     requires missing { missing < 5 }
@@ -56,9 +47,9 @@ fn kept_stands(step: &Step, back: &Back, on: &Relabelling, tet: u32) -> Glue
     requires { number_without step.now.facets tet < length on.now.images }
     ensures { result ≡ kept_stands step.now back.now on.now tet }
 {
-    let tet = number_without(&step.facets, tet);
+    let tet = closed_number(&step.facets, tet);
     Glue {
-        tet: number_without(&back.facets, on.image(tet)),
+        tet: closed_number(&back.facets, on.image(tet)),
         perm: on.perm(tet),
     }
 }
@@ -93,18 +84,6 @@ fn facet_stands(back: &Back, f: Facet) -> Glue
         },
         None => unreachable!(),
     }
-}
-
-/// The facet of a tetrahedron.
-fn facet_of(facets: &[Facet], tet: u32) -> Option<Facet>
-    ensures { result ≡ find (λ f. f.tet == tet) facets.now }
-{
-    for facet in facets {
-        if facet.tet == tet {
-            return Some(*facet);
-        }
-    }
-    None
 }
 
 /// What stands for a tetrahedron.

@@ -103,17 +103,6 @@ impl WayBack {
     }
 }
 
-/// The permutation that leaves each vertex where it is.
-#[tactic(auto, unfolding(table_definitions::specs::Permutation::is_permutation))]
-fn unmoved() -> Perm4
-    ensures { result ≡ identity }
-{
-    match Perm4::new(0, 1, 2, 3) {
-        Some(perm) => perm,
-        None => unreachable!(),
-    }
-}
-
 /// The relabelling by which each of so many tetrahedra stays.
 fn staying(alloc: Global, count: u32) -> Result<Relabelling, NoMemory>
     requires { count ≤ 1000 }
@@ -123,7 +112,7 @@ fn staying(alloc: Global, count: u32) -> Result<Relabelling, NoMemory>
     let mut perms = Vec::new(alloc);
     for tet in 0..count {
         images.push(tet)?;
-        perms.push(unmoved())?;
+        perms.push(Perm4::identity())?;
     }
     relabelling_of(alloc, &images, &perms)
 }

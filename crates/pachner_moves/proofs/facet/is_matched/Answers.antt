@@ -2,7 +2,7 @@ use Rattle.std.proofs.Common.{ap, ◌∙◌, List, ℕ}
 use Rattle.table_definitions.specs.Table.{Gluing, glue}
 use Rattle.table_definitions.specs.Permutation.{compose}
 use Rattle.move_definitions.specs.Moves.{Facet, opposite}
-use Rattle.perm_four.proofs.ListFacts.{pointwise-same_list}
+use Rattle.table_definitions.proofs.ListFacts.{pointwise-same_list}
 use Rattle.pachner_moves.proofs.MatchLaws.{matched}
 use Rattle.pachner_moves.proofs.facet.is_matched.Goals as goal
 

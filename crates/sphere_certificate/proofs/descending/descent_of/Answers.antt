@@ -1,6 +1,7 @@
 -- Each turn plays the move of the descent, which lessens the table, and the last one has none.
 use Rattle.certificate_laws.proofs.Descents.{descents_lessen_lem}
-use Rattle.sphere_certificate.proofs.Descents.{descent_accepted, goes_on, ends_here, one_more, ended, ended_certifies, ended_fewer}
+use Rattle.certificate_laws.proofs.Answered.{descent_accepted}
+use Rattle.sphere_certificate.proofs.Descents.{goes_on, ends_here, one_more, ended, ended_certifies, ended_fewer}
 use Rattle.sphere_certificate.proofs.descending.descent_of.Goals as goal
 
 pub play-requires : goal.play-requires

@@ -10,7 +10,7 @@ use Rattle.tri_build.proofs.way_back.staying.Goals as goal
 pub loop-tet-preserved : goal.loop-tet-preserved
 loop-tet-preserved c = (
   stays_more c.loop-tet.images.items c.push.new.self.items c.loop-tet.tet c.loop-tet.invariant.0 c.in_ok-push.ensures.items,
-  one_more (λ t. identity) c.loop-tet.perms.items c.push-in-loop-tet.new.self.items c.loop-tet.tet _ c.loop-tet.invariant.1 c.in_ok-push-2.ensures.items c.unmoved.ensures,
+  one_more (λ t. identity) c.loop-tet.perms.items c.push-in-loop-tet.new.self.items c.loop-tet.tet _ c.loop-tet.invariant.1 c.in_ok-push-2.ensures.items c.identity.ensures,
 )
 
 pub relabelling_of-requires-clause-few : goal.relabelling_of-requires-clause-few

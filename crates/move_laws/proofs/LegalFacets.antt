@@ -1,34 +1,21 @@
 -- A move whose facets are there, apart, and glued label by label has no fault.
-use Rattle.std.proofs.Common.{◌≡◌, ℕ, zero, suc, ◌<◌, ◌≤◌, Bool, true, false, List, [], ◌∷◌, length, map, drop, Option, Some, None, refl, ap, ◌∙◌, arith, inl, inr}
+use Rattle.std.proofs.Common.{◌≡◌, ℕ, zero, suc, ◌<◌, ◌≤◌, Bool, true, false, List, length, map, drop, Option, Some, None, refl, ap, ◌∙◌, arith, inl, inr}
 use Rattle.std.specs.Prelude.{◌==◌, ◌≢◌, nat_lt, filter, if◌then◌else◌}
-use Rattle.std.specs.Option.{option_or}
 use Rattle.std.proofs.lemmas.Bool.{eqb-true, eq-eqb, lt-ltb, ltb-true, and_from, or_cases}
-use Rattle.table_definitions.specs.Lists.{has, same_list, in_place_of, first_some, pairs_of}
+use Rattle.table_definitions.specs.Lists.{has, same_list, in_place_of, pairs_of}
 use Rattle.table_definitions.specs.Permutation.{four, compose}
 use Rattle.table_definitions.specs.Table.{Row, glue}
-use Rattle.table_definitions.proofs.TableLaws.{Among}
+use Rattle.table_definitions.proofs.TableLaws.{Among, four-among}
+use Rattle.table_definitions.proofs.Listed.{filter-among, pairs-among, first_some-nowhere}
 use Rattle.move_definitions.specs.Moves.{Move, IsCore, Facet, own_facet, opposite, facet, found_labels, tets_before, facet_fault, pair_fault, is_matched, move_fault}
 use Rattle.move_definitions.specs.declared.MoveFault.TheVariants.{Repeated, NotMatched}
-use Rattle.perm_four.proofs.ListFacts.{same_list-refl}
-use Rattle.move_laws.proofs.CoreTests.{core_size}
+use Rattle.table_definitions.proofs.ListFacts.{same_list-refl}
+use Rattle.move_definitions.proofs.CoreTests.{core_size}
 use Rattle.move_laws.proofs.ListedFacets.{tets_of, IsOf, facet_with}
 use Rattle.move_laws.proofs.Matched.{AreGlued}
-use Rattle.move_laws.proofs.InverseFacets.{filtered, paired}
-
-nowhere : {A B : Type 0} (f : A → Option B) (xs : List A) → ((x : A) → Among x xs → f x ≡ None) → first_some f xs ≡ None
-nowhere f [] none = refl
-nowhere {A} {B} f (x ∷ xs) none =
-    ap (λ (o : Option B). option_or o (first_some f xs)) (none x (inl refl)) ∙ nowhere f xs (λ y a. none y (inr a))
-
-four_range : (i : ℕ) → Among i four → (0 ≤ i) × (i < 4)
-four_range i (inl e) = (omega arith, omega arith)
-four_range i (inr (inl e)) = (omega arith, omega arith)
-four_range i (inr (inr (inl e))) = (omega arith, omega arith)
-four_range i (inr (inr (inr (inl e)))) = (omega arith, omega arith)
-four_range i (inr (inr (inr (inr e)))) = absurd e
 
 found_range : (s i : ℕ) → s < 5 → Among i (drop s four) → (s ≤ i) × (i < 4)
-found_range zero i l a = four_range i a
+found_range zero i l a = (omega arith, four-among i a)
 found_range (suc zero) i l (inl e) = (omega arith, omega arith)
 found_range (suc zero) i l (inr (inl e)) = (omega arith, omega arith)
 found_range (suc zero) i l (inr (inr (inl e))) = (omega arith, omega arith)
@@ -56,7 +43,7 @@ new_tet rows m c h i f low high e = by_test (has (tets_before rows m i) f.tet) r
 
     not_found : IsOf (facet rows m) (filter (λ l. nat_lt l i) (found_labels m)) f.tet → ⊥
     not_found o =
-        let a : Among o.label (found_labels m) × (nat_lt o.label i ≡ true) = filtered (λ l. nat_lt l i) o.label (found_labels m) o.among in
+        let a : Among o.label (found_labels m) × (nat_lt o.label i ≡ true) = filter-among (λ l. nat_lt l i) o.label (found_labels m) o.among in
         let less : o.label < i = ltb-true o.label i a.1 in
         let r : (length m.core ≤ o.label) × (o.label < 4) = found_range (length m.core) o.label (core_size m.core c).1 a.0 in
         let same : o.label ≡ i = h.apart o.label i o.facet f r.0 (let l = r.1 in omega arith) low (omega arith) o.is e o.tet in
@@ -88,8 +75,8 @@ matched rows i k f g ei ek a =
 pair_fine : (rows : List Row) (m : Move) → IsCore m.core → AreFacets rows m → (q : ℕ × ℕ) → Among {A = ℕ × ℕ} q (filter (λ (p : ℕ × ℕ). nat_lt p.0 p.1) (pairs_of (found_labels m) (found_labels m)))
     → pair_fault rows (facet rows m q.0) (facet rows m q.1) ≡ None
 pair_fine rows m c h q a =
-    let t : Among {A = ℕ × ℕ} q (pairs_of (found_labels m) (found_labels m)) × (nat_lt q.0 q.1 ≡ true) = filtered (λ (p : ℕ × ℕ). nat_lt p.0 p.1) q (pairs_of (found_labels m) (found_labels m)) a in
-    let both = paired (found_labels m) (found_labels m) q t.0 in
+    let t : Among {A = ℕ × ℕ} q (pairs_of (found_labels m) (found_labels m)) × (nat_lt q.0 q.1 ≡ true) = filter-among (λ (p : ℕ × ℕ). nat_lt p.0 p.1) q (pairs_of (found_labels m) (found_labels m)) a in
+    let both = pairs-among q (found_labels m) (found_labels m) t.0 in
     let less : q.0 < q.1 = ltb-true q.0 q.1 t.1 in
     let r : (length m.core ≤ q.0) × (q.0 < 4) = found_range (length m.core) q.0 (core_size m.core c).1 both.0 in
     let r' : (length m.core ≤ q.1) × (q.1 < 4) = found_range (length m.core) q.1 (core_size m.core c).1 both.1 in
@@ -103,6 +90,6 @@ pair_fine rows m c h q a =
 pub legal_from : (rows : List Row) (m : Move) → IsCore m.core → AreFacets rows m → move_fault rows m ≡ None
 unfolding move_fault
 legal_from rows m c h =
-    let facets = nowhere (λ i. facet_fault rows m i (facet rows m i)) (found_labels m) (λ i a. facet_fine rows m c h i a) in
-    let pairs = nowhere (λ (q : ℕ × ℕ). pair_fault rows (facet rows m q.0) (facet rows m q.1)) (filter (λ (p : ℕ × ℕ). nat_lt p.0 p.1) (pairs_of (found_labels m) (found_labels m))) (λ q a. pair_fine rows m c h q a) in
+    let facets = first_some-nowhere (λ i. facet_fault rows m i (facet rows m i)) (found_labels m) (λ i a. facet_fine rows m c h i a) in
+    let pairs = first_some-nowhere (λ (q : ℕ × ℕ). pair_fault rows (facet rows m q.0) (facet rows m q.1)) (filter (λ (p : ℕ × ℕ). nat_lt p.0 p.1) (pairs_of (found_labels m) (found_labels m))) (λ q a. pair_fine rows m c h q a) in
     rw (lt-ltb m.tet (length rows) h.in_range, facets, pairs) refl
