@@ -4,14 +4,15 @@ use Rattle.std.specs.Prelude.{◌↔◌}
 use Rattle.std.proofs.lemmas.List.{length-append}
 use Rattle.text_definitions.specs.Text.{Line, lines_of}
 use Rattle.text_definitions.specs.Reading.{Reading, ◌>>=◌, begun, need_line_at, start_of}
+use Rattle.text_definitions.proofs.Readers.{bind_ok}
 use Rattle.table_definitions.specs.Table.{Row}
 use Rattle.signature_definitions.specs.declared.InputFault.{InputFault}
 use Rattle.signature_definitions.specs.SignatureText.{any_table_at}
 use Rattle.signature_definitions.specs.Grammar.{AreTableLines}
 use Rattle.document_definitions.specs.Documents.{next_table_at, tables_on, tables_from, tables_document}
 use Rattle.document_definitions.specs.Grammar.{AreTables}
-use Rattle.table_definitions.proofs.ReadingLaws.{bind_ok, ok_parts}
-use Rattle.document_laws.proofs.LineLaws.{line_found}
+use Rattle.table_definitions.proofs.ReadingLaws.{ok_parts}
+use Rattle.table_definitions.proofs.LineLaws.{line_found}
 use Rattle.document_laws.proofs.Tables.{worded_with, table_blocks}
 
 abbrev Table : Type 0

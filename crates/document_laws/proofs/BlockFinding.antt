@@ -10,8 +10,8 @@ use Rattle.surface_definitions.specs.Laws.{ReadsVector}
 use Rattle.sum_definitions.specs.Sums.{Term}
 use Rattle.document_definitions.specs.Blocks.{Block, most_terms, term_at, terms_at, times_at, block_at, IsTermLine, IsTimesLine, AreBlockLines}
 use Rattle.table_definitions.proofs.ReadingLaws.{with_tokens, behind, one_number, exactly_found, FindsNumbers, numbers_found}
+use Rattle.table_definitions.proofs.LineLaws.{line_found, end_found, FirstWord, first_word, no_words}
 use Rattle.surface_definitions.proofs.VectorLaws.{vector_found}
-use Rattle.document_laws.proofs.LineLaws.{line_found, end_found, FirstWord, first_word, no_words}
 use Rattle.document_laws.proofs.BlockReading.{after_count, after_term, on_term_line, after_end, after_many, after_number, after_times, on_times_line, after_vector}
 
 abbrev Numbers : Type 0

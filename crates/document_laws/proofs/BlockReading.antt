@@ -6,13 +6,14 @@ use Rattle.text_definitions.specs.Text.{Token, word, Line}
 use Rattle.text_definitions.specs.Written.{limit}
 use Rattle.text_definitions.specs.declared.LexFault.{LexFault}
 use Rattle.text_definitions.specs.Reading.{Reading, ◌>>=◌, need_line_at, end_line_at, number_at, numbers_at, exactly_at}
+use Rattle.text_definitions.proofs.Readers.{bind_ok}
 use Rattle.table_definitions.specs.Grammar.{AreWords}
 use Rattle.cone_text_definitions.specs.VectorText.{vector_at}
 use Rattle.sum_definitions.specs.Sums.{Term}
 use Rattle.document_definitions.specs.Blocks.{Block, most_terms, term_at, terms_at, times_at, block_at, IsTermLine, IsTimesLine, AreBlockLines}
-use Rattle.table_definitions.proofs.ReadingLaws.{bind_ok, ok_parts, with_tokens, behind, TakesWord, TakesNumber, TakesNumbers, number_read, numbers_read, exactly_read}
+use Rattle.table_definitions.proofs.ReadingLaws.{ok_parts, with_tokens, behind, TakesWord, TakesNumber, TakesNumbers, number_read, numbers_read, exactly_read}
+use Rattle.table_definitions.proofs.LineLaws.{BeginsLine, line_begun, line_ended}
 use Rattle.surface_definitions.proofs.VectorLaws.{VectorRead, vector_read}
-use Rattle.document_laws.proofs.LineLaws.{BeginsLine, line_begun, line_ended}
 
 abbrev One : Type 0
 One = Term × Reading

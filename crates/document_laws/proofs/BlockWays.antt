@@ -1,8 +1,6 @@
 -- A block of a sum: what stands before a fault can be gone on with to the text of one.
-use Rattle.std.proofs.Common.{◌≡◌, ℕ, zero, suc, List, [], ◌∷◌, Result, Ok, refl, sym, subst}
+use Rattle.std.proofs.Common.{◌≡◌, ℕ, zero, suc, List, [], ◌∷◌, Ok, refl, sym, subst}
 use Rattle.std.specs.Prelude.{⊤, codes}
-use Rattle.text_definitions.specs.declared.LexKind.{LexKind}
-use Rattle.text_definitions.specs.Text.{decimal_value}
 use Rattle.text_definitions.specs.Written.{limit}
 use Rattle.text_definitions.specs.Reading.{Reading, ◌>>=◌, need_line_at, end_line_at, number_at, numbers_at, exactly_at}
 use Rattle.text_definitions.proofs.Readers.{numbers_at-end}
@@ -14,9 +12,9 @@ use Rattle.document_laws.proofs.BlockReading.{after_count, after_term, on_term_l
 use Rattle.document_laws.proofs.Local.{shows, Goes, goes_chained, goes_pure}
 use Rattle.document_laws.proofs.LocalWords.{as_is, word_with, ending, goes_word, goes_end}
 use Rattle.document_laws.proofs.LocalLines.{next_line, goes_line}
-use Rattle.document_laws.proofs.LocalForms.{number_test, number_word, exact_test, exact_word, goes_number, goes_numbers, goes_vector}
-use Rattle.document_laws.proofs.Ways.{Sat, From, Alike, alike_goes, Well, WellOpen, Free, sat_both, well_free, well_goes, well_open, well_behind, free_same, sat_same, well_same, from_sat, sat_mapped, well_mapped}
-use Rattle.document_laws.proofs.WordWays.{free_word, sat_word, well_word, sat_end, well_end, free_line, well_line}
+use Rattle.document_laws.proofs.LocalForms.{exact_test, exact_word, goes_number, goes_numbers, goes_vector}
+use Rattle.document_laws.proofs.Ways.{Sat, From, Alike, alike_goes, Well, WellOpen, sat_both, well_free, well_goes, well_open, well_behind, from_sat, sat_mapped, well_mapped}
+use Rattle.document_laws.proofs.WordWays.{free_word, sat_word, well_word, sat_end, well_end, free_line, well_line, free_number, sat_number, well_number}
 use Rattle.document_laws.proofs.VectorWays.{well_numbers_in, well_vector}
 use Rattle.document_laws.proofs.TextReaders.{Read, left_only, shown_only, Copies, copy_bind, copy_then, copy_same, copy_alone}
 use Rattle.document_laws.proofs.TextWays.{SatBehind, in_next_line, behind_both}
@@ -155,28 +153,6 @@ pub goes_block : (c : Reading) → Goes block_text c
 unfolding block_text
 goes_block c = goes_chained vector_at (λ v. times_line) c (goes_vector c) (λ v d e. goes_times d)
 
--- a number, of which 0 is one
-module _ (max : ℕ) (passes : number_test (λ n. n) max (decimal_value (codes "0")) ≡ Ok 0) where
-  abbrev test : List ℕ → Result ℕ LexKind
-  test w = number_test (λ n. n) max (decimal_value w)
-
-  free_max : (c : Reading) → Free (number_at max) c
-  free_max c = free_same (word_with test) (number_at max) (number_word max) c (free_word test c)
-
-  sat_max : (Aim : ℕ → List Sign → Type 0) (k : Reading) → Aim 0 (shows k) → Sat (number_at max) Aim
-  sat_max Aim k a = sat_same (word_with test) (number_at max) Aim (number_word max) (sat_word test (codes "0") 0 passes Aim k a)
-
-  well_max : (Aim : ℕ → List Sign → Type 0) (c k : Reading) → Aim 0 (shows k) → Well as_is (number_at max) Aim c
-  well_max Aim c k a = well_same as_is (word_with test) (number_at max) Aim (number_word max) c (well_word test Aim c (sat_word test (codes "0") 0 passes Aim k a))
-
-naught : number_test (λ n. n) limit (decimal_value (codes "0")) ≡ Ok 0
-unfolding number_test
-naught = refl
-
-naught_terms : number_test (λ n. n) most_terms (decimal_value (codes "0")) ≡ Ok 0
-unfolding number_test
-naught_terms = refl
-
 term_passes : exact_test (codes "term") (codes "term") ≡ Ok tt
 unfolding exact_test
 term_passes = refl
@@ -224,11 +200,11 @@ module _ (Aim : ⊤ → List Sign → Type 0) (k : Reading) (none : k.current.to
   ThenEntries n ss = From entries_text Aim ss
 
   sat_count : Sat count_text Aim
-  sat_count = sat_both as_is (number_at limit) (λ n. entries_text) Aim (λ n. alike_entries) (sat_max limit naught ThenEntries sat_entries.start (from_sat entries_text Aim sat_entries))
+  sat_count = sat_both as_is (number_at limit) (λ n. entries_text) Aim (λ n. alike_entries) (sat_number limit ThenEntries sat_entries.start (from_sat entries_text Aim sat_entries))
 
   well_count : (c : Reading) → Well as_is count_text Aim c
   well_count c =
-      well_free as_is (number_at limit) (λ n. entries_text) Aim (λ n. alike_entries) c (free_max limit naught c) (well_max limit naught ThenEntries c sat_entries.start (from_sat entries_text Aim sat_entries)) (λ n d e. well_entries d)
+      well_free as_is (number_at limit) (λ n. entries_text) Aim (λ n. alike_entries) c (free_number limit c) (well_number limit ThenEntries c sat_entries.start (from_sat entries_text Aim sat_entries)) (λ n d e. well_entries d)
 
   abbrev ThenCount : ⊤ → List Sign → Type 0
   ThenCount u ss = From count_text Aim ss
@@ -291,20 +267,20 @@ module _ (Aim : ⊤ → List Sign → Type 0) (k : Reading) (none : k.current.to
   from_none = from_sat (counted 0) Aim (sat_counted 0)
 
   sat_many : Sat many_text Aim
-  sat_many = sat_both as_is (number_at most_terms) counted Aim alike_counted (sat_max most_terms naught_terms ThenCounted (sat_counted 0).start from_none)
+  sat_many = sat_both as_is (number_at most_terms) counted Aim alike_counted (sat_number most_terms ThenCounted (sat_counted 0).start from_none)
 
   well_many : (c : Reading) → Well as_is many_text Aim c
-  well_many c = well_free as_is (number_at most_terms) counted Aim alike_counted c (free_max most_terms naught_terms c) (well_max most_terms naught_terms ThenCounted c (sat_counted 0).start from_none) (λ n d e. well_counted n d)
+  well_many c = well_free as_is (number_at most_terms) counted Aim alike_counted c (free_number most_terms c) (well_number most_terms ThenCounted c (sat_counted 0).start from_none) (λ n d e. well_counted n d)
 
   abbrev ThenMany : ℕ → List Sign → Type 0
   ThenMany n ss = From many_text Aim ss
 
   sat_times_text : Sat times_text Aim
-  sat_times_text = sat_both as_is (number_at limit) (λ n. many_text) Aim (λ n. alike_many) (sat_max limit naught ThenMany sat_many.start (from_sat many_text Aim sat_many))
+  sat_times_text = sat_both as_is (number_at limit) (λ n. many_text) Aim (λ n. alike_many) (sat_number limit ThenMany sat_many.start (from_sat many_text Aim sat_many))
 
   well_times_text : (c : Reading) → Well as_is times_text Aim c
   well_times_text c =
-      well_free as_is (number_at limit) (λ n. many_text) Aim (λ n. alike_many) c (free_max limit naught c) (well_max limit naught ThenMany c sat_many.start (from_sat many_text Aim sat_many)) (λ n d e. well_many d)
+      well_free as_is (number_at limit) (λ n. many_text) Aim (λ n. alike_many) c (free_number limit c) (well_number limit ThenMany c sat_many.start (from_sat many_text Aim sat_many)) (λ n d e. well_many d)
 
   abbrev ThenTimes : ⊤ → List Sign → Type 0
   ThenTimes u ss = From times_text Aim ss

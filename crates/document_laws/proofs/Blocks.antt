@@ -5,8 +5,9 @@ use Rattle.std.proofs.lemmas.List.{append-nil, append_assoc}
 use Rattle.text_definitions.specs.Text.{Line, lines_of}
 use Rattle.text_definitions.specs.declared.LexFault.{LexFault}
 use Rattle.text_definitions.specs.Reading.{Reading, ◌>>=◌, begun, start_of}
+use Rattle.text_definitions.proofs.Readers.{bind_ok}
 use Rattle.document_definitions.specs.Documents.{no_line_at, each_line_from}
-use Rattle.table_definitions.proofs.ReadingLaws.{bind_ok, ok_parts}
+use Rattle.table_definitions.proofs.ReadingLaws.{ok_parts}
 use Rattle.document_laws.proofs.LineLaws.{HaveTokens, lines_have_tokens, rest_has_tokens, no_line_left, no_line_found}
 
 -- the next lines are read exactly where they have the form

@@ -4,19 +4,14 @@ use Rattle.std.specs.Prelude.{codes}
 use Rattle.std.specs.List.{AllZip}
 use Rattle.text_definitions.specs.Text.{Token, word, stray, Line}
 use Rattle.text_definitions.specs.declared.LexFault.{LexFault}
-use Rattle.text_definitions.specs.Reading.{Reading, ◌>>=◌, begun, need_line_at, end_line_at, number_at}
+use Rattle.text_definitions.specs.Reading.{Reading, ◌>>=◌, begun, need_line_at, end_line_at}
 use Rattle.table_definitions.specs.Grammar.{AreWords, IsNumber, IsSigned}
 use Rattle.cone_text_definitions.specs.ConeText.{Cone, coefficients_at, cone_row_at, cone_rows_at, rows_of_cone_at, cone_at}
 use Rattle.document_definitions.specs.ConeGrammar.{IsCoefficientLine, AreConeRows, AreConeLines}
 use Rattle.table_definitions.proofs.ReadingLaws.{with_tokens, behind, one_number, exactly_found}
-use Rattle.document_laws.proofs.LineLaws.{with_later, line_found, end_found, FirstWord, first_word, no_words}
+use Rattle.table_definitions.proofs.LineLaws.{with_later, line_found, end_found, FirstWord, first_word, no_words}
 use Rattle.document_laws.proofs.SignedLaws.{signed_found}
-
-abbrev Row : Type 0
-Row = List ℤ × Reading
-
-abbrev Rows : Type 0
-Rows = List (List ℤ) × Reading
+use Rattle.document_laws.proofs.ConeSteps.{Row, Rows, Number, after_line, after_end, after_count, after_columns, after_name}
 
 -- coefficients to the end of a line are read
 record CoefficientsFound (ts : List Token) (c : Reading) (row : List ℤ) : Type 0 where
@@ -51,9 +46,6 @@ record RowFound (columns : ℕ) (c : Reading) (row : List ℤ) (ls : List Line) 
   read : cone_row_at columns c ≡ Ok (row, left)
   later : left.later ≡ ls
   at_end : left.current.tokens ≡ []
-
-abbrev after_line : ℕ → Reading → Result Row LexFault
-after_line columns x = coefficients_at columns x >>= λ (r : Row). end_line_at r.1 >>= λ (end : Reading). Ok (r.0, end)
 
 row_found : (l : Line) (ls : List Line) (row : List ℤ) (columns : ℕ) (c : Reading) → IsCoefficientLine columns l row → RowFound columns (with_later (l ∷ ls) c) row ls
 unfolding cone_row_at
@@ -124,21 +116,6 @@ pub record ConeFound (c : Reading) (cone : Cone) (rest : List Line) : Type 0 whe
   pub read : cone_at c ≡ Ok (cone, left)
   pub later : left.later ≡ rest
   pub at_end : left.current.tokens ≡ []
-
-abbrev Number : Type 0
-Number = ℕ × Reading
-
-abbrev after_end : ℕ → ℕ → Reading → Result (Cone × Reading) LexFault
-after_end columns n end = rows_of_cone_at columns n end >>= λ (rows : Rows). Ok (record { columns = columns; rows = rows.0 }, rows.1)
-
-abbrev after_count : ℕ → Number → Result (Cone × Reading) LexFault
-after_count columns n = end_line_at n.1 >>= after_end columns n.0
-
-abbrev after_columns : Number → Result (Cone × Reading) LexFault
-after_columns columns = number_at 10000 columns.1 >>= after_count columns.0
-
-abbrev after_name : Reading → Result (Cone × Reading) LexFault
-after_name named = number_at 10000 named >>= after_columns
 
 cone_of_words : (k1 k2 k3 : ℕ) (w1 w2 w3 : List ℕ) (cone : Cone) (rest : List Line) (c : Reading) → w1 ≡ codes "cone" → IsNumber 10000 w2 cone.columns → IsNumber 10000 w3 (length cone.rows)
     → ConeRowsFound cone.columns (with_tokens [] (behind k3 (behind k2 (behind k1 c)))) cone.rows rest → ConeFound (with_tokens (word k1 w1 ∷ word k2 w2 ∷ word k3 w3 ∷ []) c) cone rest

@@ -6,12 +6,14 @@ use Rattle.std.proofs.lemmas.List.{length-replicate}
 use Rattle.text_definitions.specs.Text.{Token, word, Line}
 use Rattle.text_definitions.specs.declared.LexFault.{LexFault}
 use Rattle.text_definitions.specs.Reading.{Reading, ◌>>=◌, need_line_at, end_line_at, number_at, signed_at, exactly_at}
+use Rattle.text_definitions.proofs.Readers.{bind_ok}
 use Rattle.table_definitions.specs.Grammar.{AreWords, IsNumber, IsSigned}
 use Rattle.cone_text_definitions.specs.ConeText.{Cone, coefficients_at, cone_row_at, cone_rows_at, rows_of_cone_at, cone_at}
 use Rattle.document_definitions.specs.ConeGrammar.{IsCoefficientLine, AreConeRows, AreConeLines}
-use Rattle.table_definitions.proofs.ReadingLaws.{bind_ok, ok_parts, with_tokens, behind, TakesWord, TakesNumber, number_read, exactly_read}
-use Rattle.document_laws.proofs.LineLaws.{BeginsLine, line_begun, line_ended}
+use Rattle.table_definitions.proofs.ReadingLaws.{ok_parts, with_tokens, behind, TakesWord, TakesNumber, number_read, exactly_read}
+use Rattle.table_definitions.proofs.LineLaws.{BeginsLine, line_begun, line_ended}
 use Rattle.document_laws.proofs.SignedLaws.{TakesSigned, signed_read}
+use Rattle.document_laws.proofs.ConeSteps.{Row, Rows, Number, after_line, after_end, after_count, after_columns, after_name}
 
 -- coefficients that were read, and what is left
 record CoefficientsRead (n : ℕ) (ts : List Token) (c : Reading) (row : List ℤ) (d : Reading) : Type 0 where
@@ -38,9 +40,6 @@ coefficients_more n ts c z next row d s more = record {
   left = more.left;
   later = more.later;
 }
-
-abbrev Row : Type 0
-Row = List ℤ × Reading
 
 coefficients_read : (n : ℕ) (ts : List Token) (c : Reading) (row : List ℤ) (d : Reading) → coefficients_at n (with_tokens ts c) ≡ Ok (row, d) → CoefficientsRead n ts c row d
 unfolding coefficients_at
@@ -93,9 +92,6 @@ row_made columns c x row next d l cs e = record {
   at_end = ap (λ (r : Reading). r.current.tokens) e.1;
 }
 
-abbrev after_line : ℕ → Reading → Result Row LexFault
-after_line columns x = coefficients_at columns x >>= λ (r : Row). end_line_at r.1 >>= λ (end : Reading). Ok (r.0, end)
-
 row_of_line : (columns : ℕ) (c x : Reading) (row : List ℤ) (d : Reading) → BeginsLine c x → after_line columns x ≡ Ok (row, d) → RowRead columns c row d
 row_of_line columns c x row d l e =
     let first : (r : Row) × (coefficients_at columns x ≡ Ok r) × ((end_line_at r.1 >>= λ (end : Reading). Ok (r.0, end)) ≡ Ok (row, d)) =
@@ -121,9 +117,6 @@ record RowsRead (n columns : ℕ) (c : Reading) (rows : List (List ℤ)) (d : Re
   are_rows : AllZip (IsCoefficientLine columns) lines rows
   many : length rows ≡ n
   at_end : c.current.tokens ≡ [] → d.current.tokens ≡ []
-
-abbrev Rows : Type 0
-Rows = List (List ℤ) × Reading
 
 rows_more : (n columns : ℕ) (c : Reading) (row : List ℤ) (next : Reading) (rows : List (List ℤ)) (d : Reading) → RowRead columns c row next → RowsRead n columns next rows d → RowsRead (suc n) columns c (row ∷ rows) d
 rows_more n columns c row next rows d one more = record {
@@ -198,21 +191,6 @@ cone_made c named next third start d columns n rows w x y ended r =
       cone_lines = (x.w, y.w, subst (λ (ts : List Token). AreWords ts (codes "cone" ∷ x.w ∷ y.w ∷ [])) (sym tokens) all, x.number, subst (λ (k : ℕ). IsNumber 10000 y.w k) (sym r.many) y.number, r.are_rows);
       at_end = r.at_end;
     }
-
-abbrev Number : Type 0
-Number = ℕ × Reading
-
-abbrev after_end : ℕ → ℕ → Reading → Result (Cone × Reading) LexFault
-after_end columns n end = rows_of_cone_at columns n end >>= λ (rows : Rows). Ok (record { columns = columns; rows = rows.0 }, rows.1)
-
-abbrev after_count : ℕ → Number → Result (Cone × Reading) LexFault
-after_count columns n = end_line_at n.1 >>= after_end columns n.0
-
-abbrev after_columns : Number → Result (Cone × Reading) LexFault
-after_columns columns = number_at 10000 columns.1 >>= after_count columns.0
-
-abbrev after_name : Reading → Result (Cone × Reading) LexFault
-after_name named = number_at 10000 named >>= after_columns
 
 cone_of_steps : (c named : Reading) (columns n : Number) (start : Reading) (rows : Rows) → exactly_at (codes "cone") c ≡ Ok named → number_at 10000 named ≡ Ok columns → number_at 10000 columns.1 ≡ Ok n → end_line_at n.1 ≡ Ok start
     → rows_of_cone_at columns.0 n.0 start ≡ Ok rows → ConeRead c (record { columns = columns.0; rows = rows.0 }) rows.1

@@ -6,7 +6,7 @@ use Rattle.std.proofs.lemmas.List.{length-replicate}
 use Rattle.text_definitions.specs.declared.Place.{Place}
 use Rattle.text_definitions.specs.declared.LexKind.{LexKind}
 use Rattle.text_definitions.specs.declared.LexFault.{LexFault}
-use Rattle.text_definitions.specs.Text.{Token, word, Line, decimal_value}
+use Rattle.text_definitions.specs.Text.{Token, word, Line}
 use Rattle.text_definitions.specs.Reading.{Reading, ◌>>=◌, need_line_at, end_line_at, number_at, signed_at, exactly_at}
 use Rattle.table_definitions.specs.Grammar.{AreWords, IsSigned}
 use Rattle.cone_text_definitions.specs.ConeText.{Cone, coefficients_at, cone_row_at, cone_rows_at, rows_of_cone_at, cone_at}
@@ -16,30 +16,12 @@ use Rattle.document_laws.proofs.ConeFinding.{RowsFound, rows_found}
 use Rattle.document_laws.proofs.Local.{shows, Goes, goes_chained, goes_pure, goes_moved, alone_bind}
 use Rattle.document_laws.proofs.LocalWords.{as_is, word_with, ending, ends_again, goes_end}
 use Rattle.document_laws.proofs.LocalLines.{next_line, ends_shown}
-use Rattle.document_laws.proofs.LocalForms.{number_test, number_word, signed_test, signed_word, exact_test, exact_word, exactly, goes_number, goes_coefficients, goes_closed, goes_row, goes_rows, goes_cone_rows, closed_row, row_on, cone_of, after_end, after_count, after_columns, after_name}
+use Rattle.document_laws.proofs.LocalForms.{number_test, signed_test, signed_word, exact_test, exact_word, exactly, goes_number, goes_coefficients, goes_closed, goes_row, goes_rows, goes_cone_rows, closed_row, row_on, cone_of, after_end, after_count, after_columns, after_name}
 use Rattle.document_laws.proofs.Ways.{Sat, From, alike_each, Well, WellOpen, Free, sat_both, well_free, well_goes, well_open, well_behind, free_chained, free_pure, free_same, sat_same, well_same, well_open_same, from_sat, sat_mapped, well_mapped, well_open_mapped}
-use Rattle.document_laws.proofs.WordWays.{free_word, sat_word, well_word, sat_end, well_end, free_line, well_line}
+use Rattle.document_laws.proofs.WordWays.{free_word, sat_word, well_word, sat_end, well_end, free_line, well_line, free_number, sat_number, well_number}
 
 abbrev naught : List ℕ
 naught = codes "0"
-
--- numbers, signed numbers and words that have to stand there
-abbrev one_number : ℕ → List ℕ → Result ℕ LexKind
-one_number max w = number_test (λ n. n) max (decimal_value w)
-
-naught_up_to : one_number 10000 naught ≡ Ok 0
-unfolding number_test
-naught_up_to = refl
-
-free_number : (c : Reading) → Free (number_at 10000) c
-free_number c = free_same (word_with (one_number 10000)) (number_at 10000) (number_word 10000) c (free_word (one_number 10000) c)
-
-sat_number : (Aim : ℕ → List Sign → Type 0) (k : Reading) → Aim 0 (shows k) → Sat (number_at 10000) Aim
-sat_number Aim k a = sat_same (word_with (one_number 10000)) (number_at 10000) Aim (number_word 10000) (sat_word (one_number 10000) naught 0 naught_up_to Aim k a)
-
-well_number : (Aim : ℕ → List Sign → Type 0) (c k : Reading) → Aim 0 (shows k) → Well as_is (number_at 10000) Aim c
-well_number Aim c k a =
-    well_same as_is (word_with (one_number 10000)) (number_at 10000) Aim (number_word 10000) c (well_word (one_number 10000) Aim c (sat_word (one_number 10000) naught 0 naught_up_to Aim k a))
 
 naught_signed : signed_test 1000000 naught ≡ Ok (pos 0)
 unfolding signed_test number_test
@@ -244,9 +226,6 @@ well_cone_rows (suc columns) n Aim a c = well_rows n (suc columns) Aim a c
 abbrev pub IsLast : Cone → List Sign → Type 0
 IsLast cone ss = ss ≡ last_signs
 
-abbrev Read : Type 0
-Read = Result (Cone × Reading) LexFault
-
 goes_after_end : (columns n : ℕ) (c : Reading) → Goes (after_end columns n) c
 goes_after_end columns n c = goes_chained (rows_of_cone_at columns n) (λ rows d. Ok (cone_of columns rows, d)) c (goes_cone_rows columns n c) (λ rows last q. goes_pure (cone_of columns rows) last)
 
@@ -292,22 +271,22 @@ from_count : (columns : ℕ) → From (after_count columns 0) IsLast (shows (sat
 from_count columns = from_sat (after_count columns 0) IsLast (sat_count columns 0)
 
 sat_columns : (columns : ℕ) → Sat (after_columns columns) IsLast
-sat_columns columns = sat_both as_is (number_at 10000) (after_count columns) IsLast (alike_each (after_count columns) (goes_after_count columns)) (sat_number (λ n ss. From (after_count columns n) IsLast ss) (sat_count columns 0).start (from_count columns))
+sat_columns columns = sat_both as_is (number_at 10000) (after_count columns) IsLast (alike_each (after_count columns) (goes_after_count columns)) (sat_number 10000 (λ n ss. From (after_count columns n) IsLast ss) (sat_count columns 0).start (from_count columns))
 
 well_columns : (columns : ℕ) (c : Reading) → Well as_is (after_columns columns) IsLast c
 well_columns columns c =
-    well_free as_is (number_at 10000) (after_count columns) IsLast (alike_each (after_count columns) (goes_after_count columns)) c (free_number c) (well_number (λ n ss. From (after_count columns n) IsLast ss) c (sat_count columns 0).start (from_count columns))
+    well_free as_is (number_at 10000) (after_count columns) IsLast (alike_each (after_count columns) (goes_after_count columns)) c (free_number 10000 c) (well_number 10000 (λ n ss. From (after_count columns n) IsLast ss) c (sat_count columns 0).start (from_count columns))
     (λ n d e. well_count columns n d)
 
 from_columns : From (after_columns 0) IsLast (shows (sat_columns 0).start)
 from_columns = from_sat (after_columns 0) IsLast (sat_columns 0)
 
 sat_name : Sat after_name IsLast
-sat_name = sat_both as_is (number_at 10000) after_columns IsLast (alike_each after_columns goes_after_columns) (sat_number (λ n ss. From (after_columns n) IsLast ss) (sat_columns 0).start from_columns)
+sat_name = sat_both as_is (number_at 10000) after_columns IsLast (alike_each after_columns goes_after_columns) (sat_number 10000 (λ n ss. From (after_columns n) IsLast ss) (sat_columns 0).start from_columns)
 
 well_name : (c : Reading) → Well as_is after_name IsLast c
 well_name c =
-    well_free as_is (number_at 10000) after_columns IsLast (alike_each after_columns goes_after_columns) c (free_number c) (well_number (λ n ss. From (after_columns n) IsLast ss) c (sat_columns 0).start from_columns) (λ n d e. well_columns n d)
+    well_free as_is (number_at 10000) after_columns IsLast (alike_each after_columns goes_after_columns) c (free_number 10000 c) (well_number 10000 (λ n ss. From (after_columns n) IsLast ss) c (sat_columns 0).start from_columns) (λ n d e. well_columns n d)
 
 from_name : From after_name IsLast (shows sat_name.start)
 from_name = from_sat after_name IsLast sat_name

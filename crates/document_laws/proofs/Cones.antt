@@ -4,12 +4,12 @@ use Rattle.std.specs.Prelude.{◌↔◌}
 use Rattle.text_definitions.specs.Text.{Line, lines_of}
 use Rattle.text_definitions.specs.declared.LexFault.{LexFault}
 use Rattle.text_definitions.specs.Reading.{Reading, ◌>>=◌, need_line_at, start_of}
+use Rattle.text_definitions.proofs.Readers.{bind_ok}
 use Rattle.cone_text_definitions.specs.ConeText.{Cone, cone_at}
 use Rattle.document_definitions.specs.ConeGrammar.{AreConeLines}
 use Rattle.document_definitions.specs.Documents.{cone_document, no_line_at}
-use Rattle.table_definitions.proofs.ReadingLaws.{bind_ok}
+use Rattle.table_definitions.proofs.LineLaws.{BeginsLine, line_begun}
 use Rattle.document_laws.specs.ConeLaws.{ReadsCone}
-use Rattle.document_laws.proofs.LineLaws.{BeginsLine, line_begun}
 use Rattle.document_laws.proofs.ConeReading.{ConeRead, cone_read}
 use Rattle.document_laws.proofs.ConeFinding.{ReadsLines, cone_found}
 use Rattle.document_laws.proofs.Blocks.{ReadsBlocks, ReadsEnd, document_sound, closed_complete}

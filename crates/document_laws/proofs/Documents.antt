@@ -5,6 +5,7 @@ use Rattle.std.specs.List.{AllZip}
 use Rattle.text_definitions.specs.Text.{Line, lines_of}
 use Rattle.text_definitions.specs.declared.LexFault.{LexFault}
 use Rattle.text_definitions.specs.Reading.{Reading, ◌>>=◌, begun, need_line_at, start_of}
+use Rattle.text_definitions.proofs.Readers.{bind_ok}
 use Rattle.table_definitions.specs.Table.{Row}
 use Rattle.cone_text_definitions.specs.VectorText.{vector_at}
 use Rattle.signature_definitions.specs.declared.InputFault.{InputFault}
@@ -13,9 +14,9 @@ use Rattle.surface_definitions.specs.Grammar.{IsVectorLine}
 use Rattle.surface_definitions.specs.Laws.{ReadsVector}
 use Rattle.document_definitions.specs.Documents.{worded, no_line_at, each_line_from, next_table_at, table_document, table_and_lines, vectors_document, vector_document, two_tables_document}
 use Rattle.document_definitions.specs.Grammar.{AreTableAndLines, AreTwoTables}
-use Rattle.table_definitions.proofs.ReadingLaws.{bind_ok, ok_parts}
+use Rattle.table_definitions.proofs.ReadingLaws.{ok_parts}
+use Rattle.table_definitions.proofs.LineLaws.{BeginsLine, line_begun, line_found}
 use Rattle.surface_definitions.proofs.VectorLaws.{VectorRead, vector_read, vector_found}
-use Rattle.document_laws.proofs.LineLaws.{BeginsLine, line_begun, line_found}
 use Rattle.document_laws.proofs.Blocks.{ReadsBlocks, ReadsLine, document_sound, document_complete, closed_complete, both, both_blocks, lines_read, lines_found}
 use Rattle.document_laws.proofs.Tables.{worded_ok, worded_with, worded_end, table_blocks}
 

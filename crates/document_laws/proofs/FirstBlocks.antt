@@ -5,13 +5,14 @@ use Rattle.std.proofs.lemmas.List.{length-append}
 use Rattle.text_definitions.specs.declared.LexFault.{LexFault}
 use Rattle.text_definitions.specs.Text.{Line, lines_of}
 use Rattle.text_definitions.specs.Reading.{Reading, ◌>>=◌, begun, start_of}
+use Rattle.text_definitions.proofs.Readers.{bind_ok}
 use Rattle.table_definitions.specs.Table.{Row}
-use Rattle.table_definitions.proofs.ReadingLaws.{bind_ok, ok_parts}
+use Rattle.table_definitions.proofs.ReadingLaws.{ok_parts}
 use Rattle.signature_definitions.specs.Grammar.{AreTableLines}
 use Rattle.document_definitions.specs.Documents.{worded, next_table_at}
 use Rattle.document_definitions.specs.TextForms.{AreTableText}
 use Rattle.document_definitions.specs.Blocks.{Block, block_at, blocks_on, blocks_from, blocks_document, AreBlockLines, AreBlocks, AreTableAndBlocksText}
-use Rattle.document_laws.specs.TextFaultLaws.{BlocksHaveText, BlocksFaultsStandFirst}
+use Rattle.document_laws.specs.FormLaws.{FaultsStandFirst}
 use Rattle.document_laws.proofs.Tables.{table_blocks}
 use Rattle.document_laws.proofs.BlockReading.{BlockRead, block_read}
 use Rattle.document_laws.proofs.BlockFinding.{BlockFound, block_found}
@@ -24,13 +25,10 @@ use Rattle.document_laws.proofs.LocalTables.{in_text}
 use Rattle.document_laws.proofs.Ways.{From, WellOpen, well_open}
 use Rattle.document_laws.proofs.TextReaders.{Read, next_text, left_only, Copies, copy_bind, copy_then, copy_worded, FaultsAs, faults_bind, copy_next_table}
 use Rattle.document_laws.proofs.TextWays.{goes_next_text, well_next_text}
-use Rattle.document_laws.proofs.TextGrammar.{text_blocks, tables_have_text}
+use Rattle.document_laws.proofs.TextGrammar.{text_blocks}
 use Rattle.document_laws.proofs.TextEnds.{AtEnd, nothing, each_from, alike_each_from, from_nothing, well_each, each_sound, each_complete}
 use Rattle.document_laws.proofs.FirstFaults.{stands_first}
 use Rattle.document_laws.proofs.FirstLines.{faults_ok}
-
-pub blocks_have_text : BlocksHaveText
-blocks_have_text lines rows blocks h = (h.0, h.1, h.2, tables_have_text h.0 rows h.3, (blocks, h.4))
 
 -- a block is read exactly where its text is
 text_of_block : (c : Reading) (x : Block) (d : Reading) → block_at c ≡ Ok (x, d) → block_text c ≡ Ok (tt, d)
@@ -127,7 +125,7 @@ document_faults bytes =
     (λ t p. faults_ok in_text left_only (worded (blocks_from t.1.later t.1)) (each_from block_text (lines_of bytes) t.1) (λ (bs : Blocks). (t.0, bs.0))
     (copy_worded left_only (blocks_from t.1.later t.1) (each_from block_text (lines_of bytes) t.1) (copy_left bytes t.0 t.1 p)))
 
-pub blocks_faults_stand_first : BlocksFaultsStandFirst
+pub blocks_faults_stand_first : FaultsStandFirst blocks_document AreTableAndBlocksText
 blocks_faults_stand_first bytes f e =
     stands_first (read (lines_of bytes)) AtEnd AreTableAndBlocksText (complete (lines_of bytes)) (sound (lines_of bytes)) bytes f.place
     (well_read (lines_of bytes) (start_of bytes) f (document_faults bytes f e))

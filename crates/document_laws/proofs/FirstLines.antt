@@ -6,11 +6,11 @@ use Rattle.std.proofs.lemmas.List.{length-append}
 use Rattle.text_definitions.specs.declared.LexFault.{LexFault}
 use Rattle.text_definitions.specs.Text.{Line, lines_of, end_of}
 use Rattle.text_definitions.specs.Reading.{Reading, ◌>>=◌, begun, start_of}
+use Rattle.text_definitions.proofs.Readers.{bind_ok}
 use Rattle.table_definitions.specs.Table.{Row}
 use Rattle.signature_definitions.specs.Grammar.{AreTableLines}
 use Rattle.document_definitions.specs.Documents.{worded, each_line_from, next_table_at, table_and_lines}
 use Rattle.document_definitions.specs.Signs.{Sign, FirstLeavesAt}
-use Rattle.table_definitions.proofs.ReadingLaws.{bind_ok}
 use Rattle.document_definitions.specs.TextForms.{AreTableText, AreTextAndLines}
 use Rattle.document_laws.proofs.Blocks.{ReadsLine}
 use Rattle.document_laws.proofs.Tables.{table_blocks}

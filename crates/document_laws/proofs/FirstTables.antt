@@ -6,14 +6,14 @@ use Rattle.text_definitions.specs.declared.LexKind.TheVariants.{BadByte, ExtraWo
 use Rattle.text_definitions.specs.declared.LexFault.{LexFault}
 use Rattle.text_definitions.specs.Text.{Token, word, stray, Line, lines_of}
 use Rattle.text_definitions.specs.Reading.{Reading, ◌>>=◌, begun, fault_at, start_of, end_from, end_line_at}
+use Rattle.text_definitions.proofs.Readers.{bind_ok}
 use Rattle.table_definitions.specs.Table.{Row}
 use Rattle.signature_definitions.specs.declared.InputFault.{InputFault}
 use Rattle.signature_definitions.specs.SignatureText.{any_table_at}
 use Rattle.document_definitions.specs.Documents.{worded, no_line_from, next_table_at, tables_on, tables_from, table_document, two_tables_document, tables_document}
 use Rattle.document_definitions.specs.Signs.{Sign}
-use Rattle.table_definitions.proofs.ReadingLaws.{bind_ok}
 use Rattle.document_definitions.specs.TextForms.{AreTableText, AreTwoTablesText, AreManyTablesText, AreTablesText}
-use Rattle.document_laws.specs.TextFaultLaws.{TableFaultsStandFirst, TwoTablesFaultsStandFirst, TablesFaultsStandFirst}
+use Rattle.document_laws.specs.FormLaws.{FaultsStandFirst}
 use Rattle.document_laws.proofs.Documents.{end_at}
 use Rattle.document_laws.proofs.Local.{shows}
 use Rattle.document_laws.proofs.LocalWords.{as_is}
@@ -71,7 +71,7 @@ alike_one = alike_chained next_text (λ u. closing) (alike_goes next_text goes_n
 well_one : (c : Reading) → WellOpen as_is one_text Any c
 well_one c = well_open as_is next_text (λ u. closing) Any (λ u. alike_closing) c (goes_next_text c) (well_next_text ThenClosing nothing refl from_closing c) (λ u d e. well_closing d)
 
-pub table_faults_stand_first : TableFaultsStandFirst
+pub table_faults_stand_first : FaultsStandFirst table_document AreTableText
 unfolding table_document
 table_faults_stand_first bytes f e =
     stands_first one_text Any AreTableText one_complete one_sound bytes f.place
@@ -102,7 +102,7 @@ well_two : (c : Reading) → WellOpen as_is two_texts Any c
 well_two c =
     well_open as_is next_text (λ u. one_text) Any (λ u. alike_one) c (goes_next_text c) (well_next_text (λ u ss. From one_text Any ss) sat_one.sat.start sat_one.none (from_sat one_text Any sat_one.sat) c) (λ u d e. well_one d)
 
-pub two_tables_faults_stand_first : TwoTablesFaultsStandFirst
+pub two_tables_faults_stand_first : FaultsStandFirst two_tables_document AreTwoTablesText
 unfolding two_tables_document
 two_tables_faults_stand_first bytes f e =
     stands_first two_texts Any AreTwoTablesText two_complete two_sound bytes f.place
@@ -158,7 +158,7 @@ well_line_text Aim k none a c = well_text Aim k none (a tt) c
 many_sound : (most : List Line) (o : Reading) (u : ⊤) (next : Reading) → many_texts most o ≡ Ok (u, next) → AtEnd u (shows next) → AreTablesText o.later
 many_sound most o u next e a = each_sound text_at AreTablesText (0, refl) one_table most o u next e (a next refl)
 
-pub tables_faults_stand_first : TablesFaultsStandFirst
+pub tables_faults_stand_first : FaultsStandFirst tables_document AreTablesText
 unfolding tables_document
 tables_faults_stand_first bytes f e =
     let most : List Line = lines_of bytes in

@@ -4,15 +4,15 @@ use Rattle.std.specs.Prelude.{⊤, codes}
 use Rattle.text_definitions.specs.declared.LexFault.{LexFault}
 use Rattle.text_definitions.specs.Text.{word, Line}
 use Rattle.text_definitions.specs.Reading.{Reading, ◌>>=◌, begun, start_of, need_line_at}
+use Rattle.text_definitions.proofs.Readers.{bind_ok}
 use Rattle.table_definitions.specs.Table.{Row}
-use Rattle.table_definitions.proofs.ReadingLaws.{bind_ok}
+use Rattle.table_definitions.proofs.LineLaws.{BeginsLine}
 use Rattle.cone_text_definitions.specs.VectorText.{vector_at}
 use Rattle.surface_definitions.specs.Grammar.{IsVectorLine}
-use Rattle.document_definitions.specs.Documents.{worded, next_table_at, vector_document}
+use Rattle.document_definitions.specs.Documents.{worded, next_table_at, vectors_document, vector_document}
 use Rattle.document_definitions.specs.Signs.{Sign}
-use Rattle.document_definitions.specs.TextForms.{AreTableText, IsVectorText, AreTableAndVectorText}
-use Rattle.document_laws.specs.TextFaultLaws.{VectorsFaultsStandFirst, VectorFaultsStandFirst}
-use Rattle.document_laws.proofs.LineLaws.{BeginsLine}
+use Rattle.document_definitions.specs.TextForms.{AreTableText, IsVectorText, AreTableAndVectorsText, AreTableAndVectorText}
+use Rattle.document_laws.specs.FormLaws.{FaultsStandFirst}
 use Rattle.document_laws.proofs.Documents.{reads_vectors, end_at}
 use Rattle.document_laws.proofs.Local.{shows}
 use Rattle.document_laws.proofs.LocalWords.{as_is}
@@ -36,7 +36,7 @@ Vector = List ℕ × Reading
 well_vector_line : (Aim : List ℕ → List Sign → Type 0) (k : Reading) → k.current.tokens ≡ [] → ((xs : List ℕ) → Aim xs (shows k)) → (c : Reading) → Well as_is vector_at Aim c
 well_vector_line Aim k none a c = well_vector k none Aim a c
 
-pub vectors_faults_stand_first : VectorsFaultsStandFirst
+pub vectors_faults_stand_first : FaultsStandFirst vectors_document AreTableAndVectorsText
 vectors_faults_stand_first bytes f e = lines_faults_stand_first vector_at IsVectorLine reads_vectors goes_vector well_vector_line bytes f e
 
 -- one vector, and nothing more
@@ -131,7 +131,7 @@ sound o u next e a =
     let v = line_taken (p.0).1 (q.0).1 (begins (p.0).1 (q.0).0 (q.0).1 q.1) (last_taken (q.0).1 u next q.2) in
     (t.0, v.0, t.1 ∙ ap (λ (ls : List Line). t.0 ++ ls) v.1, t.2, v.2)
 
-pub vector_faults_stand_first : VectorFaultsStandFirst
+pub vector_faults_stand_first : FaultsStandFirst vector_document AreTableAndVectorText
 unfolding vector_document
 vector_faults_stand_first bytes f e =
     let c : Reading = start_of bytes in

@@ -1,5 +1,5 @@
 -- Documents: where one is refused, its lines leave the grammar.
-use Rattle.std.proofs.Common.{◌≡◌, ◌≢◌, ℕ, List, [], ◌∷◌, ◌++◌, Some, Result, Ok, Err, refl, sym, ap, ◌∙◌, subst}
+use Rattle.std.proofs.Common.{◌≡◌, ◌≢◌, ℕ, List, [], ◌∷◌, ◌++◌, Some, Result, Ok, Err, refl, sym, ap, ◌∙◌}
 use Rattle.std.specs.Prelude.{⊤}
 use Rattle.text_definitions.specs.declared.Place.{Place}
 use Rattle.text_definitions.specs.declared.LexFault.{LexFault}
@@ -8,9 +8,9 @@ use Rattle.text_definitions.specs.Reading.{Reading, ◌>>=◌, begun, start_of}
 use Rattle.document_definitions.specs.Documents.{no_line_at, no_line_from, each_line_from}
 use Rattle.document_definitions.specs.Signs.{Sign, input_end, Placed, signs_of, plain, LeavesAt}
 use Rattle.document_laws.proofs.Blocks.{ReadsLine}
-use Rattle.document_laws.proofs.Local.{left_signs, shows, opening, opening_more, plain-append, StopsAt, Goes, Stops, stops_chained, stops_first, stops_same, alone, alone_bind}
-use Rattle.document_laws.proofs.LocalWords.{as_is, ending, stops_end}
-use Rattle.document_laws.proofs.LocalLines.{by_lines, stops_by_line, Further, further_in, no_input_end}
+use Rattle.document_laws.proofs.Local.{left_signs, shows, opening, opening_more, plain-append, StopsAt, Goes, Stops, alone}
+use Rattle.document_laws.proofs.LocalWords.{as_is, ending}
+use Rattle.document_laws.proofs.LocalLines.{by_lines, Further, further_in, no_input_end}
 
 -- a reading of which no line is begun, and where it stops among the lines that are left
 pub record StopsBehind {X E : Type 0} (read : Reading → Result X E) (c : Reading) (p : Place) : Type 0 where
@@ -62,13 +62,6 @@ module _ {X E : Type 0} (lexical : LexFault → E) (stop go : Reading → Result
         h.same (begun f.line f.rest other) more f.there x (sym (ap (λ (ks : List Line). by_lines stop go ks other) f.lines) ∙ q));
   }
 
-  behind_in : (ls : List Line) (c : Reading) → c.later ≡ ls → ((l : Line) (ms : List Line) → c.later ≡ l ∷ ms → Stops lexical go (begun l ms c)) → (f : LexFault) → by_lines stop go ls c ≡ Err (lexical f) → StopsBehind reads c f.place
-  behind_in [] c split s f e = (let t : (f.place ≡ c.input_end) × ((d : Reading) (x : X) → stop d ≢ Ok x) = at_end c f e in behind_end c f.place split t.0 t.1)
-  behind_in (l ∷ ls) c split s f e = behind_line c l ls f.place split (s l ls split f e)
-
-  pub stops_behind : (read : Reading → Result X E) → ((c : Reading) → reads c ≡ read c) → (c : Reading) → ((l : Line) (ls : List Line) → c.later ≡ l ∷ ls → Stops lexical go (begun l ls c)) → (f : LexFault) → read c ≡ Err (lexical f) → StopsBehind read c f.place
-  stops_behind read same c s f e = subst (λ (r : Reading → Result X E). StopsBehind r c f.place) (λ i d. same d i) (behind_in c.later c refl s f (same c ∙ e))
-
 -- what can't be read isn't in the grammar
 abbrev pub start_with : List ℕ → List Line → Reading
 start_with bytes lines = record (start_of bytes) { later = lines }
@@ -96,19 +89,6 @@ no_line_alone c = by_list c.later
 
 pub none_never : (c : Reading) (f : LexFault) → none_stop c ≢ Err f
 none_never c f e = absurd cc
-
-pub stops_no_line : (c : Reading) → Stops as_is (λ d. alone (no_line_at d)) c
-stops_no_line c =
-    stops_same as_is (λ d. by_lines none_stop ending d.later d) (λ d. alone (no_line_at d)) no_line_alone c (stops_by_line as_is none_stop ending none_never c (λ l ls split. stops_end (begun l ls c)))
-
--- what is read without a fault at a place, and then no further line
-pub stops_closing : {X E : Type 0} (lexical : LexFault → E) (end : Reading → Result Reading E) (x : X) (c : Reading) → Stops lexical (λ d. alone (end d)) c → Stops lexical (λ d. end d >>= λ (last : Reading). Ok x) c
-stops_closing {X} {E} lexical end x c s =
-    stops_same lexical (λ d. alone (end d) >>= λ (y : ⊤ × Reading). Ok x) (λ d. end d >>= λ (last : Reading). Ok x) (λ d. alone_bind (end d) (λ last. Ok x)) c
-    (stops_first lexical (λ d. alone (end d)) (λ u d. Ok x) c s (λ y f. ok_no_fault x (lexical f)))
-  where
-    ok_no_fault : (z : X) (e : E) → ◌≢◌ {A = Result X E} (Ok z) (Err e)
-    ok_no_fault z e p = absurd cc
 
 -- lines of one form to the end of the input
 module _ {A : Type 0} (form : Reading → Result (A × Reading) LexFault) (Form : Line → A → Type 0) (forms : ReadsLine form Form) (goes : (c : Reading) → Goes form c) (stops : (c : Reading) → Stops as_is form c) where
@@ -140,20 +120,3 @@ module _ {A : Type 0} (form : Reading → Result (A × Reading) LexFault) (Form 
       by_list (l ∷ ls) =
           like (form (begun l ls c)) (λ (x : A × Reading). others_of x.0 x.1) (λ (x : A × Reading). each_line_from form ls x.1 >>= λ (xs : Lines). Ok (x.0 ∷ xs.0, xs.1))
           (λ x p. ap (λ (ks : List Line). each_line_from form ks x.1 >>= λ (xs : Lines). Ok (x.0 ∷ xs.0, xs.1)) ((forms.sound (begun l ls c) x.0 x.1 p).1))
-
-  pub lines_never : (x : Lines) (f : LexFault) → ◌≢◌ {A = Result Lines LexFault} (Ok x) (Err f)
-  lines_never x f e = absurd cc
-
-  stops_each_in : (ls : List Line) (c : Reading) → c.later ≡ ls → Stops as_is each_line c
-  stops_each_in [] c empty =
-      stops_same as_is (λ d. by_lines none one d.later d) each_line each_stepped c (stops_by_line as_is none one (λ d f. lines_never ([], d) f) c (λ l ms split. (let e : [] ≡ l ∷ ms = sym empty ∙ split in absurd cc)))
-  stops_each_in (k ∷ ks) c first =
-      stops_same as_is (λ d. by_lines none one d.later d) each_line each_stepped c
-      (stops_by_line as_is none one (λ d f. lines_never ([], d) f) c
-      (λ l ms split. (let e : k ∷ ks ≡ l ∷ ms = sym first ∙ split in
-      let tail : ms ≡ ks = cc in
-      stops_chained as_is form others_of (begun l ms c) (goes (begun l ms c)) (stops (begun l ms c))
-      (λ x d p. stops_first as_is each_line (λ xs d'. Ok (x ∷ xs, d')) d (stops_each_in ks d ((forms.sound (begun l ms c) x d p).1 ∙ tail)) (λ y f. lines_never (x ∷ y.0, y.1) f)))))
-
-  pub stops_each : (c : Reading) → Stops as_is each_line c
-  stops_each c = stops_each_in c.later c refl

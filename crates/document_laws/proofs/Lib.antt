@@ -1,5 +1,6 @@
 pub mod LineLaws
 pub mod SignedLaws
+pub mod ConeSteps
 pub mod ConeReading
 pub mod ConeFinding
 pub mod Blocks
@@ -12,6 +13,7 @@ pub mod LocalWords
 pub mod LocalLines
 pub mod LocalForms
 pub mod LocalTables
+pub mod Lawful
 pub mod Leaving
 pub mod LeavingDocuments
 pub mod Ways
@@ -27,6 +29,7 @@ pub mod TextGrammar
 pub mod TextEnds
 pub mod FirstFaults
 pub mod FirstTables
+pub mod NextTables
 pub mod FirstLines
 pub mod FirstVectors
 pub mod MoveWays

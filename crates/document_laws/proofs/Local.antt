@@ -5,8 +5,9 @@ use Rattle.std.proofs.lemmas.List.{append_assoc, map-append}
 use Rattle.text_definitions.specs.declared.Place.{Place}
 use Rattle.text_definitions.specs.declared.LexFault.{LexFault}
 use Rattle.text_definitions.specs.Reading.{Reading, ◌>>=◌}
+use Rattle.text_definitions.proofs.Readers.{bind_ok}
 use Rattle.document_definitions.specs.Signs.{Sign, Placed, line_signs, signs_of, plain}
-use Rattle.table_definitions.proofs.ReadingLaws.{bind_ok, ok_parts}
+use Rattle.table_definitions.proofs.ReadingLaws.{ok_parts}
 
 -- the signs that are left
 abbrev pub left_signs : Reading → List Placed
@@ -171,8 +172,3 @@ pub goes_lifted : {A E F : Type 0} (low : LexFault → E) (high : LexFault → F
 goes_lifted low high lift l r c g x d e =
     let h : GoesOn r c x d = g x d (l.lowered (r c) (x, d) e) in
     record { front = h.front; split = h.split; same = λ other more s o. (let n : (next : Reading) × (r other ≡ Ok (x, next)) × (shows next ≡ more) = h.same other more s o in (n.0, l.lifted (r other) (x, n.0) n.1, n.2)) }
-
-pub stops_lifted : {X E F : Type 0} (low : LexFault → E) (high : LexFault → F) (lift : Result X E → Result X F) → Lift low high lift → (r : Reading → Result X E) (c : Reading) → Stops low r c → Stops high (λ d. lift (r d)) c
-stops_lifted low high lift l r c s f e =
-    let h : StopsAt r c f.place = s f (l.faults (r c) f e) in
-    record { front = h.front; sign = h.sign; after = h.after; split = h.split; same = λ other more q x p. h.same other more q x (l.lowered (r other) x p) }

@@ -11,15 +11,12 @@ use Rattle.cone_text_definitions.specs.VectorText.{vector_at}
 use Rattle.cone_text_definitions.specs.ConeText.{Cone, coefficients_at, cone_row_at, cone_rows_at, rows_of_cone_at, cone_at}
 use Rattle.table_definitions.proofs.ReadingLaws.{TakesNumber, number_read}
 use Rattle.document_laws.proofs.Local.{Goes, Stops, goes_chained, stops_chained, stops_first, goes_pure, goes_same, stops_same, alone, goes_moved, stops_moved}
-use Rattle.document_laws.proofs.LocalWords.{as_is, tested, word_with, goes_word, stops_word, goes_end, stops_end}
-use Rattle.document_laws.proofs.LocalLines.{goes_line, stops_line, by_end, by_ends, goes_by_end, stops_by_end}
+use Rattle.document_laws.proofs.LocalWords.{as_is, tested, word_with, goes_word, stops_word, goes_end}
+use Rattle.document_laws.proofs.LocalLines.{goes_line, by_end, by_ends, goes_by_end, stops_by_end}
 
 -- a value never fails
 pub ok_never : {A : Type 0} (x : A) (f : LexFault) → ◌≢◌ {A = Result A LexFault} (Ok x) (Err f)
 ok_never x f e = absurd cc
-
-pub stops_pure : {X : Type 0} (g : Reading → X) (c : Reading) → Stops as_is (λ d. Ok (g d)) c
-stops_pure g c f e = absurd (ok_never (g c) f e)
 
 -- a number up to max, of which f is made
 unfoldable pub number_test : {A : Type 0} → (ℕ → A) → ℕ → Option ℕ → Result A LexKind
@@ -44,17 +41,21 @@ unwrapped : {A E : Type 0} (r : Result (A × Reading) E) → (r >>= λ (n : A ×
 unwrapped (Ok n) = refl
 unwrapped (Err e) = refl
 
-pub number_word : (max : ℕ) (c : Reading) → word_with (λ w. number_test (λ n. n) max (decimal_value w)) c ≡ number_at max c
+-- a word that is a number up to a limit
+abbrev pub plain_test : ℕ → List ℕ → Result ℕ LexKind
+plain_test max w = number_test (λ n. n) max (decimal_value w)
+
+pub number_word : (max : ℕ) (c : Reading) → word_with (plain_test max) c ≡ number_at max c
 unfolding number_at
 number_word max c =
     any_word (word_at c) (λ (w : List ℕ × Reading). tested (number_test (λ n. n) max (decimal_value w.0)) w.1) (λ (w : List ℕ × Reading). number_up_to max (decimal_value w.0) w.1)
     (λ w. number_tested (λ n. n) max (decimal_value w.0) w.1 ∙ unwrapped (number_up_to max (decimal_value w.0) w.1))
 
 pub goes_number : (max : ℕ) (c : Reading) → Goes (number_at max) c
-goes_number max c = (let test : List ℕ → Result ℕ LexKind = λ w. number_test (λ n. n) max (decimal_value w) in goes_same (word_with test) (number_at max) (number_word max) c (goes_word test c))
+goes_number max c = goes_same (word_with (plain_test max)) (number_at max) (number_word max) c (goes_word (plain_test max) c)
 
 pub stops_number : (max : ℕ) (c : Reading) → Stops as_is (number_at max) c
-stops_number max c = (let test : List ℕ → Result ℕ LexKind = λ w. number_test (λ n. n) max (decimal_value w) in stops_same as_is (word_with test) (number_at max) (number_word max) c (stops_word test c))
+stops_number max c = stops_same as_is (word_with (plain_test max)) (number_at max) (number_word max) c (stops_word (plain_test max) c)
 
 unfoldable pub signed_test : ℕ → List ℕ → Result ℤ LexKind
 signed_test max w = number_test (λ n. with_sign (is_negative w) n) max (decimal_value (magnitude w))
@@ -68,9 +69,6 @@ signed_word max c =
 
 pub goes_signed : (max : ℕ) (c : Reading) → Goes (signed_at max) c
 goes_signed max c = goes_same (word_with (signed_test max)) (signed_at max) (signed_word max) c (goes_word (signed_test max) c)
-
-stops_signed : (max : ℕ) (c : Reading) → Stops as_is (signed_at max) c
-stops_signed max c = stops_same as_is (word_with (signed_test max)) (signed_at max) (signed_word max) c (stops_word (signed_test max) c)
 
 -- a word that has to stand there
 unfoldable pub exact_test : List ℕ → List ℕ → Result ⊤ LexKind
@@ -177,13 +175,6 @@ goes_coefficients (suc n) c =
     goes_chained (signed_at 1000000) (λ z d. coefficients_at n d >>= λ (r : Row). Ok (z ∷ r.0, r.1)) c (goes_signed 1000000 c)
     (λ z d e. goes_chained (coefficients_at n) (λ r d'. Ok (z ∷ r, d')) d (goes_coefficients n d) (λ r last q. goes_pure (z ∷ r) last))
 
-stops_coefficients : (n : ℕ) (c : Reading) → Stops as_is (coefficients_at n) c
-unfolding coefficients_at
-stops_coefficients zero c = stops_pure (λ d. ([], d)) c
-stops_coefficients (suc n) c =
-    stops_chained as_is (signed_at 1000000) (λ z d. coefficients_at n d >>= λ (r : Row). Ok (z ∷ r.0, r.1)) c (goes_signed 1000000 c) (stops_signed 1000000 c)
-    (λ z d e. stops_first as_is (coefficients_at n) (λ r d'. Ok (z ∷ r, d')) d (stops_coefficients n d) (λ y f q. absurd (ok_never (z ∷ y.0, y.1) f q)))
-
 abbrev pub closed_row : List ℤ → Reading → Result Row LexFault
 closed_row r d = end_line_at d >>= λ (end : Reading). Ok (r, end)
 
@@ -193,18 +184,9 @@ row_on columns d = coefficients_at columns d >>= λ (r : Row). closed_row r.0 r.
 pub goes_closed : (r : List ℤ) (d : Reading) → Goes (closed_row r) d
 goes_closed r d = goes_moved as_is end_line_at (λ end. Ok (r, end)) d (goes_end d) (λ end e. goes_pure r end)
 
-stops_closed : (r : List ℤ) (d : Reading) → Stops as_is (closed_row r) d
-stops_closed r d = stops_moved as_is end_line_at (λ end. Ok (r, end)) d (goes_end d) (stops_end d) (λ end e. stops_pure (λ c. (r, c)) end)
-
 pub goes_row : (columns : ℕ) (c : Reading) → Goes (cone_row_at columns) c
 unfolding cone_row_at
 goes_row columns c = goes_moved as_is need_line_at (row_on columns) c (goes_line c) (λ d e. goes_chained (coefficients_at columns) closed_row d (goes_coefficients columns d) (λ r d' q. goes_closed r d'))
-
-stops_row : (columns : ℕ) (c : Reading) → Stops as_is (cone_row_at columns) c
-unfolding cone_row_at
-stops_row columns c =
-    stops_moved as_is need_line_at (row_on columns) c (goes_line c) (stops_line c)
-    (λ d e. stops_chained as_is (coefficients_at columns) closed_row d (goes_coefficients columns d) (stops_coefficients columns d) (λ r d' q. stops_closed r d'))
 
 pub goes_rows : (n columns : ℕ) (c : Reading) → Goes (cone_rows_at n columns) c
 unfolding cone_rows_at
@@ -213,20 +195,9 @@ goes_rows (suc n) columns c =
     goes_chained (cone_row_at columns) (λ r d. cone_rows_at n columns d >>= λ (rs : Rows). Ok (r ∷ rs.0, rs.1)) c (goes_row columns c)
     (λ r d e. goes_chained (cone_rows_at n columns) (λ rs d'. Ok (r ∷ rs, d')) d (goes_rows n columns d) (λ rs last q. goes_pure (r ∷ rs) last))
 
-stops_rows : (n columns : ℕ) (c : Reading) → Stops as_is (cone_rows_at n columns) c
-unfolding cone_rows_at
-stops_rows zero columns c = stops_pure (λ d. ([], d)) c
-stops_rows (suc n) columns c =
-    stops_chained as_is (cone_row_at columns) (λ r d. cone_rows_at n columns d >>= λ (rs : Rows). Ok (r ∷ rs.0, rs.1)) c (goes_row columns c) (stops_row columns c)
-    (λ r d e. stops_first as_is (cone_rows_at n columns) (λ rs d'. Ok (r ∷ rs, d')) d (stops_rows n columns d) (λ y f q. absurd (ok_never (r ∷ y.0, y.1) f q)))
-
 pub goes_cone_rows : (columns n : ℕ) (c : Reading) → Goes (rows_of_cone_at columns n) c
 goes_cone_rows zero n c = goes_pure (replicate n []) c
 goes_cone_rows (suc columns) n c = goes_rows n (suc columns) c
-
-stops_cone_rows : (columns n : ℕ) (c : Reading) → Stops as_is (rows_of_cone_at columns n) c
-stops_cone_rows zero n c = stops_pure (λ d. (replicate n [], d)) c
-stops_cone_rows (suc columns) n c = stops_rows n (suc columns) c
 
 abbrev Read : Type 0
 Read = Result (Cone × Reading) LexFault
@@ -254,12 +225,3 @@ goes_cone c =
     (λ columns d2 e2. goes_chained (number_at 10000) (after_count columns) d2 (goes_number 10000 d2)
     (λ n d3 e3. goes_moved as_is end_line_at (after_end columns n) d3 (goes_end d3)
     (λ d4 e4. goes_chained (rows_of_cone_at columns n) (λ rows d. Ok (cone_of columns rows, d)) d4 (goes_cone_rows columns n d4) (λ rows last q. goes_pure (cone_of columns rows) last)))))
-
-pub stops_cone : (c : Reading) → Stops as_is cone_at c
-unfolding cone_at
-stops_cone c =
-    stops_moved as_is (exactly_at (codes "cone")) after_name c (goes_exactly (codes "cone") c) (stops_exactly (codes "cone") c)
-    (λ d1 e1. stops_chained as_is (number_at 10000) after_columns d1 (goes_number 10000 d1) (stops_number 10000 d1)
-    (λ columns d2 e2. stops_chained as_is (number_at 10000) (after_count columns) d2 (goes_number 10000 d2) (stops_number 10000 d2)
-    (λ n d3 e3. stops_moved as_is end_line_at (after_end columns n) d3 (goes_end d3) (stops_end d3)
-    (λ d4 e4. stops_first as_is (rows_of_cone_at columns n) (λ rows d. Ok (cone_of columns rows, d)) d4 (stops_cone_rows columns n d4) (λ y f q. absurd (ok_never (cone_of columns y.0, y.1) f q))))))

@@ -9,9 +9,9 @@ use Rattle.text_definitions.specs.Text.{Token, word, stray, Line}
 use Rattle.text_definitions.specs.Reading.{Reading, begun, need_line_at, line_from}
 use Rattle.document_definitions.specs.Signs.{Sign, line_end, input_end, Placed, token_sign, line_signs, signs_of, plain}
 use Rattle.table_definitions.proofs.ReadingLaws.{ok_parts, with_tokens}
-use Rattle.document_laws.proofs.LineLaws.{line_found}
+use Rattle.table_definitions.proofs.LineLaws.{line_found}
 use Rattle.document_laws.proofs.Local.{left_signs, shows, opening, opening_more, plain-append, regrouped, GoesOn, StopsAt, Goes, Stops, alone}
-use Rattle.document_laws.proofs.LocalWords.{as_is, end_there}
+use Rattle.document_laws.proofs.LocalWords.{end_there}
 
 -- the tokens that are left in a line, and its end
 unfoldable pub rest_of_line : ℕ → List Token → ℕ → List Placed
@@ -120,10 +120,6 @@ stops_line_in [] c split f e =
     )
 stops_line_in (l ∷ ls) c split f e = absurd cc
 
-pub stops_line : (c : Reading) → Stops as_is next_line c
-unfolding need_line_at
-stops_line c f e = (stops_line_in c.later c refl f e).0
-
 -- a reader of the next line, where one is left
 abbrev pub by_lines : {X E : Type 0} → (Reading → Result X E) → (Reading → Result X E) → List Line → Reading → Result X E
 by_lines stop go [] c = stop c
@@ -147,13 +143,6 @@ module _ {X E : Type 0} (lexical : LexFault → E) (stop go : Reading → Result
         let f : Further other next = further c other next (regrouped (rest_here c) h.front (h.sign ∷ more) other s) none in
         h.same (begun f.line f.rest other) more f.there x (sym (ap (λ (ks : List Line). by_lines stop go ks other) f.lines) ∙ q));
   }
-
-  stops_in : (ls : List Line) (c : Reading) → c.later ≡ ls → ((l : Line) (ms : List Line) → c.later ≡ l ∷ ms → Stops lexical go (begun l ms c)) → (f : LexFault) → by_lines stop go ls c ≡ Err (lexical f) → StopsAt by_line c f.place
-  stops_in [] c split s f e = absurd (never c f e)
-  stops_in (l ∷ ls) c split s f e = in_line c l ls f.place split (s l ls split f e)
-
-  pub stops_by_line : (c : Reading) → ((l : Line) (ls : List Line) → c.later ≡ l ∷ ls → Stops lexical go (begun l ls c)) → Stops lexical by_line c
-  stops_by_line c s f e = stops_in c.later c refl s f e
 
 -- a reader that goes on to the end of a line
 abbrev pub by_ends : {A E : Type 0} → A → (Reading → Result (A × Reading) E) → List Token → Reading → Result (A × Reading) E

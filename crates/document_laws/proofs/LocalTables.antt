@@ -1,5 +1,5 @@
 -- Tables in either form: their readers see no more than they take and the next sign.
-use Rattle.std.proofs.Common.{◌≡◌, ◌≢◌, ℕ, zero, suc, ◌^◌, Bool, true, false, List, [], ◌∷◌, Option, Some, None, Result, Ok, Err, refl, ap}
+use Rattle.std.proofs.Common.{◌≡◌, ℕ, zero, suc, ◌^◌, Bool, true, false, List, [], ◌∷◌, Option, Some, None, Result, Ok, Err, refl, ap}
 use Rattle.std.specs.Prelude.{nat_lt, if◌then◌else◌, codes}
 use Rattle.text_definitions.specs.declared.LexKind.{LexKind}
 use Rattle.text_definitions.specs.declared.LexKind.TheVariants.{BadWord, NumberTooWide}
@@ -18,11 +18,11 @@ use Rattle.signature_definitions.specs.declared.InputFault.{InputFault}
 use Rattle.signature_definitions.specs.declared.InputFault.TheVariants.{Text}
 use Rattle.signature_definitions.specs.declared.SigFault.{SigFault}
 use Rattle.signature_definitions.specs.SignatureText.{texted, decoded, signature_table, signature_at, named_table_at, any_table_at}
-use Rattle.document_definitions.specs.Documents.{worded, next_table_at}
-use Rattle.document_laws.proofs.Local.{Goes, Stops, goes_chained, stops_chained, stops_first, goes_pure, goes_same, stops_same, alone, goes_moved, stops_moved, Lift, goes_lifted, stops_lifted}
-use Rattle.document_laws.proofs.LocalWords.{as_is, tested, word_with, goes_word, stops_word, goes_end, stops_end}
-use Rattle.document_laws.proofs.LocalLines.{goes_line, stops_line}
-use Rattle.document_laws.proofs.LocalForms.{ok_never, stops_pure, goes_number, stops_number}
+use Rattle.document_definitions.specs.Documents.{worded}
+use Rattle.document_laws.proofs.Local.{Goes, Stops, goes_chained, goes_pure, goes_same, alone, goes_moved, Lift, goes_lifted}
+use Rattle.document_laws.proofs.LocalWords.{as_is, tested, word_with, goes_word, goes_end, stops_end}
+use Rattle.document_laws.proofs.LocalLines.{goes_line}
+use Rattle.document_laws.proofs.LocalForms.{goes_number}
 
 -- the kinds of fault
 abbrev pub in_text : LexFault → InputFault
@@ -83,14 +83,8 @@ module _ (move : Reading → Result Reading LexFault) (c : Reading) (g : Goes (�
   goes_lexed : Goes (λ d. alone (lexed (move d))) c
   goes_lexed = goes_same (λ d. lexed (alone (move d))) (λ d. alone (lexed (move d))) (λ d. lexed_alone (move d)) c (goes_lifted as_is Lex (λ r. lexed r) lexed_lift (λ d. alone (move d)) c g)
 
-  stops_lexed : Stops Lex (λ d. alone (lexed (move d))) c
-  stops_lexed = stops_same Lex (λ d. lexed (alone (move d))) (λ d. alone (lexed (move d))) (λ d. lexed_alone (move d)) c (stops_lifted as_is Lex (λ r. lexed r) lexed_lift (λ d. alone (move d)) c s)
-
   pub goes_worded : Goes (λ d. alone (worded (move d))) c
   goes_worded = goes_same (λ d. worded (alone (move d))) (λ d. alone (worded (move d))) (λ d. worded_alone (move d)) c (goes_lifted as_is in_text (λ r. worded r) worded_lift (λ d. alone (move d)) c g)
-
-  pub stops_worded : Stops in_text (λ d. alone (worded (move d))) c
-  stops_worded = stops_same in_text (λ d. worded (alone (move d))) (λ d. alone (worded (move d))) (λ d. worded_alone (move d)) c (stops_lifted as_is in_text (λ r. worded r) worded_lift (λ d. alone (move d)) c s)
 
 -- entries
 unfoldable pub gluing_test : Option Gluing → Result (Option Gluing) LexKind
@@ -132,9 +126,6 @@ entry_word c = by_word (word_at c)
 pub goes_entry : (c : Reading) → Goes entry_at c
 goes_entry c = goes_same (word_with entry_test) entry_at entry_word c (goes_word entry_test c)
 
-stops_entry : (c : Reading) → Stops as_is entry_at c
-stops_entry c = stops_same as_is (word_with entry_test) entry_at entry_word c (stops_word entry_test c)
-
 -- rows
 abbrev pub Row : Type 0
 Row = tables.Row × Reading
@@ -164,16 +155,6 @@ goes_row c =
     (λ e2 c3 p3. goes_chained entry_at (fourth e0 e1 e2) c3 (goes_entry c3)
     (λ e3 c4 p4. goes_moved as_is end_line_at (λ end. Ok (e0 ∷ e1 ∷ e2 ∷ e3 ∷ [], end)) c4 (goes_end c4) (λ end p5. goes_pure (e0 ∷ e1 ∷ e2 ∷ e3 ∷ []) end))))))
 
-stops_row : (c : Reading) → Stops as_is row_at c
-unfolding row_at
-stops_row c =
-    stops_moved as_is need_line_at entries c (goes_line c) (stops_line c)
-    (λ c0 p0. stops_chained as_is entry_at first c0 (goes_entry c0) (stops_entry c0)
-    (λ e0 c1 p1. stops_chained as_is entry_at (second e0) c1 (goes_entry c1) (stops_entry c1)
-    (λ e1 c2 p2. stops_chained as_is entry_at (third e0 e1) c2 (goes_entry c2) (stops_entry c2)
-    (λ e2 c3 p3. stops_chained as_is entry_at (fourth e0 e1 e2) c3 (goes_entry c3) (stops_entry c3)
-    (λ e3 c4 p4. stops_moved as_is end_line_at (λ end. Ok (e0 ∷ e1 ∷ e2 ∷ e3 ∷ [], end)) c4 (goes_end c4) (stops_end c4) (λ end p5. stops_pure (λ d. (e0 ∷ e1 ∷ e2 ∷ e3 ∷ [], d)) end))))))
-
 abbrev pub Rows : Type 0
 Rows = List tables.Row × Reading
 
@@ -183,13 +164,6 @@ goes_rows zero c = goes_pure [] c
 goes_rows (suc n) c =
     goes_chained row_at (λ r d. rows_at n d >>= λ (rs : Rows). Ok (r ∷ rs.0, rs.1)) c (goes_row c) (λ r d e. goes_chained (rows_at n) (λ rs d'. Ok (r ∷ rs, d')) d (goes_rows n d) (λ rs last q. goes_pure (r ∷ rs) last))
 
-stops_rows : (n : ℕ) (c : Reading) → Stops as_is (rows_at n) c
-unfolding rows_at
-stops_rows zero c = stops_pure (λ d. ([], d)) c
-stops_rows (suc n) c =
-    stops_chained as_is row_at (λ r d. rows_at n d >>= λ (rs : Rows). Ok (r ∷ rs.0, rs.1)) c (goes_row c) (stops_row c)
-    (λ r d e. stops_first as_is (rows_at n) (λ rs d'. Ok (r ∷ rs, d')) d (stops_rows n d) (λ y f q. absurd (ok_never (r ∷ y.0, y.1) f q)))
-
 -- rows that are looked at: what is wrong with them stands at no place of the text
 abbrev pub looked_at : List tables.Row → Reading → Result Rows TextFault
 looked_at rows d = checked (table_fault rows) (rows, d)
@@ -197,10 +171,6 @@ looked_at rows d = checked (table_fault rows) (rows, d)
 goes_checked : (o : Option TableFault) (rows : List tables.Row) (c : Reading) → Goes (λ d. checked o (rows, d)) c
 goes_checked None rows c = goes_pure rows c
 goes_checked (Some f) rows c = λ x d e. absurd cc
-
-checked_never : (o : Option TableFault) (x : Rows) (f : LexFault) → checked o x ≢ Err (Lex f)
-checked_never None x f e = absurd cc
-checked_never (Some g) x f e = absurd cc
 
 abbrev pub rows_on : ℕ → Reading → Result Rows TextFault
 rows_on n d = lexed (rows_at n d) >>= λ (rows : Rows). looked_at rows.0 rows.1
@@ -211,12 +181,6 @@ goes_counted n c =
     goes_moved Lex (λ d. lexed (end_line_at d)) (rows_on n) c (goes_lexed end_line_at c (goes_end c) (stops_end c))
     (λ d e. goes_chained (λ b. lexed (rows_at n b)) looked_at d (goes_lifted as_is Lex (λ r. lexed r) lexed_lift (rows_at n) d (goes_rows n d)) (λ rows last q. goes_checked (table_fault rows) rows last))
 
-stops_counted : (n : ℕ) (c : Reading) → Stops Lex (counted_rows_at n) c
-unfolding counted_rows_at
-stops_counted n c =
-    stops_moved Lex (λ d. lexed (end_line_at d)) (rows_on n) c (goes_lexed end_line_at c (goes_end c) (stops_end c)) (stops_lexed end_line_at c (goes_end c) (stops_end c))
-    (λ d e. stops_first Lex (λ b. lexed (rows_at n b)) looked_at d (stops_lifted as_is Lex (λ r. lexed r) lexed_lift (rows_at n) d (stops_rows n d)) (λ y f q. checked_never (table_fault y.0) y f q))
-
 -- what follows the word `tri`
 abbrev pub if_few : Bool → ℕ → Reading → Result Rows TextFault
 if_few b n d = if b then Err (Table TooMany) else counted_rows_at n d
@@ -225,21 +189,11 @@ goes_few : (b : Bool) (n : ℕ) (c : Reading) → Goes (if_few b n) c
 goes_few true n c = λ x d e. absurd cc
 goes_few false n c = goes_counted n c
 
-stops_few : (b : Bool) (n : ℕ) (c : Reading) → Stops Lex (if_few b n) c
-stops_few true n c = λ f e. absurd cc
-stops_few false n c = stops_counted n c
-
 goes_table : (c : Reading) → Goes table_at c
 unfolding table_at
 goes_table c =
     goes_chained (λ d. lexed (number_at limit d)) (λ n d. if_few (nat_lt max_tets n) n d) c (goes_lifted as_is Lex (λ r. lexed r) lexed_lift (number_at limit) c (goes_number limit c))
     (λ n d e. goes_few (nat_lt max_tets n) n d)
-
-stops_table : (c : Reading) → Stops Lex table_at c
-unfolding table_at
-stops_table c =
-    stops_chained Lex (λ d. lexed (number_at limit d)) (λ n d. if_few (nat_lt max_tets n) n d) c (goes_lifted as_is Lex (λ r. lexed r) lexed_lift (number_at limit) c (goes_number limit c))
-    (stops_lifted as_is Lex (λ r. lexed r) lexed_lift (number_at limit) c (stops_number limit c)) (λ n d e. stops_few (nat_lt max_tets n) n d)
 
 -- what follows the word `sig`
 unfoldable pub any_text : List ℕ → Result (List ℕ) LexKind
@@ -259,16 +213,9 @@ a_word c = worded (word_at c)
 goes_a_word : (c : Reading) → Goes a_word c
 goes_a_word c = goes_lifted as_is in_text (λ r. worded r) worded_lift word_at c (goes_same (word_with any_text) word_at any_word c (goes_word any_text c))
 
-stops_a_word : (c : Reading) → Stops in_text a_word c
-stops_a_word c = stops_lifted as_is in_text (λ r. worded r) worded_lift word_at c (stops_same as_is (word_with any_text) word_at any_word c (stops_word any_text c))
-
 goes_decoded : (r : Result (List tables.Row) SigFault) (c : Reading) → Goes (λ d. decoded d r) c
 goes_decoded (Ok rows) c = goes_pure rows c
 goes_decoded (Err f) c = λ x d e. absurd cc
-
-stops_decoded : (r : Result (List tables.Row) SigFault) (c : Reading) → Stops in_text (λ d. decoded d r) c
-stops_decoded (Ok rows) c = λ f e. absurd cc
-stops_decoded (Err f) c = λ g e. absurd cc
 
 abbrev pub text_on : List ℕ → Reading → Result Rows InputFault
 text_on w d = worded (end_line_at d) >>= λ (end : Reading). decoded end (signature_table w)
@@ -278,13 +225,6 @@ unfolding signature_at
 goes_signature c =
     goes_chained a_word text_on c (goes_a_word c)
     (λ w d e. goes_moved in_text (λ b. worded (end_line_at b)) (λ end. decoded end (signature_table w)) d (goes_worded end_line_at d (goes_end d) (stops_end d)) (λ end q. goes_decoded (signature_table w) end))
-
-stops_signature : (c : Reading) → Stops in_text signature_at c
-unfolding signature_at
-stops_signature c =
-    stops_chained in_text a_word text_on c (goes_a_word c) (stops_a_word c)
-    (λ w d e. stops_moved in_text (λ b. worded (end_line_at b)) (λ end. decoded end (signature_table w)) d (goes_worded end_line_at d (goes_end d) (stops_end d)) (stops_worded end_line_at d (goes_end d) (stops_end d))
-    (λ end q. stops_decoded (signature_table w) end))
 
 -- a table by its first word: true for `tri`, false for `sig`
 unfoldable pub name_test : List ℕ → Result Bool LexKind
@@ -317,28 +257,8 @@ unfolding by_name
 goes_by_name true c = goes_lifted Lex in_text (λ r. texted r) texted_lift table_at c (goes_table c)
 goes_by_name false c = goes_signature c
 
-stops_by_name : (b : Bool) (c : Reading) → Stops in_text (by_name b) c
-unfolding by_name
-stops_by_name true c = stops_lifted Lex in_text (λ r. texted r) texted_lift table_at c (stops_table c)
-stops_by_name false c = stops_signature c
-
 goes_a_name : (c : Reading) → Goes a_name c
 goes_a_name c = goes_lifted as_is in_text (λ r. worded r) worded_lift (word_with name_test) c (goes_word name_test c)
 
 pub goes_any_table : (c : Reading) → Goes any_table_at c
 goes_any_table c = goes_same (λ d. a_name d >>= λ (b : Bool × Reading). by_name b.0 b.1) any_table_at table_named c (goes_chained a_name by_name c (goes_a_name c) (λ b d e. goes_by_name b d))
-
-pub stops_any_table : (c : Reading) → Stops in_text any_table_at c
-stops_any_table c =
-    stops_same in_text (λ d. a_name d >>= λ (b : Bool × Reading). by_name b.0 b.1) any_table_at table_named c
-    (stops_chained in_text a_name by_name c (goes_a_name c) (stops_lifted as_is in_text (λ r. worded r) worded_lift (word_with name_test) c (stops_word name_test c)) (λ b d e. stops_by_name b d))
-
--- a table on the next lines
-pub goes_next_table : (c : Reading) → Goes next_table_at c
-unfolding next_table_at
-goes_next_table c = goes_moved in_text (λ d. worded (need_line_at d)) any_table_at c (goes_worded need_line_at c (goes_line c) (stops_line c)) (λ d e. goes_any_table d)
-
-pub stops_next_table : (c : Reading) → Stops in_text next_table_at c
-unfolding next_table_at
-stops_next_table c =
-    stops_moved in_text (λ d. worded (need_line_at d)) any_table_at c (goes_worded need_line_at c (goes_line c) (stops_line c)) (stops_worded need_line_at c (goes_line c) (stops_line c)) (λ d e. stops_any_table d)

@@ -4,7 +4,6 @@ use Rattle.std.specs.Prelude.{⊤, codes, slice_index}
 use Rattle.text_definitions.specs.declared.LexKind.{LexKind}
 use Rattle.text_definitions.specs.declared.LexKind.TheVariants.{BadWord}
 use Rattle.text_definitions.specs.declared.LexFault.{LexFault}
-use Rattle.text_definitions.specs.Text.{decimal_value}
 use Rattle.text_definitions.specs.Reading.{Reading, ◌>>=◌, word_at, number_at, end_line_at}
 use Rattle.table_definitions.specs.Permutation.{four, others}
 use Rattle.table_definitions.specs.Places.{edge_ends}
@@ -14,9 +13,9 @@ use Rattle.document_definitions.specs.Signs.{Sign}
 use Rattle.document_laws.proofs.Local.{shows, Goes, goes_chained, goes_pure, goes_same, goes_moved, alone_bind}
 use Rattle.document_laws.proofs.LocalWords.{as_is, tested, word_with, ending, ends_again, goes_word, goes_end}
 use Rattle.document_laws.proofs.LocalLines.{ends_shown}
-use Rattle.document_laws.proofs.LocalForms.{number_test, number_word, goes_number}
+use Rattle.document_laws.proofs.LocalForms.{goes_number}
 use Rattle.document_laws.proofs.Ways.{Sat, From, Alike, alike_goes, Well, Free, sat_both, well_free, free_chained, free_pure, free_same, sat_same, well_same, from_sat, sat_mapped, well_mapped}
-use Rattle.document_laws.proofs.WordWays.{free_word, sat_word, well_word, sat_end, well_end}
+use Rattle.document_laws.proofs.WordWays.{free_word, sat_word, well_word, sat_end, well_end, free_number, sat_number, well_number}
 
 -- vertices
 spelled_test : Option (List ℕ) → Result (List ℕ) LexKind
@@ -133,13 +132,6 @@ kind_on kind c = kind_at (Some kind) c
 abbrev tetrahedron : ℕ
 tetrahedron = 2 ^ 32 - 1
 
-abbrev tet_test : List ℕ → Result ℕ LexKind
-tet_test w = number_test (λ n. n) tetrahedron (decimal_value w)
-
-naught_passes : tet_test (codes "0") ≡ Ok 0
-unfolding number_test
-naught_passes = refl
-
 goes_core_on : (kind : MoveKind) (t : ℕ) (c : Reading) → Goes (core_on kind t) c
 goes_core_on kind t c = goes_chained (core_at kind) (λ core d. closed (move_of t core) d) c (goes_core kind c) (λ core d e. goes_closed (move_of t core) d)
 
@@ -182,18 +174,15 @@ module _ (Aim : Move → List Sign → Type 0) (k : Reading) (none : k.current.t
   abbrev ThenCore : MoveKind → ℕ → List Sign → Type 0
   ThenCore kind t ss = From (core_on kind t) Aim ss
 
-  sat_tet : (kind : MoveKind) → Sat (word_with tet_test) (ThenCore kind)
-  sat_tet kind = sat_word tet_test (codes "0") 0 naught_passes (ThenCore kind) (sat_core_on kind 0).start (from_sat (core_on kind 0) Aim (sat_core_on kind 0))
-
   sat_kind : (kind : MoveKind) → Sat (kind_on kind) Aim
   unfolding kind_at
-  sat_kind kind = sat_both as_is (number_at tetrahedron) (core_on kind) Aim (alike_core_on kind) (sat_same (word_with tet_test) (number_at tetrahedron) (ThenCore kind) (number_word tetrahedron) (sat_tet kind))
+  sat_kind kind = sat_both as_is (number_at tetrahedron) (core_on kind) Aim (alike_core_on kind) (sat_number tetrahedron (ThenCore kind) (sat_core_on kind 0).start (from_sat (core_on kind 0) Aim (sat_core_on kind 0)))
 
   well_kind : (kind : MoveKind) (c : Reading) → Well as_is (kind_on kind) Aim c
   unfolding kind_at
   well_kind kind c =
-      well_free as_is (number_at tetrahedron) (core_on kind) Aim (alike_core_on kind) c (free_same (word_with tet_test) (number_at tetrahedron) (number_word tetrahedron) c (free_word tet_test c))
-      (well_same as_is (word_with tet_test) (number_at tetrahedron) (ThenCore kind) (number_word tetrahedron) c (well_word tet_test (ThenCore kind) c (sat_tet kind)))
+      well_free as_is (number_at tetrahedron) (core_on kind) Aim (alike_core_on kind) c (free_number tetrahedron c)
+      (well_number tetrahedron (ThenCore kind) c (sat_core_on kind 0).start (from_sat (core_on kind 0) Aim (sat_core_on kind 0)))
       (λ t d e. well_core_on kind t d)
 
 -- a move line

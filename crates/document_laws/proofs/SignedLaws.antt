@@ -7,8 +7,9 @@ use Rattle.std.proofs.lemmas.Bool.{and_right, eqb-true}
 use Rattle.text_definitions.specs.Text.{Token, word, decimal_value, digits_value}
 use Rattle.text_definitions.specs.declared.LexFault.{LexFault}
 use Rattle.text_definitions.specs.Reading.{Reading, ◌>>=◌, word_at, number_up_to, signed_at, magnitude, is_negative, with_sign}
+use Rattle.text_definitions.proofs.Readers.{bind_ok}
 use Rattle.table_definitions.specs.Grammar.{IsNumber, IsSigned}
-use Rattle.table_definitions.proofs.ReadingLaws.{bind_ok, ok_parts, with_tokens, behind, TakesWord, word_taken, number_taken, number_found}
+use Rattle.table_definitions.proofs.ReadingLaws.{ok_parts, with_tokens, behind, TakesWord, word_taken, number_taken, number_found}
 
 -- a word and its magnitude
 signed_with : (max : ℕ) (w : List ℕ) (n : ℕ) → IsNumber max (magnitude w) n → IsSigned max w (with_sign (is_negative w) n)

@@ -5,12 +5,13 @@ use Rattle.std.proofs.lemmas.List.{length-append}
 use Rattle.text_definitions.specs.Text.{Line, lines_of}
 use Rattle.text_definitions.specs.declared.LexFault.{LexFault}
 use Rattle.text_definitions.specs.Reading.{Reading, ◌>>=◌, begun, start_of}
+use Rattle.text_definitions.proofs.Readers.{bind_ok}
 use Rattle.table_definitions.specs.Table.{Row}
 use Rattle.signature_definitions.specs.declared.InputFault.{InputFault}
 use Rattle.signature_definitions.specs.Grammar.{AreTableLines}
 use Rattle.document_definitions.specs.Documents.{worded, next_table_at}
 use Rattle.document_definitions.specs.Blocks.{Block, block_at, blocks_on, blocks_from, blocks_document, AreBlockLines, AreBlocks, AreTableAndBlocks}
-use Rattle.table_definitions.proofs.ReadingLaws.{bind_ok, ok_parts}
+use Rattle.table_definitions.proofs.ReadingLaws.{ok_parts}
 use Rattle.document_laws.proofs.Tables.{worded_ok, worded_with, table_blocks}
 use Rattle.document_laws.proofs.BlockReading.{BlockRead, block_read}
 use Rattle.document_laws.proofs.BlockFinding.{BlockFound, block_found}

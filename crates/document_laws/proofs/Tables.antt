@@ -5,6 +5,7 @@ use Rattle.text_definitions.specs.Text.{Token, word, Line}
 use Rattle.text_definitions.specs.declared.LexKind.TheVariants.{BadWord}
 use Rattle.text_definitions.specs.declared.LexFault.{LexFault}
 use Rattle.text_definitions.specs.Reading.{Reading, ◌>>=◌, begun, need_line_at, word_at, end_line_at, exactly_at, same_word, word_fault}
+use Rattle.text_definitions.proofs.Readers.{bind_ok}
 use Rattle.table_definitions.specs.Lists.{same_list}
 use Rattle.table_definitions.specs.Table.{Row}
 use Rattle.table_definitions.specs.declared.TextFault.{TextFault}
@@ -16,13 +17,13 @@ use Rattle.signature_definitions.specs.declared.SigFault.{SigFault}
 use Rattle.signature_definitions.specs.SignatureText.{texted, decoded, signature_table, signature_at, named_table_at, any_table_at}
 use Rattle.signature_definitions.specs.Grammar.{AreTableLines}
 use Rattle.document_definitions.specs.Documents.{worded, no_line_at, next_table_at}
-use Rattle.table_definitions.proofs.ListLaws.{same_list-true}
-use Rattle.table_definitions.proofs.ReadingLaws.{bind_ok, with_tokens, behind, TakesWord, word_taken}
+use Rattle.table_definitions.proofs.ReadingLaws.{with_tokens, behind, TakesWord, word_taken}
 use Rattle.table_definitions.proofs.TableReadingLaws.{lexed_ok, TriTableRead, tri_table_read}
 use Rattle.table_definitions.proofs.TableFoundLaws.{lexed_with, tri_table_found}
+use Rattle.table_definitions.proofs.ListFacts.{same_list-true}
+use Rattle.table_definitions.proofs.LineLaws.{BeginsLine, line_begun, line_found, line_ended, FirstWord, first_word, no_words}
 use Rattle.signature_codec.proofs.ReadTables.{read_spelled}
 use Rattle.signature_codec.proofs.SpelledTables.{spelled_read}
-use Rattle.document_laws.proofs.LineLaws.{BeginsLine, line_begun, line_found, line_ended, FirstWord, first_word, no_words}
 use Rattle.document_laws.proofs.Blocks.{ReadsBlocks, ReadsEnd}
 use Rattle.signature_codec.proofs.AnyTables.{texted_ok, decoded_ok}
 
@@ -38,11 +39,12 @@ worded_with r x e = texted_with (lexed r) x (lexed_with r x e)
 pub worded_end : ReadsEnd (λ c. worded (no_line_at c))
 worded_end = record { sound = λ c d e. worded_ok (no_line_at c) d e; complete = λ c d e. worded_with (no_line_at c) d e }
 
--- the lines of a table that was read
-record TableLines (c : Reading) (rows : List Row) (d : Reading) : Type 0 where
-  lines : List Line
-  split : c.later ≡ lines ++ d.later
-  table_lines : AreTableLines lines rows
+-- the lines of a table that was read, the last of which is used up
+pub record TableLines (c : Reading) (rows : List Row) (d : Reading) : Type 0 where
+  pub lines : List Line
+  pub split : c.later ≡ lines ++ d.later
+  pub table_lines : AreTableLines lines rows
+  pub at_end : d.current.tokens ≡ []
 
 -- the word `tri`, and then as in the one form
 abbrev Table : Type 0
@@ -70,6 +72,7 @@ sig_lines c x w next rows d text behind_text last l a named b ended table same =
       lines = l.line ∷ [];
       split = l.lines ∙ ap (λ (ls : List Line). l.line ∷ ls) (ap (λ (r : Reading). r.later) (sym l.left) ∙ ap (λ (r : Reading). r.later) (sym ended.1) ∙ ap (λ (r : Reading). r.later) same);
       table_lines = inr (text, subst (λ (r : Reading). AreWords r.current.tokens (codes "sig" ∷ text ∷ [])) l.left here, read_spelled text rows table);
+      at_end = ap (λ (r : Reading). r.current.tokens) (sym same ∙ ended.1);
     }
 
 sig_read : (c x : Reading) (w : List ℕ) (next : Reading) (rows : List Row) (d : Reading) → BeginsLine c x → TakesWord x.current.tokens x w next → w ≡ codes "sig" → signature_at next ≡ Ok (rows, d) → TableLines c rows d
@@ -94,11 +97,11 @@ table_by_name : (c x : Reading) (w : List ℕ) (next : Reading) (rows : List Row
     → by_name t s next ≡ Ok (rows, d) → TableLines c rows d
 table_by_name c x w next rows d e1 e2 true s p q e =
     let r : TriTableRead c rows d = tri_table_read c rows d (tri_of_parts c x w next (rows, d) e1 e2 (same_word_of w (codes "tri") p) (texted_ok (table_at next) (rows, d) e)) in
-    record { lines = r.lines; split = r.split; table_lines = inl r.table }
+    record { lines = r.lines; split = r.split; table_lines = inl r.table; at_end = r.at_end }
 table_by_name c x w next rows d e1 e2 false true p q e = sig_read c x w next rows d (line_begun c x e1) (word_taken x.current.tokens x w next e2) (same_list-true w (codes "sig") q) e
 table_by_name c x w next rows d e1 e2 false false p q e = absurd cc
 
-table_read : (c : Reading) (rows : List Row) (d : Reading) → next_table_at c ≡ Ok (rows, d) → TableLines c rows d
+pub table_read : (c : Reading) (rows : List Row) (d : Reading) → next_table_at c ≡ Ok (rows, d) → TableLines c rows d
 unfolding next_table_at any_table_at
 table_read c rows d e =
     let b1 : (x : Reading) × (worded (need_line_at c) ≡ Ok x) × (any_table_at x ≡ Ok (rows, d)) = bind_ok (worded (need_line_at c)) any_table_at (rows, d) e in
@@ -106,10 +109,11 @@ table_read c rows d e =
     table_by_name c b1.0 (b2.0).0 (b2.0).1 rows d (worded_ok (need_line_at c) b1.0 b1.1) (worded_ok (word_at b1.0) b2.0 b2.1) (same_list (b2.0).0 (codes "tri")) (same_list (b2.0).0 (codes "sig")) refl refl b2.2
 
 -- what is in the grammar is read
-record TableFound (c : Reading) (rows : List Row) (rest : List Line) : Type 0 where
-  left : Reading
-  read : next_table_at c ≡ Ok (rows, left)
-  later : left.later ≡ rest
+pub record TableFound (c : Reading) (rows : List Row) (rest : List Line) : Type 0 where
+  pub left : Reading
+  pub read : next_table_at c ≡ Ok (rows, left)
+  pub later : left.later ≡ rest
+  pub at_end : left.current.tokens ≡ []
 
 parts_of_tri : (c : Reading) (t : Table) → tri_table_at c ≡ Ok t → next_table_at c ≡ Ok t
 unfolding tri_table_at exactly_at next_table_at any_table_at
@@ -151,12 +155,13 @@ sig_found c rows l rest text split a table =
           ∙ ap (λ (ts : List Token). any_table_at (with_tokens ts start)) tokens
           ∙ sig_of_words f1.column f2.column (codes "sig") text rows start refl table;
       later = refl;
+      at_end = refl;
     }
 
-table_found : (c : Reading) (rows : List Row) (lines rest : List Line) → c.later ≡ lines ++ rest → AreTableLines lines rows → TableFound c rows rest
+pub table_found : (c : Reading) (rows : List Row) (lines rest : List Line) → c.later ≡ lines ++ rest → AreTableLines lines rows → TableFound c rows rest
 table_found c rows lines rest split (inl tri) =
     let t : ReadsTriTable c rows rest = tri_table_found c rows rest lines split tri in
-    record { left = t.left; read = parts_of_tri c (rows, t.left) t.read; later = t.later }
+    record { left = t.left; read = parts_of_tri c (rows, t.left) t.read; later = t.later; at_end = t.at_end }
 table_found c rows [] rest split (inr s) = absurd s
 table_found c rows (l ∷ []) rest split (inr (text, a, spells)) = sig_found c rows l rest text split a (spelled_read text rows spells)
 table_found c rows (l ∷ m ∷ lines) rest split (inr s) = absurd s

@@ -7,8 +7,9 @@ use Rattle.text_definitions.specs.declared.LexKind.TheVariants.{BadByte, ExtraWo
 use Rattle.text_definitions.specs.declared.LexFault.{LexFault}
 use Rattle.text_definitions.specs.Text.{Token, word, stray, Line}
 use Rattle.text_definitions.specs.Reading.{Reading, ◌>>=◌, begun, fault_at}
+use Rattle.text_definitions.proofs.Readers.{bind_ok}
 use Rattle.document_definitions.specs.Signs.{Sign, shown, strange, line_end, input_end, Placed, line_signs, signs_of, plain}
-use Rattle.table_definitions.proofs.ReadingLaws.{bind_ok, ok_parts, with_tokens}
+use Rattle.table_definitions.proofs.ReadingLaws.{ok_parts, with_tokens}
 use Rattle.document_laws.proofs.Local.{left_signs, shows, opening, plain-append, StopsAt, Goes}
 use Rattle.document_laws.proofs.LocalWords.{as_is}
 use Rattle.document_laws.proofs.LocalLines.{by_lines, in_line, rest_here, split_line, further, Further, no_input_end, behind_line as behind_rest}

@@ -5,13 +5,15 @@ use Rattle.std.specs.List.{AllZip, AllByRecursion}
 use Rattle.text_definitions.specs.declared.LexFault.{LexFault}
 use Rattle.text_definitions.specs.Text.{Token, word, Line}
 use Rattle.text_definitions.specs.Reading.{Reading, ◌>>=◌, begun, number_at, need_line_at, end_line_at}
+use Rattle.text_definitions.proofs.Readers.{bind_ok}
 use Rattle.table_definitions.specs.Table.{max_tets, Row}
 use Rattle.table_definitions.specs.Grammar.{AreWords, IsNumber, IsEntry, IsRowLine, AreTriLines}
-use Rattle.table_definitions.proofs.ReadingLaws.{bind_ok, ok_parts, with_tokens, behind, TakesNumber, number_read, one_number}
+use Rattle.table_definitions.proofs.ReadingLaws.{ok_parts, with_tokens, behind, TakesNumber, number_read, one_number}
+use Rattle.table_definitions.proofs.LineLaws.{BeginsLine, line_begun, line_found, line_ended, end_found, FirstWord, first_word, no_words}
 use Rattle.document_definitions.specs.TextForms.{IsRowText, AreTriText, AreTableText}
-use Rattle.document_laws.specs.TextFaultLaws.{TablesHaveText}
+use Rattle.signature_definitions.specs.Grammar.{AreTableLines}
+use Rattle.document_laws.specs.FormLaws.{HaveForm}
 use Rattle.document_laws.proofs.Blocks.{ReadsBlocks}
-use Rattle.document_laws.proofs.LineLaws.{BeginsLine, line_begun, line_found, line_ended, end_found, FirstWord, first_word, no_words}
 use Rattle.document_laws.proofs.Local.{alone, alone_ok}
 use Rattle.document_laws.proofs.LocalWords.{word_with, ending}
 use Rattle.document_laws.proofs.LocalLines.{next_line}
@@ -266,7 +268,7 @@ tri_has_text (l ∷ lines) rows (n, a, value, z, table) =
     let m : AllByRecursion IsRowText lines × (length rows ≡ length lines) = rows_have_text lines rows z in
     (n, a, subst (λ (k : ℕ). IsNumber max_tets n k) m.1 (record { value = value; up_to = table.few }), m.0)
 
-pub tables_have_text : TablesHaveText
+pub tables_have_text : HaveForm AreTableLines AreTableText
 tables_have_text lines rows (inl h) = inl (tri_has_text lines rows h)
 tables_have_text [] rows (inr h) = absurd h
 tables_have_text (l ∷ []) rows (inr (text, a, spells)) = inr (text, a)

@@ -1,20 +1,19 @@
 -- The text of a table: what stands before a fault can be gone on with to the text of one.
-use Rattle.std.proofs.Common.{◌≡◌, ℕ, zero, suc, Bool, true, false, List, [], ◌∷◌, Option, None, Result, Ok, refl, ap, ◌∙◌}
+use Rattle.std.proofs.Common.{◌≡◌, ℕ, zero, suc, Bool, true, false, List, [], ◌∷◌, None, Result, Ok, refl, ap, ◌∙◌}
 use Rattle.std.specs.Prelude.{⊤, codes}
 use Rattle.text_definitions.specs.declared.LexKind.{LexKind}
 use Rattle.text_definitions.specs.declared.LexFault.{LexFault}
-use Rattle.text_definitions.specs.Text.{decimal_value}
 use Rattle.text_definitions.specs.Reading.{Reading, ◌>>=◌, number_at}
-use Rattle.table_definitions.specs.Table.{max_tets, Gluing}
+use Rattle.table_definitions.specs.Table.{max_tets}
+use Rattle.table_definitions.proofs.LineLaws.{line_found}
 use Rattle.document_definitions.specs.Signs.{Sign}
-use Rattle.document_laws.proofs.LineLaws.{line_found}
 use Rattle.document_laws.proofs.Local.{shows, Goes, goes_chained, goes_pure, alone}
 use Rattle.document_laws.proofs.LocalWords.{as_is, word_with, ending, goes_word, goes_end}
 use Rattle.document_laws.proofs.LocalLines.{next_line, goes_line}
-use Rattle.document_laws.proofs.LocalForms.{number_test, number_word, goes_number}
+use Rattle.document_laws.proofs.LocalForms.{goes_number}
 use Rattle.document_laws.proofs.LocalTables.{entry_test, any_text, name_test}
-use Rattle.document_laws.proofs.Ways.{Sat, From, Alike, alike_goes, again_from, Well, WellOpen, Free, sat_both, well_free, well_goes, well_open, well_behind, free_same, sat_same, well_same, from_sat}
-use Rattle.document_laws.proofs.WordWays.{free_word, sat_word, well_word, sat_end, well_end, free_line, well_line}
+use Rattle.document_laws.proofs.Ways.{Sat, From, Alike, alike_goes, again_from, Well, WellOpen, sat_both, well_free, well_goes, well_open, well_behind, from_sat}
+use Rattle.document_laws.proofs.WordWays.{free_word, sat_word, well_word, sat_end, well_end, free_line, well_line, free_number, sat_number, well_number}
 use Rattle.document_laws.proofs.TextReaders.{Read, words_at, row_text, row_line, rows_text, counted_text, tri_text, sig_text, text_named, text_at, next_text}
 use Rattle.document_laws.proofs.TextGrammar.{tri_passes}
 
@@ -73,10 +72,6 @@ module _ {A : Type 0} (test : List ℕ → Result A LexKind) (w : List ℕ) (x :
         well_free as_is (word_with test) (λ y. words_at test n) Aim (alike_words n) c (free_word test c)
         (well_word test (λ y ss. From (words_at test n) Aim ss) c (sat_word test w x passes (λ y ss. From (words_at test n) Aim ss) more.start (from_sat (words_at test n) Aim more)))
         (λ y d e. well_words n d)
-
--- entries
-no_gluing : Option Gluing
-no_gluing = None
 
 dash_passes : entry_test (codes "-") ≡ Ok None
 unfolding entry_test
@@ -161,23 +156,6 @@ module _ (Aim : ⊤ → List Sign → Type 0) (k : Reading) (none : k.current.to
   well_counted : (n : ℕ) (c : Reading) → Well as_is (counted_text n) Aim c
   well_counted n c = well_goes as_is ending (λ u. rows_text n) Aim (alike_rows n) c (goes_end c) (well_end (ThenRows n Aim) c (sat_ending n)) (λ u d e. well_rows n d)
 
--- the number of rows
-abbrev count_test : List ℕ → Result ℕ LexKind
-count_test w = number_test (λ n. n) max_tets (decimal_value w)
-
-naught_passes : count_test (codes "0") ≡ Ok 0
-unfolding number_test
-naught_passes = refl
-
-free_count : (c : Reading) → Free (number_at max_tets) c
-free_count c = free_same (word_with count_test) (number_at max_tets) (number_word max_tets) c (free_word count_test c)
-
-sat_count : (Aim : ℕ → List Sign → Type 0) (k : Reading) → Aim 0 (shows k) → Sat (number_at max_tets) Aim
-sat_count Aim k a = sat_same (word_with count_test) (number_at max_tets) Aim (number_word max_tets) (sat_word count_test (codes "0") 0 naught_passes Aim k a)
-
-well_count : (Aim : ℕ → List Sign → Type 0) (c k : Reading) → Aim 0 (shows k) → Well as_is (number_at max_tets) Aim c
-well_count Aim c k a = well_same as_is (word_with count_test) (number_at max_tets) Aim (number_word max_tets) c (well_word count_test Aim c (sat_word count_test (codes "0") 0 naught_passes Aim k a))
-
 letter_passes : any_text (codes "a") ≡ Ok (codes "a")
 unfolding any_text
 letter_passes = refl
@@ -203,11 +181,11 @@ module _ (Aim : ⊤ → List Sign → Type 0) (k : Reading) (none : k.current.to
   from_none = from_sat (counted_text 0) Aim (sat_counted Aim k none a 0)
 
   sat_tri : Sat tri_text Aim
-  sat_tri = sat_both as_is (number_at max_tets) counted_text Aim alike_counted (sat_count ThenCounted (sat_counted Aim k none a 0).start from_none)
+  sat_tri = sat_both as_is (number_at max_tets) counted_text Aim alike_counted (sat_number max_tets ThenCounted (sat_counted Aim k none a 0).start from_none)
 
   well_tri : (c : Reading) → Well as_is tri_text Aim c
   well_tri c =
-      well_free as_is (number_at max_tets) counted_text Aim alike_counted c (free_count c) (well_count ThenCounted c (sat_counted Aim k none a 0).start from_none)
+      well_free as_is (number_at max_tets) counted_text Aim alike_counted c (free_number max_tets c) (well_number max_tets ThenCounted c (sat_counted Aim k none a 0).start from_none)
       (λ n d e. well_counted Aim k none a n d)
 
   abbrev ThenEnding : List ℕ → List Sign → Type 0

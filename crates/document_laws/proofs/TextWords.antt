@@ -8,19 +8,20 @@ use Rattle.text_definitions.specs.declared.LexKind.TheVariants.{NumberTooWide, B
 use Rattle.text_definitions.specs.declared.LexFault.{LexFault}
 use Rattle.text_definitions.specs.Text.{Token, word}
 use Rattle.text_definitions.specs.Reading.{Reading, ◌>>=◌, word_at, end_line_at}
+use Rattle.text_definitions.proofs.Readers.{bind_ok}
 use Rattle.table_definitions.specs.Lists.{same_list}
 use Rattle.table_definitions.specs.Table.{Gluing, Row}
 use Rattle.table_definitions.specs.TableText.{gluing_of}
 use Rattle.table_definitions.specs.Grammar.{AreWords, IsEntry}
-use Rattle.table_definitions.proofs.ListLaws.{same_list-true}
 use Rattle.table_definitions.proofs.EntryLaws.{gluing_of-some, gluing_of-word}
-use Rattle.table_definitions.proofs.ReadingLaws.{bind_ok, ok_parts, with_tokens, behind, TakesWord, word_taken}
-use Rattle.document_laws.proofs.LineLaws.{line_ended, end_found, FirstWord, first_word, no_words}
+use Rattle.table_definitions.proofs.ReadingLaws.{ok_parts, with_tokens, behind, TakesWord, word_taken}
 use Rattle.document_laws.proofs.Local.{alone, alone_ok}
 use Rattle.document_laws.proofs.LocalWords.{tested, word_with, at_word, ending}
 use Rattle.document_laws.proofs.LocalTables.{gluing_test, entry_test, name_test}
 use Rattle.document_laws.proofs.TextReaders.{words_at}
 use Rattle.table_definitions.proofs.TableFoundLaws.{no_dash}
+use Rattle.table_definitions.proofs.ListFacts.{same_list-true}
+use Rattle.table_definitions.proofs.LineLaws.{line_ended, end_found, FirstWord, first_word, no_words}
 
 -- a word that passed
 pub record Passes {A : Type 0} (test : List ℕ → Result A LexKind) (c : Reading) (x : A) (d : Reading) : Type 0 where

@@ -4,7 +4,7 @@ use Rattle.std.specs.Prelude.{⊤, codes}
 use Rattle.text_definitions.specs.declared.Place.{Place}
 use Rattle.text_definitions.specs.declared.LexKind.{LexKind}
 use Rattle.text_definitions.specs.declared.LexFault.{LexFault}
-use Rattle.text_definitions.specs.Text.{Token, decimal_value}
+use Rattle.text_definitions.specs.Text.{Token}
 use Rattle.text_definitions.specs.Written.{limit}
 use Rattle.text_definitions.specs.Reading.{Reading, ◌>>=◌, word_at, number_at, exactly_at, numbers_from, numbers_at}
 use Rattle.cone_text_definitions.specs.VectorText.{vector_at}
@@ -13,25 +13,9 @@ use Rattle.table_definitions.proofs.ReadingLaws.{with_tokens}
 use Rattle.document_laws.proofs.Local.{shows, StopsAt, Goes, goes_chained, goes_pure, alone_bind}
 use Rattle.document_laws.proofs.LocalWords.{as_is, word_with}
 use Rattle.document_laws.proofs.LocalLines.{by_end, by_ends, end_stop}
-use Rattle.document_laws.proofs.LocalForms.{number_test, number_word, exact_test, exact_word, exactly, goes_numbers, Numbers, others_with, one_more, numbers_stepped, tokens_after}
-use Rattle.document_laws.proofs.Ways.{From, alike_each, Way, Well, Free, well_free, well_mapped, free_same, well_same}
-use Rattle.document_laws.proofs.WordWays.{free_word, sat_word, well_word}
-
-abbrev naught : List ℕ
-naught = codes "0"
-
-abbrev one_number : List ℕ → Result ℕ LexKind
-one_number w = number_test (λ n. n) limit (decimal_value w)
-
-naught_up_to : one_number naught ≡ Ok 0
-unfolding number_test
-naught_up_to = refl
-
-free_number : (c : Reading) → Free (number_at limit) c
-free_number c = free_same (word_with one_number) (number_at limit) (number_word limit) c (free_word one_number c)
-
-well_number : (Aim : ℕ → List Sign → Type 0) (c k : Reading) → Aim 0 (shows k) → Well as_is (number_at limit) Aim c
-well_number Aim c k a = well_same as_is (word_with one_number) (number_at limit) Aim (number_word limit) c (well_word one_number Aim c (sat_word one_number naught 0 naught_up_to Aim k a))
+use Rattle.document_laws.proofs.LocalForms.{exact_test, exact_word, exactly, goes_numbers, Numbers, others_with, one_more, numbers_stepped, tokens_after}
+use Rattle.document_laws.proofs.Ways.{From, alike_each, Way, Well, well_free, well_mapped, free_same, well_same}
+use Rattle.document_laws.proofs.WordWays.{free_word, sat_word, well_word, free_number, well_number}
 
 -- no number is read at the end of a line
 no_number : (c : Reading) → c.current.tokens ≡ [] → (y : Numbers) → one_more limit c ≢ Ok y
@@ -73,7 +57,7 @@ module _ (k : Reading) (none : k.current.tokens ≡ []) where
   well_numbers_in [] c empty Aim a = λ f e. (let both : ◌≡◌ {A = Result Numbers LexFault} (Ok ([], c)) (Err f) = sym (no_numbers c empty) ∙ e in absurd cc)
   well_numbers_in (u ∷ us) c first Aim a =
       well_stepped Aim c u us first
-      (well_free as_is (number_at limit) (others_with limit) Aim (alike_each (others_with limit) goes_others) c (free_number c) (well_number (λ n ss. From (others_with limit n) Aim ss) c k (from_numbers 0 Aim (a (0 ∷ []))))
+      (well_free as_is (number_at limit) (others_with limit) Aim (alike_each (others_with limit) goes_others) c (free_number limit c) (well_number limit (λ n ss. From (others_with limit n) Aim ss) c k (from_numbers 0 Aim (a (0 ∷ []))))
       (λ n d e. well_mapped (numbers_at limit) (λ xs. n ∷ xs) Aim d (well_numbers_in us d (sym (tokens_after limit c u us n d first e)) (λ xs. Aim (n ∷ xs)) (λ xs. a (n ∷ xs)))))
 
   -- a vector line

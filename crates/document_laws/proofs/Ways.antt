@@ -5,8 +5,9 @@ use Rattle.text_definitions.specs.declared.Place.{Place}
 use Rattle.text_definitions.specs.declared.LexFault.{LexFault}
 use Rattle.text_definitions.specs.Text.{Token, word, stray, Line}
 use Rattle.text_definitions.specs.Reading.{Reading, ◌>>=◌}
+use Rattle.text_definitions.proofs.Readers.{bind_ok}
 use Rattle.document_definitions.specs.Signs.{Sign, line_end, input_end, Placed, token_sign, line_signs, signs_of, plain}
-use Rattle.table_definitions.proofs.ReadingLaws.{bind_ok, ok_parts, with_tokens}
+use Rattle.table_definitions.proofs.ReadingLaws.{ok_parts, with_tokens}
 use Rattle.document_laws.proofs.Local.{left_signs, shows, opening, opening_more, plain-append, shows_split, GoesOn, StopsAt, Goes, regrouped, chained, goes_joined, bind_err, stops_late, stops_early}
 use Rattle.document_laws.proofs.LocalWords.{as_is}
 

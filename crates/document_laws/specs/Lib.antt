@@ -1,4 +1,4 @@
 pub mod ConeLaws
-pub mod DocumentLaws
 pub mod FaultLaws
-pub mod TextFaultLaws
+pub mod FormLaws
+pub mod TableLaws

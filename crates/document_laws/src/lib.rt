@@ -4,77 +4,49 @@
 #![tactic(auto)]
 
 ghost use Rattle.document_laws.specs.ConeLaws.{ConesAreRead, ConeDocumentsAreRead};
-ghost use Rattle.document_laws.specs.FaultLaws.{ConeFaultsLeave, TableFaultsLeave, TwoTablesFaultsLeave, TablesFaultsLeave, VectorsFaultsLeave, VectorsFaultsLeaveFirst, VectorFaultsLeave, StepsFaultsLeave, MovesFaultsLeave};
-ghost use Rattle.document_laws.specs.TextFaultLaws.{TablesHaveText, VectorsHaveText, StepsHaveText, MovesHaveText, OneVectorHasText, TwoTablesHaveText, ManyTablesHaveText, BlocksHaveText};
-ghost use Rattle.document_laws.specs.TextFaultLaws.{TableFaultsStandFirst, VectorsFaultsStandFirst, StepsFaultsStandFirst, MovesFaultsStandFirst, VectorFaultsStandFirst, TwoTablesFaultsStandFirst, TablesFaultsStandFirst, BlocksFaultsStandFirst};
-ghost use Rattle.document_laws.specs.DocumentLaws.{TableDocumentsAreRead, VectorsDocumentsAreRead, StepsDocumentsAreRead, MovesDocumentsAreRead, VectorDocumentsAreRead, TwoTablesAreRead, TablesAreRead, BlocksDocumentsAreRead};
+ghost use Rattle.document_laws.specs.FaultLaws.{ConeFaultsLeave, VectorsFaultsLeaveFirst};
+ghost use Rattle.document_laws.specs.FormLaws.{TableLaws, TwoTablesLaws, TablesLaws, VectorsLaws, VectorLaws, StepsLaws, MovesLaws, BlocksLaws};
+ghost use Rattle.document_laws.specs.TableLaws.{AnyTablesAreRead, AnyTableFaultsStandFirst};
 
-/// Lines are read as a cone exactly where they are one, and so are the bytes of an input.
+/// Lines are read as a cone exactly where they are one, and so are the bytes of an input; where a cone is refused, the
+/// fault stands at the first sign with which no cone goes on.
 pub fn cones_are_read()
     ensures lines { ConesAreRead }
     ensures documents { ConeDocumentsAreRead }
+    ensures faults { ConeFaultsLeave }
 {}
 
-/// Inputs of one table, of two, and of any number are read exactly where their lines are these.
+/// The next lines are read as a table in either form exactly where they begin with one, and the rest is left; where the
+/// text of one is refused, the fault stands at the first sign with which nothing goes on to such a text.
+pub fn next_tables_are_read()
+    ensures lines { AnyTablesAreRead }
+    ensures faults { AnyTableFaultsStandFirst }
+{}
+
+/// Inputs of one table, of two, and of any number are read exactly where their lines are these; their lines have the form
+/// of their text; where the text is refused, the fault stands at a sign with which no input of the kind goes on, the first
+/// with which nothing goes on to the form of such a text.
 pub fn tables_are_read()
-    ensures one { TableDocumentsAreRead }
-    ensures two { TwoTablesAreRead }
-    ensures any { TablesAreRead }
+    ensures one { TableLaws }
+    ensures two { TwoTablesLaws }
+    ensures any { TablesLaws }
 {}
 
-/// Inputs of a table and of vectors, or of one vector, are read exactly where their lines are these.
+/// The same of a table and vectors, or one vector. Where the table was read and a vector is refused, the fault stands at the
+/// first sign with which no such input goes on.
 pub fn tables_with_vectors_are_read()
-    ensures vectors { VectorsDocumentsAreRead }
-    ensures vector { VectorDocumentsAreRead }
-{}
-
-/// Where the text of an input is refused, the fault stands at a sign with which no input of its kind goes on; where a cone
-/// is refused, or a vector behind a table that was read, at the first such sign.
-pub fn faults_leave_the_grammar()
-    ensures cone { ConeFaultsLeave }
-    ensures table { TableFaultsLeave }
-    ensures two_tables { TwoTablesFaultsLeave }
-    ensures tables { TablesFaultsLeave }
-    ensures vectors { VectorsFaultsLeave }
+    ensures vectors { VectorsLaws }
     ensures vectors_first { VectorsFaultsLeaveFirst }
-    ensures vector { VectorFaultsLeave }
-    ensures steps { StepsFaultsLeave }
-    ensures moves { MovesFaultsLeave }
+    ensures vector { VectorLaws }
 {}
 
-/// Inputs of a table and of steps, or of moves, are read exactly where their lines are these.
+/// The same of a table and steps, or moves.
 pub fn tables_with_moves_are_read()
-    ensures steps { StepsDocumentsAreRead }
-    ensures moves { MovesDocumentsAreRead }
+    ensures steps { StepsLaws }
+    ensures moves { MovesLaws }
 {}
 
-/// Inputs of a table and of blocks of sums are read exactly where their lines are these; they have the form of their text,
-/// and where it is refused, the fault stands at the first sign with which nothing goes on to such a text.
+/// The same of a table and blocks of sums.
 pub fn tables_with_blocks_are_read()
-    ensures read { BlocksDocumentsAreRead }
-    ensures text { BlocksHaveText }
-    ensures faults { BlocksFaultsStandFirst }
-{}
-
-/// The lines of each document with tables have the form of its text, which says nothing of what rows glue and signatures spell.
-pub fn documents_have_text()
-    ensures table { TablesHaveText }
-    ensures vectors { VectorsHaveText }
-    ensures steps { StepsHaveText }
-    ensures moves { MovesHaveText }
-    ensures vector { OneVectorHasText }
-    ensures two_tables { TwoTablesHaveText }
-    ensures tables { ManyTablesHaveText }
-{}
-
-/// Where the text of an input with tables is refused, the fault stands at the first sign with which nothing goes on to the
-/// text of such an input.
-pub fn faults_stand_first()
-    ensures table { TableFaultsStandFirst }
-    ensures vectors { VectorsFaultsStandFirst }
-    ensures steps { StepsFaultsStandFirst }
-    ensures moves { MovesFaultsStandFirst }
-    ensures vector { VectorFaultsStandFirst }
-    ensures two_tables { TwoTablesFaultsStandFirst }
-    ensures tables { TablesFaultsStandFirst }
+    ensures { BlocksLaws }
 {}

@@ -6,14 +6,11 @@ use Rattle.text_definitions.specs.Text.{pieces, lines_from}
 use Rattle.table_definitions.specs.Table.{Row, IsTable}
 use Rattle.move_definitions.specs.Moves.{Move, PlaysAll}
 use Rattle.move_definitions.specs.MoveText.{move_text}
-use Rattle.move_definitions.specs.Certificates.{standard_sphere}
 use Rattle.move_laws.proofs.Legal.{HasNoFault, no_fault}
-use Rattle.move_laws.proofs.Played.{plays_agree_lem}
 use Rattle.certificate_definitions.specs.Makings.{IsMade}
-use Rattle.certificate_laws.proofs.Sphere.{sphere_table}
-use Rattle.certificate_laws.proofs.Made.{making_leads, made_are_certified_lem}
+use Rattle.certificate_laws.proofs.Made.{made_are_certified_lem, made_table}
 use Rattle.document_definitions.specs.Documents.{moves_document}
-use Rattle.document_laws.proofs.FirstMoves.{moves_documents_read}
+use Rattle.document_laws.proofs.Lawful.{moves_laws}
 use Rattle.outcome_definitions.specs.Outcomes.{Outcome}
 use Rattle.outcome_definitions.specs.Makings.{made_text}
 use Rattle.written_laws.proofs.WrittenTables.{BeginsWithTable, table_lines}
@@ -24,7 +21,7 @@ pub written_moves_are_lines_lem : WrittenMovesAreLines
 written_moves_are_lines_lem moves h = only_moves 1 moves (recursion_from_All IsWritable moves h)
 
 -- moves that are played can be written
-played_writable : (rows : List Row) (moves : List Move) (last : List Row) → PlaysAll rows moves last → AllByRecursion IsWritable moves
+pub played_writable : (rows : List Row) (moves : List Move) (last : List Row) → PlaysAll rows moves last → AllByRecursion IsWritable moves
 played_writable rows [] last led = tt
 played_writable rows (m ∷ ms) last (next, plays, rest) =
     let fine : HasNoFault rows m = no_fault rows m plays.moved.legal in
@@ -32,17 +29,12 @@ played_writable rows (m ∷ ms) last (next, plays, rest) =
     let few = plays.table.few in
     ((omega arith, plays.moved.core), played_writable next ms last rest)
 
-made_table : (seed most : ℕ) (table : List Row) (certificate : List Move) → IsMade seed most table certificate → IsTable table
-made_table seed most table certificate (moves, making, back) =
-    let led : PlaysAll standard_sphere moves table = making_leads most seed standard_sphere moves table sphere_table making in
-    (plays_agree_lem standard_sphere moves table table sphere_table led led).0
-
 made_read : (seed most : ℕ) (table : List Row) (certificate : List Move) → IsMade seed most table certificate → moves_document (made_text table certificate) ≡ Ok (table, certificate)
 made_read seed most table certificate made =
     let is_table : IsTable table = made_table seed most table certificate made in
     let c = made_are_certified_lem seed most table certificate made in
     let b : BeginsWithTable table is_table (made_text table certificate) (flat_map move_text certificate) = table_lines table is_table (flat_map move_text certificate) in
-    (moves_documents_read (made_text table certificate) table certificate).1 (
+    (moves_laws.reads (made_text table certificate) (table, certificate)).1 (
       b.lines,
       lines_from (2 + length table) (pieces (flat_map move_text certificate)),
       b.split,

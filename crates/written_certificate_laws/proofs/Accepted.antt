@@ -3,13 +3,10 @@ use Rattle.std.proofs.Common.{◌≡◌, ℕ, List, Result, Ok, Err, refl, sym, 
 use Rattle.std.specs.Prelude.{◌↔◌}
 use Rattle.table_definitions.specs.Table.{Row, IsTable}
 use Rattle.move_definitions.specs.Moves.{Move}
-use Rattle.move_definitions.specs.Certificates.{standard_sphere, IsCertificate}
+use Rattle.move_definitions.specs.Certificates.{IsCertificate}
 use Rattle.signature_definitions.specs.declared.InputFault.{InputFault}
-use Rattle.certificate_laws.proofs.Checked.{all_led_table}
 use Rattle.certificate_laws.proofs.Descents.{descents_certify_lem}
-use Rattle.certificate_definitions.specs.Makings.{IsMade}
-use Rattle.certificate_laws.proofs.Made.{making_leads, made_are_certified_lem}
-use Rattle.certificate_laws.proofs.Sphere.{sphere_table}
+use Rattle.certificate_laws.proofs.Made.{made_are_certified_lem, made_table}
 use Rattle.document_definitions.specs.Documents.{moves_document}
 use Rattle.outcome_definitions.specs.Outcomes.{Outcome, IsReadOutcome}
 use Rattle.outcome_definitions.specs.Canonical.{done}
@@ -52,9 +49,6 @@ certificates_accepted rows moves table c o = read_as rows moves o (moves_documen
 
 pub reached_accepted : ReachedDescentsAreAccepted
 reached_accepted rows d table h r = certificates_accepted rows d.moves table (descents_certify_lem rows d.moves d.table table h.descent (h.reached.0 r))
-
-made_table : (seed most : ℕ) (table : List Row) (certificate : List Move) → IsMade seed most table certificate → IsTable table
-made_table seed most table certificate (moves, making, back) = all_led_table standard_sphere moves table sphere_table (making_leads most seed standard_sphere moves table sphere_table making)
 
 pub made_accepted : MadeTablesAreAccepted
 made_accepted seed most table certificate h = certificates_accepted table certificate (made_table seed most table certificate h) (made_are_certified_lem seed most table certificate h)

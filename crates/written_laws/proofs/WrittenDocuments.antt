@@ -8,8 +8,8 @@ use Rattle.document_definitions.specs.Documents.{table_document, vectors_documen
 use Rattle.cone_text_definitions.specs.VectorText.{list_text}
 use Rattle.document_laws.proofs.Documents.{table_document_read, vectors_document_read}
 use Rattle.written_laws.specs.Laws.{AreWithinLimit, surfaces_text}
-use Rattle.written_laws.proofs.Decimals.{decimal_no_feed}
-use Rattle.written_laws.proofs.WrittenLines.{comment_line}
+use Rattle.text_definitions.proofs.Decimals.{decimal_no_feed}
+use Rattle.table_definitions.proofs.WrittenLines.{comment_line}
 use Rattle.written_laws.proofs.WrittenVectors.{only_vectors}
 use Rattle.written_laws.proofs.WrittenTables.{BeginsWithTable, table_lines, written_table}
 

@@ -11,10 +11,9 @@ use Rattle.table_definitions.specs.Table.{max_tets, Gluing, Row, Face, glue, IsT
 use Rattle.table_definitions.specs.TableText.{entry_text, table_text}
 use Rattle.table_definitions.specs.Grammar.{IsEntry, IsRowLine, AreTriLines}
 use Rattle.table_definitions.proofs.Permutations.{by_words}
-use Rattle.written_laws.proofs.Decimals.{decimal_digits, decimal_value-decimal}
-use Rattle.written_laws.proofs.Words.{IsText, behind_spaces, skipped_by_word}
-use Rattle.written_laws.proofs.WrittenLines.{written_line, line_words, BeginsWith, each_line}
-use Rattle.written_laws.proofs.WrittenVectors.{digits_kept, decimal_is_text}
+use Rattle.text_definitions.proofs.Decimals.{decimal_digits, decimal_value-decimal}
+use Rattle.table_definitions.proofs.WrittenWords.{IsText, behind_spaces, skipped_by_word, decimal_is_text, digits_kept}
+use Rattle.table_definitions.proofs.WrittenLines.{written_line, line_words, BeginsWith, each_line}
 
 -- a gluing that can be written
 record IsPlain (g : Gluing) : Type 0 where

@@ -1,43 +1,17 @@
 -- What is written for vectors is a line for each.
-use Rattle.std.proofs.Common.{◌≡◌, ℕ, ◌+◌, ◌^◌, ◌<◌, ◌≤◌, true, false, List, [], ◌∷◌, ◌++◌, map, refl, sym, ap, ◌∙◌, subst, arith, append-nil}
-use Rattle.std.specs.Prelude.{◌==◌, codes, decimal}
-use Rattle.std.specs.Char.{is_ascii_digit}
-use Rattle.std.specs.List.{All, AllZip, AllByRecursion, list_all}
+use Rattle.std.proofs.Common.{◌≡◌, ℕ, ◌+◌, ◌^◌, ◌<◌, ◌≤◌, List, [], ◌∷◌, ◌++◌, map, refl, sym, ap, ◌∙◌, subst, arith, append-nil}
+use Rattle.std.specs.Prelude.{codes, decimal}
+use Rattle.std.specs.List.{All, AllZip, AllByRecursion}
 use Rattle.std.proofs.lemmas.List.Elements.{recursion_from_All}
-use Rattle.std.proofs.lemmas.Bool.{cond-false, and_from, and_parts}
-use Rattle.std.proofs.lemmas.Bool.Decides.{nat_tests}
-use Rattle.text_definitions.specs.Text.{Line, is_blank, is_word_byte, is_skipped, pieces, line_of, lines_from, lines_of}
+use Rattle.text_definitions.specs.Text.{Line, pieces, line_of, lines_from, lines_of}
 use Rattle.text_definitions.specs.Written.{limit}
 use Rattle.table_definitions.specs.Grammar.{IsNumber}
 use Rattle.cone_text_definitions.specs.VectorText.{vector_text, list_text}
 use Rattle.surface_definitions.specs.Grammar.{IsVectorLine}
 use Rattle.written_laws.specs.Laws.{AreWithinLimit}
-use Rattle.written_laws.proofs.Decimals.{AreDigits, decimal_digits, decimal_value-decimal}
-use Rattle.written_laws.proofs.Words.{IsText, behind_spaces}
-use Rattle.written_laws.proofs.WrittenLines.{written_line, line_words, BeginsWith, each_line}
-
--- digits are a word
-digit_byte : (b : ℕ) → is_ascii_digit b ≡ true → (is_word_byte b ≡ true) × (is_blank b ≡ false) × ((b == 35) ≡ false)
-digit_byte b d = (grind (arith, nat_tests), grind (arith, nat_tests), grind (arith, nat_tests))
-
-pub digits_bytes : (w : List ℕ) → list_all is_ascii_digit w ≡ true → list_all is_word_byte w ≡ true
-digits_bytes [] d = refl
-digits_bytes (b ∷ bs) d =
-    let parts : (is_ascii_digit b ≡ true) × (list_all is_ascii_digit bs ≡ true) = and_parts (is_ascii_digit b) (list_all is_ascii_digit bs) d in
-    and_from (is_word_byte b) (list_all is_word_byte bs) (digit_byte b parts.0).0 (digits_bytes bs parts.1)
-
--- and they begin no comment
-pub digits_kept : (w : List ℕ) → AreDigits w → is_skipped w ≡ false
-digits_kept [] d = absurd (let s = d.some in omega arith)
-digits_kept (b ∷ bs) d =
-    let parts : (is_ascii_digit b ≡ true) × (list_all is_ascii_digit bs ≡ true) = and_parts (is_ascii_digit b) (list_all is_ascii_digit bs) d.digits in
-    let byte : (is_word_byte b ≡ true) × (is_blank b ≡ false) × ((b == 35) ≡ false) = digit_byte b parts.0 in
-    cond-false (is_blank b) (is_skipped bs) (b == 35) byte.1 ∙ byte.2
-
-pub decimal_is_text : (n : ℕ) → n < 10 ^ 64 → IsText (decimal n)
-decimal_is_text n l =
-    let d : AreDigits (decimal n) = decimal_digits n l in
-    record { bytes = digits_bytes (decimal n) d.digits; some = d.some }
+use Rattle.text_definitions.proofs.Decimals.{decimal_value-decimal}
+use Rattle.table_definitions.proofs.WrittenWords.{IsText, behind_spaces, decimal_is_text}
+use Rattle.table_definitions.proofs.WrittenLines.{written_line, line_words, BeginsWith, each_line}
 
 -- the entries of a vector
 abbrev pub AreEntries : List ℕ → Type 0
@@ -46,11 +20,11 @@ AreEntries x = AllByRecursion (λ entry. entry ≤ limit) x
 entry_small : (entry : ℕ) → entry ≤ limit → entry < 10 ^ 64
 entry_small entry l = omega arith
 
-entries_are_texts : (x : List ℕ) → AreEntries x → AllByRecursion IsText (map decimal x)
+pub entries_are_texts : (x : List ℕ) → AreEntries x → AllByRecursion IsText (map decimal x)
 entries_are_texts [] h = tt
 entries_are_texts (entry ∷ x) h = (decimal_is_text entry (entry_small entry h.0), entries_are_texts x h.1)
 
-entries_are_numbers : (x : List ℕ) → AreEntries x → AllZip (IsNumber limit) (map decimal x) x
+pub entries_are_numbers : (x : List ℕ) → AreEntries x → AllZip (IsNumber limit) (map decimal x) x
 entries_are_numbers [] h = tt
 entries_are_numbers (entry ∷ x) h = (record { value = decimal_value-decimal entry (entry_small entry h.0); up_to = h.0 }, entries_are_numbers x h.1)
 
@@ -58,7 +32,7 @@ vec_is_text : IsText (codes "vec")
 vec_is_text = record { bytes = refl; some = omega arith }
 
 -- what is written for a vector is one line, which is the vector
-vector_line : (n : ℕ) (x : List ℕ) (rest : List ℕ) → AreEntries x
+pub vector_line : (n : ℕ) (x : List ℕ) (rest : List ℕ) → AreEntries x
     → (line : Line) × (lines_from n (pieces (vector_text x ++ rest)) ≡ line ∷ lines_from (n + 1) (pieces rest)) × IsVectorLine line x
 vector_line n x rest h =
     let texts : AllByRecursion IsText (map decimal x) = entries_are_texts x h in (

@@ -1,8 +1,12 @@
-use Rattle.document_laws.proofs.Documents.{vectors_document_read, vector_document_read}
+use Rattle.document_laws.proofs.LeavingVectors.{vectors_faults_leave_first}
+use Rattle.document_laws.proofs.Lawful.{vectors_laws, vector_laws}
 use Rattle.document_laws.proofs.tables_with_vectors_are_read.Goals as goal
 
 pub returns-clause-vectors : goal.returns-clause-vectors
-returns-clause-vectors c = vectors_document_read
+returns-clause-vectors c = vectors_laws
+
+pub returns-clause-vectors_first : goal.returns-clause-vectors_first
+returns-clause-vectors_first c = vectors_faults_leave_first
 
 pub returns-clause-vector : goal.returns-clause-vector
-returns-clause-vector c = vector_document_read
+returns-clause-vector c = vector_laws
