@@ -7,13 +7,12 @@ use Rattle.std.proofs.lemmas.List.{ext_get_or}
 use Rattle.table_definitions.specs.Permutation.{IsPermutationOfFour, preimage, inverse, compose}
 use Rattle.table_definitions.specs.Table.{Gluing, Row, Face, IsTable, glue}
 use Rattle.table_definitions.specs.Relabelling.{Relabelling, IsRelabelling, Carries, stand_in, face_under, gluing_under}
-use Rattle.perm_four.proofs.Permutations.{preimage_below, image-preimage, inverse_permutes, compose_permutes}
-use Rattle.gluing_table.proofs.Carried.{image_in_range, perm_permutes, images_apart, StandsFor}
+use Rattle.table_definitions.proofs.Carried.{stands_for, image_in_range, perm_permutes, images_apart, StandsFor}
+use Rattle.table_definitions.proofs.Permutations.{preimage_below, image-preimage, inverse_permutes, compose_permutes}
 use Rattle.signature_codec.specs.Slots.{face_at}
 use Rattle.labelling_definitions.specs.Labellings.{Start, IsWalked}
 use Rattle.canonical_labelling.proofs.Group.{taken_away}
 use Rattle.canonical_labelling.proofs.Standing.{same_relabelling}
-use Rattle.canonical_labelling.proofs.Back.{stands_for}
 use Rattle.canonical_labelling.proofs.Seen.{SeenBelow, tet_below, seen_begun, at_boundary, to_seen, to_next}
 
 -- a gluing and what it becomes determine what stands for the tetrahedron behind it

@@ -2,27 +2,14 @@
 use Rattle.std.proofs.Common.{◌≡◌, ℕ, ◌<◌, List, [], length, Option, Some, None, refl, sym, ap, ◌∙◌, subst, arith}
 use Rattle.std.specs.Prelude.{option_map, slice_index}
 use Rattle.std.specs.List.{slice_index_or}
-use Rattle.table_definitions.specs.Permutation.{IsPermutationOfFour, image, preimage, inverse, compose}
+use Rattle.table_definitions.specs.Permutation.{IsPermutationOfFour, image, inverse, compose}
 use Rattle.table_definitions.specs.Table.{Gluing, Row, Face, IsTable, glue}
 use Rattle.table_definitions.specs.Relabelling.{Relabelling, IsRelabelling, Carries, stand_in, face_under, gluing_under}
-use Rattle.perm_four.proofs.Permutations.{image_below, image-compose, preimage-image, preimage_below, image-preimage, image-inverse, inverse_permutes, compose_permutes}
-use Rattle.gluing_table.proofs.Carried.{image_in_range, perm_permutes, comes_from, images_apart, StandsFor}
-use Rattle.canonical_labelling.proofs.Group.{back_again, carried_twice}
+use Rattle.table_definitions.proofs.Permutations.{carried_twice, image_below, image-compose, preimage-image, image-inverse, inverse_permutes, compose_permutes}
+use Rattle.table_definitions.proofs.Carried.{stands_for, image_in_range, perm_permutes, comes_from, images_apart, StandsFor}
+use Rattle.canonical_labelling.proofs.Group.{back_again}
 use Rattle.canonical_labelling.specs.Between.{place_of, back_of, inverted, after_of, after}
 use Rattle.canonical_labelling.proofs.Standing.{made_stands, CanStand, made_relabelling, place_of-image}
-
--- the face for which a face of the new table stands
-pub stands_for : (rows new : List Row) (by : Relabelling) → IsRelabelling (length rows) by → Carries by rows new → (y : Face) → y.tet < length rows → y.face < 4 → (x : Face) × StandsFor rows new by y x
-stands_for rows new by h c y lt lf =
-    let p = comes_from (length rows) by h y.tet lt in
-    let s : List ℕ = slice_index_or by.perms p.0 [] in
-    let hs = perm_permutes (length rows) by h p.0 p.1 in
-    let lf' : preimage s y.face < 4 = preimage_below s hs y.face lf in
-    let x : Face = record { tet = p.0; face = preimage s y.face } in
-    let tet : slice_index by.images p.0 ≡ y.tet = p.2 in
-    let face : image s (preimage s y.face) ≡ y.face = image-preimage s hs y.face lf in
-    let same : face_under (stand_in by p.0) x ≡ y = λ i. record { tet = tet i; face = face i } in
-    (x, record { tet = p.1; face = lf'; is = same; glued = ap (glue new) (sym same) ∙ c.glued x p.1 lf' })
 
 -- on the way back t stands for what stands for t
 pub inverted_stands : (n : ℕ) (by : Relabelling) → IsRelabelling n by → (t : ℕ) → t < n

@@ -1,14 +1,14 @@
 -- What relabellings keep.
-use Rattle.std.proofs.Common.{◌≡◌, ℕ, List, [], ◌∷◌, length, Option, Some, None, refl, sym, ap, ◌∙◌, subst, arith}
+use Rattle.std.proofs.Common.{◌≡◌, ℕ, List, [], ◌∷◌, length, Some, refl, sym, ap, ◌∙◌, subst, arith}
 use Rattle.std.specs.Prelude.{option_map, slice_index}
 use Rattle.std.specs.List.{slice_index_or}
 use Rattle.table_definitions.specs.Permutation.{image}
-use Rattle.table_definitions.specs.Table.{Gluing, Row, Face, IsTable, glue}
+use Rattle.table_definitions.specs.Table.{Row, Face, IsTable, glue}
 use Rattle.table_definitions.specs.Places.{Place, whole, carried, across, along, IsJoined, IsConnected}
 use Rattle.table_definitions.specs.Relabelling.{Relabelling, IsRelabelling, IsRelabelled, Carries, stand_in, gluing_under}
 use Rattle.table_definitions.proofs.TableLaws.{glued_face, glued_tet}
-use Rattle.table_definitions.proofs.ChainLaws.{kept_along, joined_refl, joined_trans}
-use Rattle.gluing_table.proofs.Carried.{comes_from, carried_is_table}
+use Rattle.table_definitions.proofs.ChainLaws.{kept_along, joined_refl, joined_trans, crossed}
+use Rattle.table_definitions.proofs.Carried.{comes_from, carried_is_table}
 use Rattle.canonical_labelling.specs.Between.{inverted, after}
 use Rattle.canonical_labelling.proofs.Back.{inverted_relabelling, carries_back, after_relabelling, carries_on}
 
@@ -29,23 +29,6 @@ relabels_on rows next last table a b =
 
 pub relabels_table : (rows new : List Row) → IsTable rows → IsRelabelled rows new → IsTable new
 relabels_table rows new table r = carried_is_table rows new r.0 table r.1 r.2
-
--- a step of a whole tetrahedron crosses a glued face
-pub record Crossed (rows : List Row) (p : Place) (f : ℕ) (q : Place) : Type 0 where
-  pub g : Gluing
-  pub glued : glue rows (record { tet = p.tet; face = f }) ≡ Some g
-  pub to : g.tet ≡ q.tet
-  pub bare : q.vertices ≡ []
-
-pub crossed : (rows : List Row) (p : Place) (f : ℕ) (q : Place) → p.vertices ≡ [] → across rows p f ≡ Some q → Crossed rows p f q
-crossed rows p f q h e = cases (glue rows (record { tet = p.tet; face = f })) refl
-  where
-    cases : (o : Option Gluing) → glue rows (record { tet = p.tet; face = f }) ≡ o → Crossed rows p f q
-    cases None n = let z : None ≡ Some q = sym (rw (h, n) refl) ∙ e in absurd cc
-    cases (Some g) n =
-        let z : Some (carried g p) ≡ Some q = sym (rw (h, n) refl) ∙ e in
-        let same : carried g p ≡ q = cc in
-        record { g = g; glued = n; to = ap (λ (r : Place). r.tet) same; bare = ap (λ (r : Place). r.vertices) (sym same) ∙ rw h refl }
 
 -- a chain is carried along
 module _ (rows new : List Row) (by : Relabelling) (table : IsTable rows) (c : Carries by rows new) where

@@ -2,19 +2,20 @@
 use Rattle.std.proofs.Common.{◌≡◌, ℕ, zero, suc, ◌+◌, ◌*◌, ◌/◌, ◌%◌, ◌<◌, ◌≤◌, true, false, List, [], ◌∷◌, ◌++◌, length, Option, Some, None, refl, sym, ap, ◌∙◌, subst, arith}
 use Rattle.std.specs.Prelude.{option_map, slice_index}
 use Rattle.std.proofs.lemmas.List.{get_or_push, length-append}
+use Rattle.plain_facts.proofs.Truths.{by_bool, if_true, if_false}
 use Rattle.table_definitions.specs.Permutation.{IsPermutationOfFour, identity}
 use Rattle.table_definitions.specs.Table.{Gluing, Row, IsTable, glue}
 use Rattle.table_definitions.specs.Relabelling.{Relabelling, stand_in}
 use Rattle.labelling_definitions.specs.Labellings.{Start, IsWalked}
-use Rattle.gluing_table.proofs.Carried.{carried_is_table}
+use Rattle.table_definitions.proofs.Carried.{carried_is_table}
 use Rattle.signature_codec.specs.Slots.{face_at}
 use Rattle.signature_codec.specs.Walks.{Walking, with_type, walk_begun}
 use Rattle.signature_codec.proofs.WalkLaws.{walk_begins, walk_ordered}
 use Rattle.canonical_labelling.specs.Orders.{start_at, is_met, start_behind, face_from, follow, order_after, whole_order}
-use Rattle.canonical_labelling.proofs.Growing.{by_bool, met_at, after_begun, after_next, taken, taken_none}
+use Rattle.canonical_labelling.proofs.Growing.{met_at, after_begun, after_next, taken, taken_none}
 use Rattle.canonical_labelling.proofs.Reaching.{extends_whole, numbered}
 use Rattle.canonical_labelling.proofs.NewGluings.{IsLabelled, new_gluing, order_full, new_glue, met_by_identity, stands_at}
-use Rattle.canonical_labelling.proofs.Seeing.{Sees, TakesTo, if_true, if_false, takes_seen, takes_next, sees_on}
+use Rattle.canonical_labelling.proofs.Seeing.{Sees, TakesTo, takes_seen, takes_next, sees_on}
 
 -- the start of the tetrahedron whose faces are at a place
 abbrev start_here : List Row → Start → ℕ → Start

@@ -1,19 +1,19 @@
 -- The first walk of the second table that leads to the walked first one tells the least relabelling.
-use Rattle.std.proofs.Common.{◌≡◌, ℕ, ◌+◌, ◌*◌, ◌/◌, ◌%◌, ◌<◌, true, false, List, [], ◌∷◌, ◌++◌, length, map, take, get_or, refl, sym, ap, ◌∙◌, subst, arith, ⊎_elim}
+use Rattle.std.proofs.Common.{◌≡◌, ℕ, ◌+◌, ◌*◌, ◌/◌, ◌%◌, ◌<◌, true, false, List, [], length, take, get_or, refl, sym, ap, ◌∙◌, subst, arith, ⊎_elim}
 use Rattle.std.specs.Prelude.{Option, Some, None, IfSome, IfNone, ◌==◌, ◌&&◌, not, nat_lt, slice_index}
 use Rattle.std.specs.List.{slice_index_or}
 use Rattle.std.proofs.lemmas.Bool.{or_cases, and_parts, ltb-true, lt-ltb, eqb-true}
 use Rattle.std.proofs.lemmas.List.{ext_get_or, get_or-take, length-take}
-use Rattle.std.proofs.lemmas.List.FromFn.{get_or-map-range_with_len, length-map-range_with_len, map-range_with_len_more}
-use Rattle.table_definitions.specs.Lists.{has, below}
+use Rattle.std.proofs.lemmas.List.FromFn.{get_or-map-range_with_len, length-map-range_with_len}
+use Rattle.plain_facts.proofs.Truths.{by_bool}
+use Rattle.table_definitions.specs.Lists.{has}
 use Rattle.table_definitions.specs.Permutation.{IsPermutationOfFour, words, index, inverse, compose, identity}
 use Rattle.table_definitions.specs.Table.{Gluing, Row, IsTable}
 use Rattle.table_definitions.specs.Relabelling.{Relabelling, IsRelabelling, IsRelabelled, Carries, stand_in}
-use Rattle.signature_codec.proofs.Simulation.{by_bool}
-use Rattle.perm_four.proofs.Permutations.{words_permute, index-words, index_below, words_at, inverse_permutes, inverse-inverse, compose-identity, identity-compose}
+use Rattle.table_definitions.proofs.Permutations.{words_permute, index-words, index_below, words_at, inverse_permutes, inverse-inverse, compose-identity, identity-compose}
 use Rattle.gluing_table.specs.Positions.{IsFirstBad}
-use Rattle.gluing_table.proofs.Bijections.{there, get_or-any}
-use Rattle.gluing_table.proofs.Carried.{image_in_range, images_apart, length-images, perm_permutes, comes_from}
+use Rattle.table_definitions.proofs.Bijections.{there, get_or-any}
+use Rattle.table_definitions.proofs.Carried.{image_in_range, images_apart, length-images, perm_permutes, comes_from}
 use Rattle.labelling_definitions.specs.Labellings.{IsWalked, Relabels, is_stand_in_before, IsLeastRelabelling}
 use Rattle.canonical_labelling.specs.Starts.{start_at, start_back_at, IsNoMatch, IsFirstMatch}
 use Rattle.canonical_labelling.specs.Between.{inverted, after, between, images_between, perms_between}
@@ -200,10 +200,6 @@ none_bad by h i f =
     let one : i ≡ a.0 = images_apart (length by.images) by h i a.0 f.in_range within same in
     omega arith)
     parts
-
--- a list that grows by what stands for the next number
-pub pushed : {X : Type 0} (f : ℕ → X) (t : ℕ) (xs new : List X) (x : X) → xs ≡ map f (below t) → new ≡ xs ++ x ∷ [] → x ≡ f t → new ≡ map f (below (t + 1))
-pushed {X} f t xs new x a b e = b ∙ ap (λ (ys : List X). ys ++ x ∷ []) a ∙ ap (λ (y : X). map f (below t) ++ y ∷ []) e ∙ sym (map-range_with_len_more f 0 t t (omega arith))
 
 -- the old numbers of a relabelling
 pub record AreOlds (n : ℕ) (second : Relabelling) (olds : List ℕ) : Type 0 where

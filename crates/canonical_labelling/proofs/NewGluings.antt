@@ -5,8 +5,8 @@ use Rattle.table_definitions.specs.Permutation.{IsPermutationOfFour, identity, i
 use Rattle.table_definitions.specs.Table.{Gluing, Row, IsTable, glue}
 use Rattle.table_definitions.specs.Relabelling.{Relabelling, IsRelabelling, Carries, stand_in, face_under, gluing_under}
 use Rattle.labelling_definitions.specs.Labellings.{Start}
-use Rattle.perm_four.proofs.Permutations.{preimage_below, image-preimage, inverse_permutes, inverse-inverse, inverse-of-compose, compose_permutes, compose-inverse}
-use Rattle.gluing_table.proofs.Carried.{comes_from}
+use Rattle.table_definitions.proofs.Permutations.{preimage_below, image-preimage, inverse_permutes, inverse-inverse, inverse-of-compose, compose_permutes, compose-inverse}
+use Rattle.table_definitions.proofs.Carried.{comes_from}
 use Rattle.signature_codec.specs.Slots.{face_at}
 use Rattle.canonical_labelling.specs.Orders.{start_at, face_from, whole_order, IsWholeOrder, Numbers}
 use Rattle.canonical_labelling.proofs.Sound.{IsOrder}

@@ -5,11 +5,11 @@ use Rattle.std.proofs.lemmas.Bool.{lt-ltb}
 use Rattle.std.proofs.lemmas.List.{get_or-set_same, get_or-set_other, get_or-take, length-take-le, get_or_default}
 use Rattle.table_definitions.specs.Lists.{has}
 use Rattle.gluing_table.specs.Positions.{is_bad_at, IsFirstBad}
-use Rattle.gluing_table.proofs.Bijections.{there}
+use Rattle.table_definitions.proofs.Bijections.{there}
 use Rattle.std.specs.List.{slice_set}
+use Rattle.plain_facts.proofs.Truths.{by_bool}
 use Rattle.labelling_definitions.specs.Labellings.{Start}
 use Rattle.canonical_labelling.specs.Orders.{start_at, IsWholeOrder}
-use Rattle.canonical_labelling.proofs.Growing.{by_bool}
 use Rattle.canonical_labelling.proofs.Marking.{start_is}
 
 -- the tetrahedron at the next place is in range

@@ -1,15 +1,15 @@
 -- The walk through a table, by the number of tetrahedra that are seen.
 use Rattle.std.proofs.Common.{◌≡◌, ℕ, ◌+◌, ◌*◌, ◌/◌, ◌<◌, Bool, true, false, List, [], ◌∷◌, ◌++◌, length, Option, Some, None, refl, ap, ◌∙◌, arith}
-use Rattle.std.specs.Prelude.{nat_lt, ◌&&◌, ◌||◌, ◌==◌, if◌then◌else◌}
+use Rattle.std.specs.Prelude.{nat_lt, ◌&&◌, ◌||◌, ◌==◌}
 use Rattle.std.proofs.lemmas.Bool.{eqb-true, eq-eqb, lt-ltb, le-ltb, and_from}
+use Rattle.plain_facts.proofs.Truths.{by_bool, if_true, if_false}
 use Rattle.table_definitions.specs.Lists.{same_list}
 use Rattle.table_definitions.specs.Permutation.{identity, image}
 use Rattle.table_definitions.specs.Table.{Gluing, Row, Face, IsTable, glue, other_side, is_face_before}
-use Rattle.perm_four.proofs.ListFacts.{same_list-refl}
+use Rattle.table_definitions.proofs.ListFacts.{same_list-refl}
 use Rattle.signature_codec.specs.Slots.{face_at}
 use Rattle.signature_codec.specs.Walks.{Walking, take_entry, take_face, IsWalk}
 use Rattle.signature_codec.proofs.WalkLaws.{takes_on}
-use Rattle.canonical_labelling.proofs.Growing.{by_bool}
 
 -- so many are seen before the face at a place
 pub record Sees (new : List Row) (k seen : ℕ) : Type 0 where
@@ -20,12 +20,6 @@ pub record Sees (new : List Row) (k seen : ℕ) : Type 0 where
 -- a walk takes an entry, and so many are seen
 abbrev pub TakesTo : Face → Option Gluing → Walking → ℕ → Type 0
 TakesTo x o w seen = (v : Walking) × (take_entry x o w ≡ Some v) × (v.seen ≡ seen)
-
-pub if_true : {A : Type 0} (b : Bool) (x y : A) → b ≡ true → (if b then x else y) ≡ x
-if_true b x y h = rw h refl
-
-pub if_false : {A : Type 0} (b : Bool) (x y : A) → b ≡ false → (if b then x else y) ≡ y
-if_false b x y h = rw h refl
 
 pub takes_seen : (x : Face) (g : Gluing) (w : Walking) → g.tet < w.seen → TakesTo x (Some g) w w.seen
 takes_seen x g w l = by_bool (is_face_before (other_side x g) x)

@@ -4,13 +4,14 @@ use Rattle.std.specs.Prelude.{◌==◌, ◌||◌, ◌&&◌, nat_lt}
 use Rattle.std.specs.List.{list_all}
 use Rattle.std.proofs.lemmas.Bool.{eqb-true, eq-eqb, ltb-true, lt-ltb, le-ltb, and_parts, or_cases, cases_lt, cases_eq}
 use Rattle.std.proofs.lemmas.List.FromFn.{get_or-map-range_with_len, length-map-range_with_len}
+use Rattle.plain_facts.proofs.Truths.{by_bool}
 use Rattle.table_definitions.specs.Lists.{below, same_list}
 use Rattle.table_definitions.specs.Permutation.{identity}
 use Rattle.table_definitions.specs.Table.{Gluing, Row, Face, glue}
 use Rattle.signature_definitions.specs.WalkOrder.{is_glued_to, is_seen, is_ordered_gluing, is_ordered_at, IsWalkOrdered}
-use Rattle.perm_four.proofs.ListFacts.{list_all-at, list_all-below, same_list-true}
+use Rattle.table_definitions.proofs.ListFacts.{list_all-at, list_all-below, same_list-true}
 use Rattle.signature_codec.specs.Slots.{face_at}
-use Rattle.signature_codec.proofs.Simulation.{faces-places, by_bool}
+use Rattle.signature_codec.proofs.Simulation.{faces-places}
 use Rattle.signature_codec.proofs.SeenLaws.{is_seen-more, is_seen-begun, is_seen-later, or_left}
 use Rattle.table_definitions.proofs.Marked.{or-false as or_none}
 use Rattle.signature_codec.proofs.WalkLaws.{seen_same, seen_next}

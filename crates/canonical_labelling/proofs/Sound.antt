@@ -6,7 +6,7 @@ use Rattle.std.proofs.lemmas.List.{get_or_append_left, get_or_push, length-appen
 use Rattle.table_definitions.specs.Permutation.{IsPermutationOfFour, inverse}
 use Rattle.table_definitions.specs.Table.{Gluing, Row, IsTable}
 use Rattle.labelling_definitions.specs.Labellings.{Start}
-use Rattle.perm_four.proofs.Permutations.{compose_permutes, inverse_permutes}
+use Rattle.table_definitions.proofs.Permutations.{compose_permutes, inverse_permutes}
 use Rattle.canonical_labelling.specs.Orders.{start_at, is_met, start_behind, face_from, take_face, order_after}
 use Rattle.canonical_labelling.proofs.Growing.{met_from, Adds, take_cases}
 

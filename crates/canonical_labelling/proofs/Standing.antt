@@ -6,14 +6,14 @@ use Rattle.std.proofs.lemmas.List.{ext_get_or}
 use Rattle.std.proofs.lemmas.List.Elements.{All-from_get_or}
 use Rattle.std.proofs.lemmas.List.FromFn.{get_or-map-range_with_len, length-map-range_with_len}
 use Rattle.std.proofs.lemmas.List.Sums.{position_or_len_is}
+use Rattle.plain_facts.proofs.Truths.{by_bool}
 use Rattle.table_definitions.specs.Lists.{below}
 use Rattle.table_definitions.specs.Permutation.{IsPermutationOfFour}
 use Rattle.table_definitions.specs.Table.{Gluing}
 use Rattle.table_definitions.specs.Relabelling.{Relabelling, IsRelabelling, stand_in}
 use Rattle.canonical_labelling.specs.Between.{made, place_of}
-use Rattle.gluing_table.proofs.Bijections.{onto, IsDistinct-from_before}
-use Rattle.gluing_table.proofs.Carried.{length-images, images_apart}
-use Rattle.signature_codec.proofs.Simulation.{by_bool}
+use Rattle.table_definitions.proofs.Bijections.{onto, IsDistinct-from_before}
+use Rattle.table_definitions.proofs.Carried.{length-images, images_apart}
 
 -- relabellings by which the same stands for each tetrahedron are the same
 pub same_relabelling : (n : ℕ) (by other : Relabelling) → IsRelabelling n by → IsRelabelling n other → ((t : ℕ) → t < n → stand_in by t ≡ stand_in other t) → by ≡ other

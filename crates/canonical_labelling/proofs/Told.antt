@@ -1,24 +1,23 @@
 -- Of signatures and of relabellings that are told there is one, and what they tell.
 use Rattle.std.proofs.Common.{◌≡◌, ℕ, ◌<◌, ◌≤◌, Bool, true, false, List, [], ◌∷◌, length, Some, refl, sym, ap, ◌∙◌, subst, arith, inl, inr}
 use Rattle.std.specs.Prelude.{◌⊎◌, ◌==◌, ◌||◌, ◌&&◌, ◌↔◌, nat_lt, option_map}
-use Rattle.std.proofs.lemmas.Bool.{eqb-true, eq-eqb, ltb-true, ltb-false, lt-ltb, and_parts, or_cases}
+use Rattle.std.proofs.lemmas.Bool.{eqb-true, eq-eqb, ltb-true, ltb-false, lt-ltb, and_parts, or_cases, or_parts}
 use Rattle.table_definitions.specs.Lists.{is_list_before}
 use Rattle.table_definitions.specs.Permutation.{IsPermutationOfFour, index}
 use Rattle.table_definitions.specs.Table.{Gluing, Row, Face, IsTable, glue}
 use Rattle.table_definitions.specs.Places.{Place, whole, across, IsConnected}
 use Rattle.table_definitions.specs.Relabelling.{Relabelling, IsRelabelled, stand_in, face_under, gluing_under}
 use Rattle.table_definitions.proofs.TableLaws.{glued_face, glued_tet}
-use Rattle.table_definitions.proofs.ChainLaws.{kept_along}
+use Rattle.table_definitions.proofs.ChainLaws.{kept_along, crossed}
 use Rattle.signature_definitions.specs.Spelling.{Spells, IsSignature}
 use Rattle.signature_codec.proofs.SlotLaws.{ok_same}
 use Rattle.signature_codec.proofs.SpelledTables.{spelled_read}
-use Rattle.perm_four.proofs.Permutations.{index_apart}
-use Rattle.gluing_table.proofs.Carried.{perm_permutes}
+use Rattle.table_definitions.proofs.Permutations.{index_apart}
+use Rattle.table_definitions.proofs.Carried.{perm_permutes}
 use Rattle.labelling_definitions.specs.Labellings.{Relabels, is_stand_in_before, IsLeastRelabelling}
 use Rattle.canonical_labelling.proofs.Standing.{same_relabelling}
-use Rattle.canonical_labelling.proofs.Kept.{relabels_back, relabels_on, crossed}
+use Rattle.canonical_labelling.proofs.Kept.{relabels_back, relabels_on}
 use Rattle.canonical_labelling.proofs.Agreeing.{one_behind}
-use Rattle.signature_codec.proofs.Stepping.{or_parts as neither}
 
 open_and : (p q : Bool) → p ≡ true → (p && q) ≡ q
 open_and p q h = rw h refl
@@ -29,8 +28,8 @@ neither_before [] [] e f = refl
 neither_before [] (y ∷ ys) e f = absurd cc
 neither_before (x ∷ xs) [] e f = absurd cc
 neither_before (x ∷ xs) (y ∷ ys) e f =
-    let a = neither (nat_lt x y) ((x == y) && is_list_before xs ys) e in
-    let b = neither (nat_lt y x) ((y == x) && is_list_before ys xs) f in
+    let a = or_parts (nat_lt x y) ((x == y) && is_list_before xs ys) e in
+    let b = or_parts (nat_lt y x) ((y == x) && is_list_before ys xs) f in
     let low : y ≤ x = ltb-false x y a.0 in
     let high : x ≤ y = ltb-false y x b.0 in
     let same : x ≡ y = omega arith in
@@ -91,8 +90,8 @@ tells_tables first second text other a b s t = (there, back)
 -- of two different gluings the one is before the other
 neither_stand_in : (s r : Gluing) → IsPermutationOfFour s.perm → IsPermutationOfFour r.perm → is_stand_in_before s r ≡ false → is_stand_in_before r s ≡ false → s ≡ r
 neither_stand_in s r hs hr e f =
-    let a = neither (nat_lt s.tet r.tet) ((s.tet == r.tet) && nat_lt (index s.perm) (index r.perm)) e in
-    let b = neither (nat_lt r.tet s.tet) ((r.tet == s.tet) && nat_lt (index r.perm) (index s.perm)) f in
+    let a = or_parts (nat_lt s.tet r.tet) ((s.tet == r.tet) && nat_lt (index s.perm) (index r.perm)) e in
+    let b = or_parts (nat_lt r.tet s.tet) ((r.tet == s.tet) && nat_lt (index r.perm) (index s.perm)) f in
     let low : r.tet ≤ s.tet = ltb-false s.tet r.tet a.0 in
     let high : s.tet ≤ r.tet = ltb-false r.tet s.tet b.0 in
     let same : s.tet ≡ r.tet = omega arith in

@@ -1,23 +1,10 @@
 //! The starts of the walks of a table, by number.
 
-ghost use Rattle.std.specs.Prelude.{◌≡◌, ◌<◌, []};
-ghost use Rattle.std.specs.List.{slice_index_or};
-ghost use Rattle.table_definitions.specs.Permutation.{words};
+ghost use Rattle.std.specs.Prelude.{◌≡◌};
 ghost use Rattle.canonical_labelling.specs.Starts as starts;
 
 use crate::Start;
-use perm_four::Perm4;
-
-/// The permutation at a place in lexicographic order.
-pub fn perm_at(index: u32) -> Perm4
-    requires { index < 24 }
-    ensures { result ≡ slice_index_or words index [] }
-{
-    match Perm4::of_index(index as u8) {
-        Some(perm) => perm,
-        None => unreachable!(),
-    }
-}
+use perm_four::perm_at;
 
 /// The start of a number: those of each tetrahedron stand together, in the order of their permutations.
 pub fn start_at(number: u32) -> Start

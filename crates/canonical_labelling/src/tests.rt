@@ -74,15 +74,14 @@ fn walks_are_compared_with_a_bound(rt: HostRuntime) -> Result<(), Fail> {
     ];
     for (text, bound, before, most) in compared {
         let table = read_signature(rt.alloc(), text)?;
-        if table.len() > 0 {
-            let mut probe = Probe::new(&table);
-            let start = Start {
-                tet: 0,
-                perm: Perm4::of_index(0).expect(&rt, "the identity"),
-            };
-            assert_eq!(rt; lesser(rt.alloc(), &mut probe, start, bound)?, before);
-            assert!(rt; probe.taken() <= most);
-        }
+        assert!(rt; table.len() > 0);
+        let mut probe = Probe::new(&table);
+        let start = Start {
+            tet: 0,
+            perm: Perm4::of_index(0).expect(&rt, "the identity"),
+        };
+        assert_eq!(rt; lesser(rt.alloc(), &mut probe, start, bound)?, before);
+        assert!(rt; probe.taken() <= most);
     }
     Ok(())
 }

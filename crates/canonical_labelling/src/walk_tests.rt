@@ -41,8 +41,7 @@ fn two_loose_tetrahedra_are_not_walked(rt: HostRuntime) {
     let rows = [[None, None, None, None], [None, None, None, None]];
     let table = Table::from_rows(rt.alloc(), &rows).expect(&rt, "a table");
     let perm = Perm4::of_index(0).expect(&rt, "the identity");
-    if table.len() > 0 {
-        let fault = walk(rt.alloc(), &table, Start { tet: 0, perm }).err();
-        assert_eq!(rt; fault, Some(WalkFault::NotConnected { tet: 1 }));
-    }
+    assert_eq!(rt; table.len(), 2);
+    let fault = walk(rt.alloc(), &table, Start { tet: 0, perm }).err();
+    assert_eq!(rt; fault, Some(WalkFault::NotConnected { tet: 1 }));
 }

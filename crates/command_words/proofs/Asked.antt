@@ -1,12 +1,12 @@
 -- What a parse of the program's words answers is what the definitions ask.
-use Rattle.std.proofs.Common.{◌≡◌, ◌∙◌, inl, inr, Bool, true, false, refl, sym, ap, List, [], ◌∷◌, Option, Some, None, cond, subst, true≢false, is_some}
+use Rattle.std.proofs.Common.{◌≡◌, ◌∙◌, inl, inr, Bool, true, false, refl, sym, ap, List, [], ◌∷◌, Option, Some, None, cond, subst, true≢false}
 use Rattle.std.specs.Prelude.{codes, slice_get}
 use Rattle.std.specs.List.{find}
 use Rattle.std.specs.Option.{option_map, option_and_then}
 use Rattle.std.specs.Str.{bytes_eq}
 use Rattle.clap.specs.Values.{kind_of}
 use Rattle.clap.specs.Walk.{Row, Text, first_of, nothing_held}
-use Rattle.clap.specs.Simple.{App, HasMatchesOf, built, is_simple, subcommand_of, subcommand_rows_of}
+use Rattle.clap.specs.Simple.{App, HasMatchesOf, is_simple, subcommand_of, subcommand_rows_of}
 use Rattle.clap.specs.Kinds.{HasKind}
 use Rattle.clap.specs.Faults.{built_fault, fault_of, is_simple_and_free}
 use Rattle.clap.specs.declared.error.Error.{Error}
@@ -17,19 +17,14 @@ use Rattle.command_definitions.specs.declared.Request.{Request}
 use Rattle.command_definitions.specs.Options.{Given, options_of, value_of}
 use Rattle.command_definitions.specs.Values.{request_with, values_of, ◌>>=◌}
 use Rattle.command_definitions.specs.Words.{Command, command_named, commands, request_given, accepted_request}
+use Rattle.plain_facts.proofs.Options.{some≢none}
 use Rattle.command_words.specs.Apps.{program, request_found, values_found}
 use Rattle.command_words.specs.Requests.{FailsWords, parse_fault}
 use Rattle.command_words.proofs.OptionRules.{row, rows}
 use Rattle.command_words.proofs.OptionWalk.{AreWords}
 use Rattle.command_words.proofs.ProgramWalk.{app, asked, enters_asked, asked_passes}
 
-some≢none : {X : Type 0} (x : X) → Some x ≡ None → ⊥
-some≢none x e = true≢false (ap (λ o. is_some o) e)
-
 -- ---- the program
-
-pub program_built : built program ≡ app commands
-program_built = refl
 
 pub program_simple : is_simple program ≡ true
 program_simple = refl

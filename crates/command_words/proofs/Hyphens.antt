@@ -1,13 +1,11 @@
 -- How a word begins, as the definitions and as the parser look at it.
-use Rattle.std.proofs.Common.{◌≡◌, ◌==◌, Bool, true, false, refl, sym, ap, [], ◌∷◌, Option, Some, None, true≢false, is_some}
+use Rattle.std.proofs.Common.{◌≡◌, ◌==◌, Bool, true, false, refl, sym, [], ◌∷◌, Option, Some, None, true≢false}
 use Rattle.std.specs.Str.{bytes_eq}
 use Rattle.clap.specs.Lexer.{long_of, short_of}
 use Rattle.clap.specs.Walk.{Text}
 use Rattle.command_definitions.specs.Options.{is_hyphened, option_word}
+use Rattle.plain_facts.proofs.Options.{some≢none}
 use Rattle.command_words.specs.Texts.{dashes}
-
-some≢none : {X : Type 0} (x : X) → Some x ≡ None → ⊥
-some≢none x e = true≢false (ap (λ o. is_some o) e)
 
 pub option_word-long : (x : Text) → bytes_eq x dashes ≡ false → option_word x ≡ long_of x
 option_word-long [] e = refl

@@ -1,5 +1,5 @@
 -- The options that a parse finds are those of the definitions.
-use Rattle.std.proofs.Common.{◌≡◌, ◌∙◌, ℕ, true, false, refl, sym, ap, List, [], ◌∷◌, ◌++◌, length, Option, Some, None, true≢false, is_some}
+use Rattle.std.proofs.Common.{◌≡◌, ◌∙◌, ℕ, true, false, refl, sym, ap, List, [], ◌∷◌, ◌++◌, length, Option, Some, None}
 use Rattle.std.specs.Prelude.{slice_get}
 use Rattle.std.specs.Str.{chars}
 use Rattle.std.proofs.lemmas.Str.{chars-nil}
@@ -9,14 +9,12 @@ use Rattle.clap.specs.Faults.{flags_fault, settle_fault}
 use Rattle.clap.specs.declared.error.kind.ErrorKind.{ErrorKind}
 use Rattle.clap.specs.declared.error.kind.ErrorKind.TheVariants.{UnknownArgument, ArgumentConflict, InvalidValue}
 use Rattle.command_definitions.specs.Options.{Given, is_known, is_named}
+use Rattle.plain_facts.proofs.Options.{some≢none}
 use Rattle.command_words.proofs.OptionRules.{rules_for, rows, by_id, by_long, by_short, by_index, same_text, used-new, use-new, use-twice}
 use Rattle.command_words.proofs.WordSteps.{walk_of, IsSpelled, fault_at, walk_after}
 
 abbrev pub hold : List Row → Option (Text × List Text) → Held
 hold found pending = record { rows = found; pending = pending; skip = 0 }
-
-some≢none : {X : Type 0} (x : X) → Some x ≡ None → ⊥
-some≢none x e = true≢false (ap (λ o. is_some o) e)
 
 module _ (name : Text) (names : List Text) where
   -- the words up to here give these options

@@ -1,5 +1,5 @@
 -- What a parse of the words of the command line finds: a command, and its options.
-use Rattle.std.proofs.Common.{◌≡◌, ◌∙◌, ◌&&◌, ◌||◌, ℕ, Bool, true, false, refl, sym, ap, List, [], ◌∷◌, ◌++◌, map, length, Option, Some, None, cond, true≢false, is_some, append-nil, append_assoc}
+use Rattle.std.proofs.Common.{◌≡◌, ◌∙◌, ◌&&◌, ◌||◌, ℕ, Bool, true, false, refl, sym, ap, List, [], ◌∷◌, ◌++◌, map, length, Option, Some, None, cond, true≢false, append-nil, append_assoc}
 use Rattle.std.specs.Prelude.{codes, fold, slice_get}
 use Rattle.std.specs.List.{find}
 use Rattle.std.specs.Option.{option_map, option_and_then}
@@ -15,6 +15,7 @@ use Rattle.clap.specs.declared.error.kind.ErrorKind.{ErrorKind}
 use Rattle.clap.specs.declared.error.kind.ErrorKind.TheVariants.{InvalidSubcommand, UnknownArgument}
 use Rattle.command_definitions.specs.Options.{Given, options_of}
 use Rattle.command_definitions.specs.Words.{Command}
+use Rattle.plain_facts.proofs.Options.{some≢none}
 use Rattle.command_words.proofs.OptionRules.{rules_for, rows}
 use Rattle.command_words.specs.Texts.{dashes}
 use Rattle.command_words.proofs.WordSteps.{leaf, walk_of, IsSpelled, answer, fault_from}
@@ -44,9 +45,6 @@ is_nil (k ∷ ks) = false
 and_false : (b : Bool) → (b && false) ≡ false
 and_false true = refl
 and_false false = refl
-
-some≢none : {X : Type 0} (x : X) → Some x ≡ None → ⊥
-some≢none x e = true≢false (ap (λ o. is_some o) e)
 
 nothing_after : (ks : Kinds) → or_else ks [] ≡ ks
 nothing_after [] = refl

@@ -8,8 +8,7 @@ use Rattle.std.proofs.lemmas.Bool.{and_parts, ltb-true, or_left, or_right, or_pa
 use Rattle.std.proofs.lemmas.Slice.Eq.{bytes_eq-Decides}
 use Rattle.std.proofs.lemmas.List.{take-append-drop, append-nil}
 use Rattle.clap.proofs.CutLemmas.{Lacks, before_first-Lacks, before_first-at}
-use Rattle.clap.specs.Walk.{Text, texts}
-use Rattle.std.specs.Borrow.{Bor}
+use Rattle.clap.specs.Walk.{Text}
 use Rattle.command_definitions.specs.Options.{Given, is_equals_sign, is_hyphened, is_known, is_named, option_met, name_and_value, option_read, option_word, options_from, options_of, with_value, word_read}
 use Rattle.command_definitions.specs.Words.{Command, command_named, request_given, accepted_request}
 use Rattle.command_definitions.specs.Values.{◌>>=◌}
@@ -176,8 +175,3 @@ repeats_ask_nothing ws e =
     λ c cs l. repeat_asks_nothing c cs (lacks_by_test (c ∷ cs) l) ws in
     any_of (accepted_request ws ≡ None) (λ o. is_repeated ws o) options
     (asks_nothing 99 (codes "oords") refl, (asks_nothing 111 (codes "rder") refl, (asks_nothing 109 (codes "ax-entry") refl, (asks_nothing 115 (codes "eed") refl, (asks_nothing 109 (codes "oves") refl, tt))))) e
-
--- the same of texts that are lent
-pub times-texts : (o : Text) (ts : List (Bor Text)) → count_by (λ w. is_naming o w.now) ts ≡ times o (texts ts)
-times-texts o [] = refl
-times-texts o (t ∷ ts) = sum_by-cons (λ (w : Bor Text). cond (is_naming o w.now) 1 0) t ts ∙ ap (λ k. cond (is_naming o t.now) 1 0 + k) (times-texts o ts) ∙ sym (times_cons o t.now (texts ts))

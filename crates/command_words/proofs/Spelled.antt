@@ -1,15 +1,13 @@
 -- Words of characters.
-use Rattle.std.proofs.Common.{◌≡◌, ◌∙◌, ◌<◌, ◌==◌, ℕ, Bool, true, false, refl, sym, ap, List, [], ◌∷◌, Some, None, true≢false, is_some, arith}
+use Rattle.std.proofs.Common.{◌≡◌, ◌∙◌, ◌<◌, ◌==◌, ℕ, Bool, true, false, refl, sym, ap, List, [], ◌∷◌, Some, true≢false, arith}
 use Rattle.std.specs.Prelude.{slice_get, encode_utf8_all}
 use Rattle.std.specs.Str.{IsUtf8, chars}
 use Rattle.std.proofs.lemmas.Str.{encodes-chars, IsUtf8-drop, IsCharBoundary-after_ascii}
 use Rattle.std.proofs.lemmas.Bool.{eqb-true}
 use Rattle.clap.specs.Lexer.{short_of}
 use Rattle.clap.specs.Walk.{Text}
+use Rattle.plain_facts.proofs.Options.{some≢none}
 use Rattle.command_words.proofs.WordSteps.{IsSpelled}
-
-some≢none : {X : Type 0} (x : X) → Some x ≡ None → ⊥
-some≢none x e = true≢false (ap (λ o. is_some o) e)
 
 is_nil : Text → Bool
 is_nil [] = true

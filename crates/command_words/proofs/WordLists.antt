@@ -1,17 +1,15 @@
 -- Lists of words, one word longer.
-use Rattle.std.proofs.Common.{◌≡◌, ◌∙◌, ◌+◌, ◌||◌, ℕ, Bool, true, false, zero, suc, refl, sym, ap, List, [], ◌∷◌, ◌++◌, take, Some, None, true≢false, is_some, arith}
+use Rattle.std.proofs.Common.{◌≡◌, ◌∙◌, ◌+◌, ◌||◌, ℕ, Bool, true, false, zero, suc, refl, sym, ap, List, [], ◌∷◌, ◌++◌, take, Some, true≢false, arith}
 use Rattle.std.specs.Prelude.{slice_get}
 use Rattle.std.specs.Str.{IsUtf8, bytes_eq}
 use Rattle.std.specs.List.{list_any}
 use Rattle.std.specs.Borrow.{Bor}
 use Rattle.clap.specs.Walk.{Text, texts}
 use Rattle.clap.proofs.WalkLemmas.{list_any-map}
+use Rattle.plain_facts.proofs.Options.{some≢none}
 use Rattle.command_words.specs.Texts.{AreTexts, dashes, has_dashes}
 use Rattle.command_words.proofs.OptionWalk.{AreWords}
 use Rattle.command_words.proofs.Spelled.{spelled}
-
-some≢none : {X : Type 0} (x : X) → Some x ≡ None → ⊥
-some≢none x e = true≢false (ap (λ o. is_some o) e)
 
 module _ {X : Type 0} where
   after_suc : (xs : List X) (i : ℕ) (x : X) → slice_get xs i ≡ Some x → take i xs ++ x ∷ [] ≡ take (suc i) xs

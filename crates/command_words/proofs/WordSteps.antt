@@ -3,12 +3,11 @@ use Rattle.std.proofs.Common.{◌≡◌, ◌∙◌, ℕ, true, false, refl, ap, 
 use Rattle.std.specs.Prelude.{slice_get, fold}
 use Rattle.std.specs.Str.{bytes_eq, chars}
 use Rattle.clap.specs.Lexer.{long_of, short_of}
-use Rattle.clap.specs.Walk.{Held, Row, Step, Text, Waiting, Walk, idle, option, settled, walked, word_met, long_or_other, after_step}
+use Rattle.clap.specs.Walk.{Held, Row, Step, Text, Waiting, Walk, idle, option, settled, walked, long_or_other, after_step}
 use Rattle.clap.specs.Simple.{Shape, new_shape}
 use Rattle.clap.specs.Kinds.{Kinds, or_else}
 use Rattle.clap.specs.Faults.{flag_word_fault, settle_fault, step_fault, turn_fault, walk_fault}
 use Rattle.clap.specs.declared.error.kind.ErrorKind.{ErrorKind}
-use Rattle.command_definitions.specs.Options.{Given}
 use Rattle.command_words.proofs.OptionRules.{rules_for, rows}
 use Rattle.command_words.specs.Texts.{dashes}
 
@@ -31,9 +30,6 @@ answer (k ∷ ks) found = None
 abbrev pub walk_of : Held → Waiting → Walk
 walk_of h waiting = record { held = h; waiting = waiting; position = 1; is_trailing = false; stopped = None }
 
-abbrev pub held_of : List Given → Option (Text × List Text) → Held
-held_of given pending = record { rows = rows given; pending = pending; skip = 0 }
-
 -- what stands behind a hyphen begins with a character
 abbrev pub IsSpelled : Text → Type 0
 IsSpelled w = (flags : Text) → short_of w ≡ Some flags → (x : ℕ) × (slice_get (chars flags) 0 ≡ Some x)
@@ -52,9 +48,6 @@ module _ (name : Text) (names : List Text) where
   abbrev pub out : Walk → List Text → Option (List Row)
   out w words = answer (fault_from w words) (settled (rules_for names) (end_of w words)).rows
 
-  none_of : (ks more : Kinds) (k : ErrorKind) (found : List Row) → ks ≡ k ∷ [] → answer (or_else ks more) found ≡ None
-  none_of ks more k found e = ap (λ x. answer (or_else x more) found) e
-
   -- the word fails
   out-fails : (w : Walk) (x : Text) (ws : List Text) (k : ErrorKind) → turn_fault s [] w x ≡ k ∷ [] → out w (x ∷ ws) ≡ None
   unfolding walk_fault
@@ -69,12 +62,6 @@ module _ (name : Text) (names : List Text) where
   -- what a word is that isn't `--`
   abbrev met : Waiting → Text → Held → Held × Step
   met waiting x h = long_or_other (rules_for names) waiting x (long_of x) h
-
-  met_idle : (x : Text) (h : Held) → bytes_eq x dashes ≡ false → word_met (rules_for names) [] false idle 1 x h ≡ met idle x h
-  met_idle x h e = rw e refl
-
-  met_option : (id x : Text) (h : Held) → bytes_eq x dashes ≡ false → word_met (rules_for names) [] false (option id) 1 x h ≡ met (option id) x h
-  met_option id x h e = rw e refl
 
   abbrev pub fault_at : Waiting → Text → Held → Kinds
   fault_at waiting x h = or_else (flag_word_fault (rules_for names) false (long_of x) x h) (step_fault s 1 (met waiting x h).0 (met waiting x h).1)

@@ -1,28 +1,13 @@
 -- The numbers below n that pass a test.
-use Rattle.std.proofs.Common.{◌≡◌, ℕ, zero, suc, ◌<◌, ◌+◌, ◌⊎◌, inl, inr, Bool, true, false, List, [], ◌∷◌, ◌++◌, length, filter, Contains, slice_index, slice_index_or, AllPairs, add-one, subst, subst₂, sym, ap, refl, ◌∙◌, arith}
+use Rattle.std.proofs.Common.{◌≡◌, ℕ, ◌<◌, ◌+◌, ◌⊎◌, inl, inr, Bool, true, false, List, [], ◌∷◌, ◌++◌, filter, Contains, slice_index, slice_index_or, AllPairs, add-one, subst, subst₂, sym, ap, refl, ◌∙◌, arith}
 use Rattle.std.specs.Prelude.{◌==◌}
 use Rattle.std.proofs.lemmas.Bool.{eqb-true, eq-eqb}
 use Rattle.std.proofs.lemmas.List.Elements.{filter-append}
 use Rattle.std.proofs.lemmas.List.FromFn.{length-range_with_len, get_or-range_with_len}
 use Rattle.std.proofs.lemmas.List.Kept.{AllPairs-filter}
+use Rattle.plain_facts.proofs.Members.{contains_nil, contains_head, contains_tail, contains_cases}
 use Rattle.table_definitions.specs.Lists.{below}
-use Rattle.table_definitions.proofs.Bijections.{below_contains, below-push}
-
-contains_head : (x : ℕ) (xs : List ℕ) → Contains (x ∷ xs) x
-contains_head x xs = (0, omega arith, refl)
-
-contains_tail : (x y : ℕ) (xs : List ℕ) → Contains xs y → Contains (x ∷ xs) y
-contains_tail x y xs h = (suc h.0, omega (arith, h.1), h.2)
-
-contains_cases : (x y : ℕ) (xs : List ℕ) → Contains (x ∷ xs) y → (x ≡ y) ⊎ Contains xs y
-contains_cases x y xs h = go h.0 h.1 h.2
-  where
-    go : (k : ℕ) → k < length (x ∷ xs) → slice_index_or (x ∷ xs) k y ≡ y → (x ≡ y) ⊎ Contains xs y
-    go zero l e = inl e
-    go (suc k) l e = inr (k, omega arith, e)
-
-contains_nil : (y : ℕ) → Contains [] y → ⊥
-contains_nil y h = let l : h.0 < 0 = h.1 in omega arith
+use Rattle.table_definitions.proofs.Bijections.{below-push}
 
 module _ (p : ℕ → Bool) where
   one_true : (x : ℕ) (xs : List ℕ) → p x ≡ true → filter p (x ∷ xs) ≡ x ∷ filter p xs
@@ -81,9 +66,6 @@ ascends p n = AllPairs-filter (λ t u. t < u) p (below n) (below_ascends n)
 
 pub below_holds : (n x : ℕ) → Contains (below n) x → x < n
 below_holds n x c = let l : c.0 < n = omega (arith, c.1, length-range_with_len 0 n) in let e : c.0 ≡ x = sym (get_or-range_with_len 0 n c.0 x l ∙ omega arith) ∙ c.2 in omega (arith, e, l)
-
-pub below_has : (n x : ℕ) → x < n → Contains (below n) x
-below_has n x l = below_contains n x l
 
 -- the numbers at which the list has this value: one place more
 pub grows : (xs : List ℕ) (x n : ℕ) (before now : List ℕ) → before ≡ filter (λ t. slice_index xs t == x) (below n) → slice_index xs n ≡ x → now ≡ before ++ n ∷ [] → now ≡ filter (λ t. slice_index xs t == x) (below (n + 1))

@@ -12,7 +12,7 @@ text_more (x ∷ z ∷ xs) y l = ap (λ (t : List ℕ). x ++ (codes "." ++ t)) (
     ∙ ap (λ (t : List ℕ). x ++ t) (sym (append_assoc (codes ".") (component_text (z ∷ xs)) (codes "." ++ y)))
     ∙ sym (append_assoc x (codes "." ++ component_text (z ∷ xs)) (codes "." ++ y))
 
-abbrev texts : List Signed → List (List ℕ)
+abbrev pub texts : List Signed → List (List ℕ)
 texts signed = texts_of (entries_of signed)
 
 texts_more : (signed : List Signed) (i : ℕ) (s : Signed) → i < length signed → s ≡ get_or signed i s → texts (take (i + 1) signed) ≡ texts (take i signed) ++ s.signature.items ∷ []
@@ -46,7 +46,3 @@ all_joined signed i now l m e = e ∙ ap (λ n. component_text (texts (take n si
     take_whole : (xs : List Signed) → take (length xs) xs ≡ xs
     take_whole [] = refl
     take_whole (x ∷ xs) = ap (λ (ys : List Signed). x ∷ ys) (take_whole xs)
-
-pub none_joined : (signed : List Signed) → signed ≡ [] → codes "a" ≡ component_text (texts signed)
-none_joined [] e = refl
-none_joined (x ∷ signed) e = absurd cc

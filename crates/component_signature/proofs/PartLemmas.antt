@@ -4,13 +4,15 @@ use Rattle.std.specs.Prelude.{◌==◌}
 use Rattle.std.proofs.lemmas.Bool.{cases_order, eqb-true, eq-eqb}
 use Rattle.std.proofs.lemmas.List.{length_push}
 use Rattle.std.proofs.lemmas.List.FromFn.{map-range_with_len_more, get_or-map-range_with_len}
+use Rattle.plain_facts.proofs.Members.{contains_at}
 use Rattle.table_definitions.specs.Lists.{below}
 use Rattle.table_definitions.specs.Table.{Row, IsTable}
+use Rattle.table_definitions.proofs.Bijections.{below_contains}
+use Rattle.table_definitions.specs.Classes.{members}
 use Rattle.part_definitions.specs.Parts.{Part, first_of, IsPart, AreParts}
-use Rattle.part_laws.proofs.Numbers.{contains_entry}
 use Rattle.part_laws.proofs.Members.{first_least}
-use Rattle.component_signature.specs.Components.{AreComponents, members_of, part_of}
-use Rattle.component_signature.proofs.Filtered.{passes, keeps, ascends, below_holds, below_has}
+use Rattle.component_signature.specs.Components.{AreComponents, part_of}
+use Rattle.component_signature.proofs.Filtered.{passes, keeps, ascends, below_holds}
 
 -- the parts of the components of the first i tetrahedra
 pub record ArePartsUpTo (rows : List Row) (classes : List ℕ) (i : ℕ) (parts : List Part) : Type 0 where
@@ -22,20 +24,20 @@ pub none : (rows : List Row) (classes : List ℕ) → ArePartsUpTo rows classes 
 none rows classes = record { made = refl; used = λ c l. absurd (omega arith); seen = λ t l. absurd (omega arith) }
 
 module _ (rows : List Row) (classes : List ℕ) (h : AreComponents rows classes) where
-  member_in : (c t : ℕ) → Contains (members_of classes c) t → (t < length rows) × (slice_index classes t ≡ c)
+  member_in : (c t : ℕ) → Contains (members classes c) t → (t < length rows) × (slice_index classes t ≡ c)
   member_in c t m = let w = passes (λ u. slice_index classes u == c) (below (length classes)) t m in
       (subst (λ n. t < n) h.one_each (below_holds (length classes) t w.0), eqb-true (slice_index classes t) c w.1)
 
-  member_from : (c t : ℕ) → t < length rows → slice_index classes t ≡ c → Contains (members_of classes c) t
-  member_from c t l e = keeps (λ u. slice_index classes u == c) (below (length classes)) t (below_has (length classes) t (subst (λ n. t < n) (sym h.one_each) l)) (eq-eqb (slice_index classes t) c e)
+  member_from : (c t : ℕ) → t < length rows → slice_index classes t ≡ c → Contains (members classes c) t
+  member_from c t l e = keeps (λ u. slice_index classes u == c) (below (length classes)) t (below_contains (length classes) t (subst (λ n. t < n) (sym h.one_each) l)) (eq-eqb (slice_index classes t) c e)
 
   -- a component with a member is a part
   module _ (c y : ℕ) (l : y < length rows) (e : slice_index classes y ≡ c) where
-    some : 0 < length (members_of classes c)
-    some = let m = member_from c y l e in let b : m.0 < length (members_of classes c) = m.1 in omega arith
+    some : 0 < length (members classes c)
+    some = let m = member_from c y l e in let b : m.0 < length (members classes c) = m.1 in omega arith
 
     first_in : (first_of (part_of rows classes c) < length rows) × (slice_index classes (first_of (part_of rows classes c)) ≡ c)
-    first_in = member_in c (first_of (part_of rows classes c)) (contains_entry (members_of classes c) 0 (first_of (part_of rows classes c)) some refl)
+    first_in = member_in c (first_of (part_of rows classes c)) (contains_at (members classes c) 0 (first_of (part_of rows classes c)) some refl)
 
     pub part_is : IsPart rows (part_of rows classes c)
     part_is = record {

@@ -2,13 +2,13 @@
 use Rattle.std.proofs.Common.{◌≡◌, ℕ, zero, suc, ◌<◌, ◌≤◌, ◌+◌, inl, inr, List, [], ◌∷◌, length, All, Contains, slice_index, slice_index_or, get_or, subst, sym, ap, refl, ◌∙◌, arith}
 use Rattle.std.proofs.lemmas.Bool.{cases_order}
 use Rattle.std.proofs.lemmas.List.{get_or_default, length-map}
+use Rattle.plain_facts.proofs.Members.{contains_at}
 use Rattle.table_definitions.specs.Table.{Row, IsTable}
 use Rattle.table_definitions.specs.Relabelling.{Relabelling, stand_in}
 use Rattle.table_definitions.proofs.Carried.{length-images, image_in_range, permutation_apart}
 use Rattle.labelling_definitions.specs.Labellings.{IsLeastRelabelling}
 use Rattle.part_definitions.specs.Parts.{Part, IsPart}
 use Rattle.part_definitions.specs.SameParts.{GoesBy}
-use Rattle.part_laws.proofs.Numbers.{contains_entry}
 use Rattle.part_laws.proofs.Members.{part_at, no_part, member_below, length-part, part_is_table, one_part}
 use Rattle.component_signature.specs.declared.order.Signed.{Signed}
 use Rattle.component_signature.specs.Ordered.{Entry, entries_of, numbers_of, AreInOrder}
@@ -69,6 +69,6 @@ module _ (n : ℕ) (P : List Part) (E : List Entry) (Q : List Part) (F : List En
   written_more i old new by l least goes others w k lk = elim (cases_order k i) [
     | inl same ↦ subst (λ j. (r : Relabelling) × IsLeastRelabelling (part_in P E j).rows (part_in Q F j).rows r × GoesBy new (part_in P E j) (part_in Q F j) r) (sym same) (by, least, goes)
     | inr (inl less) ↦ let v = w k less in
-        (v.0, v.1, λ j lj. others (slice_index (part_in P E k).numbers j) (λ c. apart i k less l (slice_index (part_in P E k).numbers j) (contains_entry (part_in P E k).numbers j (slice_index (part_in P E k).numbers j) lj refl) c) ∙ v.2 j lj)
+        (v.0, v.1, λ j lj. others (slice_index (part_in P E k).numbers j) (λ c. apart i k less l (slice_index (part_in P E k).numbers j) (contains_at (part_in P E k).numbers j (slice_index (part_in P E k).numbers j) lj refl) c) ∙ v.2 j lj)
     | inr (inr past) ↦ absurd (omega arith)
   ]

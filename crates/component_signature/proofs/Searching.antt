@@ -1,12 +1,14 @@
 -- Ascending numbers, searched; and rows of four.
-use Rattle.std.proofs.Common.{◌≡◌, ℕ, ◌<◌, ◌≤◌, inl, inr, List, [], ◌∷◌, length, map, Contains, Option, None, option_map, slice_index, slice_index_or, sym, ap, refl, ◌∙◌, arith, nat_cmp}
+use Rattle.std.proofs.Common.{◌≡◌, ℕ, ◌<◌, ◌≤◌, inl, inr, List, [], ◌∷◌, length, Contains, Option, option_map, slice_index, slice_index_or, sym, ap, ◌∙◌, arith, nat_cmp, None}
 use Rattle.std.specs.declared.cmp.Ordering.TheVariants.{Equal}
 use Rattle.std.proofs.lemmas.Bool.{cases_order, cases_lt}
 use Rattle.std.proofs.lemmas.Bool.Decides.{nat_tests}
 use Rattle.std.proofs.lemmas.List.Elements.{All-get_or}
+use Rattle.plain_facts.proofs.Members.{Ascends}
 use Rattle.table_definitions.specs.Table.{Gluing, Row, IsTable, glue}
+use Rattle.table_definitions.proofs.ListFacts.{four_made}
 use Rattle.part_definitions.specs.Parts.{Part, place_in, renumbered, rows_of, IsPart}
-use Rattle.part_laws.proofs.Numbers.{Ascends, place_at, entry_of}
+use Rattle.part_laws.proofs.Numbers.{place_at, entry_of}
 use Rattle.part_laws.proofs.Members.{member_below, length-part, part_is_table}
 use Rattle.component_signature.specs.Components.{row_of}
 
@@ -33,15 +35,6 @@ not_missed numbers tet place c under over = elim (cases_lt c.0 place) [
 
 -- ---- the row of a tetrahedron of a part
 
-four_entries : (f : Option Gluing → Option Gluing) (row : Row) → length row ≡ 4
-    → f (slice_index_or row 0 None) ∷ f (slice_index_or row 1 None) ∷ f (slice_index_or row 2 None) ∷ f (slice_index_or row 3 None) ∷ [] ≡ map f row
-four_entries f [] h = absurd (omega (arith, h))
-four_entries f (a ∷ []) h = absurd (omega (arith, h))
-four_entries f (a ∷ b ∷ []) h = absurd (omega (arith, h))
-four_entries f (a ∷ b ∷ c ∷ []) h = absurd (omega (arith, h))
-four_entries f (a ∷ b ∷ c ∷ d ∷ []) h = refl
-four_entries f (a ∷ b ∷ c ∷ d ∷ e ∷ row) h = absurd (omega (arith, h))
-
 abbrev pub part_with : List Row → List ℕ → Part
 part_with rows numbers = record { rows = rows_of rows numbers; numbers = numbers }
 
@@ -50,7 +43,7 @@ pub row_is : (rows : List Row) (numbers : List ℕ) (t : ℕ) (a b c d : Option 
     → c ≡ option_map (renumbered numbers) (glue rows (record { tet = t; face = 2 })) → d ≡ option_map (renumbered numbers) (glue rows (record { tet = t; face = 3 }))
     → a ∷ b ∷ c ∷ d ∷ [] ≡ row_of rows numbers t
 row_is rows numbers t a b c d table part there ea eb ec ed =
-    (λ i. ea i ∷ eb i ∷ ec i ∷ ed i ∷ []) ∙ four_entries (option_map (renumbered numbers)) (slice_index_or rows t [])
+    (λ i. ea i ∷ eb i ∷ ec i ∷ ed i ∷ []) ∙ four_made (option_map (renumbered numbers)) None (slice_index_or rows t [])
     (All-get_or (λ (row : Row). length row ≡ 4) rows t [] (member_below rows table (part_with rows numbers) part t there) table.four_faces)
 
 pub few_numbers : (rows : List Row) (numbers : List ℕ) → IsTable rows → IsPart rows (part_with rows numbers) → length numbers ≤ 1000

@@ -2,9 +2,10 @@
 use Rattle.std.proofs.Common.{◌≡◌, ◌≢◌, ℕ, ◌<◌, ◌+◌, inl, inr, List, [], length, All, Contains, slice_index, slice_index_or, slice_set, sym, ap, subst, refl, ◌∙◌, arith}
 use Rattle.std.proofs.lemmas.Bool.{cases_order}
 use Rattle.std.proofs.lemmas.List.{get_or-set_same, get_or-set_other, length-set}
+use Rattle.plain_facts.proofs.Members.{contains_at, Ascends}
 use Rattle.table_definitions.specs.Relabelling.{Relabelling, stand_in}
 use Rattle.part_definitions.specs.Parts.{Part}
-use Rattle.part_laws.proofs.Numbers.{Ascends, stands_once, contains_entry}
+use Rattle.part_laws.proofs.Numbers.{stands_once}
 
 -- the first i tetrahedra of the part are written, and no others
 pub record IsWritten (old now : Relabelling) (part other : Part) (by : Relabelling) (i : ℕ) : Type 0 where
@@ -45,7 +46,7 @@ one_written old now next part other by i t image perm up l here li lp to by_perm
 
 -- all are written
 pub others_kept : (old now : Relabelling) (part other : Part) (by : Relabelling) (i : ℕ) → i ≡ length part.numbers → IsWritten old now part other by i → (t : ℕ) → (Contains part.numbers t → ⊥) → stand_in now t ≡ stand_in old t
-others_kept old now part other by i whole w t h = w.others t (λ k l e. h (contains_entry part.numbers k t (omega (arith, whole)) e))
+others_kept old now part other by i whole w t h = w.others t (λ k l e. h (contains_at part.numbers k t (omega (arith, whole)) e))
 
 pub entry_below : (items numbers : List ℕ) (m i : ℕ) → items ≡ numbers → All (λ t. t < m) numbers → i < length items → slice_index_or items i 0 < m
 entry_below items numbers m i e all l = subst (λ (ns : List ℕ). slice_index_or ns i 0 < m) (sym e) (all i 0 (omega (arith, ap length e)))

@@ -28,24 +28,13 @@ impl Model for Draft {
     ghost view = { λ d. record { images = d.images.items; perms = d.perms.items } };
 }
 
-/// The permutation that leaves each vertex where it is.
-#[tactic(auto, unfolding(table_definitions::specs::Permutation::is_permutation))]
-fn unmoved() -> Perm4
-    ensures { result ≡ identity }
-{
-    match Perm4::new(0, 1, 2, 3) {
-        Some(perm) => perm,
-        None => unreachable!(),
-    }
-}
-
 /// Room for so many tetrahedra.
 pub fn unwritten(alloc: Global, tets: u32) -> Result<Draft, NoMemory>
     ensures images { IfOk result (λ draft. length draft.images ≡ tets) }
     ensures perms { IfOk result (λ draft. length draft.perms ≡ tets) }
 {
     let images = vec![in alloc; 0u32; tets as usize]?;
-    let perms = vec![in alloc; unmoved(); tets as usize]?;
+    let perms = vec![in alloc; Perm4::identity(); tets as usize]?;
     Ok(Draft { images, perms })
 }
 

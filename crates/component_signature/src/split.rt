@@ -2,6 +2,7 @@
 
 ghost use Rattle.std.specs.Prelude.{◌≡◌, ◌<◌, ◌^◌, length, IfOk, OnOk};
 ghost use Rattle.table_definitions.specs.Table.{IsTable};
+ghost use Rattle.table_definitions.specs.Classes.{members};
 ghost use Rattle.part_definitions.specs.Parts as definition;
 ghost use Rattle.part_definitions.specs.Parts.{IsPart, AreParts};
 ghost use Rattle.component_signature.specs.Components as components;
@@ -31,7 +32,7 @@ impl Model for Part {
 /// The tetrahedra of a component.
 fn members_of(alloc: Global, classes: &[u32], class: u32) -> Result<Vec<u32>, AllocError>
     requires { length classes.now < 2 ^ 32 }
-    ensures { IfOk result (λ members. members.items ≡ components.members_of classes.now class) }
+    ensures { IfOk result (λ numbers. numbers.items ≡ members classes.now class) }
 {
     let mut members = Vec::new(alloc);
     let count = classes.len() as u32;

@@ -1,12 +1,11 @@
 -- Relabellings that keep all vertices.
-use Rattle.std.proofs.Common.{◌≡◌, ℕ, zero, suc, ◌+◌, ◌<◌, List, ◌∷◌, length, map, replicate, All, Option, Some, None, option_map, subst, sym, ap, ap₂, refl, ◌∙◌, arith}
+use Rattle.std.proofs.Common.{◌≡◌, ℕ, zero, suc, ◌+◌, ◌<◌, List, ◌∷◌, length, map, replicate, All, Option, Some, None, option_map, subst, sym, ap, ap₂, refl, ◌∙◌}
 use Rattle.std.specs.List.{range_with_len}
 use Rattle.table_definitions.specs.Lists.{below}
-use Rattle.table_definitions.specs.Permutation.{IsPermutationOfFour, image, inverse, compose, identity}
+use Rattle.table_definitions.specs.Permutation.{IsPermutationOfFour, compose, identity}
 use Rattle.table_definitions.specs.Table.{Gluing, Row, Face, glue}
 use Rattle.table_definitions.specs.Relabelling.{Relabelling, IsRelabelling, Carries, stand_in, face_under, gluing_under}
-use Rattle.table_definitions.proofs.Permutations.{compose-identity, identity-compose}
-use Rattle.table_definitions.proofs.Computed.{computed}
+use Rattle.table_definitions.proofs.Permutations.{compose-identity, identity-compose, identity_permutes, inverse-identity, image-identity}
 use Rattle.canonical_labelling.specs.Between.{made}
 use Rattle.canonical_labelling.proofs.Standing.{made_stands, made_relabelling}
 
@@ -24,21 +23,6 @@ stands_plain f t = record { tet = f t; perm = identity }
 plain_is_made : (n : ℕ) (f : ℕ → ℕ) → made n (stands_plain f) ≡ by_numbers n f
 unfolding made stands_plain
 plain_is_made n f = ap (λ ps. record { images = map f (below n); perms = ps }) (map-same n 0)
-
-identity_permutes : IsPermutationOfFour identity
-unfolding computed
-identity_permutes = refl
-
-identity_inverse : inverse identity ≡ identity
-unfolding computed
-identity_inverse = refl
-
-identity_image : (f : ℕ) → f < 4 → image identity f ≡ f
-identity_image zero l = refl
-identity_image (suc zero) l = refl
-identity_image (suc (suc zero)) l = refl
-identity_image (suc (suc (suc zero))) l = refl
-identity_image (suc (suc (suc (suc f)))) l = absurd (omega arith)
 
 -- the gluing to the number that stands there
 abbrev pub moved_to : (ℕ → ℕ) → Gluing → Gluing
@@ -61,12 +45,12 @@ module _ (old new : List Row) (f : ℕ → ℕ) (small : (t : ℕ) → t < lengt
 
   plain_under : (t u : ℕ) (g : Gluing) → IsPermutationOfFour g.perm → gluing_under (stands_plain f t) (stands_plain f g.tet) g ≡ moved_to f g
   unfolding stands_plain
-  plain_under t u g h = ap (λ p. record { tet = f g.tet; perm = compose identity (compose g.perm p) }) identity_inverse
+  plain_under t u g h = ap (λ p. record { tet = f g.tet; perm = compose identity (compose g.perm p) }) inverse-identity
       ∙ ap (λ p. record { tet = f g.tet; perm = compose identity p }) (compose-identity g.perm h) ∙ ap (λ p. record { tet = f g.tet; perm = p }) (identity-compose g.perm h)
 
   plain_glued : (x : Face) → x.tet < length old → x.face < 4 → glue new (face_under (stand_in whole x.tet) x) ≡ option_map (λ g. gluing_under (stand_in whole x.tet) (stand_in whole g.tet) g) (glue old x)
   unfolding stands_plain
-  plain_glued x lt lf = ap (λ (b : Gluing). glue new (face_under b x)) (stands x.tet lt) ∙ ap (λ v. glue new (record { tet = f x.tet; face = v })) (identity_image x.face lf)
+  plain_glued x lt lf = ap (λ (b : Gluing). glue new (face_under b x)) (stands x.tet lt) ∙ ap (λ v. glue new (record { tet = f x.tet; face = v })) (image-identity x.face lf)
       ∙ moved x.tet x.face lt ∙ cases (glue old x) refl
     where
       cases : (o : Option Gluing) → glue old x ≡ o → option_map (moved_to f) (glue old x) ≡ option_map (λ (g : Gluing). gluing_under (stand_in whole x.tet) (stand_in whole g.tet) g) (glue old x)

@@ -1,8 +1,9 @@
 -- Sheets, and the gluings of the cover by those below.
-use Rattle.std.proofs.Common.{◌≡◌, ℕ, zero, suc, ◌+◌, ◌-◌, ◌*◌, ◌<◌, ◌≤◌, ◌⊎◌, inl, inr, Bool, true, false, List, [], ◌∷◌, length, map, Option, Some, None, option_map, slice_index_or, subst, sym, ap, ap₂, refl, ◌∙◌, arith}
+use Rattle.std.proofs.Common.{◌≡◌, ℕ, ◌+◌, ◌-◌, ◌*◌, ◌<◌, ◌≤◌, ◌⊎◌, inl, inr, Bool, true, false, List, [], length, map, Option, Some, None, option_map, slice_index_or, subst, sym, ap, ap₂, refl, ◌∙◌, arith}
 use Rattle.std.specs.Prelude.{nat_lt, if◌then◌else◌}
-use Rattle.std.proofs.lemmas.Bool.{cases_lt, cases_eq}
+use Rattle.std.proofs.lemmas.Bool.{cases_lt, cases_eq, le-ltb}
 use Rattle.std.proofs.lemmas.List.FromFn.{get_or-map-range_with_len, length-map-range_with_len}
+use Rattle.std.proofs.Math.ListN.{get_or-map as entry-map}
 use Rattle.table_definitions.specs.Permutation.{IsPermutationOfFour, is_odd, inverse}
 use Rattle.table_definitions.specs.Table.{Gluing, Row, Face, glue}
 use Rattle.table_definitions.proofs.TableLaws.{glued_tet}
@@ -12,25 +13,19 @@ use Rattle.cover_definitions.specs.Cover.{over, sheet, above, other_sheet, sheet
 low : (a b : ℕ) → a < b → nat_lt a b ≡ true
 low a b l = grind arith
 
-high : (a b : ℕ) → b ≤ a → nat_lt a b ≡ false
-high a b l = grind arith
-
 -- ---- tetrahedra on sheets
 
 pub over_low : (n u : ℕ) → u < n → over n u ≡ u
 over_low n u l = ap (λ b. if b then u else u - n) (low u n l)
 
 pub over_high : (n u : ℕ) → n ≤ u → over n u ≡ u - n
-over_high n u l = ap (λ b. if b then u else u - n) (high u n l)
+over_high n u l = ap (λ b. if b then u else u - n) (le-ltb u n l)
 
 pub sheet_low : (n u : ℕ) → u < n → sheet n u ≡ 0
 sheet_low n u l = ap (λ b. if b then 0 else 1) (low u n l)
 
 pub sheet_high : (n u : ℕ) → n ≤ u → sheet n u ≡ 1
-sheet_high n u l = ap (λ b. if b then 0 else 1) (high u n l)
-
-pub above_zero : (n t : ℕ) → above n t 0 ≡ t
-above_zero n t = refl
+sheet_high n u l = ap (λ b. if b then 0 else 1) (le-ltb u n l)
 
 pub above_one : (n t : ℕ) → above n t 1 ≡ n + t
 above_one n t = refl
@@ -105,11 +100,6 @@ behind_back g t s h l = ap (λ b. if b then sheet_behind g s else other_sheet (s
 
 -- ---- gluings of the cover
 
-pub entry-option_map : (r : Gluing → Gluing) (row : Row) (f : ℕ) → slice_index_or (map (option_map r) row) f None ≡ option_map r (slice_index_or row f None)
-entry-option_map r [] f = refl
-entry-option_map r (o ∷ row) zero = refl
-entry-option_map r (o ∷ row) (suc f) = entry-option_map r row f
-
 pub length-cover : (rows : List Row) → length (cover rows) ≡ 2 * length rows
 unfolding cover
 length-cover rows = length-map-range_with_len (cover_row rows) 0 (2 * length rows)
@@ -120,7 +110,7 @@ row-cover rows u l = get_or-map-range_with_len (cover_row rows) 0 (2 * length ro
 
 pub glue-cover : (rows : List Row) (x : Face) → x.tet < 2 * length rows → glue (cover rows) x ≡ option_map (lifted (length rows) (sheet (length rows) x.tet)) (glue rows (face_below (length rows) x))
 glue-cover rows x l = ap (λ (row : Row). slice_index_or row x.face None) (row-cover rows x.tet l)
-    ∙ entry-option_map (lifted (length rows) (sheet (length rows) x.tet)) (slice_index_or rows (over (length rows) x.tet) []) x.face
+    ∙ entry-map (option_map (lifted (length rows) (sheet (length rows) x.tet))) (slice_index_or rows (over (length rows) x.tet) []) x.face None
 
 -- the gluing below a gluing of the cover
 pub record GluedBelow (rows : List Row) (x : Face) (h : Gluing) : Type 0 where

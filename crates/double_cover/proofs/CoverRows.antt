@@ -1,20 +1,11 @@
 -- The rows of the cover, made one after another.
-use Rattle.std.proofs.Common.{◌≡◌, ℕ, ◌+◌, ◌*◌, ◌<◌, List, [], ◌∷◌, ◌++◌, length, map, Option, None, option_map, slice_index_or, sym, ap, ◌∙◌, refl, arith}
+use Rattle.std.proofs.Common.{◌≡◌, ℕ, ◌*◌, ◌<◌, List, [], ◌∷◌, length, map, Option, option_map, slice_index_or, ap, ◌∙◌, None}
 use Rattle.std.proofs.lemmas.List.Elements.{All-get_or}
-use Rattle.std.proofs.lemmas.List.FromFn.{map-range_with_len_more}
 use Rattle.table_definitions.specs.Lists.{below}
 use Rattle.table_definitions.specs.Table.{Gluing, Row, IsTable, glue}
+use Rattle.table_definitions.proofs.ListFacts.{four_made}
 use Rattle.cover_definitions.specs.Cover.{over, sheet, lifted, cover_row, cover, face_below}
 use Rattle.cover_laws.proofs.Sheets.{over_below}
-
-four_entries : (f : Option Gluing → Option Gluing) (row : Row) → length row ≡ 4
-    → f (slice_index_or row 0 None) ∷ f (slice_index_or row 1 None) ∷ f (slice_index_or row 2 None) ∷ f (slice_index_or row 3 None) ∷ [] ≡ map f row
-four_entries f [] h = absurd (omega (arith, h))
-four_entries f (a ∷ []) h = absurd (omega (arith, h))
-four_entries f (a ∷ b ∷ []) h = absurd (omega (arith, h))
-four_entries f (a ∷ b ∷ c ∷ []) h = absurd (omega (arith, h))
-four_entries f (a ∷ b ∷ c ∷ d ∷ []) h = refl
-four_entries f (a ∷ b ∷ c ∷ d ∷ e ∷ row) h = absurd (omega (arith, h))
 
 -- what a face of the cover is glued by
 abbrev pub glued_over : List Row → ℕ → ℕ → Option Gluing
@@ -26,12 +17,8 @@ pub row_is : (rows : List Row) (u : ℕ) (a b c d : Option Gluing) → IsTable r
 unfolding cover_row
 row_is rows u a b c d table l ea eb ec ed =
     (λ i. ea i ∷ eb i ∷ ec i ∷ ed i ∷ [])
-    ∙ four_entries (option_map (lifted (length rows) (sheet (length rows) u))) (slice_index_or rows (over (length rows) u) [])
+    ∙ four_made (option_map (lifted (length rows) (sheet (length rows) u))) None (slice_index_or rows (over (length rows) u) [])
     (All-get_or (λ (row : Row). length row ≡ 4) rows (over (length rows) u) [] (over_below (length rows) u l) table.four_faces)
-
--- one more of a list that is made number by number
-pub one_more : {X : Type 0} (f : ℕ → X) (t : ℕ) (xs new : List X) (x : X) → xs ≡ map f (below t) → new ≡ xs ++ x ∷ [] → x ≡ f t → new ≡ map f (below (t + 1))
-one_more {X} f t xs new x a b e = b ∙ ap (λ (ys : List X). ys ++ x ∷ []) a ∙ ap (λ (y : X). map f (below t) ++ y ∷ []) e ∙ sym (map-range_with_len_more f 0 t t (omega arith))
 
 -- the rows of all tetrahedra are the cover
 pub all_rows : (rows new : List Row) (t : ℕ) → t ≡ 2 * length rows → new ≡ map (cover_row rows) (below t) → new ≡ cover rows

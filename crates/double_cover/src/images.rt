@@ -54,24 +54,13 @@ pub fn parted(alloc: Global, tets: u32, signs: &[bool]) -> Result<Vec<u32>, Allo
     Ok(images)
 }
 
-/// The permutation that leaves each vertex where it is.
-#[tactic(auto, unfolding(table_definitions::specs::Permutation::is_permutation))]
-fn unmoved() -> Perm4
-    ensures { result ≡ identity }
-{
-    match Perm4::new(0, 1, 2, 3) {
-        Some(perm) => perm,
-        None => unreachable!(),
-    }
-}
-
 /// The relabelling by these images that keeps all vertices.
 pub fn by_images(alloc: Global, images: &[u32]) -> Result<Relabelling, NoMemory>
     requires relabelling { IsRelabelling (length images.now) (record { images = images.now; perms = replicate (length images.now) identity }) }
     requires few { length images.now < 2 ^ 32 }
     ensures { IfOk result (λ by. by ≡ record { images = images.now; perms = replicate (length images.now) identity }) }
 {
-    let perms = vec![in alloc; unmoved(); images.len()]?;
+    let perms = vec![in alloc; Perm4::identity(); images.len()]?;
     match Relabelling::new(alloc, images, &perms) {
         Ok(by) => Ok(by),
         Err(RelabellingFault::NoMemory) => Err(NoMemory),

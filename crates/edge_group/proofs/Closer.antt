@@ -1,5 +1,5 @@
 -- The tree face of a tetrahedron is the least of the faces behind its own that lie closer to tetrahedron 0.
-use Rattle.std.proofs.Common.{◌≡◌, ℕ, ◌+◌, ◌<◌, ◌⊎◌, inl, inr, false, true, List, length, Option, Some, None, subst, sym, ap, refl, ◌∙◌, arith}
+use Rattle.std.proofs.Common.{◌≡◌, ℕ, ◌+◌, ◌<◌, ◌⊎◌, inl, inr, false, List, length, Option, Some, None, subst, sym, ap, ◌∙◌, arith}
 use Rattle.std.specs.Prelude.{nat_lt, ◌==◌, ◌||◌, ◌&&◌}
 use Rattle.std.proofs.lemmas.Bool.{cases_lt, cases_eq}
 use Rattle.table_definitions.specs.Permutation.{image}
@@ -15,18 +15,6 @@ use Rattle.edge_group.specs.Behind.{IsOneLess, IsCloser, IsCloserFace, IsNotAfte
 
 -- ---- the order of faces
 
-pub before_itself : (x : Face) → is_face_before x x ≡ false
-before_itself x = go x.tet x.face
-  where
-    go : (s f : ℕ) → (nat_lt s s || ((s == s) && nat_lt f f)) ≡ false
-    go s f = grind arith
-
-pub not_both_before : (x y : Face) → is_face_before x y ≡ true → is_face_before y x ≡ false
-not_both_before x y e = go x.tet y.tet x.face y.face e
-  where
-    go : (s t f g : ℕ) → (nat_lt s t || ((s == t) && nat_lt f g)) ≡ true → (nat_lt t s || ((t == s) && nat_lt g f)) ≡ false
-    go s t f g e = grind arith
-
 not_before_on : (x y z : Face) → is_face_before x y ≡ false → is_face_before y z ≡ false → is_face_before x z ≡ false
 not_before_on x y z d e = go x.tet y.tet z.tet x.face y.face z.face d e
   where
@@ -35,30 +23,8 @@ not_before_on x y z d e = go x.tet y.tet z.tet x.face y.face z.face d e
 
 -- ---- the lesser of two
 
-pub least_none : (second : Option Face) → IsLeastOf None second second
-least_none None = (refl, refl)
-least_none (Some y) = (inr refl, tt, before_itself y)
-
-pub least_alone : (x : Face) → IsLeastOf (Some x) None (Some x)
-least_alone x = (inl refl, before_itself x, tt)
-
 module _ (rows : List Row) (table : IsTable rows) where
   -- ---- the face behind one
-
-  pub closer_some : (marks : List (Option ℕ)) (x : Face) (g : Gluing) → AreDistances rows marks → glue rows x ≡ Some g → IsOneLess (mark_of marks g.tet) (mark_of marks x.tet) → IsCloser rows x (other_side x g)
-  closer_some marks x g a e less = record {
-    gluing = g;
-    glued = e;
-    other = refl;
-    leads = record {
-      gluing = way_back x g;
-      glued = table.leads_back x g e;
-      to = refl;
-      distance = less.0;
-      here = (a.told g.tet less.0 (table.in_range x g e)).0 less.1;
-      there = (a.told x.tet (less.0 + 1) (glued_tet rows x g e)).0 less.2;
-    };
-  }
 
   pub closer_none : (marks : List (Option ℕ)) (x : Face) (g : Gluing) → AreDistances rows marks → glue rows x ≡ Some g → (IsOneLess (mark_of marks g.tet) (mark_of marks x.tet) → ⊥) → (y : Face) → IsCloser rows x y → ⊥
   closer_none marks x g a e never y h =
@@ -70,9 +36,6 @@ module _ (rows : List Row) (table : IsTable rows) where
         (a.told g.tet h.leads.distance (table.in_range x g e)).1 (subst (λ u. IsDistance rows u h.leads.distance) tets h.leads.here),
         (a.told x.tet (h.leads.distance + 1) (glued_tet rows x g e)).1 h.leads.there,
       )
-
-  pub closer_unglued : (x : Face) → glue rows x ≡ None → (y : Face) → IsCloser rows x y → ⊥
-  closer_unglued x e y h = let z : None ≡ Some h.gluing = sym e ∙ h.glued in cc
 
   one_closer : (x y z : Face) → IsCloser rows x y → IsCloser rows x z → y ≡ z
   one_closer x y z h k = let w : Some h.gluing ≡ Some k.gluing = sym h.glued ∙ k.glued in let same : h.gluing ≡ k.gluing = cc in sym h.other ∙ ap (other_side x) same ∙ k.other
@@ -133,6 +96,3 @@ module _ (rows : List Row) (table : IsTable rows) where
     | inr n ↦ let x = tree_face_of rows table connected t l (omega arith) in let b = behind t x.0 x.1.leads in absurd (h b.face x.0 b.small b.closer)
   ]
   tree_face_at t (Some x) connected l h = record { leads = h.0; least = λ y k. let b = behind t y k in h.1 b.face y b.small b.closer }
-
-pub none_yet : (rows : List Row) (t : ℕ) → IsLeastCloser rows t 0 None
-none_yet rows t = λ f y l c. absurd (omega arith)

@@ -8,7 +8,7 @@ use Rattle.std.proofs.lemmas.List.Elements.{All-filter}
 use Rattle.std.proofs.lemmas.List.FromFn.{get_or-map-range_with_len, length-map-range_with_len}
 use Rattle.finite_walks.proofs.OrbitLemmas.{orbit_exists}
 use Rattle.table_definitions.specs.Lists.{below}
-use Rattle.table_definitions.specs.Table.{Gluing, Face, glue}
+use Rattle.table_definitions.specs.Table.{Gluing, Face, glue, face_number}
 use Rattle.table_definitions.specs.Classes.{least, degree}
 use Rattle.table_definitions.specs.Places.{face_of, IsConnected, is_boundary_edge}
 use Rattle.table_definitions.proofs.TableLaws.{glued_tet}
@@ -18,7 +18,7 @@ use Rattle.skeleton.specs.Rounds.{corner_at, next_corner, start_of, IsRoundUnles
 use Rattle.skeleton.proofs.RoundLemmas.{next_injective}
 use Rattle.skeleton.proofs.WalkLemmas.{start_below, around_class}
 use Rattle.group_definitions.specs.declared.Letter.{Letter}
-use Rattle.group_definitions.specs.Trees.{IsTreeFace, face_number, evens, is_odd_number}
+use Rattle.group_definitions.specs.Trees.{IsTreeFace, evens, is_odd_number}
 use Rattle.group_definitions.specs.Presentations.{HoldsTreeFace, AreGenerators, IsTurning, IsRelator, letter_of, left_through, Presentation, IsPresentation}
 use Rattle.group_laws.proofs.Levels.{none_or_first}
 use Rattle.group_laws.proofs.TreeLaws.{one_tree_face, none_for_zero, tree_face_of, path_of}
@@ -28,7 +28,7 @@ use Rattle.edge_group.proofs.Firsts.{unglued_one, generator_at}
 use Rattle.edge_group.proofs.Marking.{no_generators, generator_passes, generator_grows, all_generators}
 
 -- a list that goes along with another, where each item has one
-zip_exists : {B : Type 0} (R : ℕ → B → Type 0) (xs : List ℕ) → ((i : ℕ) → i < length xs → (y : B) × R (slice_index xs i) y) → (ys : List B) × AllZip R xs ys
+pub zip_exists : {B : Type 0} (R : ℕ → B → Type 0) (xs : List ℕ) → ((i : ℕ) → i < length xs → (y : B) × R (slice_index xs i) y) → (ys : List B) × AllZip R xs ys
 zip_exists R [] h = ([], tt)
 zip_exists R (x ∷ xs) h = let first = h 0 (omega arith) in let rest = zip_exists R xs (λ i l. h (suc i) (omega arith)) in (first.0 ∷ rest.0, (first.1, rest.1))
 
@@ -47,7 +47,7 @@ module _ (s : Skeleton) (h : IsSkeleton s) where
       let o = orbit_exists (next_corner s.rows) (start_of (least s.edges.classes c)) (24 * length s.rows) (next_injective s.rows h.table) (start_below (least s.edges.classes c) (length s.rows) inside) in
       (map corner_at o.places, (o.places, o.orbit, refl))
 
-  some_around : (c : ℕ) → c < s.edges.count → (corners : List Corner) × IsAround s c corners
+  pub some_around : (c : ℕ) → c < s.edges.count → (corners : List Corner) × IsAround s c corners
   some_around c l =
       let f = edge_least c l in
       let r = round c (is_boundary_edge s.rows s.edges.classes c) l f.0 in

@@ -2,12 +2,11 @@
 use Rattle.std.proofs.Common.{◌≡◌, ℕ, ◌+◌, ◌*◌, ◌/◌, ◌%◌, ◌<◌, ◌≤◌, inl, inr, Bool, true, false, List, length, Option, Some, None, slice_index, rules, subst, sym, ap, refl, ◌∙◌, arith}
 use Rattle.std.specs.Prelude.{◌↔◌, IsTrue, IsSome, is_some}
 use Rattle.std.proofs.lemmas.Bool.{cases_lt}
-use Rattle.table_definitions.specs.Table.{Gluing, Face, glue}
+use Rattle.table_definitions.specs.Table.{Gluing, Face, glue, face_number}
 use Rattle.table_definitions.specs.Classes.{least, degree}
 use Rattle.table_definitions.specs.Places.{face_of}
 use Rattle.skeleton_definitions.specs.Skeleton.{Skeleton, IsSkeleton}
 use Rattle.skeleton.specs.Numberings.{IsOrdered, AreFirstsUpTo}
-use Rattle.group_definitions.specs.Trees.{face_number}
 use Rattle.group_laws.proofs.FaceClasses.{FirstPlace, first_place, count_one, class_of, degree_two}
 use Rattle.std.proofs.lemmas.List.Elements.{Contains-get_or}
 use Rattle.group_definitions.specs.Presentations.{HoldsTreeFace, AreGenerators}

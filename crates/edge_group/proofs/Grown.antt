@@ -1,18 +1,15 @@
 -- How marks grow over faces: nothing, one tetrahedron, and one set of faces after another.
-use Rattle.std.proofs.Common.{◌≡◌, ℕ, zero, suc, ◌+◌, ◌<◌, ◌≤◌, ◌⊎◌, inl, inr, true, false, List, [], ◌∷◌, ◌++◌, length, Option, Some, None, count_by, set, take, Contains, subst, sym, ap, refl, ◌∙◌, arith, append-nil, append_assoc, length-append}
+use Rattle.std.proofs.Common.{◌≡◌, ℕ, ◌+◌, ◌<◌, ◌≤◌, ◌⊎◌, inl, inr, true, false, List, [], ◌∷◌, ◌++◌, length, Option, Some, None, count_by, set, take, Contains, subst, sym, ap, refl, ◌∙◌, arith, append-nil, append_assoc, length-append}
 use Rattle.std.specs.Prelude.{is_none, is_some, cond, slice_index}
-use Rattle.std.specs.List.{slice_index_or}
 use Rattle.std.proofs.lemmas.Bool.{cases_lt, cases_eq}
 use Rattle.std.proofs.lemmas.List.{get_or-set_same, get_or-set_other, length-set, take_more}
 use Rattle.std.proofs.lemmas.List.Elements.{Contains-append_left, Contains-append_right, Contains-append_cases, Contains-push, Contains-push_cases}
 use Rattle.std.proofs.lemmas.List.Sums.{sum_by-set}
+use Rattle.plain_facts.proofs.Members.{contains_one, contains_nil}
+use Rattle.plain_facts.proofs.Options.{none_or_some}
 use Rattle.table_definitions.specs.Table.{Gluing, Row, Face, IsTable, glue}
 use Rattle.table_definitions.proofs.TableLaws.{glued_face}
 use Rattle.edge_group.specs.Searches.{mark_of, unmarked, IsGrown, HasGrown, IsFace, IsFaceBelow, IsFaceOf, IsFaceOfSome}
-
-none_or_some : {A : Type 0} (o : Option A) → (o ≡ None) ⊎ ((x : A) × (o ≡ Some x))
-none_or_some None = inl refl
-none_or_some (Some x) = inr (x, refl)
 
 -- a mark that would stay is no mark
 unmarked_before : (old new : List (Option ℕ)) (t : ℕ) → ((j : ℕ) → mark_of old t ≡ Some j → mark_of new t ≡ Some j) → mark_of new t ≡ None → mark_of old t ≡ None
@@ -21,16 +18,6 @@ unmarked_before old new t kept none = elim (none_or_some (mark_of old t)) [
   | inr some ↦ absurd (let z : None ≡ Some some.0 = sym none ∙ kept some.0 some.1 in cc)
 ]
 
-pub nothing_in : (t : ℕ) → Contains [] t → ⊥
-nothing_in t h = let l : h.0 < 0 = h.1 in omega arith
-
-pub only_one : (u t : ℕ) → Contains (u ∷ []) t → t ≡ u
-only_one u t h = go h.0 h.1 h.2
-  where
-    go : (k : ℕ) → k < length (u ∷ []) → slice_index_or (u ∷ []) k t ≡ t → t ≡ u
-    go zero l e = sym e
-    go (suc k) l e = absurd (omega arith)
-
 module _ (rows : List Row) where
   -- ---- a set in which no face leads to a tetrahedron without a mark
   pub nothing_grown : (P : Face → Type 0) (d : ℕ) (marks : List (Option ℕ)) → ((x : Face) (g : Gluing) → P x → glue rows x ≡ Some g → (j : ℕ) × (mark_of marks g.tet ≡ Some j)) → IsGrown rows P d marks marks []
@@ -38,7 +25,7 @@ module _ (rows : List Row) where
     one_each = refl;
     kept = λ t j e. e;
     marked = λ t j e. inl e;
-    fresh = λ t h. absurd (nothing_in t h);
+    fresh = λ t h. absurd (contains_nil t h);
     all = all;
     count = omega arith;
   }
@@ -55,7 +42,7 @@ module _ (rows : List Row) where
       | inl same ↦ let z : Some d ≡ Some j = sym here ∙ ap (mark_of new) (sym same) ∙ f in let w : d ≡ j = cc in inr ((0, omega arith, sym same), sym w)
       | inr other ↦ inl (sym (at_other t other) ∙ f)
     ];
-    fresh = λ t h. let same : t ≡ g.tet = only_one g.tet t h in
+    fresh = λ t h. let same : t ≡ g.tet = contains_one g.tet t h in
         (ap (mark_of old) same ∙ none, ap (mark_of new) same ∙ here, record { face = x; crossed = refl; gluing = g; glued = glued; to = sym same });
     all = λ y k is f. let z : Some k ≡ Some g = sym f ∙ ap (glue rows) is ∙ glued in let w : k ≡ g = cc in (d, ap (λ (b : Gluing). mark_of new b.tet) w ∙ here);
     count = ap (λ n. n + 1) (ap unmarked e) ∙ one_less;

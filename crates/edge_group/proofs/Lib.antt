@@ -5,4 +5,4 @@ mod Firsts
 mod Marking
 mod Paths
 mod Relating
-mod Existing
+pub mod Existing

@@ -1,34 +1,22 @@
 -- The face classes that hold tree faces, and the generators, class by class.
-use Rattle.std.proofs.Common.{◌≡◌, ℕ, ◌+◌, ◌<◌, ◌≤◌, inl, inr, Bool, true, false, List, [], ◌∷◌, ◌++◌, length, replicate, set, Option, Some, None, Contains, slice_index, subst, sym, ap, refl, ◌∙◌, arith}
+use Rattle.std.proofs.Common.{◌≡◌, ℕ, ◌+◌, ◌<◌, inl, inr, Bool, true, false, List, [], ◌∷◌, ◌++◌, length, set, Option, Some, None, Contains, slice_index, subst, sym, ap, refl, ◌∙◌, arith}
 use Rattle.std.specs.Prelude.{◌↔◌}
 use Rattle.std.specs.List.{slice_index_or}
-use Rattle.std.proofs.lemmas.Bool.{cases_lt, cases_eq, false≢true}
-use Rattle.std.proofs.lemmas.List.{get_or-set_same, get_or-set_other, get_or-replicate, get_or_past, get_or_default, length-set, length-replicate}
+use Rattle.std.proofs.lemmas.Bool.{cases_lt, cases_eq}
+use Rattle.std.proofs.lemmas.List.{get_or-set_same, get_or-set_other, get_or_default, length-set}
 use Rattle.std.proofs.lemmas.List.Elements.{Contains-get_or, Contains-append_left, Contains-push, Contains-push_cases}
 use Rattle.std.proofs.lemmas.List.Quantifiers.{all_pairs_push}
-use Rattle.table_definitions.specs.Table.{Row, Face, IsTable}
+use Rattle.table_definitions.specs.Table.{Row, Face, IsTable, face_number}
 use Rattle.table_definitions.proofs.TableLaws.{glued_tet, glued_face}
-use Rattle.skeleton_definitions.specs.Skeleton.{Skeleton, IsSkeleton}
-use Rattle.group_definitions.specs.Trees.{IsTreeFace, face_number}
+use Rattle.skeleton_definitions.specs.Skeleton.{Skeleton}
+use Rattle.group_definitions.specs.Trees.{IsTreeFace}
 use Rattle.group_definitions.specs.Groups.{IsTree, IsTreeFaceAt}
 use Rattle.group_definitions.specs.Presentations.{AreGenerators}
 use Rattle.group_laws.proofs.TreeLaws.{one_tree_face, none_for_zero}
-use Rattle.edge_group.specs.Classes.{HoldsTreeFaceBelow, AreTreeClassesBelow, AreTreeClasses, IsGenerator, AreGeneratorsBelow}
+use Rattle.edge_group.specs.Classes.{HoldsTreeFaceBelow, AreTreeClassesBelow, IsGenerator, AreGeneratorsBelow}
 
 module _ (s : Skeleton) where
   -- ---- marks of classes
-
-  pub no_classes : (marks : List Bool) → marks ≡ replicate s.faces.count false → AreTreeClassesBelow s 0 marks
-  no_classes marks e = record {
-    one_each = ap length e ∙ length-replicate s.faces.count false;
-    told = λ c. (λ m. absurd (false≢true (sym (at c) ∙ m)), λ w. absurd (let l : w.tet < 0 = w.below in omega arith));
-  }
-    where
-      at : (c : ℕ) → slice_index_or marks c false ≡ false
-      at c = elim (cases_lt c s.faces.count) [
-        | inl l ↦ ap (λ (ms : List Bool). slice_index_or ms c false) e ∙ get_or-replicate s.faces.count c false false l
-        | inr past ↦ get_or_past marks c false (omega (arith, ap length e, length-replicate s.faces.count false))
-      ]
 
   later : (n c : ℕ) → HoldsTreeFaceBelow s n c → HoldsTreeFaceBelow s (n + 1) c
   later n c w = record { tet = w.tet; below = let l : w.tet < n = w.below in omega arith; face = w.face; tree_face = w.tree_face; class = w.class }
@@ -72,18 +60,6 @@ module _ (s : Skeleton) where
             let faces : w.face ≡ x = one_tree_face s.rows n w.face x (subst (λ t. IsTreeFace s.rows t w.face) same w.tree_face) h in
             absurd (other (sym w.class ∙ ap (λ (y : Face). slice_index s.faces.classes (face_number y)) faces ∙ sym e))
       ]
-
-  pub all_classes : (h : IsSkeleton s) (n : ℕ) (marks : List Bool) → length s.rows ≤ n → AreTreeClassesBelow s n marks → AreTreeClasses s marks
-  all_classes h n marks l a = record {
-    one_each = a.one_each;
-    told = λ c. (
-      λ m. let w = (a.told c).0 m in (w.tet, w.face, w.tree_face, w.class),
-      λ w. (a.told c).1 (record { tet = w.0; below = let k : w.0 < length s.rows = inside w.0 w.1 w.2 in omega arith; face = w.1; tree_face = w.2; class = w.3 }),
-    );
-  }
-    where
-      inside : (t : ℕ) (x : Face) → IsTreeFace s.rows t x → t < length s.rows
-      inside t x w = subst (λ u. u < length s.rows) w.leads.to (h.table.in_range x w.leads.gluing w.leads.glued)
 
   -- ---- generators
 

@@ -1,11 +1,10 @@
 -- On the way along a path of tree faces.
-use Rattle.std.proofs.Common.{◌≡◌, ℕ, ◌+◌, ◌<◌, Bool, true, false, not, List, [], ◌∷◌, length, Option, Some, None, subst, sym, ap, ap₂, refl, ◌∙◌, arith}
+use Rattle.std.proofs.Common.{◌≡◌, ℕ, ◌+◌, ◌<◌, Bool, true, false, not, List, [], ◌∷◌, length, Option, Some, None, subst, sym, ap, refl, ◌∙◌, arith}
 use Rattle.std.specs.Bool.{beq}
-use Rattle.table_definitions.specs.Table.{Gluing, Row, Face, IsTable, glue}
+use Rattle.table_definitions.specs.Table.{Row, Face, IsTable, glue}
 use Rattle.table_definitions.proofs.TableLaws.{glued_tet}
 use Rattle.group_definitions.specs.Trees.{IsTreeFace, IsTreePath, is_even_gluing, evens, is_odd_number}
-use Rattle.group_definitions.specs.Presentations.{IsTurningFace}
-use Rattle.group_laws.proofs.Parity.{differs, differs_assoc, differs_false, odd_sum, odd_more}
+use Rattle.group_laws.proofs.Parity.{differs, differs_assoc, differs_false, odd_more}
 use Rattle.edge_group.specs.Searches.{mark_of, AreDistances}
 use Rattle.edge_group.specs.Turns.{IsPathOdd}
 
@@ -25,9 +24,6 @@ differ_is false true = refl
 differ_is false false = refl
 
 module _ (rows : List Row) where
-  pub path_starts : (t : ℕ) → IsPathOn rows t t false
-  path_starts t xs h = (xs, h, refl)
-
   pub path_steps : (end t : ℕ) (x : Face) (odd even new : Bool) → IsTreeFace rows t x → even ≡ is_even_gluing (glue rows x) → new ≡ differs odd even → IsPathOn rows end t odd → IsPathOn rows end x.tet new
   path_steps end t x odd even new h e f on xs p =
       let more = on (x ∷ xs) (h, p) in (
@@ -49,19 +45,3 @@ module _ (rows : List Row) where
       let m : distance_or (mark_of marks x.tet) ≡ h.leads.distance = ap distance_or here in
       let n : distance_or (mark_of marks t) ≡ h.leads.distance + 1 = ap distance_or there in
       omega arith
-
-  -- a face turns by the paths to both sides
-  pub face_turns : (x : Face) (g : Gluing) (forth even back turns : Bool) → glue rows x ≡ Some g → IsPathOdd rows x.tet forth → IsPathOdd rows g.tet back → even ≡ is_even_gluing (glue rows x)
-      → turns ≡ differs (differs forth even) back → IsTurningFace rows x turns
-  face_turns x g forth even back turns e f b k t = record {
-    gluing = g;
-    glued = e;
-    forth = f.path;
-    forth_path = f.is_path;
-    back = b.path;
-    back_path = b.is_path;
-    odd = t ∙ ap₂ differs (ap₂ differs f.told (k ∙ one) ∙ sym (odd_sum (evens rows f.path) (evens rows (x ∷ [])))) b.told ∙ sym (odd_sum (evens rows f.path + evens rows (x ∷ [])) (evens rows b.path));
-  }
-    where
-      one : is_even_gluing (glue rows x) ≡ is_odd_number (evens rows (x ∷ []))
-      one = sym (odd_more (λ y. is_even_gluing (glue rows y)) x [] ∙ differs_false (is_even_gluing (glue rows x)))

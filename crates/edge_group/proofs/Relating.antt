@@ -3,21 +3,23 @@ use Rattle.std.proofs.Common.{◌≡◌, ℕ, ◌+◌, ◌<◌, ◌≤◌, inl, 
 use Rattle.std.specs.Prelude.{◌==◌, option_map, if◌then◌else◌}
 use Rattle.std.specs.List.{slice_index_or, AllPairs, AllZip, cons_option, position_or_len}
 use Rattle.std.proofs.lemmas.Bool.{cases_lt, eq-eqb}
-use Rattle.std.proofs.lemmas.List.{append-nil, get_or_default, map-id, take_more}
+use Rattle.std.proofs.lemmas.List.{append-nil, get_or_default, take_more}
 use Rattle.std.proofs.lemmas.List.Elements.{filter-append, filter_map-append, All-cons, All-nil, All-from_get_or}
 use Rattle.std.proofs.lemmas.List.Folds.{list_any_none}
-use Rattle.std.proofs.lemmas.List.FromFn.{map-range_with_len_more}
 use Rattle.std.proofs.lemmas.List.Sums.{position_or_len_is}
+use Rattle.plain_facts.proofs.Numbers.{less_unequal}
+use Rattle.plain_facts.proofs.Lists.{zip_more}
 use Rattle.table_definitions.specs.Lists.{below, has}
 use Rattle.table_definitions.specs.Table.{Gluing, Row, IsTable, glue}
-use Rattle.table_definitions.specs.Classes.{least, is_least}
+use Rattle.table_definitions.specs.Classes.{least}
 use Rattle.table_definitions.specs.Places.{is_boundary_edge}
 use Rattle.table_definitions.proofs.TableLaws.{glued_tet, glued_face}
+use Rattle.table_definitions.proofs.ListFacts.{below_next}
+use Rattle.table_definitions.proofs.Bijections.{contains_has}
 use Rattle.skeleton_definitions.specs.Corners.{Corner, step, corner_behind, first_corner, GoesRound, IsWalk, inner_edges}
 use Rattle.skeleton_definitions.specs.Skeleton.{Skeleton, IsAround}
 use Rattle.group_definitions.specs.declared.Letter.{Letter}
-use Rattle.group_definitions.specs.Presentations.{letter_of, left_through}
-use Rattle.group_laws.proofs.FaceClasses.{contains_has}
+use Rattle.group_definitions.specs.Presentations.{left_through}
 use Rattle.edge_group.specs.Classes.{generator_number, LeavesInRange}
 
 -- ---- the number of a generator
@@ -28,9 +30,6 @@ ascending_le xs h i j le l = elim (cases_lt i j) [
   | inr more ↦ let same : i ≡ j = omega arith in let e : slice_index xs i ≡ slice_index xs j = ap (slice_index xs) same in omega arith
 ]
 
-not_equal : (a b : ℕ) → a < b → (a == b) ≡ false
-not_equal a b l = grind arith
-
 pub number_found : (xs : List ℕ) (c i : ℕ) → AllPairs (λ c d. c < d) xs → i < length xs → slice_index xs i ≡ c → Some (i + 1) ≡ generator_number xs c
 number_found xs c i h l e =
     ap (λ k. Some (k + 1)) (sym place) ∙ ap (λ (b : Bool). if◌then◌else◌ {A = Option ℕ} b (Some (position_or_len (λ d. d == c) xs + 1)) None) (sym there)
@@ -40,7 +39,7 @@ number_found xs c i h l e =
 
     place : position_or_len (λ d. d == c) xs ≡ i
     place = position_or_len_is (λ d. d == c) xs i 0 (omega arith)
-        (λ k less. let m : slice_index xs k < slice_index xs i = h k i 0 less l in not_equal (slice_index xs k) c (omega arith))
+        (λ k less. let m : slice_index xs k < slice_index xs i = h k i 0 less l in less_unequal (slice_index xs k) c (omega arith))
         (λ _. eq-eqb (slice_index xs i) c e)
 
 pub number_missing : (xs : List ℕ) (c i : ℕ) → ((k : ℕ) → k < i → slice_index xs k < c) → ((k : ℕ) → i ≤ k → k < length xs → c < slice_index xs k) → None ≡ generator_number xs c
@@ -48,7 +47,7 @@ number_missing xs c i low high = ap (λ (b : Bool). if◌then◌else◌ {A = Opt
   where
     other : (k : ℕ) → k < length xs → (slice_index xs k == c) ≡ false
     other k l = elim (cases_lt k i) [
-      | inl less ↦ not_equal (slice_index xs k) c (low k less)
+      | inl less ↦ less_unequal (slice_index xs k) c (low k less)
       | inr more ↦ more_than (slice_index xs k) c (high k more l)
     ]
       where
@@ -60,27 +59,7 @@ number_missing xs c i low high = ap (λ (b : Bool). if◌then◌else◌ {A = Opt
 
 -- ---- letters
 
-letter_by : (b : Bool) (p n : ℕ) (v w : Bool) → if◌then◌else◌ {A = Option ℕ} b (Some p) None ≡ Some n → v ≡ w
-    → Some (record { generator = n; inverse = v }) ≡ if◌then◌else◌ {A = Option Letter} b (Some (record { generator = p; inverse = w })) None
-letter_by true p n v w e f = let same : p ≡ n = cc in λ i. Some (record { generator = sym same i; inverse = f i })
-letter_by false p n v w e f = absurd cc
-
-no_letter_by : (b : Bool) (p : ℕ) (w : Bool) → if◌then◌else◌ {A = Option ℕ} b (Some p) None ≡ None → None ≡ if◌then◌else◌ {A = Option Letter} b (Some (record { generator = p; inverse = w })) None
-no_letter_by true p w e = absurd cc
-no_letter_by false p w e = refl
-
 module _ (s : Skeleton) where
-  pub letter_found : (generators : List ℕ) (i c n : ℕ) (inverse : Bool) → c ≡ slice_index s.faces.classes i → Some n ≡ generator_number generators c → inverse ≡ not (is_least s.faces.classes i)
-      → Some (record { generator = n; inverse = inverse }) ≡ letter_of s generators i
-  letter_found generators i c n inverse e f g =
-      letter_by (has generators (slice_index s.faces.classes i)) (position_or_len (λ d. d == slice_index s.faces.classes i) generators + 1) n inverse (not (is_least s.faces.classes i))
-      (sym (f ∙ ap (generator_number generators) e)) g
-
-  pub letter_missing : (generators : List ℕ) (i c : ℕ) → c ≡ slice_index s.faces.classes i → None ≡ generator_number generators c → None ≡ letter_of s generators i
-  letter_missing generators i c e f =
-      no_letter_by (has generators (slice_index s.faces.classes i)) (position_or_len (λ d. d == slice_index s.faces.classes i) generators + 1) (not (is_least s.faces.classes i))
-      (sym (f ∙ ap (generator_number generators) e))
-
   -- ---- the corners of a walk are left through faces of tetrahedra
 
   leaves : (h : IsTable s.rows) (k l : Corner) → step s.rows k ≡ Some l → LeavesInRange s.rows k
@@ -107,12 +86,9 @@ module _ (s : Skeleton) where
 
 -- ---- inner edges
 
-below_more : (n : ℕ) → below (n + 1) ≡ below n ++ n ∷ []
-below_more n = sym (map-id (below (n + 1))) ∙ map-range_with_len_more (λ k. k) 0 n n (omega arith) ∙ ap (λ ks. ks ++ n ∷ []) (map-id (below n))
-
 edges_more : (rows : List Row) (classes : List ℕ) (c : ℕ) (b : Bool) → is_boundary_edge rows classes c ≡ b → inner_edges rows classes (c + 1) ≡ inner_edges rows classes c ++ cond (not b) (c ∷ []) []
 edges_more rows classes c b e =
-    ap (filter (λ d. not (is_boundary_edge rows classes d))) (below_more c) ∙ filter-append (λ d. not (is_boundary_edge rows classes d)) (below c) (c ∷ [])
+    ap (filter (λ d. not (is_boundary_edge rows classes d))) (below_next c) ∙ filter-append (λ d. not (is_boundary_edge rows classes d)) (below c) (c ∷ [])
     ∙ ap (λ a. inner_edges rows classes c ++ cond (not a) (c ∷ []) []) e
 
 pub edge_passes : (rows : List Row) (classes : List ℕ) (c : ℕ) → is_boundary_edge rows classes c ≡ true → inner_edges rows classes (c + 1) ≡ inner_edges rows classes c
@@ -122,12 +98,6 @@ pub edge_grows : (rows : List Row) (classes : List ℕ) (c : ℕ) → is_boundar
 edge_grows rows classes c e = edges_more rows classes c false e
 
 -- ---- lists side by side
-
-pub zip_more : {A B : Type 0} (R : A → B → Type 0) (xs : List A) (ys : List B) (x : A) (y : B) → AllZip R xs ys → R x y → AllZip R (xs ++ x ∷ []) (ys ++ y ∷ [])
-zip_more R [] [] x y h r = (r, tt)
-zip_more R [] (b ∷ bs) x y h r = absurd h
-zip_more R (a ∷ rest) [] x y h r = absurd h
-zip_more R (a ∷ rest) (b ∷ bs) x y h r = (h.0, zip_more R rest bs x y h.1 r)
 
 -- one more of a list whose items so far go along with another
 pub zip_taken : {B : Type 0} (R : ℕ → B → Type 0) (xs : List ℕ) (i : ℕ) (ys new : List B) (y : B) → i < length xs → new ≡ ys ++ y ∷ [] → R (slice_index xs i) y → AllZip R (take i xs) ys → AllZip R (take (i + 1) xs) new

@@ -6,12 +6,12 @@ use Rattle.std.proofs.lemmas.List.{get_or-set_same, get_or-set_other, get_or-rep
 use Rattle.std.proofs.lemmas.List.Elements.{Contains-get_or}
 use Rattle.std.proofs.lemmas.List.Sums.{sum_by-set}
 use Rattle.std.proofs.lemmas.List.Folds.{sum_by-replicate}
+use Rattle.plain_facts.proofs.Members.{contains_one, contains_nil}
 use Rattle.table_definitions.specs.Table.{Gluing, Row, Face, IsTable, glue}
 use Rattle.table_definitions.proofs.TableLaws.{glued_tet}
 use Rattle.group_definitions.specs.Trees.{IsDistance}
 use Rattle.group_laws.proofs.Levels.{mk, Level, LastStep, level_more, level_last, level_zero, some_distance, distance_level, distance_least, one_distance}
 use Rattle.edge_group.specs.Searches.{mark_of, unmarked, IsBehind, IsGrown, IsFaceOfSome, IsSearched, AreDistances}
-use Rattle.edge_group.proofs.Grown.{nothing_in, only_one}
 
 module _ (rows : List Row) (table : IsTable rows) where
   -- before a tetrahedron at distance m + 1 stands one at distance m
@@ -110,7 +110,7 @@ module _ (rows : List Row) (table : IsTable rows) where
       λ e. ((h.told t j l).0 e).0,
       λ k. elim (cases_lt d j) [
         | inr low ↦ (h.told t j l).1 (k, low)
-        | inl high ↦ let u = lower (j - d) d t l (subst (IsDistance rows t) (omega arith) k) in absurd (nothing_in u.0 ((h.at_level u.0).1 (u.1, u.2)))
+        | inl high ↦ let u = lower (j - d) d t l (subst (IsDistance rows t) (omega arith) k) in absurd (contains_nil u.0 ((h.at_level u.0).1 (u.1, u.2)))
       ],
     );
   }
@@ -135,7 +135,7 @@ module _ (rows : List Row) (table : IsTable rows) where
       )
     ];
     at_level = λ t. (
-      λ c. let z : t ≡ 0 = only_one 0 t (subst (λ (xs : List ℕ). Contains xs t) f c) in (subst (λ u. u < length rows) (sym z) some, subst (λ u. IsDistance rows u 0) (sym z) zero_distance),
+      λ c. let z : t ≡ 0 = contains_one 0 t (subst (λ (xs : List ℕ). Contains xs t) f c) in (subst (λ u. u < length rows) (sym z) some, subst (λ u. IsDistance rows u 0) (sym z) zero_distance),
       λ k. subst (λ (xs : List ℕ). Contains xs t) (sym f) (0, omega arith, sym (level_zero rows t (distance_level rows t 0 k.1))),
     );
   }

@@ -3,12 +3,12 @@ use Rattle.std.specs.Prelude.{◌≡◌, ℕ, ◌+◌, ◌*◌, ◌<◌, ◌↔�
 use Rattle.std.specs.List.{slice_index_or, AllPairs, Contains, position_or_len}
 use Rattle.std.specs.declared.alloc.Global.{Global}
 use Rattle.table_definitions.specs.Lists.{has}
-use Rattle.table_definitions.specs.Table.{Row, Face}
+use Rattle.table_definitions.specs.Table.{Row, Face, face_number}
 use Rattle.table_definitions.specs.Classes.{least, degree}
 use Rattle.skeleton_definitions.specs.Corners.{Corner}
 use Rattle.skeleton_definitions.specs.Skeleton.{Skeleton}
 use Rattle.group_definitions.specs.declared.Letter.{Letter}
-use Rattle.group_definitions.specs.Trees.{IsTreeFace, face_number}
+use Rattle.group_definitions.specs.Trees.{IsTreeFace}
 use Rattle.group_definitions.specs.Presentations.{HoldsTreeFace}
 
 -- the number of the least face of each class

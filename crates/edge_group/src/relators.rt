@@ -4,7 +4,7 @@ ghost use Rattle.std.specs.Prelude.{◌≡◌, ◌<◌, ◌^◌, length, map, fi
 ghost use Rattle.std.specs.List.{AllPairs, AllZip};
 ghost use Rattle.skeleton_definitions.specs.Corners as definition;
 ghost use Rattle.skeleton_definitions.specs.Skeleton.{IsSkeleton};
-ghost use Rattle.group_definitions.specs.Trees.{face_number};
+ghost use Rattle.table_definitions.specs.Table.{face_number};
 ghost use Rattle.group_definitions.specs.Presentations.{AreGenerators, IsRelator, letter_of, left_through};
 ghost use Rattle.edge_group.specs.Classes.{AreLeastFaces, generator_number, LeavesInRange, letters_of};
 

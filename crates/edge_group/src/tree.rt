@@ -1,7 +1,7 @@
 //! The tree of faces that lead from tetrahedron 0 to each other tetrahedron.
 
-ghost use Rattle.std.specs.Prelude.{◌≡◌, ◌+◌, ◌<◌, ◌↔◌, length, IsTrue, IfOk};
-ghost use Rattle.table_definitions.specs.Table.{IsTable, is_face_before};
+ghost use Rattle.std.specs.Prelude.{◌+◌, ◌<◌, ◌↔◌, length, IsTrue, IfOk};
+ghost use Rattle.table_definitions.specs.Table.{IsTable};
 ghost use Rattle.table_definitions.specs.Places.{IsConnected};
 ghost use Rattle.group_definitions.specs.Groups.{IsTree, IsTreeFaceAt};
 ghost use Rattle.edge_group.specs.Searches.{AreDistances};
@@ -51,13 +51,6 @@ fn closer_face(table: &Table, distances: &[Option<u32>], face: Face) -> Option<F
     }
 }
 
-/// Whether the one face stands before the other.
-fn is_before(first: Face, second: Face) -> bool
-    ensures { result ≡ is_face_before first second }
-{
-    first.tet < second.tet || (first.tet == second.tet && first.face < second.face)
-}
-
 /// The lesser of two faces, where there are any.
 fn lesser(first: Option<Face>, second: Option<Face>) -> Option<Face>
     ensures { IsLeastOf first second result }
@@ -68,7 +61,7 @@ fn lesser(first: Option<Face>, second: Option<Face>) -> Option<Face>
     let Some(other) = second else {
         return first;
     };
-    if is_before(other, one) {
+    if other.is_before(one) {
         Some(other)
     } else {
         Some(one)

@@ -6,7 +6,7 @@ use Rattle.std.specs.Option.{option_or}
 use Rattle.std.proofs.lemmas.List.{get_or-map}
 use Rattle.std.proofs.lemmas.List.Folds.{list_any_at}
 use Rattle.std.proofs.lemmas.List.Sums.{position_or_len_is}
-use Rattle.std.proofs.lemmas.Bool.{eq-eqb}
+use Rattle.std.proofs.lemmas.Bool.{eq-eqb, ne_eqb}
 use Rattle.table_definitions.specs.Lists.{has, first_some, below}
 use Rattle.table_definitions.specs.Permutation.{four}
 use Rattle.table_definitions.specs.Table.{Gluing, Row, Face}
@@ -15,7 +15,7 @@ use Rattle.table_definitions.proofs.ListFacts.{first_some-append, first_some-map
 use Rattle.table_definitions.specs.Replaceable.{numbers_of, fresh_numbers, row_back}
 use Rattle.table_definitions.proofs.FreshRows.{gives_back}
 use Rattle.gluing_table.proofs.Opened.{has-none, number_at, length-numbers_of}
-use Rattle.table_definitions.proofs.Ranks.{Ascends, unequal}
+use Rattle.table_definitions.proofs.Ranks.{Ascends}
 
 abbrev pub Numbered : Type 0
 Numbered = ℕ × Row
@@ -26,7 +26,7 @@ position_at : (xs : List Numbered) (i : ℕ) (row : Numbered) (u : ℕ) → i < 
     → position_or_len (λ (x : Numbered). x.0 == u) xs ≡ i
 position_at xs i row u l is e before =
     position_or_len_is (λ (x : Numbered). x.0 == u) xs i row (omega arith)
-    (λ k m. unequal (get_or xs k row).0 u (λ same. before k m (get_or-map (λ (x : Numbered). x.0) xs k row 0 (omega arith) ∙ same)))
+    (λ k m. ne_eqb (get_or xs k row).0 u (λ same. before k m (get_or-map (λ (x : Numbered). x.0) xs k row 0 (omega arith) ∙ same)))
     (λ _. eq-eqb (get_or xs i row).0 u (ap (λ (x : Numbered). x.0) (sym is) ∙ e))
 
 row_at : (xs : List Numbered) (i : ℕ) (row : Numbered) (u : ℕ) → i < length xs → row ≡ get_or xs i row → position_or_len (λ (x : Numbered). x.0 == u) xs ≡ i

@@ -3,13 +3,13 @@ use Rattle.std.proofs.Common.{◌≡◌, ℕ, zero, suc, ◌+◌, ◌<◌, ◌�
 use Rattle.std.specs.Prelude.{◌⊎◌, ◌==◌, ◌||◌, nat_lt, ◌≢◌}
 use Rattle.std.proofs.lemmas.List.{take_more, take_all, get_or-map, length-map}
 use Rattle.std.proofs.lemmas.List.Sums.{sum_by-append, count_by-le-length}
-use Rattle.std.proofs.lemmas.Bool.{lt-ltb, le-ltb, cases_lt}
+use Rattle.std.proofs.lemmas.Bool.{lt-ltb, le-ltb, cases_lt, ne_eqb}
 use Rattle.table_definitions.specs.Lists.{has}
 use Rattle.table_definitions.specs.Table.{Row}
 use Rattle.table_definitions.specs.Replaceable.{numbers_of, gone_before}
 use Rattle.table_definitions.proofs.Bijections.{there}
 use Rattle.table_definitions.proofs.Marked.{has_push}
-use Rattle.table_definitions.proofs.Ranks.{Ascends, count_whole, unequal, one_if}
+use Rattle.table_definitions.proofs.Ranks.{Ascends, count_whole, one_if}
 
 -- the number is opened up over the first i that are gone
 pub record IsOpened (gone : List ℕ) (i place number : ℕ) : Type 0 where
@@ -76,7 +76,7 @@ opened_more gone i place number taken up l is h le = record {
 pub opened_same : (gone : List ℕ) (i place number taken : ℕ) → i < length gone → taken ≡ get_or gone i 0 → IsOpened gone i place number → number < taken → IsOpened gone (i + 1) place number
 opened_same gone i place number taken l is h lt = record {
   value = omega (arith, h.value, ap (λ (xs : List ℕ). gone_before xs number) pushed, gone_before-push (take i gone) (get_or gone i 0) number, none);
-  free = ap (λ (xs : List ℕ). has xs number) pushed ∙ has_push (take i gone) (get_or gone i 0) number ∙ ap (λ b. b || (get_or gone i 0 == number)) h.free ∙ unequal (get_or gone i 0) number (λ e. absurd (omega arith));
+  free = ap (λ (xs : List ℕ). has xs number) pushed ∙ has_push (take i gone) (get_or gone i 0) number ∙ ap (λ b. b || (get_or gone i 0 == number)) h.free ∙ ne_eqb (get_or gone i 0) number (λ e. absurd (omega arith));
 }
   where
     pushed : take (i + 1) gone ≡ take i gone ++ get_or gone i 0 ∷ []

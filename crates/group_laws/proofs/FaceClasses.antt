@@ -1,29 +1,22 @@
 -- The face class of a glued face has the face and its other side, and no other.
-use Rattle.std.proofs.Common.{◌≡◌, ◌≢◌, ℕ, zero, suc, ◌+◌, ◌*◌, ◌/◌, ◌%◌, ◌<◌, ◌⊎◌, inl, inr, true, false, not, List, [], ◌∷◌, length, Some, Contains, slice_index, slice_index_or, subst, sym, ap, ap₂, refl, ◌∙◌, arith}
+use Rattle.std.proofs.Common.{◌≡◌, ◌≢◌, ℕ, zero, suc, ◌+◌, ◌*◌, ◌<◌, ◌⊎◌, inl, inr, true, not, List, [], ◌∷◌, length, Some, slice_index, subst, sym, ap, ap₂, refl, ◌∙◌, arith}
 use Rattle.std.specs.Prelude.{◌==◌, cond}
 use Rattle.std.specs.List.{position_or_len}
-use Rattle.std.proofs.lemmas.Bool.{cases_eq, cases_order, eq-eqb}
+use Rattle.std.proofs.lemmas.Bool.{cases_eq, cases_order, eq-eqb, ne_eqb}
 use Rattle.std.proofs.lemmas.List.{get_or_default}
 use Rattle.std.proofs.lemmas.List.Sums.{sum_by-cons, position_or_len_is}
-use Rattle.std.proofs.lemmas.List.Folds.{list_any_at}
 use Rattle.table_definitions.specs.Lists.{has, times_in}
 use Rattle.table_definitions.specs.Permutation.{image}
-use Rattle.table_definitions.specs.Table.{Gluing, Row, Face, IsTable, glue, other_side, way_back, same_face}
+use Rattle.table_definitions.specs.Table.{Gluing, Row, Face, IsTable, glue, other_side, way_back, same_face, face_number}
 use Rattle.table_definitions.specs.Classes.{IsNumbering, least, degree}
 use Rattle.table_definitions.specs.Places.{face_of, SameFace}
 use Rattle.table_definitions.proofs.TableLaws.{glued_tet, glued_face}
 use Rattle.table_definitions.proofs.Carried.{same_to}
 use Rattle.table_definitions.proofs.Bijections.{there}
-use Rattle.group_definitions.specs.Trees.{face_number}
+use Rattle.table_definitions.proofs.Faces.{face_of-number}
 use Rattle.group_laws.proofs.Levels.{none_or_first}
 
-unequal : (a b : ℕ) → a ≢ b → (a == b) ≡ false
-unequal a b n = grind arith
-
 -- ---- first places
-
-pub contains_has : (xs : List ℕ) (c : ℕ) → Contains xs c → has xs c ≡ true
-contains_has xs c h = list_any_at (λ m. m == c) xs h.0 c h.1 (eq-eqb (slice_index_or xs h.0 c) c h.2)
 
 -- the first place of a number that stands in the list
 pub record FirstPlace (xs : List ℕ) (c : ℕ) : Type 0 where
@@ -34,7 +27,7 @@ pub first_place : (xs : List ℕ) (i c : ℕ) → i < length xs → slice_index 
 first_place xs i c l e = elim (none_or_first (λ k. slice_index xs k ≡ c) (λ k. cases_eq (slice_index xs k) c) (suc i)) [
   | inl none ↦ absurd (none i (omega arith) e)
   | inr one ↦ let same : position_or_len (λ d. d == c) xs ≡ one.0 = position_or_len_is (λ d. d == c) xs one.0 0 (let m : one.0 < suc i = one.1 in omega arith)
-      (λ k less. unequal (slice_index xs k) c (one.3 k less)) (λ _. eq-eqb (slice_index xs one.0) c one.2) in
+      (λ k less. ne_eqb (slice_index xs k) c (one.3 k less)) (λ _. eq-eqb (slice_index xs one.0) c one.2) in
       record { in_range = subst (λ k. k < length xs) (sym same) (let m : one.0 < suc i = one.1 in omega arith); is = ap (slice_index xs) same ∙ one.2 }
 ]
 
@@ -50,7 +43,7 @@ counted : (c x : ℕ) (xs : List ℕ) → x ≡ c → times_in (x ∷ xs) c ≡ 
 counted c x xs e = count_cons c x xs ∙ ap (λ b. cond b 1 0 + times_in xs c) (eq-eqb x c e)
 
 uncounted : (c x : ℕ) (xs : List ℕ) → x ≢ c → times_in (x ∷ xs) c ≡ times_in xs c
-uncounted c x xs n = count_cons c x xs ∙ ap (λ b. cond b 1 0 + times_in xs c) (unequal x c n) ∙ omega arith
+uncounted c x xs n = count_cons c x xs ∙ ap (λ b. cond b 1 0 + times_in xs c) (ne_eqb x c n) ∙ omega arith
 
 count_none : (c : ℕ) (xs : List ℕ) → ((k : ℕ) → k < length xs → slice_index xs k ≢ c) → times_in xs c ≡ 0
 count_none c [] h = refl
@@ -70,15 +63,6 @@ count_two c (x ∷ xs) (suc i) (suc j) less l a b h = uncounted c x xs (h 0 (ome
     ∙ count_two c xs i j (omega arith) (omega arith) a b (λ k m n o. h (suc k) (omega arith) (λ z. n (omega arith)) (λ z. o (omega arith)))
 
 -- ---- numbers of faces
-
-pub face_of_number : (x : Face) → x.face < 4 → face_of (face_number x) ≡ x
-face_of_number x l = λ i. record { tet = quotient i; face = rest i }
-  where
-    quotient : (4 * x.tet + x.face) / 4 ≡ x.tet
-    quotient = omega arith
-
-    rest : (4 * x.tet + x.face) % 4 ≡ x.face
-    rest = omega arith
 
 pub number_below : (n : ℕ) (x : Face) → x.tet < n → x.face < 4 → face_number x < 4 * n
 number_below n x l k = omega arith
@@ -105,20 +89,20 @@ module _ (rows : List Row) (table : IsTable rows) (classes : List ℕ) (count : 
     pub same_class : (k : ℕ) → k < 4 * length rows → slice_index classes k ≡ class_of x → (face_of k ≡ x) ⊎ (face_of k ≡ other_side x g)
     unfolding class_of
     same_class k l same = elim ((h.together (face_number x) k x_below l).0 (sym same)) [
-      | inl i ↦ inl (ap face_of (sym i) ∙ face_of_number x x_small)
+      | inl i ↦ inl (ap face_of (sym i) ∙ face_of-number x x_small)
       | inr w ↦
-          let z : Some w.0 ≡ Some g = sym w.1 ∙ ap (glue rows) (face_of_number x x_small) ∙ e in
+          let z : Some w.0 ≡ Some g = sym w.1 ∙ ap (glue rows) (face_of-number x x_small) ∙ e in
           let gs : w.0 ≡ g = cc in
-          inr (sym w.2 ∙ ap₂ other_side (face_of_number x x_small) gs)
+          inr (sym w.2 ∙ ap₂ other_side (face_of-number x x_small) gs)
     ]
 
     pub other_class : class_of (other_side x g) ≡ class_of x
     unfolding class_of
     other_class = sym ((h.together (face_number x) (face_number (other_side x g)) x_below y_below).1
-        (inr (g, ap (glue rows) (face_of_number x x_small) ∙ e, ap (λ z. other_side z g) (face_of_number x x_small) ∙ sym (face_of_number (other_side x g) y_small))))
+        (inr (g, ap (glue rows) (face_of-number x x_small) ∙ e, ap (λ z. other_side z g) (face_of-number x x_small) ∙ sym (face_of-number (other_side x g) y_small))))
 
     apart : face_number (other_side x g) ≢ face_number x
-    apart same = let faces : other_side x g ≡ x = sym (face_of_number (other_side x g) y_small) ∙ ap face_of same ∙ face_of_number x x_small in
+    apart same = let faces : other_side x g ≡ x = sym (face_of-number (other_side x g) y_small) ∙ ap face_of same ∙ face_of-number x x_small in
         let itself : same_face (other_side x g) x ≡ true = same_to (other_side x g).tet x.tet (other_side x g).face x.face (ap (λ (z : Face). z.tet) faces) (ap (λ (z : Face). z.face) faces) in
         let never : not (same_face (other_side x g) x) ≡ true = table.apart x g e in cc
 

@@ -1,30 +1,29 @@
 -- The letter of a face turns exactly as the face does; a face without a letter doesn't turn.
-use Rattle.std.proofs.Common.{◌≡◌, ℕ, zero, suc, ◌+◌, ◌*◌, ◌<◌, ◌⊎◌, inl, inr, Bool, true, false, not, List, [], ◌∷◌, length, Option, Some, None, slice_index, slice_index_or, subst, sym, ap, ap₂, refl, ◌∙◌, arith}
+use Rattle.std.proofs.Common.{◌≡◌, ℕ, zero, suc, ◌+◌, ◌*◌, ◌<◌, ◌⊎◌, inl, inr, Bool, true, false, not, List, [], ◌∷◌, length, Option, Some, None, slice_index, slice_index_or, subst, sym, ap, ap₂, ◌∙◌, arith}
 use Rattle.std.specs.Prelude.{◌==◌, if◌then◌else◌}
 use Rattle.std.specs.List.{position_or_len, AllZip}
 use Rattle.std.proofs.lemmas.Bool.{false≢true}
+use Rattle.plain_facts.proofs.Truths.{true_or_false}
 use Rattle.table_definitions.specs.Lists.{has}
-use Rattle.table_definitions.specs.Table.{Gluing, Face, glue, other_side, way_back}
+use Rattle.table_definitions.specs.Table.{Gluing, Face, glue, other_side, way_back, face_number}
 use Rattle.table_definitions.specs.Classes.{least, is_least}
 use Rattle.table_definitions.specs.Places.{face_of, IsConnected}
 use Rattle.table_definitions.proofs.TableLaws.{glued_face}
+use Rattle.table_definitions.proofs.Bijections.{contains_has}
+use Rattle.table_definitions.proofs.Faces.{face_of-number}
 use Rattle.skeleton_definitions.specs.Skeleton.{Skeleton, IsSkeleton}
-use Rattle.group_definitions.specs.Trees.{IsTreeFace, face_number}
+use Rattle.group_definitions.specs.Trees.{IsTreeFace}
 use Rattle.group_definitions.specs.declared.Letter.{Letter}
 use Rattle.group_definitions.specs.Presentations.{HoldsTreeFace, letter_of, IsTurning, Presentation, IsPresentation}
 use Rattle.group_laws.specs.Laws.{turns}
 use Rattle.group_laws.proofs.Parity.{turn, turn_is, tree_turn, turn_back}
-use Rattle.group_laws.proofs.FaceClasses.{contains_has, FirstPlace, has_place, face_of_number, class_of, same_class, degree_two, class_below, least_is, x_below}
+use Rattle.group_laws.proofs.FaceClasses.{FirstPlace, has_place, class_of, same_class, degree_two, class_below, least_is, x_below}
 
 pub zip_at : {A B : Type 0} (R : A → B → Type 0) (xs : List A) (ys : List B) → AllZip R xs ys → (i : ℕ) (d : A) (e : B) → i < length xs → R (slice_index_or xs i d) (slice_index_or ys i e)
 zip_at R [] ys z i d e l = absurd (omega arith)
 zip_at R (x ∷ xs) [] z i d e l = absurd z
 zip_at R (x ∷ xs) (y ∷ ys) z zero d e l = z.0
 zip_at R (x ∷ xs) (y ∷ ys) z (suc i) d e l = zip_at R xs ys z.1 i d e (omega arith)
-
-true_or_false : (b : Bool) → (b ≡ true) ⊎ (b ≡ false)
-true_or_false true = inl refl
-true_or_false false = inr refl
 
 module _ (s : Skeleton) (h : IsSkeleton s) (connected : IsConnected s.rows) where
   abbrev turn_of : ℕ → Gluing → Bool
@@ -48,7 +47,7 @@ module _ (s : Skeleton) (h : IsSkeleton s) (connected : IsConnected s.rows) wher
       let small : y.face < 4 = glued_face s.rows y tree.leads.gluing h.table.four_faces tree.leads.glued in
       let below : face_number y < 4 * length s.rows = x_below s.rows h.table s.faces.classes s.faces.count h.faces y tree.leads.gluing tree.leads.glued in
       let c = same_class s.rows h.table s.faces.classes s.faces.count h.faces x g e (face_number y) below w.3 in
-      let which : (y ≡ x) ⊎ (y ≡ other_side x g) = elim c [ inl i ↦ inl (sym (face_of_number y small) ∙ i) | inr i ↦ inr (sym (face_of_number y small) ∙ i) ] in
+      let which : (y ≡ x) ⊎ (y ≡ other_side x g) = elim c [ inl i ↦ inl (sym (face_of-number y small) ∙ i) | inr i ↦ inr (sym (face_of-number y small) ∙ i) ] in
       sym (both_turn x y g tree.leads.gluing e tree.leads.glued which) ∙ tree_turn s.rows h.table connected w.0 y tree.leads.gluing tree tree.leads.glued
 
   module _ (p : Presentation) (ip : IsPresentation s p) where

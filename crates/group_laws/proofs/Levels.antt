@@ -2,19 +2,14 @@
 use Rattle.std.proofs.Common.{◌≡◌, ℕ, zero, suc, ◌+◌, ◌<◌, ◌≤◌, ◌⊎◌, inl, inr, List, [], ◌∷◌, ◌++◌, length, Option, Some, None, option_and_then, subst, sym, ap, refl, ◌∙◌, arith}
 use Rattle.std.proofs.lemmas.Bool.{cases_lt, cases_eq}
 use Rattle.std.proofs.lemmas.List.{length_push}
+use Rattle.plain_facts.proofs.Numbers.{below_suc}
 use Rattle.table_definitions.specs.Table.{Gluing, Row, Face, IsTable, glue}
-use Rattle.table_definitions.specs.Places.{Place, whole, carried, across, along}
+use Rattle.table_definitions.specs.Places.{Place, whole, across, along}
 use Rattle.table_definitions.proofs.TableLaws.{glued_tet, glued_face}
-use Rattle.table_definitions.proofs.ChainLaws.{along-append, kept_along}
+use Rattle.table_definitions.proofs.ChainLaws.{along-append, kept_along, crossed}
 use Rattle.group_definitions.specs.Trees.{LeadsTo, IsDistance}
 
 -- ---- searches below a bound
-
-below_suc : (P : ℕ → Type 0) (k : ℕ) → ((j : ℕ) → j < k → P j) → P k → (j : ℕ) → j < suc k → P j
-below_suc P k below here j l = elim (cases_lt j k) [
-  | inl a ↦ below j a
-  | inr b ↦ let e : k ≡ j = omega arith in subst P e here
-]
 
 -- none below k has the fact, or a first one does
 pub none_or_first : (Q : ℕ → Type 0) → ((j : ℕ) → Q j ⊎ (Q j → ⊥)) → (k : ℕ) → ((j : ℕ) → j < k → Q j → ⊥) ⊎ ((j : ℕ) × (j < k) × Q j × ((i : ℕ) → i < j → Q i → ⊥))
@@ -26,24 +21,6 @@ none_or_first Q decide (suc k) = elim (none_or_first Q decide k) [
     | inr never ↦ inl (below_suc (λ j. Q j → ⊥) k below never)
   ]
 ]
-
--- ---- a step of a whole tetrahedron crosses a glued face
-
-record Crossed (rows : List Row) (p : Place) (f : ℕ) (q : Place) : Type 0 where
-  g : Gluing
-  glued : glue rows (record { tet = p.tet; face = f }) ≡ Some g
-  to : g.tet ≡ q.tet
-  bare : q.vertices ≡ []
-
-crossed : (rows : List Row) (p : Place) (f : ℕ) (q : Place) → p.vertices ≡ [] → across rows p f ≡ Some q → Crossed rows p f q
-crossed rows p f q h e = cases (glue rows (record { tet = p.tet; face = f })) refl
-  where
-    cases : (o : Option Gluing) → glue rows (record { tet = p.tet; face = f }) ≡ o → Crossed rows p f q
-    cases None n = let z : None ≡ Some q = sym (rw (h, n) refl) ∙ e in absurd cc
-    cases (Some g) n =
-        let z : Some (carried g p) ≡ Some q = sym (rw (h, n) refl) ∙ e in
-        let same : carried g p ≡ q = cc in
-        record { g = g; glued = n; to = ap (λ (r : Place). r.tet) same; bare = ap (λ (r : Place). r.vertices) (sym same) ∙ rw h refl }
 
 -- ---- levels
 

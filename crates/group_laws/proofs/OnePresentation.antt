@@ -1,67 +1,16 @@
 -- A table has one presentation.
-use Rattle.std.proofs.Common.{◌≡◌, ℕ, zero, suc, ◌+◌, ◌<◌, ◌⊎◌, inl, inr, Bool, true, false, List, [], ◌∷◌, length, AllPairs, Contains, Some, filter_map, MatchBool, slice_index_or, subst, sym, ap, ap₂, refl, ◌∙◌, arith}
+use Rattle.std.proofs.Common.{◌≡◌, ℕ, ◌+◌, Bool, true, false, List, [], ◌∷◌, Some, filter_map, MatchBool, subst, sym, ap, ap₂, refl, ◌∙◌}
 use Rattle.std.specs.List.{AllZip}
-use Rattle.table_definitions.specs.Table.{Gluing, Row}
+use Rattle.plain_facts.proofs.Members.{same_numbers}
+use Rattle.table_definitions.specs.Table.{Gluing, Row, face_number}
 use Rattle.table_definitions.specs.Classes.{least}
 use Rattle.table_definitions.specs.Places.{face_of, is_boundary_edge}
 use Rattle.skeleton_definitions.specs.Corners.{Corner, first_corner, GoesRound, IsWalk}
 use Rattle.skeleton_definitions.specs.Skeleton.{Skeleton}
-use Rattle.group_definitions.specs.Trees.{IsTreePath, evens, is_odd_number, face_number}
+use Rattle.group_definitions.specs.Trees.{IsTreePath, evens, is_odd_number}
 use Rattle.group_definitions.specs.declared.Letter.{Letter}
 use Rattle.group_definitions.specs.Presentations.{letter_of, left_through, IsRelator, IsTurning, Presentation, IsPresentation}
 use Rattle.group_laws.proofs.TreeLaws.{one_path}
-
--- ---- ascending numbers with the same members
-
-abbrev Ascends : List ℕ → Type 0
-Ascends xs = AllPairs (λ c d. c < d) xs
-
-contains_cases : (x y : ℕ) (xs : List ℕ) → Contains (x ∷ xs) y → (x ≡ y) ⊎ Contains xs y
-contains_cases x y xs h = go h.0 h.1 h.2
-  where
-    go : (k : ℕ) → k < length (x ∷ xs) → slice_index_or (x ∷ xs) k y ≡ y → (x ≡ y) ⊎ Contains xs y
-    go zero l e = inl e
-    go (suc k) l e = inr (k, omega arith, e)
-
-contains_head : (x : ℕ) (xs : List ℕ) → Contains (x ∷ xs) x
-contains_head x xs = (0, omega arith, refl)
-
-contains_tail : (x y : ℕ) (xs : List ℕ) → Contains xs y → Contains (x ∷ xs) y
-contains_tail x y xs h = (suc h.0, omega (arith, h.1), h.2)
-
-contains_nil : (y : ℕ) → Contains [] y → ⊥
-contains_nil y h = let l : h.0 < 0 = h.1 in omega arith
-
-head_less : (x y : ℕ) (xs : List ℕ) → Ascends (x ∷ xs) → Contains xs y → x < y
-head_less x y xs h c = subst (λ z. x < z) c.2 (h 0 (suc c.0) y (omega arith) (omega (arith, c.1)))
-
-tail_ascends : (x : ℕ) (xs : List ℕ) → Ascends (x ∷ xs) → Ascends xs
-tail_ascends x xs h i j d less l = h (suc i) (suc j) d (omega arith) (omega arith)
-
-abbrev Within : List ℕ → List ℕ → Type 0
-Within xs ys = (t : ℕ) → Contains xs t → Contains ys t
-
-same_heads : (x y : ℕ) (xs ys : List ℕ) → Ascends (x ∷ xs) → Ascends (y ∷ ys) → Within (x ∷ xs) (y ∷ ys) → Within (y ∷ ys) (x ∷ xs) → x ≡ y
-same_heads x y xs ys hx hy into back = elim (contains_cases y x ys (into x (contains_head x xs))) [
-  | inl e ↦ sym e
-  | inr c ↦ elim (contains_cases x y xs (back y (contains_head y ys))) [
-    | inl e ↦ e
-    | inr d ↦ let l : y < x = head_less y x ys hy c in let m : x < y = head_less x y xs hx d in absurd (omega arith)
-  ]
-]
-
-tail_within : (x y : ℕ) (xs ys : List ℕ) → x ≡ y → Ascends (x ∷ xs) → Within (x ∷ xs) (y ∷ ys) → Within xs ys
-tail_within x y xs ys e hx into t c = elim (contains_cases y t ys (into t (contains_tail x t xs c))) [
-  | inl f ↦ let l : x < t = head_less x t xs hx c in absurd (omega arith)
-  | inr d ↦ d
-]
-
-same_numbers : (xs ys : List ℕ) → Ascends xs → Ascends ys → Within xs ys → Within ys xs → xs ≡ ys
-same_numbers [] [] hx hy into back = refl
-same_numbers [] (y ∷ ys) hx hy into back = absurd (contains_nil y (back y (contains_head y ys)))
-same_numbers (x ∷ xs) [] hx hy into back = absurd (contains_nil x (into x (contains_head x xs)))
-same_numbers (x ∷ xs) (y ∷ ys) hx hy into back = let e : x ≡ y = same_heads x y xs ys hx hy into back in
-    ap₂ (λ z zs. z ∷ zs) e (same_numbers xs ys (tail_ascends x xs hx) (tail_ascends y ys hy) (tail_within x y xs ys e hx into) (tail_within y x ys xs (sym e) hy back))
 
 -- ---- one walk
 

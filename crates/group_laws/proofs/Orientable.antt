@@ -7,13 +7,13 @@ use Rattle.std.proofs.lemmas.List.FromFn.{get_or-map-range_with_len, length-map-
 use Rattle.std.proofs.lemmas.Slice.Zip.{AllZip-long}
 use Rattle.table_definitions.specs.Lists.{below}
 use Rattle.table_definitions.specs.Permutation.{is_odd}
-use Rattle.table_definitions.specs.Table.{Gluing, Face, glue}
+use Rattle.table_definitions.specs.Table.{Gluing, Face, glue, face_number}
 use Rattle.table_definitions.specs.Classes.{least}
 use Rattle.table_definitions.specs.Places.{face_of, IsConnected}
 use Rattle.table_definitions.proofs.TableLaws.{glued_tet}
 use Rattle.skeleton_definitions.specs.Orientation.{sign_of, sign_across, AreSigns, IsOrientable}
 use Rattle.skeleton_definitions.specs.Skeleton.{Skeleton, IsSkeleton}
-use Rattle.group_definitions.specs.Trees.{IsTreePath, is_even_gluing, evens, is_odd_number, face_number}
+use Rattle.group_definitions.specs.Trees.{IsTreePath, is_even_gluing, evens, is_odd_number}
 use Rattle.group_definitions.specs.declared.Letter.{Letter}
 use Rattle.group_definitions.specs.Presentations.{letter_of, IsTurning, Presentation, IsPresentation}
 use Rattle.group_laws.specs.Laws.{turns}

@@ -17,12 +17,6 @@ abbrev pub differs : Bool → Bool → Bool
 differs true b = not b
 differs false b = b
 
-pub differs_swap : (a b : Bool) → differs a b ≡ differs b a
-differs_swap true true = refl
-differs_swap true false = refl
-differs_swap false true = refl
-differs_swap false false = refl
-
 pub differs_self : (a : Bool) → differs a a ≡ false
 differs_self true = refl
 differs_self false = refl
@@ -144,6 +138,3 @@ module _ (rows : List Row) (table : IsTable rows) (connected : IsConnected rows)
       around false true false = refl
       around false false true = refl
       around false false false = refl
-
-  pub sign_start : 0 < length rows → sign 0 ≡ false
-  sign_start l = sign_is 0 [] l refl

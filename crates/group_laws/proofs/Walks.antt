@@ -4,7 +4,7 @@ use Rattle.std.specs.List.{cons_option, slice_index_or, All}
 use Rattle.std.proofs.lemmas.Slice.Zip.{AllZip-long}
 use Rattle.table_definitions.specs.Lists.{has}
 use Rattle.table_definitions.specs.Permutation.{four, is_odd, is_permutation, compose, IsPermutationOfFour}
-use Rattle.table_definitions.specs.Table.{Gluing, glue}
+use Rattle.table_definitions.specs.Table.{Gluing, glue, face_number}
 use Rattle.table_definitions.specs.Classes.{least}
 use Rattle.table_definitions.specs.Places.{ends, IsConnected, is_boundary_edge}
 use Rattle.table_definitions.proofs.PermutationLaws.{is_odd-compose}
@@ -13,7 +13,7 @@ use Rattle.table_definitions.proofs.Computed.{computed}
 use Rattle.table_definitions.proofs.ListFacts.{list_all-below}
 use Rattle.skeleton_definitions.specs.Corners.{Corner, corner_behind, step, first_corner, corner_of, GoesRound, IsWalk}
 use Rattle.skeleton_definitions.specs.Skeleton.{Skeleton, IsSkeleton}
-use Rattle.group_definitions.specs.Trees.{is_odd_number, face_number}
+use Rattle.group_definitions.specs.Trees.{is_odd_number}
 use Rattle.group_definitions.specs.declared.Letter.{Letter}
 use Rattle.group_definitions.specs.Presentations.{letter_of, left_through, IsRelator, Presentation, IsPresentation}
 use Rattle.group_laws.specs.Laws.{turns}

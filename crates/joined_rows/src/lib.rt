@@ -8,6 +8,7 @@ ghost use Rattle.finite_walks.specs.Search.{IsClosed, IsComponent};
 ghost use Rattle.finite_walks.specs.Classes.{AreNumbered, AreClasses};
 ghost use Rattle.table_definitions.specs.Classes.{IsNumbering};
 
+use finite_walks::number;
 use std::alloc::{AllocError, Global};
 
 /// The class of each number, and how many classes there are.
@@ -70,15 +71,6 @@ pub fn classes(alloc: Global, neighbours: &[[Option<u32>; 16]]) -> Result<Number
         }
     }
     Ok(Numbering { classes, count })
-}
-
-fn number(classes: &mut [u32], members: &[u32], class: u32)
-    requires { All (λ x. x < length classes.old) members.now }
-    ensures { AreNumbered members.now class classes.old classes.new }
-{
-    for member in members {
-        classes[*member as usize] = class;
-    }
 }
 
 #[cfg(test)]

@@ -5,6 +5,7 @@ use Rattle.std.specs.Bool.{MatchBool}
 use Rattle.std.specs.List.{AllPairs, AllZip}
 use Rattle.std.proofs.lemmas.List.{get_or-map, length-map}
 use Rattle.std.proofs.lemmas.List.Elements.{All-map, All-from_get_or}
+use Rattle.plain_facts.proofs.Lists.{zip_more}
 use Rattle.finite_walks.proofs.Repeats.{distinct_below}
 use Rattle.table_definitions.specs.Classes.{IsNumbering, least}
 use Rattle.table_definitions.specs.Places.{ends, SameEdge, is_boundary_edge}
@@ -110,17 +111,7 @@ row_appended s c n corners before now inner round e f =
     subst (λ (b : Bool). MatchBool b (now ≡ before) ((row : EquationRow) × IsQuadRow s.rows s.edges.classes c row × (now ≡ before ++ row ∷ []))) (sym inner)
     (row_of n (quad_equation corners), (corners, round.all, ap (λ m. row_of m (quad_equation corners)) e), f)
 
-pub none_appended : (s : Skeleton) (c : ℕ) (before now : List EquationRow) → is_boundary_edge s.rows s.edges.classes c ≡ true → now ≡ before → IsRowAppended s.rows s.edges.classes c before now
-none_appended s c before now outer e =
-    subst (λ (b : Bool). MatchBool b (now ≡ before) ((row : EquationRow) × IsQuadRow s.rows s.edges.classes c row × (now ≡ before ++ row ∷ []))) (sym outer) e
-
 -- the rows so far, with one class more
-zip_more : {A B : Type 0} (R : A → B → Type 0) (xs : List A) (ys : List B) (x : A) (y : B) → AllZip R xs ys → R x y → AllZip R (xs ++ x ∷ []) (ys ++ y ∷ [])
-zip_more R [] [] x y h r = (r, tt)
-zip_more R [] (b ∷ bs) x y h r = absurd h
-zip_more R (a ∷ rest) [] x y h r = absurd h
-zip_more R (a ∷ rest) (b ∷ bs) x y h r = (h.0, zip_more R rest bs x y h.1 r)
-
 pub rows_more : (rows : List Row) (classes : List ℕ) (c : ℕ) (before now : List EquationRow) → AllZip (IsQuadRow rows classes) (inner_edges rows classes c) before
     → IsRowAppended rows classes c before now → AllZip (IsQuadRow rows classes) (inner_edges rows classes (c + 1)) now × (length now ≤ length before + 1)
 rows_more rows classes c before now h r = by_test (is_boundary_edge rows classes c) refl r

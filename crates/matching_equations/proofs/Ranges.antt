@@ -1,21 +1,11 @@
 -- Lists made over the numbers below a bound, one number more at a time.
-use Rattle.std.proofs.Common.{◌≡◌, ℕ, zero, suc, ◌+◌, ◌<◌, ◌≤◌, Bool, cond, List, [], ◌∷◌, ◌++◌, filter, Option, Some, None, refl, sym, ap, ◌∙◌, arith, append-nil, add-zero, add-one}
-use Rattle.std.specs.List.{cons_option, filter_map, flat_map, range_with_len}
+use Rattle.std.proofs.Common.{◌≡◌, ℕ, zero, suc, ◌+◌, ◌<◌, ◌≤◌, Bool, cond, List, [], ◌∷◌, ◌++◌, filter, Option, Some, None, refl, ap, ◌∙◌, arith, append-nil, add-zero}
+use Rattle.std.specs.List.{cons_option, filter_map, flat_map}
 use Rattle.std.specs.Prelude.{option_to_list}
 use Rattle.std.proofs.lemmas.List.Elements.{filter-append, filter_map-append}
 use Rattle.std.proofs.lemmas.Grind.{flat_map-append}
 use Rattle.table_definitions.specs.Lists.{below}
-
-pub range_more : (a n : ℕ) → range_with_len a (suc n) ≡ range_with_len a n ++ (a + n) ∷ []
-range_more a zero = ap (λ m. m ∷ []) (sym (add-zero a))
-range_more a (suc n) =
-    let e : (a + 1) + n ≡ a + suc n = omega arith in
-    ap (λ xs. a ∷ xs) (range_more (a + 1) n ∙ ap (λ m. range_with_len (a + 1) n ++ m ∷ []) e)
-
-pub below_more : (n : ℕ) → below (n + 1) ≡ below n ++ n ∷ []
-below_more n =
-    let e : 0 + n ≡ n = omega arith in
-    ap below (add-one n) ∙ range_more 0 n ∙ ap (λ m. below n ++ m ∷ []) e
+use Rattle.table_definitions.proofs.ListFacts.{below_next}
 
 one_option : {Y : Type 0} (o : Option Y) → cons_option o [] ≡ option_to_list o
 one_option None = refl
@@ -23,14 +13,14 @@ one_option (Some y) = refl
 
 pub filter_map-more : {Y : Type 0} (h : ℕ → Option Y) (n : ℕ) → filter_map h (below (n + 1)) ≡ filter_map h (below n) ++ option_to_list (h n)
 filter_map-more h n =
-    ap (filter_map h) (below_more n) ∙ filter_map-append h (below n) (n ∷ []) ∙ ap (λ ys. filter_map h (below n) ++ ys) (one_option (h n))
+    ap (filter_map h) (below_next n) ∙ filter_map-append h (below n) (n ∷ []) ∙ ap (λ ys. filter_map h (below n) ++ ys) (one_option (h n))
 
 pub filter-more : (p : ℕ → Bool) (n : ℕ) → filter p (below (n + 1)) ≡ filter p (below n) ++ cond (p n) (n ∷ []) []
-filter-more p n = ap (filter p) (below_more n) ∙ filter-append p (below n) (n ∷ [])
+filter-more p n = ap (filter p) (below_next n) ∙ filter-append p (below n) (n ∷ [])
 
 pub flat_map-more : {Y : Type 0} (f : ℕ → List Y) (n : ℕ) → flat_map f (below (n + 1)) ≡ flat_map f (below n) ++ f n
 flat_map-more f n =
-    ap (flat_map f) (below_more n) ∙ flat_map-append f (below n) (n ∷ []) ∙ ap (λ ys. flat_map f (below n) ++ ys) (append-nil (f n))
+    ap (flat_map f) (below_next n) ∙ flat_map-append f (below n) (n ∷ []) ∙ ap (λ ys. flat_map f (below n) ++ ys) (append-nil (f n))
 
 -- numbers of which nothing is made add nothing
 pub quiet : {Y : Type 0} (h : ℕ → Option Y) (a d : ℕ) → ((k : ℕ) → a ≤ k → k < a + d → h k ≡ None) → filter_map h (below (a + d)) ≡ filter_map h (below a)

@@ -2,10 +2,10 @@
 use Rattle.std.proofs.Common.{◌≡◌, ◌≢◌, ℕ, zero, suc, ◌<◌, ◌≤◌, List, [], ◌∷◌, length, get_or, Option, Some, None, ⊎_elim, refl, sym, ap, ◌∙◌, subst, arith}
 use Rattle.std.specs.Prelude.{option_map, option_and_then, Contains}
 use Rattle.std.proofs.lemmas.Bool.{cases_lt}
+use Rattle.std.proofs.lemmas.List.{get_or_default}
 use Rattle.table_definitions.specs.Permutation.{image, IsPermutationOfFour}
 use Rattle.table_definitions.specs.Table.{Gluing, Row, glue, IsTable}
-use Rattle.table_definitions.proofs.PermutationLaws.{image_below, image-of_inverse}
-use Rattle.matching_equations.proofs.Images.{images_apart}
+use Rattle.table_definitions.proofs.PermutationLaws.{image_below, image-of_inverse, images_apart}
 use Rattle.matching_equations.specs.Quads.{IsCornerIn}
 use Rattle.skeleton_definitions.specs.Corners.{Corner, corner_behind, step, steps, Reaches, GoesRound, IsWalk, AreCorners}
 
@@ -110,16 +110,11 @@ module _ (rows : List Row) (first : Corner) where
       same_some : {a b : Corner} → Some a ≡ Some b → a ≡ b
       same_some {a} {b} g = cc
 
-default_free : (xs : List Corner) (i : ℕ) (d e : Corner) → i < length xs → get_or xs i d ≡ get_or xs i e
-default_free [] i d e l = absurd (omega arith)
-default_free (x ∷ xs) zero d e l = refl
-default_free (x ∷ xs) (suc i) d e l = default_free xs i d e (omega arith)
-
 contained : (rows : List Row) (first k : Corner) (ks : List Corner) → k ≡ first → GoesRound rows first k ks → (m : Corner) (n i : ℕ) → i ≤ length ks → (c : Corner) → get_or (k ∷ ks) i first ≡ c → steps rows n c ≡ Some m
     → Contains (k ∷ ks) m
 contained rows first k ks e h m zero i l c at f =
     let same : c ≡ m = cc in
-    (i, omega arith, default_free (k ∷ ks) i m first (omega arith) ∙ at ∙ same)
+    (i, omega arith, get_or_default (k ∷ ks) i m first (omega arith) ∙ at ∙ same)
 contained rows first k ks e h m (suc n) i l c at f = go (step rows c) refl f (λ j lj d q g. contained rows first k ks e h m n j lj d q g)
   where
     go : (o : Option Corner) → step rows c ≡ o → option_and_then (λ x. steps rows n x) o ≡ Some m
@@ -136,7 +131,7 @@ walk_has_corners rows table first four (k ∷ ks) h =
     let start : IsCornerIn (length rows) k = subst (IsCornerIn (length rows)) (sym h.0) four in
     record {
       reached = λ m. (
-        (λ c. let low : c.0 < suc (length ks) = c.1 in subst (Reaches rows first) (default_free (k ∷ ks) c.0 first m c.1 ∙ c.2) (reached_at rows first k ks h.0 h.1 c.0 (omega arith))),
+        (λ c. let low : c.0 < suc (length ks) = c.1 in subst (Reaches rows first) (get_or_default (k ∷ ks) c.0 first m c.1 ∙ c.2) (reached_at rows first k ks h.0 h.1 c.0 (omega arith))),
         (λ r. contained rows first k ks h.0 h.1 m r.0 0 (omega arith) first h.0 r.1),
       );
       once = λ i j less l. once_at rows first table k ks h.0 h.1 start i j less (omega arith);

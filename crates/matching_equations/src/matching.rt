@@ -6,7 +6,7 @@ ghost use Rattle.surface_definitions.specs.Equations.{matching, matching_rows};
 ghost use Rattle.surface_definitions.specs.Equations as equations;
 ghost use Rattle.table_definitions.specs.Permutation.{IsPermutationOfFour};
 ghost use Rattle.table_definitions.specs.Table as gluings;
-ghost use Rattle.table_definitions.specs.Table.{IsTable, is_face_before};
+ghost use Rattle.table_definitions.specs.Table.{IsTable};
 ghost use Rattle.matching_equations.specs.Matching.{glued_rows, face_rows, tet_rows};
 
 use crate::coords::columns;
@@ -16,13 +16,6 @@ use gluing_table::{Face, Glue, Table};
 use no_memory::NoMemory;
 use std::alloc::Global;
 use surface_definitions::Coords;
-
-/// Whether one face comes before another.
-fn is_before(face: Face, other: Face) -> bool
-    ensures { result ≡ is_face_before face other }
-{
-    face.tet < other.tet || (face.tet == other.tet && face.face < other.face)
-}
 
 /// Appends the equation of the arcs round a vertex of a glued face.
 fn push_equation(
@@ -99,7 +92,7 @@ fn push_face(
     ensures few { OnOk result (length system.new.rows ≤ length system.old.rows + 4) }
 {
     if let Some(glue) = table.glue(face) {
-        if is_before(face, glue.other_side(face)) {
+        if face.is_before(glue.other_side(face)) {
             push_glued(alloc, coords, face, glue, system)?;
         }
     }

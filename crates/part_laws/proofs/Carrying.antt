@@ -1,6 +1,7 @@
 -- A relabelling carries the parts of a table to the parts of the other.
 use Rattle.std.proofs.Common.{◌≡◌, ℕ, ◌<◌, ◌≤◌, ◌⊎◌, inl, inr, List, [], length, Contains, Option, Some, None, option_map, slice_index, slice_index_or, subst, sym, ap, ap₂, refl, ◌∙◌, arith, le_antisymm}
 use Rattle.std.proofs.lemmas.Bool.{cases_lt}
+use Rattle.plain_facts.proofs.Members.{contains_at}
 use Rattle.table_definitions.specs.Permutation.{image, inverse, compose}
 use Rattle.table_definitions.specs.Table.{Gluing, Row, Face, IsTable, glue}
 use Rattle.table_definitions.specs.Places.{whole, IsJoined, SameComponent}
@@ -11,7 +12,7 @@ use Rattle.canonical_labelling.proofs.Standing.{made_stands, made_relabelling}
 use Rattle.canonical_labelling.proofs.Back.{inverted_stands, carries_back}
 use Rattle.canonical_labelling.proofs.Kept.{led}
 use Rattle.part_definitions.specs.Parts.{Part, place_in, renumbered, first_of, IsPart, AreParts}
-use Rattle.part_laws.proofs.Numbers.{place_of, contains_entry, fits, stands_once}
+use Rattle.part_laws.proofs.Numbers.{place_of, fits, stands_once}
 use Rattle.part_laws.proofs.Members.{part_at, numbers_at, StandsAt, part_is, stands_at, one_part, member_of, member_below, first_member, joined_member, joins, glued_member, length-part, glue-part, part_is_table}
 use Rattle.part_laws.proofs.Matching.{IsMatching}
 
@@ -60,7 +61,7 @@ module _ (first second : List Row) (by : Relabelling) (tf : IsTable first) (ts :
     there k = place_in q.numbers (to (slice_index p.numbers k))
 
     entry_p : (k : ℕ) → k < length p.numbers → Contains p.numbers (slice_index p.numbers k)
-    entry_p k l = contains_entry p.numbers k (slice_index p.numbers k) l refl
+    entry_p k l = contains_at p.numbers k (slice_index p.numbers k) l refl
 
     there_is : (k : ℕ) → k < length p.numbers → (there k < length q.numbers) × (slice_index q.numbers (there k) ≡ to (slice_index p.numbers k))
     unfolding there
@@ -74,7 +75,7 @@ module _ (first second : List Row) (by : Relabelling) (tf : IsTable first) (ts :
     -- the number in p of what goes to the number in q
     module _ where
       entry_q : (k : ℕ) → k < length q.numbers → Contains q.numbers (slice_index q.numbers k)
-      entry_q k l = contains_entry q.numbers k (slice_index q.numbers k) l refl
+      entry_q k l = contains_at q.numbers k (slice_index q.numbers k) l refl
 
       found : (k : ℕ) → k < length q.numbers → (u : ℕ) × (u < length first) × (to u ≡ slice_index q.numbers k)
       found k l = from_below (slice_index q.numbers k) (member_below second ts q hq (slice_index q.numbers k) (entry_q k l))

@@ -4,12 +4,13 @@ use Rattle.std.proofs.lemmas.Bool.{cases_lt, cases_eq}
 use Rattle.std.proofs.lemmas.List.{get_or_default, get_or_append_left, length_push}
 use Rattle.std.proofs.lemmas.List.Elements.{All-push, All-nil, All-contains, Contains-push, Contains-push_cases}
 use Rattle.std.proofs.lemmas.List.Quantifiers.{all_pairs_push}
+use Rattle.plain_facts.proofs.Members.{contains_at, Ascends}
 use Rattle.table_definitions.specs.Table.{Row, IsTable}
 use Rattle.table_definitions.specs.Places.{whole, SameComponent}
-use Rattle.table_definitions.proofs.ChainLaws.{joined_refl}
+use Rattle.table_definitions.proofs.ChainLaws.{joined_refl, joins_back}
 use Rattle.part_definitions.specs.Parts.{Part, rows_of, first_of, IsPart, AreParts}
-use Rattle.part_laws.proofs.Numbers.{Ascends, entry_of, contains_entry}
-use Rattle.part_laws.proofs.Members.{joins_back, joined_member}
+use Rattle.part_laws.proofs.Numbers.{entry_of}
+use Rattle.part_laws.proofs.Members.{joined_member}
 use Rattle.cover_laws.proofs.Deciding.{decide_joined, all_or_one}
 
 -- ---- one more element
@@ -82,7 +83,7 @@ module _ (rows : List Row) (table : IsTable rows) where
       | inr n ↦
           let a : slice_index all.numbers 0 < slice_index all.numbers k_in.0 = all.ascending 0 k_in.0 0 (omega arith) k_in.1 in
           let b : slice_index all.numbers k_in.0 ≡ k = entry_of all.numbers k k_in in
-          let h = (all.members (slice_index all.numbers 0)).0 (contains_entry all.numbers 0 (slice_index all.numbers 0) some refl) in
+          let h = (all.members (slice_index all.numbers 0)).0 (contains_at all.numbers 0 (slice_index all.numbers 0) some refl) in
           absurd (first (slice_index all.numbers 0) (omega arith) (joins_back rows k (slice_index all.numbers 0) table h.1))
     ]
 

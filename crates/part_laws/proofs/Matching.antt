@@ -1,6 +1,7 @@
 -- Where the parts of one table are matched with different parts of another, each to be relabelled to it, the whole table can be relabelled.
 use Rattle.std.proofs.Common.{◌≡◌, ℕ, ◌<◌, ◌≤◌, ◌⊎◌, inl, inr, List, [], length, Contains, Option, Some, None, option_map, slice_index, slice_index_or, subst, sym, ap, ap₂, refl, ◌∙◌, arith, le_antisymm}
 use Rattle.std.proofs.lemmas.Bool.{cases_lt}
+use Rattle.plain_facts.proofs.Members.{contains_at}
 use Rattle.table_definitions.specs.Permutation.{IsPermutationOfFour, image, inverse, compose}
 use Rattle.table_definitions.specs.Table.{Gluing, Row, Face, IsTable, glue}
 use Rattle.table_definitions.specs.Relabelling.{Relabelling, IsRelabelling, IsRelabelled, Carries, stand_in, face_under, gluing_under}
@@ -8,7 +9,7 @@ use Rattle.table_definitions.proofs.Carried.{image_in_range, images_apart, perm_
 use Rattle.canonical_labelling.specs.Between.{made}
 use Rattle.canonical_labelling.proofs.Standing.{made_stands, made_relabelling}
 use Rattle.part_definitions.specs.Parts.{Part, place_in, renumbered, IsPart, AreParts}
-use Rattle.part_laws.proofs.Numbers.{place_of, contains_entry, fits}
+use Rattle.part_laws.proofs.Numbers.{place_of, fits}
 use Rattle.part_laws.proofs.Members.{part_at, numbers_at, StandsAt, part_is, stands_at, one_place, member_of, member_below, glued_member, length-part, glue-part}
 
 -- each part goes to a part of its own, by a relabelling
@@ -164,7 +165,7 @@ module _ (first second : List Row) (P Q : List Part) (tf : IsTable first) (ts : 
   both_glued i k f g h l lk e d same = (λ n. record { tet = tet n; perm = perm n })
     where
       member : Contains (numbers_at P i) g.tet
-      member = glued_member first tf (part_at P i) (part_p i l) (slice_index (numbers_at P i) k) f g (contains_entry (numbers_at P i) k (slice_index (numbers_at P i) k) lk refl) e
+      member = glued_member first tf (part_at P i) (part_p i l) (slice_index (numbers_at P i) k) f g (contains_at (numbers_at P i) k (slice_index (numbers_at P i) k) lk refl) e
 
       place : (place_in (numbers_at P i) g.tet < length (numbers_at P i)) × (slice_index (numbers_at P i) (place_in (numbers_at P i) g.tet) ≡ g.tet)
       place = place_of (numbers_at P i) (part_p i l).ascending g.tet member

@@ -1,35 +1,28 @@
 -- The members of parts: closed under gluings and joins, and in one part each.
-use Rattle.std.proofs.Common.{◌≡◌, ℕ, ◌<◌, ◌≤◌, inl, inr, true, List, [], ◌∷◌, length, Contains, Option, Some, None, option_map, slice_index, slice_index_or, subst, sym, ap, refl, ◌∙◌, arith}
+use Rattle.std.proofs.Common.{◌≡◌, ℕ, ◌<◌, ◌≤◌, inl, inr, true, List, [], length, Contains, Option, Some, None, option_map, slice_index, slice_index_or, subst, sym, ap, refl, ◌∙◌, arith}
 use Rattle.std.specs.Prelude.{not}
 use Rattle.std.proofs.lemmas.Bool.{cases_order, cases_eq}
 use Rattle.std.proofs.lemmas.List.{get_or_default}
 use Rattle.std.proofs.lemmas.List.Elements.{All-from_get_or, All-get_or}
+use Rattle.plain_facts.proofs.Members.{contains_at}
 use Rattle.table_definitions.specs.Permutation.{IsPermutationOfFour, image, inverse}
 use Rattle.table_definitions.specs.Table.{Gluing, Row, Face, IsTable, glue, other_side, way_back, same_face}
 use Rattle.table_definitions.specs.Places.{whole, SameComponent}
 use Rattle.table_definitions.proofs.TableLaws.{glued_tet}
-use Rattle.table_definitions.proofs.ChainLaws.{joined_trans, joined_sym}
+use Rattle.table_definitions.proofs.ChainLaws.{joined_trans, joins_back, gluing_joins}
 use Rattle.table_definitions.proofs.Carried.{not_from, same_from, same_to}
 use Rattle.part_definitions.specs.Parts.{Part, place_in, renumbered, first_of, IsPart, AreParts}
-use Rattle.part_laws.proofs.Numbers.{stands_once, place_at, place_of, entry_of, contains_entry, glue-rows_of, length-rows_of, length-row_of, fits}
+use Rattle.part_laws.proofs.Numbers.{stands_once, place_at, place_of, entry_of, glue-rows_of, length-rows_of, length-row_of, fits}
 
 face : ℕ → ℕ → Face
 face t f = record { tet = t; face = f }
-
--- a gluing joins
-pub step_joins : (rows : List Row) (x : Face) (g : Gluing) → glue rows x ≡ Some g → SameComponent rows x.tet g.tet
-step_joins rows x g e = (x.face ∷ [], rw e refl)
-
--- in a table, being joined goes both ways
-pub joins_back : (rows : List Row) (t u : ℕ) → IsTable rows → SameComponent rows t u → SameComponent rows u t
-joins_back rows t u table j = joined_sym rows (whole t) (whole u) table tt j
 
 module _ (rows : List Row) (table : IsTable rows) (part : Part) (h : IsPart rows part) where
   pub member_below : (t : ℕ) → Contains part.numbers t → t < length rows
   member_below t c = ((h.members t).0 c).0
 
   pub first_member : Contains part.numbers (first_of part)
-  first_member = contains_entry part.numbers 0 (first_of part) h.some refl
+  first_member = contains_at part.numbers 0 (first_of part) h.some refl
 
   pub joined_member : (t u : ℕ) → Contains part.numbers t → SameComponent rows t u → u < length rows → Contains part.numbers u
   joined_member t u c j l = (h.members u).1 (l, joined_trans rows (whole (first_of part)) (whole t) (whole u) ((h.members t).0 c).1 j)
@@ -39,7 +32,7 @@ module _ (rows : List Row) (table : IsTable rows) (part : Part) (h : IsPart rows
   joins t u a b = joined_trans rows (whole t) (whole (first_of part)) (whole u) (joins_back rows (first_of part) t table ((h.members t).0 a).1) ((h.members u).0 b).1
 
   pub glued_member : (t f : ℕ) (g : Gluing) → Contains part.numbers t → glue rows (record { tet = t; face = f }) ≡ Some g → Contains part.numbers g.tet
-  glued_member t f g c e = joined_member t g.tet c (step_joins rows (record { tet = t; face = f }) g e) (table.in_range (record { tet = t; face = f }) g e)
+  glued_member t f g c e = joined_member t g.tet c (gluing_joins rows (record { tet = t; face = f }) g e) (table.in_range (record { tet = t; face = f }) g e)
 
   pub first_least : (t : ℕ) → Contains part.numbers t → first_of part ≤ t
   first_least t c = elim (cases_eq c.0 0) [
@@ -56,7 +49,7 @@ module _ (rows : List Row) (table : IsTable rows) (part : Part) (h : IsPart rows
   -- ---- a part is a table
 
   few : length part.numbers ≤ length rows
-  few = fits (length part.numbers) (length rows) (slice_index part.numbers) (λ i l. member_below (slice_index part.numbers i) (contains_entry part.numbers i (slice_index part.numbers i) l refl))
+  few = fits (length part.numbers) (length rows) (slice_index part.numbers) (λ i l. member_below (slice_index part.numbers i) (contains_at part.numbers i (slice_index part.numbers i) l refl))
       (λ i j li lj e. stands_once part.numbers h.ascending i j li lj e)
 
   -- the gluing of the whole table that is renumbered
@@ -79,7 +72,7 @@ module _ (rows : List Row) (table : IsTable rows) (part : Part) (h : IsPart rows
       cases (Some g) n =
           let z : Some (renumbered part.numbers g) ≡ Some g' = sym (ap (option_map (renumbered part.numbers)) n) ∙ sym (glue-part k f l) ∙ e in
           let same : renumbered part.numbers g ≡ g' = cc in
-          record { in_part = l; g = g; glued = n; is = same; member = glued_member (slice_index part.numbers k) f g (contains_entry part.numbers k (slice_index part.numbers k) l refl) n }
+          record { in_part = l; g = g; glued = n; is = same; member = glued_member (slice_index part.numbers k) f g (contains_at part.numbers k (slice_index part.numbers k) l refl) n }
 
   part_apart : (k f : ℕ) (g' : Gluing) → glue part.rows (record { tet = k; face = f }) ≡ Some g' → same_face (other_side (record { tet = k; face = f }) g') (record { tet = k; face = f }) ≡ true → ⊥
   unfolding face
@@ -109,7 +102,7 @@ module _ (rows : List Row) (table : IsTable rows) (part : Part) (h : IsPart rows
     few = let a : length part.numbers ≤ length rows = few in let b : length rows ≤ 1000 = table.few in let c : length part.rows ≡ length part.numbers = length-part in omega arith;
     four_faces = All-from_get_or (λ (row : Row). length row ≡ 4) part.rows [] (λ k l. let m : k < length part.numbers = subst (λ n. k < n) length-part l in
         ap (λ (all : List Row). length (slice_index_or all k [])) h.renumbers ∙ length-row_of rows part.numbers k m ∙
-        All-get_or (λ (row : Row). length row ≡ 4) rows (slice_index part.numbers k) [] (member_below (slice_index part.numbers k) (contains_entry part.numbers k (slice_index part.numbers k) m refl)) table.four_faces);
+        All-get_or (λ (row : Row). length row ≡ 4) rows (slice_index part.numbers k) [] (member_below (slice_index part.numbers k) (contains_at part.numbers k (slice_index part.numbers k) m refl)) table.four_faces);
     permutes = λ x g' e. let d = glued_in x.tet x.face g' e in subst (λ (b : Gluing). IsPermutationOfFour b.perm) d.is (table.permutes (face (slice_index part.numbers x.tet) x.face) d.g d.glued);
     in_range = λ x g' e. let d = glued_in x.tet x.face g' e in subst (λ n. g'.tet < n) (sym length-part) (subst (λ (b : Gluing). b.tet < length part.numbers) d.is (place_of part.numbers h.ascending d.g.tet d.member).0);
     apart = λ x g' e. not_from (same_face (other_side x g') x) (part_apart x.tet x.face g' e);
@@ -147,11 +140,8 @@ module _ (rows : List Row) (table : IsTable rows) (parts : List Part) (h : ArePa
           let d' : Contains (numbers_at parts c.0) t = subst (λ (p : Part). Contains p.numbers t) (sym e) d in
           record { i = c.0; in_parts = c.1; k = d'.0; in_numbers = d'.1; is = entry_of (numbers_at parts c.0) t d' }
 
-  pub stands_in : (i t : ℕ) → i < length parts → Contains (numbers_at parts i) t → StandsAt parts t
-  stands_in i t l c = record { i = i; in_parts = l; k = c.0; in_numbers = c.1; is = entry_of (numbers_at parts i) t c }
-
   pub member_of : (t : ℕ) (s : StandsAt parts t) → Contains (numbers_at parts s.i) t
-  member_of t s = contains_entry (numbers_at parts s.i) s.k t s.in_numbers s.is
+  member_of t s = contains_at (numbers_at parts s.i) s.k t s.in_numbers s.is
 
   -- a part that holds a member of another holds its first tetrahedron
   lower : (i j t : ℕ) → i < length parts → j < length parts → Contains (numbers_at parts i) t → Contains (numbers_at parts j) t → first_of (part_at parts i) ≤ first_of (part_at parts j)

@@ -1,5 +1,5 @@
 -- Ascending numbers, their places, and rows renumbered by them.
-use Rattle.std.proofs.Common.{◌≡◌, ℕ, zero, suc, ◌<◌, ◌≤◌, inl, inr, true, false, List, [], ◌∷◌, length, map, get_or, AllPairs, Contains, None, option_map, slice_index, slice_index_or, subst, sym, ap, refl, ◌∙◌, arith}
+use Rattle.std.proofs.Common.{◌≡◌, ℕ, ◌<◌, ◌≤◌, inl, inr, true, List, [], length, map, get_or, Contains, None, option_map, slice_index, slice_index_or, subst, sym, ap, refl, ◌∙◌, arith}
 use Rattle.std.specs.Prelude.{◌==◌, nat_eq}
 use Rattle.std.specs.List.{IsDistinct, list_any}
 use Rattle.std.proofs.lemmas.Bool.{cases_order, eqb-true, eq-eqb}
@@ -8,16 +8,13 @@ use Rattle.std.proofs.lemmas.List.FromFn.{get_or-map-range_with_len, length-map-
 use Rattle.std.proofs.lemmas.List.Sums.{position_or_len_is}
 use Rattle.std.proofs.lemmas.List.Folds.{Any-from_list_any}
 use Rattle.std.proofs.lemmas.Map.Steps.{length-le_from_distinct_below}
+use Rattle.std.proofs.Math.ListN.{get_or-map as entry-map}
+use Rattle.plain_facts.proofs.Numbers.{less_unequal}
+use Rattle.plain_facts.proofs.Members.{Ascends}
 use Rattle.table_definitions.specs.Lists.{below}
-use Rattle.table_definitions.specs.Table.{Gluing, Row, glue}
+use Rattle.table_definitions.specs.Table.{Row, glue}
 use Rattle.table_definitions.proofs.Bijections.{IsDistinct-from_before}
 use Rattle.part_definitions.specs.Parts.{place_in, renumbered, rows_of}
-
-abbrev pub Ascends : List ℕ → Type 0
-Ascends numbers = AllPairs (λ t u. t < u) numbers
-
-pub differ : (a b : ℕ) → a < b → (a == b) ≡ false
-differ a b l = grind arith
 
 -- a number stands at one place
 pub stands_once : (numbers : List ℕ) → Ascends numbers → (i j : ℕ) → i < length numbers → j < length numbers → slice_index numbers i ≡ slice_index numbers j → i ≡ j
@@ -29,14 +26,11 @@ stands_once numbers h i j li lj e = elim (cases_order i j) [
 
 -- and is found there
 pub place_at : (numbers : List ℕ) → Ascends numbers → (k : ℕ) → k < length numbers → place_in numbers (slice_index numbers k) ≡ k
-place_at numbers h k l = position_or_len_is (λ u. u == slice_index numbers k) numbers k 0 (omega arith) (λ i less. differ (slice_index numbers i) (slice_index numbers k) (h i k 0 less l))
+place_at numbers h k l = position_or_len_is (λ u. u == slice_index numbers k) numbers k 0 (omega arith) (λ i less. less_unequal (slice_index numbers i) (slice_index numbers k) (h i k 0 less l))
     (λ _. eq-eqb (slice_index numbers k) (slice_index numbers k) refl)
 
 pub entry_of : (numbers : List ℕ) (t : ℕ) (c : Contains numbers t) → slice_index numbers c.0 ≡ t
 entry_of numbers t c = get_or_default numbers c.0 0 t c.1 ∙ c.2
-
-pub contains_entry : (numbers : List ℕ) (k t : ℕ) → k < length numbers → slice_index numbers k ≡ t → Contains numbers t
-contains_entry numbers k t l e = (k, l, get_or_default numbers k t 0 l ∙ e)
 
 pub place_of : (numbers : List ℕ) → Ascends numbers → (t : ℕ) → Contains numbers t → (place_in numbers t < length numbers) × (slice_index numbers (place_in numbers t) ≡ t)
 place_of numbers h t c = (subst (λ k. k < length numbers) (sym same) c.1, ap (slice_index numbers) same ∙ entry_of numbers t c)
@@ -67,15 +61,10 @@ fits n m f small apart = let l : length (map f (below n)) ≤ m = length-le_from
 
 -- ---- renumbered rows
 
-entry-option_map : (r : Gluing → Gluing) (row : Row) (f : ℕ) → slice_index_or (map (option_map r) row) f None ≡ option_map r (slice_index_or row f None)
-entry-option_map r [] f = refl
-entry-option_map r (o ∷ row) zero = refl
-entry-option_map r (o ∷ row) (suc f) = entry-option_map r row f
-
 pub glue-rows_of : (rows : List Row) (numbers : List ℕ) (k f : ℕ) → k < length numbers →
     glue (rows_of rows numbers) (record { tet = k; face = f }) ≡ option_map (renumbered numbers) (glue rows (record { tet = slice_index numbers k; face = f }))
 glue-rows_of rows numbers k f l = ap (λ (row : Row). slice_index_or row f None) (get_or-map (λ t. map (option_map (renumbered numbers)) (slice_index_or rows t [])) numbers k 0 [] l)
-    ∙ entry-option_map (renumbered numbers) (slice_index_or rows (slice_index numbers k) []) f
+    ∙ entry-map (option_map (renumbered numbers)) (slice_index_or rows (slice_index numbers k) []) f None
 
 pub length-rows_of : (rows : List Row) (numbers : List ℕ) → length (rows_of rows numbers) ≡ length numbers
 length-rows_of rows numbers = length-map numbers (λ t. map (option_map (renumbered numbers)) (slice_index_or rows t []))

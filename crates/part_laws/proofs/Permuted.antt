@@ -1,6 +1,6 @@
 -- Lists with the same elements: one is the other's entries in another order; and two of them that are in order are equal.
-use Rattle.std.proofs.Common.{◌≡◌, ◌≢◌, ℕ, zero, suc, ◌<◌, ◌≤◌, inl, inr, Bool, true, false, List, [], ◌∷◌, length, map, swap, slice_set, slice_index_or, get_or, AllPairs, Contains, IsPermutation, subst, sym, ap, ap₂, refl, ◌∙◌, arith, ext_get_or}
-use Rattle.std.specs.Prelude.{slice_index, ◌-◌, if◌then◌else◌, ◌==◌, ◌||◌, ◌&&◌, nat_lt}
+use Rattle.std.proofs.Common.{◌≡◌, ◌≢◌, ℕ, zero, suc, ◌<◌, ◌≤◌, inl, inr, Bool, false, List, [], ◌∷◌, length, map, swap, slice_set, slice_index_or, get_or, AllPairs, Contains, IsPermutation, subst, sym, ap, ap₂, refl, ◌∙◌, arith, ext_get_or}
+use Rattle.std.specs.Prelude.{slice_index, ◌-◌, if◌then◌else◌, ◌==◌}
 use Rattle.std.proofs.Common.{subst₂}
 use Rattle.std.proofs.lemmas.Bool.{cases_order}
 use Rattle.std.proofs.lemmas.Bool.{cases_eq}
@@ -10,6 +10,7 @@ use Rattle.std.proofs.lemmas.List.Sorted.{IsPermutation-refl, IsPermutation-sym,
 use Rattle.table_definitions.specs.Lists.{below, is_list_before}
 use Rattle.table_definitions.proofs.Bijections.{onto, IsDistinct-from_before}
 use Rattle.table_definitions.proofs.Carried.{permutation_below, permutation_apart}
+use Rattle.table_definitions.proofs.ListLaws.{not_before_itself}
 use Rattle.canonical_labelling.proofs.Told.{neither_before}
 use Rattle.part_laws.proofs.Numbers.{fits}
 
@@ -118,23 +119,12 @@ permuted_from xs ys t l = subst₂ IsPermutation (map-below xs) there (IsPermuta
 abbrev pub InOrder : Texts → Type 0
 InOrder texts = AllPairs (λ text later. is_list_before later text ≡ false) texts
 
-pub not_itself : (x : List ℕ) → is_list_before x x ≡ false
-not_itself [] = refl
-not_itself (a ∷ x) = rw (irreflexive a, not_itself x) (and_false (a == a))
-  where
-    irreflexive : (b : ℕ) → nat_lt b b ≡ false
-    irreflexive b = grind arith
-
-    and_false : (b : Bool) → (false || (b && false)) ≡ false
-    and_false true = refl
-    and_false false = refl
-
 -- the head isn't after any element
 head_first : (x y : List ℕ) (xs : Texts) → InOrder (x ∷ xs) → Contains (x ∷ xs) y → is_list_before y x ≡ false
 head_first x y xs h c = go c.0 c.1 c.2
   where
     go : (k : ℕ) → k < length (x ∷ xs) → slice_index_or (x ∷ xs) k y ≡ y → is_list_before y x ≡ false
-    go zero l e = subst (λ z. is_list_before z x ≡ false) e (not_itself x)
+    go zero l e = subst (λ z. is_list_before z x ≡ false) e (not_before_itself x)
     go (suc k) l e = subst (λ z. is_list_before z x ≡ false) e (h 0 (suc k) y (omega arith) l)
 
 tail_in_order : (x : List ℕ) (xs : Texts) → InOrder (x ∷ xs) → InOrder xs

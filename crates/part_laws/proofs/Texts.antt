@@ -3,6 +3,7 @@ use Rattle.std.proofs.Common.{◌≡◌, ◌≢◌, ℕ, ◌<◌, ◌≤◌, inl
 use Rattle.std.specs.Prelude.{nat_lt, ◌==◌, ◌||◌, not, if◌then◌else◌}
 use Rattle.std.proofs.lemmas.Bool.{cases_lt}
 use Rattle.std.proofs.lemmas.List.{get_or_past}
+use Rattle.plain_facts.proofs.Numbers.{not_equal}
 use Rattle.table_definitions.specs.Permutation.{index}
 use Rattle.table_definitions.specs.Table.{Row, Gluing}
 use Rattle.signature_definitions.specs.Spelling.{alphabet, character, head_values, width, in_values, packed, face_types, joined, seen_gluings, spelling_values, Spells, IsSignature}
@@ -27,9 +28,6 @@ ArePlain [] = Unit {0}
 ArePlain (text ∷ texts) = IsPlain text × ArePlain texts
 
 -- ---- the text of a signature
-
-not_equal : (a b : ℕ) → not (a == b) ≡ true → a ≢ b
-not_equal a b e same = grind arith
 
 character_below : (v : ℕ) → v < 64 → not (character v == 46) ≡ true
 character_below v l = list_all-below (λ u. not (character u == 46)) 64 refl v l

@@ -1,37 +1,16 @@
 -- Columns of two supports, word by word.
-use Rattle.std.proofs.Common.{◌≡◌, ◌≢◌, ℕ, ◌+◌, ◌-◌, ◌*◌, ◌/◌, ◌%◌, ◌^◌, ◌<◌, ◌≤◌, min, max, Bool, true, false, eqb, List, length, get_or, set, ⊎_elim, sym, ◌∙◌, ap, refl, subst, ◌⊎◌, inl, inr, arith, rules, bit_and, w64}
-use Rattle.std.proofs.lemmas.Bool.{eqb-true, eq-eqb, ne_eqb, true≢false, false≢true, cases_lt, cases_eq}
-use Rattle.std.proofs.lemmas.List.{get_or_past}
+use Rattle.std.proofs.Common.{◌≡◌, ◌≢◌, ℕ, ◌+◌, ◌-◌, ◌*◌, ◌/◌, ◌%◌, ◌^◌, ◌<◌, ◌≤◌, min, max, true, eqb, List, length, get_or, set, ⊎_elim, sym, ◌∙◌, ap, subst, ◌⊎◌, inl, inr, arith, rules, bit_and, w64}
+use Rattle.std.proofs.lemmas.Bool.{eq-eqb, ne_eqb, true≢false, cases_lt, cases_eq}
 use Rattle.std.proofs.lemmas.Nat.{and_le_l}
 use Rattle.std.proofs.lemmas.Nat.Bits.{bit_at-lt, bit_at-zero, bit_at_and, bit_at_or, bit_at_not, bit_at-pow_same, bit_at-pow_other, bit_at_above, bit_at_cat_low, bit_at_cat_high, bit_at-trailing_zeros}
-use Rattle.std.specs.Prelude.{IsTrue, ◌↔◌, ◌||◌, not}
+use Rattle.std.specs.Prelude.{IsTrue, ◌↔◌, not}
 use Rattle.std.specs.Int.{bit_at, bit_not, trailing_zeros}
 use Rattle.support_bits.specs.Words.{bit_of}
-use Rattle.support_bits.proofs.WordLemmas.{common_bit, no_common_bit}
+use Rattle.support_bits.proofs.WordLemmas.{common_bit, no_common_bit, word_of_column, is_one, bit_of-column, within_words}
 use Rattle.quad_condition.specs.Bits.{IsOfEither, word_of_either, word_ahead, HasPairAhead, IsMarkedIn, HasTwo, HasFrom, HasTwoBits}
 
--- bits of words, and columns
-is_one : (n i : ℕ) → eqb (bit_at n i) 1 ≡ true → bit_at n i ≡ 1
-is_one n i h = eqb-true (bit_at n i) 1 h
-
-column_word : (k i : ℕ) → i < 64 → (64 * k + i) / 64 ≡ k
-column_word k i h = omega arith
-
-column_bit : (k i : ℕ) → i < 64 → (64 * k + i) % 64 ≡ i
-column_bit k i h = omega arith
-
 set_at : (words : List ℕ) (k i : ℕ) → i < 64 → bit_at (get_or words k 0) i ≡ 1 → bit_of words (64 * k + i) ≡ true
-set_at words k i h e =
-    ap (λ j. eqb (bit_at (get_or words j 0) ((64 * k + i) % 64)) 1) (column_word k i h) ∙ ap (λ j. eqb (bit_at (get_or words k 0) j) 1) (column_bit k i h) ∙ eq-eqb (bit_at (get_or words k 0) i) 1 e
-
-in_words : (words : List ℕ) (column : ℕ) → bit_of words column ≡ true → column / 64 < length words
-in_words words column set = ⊎_elim (λ h. h) (λ h. absurd (past h)) (cases_lt (column / 64) (length words))
-  where
-    past : length words ≤ column / 64 → ⊥
-    past h =
-        let one : bit_at (get_or words (column / 64) 0) (column % 64) ≡ 1 = is_one (get_or words (column / 64) 0) (column % 64) set in
-        let none : bit_at (get_or words (column / 64) 0) (column % 64) ≡ 0 = ap (λ n. bit_at n (column % 64)) (get_or_past words (column / 64) 0 h) ∙ bit_at-zero (column % 64) in
-        omega arith
+set_at words k i h e = bit_of-column words k i h ∙ eq-eqb (bit_at (get_or words k 0) i) 1 e
 
 -- the words of either
 either_one : (m n x y : ℕ) → m < 2 → n < 2 → max m n ≡ 1 → (m ≡ 1) ⊎ (n ≡ 1)
@@ -158,7 +137,7 @@ pub no_pair : (mask a b : List ℕ) (d : ℕ) → ((k : ℕ) → word_of_either 
 no_pair mask a b d fits some few none h =
     let k : ℕ = h.column / 64 in
     let i : ℕ = h.column % 64 in
-    no_common_bit (bit_and (get_or mask k 0) (word_of_either a b k)) (word_ahead (word_of_either a b k) (word_of_either a b (k + 1)) d) i (none k (in_words mask h.column h.marked))
+    no_common_bit (bit_and (get_or mask k 0) (word_of_either a b k)) (word_ahead (word_of_either a b k) (word_of_either a b (k + 1)) d) i (none k (within_words mask h.column h.marked))
     (and_at (get_or mask k 0) (word_of_either a b k) i (is_one (get_or mask k 0) i h.marked) (bit_of_either a b h.column h.here))
     (column_ahead a b h.column d (fits k) some few h.ahead)
 
@@ -184,18 +163,18 @@ some_marked mask a b k fits some =
 pub from_at : (mask a b : List ℕ) (from k : ℕ) → get_or mask k 0 < 2 ^ 64 → from ≤ k → marked_word mask a b k ≢ 0 → HasFrom mask a b from
 from_at mask a b from k fits low some =
     let f = some_marked mask a b k fits some in
-    record { column = 64 * k + f.0; late = subst (λ n. from ≤ n) (sym (column_word k f.0 f.1)) low; is_in = marked_at mask a b k f.0 f.1 f.2 }
+    record { column = 64 * k + f.0; late = subst (λ n. from ≤ n) (sym (word_of_column k f.0 f.1)) low; is_in = marked_at mask a b k f.0 f.1 f.2 }
 
 nonzero_word : (n i : ℕ) → n ≡ 0 → bit_at n i ≡ 1 → ⊥
 nonzero_word n i z e = let none : bit_at n i ≡ 0 = ap (λ m. bit_at m i) z ∙ bit_at-zero i in omega arith
 
 pub none_from : (mask a b : List ℕ) (from : ℕ) → ((k : ℕ) → from ≤ k → k < length mask → marked_word mask a b k ≡ 0) → HasFrom mask a b from → ⊥
 none_from mask a b from none h =
-    nonzero_word (marked_word mask a b (h.column / 64)) (h.column % 64) (none (h.column / 64) h.late (in_words mask h.column h.is_in.marked)) (at_marked mask a b h.column h.is_in)
+    nonzero_word (marked_word mask a b (h.column / 64)) (h.column % 64) (none (h.column / 64) h.late (within_words mask h.column h.is_in.marked)) (at_marked mask a b h.column h.is_in)
 
 pub none_two : (mask a b : List ℕ) → ((k : ℕ) → k < length mask → marked_word mask a b k ≡ 0) → HasTwo mask a b → ⊥
 none_two mask a b none h =
-    nonzero_word (marked_word mask a b (h.first / 64)) (h.first % 64) (none (h.first / 64) (in_words mask h.first h.first_in.marked)) (at_marked mask a b h.first h.first_in)
+    nonzero_word (marked_word mask a b (h.first / 64)) (h.first % 64) (none (h.first / 64) (within_words mask h.first h.first_in.marked)) (at_marked mask a b h.first h.first_in)
 
 -- two in the first word that isn't 0, or one there and one behind it
 pub two_in_word : (mask a b : List ℕ) (k : ℕ) → HasTwoBits (marked_word mask a b k) → HasTwo mask a b
@@ -210,7 +189,7 @@ two_in_word mask a b k h = record {
 pub one_and_later : (mask a b : List ℕ) (k : ℕ) → get_or mask k 0 < 2 ^ 64 → marked_word mask a b k ≢ 0 → HasFrom mask a b (k + 1) → HasTwo mask a b
 one_and_later mask a b k fits some h =
     let f = some_marked mask a b k fits some in
-    let here : (64 * k + f.0) / 64 ≡ k = column_word k f.0 f.1 in
+    let here : (64 * k + f.0) / 64 ≡ k = word_of_column k f.0 f.1 in
     let late : k + 1 ≤ h.column / 64 = h.late in
     record {
       first = 64 * k + f.0;
@@ -305,8 +284,3 @@ pub pair_is : (mask a b : List ℕ) (d k h n r : ℕ) → h ≡ word_of_either a
 pair_is mask a b d k h n r e f g =
     let m : ℕ = get_or mask k 0 in
     ap (λ w. bit_and (bit_and m h) w) g ∙ ap (λ w. bit_and (bit_and m w) (word_ahead w n d)) e ∙ ap (λ w. bit_and (bit_and m (word_of_either a b k)) (word_ahead (word_of_either a b k) w d)) f
-
--- an answer with two reasons
-pub either_reason : (x y : Bool) {A B C : Type 0} → (IsTrue x ↔ A) → (IsTrue y ↔ B) → (A → C) → (B → C) → (C → A ⊎ B) → IsTrue (x || y) ↔ C
-either_reason true y p q f g h = ((λ _. f (p.0 refl)), (λ _. refl))
-either_reason false y p q f g h = ((λ t. g (q.0 t)), (λ z. ⊎_elim (λ a. absurd (false≢true (p.1 a))) (λ b. q.1 b) (h z)))

@@ -1,11 +1,9 @@
 -- Masks of columns, and the clashing pairs that they find.
-use Rattle.std.proofs.Common.{◌≡◌, ◌≢◌, ℕ, zero, suc, ◌+◌, ◌-◌, ◌*◌, ◌/◌, ◌%◌, ◌<◌, ◌≤◌, Bool, true, false, cond, eqb, List, [], ◌∷◌, ◌++◌, length, map, filter, replicate, get_or, Vec, ⊎_elim, sym, ◌∙◌, ap, refl, subst, ◌⊎◌, inl, inr, arith}
-use Rattle.std.specs.Prelude.{◌==◌, ◌&&◌, ◌||◌, not, nat_lt, nat_le, IsTrue, ◌↔◌}
+use Rattle.std.proofs.Common.{◌≡◌, ◌≢◌, ℕ, zero, suc, ◌+◌, ◌-◌, ◌*◌, ◌/◌, ◌%◌, ◌<◌, ◌≤◌, Bool, true, false, cond, List, [], ◌∷◌, ◌++◌, length, map, filter, get_or, Vec, ⊎_elim, sym, ◌∙◌, ap, refl, subst, ◌⊎◌, inl, inr, arith}
+use Rattle.std.specs.Prelude.{◌==◌, ◌&&◌, not, nat_lt, nat_le, IsTrue, ◌↔◌}
 use Rattle.std.specs.List.{All, flat_map}
-use Rattle.std.specs.Int.{bit_at}
 use Rattle.std.specs.declared.alloc.Global.{Global}
-use Rattle.std.proofs.lemmas.Bool.{eqb-true, eq-eqb, ltb-true, lt-ltb, le-ltb, leb-true, le-leb, and_parts, and_from, and_left, or_left, or_right, cases_eq, cases_order, false≢true, false_from_ne_true}
-use Rattle.std.proofs.lemmas.Nat.Bits.{bit_at-zero}
+use Rattle.std.proofs.lemmas.Bool.{eqb-true, eq-eqb, ltb-true, lt-ltb, le-ltb, leb-true, le-leb, and_parts, and_from, and_left, or_left, or_right, cases_eq, cases_order, false≢true, false_from_ne_true, or_cases}
 use Rattle.std.proofs.lemmas.List.Elements.{All-map, All-append, All-cons}
 use Rattle.std.proofs.lemmas.List.FromFn.{get_or-range_with_len, length-range_with_len}
 use Rattle.support_bits.specs.Words.{bit_of, AreWordsOf}
@@ -19,16 +17,6 @@ use Rattle.quad_condition.specs.Bits.{IsOfEither, IsMarkedIn, HasTwo}
 use Rattle.quad_condition.specs.Marks.{is_marked, AreMarks, AreNear, AreMasks, HasNear}
 use Rattle.quad_condition.proofs.Pairs.{Pairs, IsPrefix, prefix_by, pairs_prefix, partners_before, partners_more, pairs_before, all_pairs}
 use Rattle.matching_equations.proofs.Ranges.{flat_map-more}
-
--- words of no column
-zeros_at : (m j : ℕ) → get_or {A = ℕ} (replicate m 0) j 0 ≡ 0
-zeros_at zero j = refl
-zeros_at (suc m) zero = refl
-zeros_at (suc m) (suc j) = zeros_at m j
-
-pub no_marks : (m k : ℕ) (marked : Bool) → bit_of (replicate m 0) k ≡ (nat_lt k 0 && marked)
-no_marks m k marked =
-    ap (λ n. eqb (bit_at n (k % 64)) 1) (zeros_at m (k / 64)) ∙ ap (λ n. eqb n 1) (bit_at-zero (k % 64)) ∙ sym (and_left (nat_lt k 0) marked (le-ltb k 0 (omega arith)))
 
 -- one column more
 below_other : (k column : ℕ) → k ≢ column → nat_lt k (column + 1) ≡ nat_lt k column
@@ -174,10 +162,6 @@ octagon_clash coords c e low_c low_e =
     or_left (is_octagon coords c && is_octagon coords e) (((c / columns_each coords == e / columns_each coords) && is_quad_or_octagon coords c) && is_quad_or_octagon coords e)
     (and_from (is_octagon coords c) (is_octagon coords e) (le-leb 7 (c % columns_each coords) low_c) (le-leb 7 (e % columns_each coords) low_e))
 
-or_parts_true : (x y : Bool) → (x || y) ≡ true → (x ≡ true) ⊎ (y ≡ true)
-or_parts_true true y e = inl refl
-or_parts_true false y e = inr e
-
 -- supports and their words
 in_union : (sa sb : List Bool) (a b : List ℕ) (column : ℕ) → AreWordsOf sa a → AreWordsOf sb b → IsOfEither a b column → IsInUnion sa sb column
 in_union sa sb a b column p q (inl h) = inl (sym (p.bits column) ∙ h)
@@ -225,7 +209,7 @@ pub free_of_clashes : (coords : Coords) (n : ℕ) (near : List (Vec ℕ Global))
 free_of_clashes coords n near mask sa sb a b marks p q no_near no_two =
     all_of_pairs (λ x. ¬ (IsInUnion sa sb x.0 × IsInUnion sa sb x.1)) coords n (λ c e less within clashes both.
     ⊎_elim (octagon c e less within both) (one_tet c e less within both)
-    (or_parts_true (is_octagon coords c && is_octagon coords e) (((c / columns_each coords == e / columns_each coords) && is_quad_or_octagon coords c) && is_quad_or_octagon coords e) clashes))
+    (or_cases (is_octagon coords c && is_octagon coords e) (((c / columns_each coords == e / columns_each coords) && is_quad_or_octagon coords c) && is_quad_or_octagon coords e) clashes))
   where
     place_below : (coords : Coords) (c : ℕ) → c % columns_each coords + 0 < columns_each coords
     place_below Standard c = omega arith

@@ -2,11 +2,11 @@
 use Rattle.std.proofs.Common.{◌≡◌, ◌≢◌, ℕ, zero, suc, ◌+◌, ◌<◌, Bool, true, false, ℤ, List, [], ◌∷◌, length, get_or, Option, Some, None, inl, inr, refl, sym, ap, ◌∙◌, subst, arith, add-zero}
 use Rattle.std.specs.List.{All, find}
 use Rattle.std.specs.Prelude.{◌==◌, ◌||◌, ◌↔◌, nat_lt, if◌then◌else◌, Result, Ok, Err, IsOk}
-use Rattle.std.proofs.lemmas.Bool.{eq-eqb, ne_eqb, le-ltb, lt-ltb, or_from}
+use Rattle.std.proofs.lemmas.Bool.{eq-eqb, ne_eqb, le-ltb, lt-ltb, or_from, or_right}
 use Rattle.surface_definitions.specs.Verdict.{Verdict, solution, both_nonzero, row_fault, rows_verdict, or_else, clash_verdict, verdict}
 use Rattle.cone_definitions.specs.Rows.{plus_part, minus_part, IsZeroAt}
 use Rattle.surface_definitions.specs.Laws.{IsAccepted}
-use Rattle.surface_definitions.proofs.VerdictLaws.{accepted_by, accepted-verdict}
+use Rattle.surface_definitions.proofs.VerdictLaws.{accepted_by, accepted-verdict, fault_by, none-row_fault}
 use Rattle.cone_definitions.specs.Elimination.{HasLargePart}
 use Rattle.cone_core.specs.Sparse.{ArePartsWithin}
 use Rattle.cone_core.specs.Faults.{IsMetAt, AreMetBefore, SolutionFails}
@@ -19,26 +19,15 @@ use Rattle.quad_condition.specs.Faults.{fault_of}
 abbrev pub SparseRow : Type 0
 SparseRow = List (ℕ × ℤ)
 
-abbrev fault_by : ℕ → Bool → Bool → Option VectorFault
-fault_by i l e = if l then Some (Large i) else (if e then None else Some (NotSolution i))
-
 fault_met : (max i : ℕ) (row : SparseRow) (x : List ℕ) → IsMetAt max x row → row_fault max i row x ≡ None
-fault_met max i row x met =
-    let l : (nat_lt max (plus_part row x) || nat_lt max (minus_part row x)) ≡ false =
-    or_from (nat_lt max (plus_part row x)) (nat_lt max (minus_part row x)) (le-ltb max (plus_part row x) met.within.plus) (le-ltb max (minus_part row x) met.within.minus) in
-    let e : (plus_part row x == minus_part row x) ≡ true = eq-eqb (plus_part row x) (minus_part row x) met.zero in
-    λ k. fault_by i (l k) (e k)
-
-or_second : (a b : Bool) → b ≡ true → (a || b) ≡ true
-or_second true b e = refl
-or_second false b e = e
+fault_met max i row x met = none-row_fault max i row x met.zero (met.within.plus, met.within.minus)
 
 fault_large : (max i : ℕ) (row : SparseRow) (x : List ℕ) → HasLargePart max row x → row_fault max i row x ≡ Some (Large i)
 fault_large max i row x h = ap (λ l. fault_by i l (plus_part row x == minus_part row x)) (test h)
   where
     test : HasLargePart max row x → (nat_lt max (plus_part row x) || nat_lt max (minus_part row x)) ≡ true
     test (inl p) = ap (λ b. b || nat_lt max (minus_part row x)) (lt-ltb max (plus_part row x) p)
-    test (inr m) = or_second (nat_lt max (plus_part row x)) (nat_lt max (minus_part row x)) (lt-ltb max (minus_part row x) m)
+    test (inr m) = or_right (nat_lt max (plus_part row x)) (nat_lt max (minus_part row x)) (lt-ltb max (minus_part row x) m)
 
 fault_fails : (max i : ℕ) (row : SparseRow) (x : List ℕ) → ArePartsWithin max row x → (IsZeroAt row x → ⊥) → row_fault max i row x ≡ Some (NotSolution i)
 fault_fails max i row x within not_zero =

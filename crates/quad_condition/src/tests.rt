@@ -4,6 +4,7 @@ use gluing_table::{Glue, Table};
 use matching_equations::{Coords, matching_system};
 use no_memory::NoMemory;
 use perm_four::Perm4;
+use support_bits::Support;
 
 fn by(tet: u32, word: &[u8]) -> Option<Glue> {
     match Perm4::from_word(word) {
@@ -58,5 +59,29 @@ fn octagons_of_two_tetrahedra_clash(rt: HostRuntime) -> Result<(), NoMemory> {
         &[(0u32, 1u32), (0, 2), (1, 2), (3, 4), (3, 5), (4, 5)][..]
     );
     assert_eq!(rt; clash_list(rt.alloc(), Coords::Octagon, 2)?.len(), 39);
+    Ok(())
+}
+
+#[test]
+fn clashing_supports_are_told(rt: HostRuntime) -> Result<(), NoMemory> {
+    let alloc = rt.alloc();
+    let quads = Masks::new(alloc, Coords::Quad, 1)?;
+    let first = Support::of(alloc, &[1, 0, 0])?;
+    let last = Support::of(alloc, &[0, 0, 5])?;
+    assert!(rt; quads.allows(&first, &first));
+    assert!(rt; !quads.allows(&first, &last));
+    let octagons = Masks::new(alloc, Coords::Octagon, 2)?;
+    let mut x = [0u128; 20];
+    x[7] = 1;
+    let octagon = Support::of(alloc, &x)?;
+    x[7] = 0;
+    x[17] = 1;
+    let other = Support::of(alloc, &x)?;
+    x[17] = 0;
+    x[14] = 1;
+    let quad = Support::of(alloc, &x)?;
+    assert!(rt; octagons.allows(&octagon, &quad));
+    assert!(rt; !octagons.allows(&octagon, &other));
+    assert!(rt; !octagons.allows(&quad, &other));
     Ok(())
 }

@@ -1,23 +1,21 @@
 -- What a crossing says of the two vertices.
 use Rattle.std.proofs.Common.{◌≡◌, ◌≢◌, ℕ, zero, suc, ◌+◌, ◌*◌, ◌/◌, ◌%◌, ◌<◌, ◌≤◌, Bool, true, false, List, [], ◌∷◌, length, Option, Some, None, option_map, refl, sym, ap, ◌∙◌, subst, arith}
 use Rattle.std.specs.Prelude.{slice_index, ◌==◌, if◌then◌else◌}
-use Rattle.std.specs.List.{slice_index_or}
 use Rattle.std.proofs.lemmas.Bool.{or_parts, eqb-false}
 use Rattle.table_definitions.specs.Lists.{has}
 use Rattle.table_definitions.specs.Permutation.{IsPermutationOfFour, image}
 use Rattle.table_definitions.specs.Table.{Gluing, Row, Face, glue, IsTable}
 use Rattle.table_definitions.specs.Places.{carried}
-use Rattle.table_definitions.proofs.PermutationLaws.{image_below}
+use Rattle.table_definitions.proofs.PermutationLaws.{image_below, images_apart}
 use Rattle.skeleton_definitions.specs.Links.{vertex_number}
 use Rattle.skeleton_definitions.specs.Skeleton.{Skeleton, IsSkeleton}
 use Rattle.skeleton.specs.Crossings.{crossed_vertex, vertex_at}
-use Rattle.skeleton.specs.Neighbours.{row_at}
 use Rattle.surface_definitions.specs.declared.Coords.TheVariants.{Quad}
 use Rattle.surface_definitions.specs.Coordinates.{quad_column, keeping}
 use Rattle.vector_laws.specs.LiftLaws.{AreHeights}
 use Rattle.vector_laws.proofs.Glued.{IsGlued, glued_is, face_at}
 use Rattle.vector_laws.proofs.Vertices.{one_vertex, number-vertex, across_is, class_across}
-use Rattle.vector_laws.proofs.Turns.{keeping_below, images_apart}
+use Rattle.vector_laws.proofs.Turns.{keeping_below}
 use Rattle.quad_lift.specs.Crossings.{IsCrossing}
 use Rattle.quad_lift.specs.Spreads.{quads_beside}
 
@@ -77,13 +75,6 @@ crossed_none rows i f free = go (has (i % 4 ∷ []) f) refl
     go : (b : Bool) → has (i % 4 ∷ []) f ≡ b → option_map vertex_at (if b then None else option_map (λ g. carried g (one_vertex (i / 4) (i % 4))) (glue rows (record { tet = i / 4; face = f }))) ≡ None
     go true e = refl
     go false e = ap (λ o. option_map vertex_at (option_map (λ g. carried g (one_vertex (i / 4) (i % 4))) o)) (free (eqb-false (i % 4) f (or_parts (i % 4 == f) false e).0))
-
-pub entry_at : (next : ℕ → ℕ → Option ℕ) (i f : ℕ) → f < 4 → slice_index_or (row_at next i) f None ≡ next i f
-entry_at next i zero l = refl
-entry_at next i (suc zero) l = refl
-entry_at next i (suc (suc zero)) l = refl
-entry_at next i (suc (suc (suc zero))) l = refl
-entry_at next i (suc (suc (suc (suc f)))) l = absurd (omega arith)
 
 -- the tetrahedron behind a face
 pub record IsBehind (rows : List Row) (g : Gluing) : Type 0 where

@@ -3,10 +3,10 @@ use Rattle.std.proofs.Common.{◌≡◌, ℕ, zero, suc, ◌+◌, ◌*◌, ◌/�
 use Rattle.std.specs.Prelude.{sum, sum_by, slice_index, if◌then◌else◌}
 use Rattle.std.specs.List.{slice_index_or}
 use Rattle.std.proofs.lemmas.Bool.{cases_lt}
-use Rattle.std.proofs.lemmas.List.{get_or-set_same, get_or-set_other, take_more, take_all}
-use Rattle.std.proofs.lemmas.List.Sums.{sum_by-append, sum_by-cons}
+use Rattle.std.proofs.lemmas.List.{get_or-set_same, get_or-set_other, take_all}
+use Rattle.std.proofs.lemmas.List.Sums.{sum_by-append, sum_by-cons, sum_by_more}
 use Rattle.table_definitions.specs.Lists.{below}
-use Rattle.gluing_table.proofs.Bijections.{below-push}
+use Rattle.table_definitions.proofs.Bijections.{below-push}
 use Rattle.quad_lift.specs.Spreads.{quads_beside, marked_quads}
 
 abbrev term : List ℕ → List Bool → ℕ → ℕ
@@ -68,21 +68,14 @@ beside_is : (xs : List ℕ) (t k : ℕ) → k < 4 → quads_beside xs (4 * t + k
 unfolding quads_beside three_of
 beside_is xs t k l = let e : (4 * t + k) / 4 ≡ t = omega arith in ap (three_of xs) e
 
-sum-more : (xs : List ℕ) (i : ℕ) → i < length xs → sum (take (i + 1) xs) ≡ sum (take i xs) + slice_index xs i
-sum-more xs i l =
-    let e : sum (take i xs ++ slice_index xs i ∷ []) ≡ sum (take i xs) + sum (slice_index xs i ∷ []) = sum_by-append (λ x. x) (take i xs) (slice_index xs i ∷ []) in
-    let g : sum (slice_index xs i ∷ []) ≡ slice_index xs i + sum [] = sum_by-cons (λ x. x) (slice_index xs i) [] in
-    let z : sum [] ≡ 0 = refl in
-    ap sum (take_more xs i 0 l) ∙ omega arith
-
 three-more : (xs : List ℕ) (t : ℕ) → 3 * (t + 1) ≤ length xs → sum (take (3 * (t + 1)) xs) ≡ sum (take (3 * t) xs) + three_of xs t
 unfolding three_of
 three-more xs t l =
     let e : 3 * (t + 1) ≡ (3 * t + 2) + 1 = omega arith in
     let f : (3 * t + 1) + 1 ≡ 3 * t + 2 = omega arith in
-    let a : sum (take (3 * (t + 1)) xs) ≡ sum (take (3 * t + 2) xs) + slice_index xs (3 * t + 2) = ap (λ i. sum (take i xs)) e ∙ sum-more xs (3 * t + 2) (omega arith) in
-    let b : sum (take (3 * t + 2) xs) ≡ sum (take (3 * t + 1) xs) + slice_index xs (3 * t + 1) = ap (λ i. sum (take i xs)) (sym f) ∙ sum-more xs (3 * t + 1) (omega arith) in
-    let c : sum (take (3 * t + 1) xs) ≡ sum (take (3 * t) xs) + slice_index xs (3 * t) = sum-more xs (3 * t) (omega arith) in
+    let a : sum (take (3 * (t + 1)) xs) ≡ sum (take (3 * t + 2) xs) + slice_index xs (3 * t + 2) = ap (λ i. sum (take i xs)) e ∙ sum_by_more (λ n. n) xs (3 * t + 2) 0 (omega arith) in
+    let b : sum (take (3 * t + 2) xs) ≡ sum (take (3 * t + 1) xs) + slice_index xs (3 * t + 1) = ap (λ i. sum (take i xs)) (sym f) ∙ sum_by_more (λ n. n) xs (3 * t + 1) 0 (omega arith) in
+    let c : sum (take (3 * t + 1) xs) ≡ sum (take (3 * t) xs) + slice_index xs (3 * t) = sum_by_more (λ n. n) xs (3 * t) 0 (omega arith) in
     omega arith
 
 four-more : (xs : List ℕ) (marked : List Bool) (t : ℕ) → marked_quads xs marked (4 * (t + 1)) ≤ marked_quads xs marked (4 * t) + 4 * three_of xs t

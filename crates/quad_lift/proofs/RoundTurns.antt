@@ -7,8 +7,9 @@ use Rattle.finite_walks.proofs.SearchLemmas.{turn_ends}
 use Rattle.table_definitions.specs.Table.{Row, glue}
 use Rattle.skeleton.specs.Crossings.{crossed_vertex}
 use Rattle.skeleton.specs.Neighbours.{row_at}
+use Rattle.skeleton.proofs.NeighbourLemmas.{entry_at}
 use Rattle.quad_lift.specs.Spreads.{vertices_round, round_before}
-use Rattle.quad_lift.proofs.CrossingLemmas.{crossed_none, entry_at}
+use Rattle.quad_lift.proofs.CrossingLemmas.{crossed_none}
 
 module _ (rows : List Row) (first : List Bool) (i f : ℕ) (l : f < 4) (marked : List Bool) (pending : List ℕ) (t : IsTurn (vertices_round rows) first i (round_before rows i f) marked pending) where
   abbrev row : List (Option ℕ)

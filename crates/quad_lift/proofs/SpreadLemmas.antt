@@ -15,12 +15,13 @@ use Rattle.skeleton_definitions.specs.Links.{vertex_number}
 use Rattle.skeleton_definitions.specs.Skeleton.{Skeleton, IsSkeleton}
 use Rattle.skeleton.specs.Crossings.{crossed_vertex, vertex_at}
 use Rattle.skeleton.specs.Neighbours.{row_at}
+use Rattle.skeleton.proofs.NeighbourLemmas.{entry_at}
 use Rattle.vector_laws.specs.LiftLaws.{AreHeights}
 use Rattle.vector_laws.proofs.Glued.{IsGlued, glued_is, face_at}
 use Rattle.vector_laws.proofs.Vertices.{one_vertex, vertex_is, number-vertex, IsCrossed, crossed_is, across_is}
 use Rattle.quad_lift.specs.Spreads.{vertices_round, quads_beside, marked_quads, AreSpread, AreAllSpread}
 use Rattle.quad_lift.specs.Crossings.{IsCrossing}
-use Rattle.quad_lift.proofs.CrossingLemmas.{IsCrossedTo, crossed_to, entry_at}
+use Rattle.quad_lift.proofs.CrossingLemmas.{IsCrossedTo, crossed_to}
 use Rattle.quad_lift.proofs.MarkedQuads.{mark_adds, few_quads}
 
 -- closed marks of one vertex are marks of its class

@@ -11,8 +11,8 @@ use Rattle.table_definitions.specs.Table.{Row, IsTable}
 use Rattle.table_definitions.specs.declared.TextFault.{TextFault}
 use Rattle.table_definitions.specs.TableText.{lexed, table_at, tri_table_at}
 use Rattle.table_definitions.specs.Grammar.{AreTriLines}
-use Rattle.table_definitions.proofs.ListLaws.{same_list-true}
 use Rattle.table_definitions.proofs.TableReadingLaws.{lexed_ok, tri_table_read}
+use Rattle.table_definitions.proofs.ListFacts.{same_list-true}
 use Rattle.signature_definitions.specs.declared.SigFault.{SigFault}
 use Rattle.signature_definitions.specs.declared.InputFault.{InputFault}
 use Rattle.signature_definitions.specs.SignatureText.{texted, decoded, signature_table, signature_at, named_table_at, any_table_at}

@@ -4,19 +4,20 @@ use Rattle.std.specs.Prelude.{Ok, nat_le, is_some, filter_map, sum_by, ◌||◌,
 use Rattle.std.specs.List.{slice_index_or, list_all, range_with_len}
 use Rattle.std.proofs.lemmas.Bool.{lt-ltb, le-ltb}
 use Rattle.std.proofs.lemmas.List.Sums.{sum_by-cons, sum_by-append}
+use Rattle.plain_facts.proofs.Truths.{if_false}
 use Rattle.table_definitions.specs.Lists.{below, times_in}
 use Rattle.table_definitions.specs.Permutation.{identity, words, index, IsPermutationOfFour}
-use Rattle.table_definitions.specs.Table.{Gluing, Row, Face, IsTable, glue, other_side, same_face, is_face_before}
+use Rattle.table_definitions.specs.Table.{Gluing, Row, Face, IsTable, glue, other_side, same_face, is_face_before, face_number}
 use Rattle.signature_definitions.specs.declared.SigFault.TheVariants as sig_faults
 use Rattle.signature_definitions.specs.WalkOrder.{is_seen, is_ordered_at, IsWalkOrdered}
 use Rattle.signature_definitions.specs.Spelling.{type_of, seen_gluing}
 use Rattle.signature_definitions.specs.SignatureText as signatures
 use Rattle.signature_definitions.specs.SignatureText.{faces_of_type}
-use Rattle.perm_four.proofs.ListFacts.{list_all-below}
-use Rattle.perm_four.proofs.Permutations.{image_below, words_at}
-use Rattle.signature_codec.specs.Slots.{Slots, place_of, face_at, slot, meet_at, slot_boundary, slot_glued, slot_type, with_types, slot_next, slot_face, slot_faces}
+use Rattle.table_definitions.proofs.ListFacts.{list_all-below}
+use Rattle.table_definitions.proofs.Permutations.{image_below, words_at}
+use Rattle.signature_codec.specs.Slots.{Slots, face_at, slot, meet_at, slot_boundary, slot_glued, slot_type, with_types, slot_next, slot_face, slot_faces}
 use Rattle.signature_codec.specs.Walks.{Walking, take_face, IsWalk}
-use Rattle.signature_codec.proofs.ReadLaws.{next_ok, else_of}
+use Rattle.signature_codec.proofs.ReadLaws.{next_ok}
 use Rattle.signature_codec.proofs.Simulation.{faces-places}
 use Rattle.signature_codec.proofs.WalkLaws.{takes_on, takes_off, list_all-map}
 use Rattle.signature_codec.proofs.Stepping.{free, place-face_at}
@@ -86,7 +87,7 @@ slot_here k s o e = ap (λ p. get_or s.met p None) (place-face_at k) ∙ e
 type_goes : (k type : ℕ) (ts : List ℕ) (s : Slots) → k / 4 < s.seen → get_or s.met k None ≡ None → s.parts.types ≡ type ∷ ts → slot_face (face_at k) s ≡ slot_type (face_at k) type (with_types ts s)
 type_goes k type ts s l e types =
     face_goes k s l ∙ ap (λ us. slot_next (face_at k) us s) types
-    ∙ else_of (is_some (slot s.met (face_at k))) (Ok s) (slot_type (face_at k) type (with_types ts s)) (ap is_some (slot_here k s None e))
+    ∙ if_false (is_some (slot s.met (face_at k))) (Ok s) (slot_type (face_at k) type (with_types ts s)) (ap is_some (slot_here k s None e))
 
 times-behind : (type : ℕ) (ts : List ℕ) → times_in (ts ++ type ∷ []) 1 ≡ times_in ts 1 + (if type == 1 then 1 else 0)
 times-behind type ts = let a = sum_by-append (λ m. cond (m == 1) 1 0) ts (type ∷ []) in let b = sum_by-cons (λ m. cond (m == 1) 1 0) type [] in omega (arith, a, b)
@@ -137,7 +138,7 @@ follow_step rows k m w v s table l walk f r hx (took_met g e early same) =
     let met = f.met in
     let seen = f.seen in
     let face = image_below g.perm (table.permutes (face_at k) g e) (k % 4) (omega arith) in
-    let before : is_face_before (other_side (face_at k) g) (face_at k) ≡ true = before_at k g face ∙ lt-ltb (place_of (other_side (face_at k) g)) k early in
+    let before : is_face_before (other_side (face_at k) g) (face_at k) ≡ true = before_at k g face ∙ lt-ltb (face_number (other_side (face_at k) g)) k early in
     let type : type_at rows (face_at k) ≡ None = ap (type_of rows (face_at k)) e ∙ rw before refl in
     let none : gluing_at rows (face_at k) ≡ None = ap (seen_gluing rows (face_at k)) e ∙ rw before refl in
     let here : get_or s.met k None ≡ Some (Some g) = met.partner k g (omega arith) l e early in
@@ -157,7 +158,7 @@ follow_step rows k m w v s table l walk f r hx (took_old g e late old same) =
     let met = f.met in
     let seen = f.seen in
     let face = image_below g.perm (table.permutes (face_at k) g e) (k % 4) (omega arith) in
-    let before : is_face_before (other_side (face_at k) g) (face_at k) ≡ false = before_at k g face ∙ le-ltb (place_of (other_side (face_at k) g)) k late in
+    let before : is_face_before (other_side (face_at k) g) (face_at k) ≡ false = before_at k g face ∙ le-ltb (face_number (other_side (face_at k) g)) k late in
     let is_old : is_seen rows (face_at k) g.tet ≡ true = walk.seen g.tet ∙ lt-ltb g.tet w.seen old in
     let type : type_at rows (face_at k) ≡ Some 2 = ap (type_of rows (face_at k)) e ∙ rw (before, is_old) refl in
     let some : gluing_at rows (face_at k) ≡ Some g = ap (seen_gluing rows (face_at k)) e ∙ rw (before, is_old) refl in
@@ -181,7 +182,7 @@ follow_step rows k m w v s table l walk f r hx (took_old g e late old same) =
     }
   where
     glued_goes : (k : ℕ) (d i : ℕ × ℕ) (g : Gluing) (met : List (Option (Option Gluing))) (seen : ℕ) (parts : signatures.Parts) → d.0 ≡ g.tet → i.0 ≡ index g.perm → IsPermutationOfFour g.perm → g.tet < seen
-        → same_face (other_side (face_at k) g) (face_at k) ≡ false → get_or met (place_of (other_side (face_at k) g)) None ≡ None
+        → same_face (other_side (face_at k) g) (face_at k) ≡ false → get_or met (face_number (other_side (face_at k) g)) None ≡ None
         → slot_glued (face_at k) d i (record { met = met; seen = seen; parts = parts }) ≡ Ok (record { met = meet_at met (face_at k) g; seen = seen; parts = parts })
     glued_goes k d i g met seen parts hd hi permutes lt apart free_other =
         let h : Gluing = record { tet = d.0; perm = slice_index_or words i.0 [] } in
@@ -204,7 +205,7 @@ follow_step rows k m w v s table l walk f r hx (took_new g e late same_tet id sa
     let met = f.met in
     let seen = f.seen in
     let face = image_below g.perm (table.permutes (face_at k) g e) (k % 4) (omega arith) in
-    let before : is_face_before (other_side (face_at k) g) (face_at k) ≡ false = before_at k g face ∙ le-ltb (place_of (other_side (face_at k) g)) k late in
+    let before : is_face_before (other_side (face_at k) g) (face_at k) ≡ false = before_at k g face ∙ le-ltb (face_number (other_side (face_at k) g)) k late in
     let is_new : is_seen rows (face_at k) g.tet ≡ false = walk.seen g.tet ∙ le-ltb g.tet w.seen (omega (arith, same_tet)) in
     let type : type_at rows (face_at k) ≡ Some 1 = ap (type_of rows (face_at k)) e ∙ rw (before, is_new) refl in
     let none : gluing_at rows (face_at k) ≡ None = ap (seen_gluing rows (face_at k)) e ∙ rw (before, is_new) refl in

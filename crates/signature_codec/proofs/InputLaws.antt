@@ -2,7 +2,7 @@
 use Rattle.std.proofs.Common.{◌≡◌, ℕ, false, List, refl, sym, ap, ◌∙◌, eqb}
 use Rattle.std.specs.Prelude.{codes, Ok, Err}
 use lib.Pointwise.{pointwise}
-use Rattle.perm_four.proofs.ListFacts.{pointwise-same_list}
+use Rattle.table_definitions.proofs.ListFacts.{pointwise-same_list}
 use Rattle.text_definitions.specs.declared.LexKind.TheVariants.{BadWord}
 use Rattle.text_definitions.specs.Reading.{Reading, word_at, word_fault}
 use Rattle.table_definitions.specs.Lists.{same_list}

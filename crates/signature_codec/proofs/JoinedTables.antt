@@ -11,9 +11,9 @@ use Rattle.table_definitions.specs.Table.{Gluing, Face, Row, IsTable, glue, othe
 use Rattle.signature_definitions.specs.declared.SigFault.{SigFault}
 use Rattle.signature_definitions.specs.SignatureText as signatures
 use Rattle.signature_definitions.specs.SignatureText.{join_faces, Joining}
+use Rattle.text_definitions.proofs.Readers.{bind_ok}
 use Rattle.signature_codec.specs.Slots.{Slots, face_at, slot_face, slots_begun, IsSlots}
 use Rattle.signature_codec.proofs.SlotLaws.{ok_same, face_kept}
-use Rattle.signature_codec.proofs.TypeLaws.{bind_ok}
 use Rattle.signature_codec.proofs.Simulation.{known_in, glued-known, Agree, Agrees, face_step, begun_agrees, faces-places}
 use Rattle.signature_codec.proofs.SoundJoins.{IsSound, face_sound}
 

@@ -1,13 +1,13 @@
 -- Steps of readers: a fault stays a fault, and what is read first stands in front.
-use Rattle.std.proofs.Common.{◌≡◌, ℕ, zero, suc, ◌+◌, ◌-◌, ◌*◌, ◌^◌, ◌<◌, ◌≤◌, Bool, true, false, List, [], ◌∷◌, ◌++◌, refl, sym, ap, ◌∙◌, subst, arith, append_assoc, append-nil}
-use Rattle.std.specs.Prelude.{Result, Ok, Err, nat_le, ◌==◌, if◌then◌else◌}
+use Rattle.std.proofs.Common.{◌≡◌, ℕ, zero, suc, ◌+◌, ◌-◌, ◌*◌, ◌^◌, ◌<◌, ◌≤◌, true, false, List, [], ◌∷◌, ◌++◌, refl, sym, ap, ◌∙◌, subst, arith, append_assoc, append-nil}
+use Rattle.std.specs.Prelude.{Result, Ok, Err, nat_le, ◌==◌}
 use Rattle.std.proofs.Math.Nat.{pow-succ'}
+use Rattle.plain_facts.proofs.Truths.{if_false}
+use Rattle.plain_facts.proofs.Numbers.{not_zero}
 use Rattle.text_definitions.specs.Reading.{◌>>=◌}
 use Rattle.signature_definitions.specs.SignatureText as signatures
-use Rattle.signature_definitions.specs.SignatureText.{value_at, number_in, numbers_in, character_types, types_from, unless}
+use Rattle.signature_definitions.specs.SignatureText.{value_at, number_in, numbers_in, character_types, types_from}
 use Rattle.signature_definitions.specs.declared.SigFault.{SigFault}
-use Rattle.signature_codec.specs.declared.numbers.Part.{Part}
-use Rattle.signature_codec.specs.declared.numbers.Part.TheVariants.{Destinations, Gluings}
 use Rattle.signature_codec.specs.Faults.{Fails}
 
 -- what is read is mapped and keeps its fault
@@ -28,10 +28,6 @@ fronted-fronted xs ys (Ok zs) = ap Ok append_assoc_at
     append_assoc_at : (xs ++ ys) ++ zs ≡ xs ++ (ys ++ zs)
     append_assoc_at = append_assoc xs ys zs
 fronted-fronted xs ys (Err e) = refl
-
-pub fronted-nil : {A : Type 0} (r : Result (List A) SigFault) → fronted [] r ≡ r
-fronted-nil (Ok ys) = refl
-fronted-nil (Err e) = refl
 
 front-step : (v at : ℕ) (r : Result (List (ℕ × ℕ)) SigFault) → (r >>= (λ others. Ok ((v, at) ∷ others))) ≡ fronted ((v, at) ∷ []) r
 front-step v at (Ok ys) = refl
@@ -108,17 +104,11 @@ narrow (suc (suc (suc (suc w)))) high l h = absurd (omega arith)
 abbrev pub ReadsOn : List ℕ → ℕ → ℕ → signatures.Types → Result (signatures.Types × ℕ) SigFault → Type 0
 ReadsOn text n at s target = (m : ℕ) × (s.left ≤ m) × (types_from m text n at s ≡ target)
 
-not_none : (n : ℕ) → 0 < n → (n == 0) ≡ false
-not_none n h = grind arith
-
 is_none : (n : ℕ) → n ≤ 0 → (n == 0) ≡ true
 is_none n h = grind arith
 
 pub next_ok : {A B : Type 0} (r : Result A SigFault) (x : A) (f : A → Result B SigFault) → r ≡ Ok x → (r >>= f) ≡ f x
 next_ok {A} r x f h = ap (λ (q : Result A SigFault). q >>= f) h
-
-pub else_of : {A : Type 0} (b : Bool) (x y : A) → b ≡ false → (if b then x else y) ≡ y
-else_of b x y h = rw h refl
 
 -- what a character's types are followed by
 abbrev pub behind_character : List ℕ → ℕ → ℕ → ℕ → signatures.Types → ℕ → Result (signatures.Types × ℕ) SigFault
@@ -126,7 +116,7 @@ behind_character text n at m s v = character_types n at v s >>= (λ t. types_fro
 
 pub types_from-some : (m : ℕ) (text : List ℕ) (n at : ℕ) (s : signatures.Types) → 0 < s.left → types_from (suc m) text n at s ≡ (value_at text at >>= behind_character text n at m s)
 unfolding types_from
-types_from-some m text n at s some = else_of (s.left == 0) (Ok (s, at)) (value_at text at >>= behind_character text n at m s) (not_none s.left some)
+types_from-some m text n at s some = if_false (s.left == 0) (Ok (s, at)) (value_at text at >>= behind_character text n at m s) (not_zero s.left some)
 
 pub types_from-none : (m : ℕ) (text : List ℕ) (n at : ℕ) (s : signatures.Types) → s.left ≤ 0 → types_from m text n at s ≡ Ok (s, at)
 unfolding types_from

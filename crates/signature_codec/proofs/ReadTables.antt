@@ -5,6 +5,7 @@ use Rattle.std.proofs.lemmas.List.{length-append}
 use Rattle.std.proofs.lemmas.List.FromFn.{length-map-range_with_len}
 use borrow.Author.Tests.{ltb-false}
 use Rattle.text_definitions.specs.Reading.{◌>>=◌}
+use Rattle.text_definitions.proofs.Readers.{bind_ok}
 use Rattle.table_definitions.specs.Lists.{times_in}
 use Rattle.table_definitions.specs.Table.{Gluing, Row, IsTable}
 use Rattle.signature_definitions.specs.declared.SigFault.TheVariants as sig_faults
@@ -16,7 +17,7 @@ use Rattle.signature_codec.specs.Faults.{Reads}
 use Rattle.signature_codec.specs.Parts.{parts_of, types_begun}
 use Rattle.signature_codec.specs.Slots.{Slots, slot_faces, slots_begun, slot_row, slot_rows, IsSlots}
 use Rattle.signature_codec.proofs.SlotLaws.{unless_ok, ok_same}
-use Rattle.signature_codec.proofs.TypeLaws.{bind_ok, parts_fit, numbers_read, behind_head, signature_table-head, after_types-parts}
+use Rattle.signature_codec.proofs.TypeLaws.{parts_fit, numbers_read, behind_head, signature_table-head, after_types-parts}
 use Rattle.signature_codec.proofs.Simulation.{slots_join}
 use Rattle.signature_codec.proofs.JoinedTables.{joined_table}
 use Rattle.signature_codec.proofs.Segments.{Holds, holds_nothing, holds_more, HeadHolds, head_holds}

@@ -3,12 +3,14 @@ use Rattle.std.proofs.Common.{◌≡◌, ℕ, zero, suc, ◌+◌, ◌*◌, ◌/�
 use Rattle.std.specs.Prelude.{nat_lt, ◌||◌, ◌&&◌, ◌==◌}
 use Rattle.std.specs.List.{list_any, range_with_len}
 use Rattle.std.proofs.lemmas.Bool.{eqb-true, eq-eqb, lt-ltb, le-ltb, cases_lt}
+use Rattle.plain_facts.proofs.Truths.{by_bool}
 use Rattle.table_definitions.specs.Lists.{below}
 use Rattle.table_definitions.specs.Table.{Row, glue, is_face_before}
 use Rattle.signature_definitions.specs.WalkOrder.{is_glued_to, is_seen}
 use Rattle.signature_codec.specs.Slots.{face_at}
-use Rattle.signature_codec.proofs.Simulation.{faces-places, by_bool}
+use Rattle.signature_codec.proofs.Simulation.{faces-places}
 use Rattle.table_definitions.proofs.Marked.{or-false as or_false}
+use Rattle.table_definitions.proofs.ListFacts.{below_next}
 
 -- a truth value that is neither of two
 
@@ -18,11 +20,6 @@ or_assoc false b c = refl
 
 pub or_left : (a b : Bool) → a ≡ true → (a || b) ≡ true
 or_left a b h = rw h refl
-
--- whether one of the numbers before k does, among those from a on
-list_any-none : {A : Type 0} (p : A → Bool) (xs : List A) → ((x : A) → p x ≡ false) → list_any p xs ≡ false
-list_any-none p [] h = refl
-list_any-none p (x ∷ xs) h = rw (h x) (list_any-none p xs h)
 
 list_any-map : {A B : Type 0} (p : B → Bool) (f : A → B) (xs : List A) → list_any p (map f xs) ≡ list_any (λ x. p (f x)) xs
 list_any-map p f [] = refl
@@ -46,13 +43,6 @@ any_below q k a (suc c) (suc d) e l =
 list_any-append : {A : Type 0} (p : A → Bool) (xs ys : List A) → list_any p (xs ++ ys) ≡ (list_any p xs || list_any p ys)
 list_any-append p [] ys = refl
 list_any-append p (x ∷ xs) ys = ap (λ b. p x || b) (list_any-append p xs ys) ∙ sym (or_assoc (p x) (list_any p xs) (list_any p ys))
-
-range-more : (a n : ℕ) → range_with_len a (n + 1) ≡ range_with_len a n ++ (a + n) ∷ []
-range-more a zero = ap (λ k. k ∷ []) (omega arith)
-range-more a (suc n) = let e : suc n + 1 ≡ suc (n + 1) = omega arith in let f : a + 1 + n ≡ a + suc n = omega arith in rw e (ap (λ xs. a ∷ xs) (range-more (a + 1) n ∙ ap (λ k. range_with_len (a + 1) n ++ k ∷ []) f))
-
-pub below-more : (n : ℕ) → below (n + 1) ≡ below n ++ n ∷ []
-below-more n = range-more 0 n ∙ ap (λ k. below n ++ k ∷ []) (omega arith)
 
 -- the order of faces is that of their places
 pub before_places : (m k : ℕ) → is_face_before (face_at m) (face_at k) ≡ nat_lt m k
@@ -93,7 +83,7 @@ is_seen-places rows k u l =
 seen_upto-more : (rows : List Row) (k u : ℕ) → seen_upto rows (k + 1) u ≡ (seen_upto rows k u || is_glued_to u (glue rows (face_at k)))
 unfolding seen_upto
 seen_upto-more rows k u =
-    ap (λ ks. (u == 0) || list_any (λ m. is_glued_to u (glue rows (face_at m))) ks) (below-more k)
+    ap (λ ks. (u == 0) || list_any (λ m. is_glued_to u (glue rows (face_at m))) ks) (below_next k)
     ∙ ap (λ b. (u == 0) || b) (list_any-append (λ m. is_glued_to u (glue rows (face_at m))) (below k) (k ∷ [])
     ∙ ap (λ b. list_any (λ m. is_glued_to u (glue rows (face_at m))) (below k) || b) (or_false (is_glued_to u (glue rows (face_at k)))))
     ∙ sym (or_assoc (u == 0) (list_any (λ m. is_glued_to u (glue rows (face_at m))) (below k)) (is_glued_to u (glue rows (face_at k))))

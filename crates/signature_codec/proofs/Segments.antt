@@ -2,19 +2,20 @@
 use Rattle.std.proofs.Common.{◌≡◌, ℕ, zero, suc, ◌+◌, ◌*◌, ◌/◌, ◌%◌, ◌<◌, ◌≤◌, Bool, true, false, List, [], ◌∷◌, ◌++◌, length, drop, map, Option, Some, None, refl, sym, ap, ◌∙◌, subst, arith, append_assoc}
 use Rattle.std.specs.Prelude.{Result, Ok, nat_le, nat_lt, not, slice_get, slice_index, ◌||◌, ◌==◌, if◌then◌else◌, cond}
 use Rattle.std.specs.List.{position_or_len}
-use Rattle.std.proofs.lemmas.Bool.{eqb-true, eq-eqb, lt-ltb}
+use Rattle.std.proofs.lemmas.Bool.{eqb-true, eq-eqb, lt-ltb, or_parts, not-false}
 use Rattle.std.proofs.lemmas.List.{map-append, length-append}
 use Rattle.std.proofs.lemmas.List.Sums.{prefix_len_stops}
+use Rattle.plain_facts.proofs.Truths.{by_bool}
 use borrow.Author.Tests.{ltb-true, ltb-false}
 use Rattle.text_definitions.specs.Reading.{◌>>=◌}
+use Rattle.text_definitions.proofs.Readers.{bind_ok}
 use Rattle.signature_definitions.specs.declared.SigFault.{SigFault}
 use Rattle.signature_definitions.specs.declared.SigFault.TheVariants as sig_faults
 use Rattle.signature_definitions.specs.Spelling.{alphabet, character, value_of, in_values, head_values, width}
 use Rattle.signature_definitions.specs.SignatureText as signatures
-use Rattle.signature_definitions.specs.SignatureText.{Types, Head, value_at, number_in, numbers_in, types_from, head_of, faces_of_type}
+use Rattle.signature_definitions.specs.SignatureText.{Head, value_at, number_in, head_of, faces_of_type, Types, numbers_in, types_from}
 use Rattle.signature_codec.proofs.SlotLaws.{unless_ok, ok_same}
-use Rattle.signature_codec.proofs.Simulation.{by_bool}
-use Rattle.signature_codec.proofs.TypeLaws.{bind_ok, value_at_below}
+use Rattle.signature_codec.proofs.TypeLaws.{value_at_below}
 
 -- the values stand in the text from a place on
 abbrev pub Holds : List ℕ → ℕ → List ℕ → Type 0
@@ -111,14 +112,6 @@ short_head text v read apart =
       few = omega arith;
     }
 
-pub or_parts : (a b : Bool) → (a || b) ≡ false → (a ≡ false) × (b ≡ false)
-or_parts true b h = cc
-or_parts false b h = (refl, h)
-
-pub not_parts : (a : Bool) → not a ≡ false → a ≡ true
-not_parts true h = refl
-not_parts false h = cc
-
 wide_read : (text : List ℕ) (w : ℕ) (h : Head) → value_at text 0 ≡ Ok 63 → value_at text 1 ≡ Ok w → signatures.wide_head text w ≡ Ok h → HeadHolds text h
 wide_read text w h first second e =
     let a = bind_ok (number_in text w 2) (λ n. signatures.unless (nat_lt 1000 n) sig_faults.TooMany (signatures.unless (nat_lt n 63 || not (w == width n)) (sig_faults.Width 1) (Ok (record { count = n; width = w; next = w + 2 })))) h e in
@@ -127,7 +120,7 @@ wide_read text w h first second e =
     let b = unless_ok (nat_lt 1000 n) sig_faults.TooMany (signatures.unless (nat_lt n 63 || not (w == width n)) (sig_faults.Width 1) (Ok made)) h a.2 in
     let c = unless_ok (nat_lt n 63 || not (w == width n)) (sig_faults.Width 1) (Ok made) h b.1 in
     let parts = or_parts (nat_lt n 63) (not (w == width n)) c.0 in
-    let same : w ≡ width n = eqb-true w (width n) (not_parts (w == width n) parts.1) in
+    let same : w ≡ width n = eqb-true w (width n) (not-false (w == width n) parts.1) in
     let head : head_values n ≡ 63 ∷ w ∷ in_values w n = rw parts.0 (ap (λ k. 63 ∷ k ∷ in_values k n) (sym same)) in
     let held : Holds text 0 (63 ∷ w ∷ in_values w n) =
     holds_more text 0 1 (63 ∷ []) (w ∷ in_values w n) (holds_value text 0 63 first) refl

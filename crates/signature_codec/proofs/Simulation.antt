@@ -2,19 +2,21 @@
 use Rattle.std.proofs.Common.{◌≡◌, ℕ, zero, suc, ◌+◌, ◌*◌, ◌/◌, ◌%◌, ◌<◌, ◌≤◌, Bool, true, false, List, [], ◌∷◌, length, drop, map, Option, Some, None, refl, sym, ap, ◌∙◌, subst, arith}
 use Rattle.std.specs.Prelude.{Result, Ok, Err, find, nat_le, is_some, slice_set, option_map, option_and_then, unwrap_or, ◌||◌, ◌==◌, if◌then◌else◌, cond}
 use Rattle.std.specs.List.{slice_index_or, list_any, range_with_len}
-use Rattle.std.proofs.lemmas.Bool.{eqb-true, eq-eqb, and_parts, and_from, false≢true}
+use Rattle.std.proofs.lemmas.Bool.{eq-eqb, and_from, false≢true}
 use Rattle.std.proofs.lemmas.Grind.{get_or-set_at}
 use Rattle.std.proofs.lemmas.List.{length-set, get_or-set_other, get_or-replicate}
+use Rattle.plain_facts.proofs.Truths.{by_bool}
 use Rattle.text_definitions.specs.Reading.{◌>>=◌}
 use Rattle.table_definitions.specs.Lists.{below, pairs_of}
 use Rattle.table_definitions.specs.Permutation.{four, identity, words, image}
-use Rattle.table_definitions.specs.Table.{Gluing, Face, other_side, way_back, same_face, faces}
+use Rattle.table_definitions.specs.Table.{Gluing, Face, other_side, way_back, same_face, faces, face_number}
+use Rattle.table_definitions.proofs.Faces.{same_face-true}
 use Rattle.signature_definitions.specs.declared.SigFault.{SigFault}
 use Rattle.signature_definitions.specs.declared.SigFault.TheVariants as sig_faults
 use Rattle.signature_definitions.specs.SignatureText as signatures
 use Rattle.signature_definitions.specs.SignatureText.{join_faces}
-use Rattle.perm_four.proofs.Permutations.{image_below, words_permute}
-use Rattle.signature_codec.specs.Slots.{Slots, place_of, face_at, slot, meet_at, slot_glued, slot_type, with_types, slot_next, slot_face, slot_faces, slots_begun, slot_row, slot_rows, IsSlots, IsTaking}
+use Rattle.table_definitions.proofs.Permutations.{image_below, words_permute}
+use Rattle.signature_codec.specs.Slots.{Slots, face_at, slot, meet_at, slot_glued, slot_type, with_types, slot_next, slot_face, slot_faces, slots_begun, slot_row, slot_rows, IsSlots, IsTaking}
 use Rattle.signature_codec.proofs.SlotLaws.{face_kept, times-same}
 
 -- what a list of the faces met knows of a face
@@ -36,20 +38,7 @@ Agrees n (Ok s) (Err f) = ⊥
 Agrees n (Err e) (Ok j) = ⊥
 Agrees n (Err e) (Err f) = e ≡ f
 
--- cases of a truth value with what it is
-pub by_bool : {P : Type 0} (b : Bool) → (b ≡ true → P) → (b ≡ false → P) → P
-by_bool true f g = f refl
-by_bool false f g = g refl
-
--- faces and their places
-pub same_face-true : (x y : Face) → same_face x y ≡ true → x ≡ y
-same_face-true x y h =
-    let p = and_parts (x.tet == y.tet) (x.face == y.face) h in
-    let t = eqb-true x.tet y.tet p.0 in
-    let f = eqb-true x.face y.face p.1 in
-    λ i. record { tet = t i; face = f i }
-
-pub place-apart : (x y : Face) → x.face < 4 → y.face < 4 → same_face x y ≡ false → place_of y ≡ place_of x → ⊥
+pub place-apart : (x y : Face) → x.face < 4 → y.face < 4 → same_face x y ≡ false → face_number y ≡ face_number x → ⊥
 place-apart x y hx hy apart e =
     let t : x.tet ≡ y.tet = omega arith in
     let f : x.face ≡ y.face = omega arith in
@@ -63,21 +52,21 @@ known-here x y o met h = rw h refl
 pub known-other : (x y : Face) (o : Option Gluing) (met : List (Face × Option Gluing)) → same_face x y ≡ false → known_in ((x, o) ∷ met) y ≡ known_in met y
 known-other x y o met h = rw h refl
 
-set_shown : (n : ℕ) (slots : List (Option (Option Gluing))) (met : List (Face × Option Gluing)) (x : Face) (o : Option Gluing) → x.face < 4 → place_of x < length slots → Shown n slots met
-    → Shown n (slice_set slots (place_of x) (Some o)) ((x, o) ∷ met)
+set_shown : (n : ℕ) (slots : List (Option (Option Gluing))) (met : List (Face × Option Gluing)) (x : Face) (o : Option Gluing) → x.face < 4 → face_number x < length slots → Shown n slots met
+    → Shown n (slice_set slots (face_number x) (Some o)) ((x, o) ∷ met)
 set_shown n slots met x o hx l shown = λ y ht hf. by_bool (same_face x y)
     (λ same. let e : x ≡ y = same_face-true x y same in
-    get_or-set_at slots (place_of x) (place_of y) (Some o) None (ap place_of (sym e)) l ∙ sym (known-here x y o met same))
-    (λ apart. get_or-set_other slots (place_of x) (place_of y) (Some o) None (place-apart x y hx hf apart) ∙ shown y ht hf ∙ sym (known-other x y o met apart))
+    get_or-set_at slots (face_number x) (face_number y) (Some o) None (ap face_number (sym e)) l ∙ sym (known-here x y o met same))
+    (λ apart. get_or-set_other slots (face_number x) (face_number y) (Some o) None (place-apart x y hx hf apart) ∙ shown y ht hf ∙ sym (known-other x y o met apart))
 
-meet_shown : (n : ℕ) (slots : List (Option (Option Gluing))) (met : List (Face × Option Gluing)) (x : Face) (g : Gluing) → x.face < 4 → place_of x < length slots
-    → image g.perm x.face < 4 → place_of (other_side x g) < length slots → Shown n slots met
+meet_shown : (n : ℕ) (slots : List (Option (Option Gluing))) (met : List (Face × Option Gluing)) (x : Face) (g : Gluing) → x.face < 4 → face_number x < length slots
+    → image g.perm x.face < 4 → face_number (other_side x g) < length slots → Shown n slots met
     → Shown n (meet_at slots x g) ((x, Some g) ∷ (other_side x g, Some (way_back x g)) ∷ met)
 meet_shown n slots met x g hx lx ho lo shown =
     let first = set_shown n slots met (other_side x g) (Some (way_back x g)) ho lo shown in
-    let inside : place_of x < length (slice_set slots (place_of (other_side x g)) (Some (Some (way_back x g)))) =
-    rw (length-set slots (place_of (other_side x g)) (Some (Some (way_back x g)))) lx in
-    set_shown n (slice_set slots (place_of (other_side x g)) (Some (Some (way_back x g)))) ((other_side x g, Some (way_back x g)) ∷ met) x (Some g) hx inside first
+    let inside : face_number x < length (slice_set slots (face_number (other_side x g)) (Some (Some (way_back x g)))) =
+    rw (length-set slots (face_number (other_side x g)) (Some (Some (way_back x g)))) lx in
+    set_shown n (slice_set slots (face_number (other_side x g)) (Some (Some (way_back x g)))) ((other_side x g, Some (way_back x g)) ∷ met) x (Some g) hx inside first
 
 -- whether a face is met
 pub is_some-known : (met : List (Face × Option Gluing)) (x : Face) → is_some (known_in met x) ≡ list_any (λ (m : Face × Option Gluing). same_face m.0 x) met
@@ -114,7 +103,7 @@ bind_agrees n (Err e) (Err d) f h a next = a
 pub not_le : (a b : ℕ) → nat_le a b ≡ false → b < a
 not_le a b h = grind arith
 
-pub place_inside : (n : ℕ) (x : Face) (slots : List (Option (Option Gluing))) → length slots ≡ 4 * n → x.tet < n → x.face < 4 → place_of x < length slots
+pub place_inside : (n : ℕ) (x : Face) (slots : List (Option (Option Gluing))) → length slots ≡ 4 * n → x.tet < n → x.face < 4 → face_number x < length slots
 place_inside n x slots size ht hf = omega arith
 
 -- a face of type 2
@@ -244,9 +233,9 @@ rows_shown n slots met shown = map-below (slot_row slots) (λ t. map (λ f. sign
 
 -- nothing is met at first
 pub begun_agrees : (n : ℕ) (parts : signatures.Parts) → Agree n (slots_begun n parts) (record { met = []; seen = 1; parts = parts })
-begun_agrees n parts = record { seen = refl; parts = refl; met = λ x ht hf. get_or-replicate (4 * n) (place_of x) None None (place_below x ht hf) }
+begun_agrees n parts = record { seen = refl; parts = refl; met = λ x ht hf. get_or-replicate (4 * n) (face_number x) None None (place_below x ht hf) }
   where
-    place_below : (x : Face) → x.tet < n → x.face < 4 → place_of x < 4 * n
+    place_below : (x : Face) → x.tet < n → x.face < 4 → face_number x < 4 * n
     place_below x ht hf = omega arith
 
 same_rows : (n : ℕ) (r : Result Slots SigFault) (q : Result signatures.Joining SigFault) → Agrees n r q

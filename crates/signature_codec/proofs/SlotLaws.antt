@@ -9,12 +9,12 @@ use Rattle.std.proofs.lemmas.List.{length-set}
 use Rattle.std.proofs.lemmas.List.FromFn.{map-range_with_len_more}
 use Rattle.table_definitions.specs.Lists.{times_in}
 use Rattle.table_definitions.specs.Permutation.{identity, words}
-use Rattle.table_definitions.specs.Table.{Gluing, Face, other_side, same_face}
+use Rattle.table_definitions.specs.Table.{Gluing, Face, other_side, same_face, face_number}
 use Rattle.signature_definitions.specs.declared.SigFault.TheVariants as sig_faults
 use Rattle.signature_definitions.specs.SignatureText as signatures
 use Rattle.signature_definitions.specs.declared.SigFault.{SigFault}
 use Rattle.signature_codec.specs.Faults.{Fails, Leaves}
-use Rattle.signature_codec.specs.Slots.{Slots, place_of, face_at, slot, meet_at, slot_boundary, slot_new, slot_glued, slot_type, with_types, slot_next, slot_face, slot_faces, slot_row, slot_rows, IsSlots, IsTaking}
+use Rattle.signature_codec.specs.Slots.{Slots, face_at, slot, meet_at, slot_boundary, slot_new, slot_glued, slot_type, with_types, slot_next, slot_face, slot_faces, slot_row, slot_rows, IsSlots, IsTaking}
 use Rattle.signature_codec.proofs.ReadLaws.{fails_on, next_ok}
 
 -- how often a number stands in a list with one more in front
@@ -52,7 +52,7 @@ length-dropped (x ∷ xs) = omega arith
 
 boundary_kept : (n : ℕ) (x : Face) (s : Slots) → IsTaking n 0 s → IsSlots n (slot_boundary x s)
 boundary_kept n x s h = record {
-  size = length-set s.met (place_of x) (Some None) ∙ h.size;
+  size = length-set s.met (face_number x) (Some None) ∙ h.size;
   few = h.few;
   small = all_behind (λ t. t < 3) 0 s.parts.types h.small;
   destinations = h.destinations ∙ times-other 0 2 s.parts.types refl;

@@ -1,19 +1,21 @@
 -- The faces that are met are glued as in a table.
 use Rattle.std.proofs.Common.{◌≡◌, ℕ, zero, suc, ◌+◌, ◌<◌, ◌≤◌, Bool, true, false, List, [], ◌∷◌, length, drop, Option, Some, None, refl, sym, ap, ◌∙◌, subst, arith, ◌⊎◌, inl, inr, ⊎_elim}
-use Rattle.std.specs.Prelude.{Result, Ok, All, nat_le, is_some, ◌||◌, ◌==◌, if◌then◌else◌}
+use Rattle.std.specs.Prelude.{Result, Ok, All, nat_le, is_some, ◌||◌, if◌then◌else◌}
 use Rattle.std.specs.List.{slice_index_or, list_any}
-use Rattle.std.proofs.lemmas.Bool.{eq-eqb, and_from, false≢true}
+use Rattle.std.proofs.lemmas.Bool.{false≢true}
+use Rattle.plain_facts.proofs.Truths.{by_bool}
 use Rattle.table_definitions.specs.Lists.{times_in}
-use Rattle.table_definitions.specs.Permutation.{identity, words, image, inverse, IsPermutationOfFour}
+use Rattle.table_definitions.specs.Permutation.{identity, words, image, IsPermutationOfFour}
 use Rattle.table_definitions.specs.Table.{Gluing, Face, other_side, way_back, same_face}
+use Rattle.table_definitions.proofs.Faces.{same_face-true, same_face-itself, there_and_back, back_again}
 use Rattle.signature_definitions.specs.declared.SigFault.{SigFault}
 use Rattle.signature_definitions.specs.declared.SigFault.TheVariants as sig_faults
 use Rattle.signature_definitions.specs.SignatureText as signatures
 use Rattle.signature_definitions.specs.SignatureText.{join_faces, Joining}
-use Rattle.perm_four.proofs.Permutations.{image_below, words_permute, inverse_permutes, image-inverse, preimage-image, inverse-inverse}
+use Rattle.table_definitions.proofs.Permutations.{image_below, words_permute, inverse_permutes}
 use Rattle.signature_codec.specs.Slots.{Slots, IsSlots}
 use Rattle.signature_codec.proofs.SlotLaws.{unless_ok, ok_same, times-same}
-use Rattle.signature_codec.proofs.Simulation.{known_in, by_bool, same_face-true, known-here, known-other, is_some-known, not_le}
+use Rattle.signature_codec.proofs.Simulation.{known_in, known-here, known-other, is_some-known, not_le}
 
 -- the faces that are met lie in tetrahedra that are seen, and each that is glued leads to another one that leads back
 pub record IsSound (met : List (Face × Option Gluing)) (seen : ℕ) : Type 0 where
@@ -50,19 +52,9 @@ boundary_sound met seen x free ht hf h = record {
     glued : (y : Face) (g : Gluing) → known_in ((x, None) ∷ met) y ≡ Some (Some g) → known_in met y ≡ Some (Some g)
     glued y g e = by_bool (same_face x y) (λ same. absurd (let k = known-here x y None met same in cc)) (λ apart. earlier y (Some g) apart e)
 
--- the way back from the other side
-pub other-other : (x : Face) (g : Gluing) → IsPermutationOfFour g.perm → x.face < 4 → other_side (other_side x g) (way_back x g) ≡ x
-other-other x g p hf = let e : image (inverse g.perm) (image g.perm x.face) ≡ x.face = image-inverse g.perm (image g.perm x.face) (image_below g.perm p x.face hf) ∙ preimage-image g.perm p x.face hf in λ i. record { tet = x.tet; face = e i }
-
-pub back-back : (x : Face) (g : Gluing) → IsPermutationOfFour g.perm → way_back (other_side x g) (way_back x g) ≡ g
-back-back x g p = let e : inverse (inverse g.perm) ≡ g.perm = inverse-inverse g.perm p in λ i. record { tet = g.tet; perm = e i }
-
-pub same_face-refl : (z : Face) → same_face z z ≡ true
-same_face-refl z = and_from (z.tet == z.tet) (z.face == z.face) (eq-eqb z.tet z.tet refl) (eq-eqb z.face z.face refl)
-
 pub same_face-sym : (x y : Face) → same_face x y ≡ false → same_face y x ≡ false
 same_face-sym x y h = by_bool (same_face y x)
-    (λ same. let e : y ≡ x = same_face-true y x same in let P : Face → Type 0 = λ z. same_face z y ≡ false in absurd (false≢true (sym (subst P (sym e) h) ∙ same_face-refl y)))
+    (λ same. let e : y ≡ x = same_face-true y x same in let P : Face → Type 0 = λ z. same_face z y ≡ false in absurd (false≢true (sym (subst P (sym e) h) ∙ same_face-itself y)))
     (λ apart. apart)
 
 -- both sides of a face are met
@@ -85,12 +77,12 @@ both_cases met x g y o e = by_bool (same_face x y)
     some_same a b h = cc
 
 pub known_both-x : (met : List (Face × Option Gluing)) (x : Face) (g : Gluing) → known_in (met_both x g met) x ≡ Some (Some g)
-known_both-x met x g = known-here x x (Some g) ((other_side x g, Some (way_back x g)) ∷ met) (same_face-refl x)
+known_both-x met x g = known-here x x (Some g) ((other_side x g, Some (way_back x g)) ∷ met) (same_face-itself x)
 
 pub known_both-other : (met : List (Face × Option Gluing)) (x : Face) (g : Gluing) → same_face (other_side x g) x ≡ false → known_in (met_both x g met) (other_side x g) ≡ Some (Some (way_back x g))
 known_both-other met x g apart =
     known-other x (other_side x g) (Some g) ((other_side x g, Some (way_back x g)) ∷ met) (same_face-sym (other_side x g) x apart)
-    ∙ known-here (other_side x g) (other_side x g) (Some (way_back x g)) met (same_face-refl (other_side x g))
+    ∙ known-here (other_side x g) (other_side x g) (Some (way_back x g)) met (same_face-itself (other_side x g))
 
 pub known_both-earlier : (met : List (Face × Option Gluing)) (x : Face) (g : Gluing) (y : Face) (o : Option Gluing) → known_in met x ≡ None → known_in met (other_side x g) ≡ None → known_in met y ≡ Some o
     → known_in (met_both x g met) y ≡ Some o
@@ -144,7 +136,7 @@ both_sound met seen next x g free free' apart hx hg more hf p h = record {
         let Q : Face → Type 0 = λ z. same_face (other_side z k) z ≡ false in
         let R : Gluing → Type 0 = λ m. same_face (other_side (other_side x g) m) (other_side x g) ≡ false in
         let S : Face → Type 0 = λ z. same_face z (other_side x g) ≡ false in
-        subst Q e (subst R (sym f) (subst S (sym (other-other x g p hf)) (same_face-sym (other_side x g) x apart)))
+        subst Q e (subst R (sym f) (subst S (sym (there_and_back x g p hf)) (same_face-sym (other_side x g) x apart)))
 
     back_both : (y : Face) (k : Gluing) → x ≡ y → k ≡ g → known_in (met_both x g met) (other_side y k) ≡ Some (Some (way_back y k))
     back_both y k e f =
@@ -157,7 +149,7 @@ both_sound met seen next x g free free' apart hx hg more hf p h = record {
         let Q : Face → Type 0 = λ z. known_in (met_both x g met) (other_side z k) ≡ Some (Some (way_back z k)) in
         let R : Gluing → Type 0 = λ m. known_in (met_both x g met) (other_side (other_side x g) m) ≡ Some (Some (way_back (other_side x g) m)) in
         subst Q e (subst R (sym f)
-        (ap (known_in (met_both x g met)) (other-other x g p hf) ∙ known_both-x met x g ∙ ap (λ m. Some (Some m)) (sym (back-back x g p))))
+        (ap (known_in (met_both x g met)) (there_and_back x g p hf) ∙ known_both-x met x g ∙ ap (λ m. Some (Some m)) (sym (back_again x g p))))
 
 -- a tetrahedron that isn't seen has no face that is met
 unseen : (met : List (Face × Option Gluing)) (seen : ℕ) (y : Face) → IsSound met seen → seen ≤ y.tet → known_in met y ≡ None

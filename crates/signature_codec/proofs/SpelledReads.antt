@@ -6,16 +6,16 @@ use Rattle.std.proofs.Math.Nat.{pow-succ'}
 use Rattle.std.proofs.lemmas.Bool.{eqb-true, eq-eqb, lt-ltb, le-ltb, cases_lt}
 use Rattle.std.proofs.lemmas.List.{map-append, length-append}
 use Rattle.std.proofs.lemmas.List.Sums.{sum_by-cons}
+use Rattle.plain_facts.proofs.Truths.{by_bool, if_false}
 use Rattle.text_definitions.specs.Reading.{◌>>=◌}
 use Rattle.table_definitions.specs.Lists.{below, times_in}
-use Rattle.perm_four.proofs.ListFacts.{list_all-below}
+use Rattle.table_definitions.proofs.ListFacts.{list_all-below}
 use Rattle.signature_definitions.specs.declared.SigFault.{SigFault}
 use Rattle.signature_definitions.specs.declared.SigFault.TheVariants as sig_faults
 use Rattle.signature_definitions.specs.Spelling.{character, value_of, in_values, head_values, width, packed, joined}
 use Rattle.signature_definitions.specs.SignatureText as signatures
 use Rattle.signature_definitions.specs.SignatureText.{Types, Head, value_at, number_in, numbers_in, types_from, head_of, faces_of_type}
-use Rattle.signature_codec.proofs.ReadLaws.{behind_character, next_ok, types_from-some, types_from-none, else_of}
-use Rattle.signature_codec.proofs.Simulation.{by_bool}
+use Rattle.signature_codec.proofs.ReadLaws.{behind_character, next_ok, types_from-some, types_from-none}
 use Rattle.signature_codec.proofs.TextLaws.{drop-drop}
 use Rattle.signature_codec.proofs.Segments.{Holds, holds_nothing, length-in_values}
 use Rattle.signature_codec.proofs.TypeSegments.{faces_some}
@@ -82,11 +82,11 @@ short_head text n l h =
     let w : 1 ≡ width n = (let m : n < 64 = omega arith in rw (lt-ltb n 64 m) refl) in
     let long : 1 ≡ length (head_values n) = sym (ap (λ (xs : List ℕ). length xs) head) in
     next_ok (value_at text 0) n (λ v. if v == 63 then signatures.long_head text else Ok (record { count = v; width = 1; next = 1 })) first
-    ∙ else_of (n == 63) (signatures.long_head text) (Ok (record { count = n; width = 1; next = 1 })) ne
+    ∙ if_false (n == 63) (signatures.long_head text) (Ok (record { count = n; width = 1; next = 1 })) ne
     ∙ (λ i. Ok (record { count = n; width = w i; next = long i }))
 
 pub unless_of : {A : Type 0} (b : Bool) (e : SigFault) (r : Result A SigFault) → b ≡ false → signatures.unless b e r ≡ r
-unless_of b e r h = else_of b (Err e) r h
+unless_of b e r h = if_false b (Err e) r h
 
 long_head : (text : List ℕ) (n w : ℕ) → 63 ≤ n → n ≤ 1000 → w ≡ width n → 1 ≤ w → w ≤ 2 → n < 64 ^ w → Holds text 0 (63 ∷ w ∷ in_values w n) → head_of text ≡ Ok (record { count = n; width = w; next = w + 2 })
 unfolding head_of
@@ -164,7 +164,7 @@ type_taken : (n at type : ℕ) (s : Types) → type < 3 → faces_of_type type �
 type_taken n at type s l enough few =
     let some = faces_some type in
     let ne : (s.left == 0) ≡ false = by_bool (s.left == 0) (λ e. absurd (let f = eqb-true s.left 0 e in omega (arith, f, some))) (λ e. e) in
-    else_of (s.left == 0) (signatures.unless (not (type == 0)) (sig_faults.Leftover at) (Ok s)) (signatures.unless (signatures.is_wrong_type n type s) (sig_faults.BadType at) (Ok (signatures.counted type s))) ne
+    if_false (s.left == 0) (signatures.unless (not (type == 0)) (sig_faults.Leftover at) (Ok s)) (signatures.unless (signatures.is_wrong_type n type s) (sig_faults.BadType at) (Ok (signatures.counted type s))) ne
     ∙ unless_of (signatures.is_wrong_type n type s) (sig_faults.BadType at) (Ok (signatures.counted type s)) (right_type n type s l enough few)
 
 type_none : (n at : ℕ) (s : Types) → s.left ≡ 0 → signatures.type_at n at 0 s ≡ Ok s

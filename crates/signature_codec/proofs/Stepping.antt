@@ -3,16 +3,18 @@ use Rattle.std.proofs.Common.{◌≡◌, ℕ, zero, suc, ◌+◌, ◌*◌, ◌/�
 use Rattle.std.specs.Prelude.{Result, Ok, All, nat_le, is_some, sum_by, ◌||◌, if◌then◌else◌}
 use Rattle.std.specs.List.{slice_index_or}
 use Rattle.std.proofs.lemmas.List.Sums.{sum_by-cons}
+use Rattle.std.proofs.lemmas.Bool.{or_parts}
+use Rattle.plain_facts.proofs.Truths.{by_bool}
 use Rattle.table_definitions.specs.Lists.{times_in}
 use Rattle.table_definitions.specs.Permutation.{words}
-use Rattle.table_definitions.specs.Table.{Gluing, Face, other_side, same_face}
+use Rattle.table_definitions.specs.Table.{Gluing, Face, other_side, same_face, face_number}
 use Rattle.signature_definitions.specs.declared.SigFault.{SigFault}
 use Rattle.signature_definitions.specs.declared.SigFault.TheVariants as sig_faults
 use Rattle.signature_definitions.specs.SignatureText as signatures
 use Rattle.signature_definitions.specs.SignatureText.{faces_of_type}
-use Rattle.signature_codec.specs.Slots.{Slots, place_of, face_at, slot, meet_at, slot_boundary, slot_new, slot_seen, slot_type, with_types, slot_next, slot_face, IsSlots}
+use Rattle.signature_codec.specs.Slots.{Slots, face_at, slot, meet_at, slot_boundary, slot_new, slot_seen, slot_type, with_types, slot_next, slot_face, IsSlots}
 use Rattle.signature_codec.proofs.SlotLaws.{unless_ok, ok_same, times-same}
-use Rattle.signature_codec.proofs.Simulation.{by_bool, not_le}
+use Rattle.signature_codec.proofs.Simulation.{not_le}
 
 -- one for a face that isn't met
 abbrev pub free : Option (Option Gluing) → ℕ
@@ -24,7 +26,7 @@ pub record IsJoined (n k : ℕ) (s : Slots) : Type 0 where
   pub fit : IsSlots n s
   pub range : (p : ℕ) (o : Option Gluing) → get_or s.met p None ≡ Some o → p < 4 * s.seen
   pub before : (p : ℕ) → p < k → (o : Option Gluing) × (get_or s.met p None ≡ Some o)
-  pub origin : (p : ℕ) (o : Option Gluing) → get_or s.met p None ≡ Some o → (p < k) ⊎ ((g : Gluing) × (o ≡ Some g) × (place_of (other_side (face_at p) g) < k))
+  pub origin : (p : ℕ) (o : Option Gluing) → get_or s.met p None ≡ Some o → (p < k) ⊎ ((g : Gluing) × (o ≡ Some g) × (face_number (other_side (face_at p) g) < k))
   pub count : sum_by free s.met ≡ sum_by faces_of_type s.parts.types
 
 -- what joining the face at place k does
@@ -34,15 +36,15 @@ pub data Stepped (k : ℕ) (s t : Slots) : Type 0 where
   reaches : (ts : List ℕ) → get_or s.met k None ≡ None → s.parts.types ≡ 1 ∷ ts → slot_new (face_at k) (with_types ts s) ≡ t → Stepped k s t
   glues : (ts : List ℕ) (d i : ℕ × ℕ) (ds gs : List (ℕ × ℕ)) → get_or s.met k None ≡ None → s.parts.types ≡ 2 ∷ ts → s.parts.destinations ≡ d ∷ ds → s.parts.gluings ≡ i ∷ gs → i.0 < 24 → d.0 < s.seen
       → (let g : Gluing = record { tet = d.0; perm = slice_index_or words i.0 [] } in same_face (other_side (face_at k) g) (face_at k) ≡ false)
-      → (let g : Gluing = record { tet = d.0; perm = slice_index_or words i.0 [] } in get_or s.met (place_of (other_side (face_at k) g)) None ≡ None)
+      → (let g : Gluing = record { tet = d.0; perm = slice_index_or words i.0 [] } in get_or s.met (face_number (other_side (face_at k) g)) None ≡ None)
       → (let g : Gluing = record { tet = d.0; perm = slice_index_or words i.0 [] } in record { met = meet_at s.met (face_at k) g; seen = s.seen; parts = record { types = ts; destinations = ds; gluings = gs } } ≡ t)
       → Stepped k s t
 
 -- a face at its place
-pub place-face_at : (k : ℕ) → place_of (face_at k) ≡ k
+pub place-face_at : (k : ℕ) → face_number (face_at k) ≡ k
 place-face_at k = omega arith
 
-pub face_at-place : (x : Face) → x.face < 4 → face_at (place_of x) ≡ x
+pub face_at-place : (x : Face) → x.face < 4 → face_at (face_number x) ≡ x
 face_at-place x h = let t : (4 * x.tet + x.face) / 4 ≡ x.tet = omega arith in let f : (4 * x.tet + x.face) % 4 ≡ x.face = omega arith in λ i. record { tet = t i; face = f i }
 
 not_some : (o : Option (Option Gluing)) → is_some o ≡ false → o ≡ None
@@ -63,10 +65,6 @@ some_left (o ∷ met) (suc p) l e = let h = some_left met p (omega arith) e in l
 first_of_some : (xs : List (ℕ × ℕ)) → 0 < length xs → xs ≡ signatures.first_pair xs ∷ drop 1 xs
 first_of_some [] l = absurd (omega arith)
 first_of_some (x ∷ xs) l = refl
-
-pub or_parts : (a b : Bool) → (a || b) ≡ false → (a ≡ false) × (b ≡ false)
-or_parts true b h = cc
-or_parts false b h = (refl, h)
 
 seen_stepped : (n k : ℕ) (s t : Slots) (ts : List ℕ) → IsSlots n s → get_or s.met k None ≡ None → s.parts.types ≡ 2 ∷ ts → slot_seen (face_at k) (with_types ts s) ≡ Ok t → Stepped k s t
 seen_stepped n k s t ts fit free_k types e =

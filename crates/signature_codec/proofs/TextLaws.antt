@@ -5,7 +5,6 @@ use Rattle.signature_codec.specs.Slots.{face_at}
 use Rattle.signature_codec.proofs.Simulation.{faces-places}
 use Rattle.std.specs.Prelude.{Bool, true, false, All, slice_index, filter_map, Option, Some, None, if◌then◌else◌}
 use Rattle.std.proofs.lemmas.List.{map-append, get_or-drop, length-drop}
-use Rattle.std.proofs.Math.Seq.{drop-cons}
 use Rattle.table_definitions.specs.Permutation.{index}
 use Rattle.table_definitions.specs.Table.{Gluing, Row, Face, glue, other_side, faces, is_face_before}
 use Rattle.signature_definitions.specs.Spelling.{character, in_values, packed, joined, head_values, width, type_of, face_types, seen_gluings, spelling, spelling_values}
@@ -54,35 +53,6 @@ packed-more i v ts text l e =
 
 pub packed-none : (i : ℕ) (ts text : List ℕ) → length ts ≤ i → text ++ map character (packed (drop i ts)) ≡ text
 packed-none i ts text l = rw (drop-past i ts l) (append-nil text)
-
--- one more gluing
-pub destinations-more : (w i : ℕ) (gs : List Gluing) (g : Gluing) (text : List ℕ) → i < length gs → g ≡ get_or gs i g
-    → (text ++ number_text w g.tet) ++ destinations_text w (drop (i + 1) gs) ≡ text ++ destinations_text w (drop i gs)
-destinations-more w i gs g text l e =
-    let one : suc i ≡ i + 1 = omega arith in
-    let front : drop i gs ≡ g ∷ drop (i + 1) gs = drop-cons gs i g l ∙ ap (λ (h : Gluing). h ∷ drop (suc i) gs) (sym e) ∙ ap (λ k. g ∷ drop k gs) one in
-    append_assoc text (number_text w g.tet) (destinations_text w (drop (i + 1) gs))
-    ∙ ap (λ ns. text ++ ns) (sym (map-append character (in_values w g.tet) (joined (map (λ (h : Gluing). in_values w h.tet) (drop (i + 1) gs)))))
-    ∙ ap (λ hs. text ++ destinations_text w hs) (sym front)
-
-pub indices-more : (i : ℕ) (gs : List Gluing) (g : Gluing) (text : List ℕ) → i < length gs → g ≡ get_or gs i g
-    → (text ++ character (index g.perm) ∷ []) ++ indices_text (drop (i + 1) gs) ≡ text ++ indices_text (drop i gs)
-indices-more i gs g text l e =
-    let one : suc i ≡ i + 1 = omega arith in
-    let front : drop i gs ≡ g ∷ drop (i + 1) gs = drop-cons gs i g l ∙ ap (λ (h : Gluing). h ∷ drop (suc i) gs) (sym e) ∙ ap (λ k. g ∷ drop k gs) one in
-    append_assoc text (character (index g.perm) ∷ []) (indices_text (drop (i + 1) gs)) ∙ ap (λ hs. text ++ indices_text hs) (sym front)
-
-gluings-past : (i : ℕ) (gs : List Gluing) → length gs ≤ i → drop i gs ≡ []
-gluings-past zero [] l = refl
-gluings-past zero (g ∷ gs) l = absurd (omega arith)
-gluings-past (suc i) [] l = refl
-gluings-past (suc i) (g ∷ gs) l = gluings-past i gs (omega arith)
-
-pub destinations-none : (w i : ℕ) (gs : List Gluing) (text : List ℕ) → length gs ≤ i → text ++ destinations_text w (drop i gs) ≡ text
-destinations-none w i gs text l = rw (gluings-past i gs l) (append-nil text)
-
-pub indices-none : (i : ℕ) (gs : List Gluing) (text : List ℕ) → length gs ≤ i → text ++ indices_text (drop i gs) ≡ text
-indices-none i gs text l = rw (gluings-past i gs l) (append-nil text)
 
 -- types are below 3, and there are no more than faces
 type_small : (rows : List Row) (x : Face) (o : Option Gluing) (t : ℕ) → type_of rows x o ≡ Some t → t < 3

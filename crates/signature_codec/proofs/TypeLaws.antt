@@ -6,6 +6,7 @@ use borrow.Author.Tests.{ltb-true}
 use Rattle.std.proofs.lemmas.Grind.{common_steps}
 use Rattle.std.proofs.lemmas.List.{length-replicate}
 use Rattle.text_definitions.specs.Reading.{◌>>=◌}
+use Rattle.text_definitions.proofs.Readers.{bind_ok}
 use Rattle.table_definitions.specs.Lists.{times_in}
 use Rattle.table_definitions.specs.Table.{Row}
 use Rattle.signature_definitions.specs.declared.SigFault.{SigFault}
@@ -17,11 +18,6 @@ use Rattle.signature_codec.specs.Parts.{parts_of, types_begun}
 use Rattle.signature_codec.specs.Slots.{IsSlots, slots_begun}
 use Rattle.signature_codec.proofs.ReadLaws.{behind_character, next_ok}
 use Rattle.signature_codec.proofs.SlotLaws.{unless_ok, ok_of, ok_same, unless_same}
-
--- the steps of an answer that is Ok
-pub bind_ok : {A B : Type 0} (r : Result A SigFault) (f : A → Result B SigFault) (t : B) → (r >>= f) ≡ Ok t → (x : A) × (r ≡ Ok x) × (f x ≡ Ok t)
-bind_ok (Ok x) f t h = (x, refl, h)
-bind_ok (Err e) f t h = absurd cc
 
 -- a value is below 64
 position_below : (p : ℕ → Bool) (xs : List ℕ) (i : ℕ) → position p xs ≡ Some i → i < length xs

@@ -1,11 +1,13 @@
 -- The types that are read stand in the text three to a character, and count the faces.
 use Rattle.std.proofs.Common.{◌≡◌, ℕ, zero, suc, ◌+◌, ◌-◌, ◌*◌, ◌/◌, ◌%◌, ◌<◌, ◌≤◌, Bool, true, false, List, [], ◌∷◌, ◌++◌, length, map, refl, sym, ap, ◌∙◌, subst, arith, ◌⊎◌, inl, inr, ⊎_elim, append_assoc}
 use Rattle.std.specs.Prelude.{Result, Ok, All, nat_le, nat_lt, not, sum_by, ◌||◌, ◌&&◌, ◌==◌, if◌then◌else◌}
-use Rattle.std.proofs.lemmas.Bool.{eqb-true, eq-eqb}
+use Rattle.std.proofs.lemmas.Bool.{eqb-true, eq-eqb, or_parts, not-false}
 use Rattle.std.proofs.lemmas.List.{length-append}
 use Rattle.std.proofs.lemmas.List.Sums.{sum_by-append}
+use Rattle.plain_facts.proofs.Numbers.{positive}
 use borrow.Author.Tests.{ltb-false}
 use Rattle.text_definitions.specs.Reading.{◌>>=◌}
+use Rattle.text_definitions.proofs.Readers.{bind_ok}
 use Rattle.signature_definitions.specs.declared.SigFault.{SigFault}
 use Rattle.signature_definitions.specs.declared.SigFault.TheVariants as sig_faults
 use Rattle.signature_definitions.specs.Spelling.{in_values, packed, joined}
@@ -13,8 +15,8 @@ use Rattle.signature_definitions.specs.SignatureText as signatures
 use Rattle.signature_definitions.specs.SignatureText.{Types, value_at, number_in, numbers_in, types_from, faces_of_type}
 use Rattle.signature_codec.proofs.ReadLaws.{behind_character}
 use Rattle.signature_codec.proofs.SlotLaws.{unless_ok, ok_of, ok_same}
-use Rattle.signature_codec.proofs.TypeLaws.{bind_ok, value_at_below}
-use Rattle.signature_codec.proofs.Segments.{Holds, holds_nothing, holds_more, holds_value, holds_number, length-in_values, or_parts, not_parts}
+use Rattle.signature_codec.proofs.TypeLaws.{value_at_below}
+use Rattle.signature_codec.proofs.Segments.{Holds, holds_nothing, holds_more, holds_value, holds_number, length-in_values}
 
 -- what one type does: it is 0 behind the last face, and else it is read and counts its faces
 pub record Counts (type : ℕ) (s t : Types) : Type 0 where
@@ -28,7 +30,7 @@ type_counts n at type s t e = cases (s.left == 0) refl e
     none : (s.left == 0) ≡ true → signatures.unless (not (type == 0)) (sig_faults.Leftover at) (Ok s) ≡ Ok t → ((s.left ≡ 0) × (type ≡ 0) × (s ≡ t)) ⊎ Counts type s t
     none b e =
         let u = unless_ok (not (type == 0)) (sig_faults.Leftover at) (Ok s) t e in
-        inl (eqb-true s.left 0 b, eqb-true type 0 (not_parts (type == 0) u.0), ok_same s t u.1)
+        inl (eqb-true s.left 0 b, eqb-true type 0 (not-false (type == 0) u.0), ok_same s t u.1)
 
     counted : signatures.is_wrong_type n type s ≡ false → (s.left == 0) ≡ false → signatures.counted type s ≡ t → Counts type s t
     counted right b same =
@@ -47,13 +49,13 @@ type_counts n at type s t e = cases (s.left == 0) refl e
 abbrev pub Whole : List ℕ → Type 0
 Whole xs = (k : ℕ) × (length xs ≡ 3 * k)
 
-packed-more : (k : ℕ) (xs ys : List ℕ) → length xs ≡ 3 * k → packed (xs ++ ys) ≡ packed xs ++ packed ys
-packed-more zero [] ys e = refl
-packed-more zero (x ∷ xs) ys e = absurd (omega arith)
-packed-more (suc k) [] ys e = absurd (omega arith)
-packed-more (suc k) (a ∷ []) ys e = absurd (omega arith)
-packed-more (suc k) (a ∷ b ∷ []) ys e = absurd (omega arith)
-packed-more (suc k) (a ∷ b ∷ c ∷ xs) ys e = ap (λ zs. (a + 4 * b + 16 * c) ∷ zs) (packed-more k xs ys (omega arith))
+pub packed_on : (k : ℕ) (xs ys : List ℕ) → length xs ≡ 3 * k → packed (xs ++ ys) ≡ packed xs ++ packed ys
+packed_on zero [] ys e = refl
+packed_on zero (x ∷ xs) ys e = absurd (omega arith)
+packed_on (suc k) [] ys e = absurd (omega arith)
+packed_on (suc k) (a ∷ []) ys e = absurd (omega arith)
+packed_on (suc k) (a ∷ b ∷ []) ys e = absurd (omega arith)
+packed_on (suc k) (a ∷ b ∷ c ∷ xs) ys e = ap (λ zs. (a + 4 * b + 16 * c) ∷ zs) (packed_on k xs ys (omega arith))
 
 pub faces_some : (type : ℕ) → 1 ≤ faces_of_type type
 faces_some type = cases (type == 0)
@@ -149,7 +151,7 @@ character_holds text base total at v s t some read h k = record {
     w = h.whole some
 
     packs : packed t.read ≡ packed s.read ++ v ∷ []
-    packs = ap packed k.read ∙ packed-more w.0 s.read k.types w.1 ∙ ap (λ xs. packed s.read ++ xs) k.packs
+    packs = ap packed k.read ∙ packed_on w.0 s.read k.types w.1 ∙ ap (λ xs. packed s.read ++ xs) k.packs
 
 stops : (text : List ℕ) (base total at next : ℕ) (s t : Types) → TypesHold text base total at s → s.left ≡ 0 → ok_of {A = Types × ℕ} (s, at) ≡ ok_of (t, next) → TypesHold text base total next t × (t.left ≡ 0)
 stops text base total at next s t h none e =
@@ -157,9 +159,6 @@ stops text base total at next s t h none e =
     let same : s ≡ t = λ i. (p i).0 in
     let there : at ≡ next = λ i. (p i).1 in
     (subst (λ (k : ℕ). TypesHold text base total k t) there (subst (λ (u : Types). TypesHold text base total at u) same h), subst (λ (u : Types). u.left ≡ 0) same none)
-
-not_zero : (n : ℕ) → (n == 0) ≡ false → 0 < n
-not_zero n h = grind arith
 
 pub types_hold : (m : ℕ) (text : List ℕ) (n at : ℕ) (s t : Types) (next base total : ℕ) → TypesHold text base total at s → s.left ≤ m → types_from m text n at s ≡ Ok (t, next)
     → TypesHold text base total next t × (t.left ≡ 0)
@@ -175,7 +174,7 @@ types_hold (suc m) text n at s t next base total h l e = cases (s.left == 0) ref
     cases : (b : Bool) → (s.left == 0) ≡ b → (if b then Ok (s, at) else (value_at text at >>= behind_character text n at m s)) ≡ Ok (t, next)
         → (0 < s.left → (value_at text at >>= behind_character text n at m s) ≡ Ok (t, next) → TypesHold text base total next t × (t.left ≡ 0)) → TypesHold text base total next t × (t.left ≡ 0)
     cases true z e more = stops text base total at next s t h (eqb-true s.left 0 z) e
-    cases false z e more = more (not_zero s.left z) e
+    cases false z e more = more (positive s.left z) e
 
 -- the numbers that are read
 pub numbers_hold : (k : ℕ) (text : List ℕ) (w bound : ℕ) (fault : ℕ → SigFault) (at : ℕ) (xs : List (ℕ × ℕ)) → numbers_in k text w bound fault at ≡ Ok xs

@@ -1,10 +1,11 @@
 -- The walk through the faces of a table takes each that is in order, and stops at the first that isn't.
 use Rattle.std.proofs.Common.{◌≡◌, ℕ, zero, suc, ◌+◌, ◌*◌, ◌/◌, ◌%◌, ◌<◌, ◌≤◌, Bool, true, false, List, [], ◌∷◌, ◌++◌, length, map, Option, Some, None, refl, sym, ap, ◌∙◌, subst, arith, ◌⊎◌, inl, inr, ⊎_elim, append-nil, below_more}
-use Rattle.std.specs.Prelude.{nat_lt, not, find, filter_map, ◌||◌, ◌&&◌, ◌==◌, if◌then◌else◌, Err}
+use Rattle.std.specs.Prelude.{nat_lt, not, find, filter_map, ◌||◌, ◌&&◌, ◌==◌, Err}
 use Rattle.std.specs.List.{list_all, range_with_len}
-use Rattle.std.proofs.lemmas.Bool.{eqb-true, eq-eqb, lt-ltb, le-ltb, cases_lt, cases_eq, and_parts, and_from}
+use Rattle.std.proofs.lemmas.Bool.{eqb-true, eq-eqb, lt-ltb, le-ltb, cases_lt, cases_eq, and_parts, and_from, or_right}
 use Rattle.std.proofs.lemmas.List.{map-append}
 use Rattle.std.proofs.lemmas.List.Elements.{filter_map-append}
+use Rattle.plain_facts.proofs.Truths.{by_bool, if_true, if_false}
 use borrow.Author.Tests.{ltb-true}
 use Rattle.table_definitions.specs.Lists.{below, same_list}
 use Rattle.table_definitions.specs.Permutation.{identity}
@@ -15,9 +16,10 @@ use Rattle.signature_codec.specs.Slots.{face_at}
 use Rattle.signature_codec.specs.Walks.{Walking, with_type, take_glued, take_entry, take_face, walk_begun, IsWalk, Takes, StopsAt}
 use Rattle.signature_codec.specs.declared.faults.SpellFault.{SpellFault}
 use Rattle.signature_codec.specs.declared.faults.SpellFault.TheVariants.{NoMemory, NotOrdered}
-use Rattle.signature_codec.proofs.Simulation.{faces-places, by_bool}
-use Rattle.signature_codec.proofs.SeenLaws.{is_seen-more, is_seen-begun, is_seen-later, below-more, or_left}
+use Rattle.signature_codec.proofs.Simulation.{faces-places}
+use Rattle.signature_codec.proofs.SeenLaws.{is_seen-more, is_seen-begun, is_seen-later, or_left}
 use Rattle.table_definitions.proofs.Marked.{or-false as or_none}
+use Rattle.table_definitions.proofs.ListFacts.{below_next}
 
 -- an item that there may be, as a list
 abbrev pub listed : {A : Type 0} → Option A → List A
@@ -26,7 +28,7 @@ listed (Some x) = x ∷ []
 
 filter_map-more : {A : Type 0} (F : Face → Option A) (k : ℕ) (o : Option A) → F (face_at k) ≡ o → filter_map F (map face_at (below (k + 1))) ≡ filter_map F (map face_at (below k)) ++ listed o
 filter_map-more {A} F k o e =
-    ap (λ ks. filter_map F (map face_at ks)) (below-more k) ∙ ap (filter_map F) (map-append face_at (below k) (k ∷ []))
+    ap (λ ks. filter_map F (map face_at ks)) (below_next k) ∙ ap (filter_map F) (map-append face_at (below k) (k ∷ []))
     ∙ filter_map-append F (map face_at (below k)) (face_at k ∷ []) ∙ ap (λ xs. filter_map F (map face_at (below k)) ++ xs) (one o e)
   where
     one : (o : Option A) → F (face_at k) ≡ o → filter_map F (face_at k ∷ []) ≡ listed o
@@ -96,16 +98,6 @@ tet_begun rows k w l h = ⊎_elim
     let same : first_place k ≡ k = omega arith in
     ap (λ y. is_seen rows y (k / 4)) (start k ∙ ap face_at same) ∙ h.seen (k / 4))
     (cases_lt (first_place k) k)
-
-pub if_true : {A : Type 0} (b : Bool) (x y : A) → b ≡ true → (if b then x else y) ≡ x
-if_true b x y h = rw h refl
-
-pub if_false : {A : Type 0} (b : Bool) (x y : A) → b ≡ false → (if b then x else y) ≡ y
-if_false b x y h = rw h refl
-
-or_right : (a b : Bool) → b ≡ true → (a || b) ≡ true
-or_right true b h = refl
-or_right false b h = h
 
 -- one more face
 walk_more : (rows : List Row) (k : ℕ) (w v : Walking) (o : Option Gluing) (t : Option ℕ) (q : Option Gluing) → k < 4 * length rows → IsWalk rows k w → glue rows (face_at k) ≡ o

@@ -6,20 +6,21 @@ use Rattle.std.proofs.lemmas.Bool.{lt-ltb, le-ltb, eq-eqb, cases_lt, and_from}
 use Rattle.std.proofs.lemmas.List.{map-append}
 use Rattle.std.proofs.lemmas.List.FromFn.{get_or-map-range_with_len, length-map-range_with_len}
 use Rattle.std.proofs.lemmas.List.Sums.{sum_by-cons}
+use Rattle.plain_facts.proofs.Truths.{if_true, if_false}
 use Rattle.table_definitions.specs.Lists.{same_list, times_in}
 use Rattle.table_definitions.specs.Permutation.{identity, words, image, index}
-use Rattle.table_definitions.specs.Table.{Gluing, Row, IsTable, glue, other_side, is_face_before}
+use Rattle.table_definitions.specs.Table.{Gluing, Row, IsTable, glue, other_side, is_face_before, face_number}
 use Rattle.signature_definitions.specs.WalkOrder.{IsWalkOrdered}
 use Rattle.signature_definitions.specs.Spelling.{face_types, seen_gluings}
 use Rattle.signature_definitions.specs.SignatureText as signatures
 use Rattle.signature_definitions.specs.SignatureText.{faces_of_type}
-use Rattle.perm_four.proofs.Permutations.{image_below, words_permute, index-words}
-use Rattle.signature_codec.specs.Slots.{Slots, place_of, face_at, slot, slot_face, slot_faces, slots_begun, slot_row, slot_rows, IsSlots}
+use Rattle.table_definitions.proofs.Permutations.{image_below, words_permute, index-words}
+use Rattle.signature_codec.specs.Slots.{Slots, face_at, slot, slot_face, slot_faces, slots_begun, slot_row, slot_rows, IsSlots}
 use Rattle.signature_codec.specs.Walks.{Walking, with_type, take_entry, take_face, walk_begun, IsWalk}
 use Rattle.signature_codec.proofs.SlotLaws.{ok_same, face_kept}
 use Rattle.signature_codec.proofs.SeenLaws.{before_places}
-use Rattle.signature_codec.proofs.WalkLaws.{if_true, if_false, takes_on, walk_begins, walk_ordered, walk_types, walk_gluings}
-use Rattle.signature_codec.proofs.TypeLaws.{bind_ok}
+use Rattle.signature_codec.proofs.WalkLaws.{takes_on, walk_begins, walk_ordered, walk_types, walk_gluings}
+use Rattle.text_definitions.proofs.Readers.{bind_ok}
 use Rattle.signature_codec.proofs.Stepping.{free, IsJoined, Stepped, stays, bounds, reaches, glues, place-face_at, face_at-place, stepped}
 use Rattle.signature_codec.proofs.Joined.{met_here, new_met, glues_met, bound_here, joined_on, kept_on, joined_begun}
 
@@ -37,8 +38,8 @@ pub record Parted (parts : signatures.Parts) (w : Walking) (s : Slots) : Type 0 
   pub destinations : map (λ (d : ℕ × ℕ). d.0) parts.destinations ≡ map (λ (g : Gluing). g.tet) w.gluings ++ map (λ (d : ℕ × ℕ). d.0) s.parts.destinations
   pub gluings : map (λ (d : ℕ × ℕ). d.0) parts.gluings ≡ map (λ (g : Gluing). index g.perm) w.gluings ++ map (λ (d : ℕ × ℕ). d.0) s.parts.gluings
 
-pub before_at : (k : ℕ) (g : Gluing) → image g.perm (k % 4) < 4 → is_face_before (other_side (face_at k) g) (face_at k) ≡ nat_lt (place_of (other_side (face_at k) g)) k
-before_at k g h = ap (λ y. is_face_before y (face_at k)) (sym (face_at-place (other_side (face_at k) g) h)) ∙ before_places (place_of (other_side (face_at k) g)) k
+pub before_at : (k : ℕ) (g : Gluing) → image g.perm (k % 4) < 4 → is_face_before (other_side (face_at k) g) (face_at k) ≡ nat_lt (face_number (other_side (face_at k) g)) k
+before_at k g h = ap (λ y. is_face_before y (face_at k)) (sym (face_at-place (other_side (face_at k) g) h)) ∙ before_places (face_number (other_side (face_at k) g)) k
 
 taken : (rows : List Row) (k : ℕ) (w v : Walking) (o : Option Gluing) → k / 4 < w.seen → glue rows (face_at k) ≡ o → take_entry (face_at k) o w ≡ Some v → take_face rows (face_at k) w ≡ Some v
 taken rows k w v o l e f = if_true (nat_lt (k / 4) w.seen) (take_entry (face_at k) (glue rows (face_at k)) w) None (lt-ltb (k / 4) w.seen l) ∙ ap (λ q. take_entry (face_at k) q w) e ∙ f
@@ -52,11 +53,11 @@ walk_step : (n k : ℕ) (rows : List Row) (parts : signatures.Parts) (s t : Slot
 walk_step n k rows parts s t w table l j hx (stays o e same) h fin =
     ⊎_elim
     (λ (never : k < k). absurd (omega arith))
-    (λ (m : (g : Gluing) × (o ≡ Some g) × (place_of (other_side (face_at k) g) < k)).
+    (λ (m : (g : Gluing) × (o ≡ Some g) × (face_number (other_side (face_at k) g) < k)).
     let seen = h.seen in
     let here : glue rows (face_at k) ≡ Some m.0 = fin k o l (ap (λ (u : Slots). get_or u.met k None) (sym same) ∙ e) ∙ m.1 in
     let face = image_below m.0.perm (table.permutes (face_at k) m.0 here) (k % 4) (omega arith) in
-    let before = before_at k m.0 face ∙ lt-ltb (place_of (other_side (face_at k) m.0)) k m.2 in
+    let before = before_at k m.0 face ∙ lt-ltb (face_number (other_side (face_at k) m.0)) k m.2 in
     (w, taken rows k w w (Some m.0) (omega (arith, seen, hx)) here (if_true (is_face_before (other_side (face_at k) m.0) (face_at k)) _ _ before), subst (Parted parts w) same h))
     (j.origin k o e)
 walk_step n k rows parts s t w table l j hx (bounds ts none types same) h fin =
@@ -74,8 +75,8 @@ walk_step n k rows parts s t w table l j hx (reaches ts none types same) h fin =
     let b = new_met n k s ts l j hx none types in
     let here : glue rows (face_at k) ≡ Some g = fin k (Some g) l (ap (λ (u : Slots). get_or u.met k None) (sym same) ∙ met_here s.met k g b) in
     let face = image_below identity (words_permute 0 (omega arith)) (k % 4) (omega arith) in
-    let late : k ≤ place_of (other_side (face_at k) g) = omega arith in
-    let before = before_at k g face ∙ le-ltb (place_of (other_side (face_at k) g)) k late in
+    let late : k ≤ face_number (other_side (face_at k) g) = omega arith in
+    let before = before_at k g face ∙ le-ltb (face_number (other_side (face_at k) g)) k late in
     let new : nat_lt s.seen w.seen ≡ false = le-ltb s.seen w.seen (omega (arith, seen)) in
     let next : ((s.seen == w.seen) && same_list identity identity) ≡ true = and_from (s.seen == w.seen) (same_list identity identity) (eq-eqb s.seen w.seen (sym seen)) refl in (
       v,
@@ -93,8 +94,8 @@ walk_step n k rows parts s t w table l j hx (glues ts d i ds gs none types dests
     let b = glues_met n k s g l old (omega (arith, late, room)) permutes none free' apart in
     let here : glue rows (face_at k) ≡ Some g = fin k (Some g) l (ap (λ (u : Slots). get_or u.met k None) (sym same) ∙ met_here s.met k g b) in
     let face = image_below g.perm permutes (k % 4) (omega arith) in
-    let unmet : k ≤ place_of (other_side (face_at k) g) = not_before (place_of (other_side (face_at k) g)) free' in
-    let before = before_at k g face ∙ le-ltb (place_of (other_side (face_at k) g)) k unmet in
+    let unmet : k ≤ face_number (other_side (face_at k) g) = not_before (face_number (other_side (face_at k) g)) free' in
+    let before = before_at k g face ∙ le-ltb (face_number (other_side (face_at k) g)) k unmet in
     let lt : d.0 < w.seen = omega (arith, seen, late) in (
       v,
       taken rows k w v (Some g) (omega (arith, seen, hx)) here

@@ -4,7 +4,7 @@ use Rattle.std.specs.List.{slice_index_or}
 use Rattle.text_definitions.specs.Reading.{◌>>=◌}
 use Rattle.table_definitions.specs.Lists.{below, times_in}
 use Rattle.table_definitions.specs.Permutation.{four, identity, words}
-use Rattle.table_definitions.specs.Table.{Gluing, Row, Face, other_side, way_back, same_face}
+use Rattle.table_definitions.specs.Table.{Gluing, Row, Face, other_side, way_back, same_face, face_number}
 use Rattle.signature_definitions.specs.declared.SigFault.{SigFault}
 use Rattle.signature_definitions.specs.declared.SigFault.TheVariants as sig_faults
 use Rattle.signature_definitions.specs.SignatureText as signatures
@@ -17,22 +17,19 @@ pub record Slots : Type 0 where
   pub seen : ℕ
   pub parts : signatures.Parts
 
-abbrev pub place_of : Face → ℕ
-place_of x = 4 * x.tet + x.face
-
 abbrev pub face_at : ℕ → Face
 face_at k = record { tet = k / 4; face = k % 4 }
 
 -- what is known of a face: nothing where it isn't met
 abbrev pub slot : List (Option (Option Gluing)) → Face → Option (Option Gluing)
-slot met x = slice_index_or met (place_of x) None
+slot met x = slice_index_or met (face_number x) None
 
 -- both sides of a face are met
 abbrev pub meet_at : List (Option (Option Gluing)) → Face → Gluing → List (Option (Option Gluing))
-meet_at met x g = slice_set (slice_set met (place_of (other_side x g)) (Some (Some (way_back x g)))) (place_of x) (Some (Some g))
+meet_at met x g = slice_set (slice_set met (face_number (other_side x g)) (Some (Some (way_back x g)))) (face_number x) (Some (Some g))
 
 abbrev pub slot_boundary : Face → Slots → Slots
-slot_boundary x s = record s { met = slice_set s.met (place_of x) (Some None) }
+slot_boundary x s = record s { met = slice_set s.met (face_number x) (Some None) }
 
 abbrev pub slot_new : Face → Slots → Slots
 slot_new x s = record s { met = meet_at s.met x (record { tet = s.seen; perm = identity }); seen = s.seen + 1 }

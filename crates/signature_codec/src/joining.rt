@@ -1,20 +1,19 @@
 //! The faces of a table, joined in order.
 
-ghost use Rattle.std.specs.Prelude.{◌≡◌, ◌<◌, ◌≤◌, ◌+◌, ◌*◌, ℕ, [], length, drop, slice_set, is_some, Some, None, unwrap_or, OnOk, IfOk};
-ghost use Rattle.std.specs.List.{slice_index_or};
-ghost use Rattle.table_definitions.specs.Permutation as permutations;
+ghost use Rattle.std.specs.Prelude.{◌≡◌, ◌<◌, ◌≤◌, ◌+◌, ◌*◌, ℕ, length, drop, slice_set, is_some, Some, None, unwrap_or, OnOk, IfOk};
 ghost use Rattle.table_definitions.specs.Table as gluings;
+ghost use Rattle.table_definitions.specs.Table.{face_number};
 ghost use Rattle.signature_definitions.specs.SignatureText as signatures;
 ghost use Rattle.signature_codec.specs.Faults.{Reads, Leaves};
 ghost use Rattle.signature_codec.specs.Slots as slots;
-ghost use Rattle.signature_codec.specs.Slots.{IsSlots, IsTaking, place_of, face_at, meet_at, slots_shown, slots_begun};
+ghost use Rattle.signature_codec.specs.Slots.{IsSlots, IsTaking, face_at, meet_at, slots_shown, slots_begun};
 ghost use Rattle.signature_codec.specs.Parts.{parts_shown};
 
 use crate::SigFault;
 use crate::parts::Parts;
 use gluing_table::{Face, Glue, Row};
 use no_memory::NoMemory;
-use perm_four::Perm4;
+use perm_four::perm_at;
 use std::alloc::Global;
 
 /// What each face is glued to, where it was met; the number of tetrahedra that are seen; and how many types, and how
@@ -30,7 +29,7 @@ struct Joining {
 /// The place of a face among those of all tetrahedra.
 fn place(face: Face) -> usize
     requires { face.face < 4 }
-    ensures { result ≡ place_of face }
+    ensures { result ≡ face_number face }
 {
     4 * face.tet as usize + face.face as usize
 }
@@ -44,7 +43,7 @@ fn same_face(first: Face, second: Face) -> bool
 /// What is known of a face.
 fn slot(met: &[Option<Option<Glue>>], face: Face) -> Option<Option<Glue>>
     requires a_face { face.face < 4 }
-    requires in_range { place_of face < length met.now }
+    requires in_range { face_number face < length met.now }
     ensures { result ≡ slots.slot met.now face }
 {
     met[place(face)]
@@ -52,8 +51,8 @@ fn slot(met: &[Option<Option<Glue>>], face: Face) -> Option<Option<Glue>>
 
 fn set_slot(met: &mut [Option<Option<Glue>>], face: Face, glue: Option<Glue>)
     requires a_face { face.face < 4 }
-    requires in_range { place_of face < length met.old }
-    ensures { met.new ≡ slice_set met.old (place_of face) (Some glue) }
+    requires in_range { face_number face < length met.old }
+    ensures { met.new ≡ slice_set met.old (face_number face) (Some glue) }
 {
     met[place(face)] = Some(glue);
 }
@@ -61,7 +60,7 @@ fn set_slot(met: &mut [Option<Option<Glue>>], face: Face, glue: Option<Glue>)
 /// Meets both sides of a face.
 fn meet(met: &mut [Option<Option<Glue>>], face: Face, glue: Glue)
     requires a_face { face.face < 4 }
-    requires here { place_of face < length met.old }
+    requires here { face_number face < length met.old }
     requires there { 4 * glue.tet + 4 ≤ length met.old }
     ensures { met.new ≡ meet_at met.old face glue }
 {
@@ -75,17 +74,6 @@ fn pair_at(pairs: &[(u32, usize)], i: usize) -> (u32, usize)
     ensures { result ≡ signatures.first_pair (drop i pairs.now) }
 {
     pairs[i]
-}
-
-/// The permutation at this place.
-pub fn perm_at(index: u32) -> Perm4
-    requires { index < 24 }
-    ensures { result ≡ slice_index_or permutations.words index [] }
-{
-    match Perm4::of_index(index as u8) {
-        Some(perm) => perm,
-        None => unreachable!(),
-    }
 }
 
 /// Joins a face to a tetrahedron that is seen.
@@ -192,7 +180,7 @@ fn join_faces(alloc: Global, parts: &Parts) -> Result<Joining, SigFault>
 /// What a face is glued to.
 fn glued_in(met: &[Option<Option<Glue>>], face: Face) -> Option<Glue>
     requires a_face { face.face < 4 }
-    requires in_range { place_of face < length met.now }
+    requires in_range { face_number face < length met.now }
     ensures { result ≡ unwrap_or (slots.slot met.now face) None }
 {
     slot(met, face).unwrap_or(None)

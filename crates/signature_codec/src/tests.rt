@@ -1,6 +1,7 @@
 use super::*;
 use bench_io::Lexer;
-use gluing_table::write_table;
+use gluing_table::{Glue, Table, write_table};
+use perm_four::Perm4;
 use std::alloc::Global;
 use std::test::Fail;
 
@@ -60,6 +61,17 @@ fn the_first_fault_is_answered(rt: HostRuntime) {
     for (text, fault) in faults {
         assert_eq!(rt; read_signature(rt.alloc(), text).err(), Some(fault));
     }
+}
+
+#[test]
+fn tables_in_another_order_are_not_spelled(rt: HostRuntime) {
+    let to = |tet: u32| Perm4::from_word(b"1023").map(|perm| Glue { tet, perm });
+    let rows = [[to(1), None, None, None], [None, to(0), None, None]];
+    let table = Table::from_rows(rt.alloc(), &rows).expect(&rt, "a table");
+    assert_eq!(rt;
+        spell(rt.alloc(), &table).err(),
+        Some(SpellFault::NotOrdered { tet: 0, face: 0 })
+    );
 }
 
 #[test]

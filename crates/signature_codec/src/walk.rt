@@ -9,9 +9,8 @@ ghost use Rattle.signature_codec.specs.Walks as walks;
 ghost use Rattle.signature_codec.specs.Walks.{walk_shown, Takes, IsWholeWalk, StopsAt};
 
 use crate::SpellFault;
-use crate::joining::perm_at;
 use gluing_table::{Face, Glue, Table};
-use perm_four::Perm4;
+use perm_four::{Perm4, perm_at};
 use std::alloc::Global;
 
 /// The number of tetrahedra that are seen, the types of the faces, and the gluings of those of type 2.
@@ -20,12 +19,6 @@ pub struct Walk {
     pub seen: u32,
     pub types: Vec<u8>,
     pub gluings: Vec<Glue>,
-}
-
-fn is_before(first: Face, second: Face) -> bool
-    ensures { result ≡ gluings.is_face_before first second }
-{
-    first.tet < second.tet || (first.tet == second.tet && first.face < second.face)
 }
 
 fn is_identity(perm: Perm4) -> bool
@@ -40,7 +33,7 @@ fn take_glued(walk: &mut Walk, face: Face, glue: Glue) -> Result<(), SpellFault>
     requires few { walk.old.seen ≤ 1000 }
     ensures takes { Takes (walk_shown walk.new) face result (walks.take_glued face glue (walk_shown walk.old)) }
 {
-    if is_before(glue.other_side(face), face) {
+    if glue.other_side(face).is_before(face) {
         return Ok(());
     }
     if glue.tet < walk.seen {

@@ -12,19 +12,19 @@ use Rattle.table_definitions.specs.Places.{IsConnected}
 use Rattle.table_definitions.specs.Relabelling.{Relabelling, IsRelabelling, Carries}
 use Rattle.signature_definitions.specs.Spelling.{spelling, IsSignature}
 use Rattle.labelling_definitions.specs.Labellings.{Start}
-use Rattle.perm_four.proofs.Permutations.{words_permute}
-use Rattle.gluing_table.specs.Moved.{moved_row}
-use Rattle.gluing_table.proofs.Moves.{carries_from}
-use Rattle.gluing_table.proofs.Carried.{image_in_range, carried_is_table}
+use Rattle.table_definitions.proofs.Permutations.{words_permute}
+use Rattle.table_definitions.specs.Moved.{moved_row}
+use Rattle.table_definitions.proofs.Moves.{carries_from}
+use Rattle.table_definitions.proofs.Carried.{image_in_range, carried_is_table}
 use Rattle.canonical_labelling.specs.Between.{made, place_of}
 use Rattle.canonical_labelling.specs.Orders.{start_at, whole_order, IsWholeOrder, Numbers}
 use Rattle.canonical_labelling.specs.Starts.{start_at as numbered_start, IsTextFrom, IsLeastText}
 use Rattle.canonical_labelling.proofs.Standing.{made_stands, CanStand, made_relabelling, place_of-image}
 use Rattle.canonical_labelling.proofs.Least.{least_begun, least_better, one_text, least_is_signature, empty_ordered, empty_signature}
 use Rattle.signature_laws.specs.Laws.{RelabelledExist, WalksExist, SignaturesExist}
-use Rattle.signature_laws.proofs.Sound.{IsOrder, order_holds}
-use Rattle.signature_laws.proofs.Reaching.{order_few, whole_order_holds}
-use Rattle.signature_laws.proofs.Labelled.{labelled_is_walked}
+use Rattle.canonical_labelling.proofs.Sound.{IsOrder, order_holds}
+use Rattle.canonical_labelling.proofs.Reaching.{order_few, whole_order_holds}
+use Rattle.canonical_labelling.proofs.Labelled.{labelled_is_walked}
 
 -- the table to which a relabelling carries
 pub relabelled_exist_lem : RelabelledExist

@@ -6,17 +6,11 @@ use Rattle.std.proofs.lemmas.Bool.{eqb-true, eqb-false, ltb-true, and_parts}
 use Rattle.table_definitions.specs.Lists.{below, same_list}
 use Rattle.table_definitions.specs.Permutation.{others}
 use Rattle.table_definitions.specs.Places.{ends, edge_number}
-use Rattle.table_definitions.proofs.TableLaws.{Among-below}
-use Rattle.table_definitions.proofs.Tests.{list_all-among}
-use Rattle.table_definitions.proofs.ListLaws.{same_list-true}
+use Rattle.table_definitions.proofs.ListFacts.{list_all-below, same_list-true}
 use Rattle.skeleton.specs.Crossings.{pair_number}
 
--- a test that all numbers below n pass
-pub below_all : (t : ℕ → Bool) (n : ℕ) → list_all t (below n) ≡ true → (i : ℕ) → i < n → t i ≡ true
-below_all t n h i l = list_all-among t i (below n) h (Among-below i n l)
-
 pub pairs_all : (t : ℕ → ℕ → Bool) → list_all (λ a. list_all (t a) (below 4)) (below 4) ≡ true → (a b : ℕ) → a < 4 → b < 4 → t a b ≡ true
-pairs_all t h a b l m = below_all (t a) 4 (below_all (λ x. list_all (t x) (below 4)) 4 h a l) b m
+pairs_all t h a b l m = list_all-below (t a) 4 (list_all-below (λ x. list_all (t x) (below 4)) 4 h a l) b m
 
 -- the table of the edges' numbers
 abbrev pub numbers : List ℕ
@@ -30,7 +24,7 @@ pub edge_number-turned : (a b : ℕ) → a < 4 → b < 4 → edge_number b a ≡
 edge_number-turned a b l m = eqb-true (edge_number b a) (edge_number a b) (pairs_all (λ x y. edge_number y x == edge_number x y) refl a b l m)
 
 pub edge_number-ends : (e : ℕ) → e < 6 → edge_number (slice_index (ends e) 0) (slice_index (ends e) 1) ≡ e
-edge_number-ends e l = eqb-true (edge_number (slice_index (ends e) 0) (slice_index (ends e) 1)) e (below_all (λ x. edge_number (slice_index (ends x) 0) (slice_index (ends x) 1) == x) 6 refl e l)
+edge_number-ends e l = eqb-true (edge_number (slice_index (ends e) 0) (slice_index (ends e) 1)) e (list_all-below (λ x. edge_number (slice_index (ends x) 0) (slice_index (ends x) 1) == x) 6 refl e l)
 
 -- the ends, ascending
 pub record AreEnds (e : ℕ) : Type 0 where
@@ -41,9 +35,9 @@ pub record AreEnds (e : ℕ) : Type 0 where
 pub are_ends : (e : ℕ) → e < 6 → AreEnds e
 are_ends e l = record {
   two = same_list-true (ends e) (slice_index (ends e) 0 ∷ slice_index (ends e) 1 ∷ [])
-      (below_all (λ x. same_list (ends x) (slice_index (ends x) 0 ∷ slice_index (ends x) 1 ∷ [])) 6 refl e l);
-  ascending = ltb-true (slice_index (ends e) 0) (slice_index (ends e) 1) (below_all (λ x. nat_lt (slice_index (ends x) 0) (slice_index (ends x) 1)) 6 refl e l);
-  in_range = ltb-true (slice_index (ends e) 1) 4 (below_all (λ x. nat_lt (slice_index (ends x) 1) 4) 6 refl e l);
+      (list_all-below (λ x. same_list (ends x) (slice_index (ends x) 0 ∷ slice_index (ends x) 1 ∷ [])) 6 refl e l);
+  ascending = ltb-true (slice_index (ends e) 0) (slice_index (ends e) 1) (list_all-below (λ x. nat_lt (slice_index (ends x) 0) (slice_index (ends x) 1)) 6 refl e l);
+  in_range = ltb-true (slice_index (ends e) 1) 4 (list_all-below (λ x. nat_lt (slice_index (ends x) 1) 4) 6 refl e l);
 }
 
 or_cases : (a b c : Bool) → (a || (b || c)) ≡ true → (a ≡ true) ⊎ ((b ≡ true) ⊎ (c ≡ true))
@@ -81,13 +75,13 @@ abbrev pub head : ℕ → ℕ
 head d = slice_index (others (d / 3)) (d % 3)
 
 pub head_below : (d : ℕ) → d < 12 → head d < 4
-head_below d l = ltb-true (head d) 4 (below_all (λ x. nat_lt (head x) 4) 12 refl d l)
+head_below d l = ltb-true (head d) 4 (list_all-below (λ x. nat_lt (head x) 4) 12 refl d l)
 
 pub pair_number-head : (d : ℕ) → d < 12 → pair_number (d / 3) (head d) ≡ d
-pair_number-head d l = eqb-true (pair_number (d / 3) (head d)) d (below_all (λ x. pair_number (x / 3) (head x) == x) 12 refl d l)
+pair_number-head d l = eqb-true (pair_number (d / 3) (head d)) d (list_all-below (λ x. pair_number (x / 3) (head x) == x) 12 refl d l)
 
 pub apart_head : (d : ℕ) → d < 12 → d / 3 ≢ head d
-apart_head d l = eqb-false (d / 3) (head d) (not-true (d / 3 == head d) (below_all (λ x. not (x / 3 == head x)) 12 refl d l))
+apart_head d l = eqb-false (d / 3) (head d) (not-true (d / 3 == head d) (list_all-below (λ x. not (x / 3 == head x)) 12 refl d l))
   where
     not-true : (b : Bool) → not b ≡ true → b ≡ false
     not-true true h = cc

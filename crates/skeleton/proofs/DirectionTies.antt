@@ -1,15 +1,14 @@
 -- Directed edges by numbers.
 use Rattle.std.proofs.Common.{◌≡◌, ◌≢◌, ℕ, ◌+◌, ◌*◌, ◌/◌, ◌%◌, ◌<◌, List, length, Some, refl, sym, ap, ◌∙◌, arith, subst}
-use Rattle.std.proofs.lemmas.Bool.{eqb-true, eq-eqb}
-use Rattle.table_definitions.specs.Permutation.{image, IsPermutationOfFour}
+use Rattle.table_definitions.specs.Permutation.{image}
 use Rattle.table_definitions.specs.Table.{Row, IsTable}
 use Rattle.table_definitions.specs.Places.{Place, IsPlace, across, carried}
 use Rattle.skeleton_definitions.specs.Links.{directed}
-use Rattle.table_definitions.proofs.PermutationLaws.{image_below, image_same}
+use Rattle.table_definitions.proofs.PermutationLaws.{image_below, images_apart}
+use Rattle.table_definitions.proofs.ChainLaws.{steps_across}
 use Rattle.skeleton.specs.Crossings.{direction_at, crossed_direction, pair, pair_number}
 use Rattle.skeleton.proofs.Cases.{head, head_below, apart_head, pair_number-head, pair_number-parts}
 use Rattle.skeleton.proofs.CrossingLemmas.{directed_is}
-use Rattle.skeleton.proofs.StepsBack.{crosses}
 use Rattle.skeleton.proofs.PlaceLemmas.{AreCounted}
 
 -- two different vertices in an order
@@ -20,10 +19,6 @@ pair_is t v w l m ne =
     let d : (12 * t + pair_number v w) / 12 ≡ t = omega arith in
     let r : (12 * t + pair_number v w) % 12 ≡ pair_number v w = omega arith in
     directed_is (12 * t + pair_number v w) v w (sym (ap (λ k. k / 3) r ∙ p.1)) (sym (ap head r ∙ p.2)) ∙ (λ k. pair (d k) v w)
-
--- images of different vertices are different
-pub images_apart : (p : List ℕ) (v w : ℕ) → IsPermutationOfFour p → v < 4 → w < 4 → v ≢ w → image p v ≢ image p w
-images_apart p v w h l m ne e = ne (eqb-true v w (sym (image_same p v w h l m) ∙ eq-eqb (image p v) (image p w) e))
 
 pub directed_pair : (i : ℕ) → directed i ≡ pair (i / 12) ((i % 12) / 3) (head (i % 12))
 directed_pair i = directed_is i ((i % 12) / 3) (head (i % 12)) refl refl
@@ -52,7 +47,7 @@ directions_counted rows table = record {
 
     landed : (i f : ℕ) (q : Place) → across rows (directed i) f ≡ Some q → (q ≡ directed (direction_at q)) × (direction_at q < 12 * length rows)
     landed i f q e =
-        let s = crosses rows (directed i) f q e in
+        let s = steps_across rows (directed i) f q e in
         let p = s.gluing.perm in
         let h = table.permutes _ s.gluing s.glued in
         let v = (i % 12) / 3 in

@@ -4,13 +4,12 @@ use Rattle.std.specs.Prelude.{◌==◌, ◌||◌, option_map, option_and_then, s
 use Rattle.table_definitions.specs.Permutation.{image}
 use Rattle.table_definitions.specs.Table.{Gluing, Row, glue, IsTable}
 use Rattle.table_definitions.specs.Places.{Place, IsPlace, across, along, carried, turned, edge, ends, edge_number, SameEdge}
-use Rattle.table_definitions.proofs.PermutationLaws.{image_below}
+use Rattle.table_definitions.proofs.PermutationLaws.{image_below, images_apart}
+use Rattle.table_definitions.proofs.ChainLaws.{steps_across, step_back, face_crossed}
 use Rattle.skeleton.specs.Crossings.{edge_at, crossed_edge, pair}
 use Rattle.skeleton.specs.Neighbours.{led, IsLed, IsReversible}
 use Rattle.skeleton.proofs.Cases.{are_ends, edge_number-turned, edge_number-ends, ends-edge_number}
 use Rattle.skeleton.proofs.CrossingLemmas.{edge_is}
-use Rattle.skeleton.proofs.DirectionTies.{images_apart}
-use Rattle.skeleton.proofs.StepsBack.{crosses, step_back, face_crossed}
 
 abbrev low : ℕ → ℕ
 low i = slice_index (ends (i % 6)) 0
@@ -88,7 +87,7 @@ module _ (rows : List Row) (table : IsTable rows) where
 
   lands : (i f : ℕ) (q : Place) → across rows (edge i) f ≡ Some q → Lands i f q
   lands i f q e =
-      let s = crosses rows (edge i) f q e in
+      let s = steps_across rows (edge i) f q e in
       let p = s.gluing.perm in
       let h = table.permutes _ s.gluing s.glued in
       let k = are_ends (i % 6) (part i) in

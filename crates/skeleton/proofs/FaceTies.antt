@@ -1,22 +1,17 @@
 -- Faces by numbers.
-use Rattle.std.proofs.Common.{◌≡◌, ◌↔◌, inl, inr, false, ℕ, zero, suc, ◌+◌, ◌*◌, ◌/◌, ◌%◌, ◌<◌, List, [], ◌∷◌, length, Option, Some, None, refl, sym, ap, ◌∙◌, arith, subst}
+use Rattle.std.proofs.Common.{◌≡◌, ◌↔◌, inl, inr, false, ℕ, zero, suc, ◌*◌, ◌/◌, ◌%◌, ◌<◌, List, [], ◌∷◌, length, Option, Some, None, refl, sym, ap, ◌∙◌, arith, subst}
 use Rattle.std.specs.Prelude.{◌==◌, option_map, option_and_then}
 use Rattle.table_definitions.specs.Permutation.{image, inverse}
-use Rattle.table_definitions.specs.Table.{Gluing, Face, Row, glue, other_side, way_back, IsTable}
+use Rattle.table_definitions.specs.Table.{Gluing, Face, Row, glue, other_side, way_back, IsTable, face_number}
 use Rattle.table_definitions.specs.Places.{face_of, SameFace}
 use Rattle.table_definitions.proofs.PermutationLaws.{image_below, image-of_inverse}
+use Rattle.table_definitions.proofs.Faces.{face_of-number}
 use Rattle.std.proofs.lemmas.Bool.{ne_eqb}
 use Rattle.skeleton.proofs.CrossingLemmas.{crossed_face-other}
-use Rattle.skeleton.specs.Crossings.{face_at, crossed_face}
+use Rattle.skeleton.specs.Crossings.{crossed_face}
 use Rattle.skeleton.specs.Neighbours.{led, IsLed, IsReversible}
 
-pub face_is : (x : Face) → x.face < 4 → face_of (face_at x) ≡ x
-face_is x l =
-    let d : (4 * x.tet + x.face) / 4 ≡ x.tet = omega arith in
-    let m : (4 * x.tet + x.face) % 4 ≡ x.face = omega arith in
-    λ i. record { tet = d i; face = m i }
-
-pub number_of_face : (i : ℕ) → face_at (face_of i) ≡ i
+pub number_of_face : (i : ℕ) → face_number (face_of i) ≡ i
 number_of_face i = omega arith
 
 module _ (rows : List Row) (table : IsTable rows) where
@@ -26,13 +21,13 @@ module _ (rows : List Row) (table : IsTable rows) where
     gluing : Gluing
     glued : glue rows (face_of i) ≡ Some gluing
     there : other_side (face_of i) gluing ≡ face_of j
-    number : face_at (other_side (face_of i) gluing) ≡ j
+    number : face_number (other_side (face_of i) gluing) ≡ j
     inside : j < 4 * length rows
 
-  leads_by : (i j : ℕ) (o : Option Gluing) → glue rows (face_of i) ≡ o → option_map (λ g. face_at (other_side (face_of i) g)) o ≡ Some j → Leads i 0 j
+  leads_by : (i j : ℕ) (o : Option Gluing) → glue rows (face_of i) ≡ o → option_map (λ g. face_number (other_side (face_of i) g)) o ≡ Some j → Leads i 0 j
   leads_by i j None h e = absurd cc
   leads_by i j (Some g) h e =
-      let number : face_at (other_side (face_of i) g) ≡ j = cc in
+      let number : face_number (other_side (face_of i) g) ≡ j = cc in
       let own : i % 4 < 4 = omega arith in
       let v : image g.perm (i % 4) < 4 = image_below g.perm (i % 4) (table.permutes (face_of i) g h) own in
       let t : g.tet < length rows = table.in_range (face_of i) g h in
@@ -41,7 +36,7 @@ module _ (rows : List Row) (table : IsTable rows) where
         first = refl;
         gluing = g;
         glued = h;
-        there = sym (face_is (other_side (face_of i) g) v) ∙ ap face_of number;
+        there = sym (face_of-number (other_side (face_of i) g) v) ∙ ap face_of number;
         number = number;
         inside = inside;
       }
@@ -53,7 +48,7 @@ module _ (rows : List Row) (table : IsTable rows) where
 
   glued_leads : (i j : ℕ) (g : Gluing) → glue rows (face_of i) ≡ Some g → other_side (face_of i) g ≡ face_of j → crossed_face rows i 0 ≡ Some j
   unfolding crossed_face
-  glued_leads i j g h e = ap (λ (o : Option Gluing). option_map (λ k. face_at (other_side (face_of i) k)) o) h ∙ ap (λ (x : Face). Some (face_at x)) e ∙ ap Some (number_of_face j)
+  glued_leads i j g h e = ap (λ (o : Option Gluing). option_map (λ k. face_number (other_side (face_of i) k)) o) h ∙ ap (λ (x : Face). Some (face_number x)) e ∙ ap Some (number_of_face j)
 
   -- the step back
   back : (i f j : ℕ) → crossed_face rows i f ≡ Some j → crossed_face rows j 0 ≡ Some i

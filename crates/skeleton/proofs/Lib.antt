@@ -8,7 +8,6 @@ pub mod PlaceLemmas
 pub mod RoundLemmas
 pub mod SignTies
 pub mod SignLemmas
-pub mod StepsBack
 pub mod VertexSignTies
 pub mod VertexTies
 pub mod WalkLemmas

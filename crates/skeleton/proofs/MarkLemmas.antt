@@ -1,8 +1,8 @@
 -- Counts and marks, one thing after the other.
-use Rattle.std.proofs.Common.{◌≡◌, ◌≢◌, ◌⊎◌, inl, inr, ℕ, zero, suc, ◌+◌, ◌<◌, Bool, true, false, List, [], ◌∷◌, ◌++◌, length, take, set, replicate, refl, sym, ap, ◌∙◌, arith, subst}
+use Rattle.std.proofs.Common.{◌≡◌, ◌≢◌, ◌⊎◌, inl, inr, ℕ, zero, suc, ◌+◌, ◌<◌, Bool, true, false, List, [], ◌∷◌, length, take, set, replicate, refl, sym, ap, ◌∙◌, arith, subst}
 use Rattle.std.specs.Prelude.{◌==◌, ◌&&◌, ◌||◌, not, slice_index, map}
 use Rattle.std.specs.List.{slice_index_or, list_any, list_all, range_with_len}
-use Rattle.std.proofs.lemmas.Bool.{cases_eq, cases_lt, eq-eqb, ne_eqb, false≢true}
+use Rattle.std.proofs.lemmas.Bool.{cases_eq, cases_lt, eq-eqb, ne_eqb, false≢true, or_parts, or_cases}
 use Rattle.std.proofs.Math.Bool.{or-false}
 use Rattle.std.proofs.lemmas.List.{get_or-set_same, get_or-set_other}
 use Rattle.std.proofs.lemmas.List.Folds.{list_any-append}
@@ -12,18 +12,11 @@ use Rattle.table_definitions.specs.Permutation.{four}
 use Rattle.table_definitions.specs.Table.{Row}
 use Rattle.table_definitions.specs.Places.{is_boundary, is_closed, lies_in_boundary}
 use Rattle.table_definitions.proofs.Tests.{each_face}
+use Rattle.table_definitions.proofs.ListFacts.{below_next}
 use Rattle.skeleton.specs.Parts.{AreBoundaryMarks, AreBoundaryMarksUpTo, is_open_at}
 
--- the numbers below one more
-range_more : (a n : ℕ) → range_with_len a (suc n) ≡ range_with_len a n ++ (a + n) ∷ []
-range_more a zero = let e : a ≡ a + 0 = omega arith in ap (λ k. k ∷ []) e
-range_more a (suc n) = ap (λ (xs : List ℕ). a ∷ xs) (range_more (a + 1) n) ∙ (let e : a + 1 + n ≡ a + suc n = omega arith in ap (λ k. a ∷ (range_with_len (a + 1) n ++ k ∷ [])) e)
-
-pub below_more : (i : ℕ) → below (i + 1) ≡ below i ++ i ∷ []
-below_more i = let e : i + 1 ≡ suc i = omega arith in let f : 0 + i ≡ i = omega arith in ap below e ∙ range_more 0 i ∙ ap (λ k. below i ++ k ∷ []) f
-
 pub any_more : (p : ℕ → Bool) (i : ℕ) → list_any p (below (i + 1)) ≡ (list_any p (below i) || p i)
-any_more p i = ap (list_any p) (below_more i) ∙ list_any-append p (below i) (i ∷ []) ∙ ap (λ b. list_any p (below i) || b) (or-false (p i))
+any_more p i = ap (list_any p) (below_next i) ∙ list_any-append p (below i) (i ∷ []) ∙ ap (λ b. list_any p (below i) || b) (or-false (p i))
 
 -- a degree grows
 pub times_other : (classes : List ℕ) (i c : ℕ) → i < length classes → slice_index classes i ≢ c → times_in (take (i + 1) classes) c ≡ times_in (take i classes) c
@@ -126,25 +119,17 @@ closed_from rows a (suc n) h =
 pub closed_everywhere : (rows : List Row) → ((t f : ℕ) → t < length rows → f < 4 → is_open_at rows t f ≡ false) → true ≡ is_closed rows
 closed_everywhere rows h = sym (closed_from rows 0 (length rows) (λ t f l m. h t f (omega arith) m))
 
-or_first : (a b : Bool) → (a || b) ≡ false → (a ≡ false) × (b ≡ false)
-or_first true b h = absurd (let z : true ≡ false = h in cc)
-or_first false b h = (refl, h)
-
-or_either : (a b : Bool) → (a || b) ≡ true → (a ≡ true) ⊎ (b ≡ true)
-or_either true b h = inl refl
-or_either false b h = inr h
-
 pub no_face : (p : ℕ → Bool) → (((p 0 || p 1) || p 2) || p 3) ≡ false → (f : ℕ) → f < 4 → p f ≡ false
 no_face p h f l = by_face f l
   where
     a : (((p 0 || p 1) || p 2) ≡ false) × (p 3 ≡ false)
-    a = or_first ((p 0 || p 1) || p 2) (p 3) h
+    a = or_parts ((p 0 || p 1) || p 2) (p 3) h
 
     b : ((p 0 || p 1) ≡ false) × (p 2 ≡ false)
-    b = or_first (p 0 || p 1) (p 2) a.0
+    b = or_parts (p 0 || p 1) (p 2) a.0
 
     c : (p 0 ≡ false) × (p 1 ≡ false)
-    c = or_first (p 0) (p 1) b.0
+    c = or_parts (p 0) (p 1) b.0
 
     by_face : (f : ℕ) → f < 4 → p f ≡ false
     by_face zero l = c.0
@@ -154,11 +139,11 @@ no_face p h f l = by_face f l
     by_face (suc (suc (suc (suc f)))) l = absurd (omega arith)
 
 pub some_face : (p : ℕ → Bool) → (((p 0 || p 1) || p 2) || p 3) ≡ true → (f : ℕ) × (f < 4) × (p f ≡ true)
-some_face p h = elim (or_either ((p 0 || p 1) || p 2) (p 3) h) [
+some_face p h = elim (or_cases ((p 0 || p 1) || p 2) (p 3) h) [
   | inr d ↦ let l : 3 < 4 = omega arith in (3, l, d)
-  | inl abc ↦ elim (or_either (p 0 || p 1) (p 2) abc) [
+  | inl abc ↦ elim (or_cases (p 0 || p 1) (p 2) abc) [
     | inr c ↦ let l : 2 < 4 = omega arith in (2, l, c)
-    | inl ab ↦ elim (or_either (p 0) (p 1) ab) [
+    | inl ab ↦ elim (or_cases (p 0) (p 1) ab) [
       | inl a ↦ let l : 0 < 4 = omega arith in (0, l, a)
       | inr b ↦ let l : 1 < 4 = omega arith in (1, l, b)
     ]

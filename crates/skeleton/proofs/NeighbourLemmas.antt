@@ -4,9 +4,10 @@ use Rattle.std.specs.Prelude.{option_and_then, slice_index}
 use Rattle.std.specs.List.{slice_index_or}
 use Rattle.std.proofs.lemmas.List.{get_or_push, get_or_append_left}
 use Rattle.std.proofs.lemmas.Bool.{cases_lt}
+use Rattle.plain_facts.proofs.Members.{contains_at}
 use Rattle.finite_walks.specs.Joined.{LeadsBy, IsJoined, IsSymmetric, HasNeighboursBelow, neighbours_of}
 use Rattle.finite_walks.proofs.Rows.{present, present_contains}
-use Rattle.finite_walks.proofs.Places.{contains_at, place_of}
+use Rattle.finite_walks.proofs.Places.{place_of}
 use Rattle.skeleton.specs.Neighbours.{AreNeighbours, row_at, led, IsLed, IsReversible}
 
 -- one more row
@@ -38,12 +39,12 @@ entry_of (Some x ∷ row) y c = let p = place_of (x ∷ present row) y c in by_p
         let f = later (contains_at (present row) k y inside e) in
         let m : f.0 < length row = f.1 in let n : suc f.0 < length (Some x ∷ row) = omega arith in (suc f.0, n, f.2)
 
-at_row : (next : ℕ → ℕ → Option ℕ) (i f : ℕ) → f < 4 → slice_index_or (row_at next i) f None ≡ next i f
-at_row next i zero l = refl
-at_row next i (suc zero) l = refl
-at_row next i (suc (suc zero)) l = refl
-at_row next i (suc (suc (suc zero))) l = refl
-at_row next i (suc (suc (suc (suc f)))) l = absurd (omega arith)
+pub entry_at : (next : ℕ → ℕ → Option ℕ) (i f : ℕ) → f < 4 → slice_index_or (row_at next i) f None ≡ next i f
+entry_at next i zero l = refl
+entry_at next i (suc zero) l = refl
+entry_at next i (suc (suc zero)) l = refl
+entry_at next i (suc (suc (suc zero))) l = refl
+entry_at next i (suc (suc (suc (suc f)))) l = absurd (omega arith)
 
 -- a place past the end has no neighbours
 no_row : (table : List (List (Option ℕ))) (i j : ℕ) → length table ≤ i → Contains (neighbours_of table i) j → ⊥
@@ -53,14 +54,14 @@ no_row (row ∷ table) (suc i) j l c = let m : length table ≤ i = omega arith 
 
 module _ (n : ℕ) (next : ℕ → ℕ → Option ℕ) (table : List (List (Option ℕ))) (a : AreNeighbours n next table) where
   pub contained : (i f j : ℕ) → i < n → f < 4 → next i f ≡ Some j → Contains (neighbours_of table i) j
-  contained i f j l m e = present_contains (slice_index_or table i []) f j (ap (λ (row : List (Option ℕ)). slice_index_or row f None) (a.entries i l) ∙ at_row next i f m ∙ e)
+  contained i f j l m e = present_contains (slice_index_or table i []) f j (ap (λ (row : List (Option ℕ)). slice_index_or row f None) (a.entries i l) ∙ entry_at next i f m ∙ e)
 
   pub choice_of : (i j : ℕ) → Contains (neighbours_of table i) j → (i < n) × ((f : ℕ) × (f < 4) × (next i f ≡ Some j))
   choice_of i j c = elim (cases_lt i n) [
     | inl less ↦
         let row : slice_index_or table i [] ≡ row_at next i = a.entries i less in
         let e = entry_of (row_at next i) j (subst (λ (r : List (Option ℕ)). Contains (present r) j) row c) in
-        (less, (e.0, e.1, sym (at_row next i e.0 e.1) ∙ e.2))
+        (less, (e.0, e.1, sym (entry_at next i e.0 e.1) ∙ e.2))
     | inr more ↦ let m : length table ≤ i = omega (arith, a.one_each) in absurd (no_row table i j m c)
   ]
 

@@ -3,8 +3,8 @@ use Rattle.std.proofs.Common.{◌≡◌, ◌↔◌, ℕ, ◌<◌, List, [], ◌�
 use Rattle.std.specs.Prelude.{option_map, option_and_then}
 use Rattle.table_definitions.specs.Table.{Row, IsTable}
 use Rattle.table_definitions.specs.Places.{Place, IsPlace, across, along, IsJoined}
+use Rattle.table_definitions.proofs.ChainLaws.{step_back, face_crossed}
 use Rattle.skeleton.specs.Neighbours.{led, IsLed, IsReversible}
-use Rattle.skeleton.proofs.StepsBack.{step_back, face_crossed}
 
 -- n places with numbers below n, and where their steps lead
 pub record AreCounted (rows : List Row) (n : ℕ) (place : ℕ → Place) (number : Place → ℕ) (next : ℕ → ℕ → Option ℕ) : Type 0 where

@@ -6,10 +6,9 @@ use Rattle.table_definitions.specs.Lists.{same_list}
 use Rattle.table_definitions.specs.Permutation.{image, compose, inverse, index, is_permutation, words, preimage, IsPermutationOfFour}
 use Rattle.table_definitions.specs.Table.{Gluing, Face, Row, glue, way_back, IsTable}
 use Rattle.skeleton_definitions.specs.Corners.{step, corner_behind}
-use Rattle.table_definitions.proofs.ListLaws.{same_list-true}
-use Rattle.table_definitions.proofs.Permutations.{by_pairs, compose_permutes, index_below, words_at}
+use Rattle.table_definitions.proofs.Permutations.{by_pairs, compose_permutes, index_below, words_at, image-compose, index-words, words_permute}
 use Rattle.table_definitions.proofs.TableLaws.{glued_tet}
-use Rattle.perm_four.proofs.Permutations.{image-compose, index-words, words_permute}
+use Rattle.table_definitions.proofs.ListFacts.{same_list-true}
 use Rattle.finite_walks.specs.Walks.{IsInjectiveBelow, IsUndoneBy, step_of}
 use Rattle.finite_walks.proofs.Steps.{undone_is_injective}
 use Rattle.skeleton.specs.Rounds.{word_at, corner_by, corner_at, swap, word_behind, next_corner}

@@ -1,44 +1,20 @@
 -- Signs from the classes of signed tetrahedra.
-use Rattle.std.proofs.Common.{◌≡◌, ◌≢◌, inl, inr, ℕ, zero, suc, ◌+◌, ◌-◌, ◌*◌, ◌/◌, ◌%◌, ◌<◌, Bool, true, false, List, [], ◌∷◌, length, Option, Some, None, refl, sym, ap, ◌∙◌, arith, subst}
+use Rattle.std.proofs.Common.{◌≡◌, ◌≢◌, inl, inr, ℕ, ◌+◌, ◌-◌, ◌*◌, ◌/◌, ◌%◌, ◌<◌, Bool, true, false, List, [], ◌∷◌, length, Option, Some, None, refl, sym, ap, ◌∙◌, arith, subst}
 use Rattle.std.specs.Prelude.{not, nat_lt, slice_index, option_and_then, if◌then◌else◌}
-use Rattle.std.proofs.lemmas.Bool.{cases_order, lt-ltb, le-ltb}
+use Rattle.std.proofs.lemmas.Bool.{cases_order, lt-ltb}
+use Rattle.plain_facts.proofs.Numbers.{compared_back}
+use Rattle.plain_facts.proofs.Truths.{not_itself}
 use Rattle.table_definitions.specs.Permutation.{is_odd}
 use Rattle.table_definitions.specs.Table.{Gluing, Face, Row, glue, IsTable}
 use Rattle.table_definitions.specs.Places.{SameComponent}
 use Rattle.table_definitions.specs.Classes.{IsNumbering}
 use Rattle.skeleton_definitions.specs.Orientation.{sign_of, sign_across, AreSigns, StartTrue}
 use Rattle.skeleton_definitions.specs.Skeleton.{IsOrientation}
+use Rattle.skeleton_definitions.proofs.Signs.{says, says_behind}
 use Rattle.table_definitions.proofs.TableLaws.{glued_tet, glued_face}
 use Rattle.skeleton.specs.Neighbours.{led, IsLed}
 use Rattle.skeleton.specs.Signs.{sign_behind, crossed_sign, AreSignsBy}
 use Rattle.skeleton.proofs.SignTies.{signed, landed, crossed_sign-is, led_is_component, signs_reversible}
-
--- two numbers compared, one way and the other
-compare : (a b : ℕ) → a ≢ b → nat_lt b a ≡ not (nat_lt a b)
-compare a b ne = elim (cases_order a b) [
-  | inl e ↦ absurd (ne e)
-  | inr (inl less) ↦ let f : nat_lt b a ≡ false = le-ltb b a (omega arith) in f ∙ sym (ap not (lt-ltb a b less))
-  | inr (inr more) ↦ let f : nat_lt a b ≡ false = le-ltb a b (omega arith) in lt-ltb b a more ∙ sym (ap not f)
-]
-
--- the sign that a signed tetrahedron says that its tetrahedron has, right or wrong
-abbrev says : ℕ → Bool → Bool
-says zero b = b
-says (suc s) b = not b
-
-not-not : (b : Bool) → not (not b) ≡ b
-not-not true = refl
-not-not false = refl
-
-says_behind : (odd : Bool) (s : ℕ) (here there : Bool) → s < 2 → there ≡ (if odd then here else not here) → says (if odd then s else 1 - s) there ≡ says s here
-says_behind true s here there l e = ap (says s) e
-says_behind false zero here there l e = ap not e ∙ not-not here
-says_behind false (suc zero) here there l e = e
-says_behind false (suc (suc s)) here there l e = absurd (omega arith)
-
-no_both : (b : Bool) → b ≡ not b → ⊥
-no_both true e = cc
-no_both false e = cc
 
 module _ (rows : List Row) (table : IsTable rows) where
   -- what a signed tetrahedron says stays the same
@@ -69,7 +45,7 @@ module _ (rows : List Row) (table : IsTable rows) where
         let d1 : (2 * t + 1) / 2 ≡ t = omega arith in
         let r0 : 2 * t % 2 ≡ 0 = omega arith in
         let r1 : (2 * t + 1) % 2 ≡ 1 = omega arith in
-        no_both (sign_of o.0 t) (sym (sym (λ i. says (r1 i) (sign_of o.0 (d1 i))) ∙ k ∙ (λ i. says (r0 i) (sign_of o.0 (d0 i)))))
+        not_itself (sign_of o.0 t) (sym (sym (λ i. says (r1 i) (sign_of o.0 (d1 i))) ∙ k ∙ (λ i. says (r0 i) (sign_of o.0 (d0 i)))))
 
     -- a step keeps the class
     step_keeps : (t s f : ℕ) (g : Gluing) → t < length rows → s < 2 → glue rows (record { tet = t; face = f }) ≡ Some g
@@ -117,7 +93,7 @@ module _ (rows : List Row) (table : IsTable rows) where
               ap (slice_index classes) (sym (zero_is (2 * x.tet))) ∙ s0 ∙ ap (λ b. slice_index classes (2 * g.tet + (if b then 0 else 1 - 0))) e in
               let c1 : slice_index classes (2 * x.tet + 1) ≡ slice_index classes (2 * g.tet) =
               s1 ∙ ap (λ b. slice_index classes (2 * g.tet + (if b then 1 else 1 - 1))) e ∙ ap (slice_index classes) (zero_is (2 * g.tet)) in
-              a.told g.tet lu ∙ sym (λ i. nat_lt (c1 i) (c0 i)) ∙ compare (slice_index classes (2 * x.tet)) (slice_index classes (2 * x.tet + 1)) (apart x.tet lt)
+              a.told g.tet lu ∙ sym (λ i. nat_lt (c1 i) (c0 i)) ∙ compared_back (slice_index classes (2 * x.tet)) (slice_index classes (2 * x.tet + 1)) (apart x.tet lt)
               ∙ ap not (sym (a.told x.tet lt)) ∙ sym (ap (λ b. if b then sign_of signs x.tet else not (sign_of signs x.tet)) e)
 
       start : StartTrue rows signs

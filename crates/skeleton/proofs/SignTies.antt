@@ -6,10 +6,10 @@ use Rattle.table_definitions.specs.Table.{Gluing, Face, Row, glue, way_back, IsT
 use Rattle.table_definitions.specs.Places.{Place, across, along, whole, SameComponent}
 use Rattle.table_definitions.proofs.PermutationLaws.{image_below}
 use Rattle.table_definitions.proofs.TableLaws.{glued_face}
-use Rattle.perm_four.proofs.Permutations.{is_odd-inverse}
+use Rattle.table_definitions.proofs.ChainLaws.{across_by}
+use Rattle.table_definitions.proofs.Permutations.{is_odd-inverse}
 use Rattle.skeleton.specs.Neighbours.{led, IsLed, IsReversible}
 use Rattle.skeleton.specs.Signs.{sign_behind, crossed_sign}
-use Rattle.skeleton.proofs.StepsBack.{across_by}
 
 -- the gluing that a signed step crosses
 pub record Signed (rows : List Row) (k f m : ℕ) : Type 0 where

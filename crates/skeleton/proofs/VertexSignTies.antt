@@ -5,7 +5,7 @@ use Rattle.table_definitions.specs.Permutation.{image, inverse, is_odd}
 use Rattle.table_definitions.specs.Table.{Gluing, Face, Row, glue, way_back, IsTable}
 use Rattle.table_definitions.proofs.PermutationLaws.{image_below, image-of_inverse, image_same}
 use Rattle.table_definitions.proofs.TableLaws.{glued_face}
-use Rattle.perm_four.proofs.Permutations.{is_odd-inverse}
+use Rattle.table_definitions.proofs.Permutations.{is_odd-inverse}
 use Rattle.skeleton.specs.Neighbours.{IsReversible}
 use Rattle.skeleton.specs.Signs.{sign_behind, crossed_vertex_sign}
 use Rattle.skeleton.proofs.SignTies.{behind_small, sign_twice}

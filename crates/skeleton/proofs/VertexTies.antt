@@ -4,8 +4,8 @@ use Rattle.table_definitions.specs.Permutation.{image}
 use Rattle.table_definitions.specs.Table.{Row, IsTable}
 use Rattle.table_definitions.specs.Places.{Place, vertex}
 use Rattle.table_definitions.proofs.PermutationLaws.{image_below}
+use Rattle.table_definitions.proofs.ChainLaws.{steps_across}
 use Rattle.skeleton.specs.Crossings.{vertex_at, crossed_vertex}
-use Rattle.skeleton.proofs.StepsBack.{crosses}
 use Rattle.skeleton.proofs.PlaceLemmas.{AreCounted}
 
 pub vertex_is : (t v : ℕ) → v < 4 → vertex (4 * t + v) ≡ record { tet = t; vertices = v ∷ [] }
@@ -21,7 +21,7 @@ vertices_counted rows table = record {
   numbered = λ i l. omega arith;
   are_places = λ i l. let m : i % 4 < 4 = omega arith in (m, tt);
   lands = λ i f q l e.
-      let s = crosses rows (vertex i) f q e in
+      let s = steps_across rows (vertex i) f q e in
       let m : i % 4 < 4 = omega arith in
       let v : image s.gluing.perm (i % 4) < 4 = image_below s.gluing.perm (i % 4) (table.permutes _ s.gluing s.glued) m in
       let t : s.gluing.tet < length rows = table.in_range _ s.gluing s.glued in

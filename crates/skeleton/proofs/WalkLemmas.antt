@@ -12,17 +12,16 @@ use Rattle.skeleton_definitions.specs.Skeleton.{Skeleton, IsSkeleton, IsAround}
 use Rattle.table_definitions.specs.Places.{Place, edge, ends, edge_number, turned, across, is_boundary, lies_in_boundary, is_boundary_edge, IsJoined, SameEdge}
 use Rattle.skeleton_definitions.specs.Corners.{Corner, first_corner, GoesRound, IsWalk}
 use Rattle.table_definitions.proofs.ChainLaws.{joined_refl, joined_more}
-use Rattle.table_definitions.proofs.ListLaws.{same_list-true}
-use Rattle.table_definitions.proofs.PermutationLaws.{image_below}
-use Rattle.perm_four.proofs.Permutations.{four_images}
+use Rattle.table_definitions.proofs.PermutationLaws.{image_below, images_apart}
+use Rattle.table_definitions.proofs.ListFacts.{list_all-below, same_list-true}
+use Rattle.table_definitions.proofs.Permutations.{four_images}
 use Rattle.finite_walks.specs.Walks.{after, GoesOn, IsOrbit, last_of}
 use Rattle.finite_walks.proofs.Steps.{after_before}
 use Rattle.finite_walks.proofs.ChainLemmas.{going_on_has_cycle}
 use Rattle.skeleton.specs.Crossings.{pair}
 use Rattle.skeleton.specs.Rounds.{word_at, corner_by, corner_at, next_corner, word_behind, starts, start_of, IsRound, IsRoundUnless}
-use Rattle.skeleton.proofs.Cases.{below_all, are_ends, ends-edge_number}
+use Rattle.skeleton.proofs.Cases.{are_ends, ends-edge_number}
 use Rattle.skeleton.proofs.CrossingLemmas.{across-glued, edge_is}
-use Rattle.skeleton.proofs.DirectionTies.{images_apart}
 use Rattle.skeleton.proofs.MarkLemmas.{any_more}
 use Rattle.skeleton.proofs.RoundLemmas.{turns, word_of, word_permutes, index_of_word, behind_permutes, behind_images, step_corner, next_corner-is, within}
 
@@ -155,11 +154,11 @@ starts_are : (e : ℕ) → e < 6 → image (first_word e) 0 ∷ image (first_wor
     ≡ slice_index (ends e) 0 ∷ slice_index (ends e) 1 ∷ slice_index (rest_of e) 0 ∷ slice_index (rest_of e) 1 ∷ []
 starts_are e l = same_list-true (image (first_word e) 0 ∷ image (first_word e) 1 ∷ image (first_word e) 2 ∷ image (first_word e) 3 ∷ [])
     (slice_index (ends e) 0 ∷ slice_index (ends e) 1 ∷ slice_index (rest_of e) 0 ∷ slice_index (rest_of e) 1 ∷ [])
-    (below_all (λ x. same_list (image (first_word x) 0 ∷ image (first_word x) 1 ∷ image (first_word x) 2 ∷ image (first_word x) 3 ∷ [])
+    (list_all-below (λ x. same_list (image (first_word x) 0 ∷ image (first_word x) 1 ∷ image (first_word x) 2 ∷ image (first_word x) 3 ∷ [])
     (slice_index (ends x) 0 ∷ slice_index (ends x) 1 ∷ slice_index (rest_of x) 0 ∷ slice_index (rest_of x) 1 ∷ [])) 6 refl e l)
 
 start_small : (e : ℕ) → e < 6 → slice_index_or starts e 0 < 24
-start_small e l = ltb-true (slice_index_or starts e 0) 24 (below_all (λ x. nat_lt (slice_index_or starts x 0) 24) 6 refl e l)
+start_small e l = ltb-true (slice_index_or starts e 0) 24 (list_all-below (λ x. nat_lt (slice_index_or starts x 0) 24) 6 refl e l)
 
 start_parts : (i : ℕ) → (start_of i / 24 ≡ i / 6) × (word_at (start_of i) ≡ first_word (i % 6))
 start_parts i =

@@ -1,6 +1,6 @@
 -- What lies across the faces of a tetrahedron, by numbers.
 use Rattle.std.specs.Prelude.{ℕ, ◌+◌, ◌-◌, nat_lt, ◌*◌, List, [], ◌∷◌, ◌==◌, Option, None, option_map, slice_index, if◌then◌else◌}
-use Rattle.table_definitions.specs.Table.{Row, Face, glue, other_side}
+use Rattle.table_definitions.specs.Table.{Row, glue, other_side, face_number}
 use Rattle.table_definitions.specs.Places.{Place, across, vertex, edge, edge_number, face_of}
 use Rattle.skeleton_definitions.specs.Links.{directed}
 
@@ -8,16 +8,13 @@ use Rattle.skeleton_definitions.specs.Links.{directed}
 abbrev pub vertex_at : Place → ℕ
 vertex_at q = 4 * q.tet + slice_index q.vertices 0
 
-abbrev pub face_at : Face → ℕ
-face_at x = 4 * x.tet + x.face
-
 -- the vertex behind face f that vertex i meets there
 unfoldable pub crossed_vertex : List Row → ℕ → ℕ → Option ℕ
 crossed_vertex rows i f = option_map vertex_at (across rows (vertex i) f)
 
 -- the face that face i is glued to, as the first of the four neighbours of i
 unfoldable pub crossed_face : List Row → ℕ → ℕ → Option ℕ
-crossed_face rows i f = if f == 0 then option_map (λ g. face_at (other_side (face_of i) g)) (glue rows (face_of i)) else None
+crossed_face rows i f = if f == 0 then option_map (λ g. face_number (other_side (face_of i) g)) (glue rows (face_of i)) else None
 
 -- a place of two vertices
 abbrev pub pair : ℕ → ℕ → ℕ → Place

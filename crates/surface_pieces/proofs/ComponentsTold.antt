@@ -1,5 +1,5 @@
 -- The components of a surface, from rows of neighbours, vectors and signs.
-use Rattle.std.proofs.Common.{◌≡◌, ◌≢◌, ℕ, ◌<◌, ◌≤◌, inl, inr, refl, Bool, List, [], ◌∷◌, length, map, Contains, Option, sym, ap, ◌∙◌, subst, arith}
+use Rattle.std.proofs.Common.{◌≡◌, ℕ, ◌<◌, ◌≤◌, inl, inr, refl, Bool, List, [], ◌∷◌, length, map, Contains, Option, sym, ap, ◌∙◌, subst, arith}
 use Rattle.std.specs.List.{slice_index_or, AllZip}
 use Rattle.std.proofs.lemmas.Bool.{cases_lt}
 use Rattle.std.proofs.lemmas.List.{get_or_past, get_or-map, length-map}
@@ -10,24 +10,17 @@ use Rattle.table_definitions.specs.Lists.{below}
 use Rattle.table_definitions.specs.Table.{Row}
 use Rattle.table_definitions.proofs.TableLaws.{Among}
 use Rattle.surface_definitions.specs.declared.Coords.{Coords}
-use Rattle.surface_definitions.specs.declared.Coords.TheVariants.{Standard, Quad, Octagon}
 use Rattle.surface_definitions.specs.Pieces.{piece_of, pieces_of, piece_number, AreComponents}
 use Rattle.vector_definitions.specs.Components.{Component, IsComponent, AreListedComponents}
-use Rattle.vector_laws.specs.MatchingLaws.{HasTriangles}
 use Rattle.vector_laws.specs.PieceLaws.{IsSurface, AreMeetingPieces, JoinComponents}
 use Rattle.vector_laws.proofs.ComponentSurfaces.{piece_there}
-use Rattle.vector_laws.proofs.Listed.{below-among}
+use Rattle.table_definitions.proofs.Listed.{below-among}
 use Rattle.vector_laws.proofs.MeetingPieces.{join_components}
 use Rattle.vector_laws.proofs.PieceNumbers.{no_piece, IsFound, piece_found, number-piece}
 use Rattle.surface_pieces.specs.declared.steps.Joining.TheVariants.{Pieces, Sides, Orientation}
 use Rattle.surface_pieces.specs.Joinings.{LeadsTo, ArePieceRows, AreSigned}
 use Rattle.surface_pieces.specs.Vectors.{AreVectors}
 use Rattle.surface_pieces.specs.Told.{component_at, all_components, no_component}
-
-pub no_quads : (coords : Coords) → HasTriangles coords → coords ≢ Quad
-no_quads Standard h e = absurd (let z : Standard ≡ Quad = e in cc)
-no_quads Quad h e = h
-no_quads Octagon h e = absurd (let z : Octagon ≡ Quad = e in cc)
 
 module _ (rows : List Row) (coords : Coords) (xs : List ℕ) (s : IsSurface rows coords xs) (table : List (List (Option ℕ))) (are : ArePieceRows rows coords xs table) where
   abbrev n : ℕ

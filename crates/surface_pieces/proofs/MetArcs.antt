@@ -9,7 +9,7 @@ use Rattle.surface_definitions.specs.declared.Coords.{Coords}
 use Rattle.surface_definitions.specs.declared.Coords.TheVariants.{Standard, Quad, Octagon}
 use Rattle.surface_definitions.specs.Pieces.{SurfacePiece, Arc, arc_across, piece_of, piece_number, looks_positive, keeps_sides, Meets}
 use Rattle.vector_laws.specs.MatchingLaws.{HasTriangles}
-use Rattle.vector_laws.specs.PieceLaws.{IsSurface, face_of_arc, MeetsBack, IsPieceOf}
+use Rattle.vector_laws.specs.PieceLaws.{IsSurface, face_of_arc, MeetsBack, IsPieceOf, turned_if}
 use Rattle.vector_laws.proofs.Glued.{IsGlued, glued_is}
 use Rattle.vector_laws.proofs.MeetingArcs.{meets_back}
 use Rattle.vector_laws.proofs.ComponentSurfaces.{piece_there}
@@ -17,7 +17,7 @@ use Rattle.vector_laws.proofs.PieceNumbers.{piece_found}
 use Rattle.vector_laws.proofs.Offsets.{piece_numbers}
 use Rattle.surface_pieces.specs.declared.steps.Joining.{Joining}
 use Rattle.surface_pieces.specs.declared.steps.Joining.TheVariants.{Pieces, Sides, Orientation}
-use Rattle.surface_pieces.specs.Joinings.{stays_at, turned_if, number_with, LeadsAt}
+use Rattle.surface_pieces.specs.Joinings.{stays_at, number_with, LeadsAt}
 use Rattle.surface_pieces.specs.Arcs.{IsArcOf, IsOnlyArcOf, HasNoArc}
 use Rattle.surface_pieces.specs.Meetings.{IsInside, IsMeetingAt, HasNoMeeting}
 use Rattle.surface_pieces.proofs.ArcsOfPieces.{arc_in}

@@ -1,24 +1,17 @@
 -- The vectors of the components, piece by piece.
-use Rattle.std.proofs.Common.{◌≡◌, ◌≢◌, ℕ, suc, ◌+◌, ◌<◌, ◌≤◌, inl, inr, Bool, true, false, cond, List, [], ◌∷◌, ◌++◌, Vec, Global, length, set, slice_index, replicate, refl, sym, ap, ◌∙◌, subst, arith}
-use Rattle.std.specs.Prelude.{◌==◌, ◌&&◌, sum_by, count_by}
+use Rattle.std.proofs.Common.{◌≡◌, ◌≢◌, ℕ, ◌+◌, ◌<◌, ◌≤◌, inl, inr, Bool, true, false, cond, List, [], Vec, Global, length, set, slice_index, replicate, refl, sym, ap, ◌∙◌, subst, arith}
+use Rattle.std.specs.Prelude.{◌==◌, ◌&&◌, count_by}
 use Rattle.std.specs.List.{slice_index_or}
 use Rattle.std.proofs.lemmas.Bool.{cases_eq, eq-eqb, ne_eqb}
 use Rattle.std.proofs.lemmas.List.{length-set, length-map, length-replicate, map-set, get_or-map, get_or-set_same, get_or-set_other, get_or-replicate, get_or_default, same_lists}
-use Rattle.std.proofs.lemmas.List.Sums.{sum_by-append, sum_by-cons, count_by-le-length}
+use Rattle.std.proofs.lemmas.List.Sums.{count_by-le-length}
 use Rattle.std.proofs.lemmas.List.FromFn.{length-range_with_len, get_or-range_with_len}
+use Rattle.vector_definitions.specs.Held.{all_entries}
 use Rattle.table_definitions.specs.Lists.{below}
-use Rattle.gluing_table.proofs.Bijections.{below-push}
+use Rattle.table_definitions.proofs.ListFacts.{sum_below_next}
 use Rattle.surface_definitions.specs.Pieces.{SurfacePiece, pieces_of, is_counted, component_vector}
 use Rattle.vector_laws.proofs.PieceNumbers.{no_piece}
-use Rattle.surface_pieces.specs.Vectors.{entries_of, AreVectors}
-
-sum_next : (f : ℕ → ℕ) (n : ℕ) → sum_by f (below (n + 1)) ≡ sum_by f (below n) + f n
-sum_next f n =
-    let s : n + 1 ≡ suc n = omega arith in
-    let e : sum_by f (below n ++ n ∷ []) ≡ sum_by f (below n) + sum_by f (n ∷ []) = sum_by-append f (below n) (n ∷ []) in
-    let g : sum_by f (n ∷ []) ≡ f n + sum_by f [] = sum_by-cons f n [] in
-    let z : sum_by f [] ≡ 0 = refl in
-    ap (λ k. sum_by f (below k)) s ∙ ap (sum_by f) (sym (below-push n)) ∙ omega arith
+use Rattle.surface_pieces.specs.Vectors.{AreVectors}
 
 abbrev one_if : Bool → ℕ
 one_if b = cond b 1 0
@@ -33,14 +26,14 @@ pub record IsTally (xs components : List ℕ) (n i : ℕ) (ys : List ℕ) : Type
 
 pub record AreTallies (xs components : List ℕ) (count n : ℕ) (vectors : List (Vec ℕ Global)) : Type 0 where
   pub size : length vectors ≡ count
-  pub each : (i : ℕ) → i < count → IsTally xs components n i (slice_index_or (entries_of vectors) i [])
+  pub each : (i : ℕ) → i < count → IsTally xs components n i (slice_index_or (all_entries vectors) i [])
 
 module _ (xs components : List ℕ) where
   abbrev piece : ℕ → SurfacePiece
   piece n = slice_index_or (pieces_of xs) n no_piece
 
   tally_next : (n i c : ℕ) → tally xs components (n + 1) i c ≡ tally xs components n i c + one_if (((piece n).column == c) && (slice_index components n == i))
-  tally_next n i c = sum_next (λ k. cond (is_counted xs components i c k) 1 0) n
+  tally_next n i c = sum_below_next (λ k. cond (is_counted xs components i c k) 1 0) n
 
   pub tally_low : (n i c : ℕ) → tally xs components n i c ≤ n
   tally_low n i c = omega (arith, count_by-le-length (is_counted xs components i c) (below n), length-range_with_len 0 n)
@@ -82,7 +75,7 @@ module _ (xs components : List ℕ) where
       k = slice_index components n
 
   module _ (count : ℕ) where
-    pub tallies_start : (vectors : List (Vec ℕ Global)) → entries_of vectors ≡ replicate count (replicate (length xs) 0) → AreTallies xs components count 0 vectors
+    pub tallies_start : (vectors : List (Vec ℕ Global)) → all_entries vectors ≡ replicate count (replicate (length xs) 0) → AreTallies xs components count 0 vectors
     tallies_start vectors e = record {
       size = sym (length-map vectors (λ (v : Vec ℕ Global). v.items)) ∙ ap (λ (ys : List (List ℕ)). length ys) e ∙ length-replicate count (replicate (length xs) 0);
       each = λ i l. subst (IsTally xs components 0 i) (sym (ap (λ (ys : List (List ℕ)). slice_index_or ys i []) e ∙ get_or-replicate count i (replicate (length xs) 0) [] l)) (record {
@@ -110,26 +103,26 @@ module _ (xs components : List ℕ) where
         k : ℕ
         k = slice_index components n
 
-        long : k < length (entries_of vectors)
+        long : k < length (all_entries vectors)
         long = omega (arith, length-map vectors (λ (v : Vec ℕ Global). v.items), t.size)
 
-        at : (i : ℕ) → i < count → IsTally xs components (n + 1) i (slice_index_or (set (entries_of vectors) k w.items) i [])
+        at : (i : ℕ) → i < count → IsTally xs components (n + 1) i (slice_index_or (set (all_entries vectors) k w.items) i [])
         at i li = elim (cases_eq i k) [
-          | inl same ↦ subst (λ j. IsTally xs components (n + 1) j (slice_index_or (set (entries_of vectors) k w.items) j [])) (sym same)
-              (subst (IsTally xs components (n + 1) k) (sym (get_or-set_same (entries_of vectors) k w.items [] long ∙ f)) (tally_here n v.items inside (held n vectors v t l e)))
-          | inr apart ↦ subst (IsTally xs components (n + 1) i) (sym (get_or-set_other (entries_of vectors) k i w.items [] apart)) (tally_elsewhere n i (slice_index_or (entries_of vectors) i []) apart (t.each i li))
+          | inl same ↦ subst (λ j. IsTally xs components (n + 1) j (slice_index_or (set (all_entries vectors) k w.items) j [])) (sym same)
+              (subst (IsTally xs components (n + 1) k) (sym (get_or-set_same (all_entries vectors) k w.items [] long ∙ f)) (tally_here n v.items inside (held n vectors v t l e)))
+          | inr apart ↦ subst (IsTally xs components (n + 1) i) (sym (get_or-set_other (all_entries vectors) k i w.items [] apart)) (tally_elsewhere n i (slice_index_or (all_entries vectors) i []) apart (t.each i li))
         ]
 
-    pub tallies_end : (n : ℕ) (vectors : List (Vec ℕ Global)) → n ≡ length components → AreTallies xs components count n vectors → AreVectors xs components count (entries_of vectors)
+    pub tallies_end : (n : ℕ) (vectors : List (Vec ℕ Global)) → n ≡ length components → AreTallies xs components count n vectors → AreVectors xs components count (all_entries vectors)
     tallies_end n vectors e t = record {
       size = length-map vectors (λ (v : Vec ℕ Global). v.items) ∙ t.size;
       each = λ i l.
-          let y : IsTally xs components n i (slice_index_or (entries_of vectors) i []) = t.each i l in
-          same_lists (slice_index_or (entries_of vectors) i []) (component_vector xs components i)
+          let y : IsTally xs components n i (slice_index_or (all_entries vectors) i []) = t.each i l in
+          same_lists (slice_index_or (all_entries vectors) i []) (component_vector xs components i)
           (y.width ∙ sym (length-map (below (length xs)) (λ c. count_by (is_counted xs components i c) (below (length components))) ∙ length-range_with_len 0 (length xs)))
           (λ c d lc. (let inside : c < length xs = let w = y.width in omega arith in
           let in_below : c < length (below (length xs)) = omega (arith, length-range_with_len 0 (length xs)) in
-          get_or_default (slice_index_or (entries_of vectors) i []) c d 0 lc ∙ y.entry c inside ∙ ap (λ m. tally xs components m i c) e
+          get_or_default (slice_index_or (all_entries vectors) i []) c d 0 lc ∙ y.entry c inside ∙ ap (λ m. tally xs components m i c) e
           ∙ sym (get_or-map (λ c. count_by (is_counted xs components i c) (below (length components))) (below (length xs)) c 0 d in_below
           ∙ ap (λ k. count_by (is_counted xs components i k) (below (length components))) (get_or-range_with_len 0 (length xs) c 0 inside ∙ omega arith))));
     }

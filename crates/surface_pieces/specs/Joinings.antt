@@ -1,10 +1,11 @@
 -- What a search joins: pieces that meet, or pieces with signs that are kept or changed where they meet.
-use Rattle.std.specs.Prelude.{◌≡◌, ℕ, ◌+◌, ◌*◌, ◌-◌, ◌/◌, ◌%◌, ◌<◌, ◌≢◌, ◌↔◌, Bool, true, not, List, [], length, Option, Contains, slice_index, if◌then◌else◌}
+use Rattle.std.specs.Prelude.{◌≡◌, ℕ, ◌+◌, ◌*◌, ◌/◌, ◌%◌, ◌<◌, ◌≢◌, ◌↔◌, Bool, true, not, List, [], length, Option, Contains, slice_index, if◌then◌else◌}
 use Rattle.std.specs.List.{filter_map, slice_index_or}
 use Rattle.table_definitions.specs.Permutation.{is_odd}
 use Rattle.table_definitions.specs.Table.{Gluing, Row}
 use Rattle.surface_definitions.specs.declared.Coords.{Coords}
 use Rattle.surface_definitions.specs.Pieces.{SurfacePiece, Arc, arc_across, piece_of, pieces_of, piece_number, Meets, keeps_sides, HasSigns}
+use Rattle.vector_laws.specs.PieceLaws.{turned_if}
 use Rattle.surface_pieces.specs.declared.steps.Joining.{Joining}
 use Rattle.surface_pieces.specs.declared.steps.Joining.TheVariants.{Pieces, Sides, Orientation}
 
@@ -13,10 +14,6 @@ abbrev pub stays_at : Joining → Coords → List ℕ → Arc → Gluing → Boo
 stays_at Pieces coords xs a g = true
 stays_at Sides coords xs a g = keeps_sides coords xs a g
 stays_at Orientation coords xs a g = if is_odd g.perm then keeps_sides coords xs a g else not (keeps_sides coords xs a g)
-
--- sign 0 or 1, or the other
-abbrev pub turned_if : Bool → ℕ → ℕ
-turned_if b k = if b then k else 1 - k
 
 -- the number for a piece, by itself or with a sign
 abbrev pub number_with : Joining → ℕ → ℕ → ℕ

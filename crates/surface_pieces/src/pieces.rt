@@ -32,12 +32,12 @@ pub struct Pieces {
 impl Model for Pieces {
     ghost use Rattle.std.specs.Prelude.{◌≡◌, ◌<◌, ◌^◌, List, length};
     ghost use Rattle.vector_definitions.specs.Components.{Component};
-    ghost use Rattle.surface_pieces.specs.Vectors.{entries_of};
+    ghost use Rattle.vector_definitions.specs.Held.{all_entries};
     ghost use Rattle.surface_pieces.specs.Told.{all_components};
 
     ghost Value = { List Component };
 
-    ghost view = { λ p. all_components (entries_of p.vectors.items) p.two_sided.items p.orientable.items };
+    ghost view = { λ p. all_components (all_entries p.vectors.items) p.two_sided.items p.orientable.items };
 
     ghost invariant = { λ p. (length p.two_sided.items ≡ length p.vectors.items) × (length p.orientable.items ≡ length p.vectors.items) × (length p.vectors.items < 2 ^ 32) };
 }

@@ -3,14 +3,15 @@
 ghost use Rattle.std.specs.Prelude.{◌≡◌, ◌≢◌, ◌+◌, ◌*◌, ◌<◌, ◌≤◌, ◌^◌, ℕ, length, replicate, slice_set, slice_index, IfOk};
 ghost use Rattle.surface_definitions.specs.Pieces as pieces;
 ghost use Rattle.vector_definitions.specs.Components.{most_pieces};
-ghost use Rattle.surface_pieces.specs.Vectors.{AreVectors, entries_of};
+ghost use Rattle.vector_definitions.specs.Held.{all_entries};
+ghost use Rattle.surface_pieces.specs.Vectors.{AreVectors};
 
 use crate::counts::Piece;
 use std::alloc::{AllocError, Global};
 
 /// So many vectors of zeros.
 fn zeros(alloc: Global, count: u32, columns: usize) -> Result<Vec<Vec<u128>>, AllocError>
-    ensures { IfOk result (λ vectors. entries_of vectors.items ≡ replicate count (replicate columns 0)) }
+    ensures { IfOk result (λ vectors. all_entries vectors.items ≡ replicate count (replicate columns 0)) }
 {
     let mut vectors = Vec::with_capacity(alloc, count as usize)?;
     for _made in 0..count {
@@ -40,7 +41,7 @@ pub fn vectors_of(
     requires size { length components.now ≡ length listed.now }
     requires few { length listed.now ≤ most_pieces }
     requires in_range { (p : ℕ) → p < length components.now → slice_index components.now p < count }
-    ensures { IfOk result (λ vectors. AreVectors x.now components.now count (entries_of vectors.items)) }
+    ensures { IfOk result (λ vectors. AreVectors x.now components.now count (all_entries vectors.items)) }
 {
     let mut vectors = zeros(alloc, count, x.len())?;
     for number in 0..listed.len() {

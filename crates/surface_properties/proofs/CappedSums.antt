@@ -1,13 +1,12 @@
 -- Sums with a limit go on.
-use Rattle.std.proofs.Common.{◌≡◌, ℕ, suc, ◌+◌, ◌<◌, ◌≤◌, ◌⊎◌, List, [], ◌∷◌, ◌++◌, length, take, inl, inr, refl, sym, ap, ◌∙◌, arith}
+use Rattle.std.proofs.Common.{◌≡◌, ℕ, ◌+◌, ◌<◌, ◌≤◌, ◌⊎◌, List, length, take, inl, inr, sym, ap, ◌∙◌, arith}
 use Rattle.std.specs.Prelude.{sum_by}
 use Rattle.std.specs.List.{slice_index_or}
 use Rattle.std.proofs.lemmas.Bool.{cases_lt}
-use Rattle.std.proofs.lemmas.List.{take_more}
-use Rattle.std.proofs.lemmas.List.Sums.{sum_by-append, sum_by-cons}
+use Rattle.std.proofs.lemmas.List.Sums.{sum_by_more}
 use Rattle.table_definitions.specs.Lists.{below}
+use Rattle.table_definitions.proofs.ListFacts.{sum_below_next}
 use Rattle.text_definitions.specs.Written.{limit}
-use Rattle.gluing_table.proofs.Bijections.{below-push}
 use Rattle.surface_properties.specs.Capped.{capped}
 
 pub capped_small : (n : ℕ) → n ≤ limit → capped n ≡ n
@@ -44,31 +43,13 @@ capped_add a b = go (cases_lt limit a)
 pub capped_zero : capped 0 ≡ 0
 capped_zero = capped_small 0 (omega arith)
 
--- one item more of a list
-pub sum_more : {A : Type 0} (f : A → ℕ) (xs : List A) (i : ℕ) (d : A) → i < length xs → sum_by f (take (i + 1) xs) ≡ sum_by f (take i xs) + f (slice_index_or xs i d)
-sum_more f xs i d l =
-    let x = slice_index_or xs i d in
-    let e : sum_by f (take i xs ++ x ∷ []) ≡ sum_by f (take i xs) + sum_by f (x ∷ []) = sum_by-append f (take i xs) (x ∷ []) in
-    let g : sum_by f (x ∷ []) ≡ f x + sum_by f [] = sum_by-cons f x [] in
-    let z : sum_by f [] ≡ 0 = refl in
-    ap (sum_by f) (take_more xs i d l) ∙ omega arith
-
--- one number more below a bound
-pub below_sum_more : (f : ℕ → ℕ) (n : ℕ) → sum_by f (below (n + 1)) ≡ sum_by f (below n) + f n
-below_sum_more f n =
-    let s : n + 1 ≡ suc n = omega arith in
-    let e : sum_by f (below n ++ n ∷ []) ≡ sum_by f (below n) + sum_by f (n ∷ []) = sum_by-append f (below n) (n ∷ []) in
-    let g : sum_by f (n ∷ []) ≡ f n + sum_by f [] = sum_by-cons f n [] in
-    let z : sum_by f [] ≡ 0 = refl in
-    ap (λ k. sum_by f (below k)) s ∙ ap (sum_by f) (sym (below-push n)) ∙ omega arith
-
 -- so a capped sum goes on
 pub capped_more : (f : ℕ → ℕ) (n total one : ℕ) → total ≡ capped (sum_by f (below n)) → one ≡ capped (f n) → capped (total + one) ≡ capped (sum_by f (below (n + 1)))
-capped_more f n total one e g = (λ i. capped (e i + g i)) ∙ capped_sum (sum_by f (below n)) (f n) ∙ ap capped (sym (below_sum_more f n))
+capped_more f n total one e g = (λ i. capped (e i + g i)) ∙ capped_sum (sum_by f (below n)) (f n) ∙ ap capped (sym (sum_below_next f n))
 
 -- and that of a list
 pub capped_step : {A : Type 0} (f : A → ℕ) (xs : List A) (i : ℕ) (d : A) (total : ℕ) → i < length xs → total ≡ capped (sum_by f (take i xs)) → capped (total + f (slice_index_or xs i d)) ≡ capped (sum_by f (take (i + 1) xs))
-capped_step f xs i d total l e = ap (λ n. capped (n + f (slice_index_or xs i d))) e ∙ capped_add (sum_by f (take i xs)) (f (slice_index_or xs i d)) ∙ ap capped (sym (sum_more f xs i d l))
+capped_step f xs i d total l e = ap (λ n. capped (n + f (slice_index_or xs i d))) e ∙ capped_add (sum_by f (take i xs)) (f (slice_index_or xs i d)) ∙ ap capped (sym (sum_by_more f xs i d l))
 
 -- sums of two, three and four parts
 pub capped_two : (x y a b : ℕ) → a ≡ capped x → b ≡ capped y → capped (a + b) ≡ capped (x + y)

@@ -75,13 +75,6 @@ pub fn arcs_in(coords: Coords, x: &[u128], face: Face) -> u128
     add(two, arcs_round(coords, x, face, corner(face.face, 2)))
 }
 
-/// Whether a face stands before another.
-fn is_before(face: Face, other: Face) -> bool
-    ensures { result ≡ gluings.is_face_before face other }
-{
-    face.tet < other.tet || face.tet == other.tet && face.face < other.face
-}
-
 /// Whether a face is a boundary face or the lesser of two that are glued.
 fn is_first_side(table: &Table, face: Face) -> bool
     requires a_face { face.face < 4 }
@@ -90,7 +83,7 @@ fn is_first_side(table: &Table, face: Face) -> bool
 {
     match table.glue(face) {
         None => true,
-        Some(glue) => is_before(face, glue.other_side(face)),
+        Some(glue) => face.is_before(glue.other_side(face)),
     }
 }
 

@@ -25,7 +25,7 @@ use Rattle.vector_laws.proofs.Matched.{pair_glued}
 use Rattle.vector_laws.proofs.Quads.{projected_at, length-projected}
 use Rattle.vector_laws.proofs.Lifts.{one_lift}
 use Rattle.vector_laws.proofs.Solved.{rows_zero, other_is}
-use Rattle.vector_laws.proofs.Listed.{among_contains, Among-filter, filter-among, pairs-among, below-among, all_from, all_at}
+use Rattle.table_definitions.proofs.Listed.{among_contains, Among-filter, filter-among, pairs-among, below-among, all_from, all_at}
 
 module _ (rows : List Row) (table : IsTable rows) (classes : List ℕ) (count : ℕ) (numbered : IsNumbering (4 * length rows) (SameVertex rows) classes count) where
   pub lift_solves : (xs ys : List ℕ) → IsLift rows classes count xs ys → IsSolution (columns Standard (length rows)) (matching_rows Standard rows) ys

@@ -22,7 +22,7 @@ use Rattle.vector_laws.proofs.Glued.{IsGlued, glued_is, face_at}
 use Rattle.vector_laws.proofs.Vertices.{one_vertex, number-vertex, IsCrossed, crossed_is, class_across}
 use Rattle.vector_laws.proofs.Heights.{heights_give, lift_gives, lifts_join}
 use Rattle.vector_laws.proofs.Solved.{other_is}
-use Rattle.vector_laws.proofs.Listed.{Among-others}
+use Rattle.table_definitions.proofs.Listed.{Among-others}
 
 -- what is decided of each item is decided of a list
 pub decided_all : {A : Type 0} (P : A → Type 0) (xs : List A) → ((x : A) → Among x xs → P x ⊎ (P x → ⊥)) → ((x : A) → Among x xs → P x) ⊎ (((x : A) → Among x xs → P x) → ⊥)

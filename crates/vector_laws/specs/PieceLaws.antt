@@ -1,5 +1,5 @@
 -- Laws of pieces, of the arcs in which they meet, and of components.
-use Rattle.std.specs.Prelude.{◌≡◌, ℕ, ◌+◌, ◌<◌, ◌↔◌, List, length, take, Contains, Result, sum_by, sum, slice_index}
+use Rattle.std.specs.Prelude.{◌≡◌, ℕ, ◌+◌, ◌<◌, ◌↔◌, List, length, take, Contains, Result, sum_by, sum, slice_index, ◌-◌, Bool, if◌then◌else◌}
 use Rattle.std.specs.List.{slice_index_or}
 use Rattle.cone_definitions.specs.Rows.{IsSolution}
 use Rattle.cone_definitions.specs.Surfaces.{IsAdmissible}
@@ -32,6 +32,10 @@ pub record MeetsBack (rows : List Row) (coords : Coords) (xs : List ℕ) (a : Ar
 
 abbrev pub ArcsMeetBack : Type 0
 ArcsMeetBack = (rows : List Row) (coords : Coords) (xs : List ℕ) (a : Arc) (g : Gluing) → IsSurface rows coords xs → Meets rows coords xs a g → MeetsBack rows coords xs a g
+
+-- sign 0 or 1, or the other
+abbrev pub turned_if : Bool → ℕ → ℕ
+turned_if b k = if b then k else 1 - k
 
 -- the vectors of the components add up to the vector, column by column
 abbrev pub ComponentsAddUp : Type 0

@@ -2,8 +2,10 @@
 use Rattle.std.proofs.Common.{◌≡◌, ◌≢◌, ◌↔◌, inl, inr, ℕ, zero, suc, ◌+◌, ◌-◌, ◌*◌, ◌/◌, ◌%◌, ◌<◌, Bool, true, false, cond, List, [], ◌∷◌, length, map, Option, Some, None, refl, sym, ap, ◌∙◌, arith}
 use Rattle.std.specs.Prelude.{◌==◌, ◌&&◌, not, nat_lt, slice_index, count_by, option_and_then, IsTrue, if◌then◌else◌}
 use Rattle.std.specs.List.{slice_index_or}
-use Rattle.std.proofs.lemmas.Bool.{cases_lt, cases_order, lt-ltb, le-ltb, eqb-true, eq-eqb, ne_eqb, eqb-false, and_parts}
+use Rattle.std.proofs.lemmas.Bool.{cases_lt, eqb-true, eq-eqb, ne_eqb, eqb-false, and_parts}
 use Rattle.std.proofs.lemmas.List.FromFn.{length-map-range_with_len, get_or-map-range_with_len}
+use Rattle.plain_facts.proofs.Numbers.{compared_back}
+use Rattle.plain_facts.proofs.Truths.{not_itself}
 use Rattle.table_definitions.specs.Lists.{below}
 use Rattle.table_definitions.specs.Permutation.{image, is_odd}
 use Rattle.table_definitions.specs.Table.{Gluing, Row, glue, IsTable}
@@ -11,6 +13,7 @@ use Rattle.table_definitions.specs.Classes.{IsNumbering}
 use Rattle.table_definitions.specs.Places.{vertex, SameVertex}
 use Rattle.skeleton_definitions.specs.Orientation.{sign_of}
 use Rattle.skeleton_definitions.specs.Links.{AreLinkSigns, IsOrientableLink}
+use Rattle.skeleton_definitions.proofs.Signs.{says, says_behind}
 use Rattle.table_definitions.proofs.ChainLaws.{joined_step}
 use Rattle.table_definitions.proofs.PermutationLaws.{image_below}
 use Rattle.table_definitions.proofs.TableLaws.{glued_tet, glued_face}
@@ -49,31 +52,6 @@ zero_none p (suc n) h i l =
     by_test : (b : Bool) → p n ≡ b → 0 + cond (p n) 1 0 ≡ 0 → p n ≡ false
     by_test false e z = e
     by_test true e z = absurd (let y : 0 + cond (p n) 1 0 ≡ 1 = ap (λ b. 0 + cond b 1 0) e in omega arith)
-
-compare : (a b : ℕ) → a ≢ b → nat_lt b a ≡ not (nat_lt a b)
-compare a b ne = elim (cases_order a b) [
-  | inl e ↦ absurd (ne e)
-  | inr (inl less) ↦ let f : nat_lt b a ≡ false = le-ltb b a (omega arith) in f ∙ sym (ap not (lt-ltb a b less))
-  | inr (inr more) ↦ let f : nat_lt a b ≡ false = le-ltb a b (omega arith) in lt-ltb b a more ∙ sym (ap not f)
-]
-
-abbrev says : ℕ → Bool → Bool
-says zero b = b
-says (suc s) b = not b
-
-not-not : (b : Bool) → not (not b) ≡ b
-not-not true = refl
-not-not false = refl
-
-says_behind : (odd : Bool) (s : ℕ) (here there : Bool) → s < 2 → there ≡ (if odd then here else not here) → says (if odd then s else 1 - s) there ≡ says s here
-says_behind true s here there l e = ap (says s) e
-says_behind false zero here there l e = ap not e ∙ not-not here
-says_behind false (suc zero) here there l e = e
-says_behind false (suc (suc s)) here there l e = absurd (omega arith)
-
-no_both : (b : Bool) → b ≡ not b → ⊥
-no_both true e = cc
-no_both false e = cc
 
 module _ (rows : List Row) (table : IsTable rows) (classes : List ℕ) (count : ℕ) (vertices : IsNumbering (4 * length rows) (SameVertex rows) classes count)
     (signed : List ℕ) (k : ℕ) (num : IsNumbering (8 * length rows) (IsLed (crossed_vertex_sign rows)) signed k) (c : ℕ) where
@@ -128,7 +106,7 @@ module _ (rows : List Row) (table : IsTable rows) (classes : List ℕ) (count : 
       let r0 : 2 * i % 2 ≡ 0 = omega arith in
       let r1 : (2 * i + 1) % 2 ≡ 1 = omega arith in
       let k = keeps_saying o.0 o.2 j.0 (2 * i) (2 * i + 1) l0 (ap (slice_index classes) d0 ∙ own) j.1 in
-      no_both (sign_of o.0 i) (sym (sym (λ t. says (r1 t) (sign_of o.0 (d1 t))) ∙ k ∙ (λ t. says (r0 t) (sign_of o.0 (d0 t)))))
+      not_itself (sign_of o.0 i) (sym (sym (λ t. says (r1 t) (sign_of o.0 (d1 t))) ∙ k ∙ (λ t. says (r0 t) (sign_of o.0 (d0 t)))))
 
   -- the signs of vertices by their classes
   signs_of : List Bool
@@ -197,7 +175,7 @@ module _ (rows : List Row) (table : IsTable rows) (classes : List ℕ) (count : 
               let c1 : slice_index signed (2 * (4 * t + v) + 1) ≡ slice_index signed (2 * (4 * g.tet + image g.perm v)) =
               s1 ∙ ap (λ b. slice_index signed (2 * (4 * g.tet + image g.perm v) + (if b then 1 else 1 - 1))) e ∙ ap (slice_index signed) (zero_is (2 * (4 * g.tet + image g.perm v))) in
               sign_is (4 * g.tet + image g.perm v) lj ∙ sym (λ i. nat_lt (c1 i) (c0 i))
-              ∙ compare (slice_index signed (2 * (4 * t + v))) (slice_index signed (2 * (4 * t + v) + 1)) (apart (4 * t + v) li own)
+              ∙ compared_back (slice_index signed (2 * (4 * t + v))) (slice_index signed (2 * (4 * t + v) + 1)) (apart (4 * t + v) li own)
               ∙ ap not (sym (sign_is (4 * t + v) li)) ∙ sym (ap (λ b. if b then sign_of signs_of (4 * t + v) else not (sign_of signs_of (4 * t + v))) e)
 
   -- by a tally of the members that are joined to themselves with the other sign

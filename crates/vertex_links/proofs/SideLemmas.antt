@@ -16,15 +16,13 @@ use Rattle.table_definitions.specs.Places.{is_boundary}
 use Rattle.skeleton.specs.Numberings.{AreFirsts}
 use Rattle.skeleton_definitions.specs.Links.{sides, is_first_side, link_edges, link_vertices, is_closed_link, vertex_number}
 use Rattle.table_definitions.specs.Lists.{same_list}
-use Rattle.skeleton.proofs.Cases.{below_all}
-use Rattle.table_definitions.proofs.ListLaws.{same_list-true}
-use Rattle.skeleton.proofs.MarkLemmas.{below_more}
+use Rattle.table_definitions.proofs.ListFacts.{below_next, list_all-below, same_list-true}
 use Rattle.vertex_links.specs.Tallies.{side_at, is_counted, AreTallies}
 use Rattle.vertex_links.proofs.TallyLemmas.{count_more, count_same}
 
 others_three : (v : ℕ) → v < 4 → others v ≡ slice_index (others v) 0 ∷ slice_index (others v) 1 ∷ slice_index (others v) 2 ∷ []
 others_three v l = same_list-true (others v) (slice_index (others v) 0 ∷ slice_index (others v) 1 ∷ slice_index (others v) 2 ∷ [])
-    (below_all (λ x. same_list (others x) (slice_index (others x) 0 ∷ slice_index (others x) 1 ∷ slice_index (others x) 2 ∷ [])) 4 refl v l)
+    (list_all-below (λ x. same_list (others x) (slice_index (others x) 0 ∷ slice_index (others x) 1 ∷ slice_index (others x) 2 ∷ [])) 4 refl v l)
 
 -- the sides of the triangle at vertex i
 abbrev pub side_list : ℕ → List Face
@@ -89,7 +87,7 @@ module _ (p : Face → Bool) (q : ℕ → Bool) where
       let all : count_by test (below (3 * m + 0 + 1 + 1 + 1)) ≡ count_by test (below (3 * m + 0)) + count_by test ((3 * m + 0) ∷ []) + count_by test ((3 * m + 0 + 1) ∷ []) + count_by test ((3 * m + 0 + 1 + 1) ∷ []) =
       count_more test (3 * m + 0 + 1 + 1) ∙ ap (λ k. k + count_by test ((3 * m + 0 + 1 + 1) ∷ [])) (count_more test (3 * m + 0 + 1) ∙ ap (λ k. k + count_by test ((3 * m + 0 + 1) ∷ [])) (count_more test (3 * m + 0))) in
       let split : count_by p (flat_map side_list (filter q (below (suc m)))) ≡ count_by p (flat_map side_list (filter q (below m))) + count_by p (flat_map side_list (filter q (m ∷ []))) =
-      ap (λ k. count_by p (flat_map side_list (filter q (below k)))) s ∙ ap (λ (xs : List ℕ). count_by p (flat_map side_list (filter q xs))) (below_more m)
+      ap (λ k. count_by p (flat_map side_list (filter q (below k)))) s ∙ ap (λ (xs : List ℕ). count_by p (flat_map side_list (filter q xs))) (below_next m)
       ∙ ap (λ (xs : List ℕ). count_by p (flat_map side_list xs)) (filter-append q (below m) (m ∷ []))
       ∙ ap (λ (xs : List Face). count_by p xs) (flat_map-append side_list (filter q (below m)) (filter q (m ∷ [])))
       ∙ sum_by-append (λ x. cond (p x) 1 0) (flat_map side_list (filter q (below m))) (flat_map side_list (filter q (m ∷ []))) in

@@ -7,14 +7,15 @@ use Rattle.std.proofs.lemmas.List.{get_or_push, get_or_append_left, get_or-set_s
 use Rattle.std.proofs.lemmas.List.Sums.{count_by-le-length, sum_by-append}
 use Rattle.std.proofs.lemmas.List.FromFn.{length-range_with_len}
 use Rattle.table_definitions.specs.Lists.{below}
-use Rattle.skeleton.proofs.MarkLemmas.{below_more, all_zero}
+use Rattle.table_definitions.proofs.ListFacts.{below_next}
+use Rattle.skeleton.proofs.MarkLemmas.{all_zero}
 use Rattle.vertex_links.specs.Tallies.{is_counted, AreTallies, AreTalliesUpTo}
 
 pub count_by-append : (p : ℕ → Bool) (xs ys : List ℕ) → count_by p (xs ++ ys) ≡ count_by p xs + count_by p ys
 count_by-append p xs ys = sum_by-append (λ x. cond (p x) 1 0) xs ys
 
 pub count_more : (p : ℕ → Bool) (i : ℕ) → count_by p (below (i + 1)) ≡ count_by p (below i) + count_by p (i ∷ [])
-count_more p i = ap (count_by p) (below_more i) ∙ count_by-append p (below i) (i ∷ [])
+count_more p i = ap (count_by p) (below_next i) ∙ count_by-append p (below i) (i ∷ [])
 
 pub count_below : (p : ℕ → Bool) (i : ℕ) → count_by p (below i) ≤ i
 count_below p i = let l : count_by p (below i) ≤ length (below i) = count_by-le-length p (below i) in omega (arith, length-range_with_len 0 i)

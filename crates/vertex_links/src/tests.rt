@@ -81,8 +81,23 @@ fn two_discs(rt: HostRuntime) {
         rt.alloc(),
         &[[by(0, b"1032"), by(0, b"1032"), None, None]],
     );
-    assert_eq!(rt; found.len(), 2);
-    for link in found.as_slice() {
-        assert_eq!(rt; link.kind, LinkKind::Disc);
-    }
+    let first = Link {
+        triangles: 2,
+        edges: 5,
+        vertices: 4,
+        euler: 1,
+        closed: false,
+        orientable: true,
+        kind: LinkKind::Disc,
+    };
+    let second = Link {
+        triangles: 2,
+        edges: 4,
+        vertices: 3,
+        euler: 1,
+        closed: false,
+        orientable: true,
+        kind: LinkKind::Disc,
+    };
+    assert_eq!(rt; found.as_slice(), [first, second].as_slice());
 }

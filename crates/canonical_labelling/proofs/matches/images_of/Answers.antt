@@ -1,7 +1,7 @@
 use Rattle.std.proofs.Common.{length, ap, arith}
 use Rattle.std.specs.Prelude.{slice_index}
-use Rattle.gluing_table.proofs.Carried.{image_in_range}
-use Rattle.canonical_labelling.proofs.Matching.{pushed}
+use Rattle.table_definitions.proofs.Carried.{image_in_range}
+use Rattle.table_definitions.proofs.ListFacts.{map_below_more}
 use Rattle.canonical_labelling.proofs.matches.images_of.Goals as goal
 
 pub bounds-olds-image : goal.bounds-olds-image
@@ -14,5 +14,5 @@ bounds-olds-image c =
 
 pub loop-tet-preserved : goal.loop-tet-preserved
 loop-tet-preserved c =
-    pushed (λ t. slice_index c.args.olds.now (slice_index c.args.first.now.images t)) c.loop-tet.tet c.loop-tet.images.items c.push.new.self.items _ c.loop-tet.invariant c.in_ok-push.ensures.items
+    map_below_more (λ t. slice_index c.args.olds.now (slice_index c.args.first.now.images t)) c.loop-tet.tet c.loop-tet.images.items c.push.new.self.items _ c.loop-tet.invariant c.in_ok-push.ensures.items
     (ap (slice_index c.args.olds.now) c.image.ensures.value)

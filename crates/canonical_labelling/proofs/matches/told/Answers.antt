@@ -1,5 +1,5 @@
 use Rattle.std.proofs.Common.{◌*◌, ◌<◌, ℕ, length, sym, ap, ◌∙◌, subst}
-use Rattle.gluing_table.proofs.Carried.{length-images}
+use Rattle.table_definitions.proofs.Carried.{length-images}
 use Rattle.labelling_definitions.specs.Labellings.{Start, IsWalked, IsLeastRelabelling}
 use Rattle.canonical_labelling.specs.Between.{between}
 use Rattle.canonical_labelling.specs.Starts.{IsNoMatch, IsFirstMatch}

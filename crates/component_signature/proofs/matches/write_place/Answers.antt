@@ -1,11 +1,11 @@
 -- The parts at the place are those of the orders, and so one can be relabelled to the other.
 use Rattle.std.proofs.Common.{◌≡◌, ◌<◌, ◌≤◌, ℕ, All, Contains, length, subst, subst₂, sym, ◌∙◌, arith}
+use Rattle.plain_facts.proofs.Members.{Ascends}
 use Rattle.table_definitions.specs.Places.{IsConnected}
 use Rattle.table_definitions.specs.Relabelling.{IsRelabelled, stand_in}
 use Rattle.labelling_definitions.specs.Labellings.{IsLeastRelabelling}
 use Rattle.part_definitions.specs.Parts.{Part, IsPart}
 use Rattle.part_definitions.specs.SameParts.{GoesBy}
-use Rattle.part_laws.proofs.Numbers.{Ascends}
 use Rattle.component_signature.specs.Ordered.{entries_of}
 use Rattle.component_signature.proofs.MatchLemmas.{part_in, is_part, is_connected, relabelled_at}
 use Rattle.component_signature.proofs.PlaceLemmas.{in_entries, in_others, number_in, part_here, tets_below, few_tets, one_image_each, images_there, written_more}

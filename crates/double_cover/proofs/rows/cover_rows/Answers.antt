@@ -1,12 +1,13 @@
 -- A row more, and in the end all of them.
 use Rattle.std.proofs.Common.{◌≡◌, ◌*◌, length, arith}
 use Rattle.cover_definitions.specs.Cover.{cover_row}
-use Rattle.double_cover.proofs.CoverRows.{one_more, all_rows}
+use Rattle.table_definitions.proofs.ListFacts.{map_below_more}
+use Rattle.double_cover.proofs.CoverRows.{all_rows}
 use Rattle.double_cover.proofs.rows.cover_rows.Goals as goal
 
 pub loop-tet-preserved : goal.loop-tet-preserved
 loop-tet-preserved c =
-    one_more (cover_row c.args.table.now) c.loop-tet.tet c.loop-tet.rows.items c.push.new.self.items _ c.loop-tet.invariant c.in_ok-push.ensures.items c.cover_row.ensures
+    map_below_more (cover_row c.args.table.now) c.loop-tet.tet c.loop-tet.rows.items c.push.new.self.items _ c.loop-tet.invariant c.in_ok-push.ensures.items c.cover_row.ensures
 
 pub returns : goal.returns
 returns c =

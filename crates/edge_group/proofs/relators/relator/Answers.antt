@@ -3,8 +3,8 @@ use Rattle.std.proofs.Common.{◌≡◌, ◌+◌, ◌*◌, Vec, Global, sym, ap,
 use Rattle.std.specs.List.{slice_index_or}
 use Rattle.skeleton_definitions.specs.Corners.{Corner}
 use Rattle.group_definitions.specs.declared.Letter.{Letter}
-use Rattle.group_definitions.specs.Trees.{face_number}
 use Rattle.group_definitions.specs.Presentations.{letter_of, left_through}
+use Rattle.table_definitions.specs.Table.{face_number}
 use Rattle.edge_group.proofs.Relating.{letter_added, letter_skipped}
 use Rattle.edge_group.proofs.relators.relator.Goals as goal
 use Rattle.edge_group.proofs.relators.relator.Goals.{in-Some+in_ok-push, in_default}

@@ -1,6 +1,6 @@
 use Rattle.std.proofs.Common.{◌≡◌, take, filter_map}
-use Rattle.group_definitions.specs.Trees.{face_number}
 use Rattle.group_definitions.specs.Presentations.{letter_of, left_through}
+use Rattle.table_definitions.specs.Table.{face_number}
 use Rattle.edge_group.proofs.relators.relator.Given as goal
 
 abbrev pub invariant-loop-corner : goal.invariant-loop-corner

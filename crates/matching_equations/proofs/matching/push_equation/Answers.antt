@@ -1,6 +1,7 @@
 use Rattle.std.proofs.Common.{◌≡◌, ap}
 use Rattle.table_definitions.specs.Table.{Gluing, Face}
-use Rattle.matching_equations.proofs.Images.{images_apart, images_by}
+use Rattle.table_definitions.proofs.PermutationLaws.{images_apart}
+use Rattle.matching_equations.proofs.Images.{images_by}
 use Rattle.matching_equations.proofs.matching.push_equation.Goals as goal
 
 pub arc_columns-right-requires-clause-apart : goal.arc_columns-right-requires-clause-apart

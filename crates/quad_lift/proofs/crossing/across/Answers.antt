@@ -2,7 +2,7 @@
 use Rattle.std.proofs.Common.{◌/◌, ◌%◌, sym, ap, ◌∙◌, arith}
 use Rattle.table_definitions.specs.Permutation.{image}
 use Rattle.table_definitions.specs.Table.{Gluing, Face}
-use Rattle.vector_laws.proofs.Turns.{images_apart}
+use Rattle.table_definitions.proofs.PermutationLaws.{images_apart}
 use Rattle.quad_lift.proofs.CrossingLemmas.{IsBehind, behind}
 use Rattle.quad_lift.proofs.crossing.across.Goals as goal
 

@@ -1,8 +1,8 @@
 -- The search begins at the root, whose class has no heights yet, and ends with all of its class.
 use Rattle.std.proofs.Common.{◌≡◌, ◌+◌, [], ◌∷◌, ◌++◌, true, set, length, refl, sym, ap, ◌∙◌, subst, arith}
 use Rattle.std.proofs.lemmas.List.{length-append, nil_from_length}
+use Rattle.plain_facts.proofs.Members.{contains_at}
 use Rattle.finite_walks.specs.Search.{IsSearch}
-use Rattle.finite_walks.proofs.Places.{contains_at}
 use Rattle.finite_walks.proofs.SearchLemmas.{search_begins, search_ends, turn_starts, marked_is}
 use Rattle.quad_lift.specs.Spreads.{vertices_round}
 use Rattle.quad_lift.proofs.SpreadLemmas.{spread_root}

@@ -1,7 +1,7 @@
 use Rattle.std.proofs.Common.{ap, ◌∙◌}
 use Rattle.std.specs.Prelude.{nat_eq}
 use lib.Pointwise.{pointwise}
-use Rattle.perm_four.proofs.ListFacts.{pointwise-same_list}
+use Rattle.table_definitions.proofs.ListFacts.{pointwise-same_list}
 use Rattle.table_definitions.specs.Permutation.{identity}
 use Rattle.signature_codec.proofs.walk.is_identity.Goals as goal
 

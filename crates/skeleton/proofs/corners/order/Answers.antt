@@ -1,5 +1,5 @@
 use Rattle.std.proofs.Common.{sym}
-use Rattle.perm_four.proofs.Permutations.{words_found}
+use Rattle.table_definitions.proofs.Permutations.{words_found}
 use Rattle.skeleton.proofs.corners.order.Goals as goal
 
 pub returns-clause-value : goal.returns-clause-value

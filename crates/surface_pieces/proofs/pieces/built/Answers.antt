@@ -1,10 +1,11 @@
 -- The components by the classes of meeting pieces.
 use Rattle.std.proofs.Common.{ℕ, List, Option, length, ap, sym, subst, arith}
+use Rattle.vector_definitions.specs.Held.{all_entries}
 use Rattle.finite_walks.specs.Joined.{IsJoined, HasNeighboursBelow, IsSymmetric, neighbours_of}
 use Rattle.table_definitions.specs.Classes.{IsNumbering}
 use Rattle.surface_definitions.specs.Pieces.{SurfacePiece}
 use Rattle.vector_laws.proofs.Offsets.{piece_numbers}
-use Rattle.surface_pieces.specs.Vectors.{entries_of, AreVectors}
+use Rattle.surface_pieces.specs.Vectors.{AreVectors}
 use Rattle.surface_pieces.proofs.ComponentsTold.{joins, components_of, told}
 use Rattle.surface_pieces.proofs.pieces.built.Goals as goal
 
@@ -38,8 +39,8 @@ signs_of-requires-2-clause-components c =
 
 pub returns : goal.returns
 returns c =
-    told c.args.table.now c.args.coords c.args.x.now c.in_ok-all.all.classes.items c.in_ok-all.all.count (entries_of c.in_ok-vectors.vectors.items) c.in_ok-two_sided.two_sided.items c.in_ok-orientable.orientable.items
+    told c.args.table.now c.args.coords c.args.x.now c.in_ok-all.all.classes.items c.in_ok-all.all.count (all_entries c.in_ok-vectors.vectors.items) c.in_ok-two_sided.two_sided.items c.in_ok-orientable.orientable.items
     (components_of c.args.table.now c.args.coords c.args.x.now c.requires.surface c.in_ok-rows.rows.items c.in_ok-rows.ensures c.in_ok-all.all.classes.items c.in_ok-all.all.count
     (subst (λ (rs : List (List (Option ℕ))). IsNumbering (length rs) (IsJoined (neighbours_of rs)) c.in_ok-all.all.classes.items c.in_ok-all.all.count) c.deref-3.ensures.value c.in_ok-all.ensures.numbered))
-    (subst (λ (cs : List ℕ). AreVectors c.args.x.now cs c.in_ok-all.all.count (entries_of c.in_ok-vectors.vectors.items)) c.deref-5.ensures.value c.in_ok-vectors.ensures)
+    (subst (λ (cs : List ℕ). AreVectors c.args.x.now cs c.in_ok-all.all.count (all_entries c.in_ok-vectors.vectors.items)) c.deref-5.ensures.value c.in_ok-vectors.ensures)
     c.in_ok-two_sided.ensures c.in_ok-orientable.ensures

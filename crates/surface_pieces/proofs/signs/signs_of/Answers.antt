@@ -5,7 +5,7 @@ use Rattle.table_definitions.specs.Classes.{IsNumbering}
 use Rattle.surface_definitions.specs.Pieces.{pieces_of, HasSigns}
 use Rattle.surface_pieces.specs.Joinings.{stays_at, IsFree}
 use Rattle.vector_laws.proofs.Offsets.{piece_numbers}
-use Rattle.surface_pieces.proofs.SignsFound.{signed_below, signed_back, stays_back, free_is}
+use Rattle.surface_pieces.proofs.SignsFound.{signed_below, signed_back, free_is}
 use Rattle.surface_pieces.proofs.signs.signs_of.Goals as goal
 
 pub classes-requires-clause-few : goal.classes-requires-clause-few
@@ -15,14 +15,12 @@ pub classes-requires-clause-below : goal.classes-requires-clause-below
 classes-requires-clause-below c =
     subst (λ (rs : List (List (Option ℕ))). HasNeighboursBelow (length rs) (neighbours_of rs)) (sym c.deref.ensures.value)
     (subst (λ n. HasNeighboursBelow n (neighbours_of c.in_ok-rows.rows.items)) (sym c.in_ok-rows.ensures.size)
-    (signed_below c.args.table.now c.args.coords c.args.x.now c.requires.surface c.args.joining c.requires.joining (stays_back c.args.table.now c.args.coords c.args.x.now c.requires.surface c.args.joining)
-    c.in_ok-rows.rows.items c.in_ok-rows.ensures))
+    (signed_below c.args.table.now c.args.coords c.args.x.now c.requires.surface c.args.joining c.requires.joining c.in_ok-rows.rows.items c.in_ok-rows.ensures))
 
 pub classes-requires-clause-symmetric : goal.classes-requires-clause-symmetric
 classes-requires-clause-symmetric c =
     subst (λ (rs : List (List (Option ℕ))). IsSymmetric (neighbours_of rs)) (sym c.deref.ensures.value)
-    (signed_back c.args.table.now c.args.coords c.args.x.now c.requires.surface c.args.joining c.requires.joining (stays_back c.args.table.now c.args.coords c.args.x.now c.requires.surface c.args.joining)
-    c.in_ok-rows.rows.items c.in_ok-rows.ensures)
+    (signed_back c.args.table.now c.args.coords c.args.x.now c.requires.surface c.args.joining c.requires.joining c.in_ok-rows.rows.items c.in_ok-rows.ensures)
 
 pub free_components-requires-clause-few : goal.free_components-requires-clause-few
 free_components-requires-clause-few c = omega (arith, c.requires.components.one_each, (piece_numbers c.args.x.now).count, c.requires.few)
@@ -47,5 +45,5 @@ returns c = record {
 
     told : (i : ℕ) → i < c.args.components.now.count → IsFree c.in_ok-signed.signed.classes.items c.args.components.now.classes.items i
         ↔ HasSigns c.args.table.now c.args.coords c.args.x.now c.args.components.now.classes.items i (stays_at c.args.joining c.args.coords c.args.x.now)
-    told = λ i l. free_is c.args.table.now c.args.coords c.args.x.now c.requires.surface c.args.joining c.requires.joining (stays_back c.args.table.now c.args.coords c.args.x.now c.requires.surface c.args.joining)
+    told = λ i l. free_is c.args.table.now c.args.coords c.args.x.now c.requires.surface c.args.joining c.requires.joining
         rows c.in_ok-rows.ensures c.in_ok-signed.signed.classes.items c.in_ok-signed.signed.count numbered c.args.components.now.classes.items c.args.components.now.count c.requires.components i l

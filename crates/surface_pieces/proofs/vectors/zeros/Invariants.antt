@@ -1,7 +1,7 @@
 -- The vectors so far.
 use Rattle.std.proofs.Common.{◌≡◌, replicate}
-use Rattle.surface_pieces.specs.Vectors.{entries_of}
+use Rattle.vector_definitions.specs.Held.{all_entries}
 use Rattle.surface_pieces.proofs.vectors.zeros.Given as goal
 
 abbrev pub invariant-loop-made : goal.invariant-loop-made
-invariant-loop-made l = entries_of l.vectors.items ≡ replicate l._made (replicate l.columns 0)
+invariant-loop-made l = all_entries l.vectors.items ≡ replicate l._made (replicate l.columns 0)

@@ -1,7 +1,7 @@
 -- What is held of the components.
 use Rattle.std.proofs.Common.{◌≡◌, ℕ, List, Vec, Global, length, arith}
 use Rattle.std.proofs.lemmas.List.{length-map}
-use Rattle.surface_pieces.specs.Vectors.{entries_of}
+use Rattle.vector_definitions.specs.Held.{all_entries}
 use Rattle.surface_pieces.proofs.ComponentsTold.{how_many}
 use Rattle.surface_pieces.proofs.pieces.Pieces.components.Goals as goal
 
@@ -9,7 +9,7 @@ pub returns : goal.returns
 returns c = omega (arith, c.len.ensures, c.self.inside.vectors.ok.0, many, length-map c.self.inside.vectors.items (λ (v : Vec ℕ Global). v.items))
   where
     vectors : List (List ℕ)
-    vectors = entries_of c.self.inside.vectors.items
+    vectors = all_entries c.self.inside.vectors.items
 
     many : length c.args.self.now ≡ length vectors
     many = how_many vectors c.self.inside.two_sided.items c.self.inside.orientable.items c.args.self.now c.self.view_is

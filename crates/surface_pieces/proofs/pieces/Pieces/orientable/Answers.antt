@@ -2,7 +2,7 @@
 use Rattle.std.proofs.Common.{◌≡◌, ℕ, List, Vec, Global, true, length, sym, ap, ◌∙◌, arith}
 use Rattle.std.proofs.lemmas.List.{length-map, get_or_default}
 use Rattle.vector_definitions.specs.Components.{Component}
-use Rattle.surface_pieces.specs.Vectors.{entries_of}
+use Rattle.vector_definitions.specs.Held.{all_entries}
 use Rattle.surface_pieces.proofs.ComponentsTold.{how_many, told_at}
 use Rattle.surface_pieces.proofs.pieces.Pieces.orientable.Goals as goal
 
@@ -10,7 +10,7 @@ pub index-requires : goal.index-requires
 index-requires c = omega (arith, c.requires, many, c.self.invariant.1, c.self.inside.orientable.ok.0, length-map c.self.inside.vectors.items (λ (v : Vec ℕ Global). v.items))
   where
     vectors : List (List ℕ)
-    vectors = entries_of c.self.inside.vectors.items
+    vectors = all_entries c.self.inside.vectors.items
 
     many : length c.args.self.now ≡ length vectors
     many = how_many vectors c.self.inside.two_sided.items c.self.inside.orientable.items c.args.self.now c.self.view_is
@@ -21,7 +21,7 @@ returns c =
     ∙ sym (ap (λ (d : Component). d.orientable) (told_at vectors c.self.inside.two_sided.items c.self.inside.orientable.items c.args.self.now c.self.view_is c.args.component c.requires))
   where
     vectors : List (List ℕ)
-    vectors = entries_of c.self.inside.vectors.items
+    vectors = all_entries c.self.inside.vectors.items
 
     many : length c.args.self.now ≡ length vectors
     many = how_many vectors c.self.inside.two_sided.items c.self.inside.orientable.items c.args.self.now c.self.view_is
