@@ -22,7 +22,7 @@ use Rattle.outcome_definitions.specs.Scripts.{IsScriptAnswer}
 use Rattle.outcome_definitions.specs.Canonical.{IsSignatureAnswer, IsSameAnswer, IsGroupAnswer}
 use Rattle.outcome_definitions.specs.Answers.{is_too_long, verify_outcome, IsVerdictsAnswer, IsAnswerTo, IsOutcomeOf, IsOutcome}
 use Rattle.outcome_laws.proofs.Enumerated.{one_enumeration}
-use Rattle.outcome_laws.proofs.Equated.{one_equations}
+use Rattle.surface_definitions.proofs.OneSystem.{one_equations}
 use Rattle.outcome_laws.proofs.Informed.{one_information}
 use Rattle.outcome_laws.proofs.Scripted.{one_script}
 use Rattle.outcome_laws.proofs.Labelled.{one_signature_answer, one_same_answer, one_group_answer}

@@ -4,6 +4,7 @@ use Rattle.std.specs.Prelude.{All}
 use Rattle.std.specs.List.{AllZip, AllByRecursion}
 use Rattle.std.proofs.lemmas.List.Elements.{All-from_recursion}
 use Rattle.text_definitions.specs.Text.{Line}
+use Rattle.text_definitions.specs.declared.LexFault.{LexFault}
 use Rattle.text_definitions.specs.Reading.{Reading, ◌>>=◌, start_of}
 use Rattle.text_definitions.proofs.Readers.{bind_ok}
 use Rattle.table_definitions.specs.Table.{Row, IsTable}
@@ -13,7 +14,7 @@ use Rattle.move_definitions.specs.Grammar.{IsMoveLine}
 use Rattle.move_laws.proofs.Cores.{move_lines_have_cores_lem}
 use Rattle.signature_definitions.specs.declared.InputFault.{InputFault}
 use Rattle.document_definitions.specs.Documents.{worded, next_table_at, no_line_at, each_line_from, table_document, table_and_lines, moves_document}
-use Rattle.document_laws.proofs.FirstMoves.{moves_documents_read}
+use Rattle.document_laws.proofs.Lawful.{moves_laws}
 use Rattle.certificate_laws.proofs.Checked.{answers_agree_lem}
 use Rattle.certificate_laws.proofs.Answered.{answers_exist_lem}
 use Rattle.certificate_laws.proofs.StayConnected.{descent_answers_exist_lem, descent_answers_agree_lem}
@@ -47,15 +48,18 @@ table_alone bytes rows e =
     same_table : (t : List Row) → ◌≡◌ {A = Result (List Row) InputFault} (Ok t) (Ok rows) → t ≡ rows
     same_table t e = cc
 
-pub table_with_moves : (bytes : List ℕ) (d : List Row × List Move) → moves_document bytes ≡ Ok d → IsTable d.0
+pub table_with_lines : {A : Type 0} (form : Reading → Result (A × Reading) LexFault) (bytes : List ℕ) (d : List Row × List A) → table_and_lines form bytes ≡ Ok d → IsTable d.0
 unfolding table_and_lines
-table_with_moves bytes d e =
-    let first = bind_ok (next_table_at (start_of bytes)) (λ (t : List Row × Reading). worded (each_line_from move_at t.1.later t.1) >>= λ (lines : List Move × Reading). Ok (t.0, lines.0)) d e in
-    let last = bind_ok (worded (each_line_from move_at (first.0).1.later (first.0).1)) (λ (lines : List Move × Reading). Ok ((first.0).0, lines.0)) d first.2 in
+table_with_lines {A} form bytes d e =
+    let first = bind_ok (next_table_at (start_of bytes)) (λ (t : List Row × Reading). worded (each_line_from form t.1.later t.1) >>= λ (lines : List A × Reading). Ok (t.0, lines.0)) d e in
+    let last = bind_ok (worded (each_line_from form (first.0).1.later (first.0).1)) (λ (lines : List A × Reading). Ok ((first.0).0, lines.0)) d first.2 in
     subst IsTable (same_table (first.0).0 (last.0).0 last.2) (next_read (start_of bytes) first.0 first.1)
   where
-    same_table : (t : List Row) (ms : List Move) → ◌≡◌ {A = Result (List Row × List Move) InputFault} (Ok (t, ms)) (Ok d) → t ≡ d.0
-    same_table t ms e = let same : (t, ms) ≡ d = cc in ap (λ (q : List Row × List Move). q.0) same
+    same_table : (t : List Row) (ms : List A) → ◌≡◌ {A = Result (List Row × List A) InputFault} (Ok (t, ms)) (Ok d) → t ≡ d.0
+    same_table t ms e = let same : (t, ms) ≡ d = cc in ap (λ (q : List Row × List A). q.0) same
+
+pub table_with_moves : (bytes : List ℕ) (d : List Row × List Move) → moves_document bytes ≡ Ok d → IsTable d.0
+table_with_moves bytes d e = table_with_lines move_at bytes d e
 
 line_cores : (lines : List Line) (moves : List Move) → AllZip IsMoveLine lines moves → AllByRecursion (λ (m : Move). IsCore m.core) moves
 line_cores [] [] h = tt
@@ -65,7 +69,7 @@ line_cores (l ∷ ls) (m ∷ ms) h = (move_lines_have_cores_lem l m h.0, line_co
 
 pub moves_with_cores : (bytes : List ℕ) (d : List Row × List Move) → moves_document bytes ≡ Ok d → All (λ (m : Move). IsCore m.core) d.1
 moves_with_cores bytes d e =
-    let lines = (moves_documents_read bytes d.0 d.1).0 e in
+    let lines = (moves_laws.reads bytes d).0 e in
     All-from_recursion (λ (m : Move). IsCore m.core) d.1 (line_cores lines.1 d.1 lines.4)
 
 -- so each input has an answer

@@ -26,7 +26,7 @@ one_cover rows o p h k = by_fault (cover_fault rows) h k
     by_fault (Some f) a b = a ∙ sym b
 
 -- in a table it is decided whether every two tetrahedra are joined
-connected_or_not : (rows : List Row) → IsTable rows → IsConnected rows ⊎ (IsConnected rows → ⊥)
+pub connected_or_not : (rows : List Row) → IsTable rows → IsConnected rows ⊎ (IsConnected rows → ⊥)
 connected_or_not rows table = elim (all_or_one Reached Missed decide (length rows)) [
   | inl all ↦ inl (λ t u lt lu. joined_trans rows (whole t) (whole 0) (whole u) (joined_sym rows (whole 0) (whole t) table tt (all t lt lt)) (all u lu lu))
   | inr w ↦ inr (λ connected. let l : w.0 < length rows = w.1.0 in w.1.1 (connected 0 w.0 (omega arith) l))

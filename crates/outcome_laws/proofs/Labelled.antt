@@ -1,35 +1,22 @@
 -- What is told of signatures, of two tables and of the classes of tables is one text.
-use Rattle.std.proofs.Common.{◌≡◌, ℕ, ◌<◌, inl, inr, List, subst, sym, ap, ap₂, ◌∙◌, arith}
+use Rattle.std.proofs.Common.{◌≡◌, ℕ, ◌<◌, inl, inr, List, subst, sym, ap, ap₂, ◌∙◌}
 use Rattle.std.proofs.lemmas.Bool.{cases_order}
 use Rattle.table_definitions.specs.Table.{Row, IsTable}
-use Rattle.table_definitions.specs.Places.{IsConnected, IsLeastUnreached}
+use Rattle.table_definitions.specs.Places.{IsConnected}
 use Rattle.table_definitions.specs.Relabelling.{Relabelling}
+use Rattle.table_definitions.proofs.ChainLaws.{one_unreached, connected_or_not}
 use Rattle.labelling_definitions.specs.Census.{table_in}
 use Rattle.labelling_definitions.proofs.OneCensus.{one_census}
 use Rattle.canonical_labelling.proofs.Told.{one_signature, one_least}
-use Rattle.outcome_definitions.specs.Lines.{line}
 use Rattle.outcome_definitions.specs.Outcomes.{Outcome}
 use Rattle.outcome_definitions.specs.Canonical.{done, not_connected_outcome, IsNotConnected, IsSignatureAnswer, relabelling_text, IsCompared, IsSameAnswer, census_text, IsGrouped, IsFirstNotConnected, IsGroupAnswer}
-
-reached : (rows : List Row) (t u : ℕ) → IsLeastUnreached rows t → IsLeastUnreached rows u → t < u → ⊥
-reached rows t u a b less = a.unreached (b.reached_before t less)
-
-one_unreached : (rows : List Row) (t u : ℕ) → IsLeastUnreached rows t → IsLeastUnreached rows u → t ≡ u
-one_unreached rows t u a b = elim (cases_order t u) [
-  | inl e ↦ e
-  | inr (inl less) ↦ absurd (reached rows t u a b less)
-  | inr (inr more) ↦ absurd (reached rows u t b a more)
-]
-
--- all of a connected table is reached
-all_reached : (rows : List Row) (t : ℕ) → IsConnected rows → IsLeastUnreached rows t → ⊥
-all_reached rows t connected a = let h = a.in_range in a.unreached (connected 0 t (omega arith) h)
+use Rattle.text_definitions.specs.Written.{line}
 
 pub one_not_connected : (k : ℕ) (rows : List Row) (o p : Outcome) → IsNotConnected k rows o → IsNotConnected k rows p → o ≡ p
 one_not_connected k rows o p h g = h.2 ∙ ap (not_connected_outcome k) (one_unreached rows h.0 g.0 h.1 g.1) ∙ sym g.2
 
 pub not_both : {P : Type 0} (k : ℕ) (rows : List Row) (o : Outcome) → IsConnected rows → IsNotConnected k rows o → P
-not_both k rows o connected h = absurd (all_reached rows h.0 connected h.1)
+not_both k rows o connected h = absurd (connected_or_not rows h.0 connected h.1)
 
 pub one_signature_answer : (rows : List Row) (o p : Outcome) → IsSignatureAnswer rows o → IsSignatureAnswer rows p → o ≡ p
 one_signature_answer rows o p (inl h) (inl g) =

@@ -1,8 +1,6 @@
 pub mod Enumerated
-pub mod Numbered
 pub mod Informed
 pub mod Scripted
-pub mod Equated
 pub mod Labelled
 pub mod ReadPairs
 pub mod Summed
@@ -13,3 +11,4 @@ pub mod Making
 pub mod Parted
 pub mod Vectored
 pub mod Agreement
+pub mod OneSkeleton

@@ -16,7 +16,7 @@ use Rattle.certificate_laws.proofs.Made.{tables_are_made_lem, one_is_made_lem}
 use Rattle.outcome_definitions.specs.Outcomes.{Outcome, IsOwnStatus}
 use Rattle.outcome_definitions.specs.Enumerations.{large_outcome}
 use Rattle.outcome_definitions.specs.Makings.{make_outcome, IsMakeAnswer, IsGreatestEntry, Numbers, summary_outcome, AreSummedUp, ArePastLimit, IsSummary, IsBulkAnswer}
-use Rattle.outcome_laws.proofs.Equated.{one_equations}
+use Rattle.surface_definitions.proofs.OneSystem.{one_equations}
 
 pub one_make : (seed moves : ℕ) (o p : Outcome) → IsMakeAnswer seed moves o → IsMakeAnswer seed moves p → o ≡ p
 one_make seed moves o p h k =
@@ -66,10 +66,3 @@ one_bulk seed moves o p h k =
   where
     numbers : List Row → List Move → Numbers
     numbers table certificate = record { seed = seed; moves = length certificate; tetrahedra = length table }
-
-told_own : (n : Numbers) (e : Enumeration) (o : Outcome) → AreSummedUp n e o ⊎ ArePastLimit e o → IsOwnStatus o.status
-told_own n e o (inl h) = subst (λ (q : Outcome). IsOwnStatus q.status) (sym h.outcome) tt
-told_own n e o (inr h) = subst (λ (q : Outcome). IsOwnStatus q.status) (sym h.outcome) tt
-
-pub bulk_own : (seed moves : ℕ) (o : Outcome) → IsBulkAnswer seed moves o → IsOwnStatus o.status
-bulk_own seed moves o h = told_own (record { seed = seed; moves = length h.certificate; tetrahedra = length h.table }) (table_enumeration Standard Given limit h.table h.summary.equations) o h.summary.told

@@ -5,10 +5,10 @@ use Rattle.table_definitions.specs.Relabelling.{Relabelling}
 use Rattle.part_laws.proofs.Signatures.{one_component_signature}
 use Rattle.part_laws.proofs.SameParts.{same_parts_carry}
 use Rattle.part_laws.proofs.OneOrder.{one_same_parts}
-use Rattle.outcome_definitions.specs.Lines.{line}
 use Rattle.outcome_definitions.specs.Outcomes.{Outcome}
 use Rattle.outcome_definitions.specs.Canonical.{done, relabelling_text}
 use Rattle.outcome_definitions.specs.Parts.{IsComponentSignatureAnswer, IsSamePartsAnswer}
+use Rattle.text_definitions.specs.Written.{line}
 
 pub one_component_answer : (rows : List Row) (o p : Outcome) → IsTable rows → IsComponentSignatureAnswer rows o → IsComponentSignatureAnswer rows p → o ≡ p
 one_component_answer rows o p table h k =

@@ -14,7 +14,7 @@ use Rattle.outcome_definitions.specs.Canonical.{done, IsNotConnected}
 use Rattle.outcome_definitions.specs.Vectors.{IsInvalidTold}
 use Rattle.outcome_definitions.specs.Presented.{presentation_text, IsPresented, IsPresentationAnswer}
 use Rattle.outcome_laws.proofs.Labelled.{one_not_connected, not_both}
-use Rattle.outcome_laws.proofs.Numbered.{one_skeleton}
+use Rattle.outcome_laws.proofs.OneSkeleton.{one_skeleton}
 
 -- the least invalid edge class is one
 one_invalid : (s : Skeleton) (c d : ℕ) → IsFirstInvalid s (Some c) → IsFirstInvalid s (Some d) → c ≡ d
@@ -35,7 +35,7 @@ never_invalid s o none h = absurd (none h.0 h.1.0 h.1.1)
 one_presented : (s : Skeleton) (o p : Outcome) → IsPresented s o → IsPresented s p → o ≡ p
 one_presented s o p h k = h.2 ∙ ap (λ (q : Presentation). done (presentation_text q)) (one_presentation s h.0 k.0 h.1 k.1) ∙ sym k.2
 
-abbrev Told : Skeleton → Outcome → Type 0
+abbrev pub Told : Skeleton → Outcome → Type 0
 Told s o = IsNotConnected 0 s.rows o ⊎ (IsConnected s.rows × IsInvalidTold s o) ⊎ (HasGroup s × IsPresented s o)
 
 one_told : (s : Skeleton) (o p : Outcome) → Told s o → Told s p → o ≡ p

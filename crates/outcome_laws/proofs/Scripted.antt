@@ -2,22 +2,15 @@
 use Rattle.std.proofs.Common.{◌≡◌, List, [], ◌∷◌, take, Some, None, sym, ap, ap₂, ◌∙◌, subst, arith}
 use Rattle.table_definitions.specs.Table.{Row}
 use Rattle.move_definitions.specs.declared.MoveFault.{MoveFault}
-use Rattle.move_definitions.specs.Moves.{Move, play_fault, PlaysAll}
+use Rattle.move_definitions.specs.Moves.{Move, play_fault}
 use Rattle.move_definitions.specs.MoveText.{Step, play, undo, redo}
 use Rattle.move_definitions.specs.Sessions.{Session, IsTableOf, begun, IsRefused, IsAccepted, StepAnswer, done, illegal, undone, redone, nothing, IsStep, AreSteps}
-use Rattle.move_laws.proofs.Played.{played_same}
 use Rattle.outcome_definitions.specs.Outcomes.{Outcome}
 use Rattle.outcome_definitions.specs.Scripts.{script_outcome, IsScriptAnswer}
-
--- moves lead to one table
-one_end : (rows : List Row) (moves : List Move) (t u : List Row) → PlaysAll rows moves t → PlaysAll rows moves u → t ≡ u
-one_end rows [] t u h k = sym h ∙ k
-one_end rows (m ∷ ms) t u h k =
-    let same : h.0 ≡ k.0 = played_same rows m h.0 k.0 h.1 k.1 in
-    one_end k.0 ms t u (subst (λ (r : List Row). PlaysAll r ms t) same h.2) k.2
+use Rattle.move_laws.proofs.Played.{all_played_same}
 
 one_table : (s : Session) (t u : List Row) → IsTableOf s t → IsTableOf s u → t ≡ u
-one_table s t u h k = one_end s.first (take s.played s.moves) t u h.reached k.reached
+one_table s t u h k = all_played_same s.first (take s.played s.moves) t u h.reached k.reached
 
 -- a move is refused with one fault, and not accepted then
 one_fault : (s : Session) (m : Move) (e f : MoveFault) → IsRefused s m e → IsRefused s m f → e ≡ f

@@ -25,7 +25,7 @@ use Rattle.outcome_definitions.specs.declared.SumRefusal.TheVariants.{Unfit, Unf
 use Rattle.outcome_definitions.specs.Outcomes.{Outcome}
 use Rattle.outcome_definitions.specs.Enumerations.{large_outcome}
 use Rattle.outcome_definitions.specs.Sums.{IsFirstRefused, AreTold, IsVerdict, IsTermVerdict, IsAddedUp, IsSummed, AreSums, IsPastTold, IsDecomposed, IsDecomposeAnswer, IsAddupAnswer, sums_outcome, addup_outcome}
-use Rattle.outcome_laws.proofs.Equated.{one_equations}
+use Rattle.surface_definitions.proofs.OneSystem.{one_equations}
 
 -- where what is told of each is determined, so is what is told of all
 module _ {A B E : Type 0} (IsTold : A → Result B E → Type 0) (one : (x : A) (r s : Result B E) → IsTold x r → IsTold x s → r ≡ s) where

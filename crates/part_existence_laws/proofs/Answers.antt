@@ -3,10 +3,10 @@ use Rattle.std.proofs.Common.{List, ◌⊎◌, inl, inr, refl}
 use Rattle.table_definitions.specs.Table.{Row, IsTable}
 use Rattle.table_definitions.specs.Relabelling.{IsRelabelled}
 use Rattle.part_laws.proofs.Signatures.{component_signatures_tell}
-use Rattle.outcome_definitions.specs.Lines.{line}
 use Rattle.outcome_definitions.specs.Outcomes.{Outcome}
 use Rattle.outcome_definitions.specs.Canonical.{done, relabelling_text, different_outcome}
 use Rattle.outcome_definitions.specs.Parts.{IsComponentSignatureAnswer, IsSamePartsAnswer}
+use Rattle.text_definitions.specs.Written.{line}
 use Rattle.part_existence_laws.proofs.LeastExists.{same_or_not}
 use Rattle.part_existence_laws.proofs.Ordering.{some_component_signature}
 use Rattle.part_existence_laws.proofs.Told.{some_same_parts}

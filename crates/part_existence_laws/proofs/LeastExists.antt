@@ -10,6 +10,7 @@ use Rattle.table_definitions.specs.Places.{IsConnected}
 use Rattle.table_definitions.specs.Relabelling.{Relabelling, IsRelabelling, IsRelabelled, stand_in}
 use Rattle.table_definitions.proofs.Carried.{length-images, carried_is_table}
 use Rattle.table_definitions.proofs.Permutations.{words_permute, inverse_permutes}
+use Rattle.table_definitions.proofs.ListLaws.{not_before_itself}
 use Rattle.signature_definitions.specs.Spelling.{spelling, Spells}
 use Rattle.signature_codec.proofs.SlotLaws.{ok_same}
 use Rattle.signature_codec.proofs.SpelledTables.{spelled_read}
@@ -19,7 +20,6 @@ use Rattle.canonical_labelling.specs.Starts.{start_at, start_back_at, IsNoMatch}
 use Rattle.canonical_labelling.proofs.Agreeing.{one_walk}
 use Rattle.canonical_labelling.proofs.Matching.{no_relabelling, first_match_is_least}
 use Rattle.canonical_labelling.proofs.Told.{neither_before}
-use Rattle.part_laws.proofs.Permuted.{not_itself}
 use Rattle.signature_laws.proofs.Walks.{walks_exist_lem}
 
 -- texts are the same or not
@@ -27,7 +27,7 @@ pub same_or_not : (xs ys : List ℕ) → (xs ≡ ys) ⊎ (xs ≡ ys → ⊥)
 same_or_not xs ys = go (is_list_before xs ys) (is_list_before ys xs) refl refl
   where
     differ : (us vs : List ℕ) → is_list_before us vs ≡ true → us ≡ vs → ⊥
-    differ us vs e same = let f : is_list_before vs vs ≡ true = subst (λ (ws : List ℕ). is_list_before ws vs ≡ true) same e in let g = not_itself vs in let h : false ≡ true = sym g ∙ f in cc
+    differ us vs e same = let f : is_list_before vs vs ≡ true = subst (λ (ws : List ℕ). is_list_before ws vs ≡ true) same e in let g = not_before_itself vs in let h : false ≡ true = sym g ∙ f in cc
 
     go : (a b : Bool) → is_list_before xs ys ≡ a → is_list_before ys xs ≡ b → (xs ≡ ys) ⊎ (xs ≡ ys → ⊥)
     go true b e f = inr (differ xs ys e)

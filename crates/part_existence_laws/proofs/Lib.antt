@@ -1,5 +1,5 @@
 mod Sorting
-mod LeastExists
+pub mod LeastExists
 pub mod Ordering
 pub mod Told
 pub mod Answers

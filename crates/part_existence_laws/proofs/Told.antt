@@ -2,6 +2,7 @@
 use Rattle.std.proofs.Common.{◌≡◌, ℕ, ◌<◌, ◌≤◌, ◌⊎◌, inl, inr, List, [], length, slice_index, slice_index_or, subst, sym, ap, refl, ◌∙◌, arith}
 use Rattle.std.proofs.lemmas.Bool.{cases_lt}
 use Rattle.std.proofs.lemmas.List.FromFn.{length-map-range_with_len}
+use Rattle.plain_facts.proofs.Members.{contains_at}
 use Rattle.table_definitions.specs.Table.{Gluing, Row, IsTable}
 use Rattle.table_definitions.specs.Relabelling.{Relabelling, IsRelabelled}
 use Rattle.labelling_definitions.specs.Labellings.{IsLeastRelabelling}
@@ -10,7 +11,6 @@ use Rattle.canonical_labelling.proofs.Standing.{made_stands}
 use Rattle.part_definitions.specs.Parts.{Part, AreParts}
 use Rattle.part_definitions.specs.ComponentSignature.{component_text}
 use Rattle.part_definitions.specs.SameParts.{GoesBy, IsSameParts}
-use Rattle.part_laws.proofs.Numbers.{contains_entry}
 use Rattle.part_laws.proofs.Members.{part_at, numbers_at, StandsAt, member_below}
 use Rattle.part_laws.proofs.Matching.{Matches, stand_for, stand_is}
 use Rattle.part_laws.proofs.SameParts.{order_apart, order_holds}
@@ -121,7 +121,7 @@ module _ (n : ℕ) (P : List Part) (E : List Entry) (Q : List Part) (F : List En
       goes k lk =
           let t : ℕ = slice_index (part_in P E i).numbers k in
           let inside : slice_index (part_in P E i).numbers k < length m.first = member_below m.first m.first_table (part_in P E i) (is_part m.first P E m.first_table m.are_parts m.in_order i l) (slice_index (part_in P E i).numbers k)
-          (contains_entry (part_in P E i).numbers k (slice_index (part_in P E i).numbers k) lk refl) in
+          (contains_at (part_in P E i).numbers k (slice_index (part_in P E i).numbers k) lk refl) in
           let s : StandsAt P (slice_index (part_in P E i).numbers k) = record { i = slice_index (numbers_of E) i; in_parts = la; k = k; in_numbers = lk; is = refl } in
           made_stands n stands (slice_index (part_in P E i).numbers k) (subst (λ j. slice_index (part_in P E i).numbers k < j) m.size inside)
           ∙ stand_is m.first m.second P Q m.first_table m.second_table m.are_parts m.are_others matches (slice_index (part_in P E i).numbers k) s inside

@@ -1,30 +1,11 @@
 -- A skeleton of a table is one.
-use Rattle.std.proofs.Common.{◌≡◌, ℕ, ◌*◌, ◌<◌, inl, inr, List, length, subst, sym, ap₂, ◌∙◌, arith, ext_get_or}
-use Rattle.std.specs.Prelude.{slice_index}
-use Rattle.std.proofs.lemmas.Bool.{cases_order}
+use Rattle.std.proofs.Common.{◌≡◌, ℕ, ◌*◌, List, length, subst, ap₂}
 use Rattle.table_definitions.specs.Table.{Row}
 use Rattle.table_definitions.specs.Classes.{IsNumbering}
 use Rattle.table_definitions.specs.Places.{SameVertex, SameEdge, SameFace}
-use Rattle.table_definitions.proofs.ClassLaws.{numberings_agree}
+use Rattle.table_definitions.proofs.ClassLaws.{one_count}
 use Rattle.skeleton_definitions.specs.Skeleton.{Numbering, Skeleton, IsSkeleton}
-
-pub one_classes : (n : ℕ) (Same : ℕ → ℕ → Type 0) (one other : List ℕ) (k m : ℕ) → IsNumbering n Same one k → IsNumbering n Same other m → one ≡ other
-one_classes n Same one other k m a b =
-    let e = a.one_each in
-    ext_get_or 0 one other (a.one_each ∙ sym b.one_each) (λ i h. numberings_agree n Same one other k m a b i (omega arith))
-
-no_more : (n : ℕ) (Same : ℕ → ℕ → Type 0) (classes : List ℕ) (k m : ℕ) → IsNumbering n Same classes k → IsNumbering n Same classes m → k < m → ⊥
-no_more n Same classes k m a b less =
-    let last = b.none_empty k less in
-    let below : slice_index classes last.0 < k = a.in_range last.0 last.1 in
-    let is : slice_index classes last.0 ≡ k = last.2 in omega arith
-
-pub one_count : (n : ℕ) (Same : ℕ → ℕ → Type 0) (classes : List ℕ) (k m : ℕ) → IsNumbering n Same classes k → IsNumbering n Same classes m → k ≡ m
-one_count n Same classes k m a b = elim (cases_order k m) [
-  | inl e ↦ e
-  | inr (inl less) ↦ absurd (no_more n Same classes k m a b less)
-  | inr (inr more) ↦ absurd (no_more n Same classes m k b a more)
-]
+use Rattle.skeleton_definitions.proofs.OneSkeleton.{one_classes}
 
 one_numbering : (n : ℕ) (Same : ℕ → ℕ → Type 0) (one other : Numbering) → IsNumbering n Same one.classes one.count →
     IsNumbering n Same other.classes other.count → one ≡ other

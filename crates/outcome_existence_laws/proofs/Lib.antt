@@ -1,0 +1,11 @@
+pub mod ReadTables
+pub mod ToldLists
+pub mod SignedTables
+pub mod PlayedSteps
+pub mod Enumerated
+pub mod AddedUp
+pub mod Decomposed
+pub mod SummedUp
+pub mod Vectored
+pub mod Informed
+pub mod EachAnswer

@@ -1,0 +1,5 @@
+pub mod Numbered
+pub mod Skeletons
+pub mod Oriented
+pub mod Linked
+pub mod Equated
