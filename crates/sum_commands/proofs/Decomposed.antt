@@ -25,7 +25,7 @@ use Rattle.sum_definitions.specs.Sums.{HasRays}
 use Rattle.sum_laws.proofs.Surfaces.{surfaces_are_rays_lem}
 use Rattle.document_definitions.specs.Documents.{vectors_document}
 use Rattle.document_laws.proofs.Documents.{vectors_document_read}
-use Rattle.outcome_laws.proofs.Equated.{one_equations}
+use Rattle.surface_definitions.proofs.OneSystem.{one_equations}
 use Rattle.outcome_definitions.specs.declared.SumRefusal.TheVariants.{Unfit}
 use Rattle.outcome_definitions.specs.Outcomes.{Outcome}
 use Rattle.outcome_definitions.specs.Enumerations.{large_outcome}

@@ -3,10 +3,11 @@ use Rattle.std.proofs.Common.{◌≡◌, ◌+◌, ◌≤◌, List, [], ◌∷◌
 use Rattle.std.proofs.lemmas.List.{length-append}
 use Rattle.text_definitions.specs.Text.{Line}
 use Rattle.text_definitions.specs.declared.LexFault.{LexFault}
-use Rattle.text_definitions.specs.Reading.{Reading, ◌>>=◌, begun, line_from, need_line_at, Fails}
+use Rattle.text_definitions.specs.Reading.{Reading, ◌>>=◌, begun, need_line_at, Fails}
 use Rattle.table_definitions.specs.declared.TextFault.{TextFault}
 use Rattle.table_definitions.specs.declared.TextFault.TheVariants.{NoMemory, Lex}
 use Rattle.table_definitions.specs.TableText.{lexed}
+use Rattle.table_definitions.proofs.LineLaws.{BeginsLine, line_begun}
 use Rattle.document_definitions.specs.Blocks.{Block, block_at, blocks_on, blocks_from}
 use Rattle.document_laws.proofs.BlockReading.{BlockRead, block_read}
 use Rattle.document_laws.proofs.SumDocuments.{any_most}
@@ -44,38 +45,29 @@ first_line : (c : Reading) (l : Line) (ls : List Line) → c.later ≡ l ∷ ls 
 unfolding blocks_from
 first_line c l ls same = ap (λ (us : List Line). blocks_from us c) same ∙ ap (λ (us : List Line). blocks_on us c (λ d. blocks_from ls d)) same
 
--- a further line is begun
-next_begun : (c d : Reading) → need_line_at c ≡ Ok d → (l : Line) × (ls : List Line) × (c.later ≡ l ∷ ls) × (begun l ls c ≡ d)
-unfolding need_line_at
-next_begun c d e = from_lines c.later refl e
-  where
-    from_lines : (ls : List Line) → c.later ≡ ls → line_from ls c ≡ Ok d → (l : Line) × (rest : List Line) × (c.later ≡ l ∷ rest) × (begun l rest c ≡ d)
-    from_lines [] same e = cc
-    from_lines (l ∷ ls) same e = (l, ls, same, (let x : Ok (begun l ls c) ≡ Ok d = e in cc))
-
 pub block_taken : (front : List Block) (c d : Reading) (x : Block × Reading) → need_line_at c ≡ Ok d → block_at d ≡ Ok x
     → with_fronts (front ++ x.0 ∷ []) (blocks_from x.1.later x.1) ≡ with_fronts front (blocks_from c.later c)
 block_taken front c d x e f =
-    let n = next_begun c d e in
-    let read : block_at (begun n.0 n.1 c) ≡ Ok x = rw n.3 f in
-    let fewer = fewer_left n.0 n.1 n.1 c x read (omega arith) in
+    let n : BeginsLine c d = line_begun c d e in
+    let read : block_at (begun n.line n.rest c) ≡ Ok x = rw (sym n.left) f in
+    let fewer = fewer_left n.line n.rest n.rest c x read (omega arith) in
     fronts_first front x.0 (blocks_from x.1.later x.1)
-    ∙ ap (λ (r : Many). with_fronts front (first_and x.0 r)) (any_most x.1.later n.1 x.1 (omega arith) fewer)
-    ∙ ap (λ (r : One). with_fronts front (block_then (λ d. blocks_from n.1 d) r)) (sym read)
-    ∙ ap (with_fronts front) (sym (first_line c n.0 n.1 n.2))
+    ∙ ap (λ (r : Many). with_fronts front (first_and x.0 r)) (any_most x.1.later n.rest x.1 (omega arith) fewer)
+    ∙ ap (λ (r : One). with_fronts front (block_then (λ d. blocks_from n.rest d) r)) (sym read)
+    ∙ ap (with_fronts front) (sym (first_line c n.line n.rest n.lines))
 
 pub blocks_fewer : (c d : Reading) (x : Block × Reading) → need_line_at c ≡ Ok d → block_at d ≡ Ok x → length x.1.later + 1 ≤ length c.later
 blocks_fewer c d x e f =
-    let n = next_begun c d e in
+    let n : BeginsLine c d = line_begun c d e in
     let less = no_more d x f in
-    let there : n.1 ≡ d.later = ap (λ (r : Reading). r.later) n.3 in
-    omega (arith, ap length there, ap length n.2)
+    let there : n.rest ≡ d.later = ap (λ (r : Reading). r.later) (sym n.left) in
+    omega (arith, ap length there, ap length n.lines)
 
 block_faulty : (front : List Block) (c d : Reading) (fault : LexFault) → need_line_at c ≡ Ok d → block_at d ≡ Err fault → with_fronts front (blocks_from c.later c) ≡ Err fault
 block_faulty front c d fault e f =
-    let n = next_begun c d e in
-    let read : block_at (begun n.0 n.1 c) ≡ Err fault = rw n.3 f in
-    ap (with_fronts front) (first_line c n.0 n.1 n.2) ∙ ap (λ (r : One). with_fronts front (block_then (λ d. blocks_from n.1 d) r)) read
+    let n : BeginsLine c d = line_begun c d e in
+    let read : block_at (begun n.line n.rest c) ≡ Err fault = rw (sym n.left) f in
+    ap (with_fronts front) (first_line c n.line n.rest n.lines) ∙ ap (λ (r : One). with_fronts front (block_then (λ d. blocks_from n.rest d) r)) read
 
 pub blocks_ended : (front : List Block) (c : Reading) → c.later ≡ [] → with_fronts front (blocks_from c.later c) ≡ Ok (front, c)
 unfolding blocks_from

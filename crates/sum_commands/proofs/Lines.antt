@@ -1,8 +1,8 @@
 -- Lines that are written piece by piece.
-use Rattle.std.proofs.Common.{◌≡◌, ℕ, List, [], ◌∷◌, ◌++◌, sym, ap, ◌∙◌, append_assoc, append-nil}
-use Rattle.std.specs.Prelude.{map, decimal, codes}
-use Rattle.text_definitions.specs.Written.{spaced}
+use Rattle.std.proofs.Common.{◌≡◌, ℕ, List, [], ◌∷◌, ◌++◌, sym, ap, ◌∙◌, append_assoc}
+use Rattle.std.specs.Prelude.{decimal, codes}
 use Rattle.cone_text_definitions.specs.VectorText.{entries_text}
+use Rattle.cone_text_definitions.proofs.VectorLines.{spaced_entries}
 use Rattle.sum_definitions.specs.Sums.{Term}
 use Rattle.document_definitions.specs.Blocks.{term_text}
 
@@ -13,10 +13,6 @@ three_pieces t a b c = ap (λ (s : List ℕ). s ++ c) (append_assoc t a b) ∙ a
 pub five_pieces : (t a b c d e : List ℕ) → ((((t ++ a) ++ b) ++ c) ++ d) ++ e ≡ t ++ ((((a ++ b) ++ c) ++ d) ++ e)
 five_pieces t a b c d e =
     ap (λ (s : List ℕ). (s ++ d) ++ e) (three_pieces t a b c) ∙ three_pieces t ((a ++ b) ++ c) d e
-
-spaced_entries : (w x : List ℕ) → spaced (w ∷ map decimal x) ≡ (w ++ entries_text x) ++ 10 ∷ []
-spaced_entries w [] = ap (λ (v : List ℕ). v ++ 10 ∷ []) (sym (append-nil w))
-spaced_entries w (entry ∷ x) = ap (λ (v : List ℕ). w ++ 32 ∷ v) (spaced_entries (decimal entry) x) ∙ sym (append_assoc w (32 ∷ (decimal entry ++ entries_text x)) (10 ∷ []))
 
 -- the line of a term
 pub term_line : (term : Term) → term_text term ≡ codes "term " ++ ((decimal term.count ++ entries_text term.vector) ++ 10 ∷ [])

@@ -18,9 +18,6 @@ abbrev pub entries : Vec ℕ Global → List ℕ
 entries v = v.items
 
 module _ (most : ℕ) (list : List (List ℕ)) (rows : List Row) where
-  pub none_summed : (text : List ℕ) → text ≡ table_text rows → AreSummedIn most list rows [] text
-  none_summed text e = record { told = []; sums = tt; lines = e ∙ sym (append-nil (table_text rows)) }
-
   more_summed : (vectors : List (List ℕ)) (x before now : List ℕ) → AreSummedIn most list rows vectors before → (block : Block) × IsSummed most list x (Ok block) × (now ≡ before ++ block_text block)
       → AreSummedIn most list rows (vectors ++ x ∷ []) now
   more_summed vectors x before now h k = record {

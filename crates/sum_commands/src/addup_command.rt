@@ -3,24 +3,23 @@ ghost use Rattle.std.specs.Prelude.{◌≡◌, ◌≤◌, ◌^◌, length, IfOk}
 ghost use Rattle.surface_definitions.specs.Coordinates as coordinates;
 ghost use Rattle.document_definitions.specs.Blocks.{blocks_document};
 ghost use Rattle.outcome_definitions.specs.Outcomes.{IsReadOutcome};
-ghost use Rattle.outcome_definitions.specs.Sums.{IsAddedUp, IsAddupAnswer, accepted_outcome};
+ghost use Rattle.outcome_definitions.specs.Sums.{IsAddedUp, IsAddupAnswer};
 ghost use Rattle.sum_commands.specs.Blocks.{block_of, all_blocks};
 ghost use Rattle.sum_commands.specs.Firsts.{AreAllTold};
 
 use crate::blocks::{Block, read_table_and_blocks};
 use crate::checks::{FirstFault, check_terms};
 use crate::refusals::refusal_outcome;
-use command_answers::{Outcome, fault_outcome};
+use command_answers::{Outcome, accepted_outcome, fault_outcome};
 use cone_core::System;
 use gluing_table::Table;
 use matching_equations::{Coords, equations};
 use no_memory::NoMemory;
-use outcome_definitions::{Status, SumRefusal};
+use outcome_definitions::SumRefusal;
 use ray_decompose::add_up;
 use skeleton::Skeleton;
 use std::alloc::Global;
 use surface_answers::check;
-use text_writing::append;
 
 // Whether a block's vector and its terms are admissible solutions, and the terms add up; or what is wrong first.
 fn check_block(
@@ -66,16 +65,6 @@ fn check_blocks(
     Ok(())
 }
 
-// All blocks are accepted.
-#[tactic(auto, unfolding(outcome_definitions::specs::Lines::accepted_text))]
-fn accepted(alloc: Global) -> Result<Outcome, NoMemory>
-    ensures { IfOk result (λ o. o ≡ accepted_outcome) }
-{
-    let mut text = Vec::new(alloc);
-    append(&mut text, b"accepted\n")?;
-    Ok(Outcome::built(Status::Done, text))
-}
-
 // The answer to a table and blocks.
 fn answer(
     alloc: Global,
@@ -88,7 +77,7 @@ fn answer(
     let skeleton = Skeleton::of(alloc, table)?;
     let system = equations(alloc, &skeleton, coords)?;
     match check_blocks(coords, &skeleton, &system, blocks) {
-        Ok(()) => accepted(alloc),
+        Ok(()) => accepted_outcome(alloc),
         Err(first) => refusal_outcome(alloc, first.number, first.fault),
     }
 }

@@ -1,30 +1,15 @@
 // The line for a vector that is refused.
 ghost use Rattle.std.specs.Prelude.{◌≡◌, ◌++◌, codes, decimal, IfOk, OnOk};
-ghost use Rattle.outcome_definitions.specs.Lines.{line};
+ghost use Rattle.text_definitions.specs.Written.{line};
 ghost use Rattle.outcome_definitions.specs.Sums as sums;
 
-use command_answers::{Outcome, append_checked};
+use command_answers::{Outcome, append_checked, append_numbered};
 use no_memory::NoMemory;
 use outcome_definitions::{Status, SumRefusal};
 use ray_decompose::AddFault;
 use std::alloc::Global;
 use surface_definitions::VectorFault;
 use text_writing::{append, append_decimal};
-
-// A line of a word and a number.
-fn append_numbered(
-    alloc: Global,
-    out: &mut Vec<u8>,
-    word: &[u8],
-    number: u128,
-) -> Result<(), NoMemory>
-    ensures { OnOk result (out.new.items ≡ out.old.items ++ line (word.now ++ decimal number)) }
-{
-    append(out, word)?;
-    append_decimal(alloc, out, number)?;
-    append(out, b"\n")?;
-    Ok(())
-}
 
 // The term of this number is refused by the check.
 fn append_term(

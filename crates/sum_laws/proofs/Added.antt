@@ -1,7 +1,7 @@
 -- No fault is found in terms exactly where they add up.
 use Rattle.std.proofs.Common.{◌≡◌, ℕ, ◌*◌, ◌≤◌, inl, inr, ◌↔◌, Bool, true, false, List, [], ◌∷◌, length, slice_index, All, Option, Some, None, ap, refl, ◌∙◌, arith}
 use Rattle.std.specs.Prelude.{◌==◌, nat_lt, if◌then◌else◌}
-use Rattle.std.proofs.lemmas.Bool.{cases_lt, eqb-true, eq-eqb}
+use Rattle.std.proofs.lemmas.Bool.{cases_lt, eqb-true, eq-eqb, le-ltb}
 use Rattle.std.proofs.lemmas.List.Sums.{sum_by-cons}
 use Rattle.std.proofs.lemmas.List.Elements.{All-head, All-tail}
 use Rattle.table_definitions.proofs.TableLaws.{first_some-none, first_some_never, Among-below}
@@ -24,16 +24,13 @@ none_of false false column e = let f : Some (NotEqual column) ≡ None = e in cc
 lt_false : (a b : ℕ) → nat_lt a b ≡ false → b ≤ a
 lt_false a b e = grind arith
 
-false_lt : (a b : ℕ) → b ≤ a → nat_lt a b ≡ false
-false_lt a b l = grind arith
-
 module _ (limit : ℕ) (x : List ℕ) (times : ℕ) (terms : List Term) where
   column_none : (j : ℕ) → column_fault limit x times terms j ≡ None → (times * slice_index x j ≤ limit) × (times * slice_index x j ≡ sum_at terms j)
   column_none j e = let b = none_of (nat_lt limit (times * slice_index x j)) (times * slice_index x j == sum_at terms j) j e in
       (lt_false limit (times * slice_index x j) b.0, eqb-true (times * slice_index x j) (sum_at terms j) b.1)
 
   none_column : (j : ℕ) → times * slice_index x j ≤ limit → times * slice_index x j ≡ sum_at terms j → column_fault limit x times terms j ≡ None
-  none_column j l e = let a : nat_lt limit (times * slice_index x j) ≡ false = false_lt limit (times * slice_index x j) l in
+  none_column j l e = let a : nat_lt limit (times * slice_index x j) ≡ false = le-ltb limit (times * slice_index x j) l in
       let b : (times * slice_index x j == sum_at terms j) ≡ true = eq-eqb (times * slice_index x j) (sum_at terms j) e in
       ap (λ c. fault_of c (times * slice_index x j == sum_at terms j) j) a ∙ ap (λ c. fault_of false c j) b
 

@@ -1,6 +1,6 @@
 -- The least listed vector inside another, and the least fraction: each exists, and there is one.
 use Rattle.std.proofs.Common.{◌≡◌, ◌≢◌, ℕ, zero, suc, ◌*◌, ◌/◌, ◌<◌, ◌≤◌, ◌⊎◌, inl, inr, List, [], ◌∷◌, length, slice_index, slice_index_or, AllPairs, Contains, subst, subst₂, sym, ap, refl, ◌∙◌, arith}
-use Rattle.std.proofs.Math.Nat.{le_of_mul-le-mul_left, mul-div_cancel', pos_of_dvd_of_pos, eq-one_of_dvd-one, one-dvd, mul-dvd-mul_left, dvd_of_mul-dvd-mul_left, mul-le-mul_left, dvd-zero}
+use Rattle.std.proofs.Math.Nat.{le_of_mul-le-mul_left, mul-div_cancel', pos_of_dvd_of_pos, eq-one_of_dvd-one, one-dvd, mul-dvd-mul_left, mul-le-mul_left, dvd-zero}
 use Rattle.std.proofs.lemmas.Nat.Gcd.{dvd_refl}
 use Rattle.std.proofs.lemmas.List.{get_or_default}
 use Rattle.std.specs.Int.{◌∣◌, IsGcd}
@@ -9,7 +9,7 @@ use Rattle.cone_definitions.specs.Vectors.{IsNonzero, IsInside, IsPrimitive, IsB
 use Rattle.cone_definitions.proofs.Below.{all_or_first}
 use Rattle.cone_definitions.proofs.Ratio.{IsLeastRatio, least_ratio}
 use Rattle.cone_definitions.proofs.Solutions.{mul_cancel}
-use Rattle.cone_definitions.proofs.Divisors.{gcd_exists}
+use Rattle.cone_definitions.proofs.Divisors.{gcd_exists, one_from_divisor}
 use Rattle.cone_definitions.proofs.OneRay.{same_primitive}
 use Rattle.cone_definitions.proofs.Lexicographic.{before_asymmetric}
 use Rattle.cone_definitions.proofs.Entries.{inside_or_not, nonzero_before}
@@ -94,9 +94,6 @@ one_fraction r v p q p' q' a b = (ap (λ x. slice_index x 0) same, ap (λ x. sli
         (record { m = q'; c = q; some_m = some_q r v p' q' b; some_c = some_q r v p q a; same = entries }) (pair_primitive p q a.lowest) (pair_primitive p' q' b.lowest)
 
 -- with a the entry of r and b that of v at the column of the least ratio, a / g over b / g is the least fraction
-one_from_divisor : (g d : ℕ) → 1 ≤ g → g * d ∣ g → d ≡ 1
-one_from_divisor g d some h = let e : g ≡ g * 1 = omega arith in eq-one_of_dvd-one (dvd_of_mul-dvd-mul_left {k = g} d some (subst (λ m. g * d ∣ m) e h))
-
 lowest : (a b g : ℕ) → 1 ≤ g → IsGcd a b g → IsGcd (a / g) (b / g) 1
 lowest a b g some h = (
   one-dvd (a / g),

@@ -4,11 +4,10 @@ use Rattle.std.proofs.lemmas.Bool.{cases_lt, cases_eq, cases_order}
 use Rattle.cone_definitions.specs.Vectors.{IsNonzero, IsSmaller}
 use Rattle.cone_definitions.specs.Rows.{Row}
 use Rattle.cone_definitions.proofs.Below.{all_or_first}
-use Rattle.cone_definitions.proofs.Entries.{zero_or_nonzero, entry_past}
+use Rattle.cone_definitions.proofs.Entries.{zero_or_nonzero, entry_past, support_size, size_few, size-smaller}
 use Rattle.cone_definitions.proofs.Rays.{ray_inside}
 use Rattle.sum_definitions.specs.Sums.{Term, State, first_state, IsLeastInside, IsLeastFraction, taken_out, IsTurn, IsWithinTimes, LeadsTo, IsSum, IsLargeTurn, HasRays}
 use Rattle.sum_laws.specs.Laws.{IsSumOfRays, Answer, sum, large, IsAnswer}
-use Rattle.sum_laws.proofs.Sizes.{size_below, size_few, size-smaller}
 use Rattle.sum_laws.proofs.Fractions.{one_least, one_fraction, some_least, some_fraction}
 use Rattle.sum_laws.proofs.Turns.{led_reached, turn_smaller, listed_ray}
 
@@ -135,14 +134,14 @@ module _ (columns : ℕ) (rows : List Row) (list : List (List ℕ)) (x : List �
   pub turn_lessens : (turns : ℕ) (s next : State) → LeadsTo limit list x turns s → IsTurn list s next → IsSmaller next.rest s.rest
   turn_lessens turns s next led t = turn_smaller columns rows list x h s next (led_reached columns rows list x h limit turns s led) t
 
-  sizes : (turns : ℕ) (s : State) → LeadsTo limit list x turns s → turns + size_below columns s.rest ≤ columns
-  sizes zero s led = let l : size_below columns s.rest ≤ columns = size_few columns s.rest in omega arith
-  sizes (suc turns) s t = let i : turns + size_below columns t.0.rest ≤ columns = sizes turns t.0 t.1 in
-      let l : size_below columns s.rest < size_below columns t.0.rest = size-smaller columns s.rest t.0.rest
+  sizes : (turns : ℕ) (s : State) → LeadsTo limit list x turns s → turns + support_size columns s.rest ≤ columns
+  sizes zero s led = let l : support_size columns s.rest ≤ columns = size_few columns s.rest in omega arith
+  sizes (suc turns) s t = let i : turns + support_size columns t.0.rest ≤ columns = sizes turns t.0 t.1 in
+      let l : support_size columns s.rest < support_size columns t.0.rest = size-smaller columns s.rest t.0.rest
       (led_reached columns rows list x h limit turns t.0 t.1).solution.width (turn_lessens turns t.0 s t.1 t.2) in omega arith
 
   pub few_turns : (turns : ℕ) (s : State) → LeadsTo limit list x turns s → turns ≤ columns
-  few_turns turns s led = let l : turns + size_below columns s.rest ≤ columns = sizes turns s led in omega arith
+  few_turns turns s led = let l : turns + support_size columns s.rest ≤ columns = sizes turns s led in omega arith
 
   within_or_first : (times : ℕ) → IsWithinTimes limit x times ⊎ ((column : ℕ) × ((earlier : ℕ) → earlier < column → times * slice_index x earlier ≤ limit) × (limit < times * slice_index x column))
   within_or_first times = elim (all_or_first (λ j. times * slice_index x j ≤ limit) (λ j. limit < times * slice_index x j) decide (length x)) [

@@ -5,9 +5,9 @@ use Rattle.sum_commands.proofs.AddedUp.{all_accepted, one_refused}
 use Rattle.sum_commands.proofs.addup_command.answer.Goals as goal
 
 pub returns-in-Ok : goal.returns-in-Ok
-returns-in-Ok c = if_ok c.accepted.result _ _
+returns-in-Ok c = if_ok c.accepted_outcome.result _ _
     (λ o e. all_accepted c.args.coords c.in_ok-skeleton.skeleton.rows c.in_ok-system.system.rows c.args.table.now c.in_ok-skeleton.ensures.rows c.in_ok-system.ensures.equations (all_blocks c.args.blocks.now) o c.in-Ok.ensures e)
-    c.accepted.ensures
+    c.accepted_outcome.ensures
 
 pub returns : goal.returns
 returns c = if_ok c.refusal_outcome.result _ _

@@ -1,0 +1,5 @@
+pub mod WrittenBlocks
+pub mod SmallNumbers
+pub mod TermVerdicts
+pub mod AddedUp
+pub mod ReadAgain
