@@ -1,14 +1,20 @@
-// Truth values and counts in lines.
-ghost use Rattle.std.specs.Prelude.{◌≡◌, ◌++◌, OnOk};
+// Truth values, counts and whole answers in lines.
+ghost use Rattle.std.specs.Prelude.{◌≡◌, ◌++◌, IfOk, OnOk};
 ghost use Rattle.outcome_definitions.specs.Information as information;
+ghost use Rattle.text_definitions.specs.Written as written;
+ghost use Rattle.text_definitions.specs.Written.{line};
+ghost use Rattle.outcome_definitions.specs.Canonical.{done};
+ghost use Rattle.outcome_definitions.specs.Sums.{accepted_outcome};
 
+use crate::Outcome;
 use no_memory::NoMemory;
+use outcome_definitions::Status;
 use std::alloc::Global;
 use text_writing::{append, append_decimal};
 
 /// A truth value as a word.
 pub fn yes_or_no(value: bool) -> &'static [u8]
-    ensures { result.now ≡ information.yes_or_no value }
+    ensures { result.now ≡ written.yes_or_no value }
 {
     if value { b"yes" } else { b"no" }
 }
@@ -36,4 +42,22 @@ pub fn append_counted(
     append_decimal(alloc, text, u128::from(count))?;
     append(text, b"\n")?;
     Ok(())
+}
+
+/// The outcome of an answer of one line.
+pub fn line_outcome(mut text: Vec<u8>) -> Result<Outcome, NoMemory>
+    ensures { IfOk result (λ o. o ≡ done (line text.items)) }
+{
+    append(&mut text, b"\n")?;
+    Ok(Outcome::built(Status::Done, text))
+}
+
+/// What was given to be checked is accepted.
+#[tactic(auto, unfolding(outcome_definitions::specs::Lines::accepted_text))]
+pub fn accepted_outcome(alloc: Global) -> Result<Outcome, NoMemory>
+    ensures { IfOk result (λ o. o ≡ accepted_outcome) }
+{
+    let mut text = Vec::new(alloc);
+    append(&mut text, b"accepted\n")?;
+    Ok(Outcome::built(Status::Done, text))
 }

@@ -1,6 +1,6 @@
 // The verdict on a vector as a line.
 ghost use Rattle.std.specs.Prelude.{◌≡◌, ◌++◌, codes, decimal, OnOk};
-ghost use Rattle.outcome_definitions.specs.Lines.{line};
+ghost use Rattle.text_definitions.specs.Written.{line};
 ghost use Rattle.surface_definitions.specs.Verdict.{verdict_text};
 
 use no_memory::NoMemory;
@@ -8,8 +8,8 @@ use std::alloc::Global;
 use surface_definitions::VectorFault;
 use text_writing::{append, append_decimal};
 
-// A line of a word and a number.
-fn append_numbered(
+/// A line of a word and a number.
+pub fn append_numbered(
     alloc: Global,
     out: &mut Vec<u8>,
     word: &[u8],

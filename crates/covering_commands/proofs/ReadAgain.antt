@@ -4,6 +4,7 @@ use Rattle.std.specs.Prelude.{codes, decimal, not}
 use Rattle.std.proofs.lemmas.Bool.{and_from}
 use Rattle.std.proofs.lemmas.List.Folds.{list_all-append}
 use Rattle.text_definitions.specs.Text.{Line, is_line_feed, pieces, lines_from, lines_of}
+use Rattle.text_definitions.specs.Written.{yes_or_no}
 use Rattle.table_definitions.specs.Table.{max_tets, Row, IsTable}
 use Rattle.table_definitions.specs.TableText.{table_text}
 use Rattle.table_definitions.specs.Grammar.{AreTriLines}
@@ -11,10 +12,10 @@ use Rattle.cover_definitions.specs.Cover.{over, sheet, cover}
 use Rattle.cover_laws.proofs.Covered.{cover_is_table}
 use Rattle.document_definitions.specs.Documents.{table_document}
 use Rattle.document_laws.proofs.Documents.{table_document_read}
-use Rattle.written_laws.proofs.Decimals.{has_no_feed, decimal_no_feed}
-use Rattle.written_laws.proofs.WrittenLines.{comment_line}
+use Rattle.text_definitions.proofs.Decimals.{has_no_feed, decimal_no_feed}
+use Rattle.table_definitions.proofs.WrittenLines.{comment_line}
 use Rattle.written_laws.proofs.WrittenTables.{BeginsWithTable, table_lines}
-use Rattle.outcome_definitions.specs.Information.{classes_text, told, yes_or_no}
+use Rattle.outcome_definitions.specs.Information.{classes_text, told}
 use Rattle.outcome_definitions.specs.Covers.{sheet_line, cover_text}
 
 no_feed : (xs ys : List ℕ) → has_no_feed xs ≡ true → has_no_feed ys ≡ true → has_no_feed (xs ++ ys) ≡ true

@@ -1,8 +1,6 @@
 //! The command `cover`: the orientable double cover of a table.
 
-ghost use Rattle.std.specs.Prelude.{◌≡◌, ◌≤◌, ◌^◌, ◌↔◌, length, None, IsTrue, IfOk};
-ghost use Rattle.table_definitions.specs.Places.{IsConnected};
-ghost use Rattle.cover_definitions.specs.Cover.{cover_fault};
+ghost use Rattle.std.specs.Prelude.{◌≡◌, ◌≤◌, ◌^◌, length, IfOk};
 ghost use Rattle.document_definitions.specs.Documents.{table_document};
 ghost use Rattle.outcome_definitions.specs.Outcomes.{IsReadOutcome};
 ghost use Rattle.outcome_definitions.specs.Covers.{IsCoverTold, IsCoverAnswer, large_cover_outcome};
@@ -17,21 +15,11 @@ use skeleton::Skeleton;
 use std::alloc::Global;
 use text_writing::append;
 
-/// Whether every two tetrahedra are joined.
-fn is_connected(alloc: Global, table: &Table) -> Result<bool, NoMemory>
-    ensures { IfOk result (λ connected. IsTrue connected ↔ IsConnected table.now) }
-{
-    match table.unreached(alloc)? {
-        Some(_) => Ok(false),
-        None => Ok(true),
-    }
-}
-
 /// The cover as the answer.
 fn told(alloc: Global, cover: &Cover) -> Result<Outcome, NoMemory>
     ensures { IfOk result (IsCoverTold cover.now) }
 {
-    let connected = is_connected(alloc, cover.table())?;
+    let connected = cover.table().is_connected(alloc)?;
     let text = cover_text(alloc, cover, connected)?;
     Ok(Outcome::built(Status::Done, text))
 }

@@ -2,7 +2,7 @@
 ghost use Rattle.std.specs.Prelude.{◌≡◌, ◌+◌, ◌++◌, List, ℕ, length, codes, decimal, IfOk};
 ghost use Rattle.cone_text_definitions.specs.VectorText.{list_text};
 ghost use Rattle.outcome_definitions.specs.Enumerations.{list_outcome};
-ghost use Rattle.outcome_definitions.specs.Lines.{line};
+ghost use Rattle.text_definitions.specs.Written.{line};
 
 use command_answers::Outcome;
 use cone_core::Ray;

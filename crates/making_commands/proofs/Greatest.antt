@@ -1,8 +1,8 @@
 -- The greatest entry, vector by vector and entry by entry.
-use Rattle.std.proofs.Common.{◌≡◌, ℕ, ◌+◌, ◌<◌, ◌≤◌, List, [], length, take, get_or, Some, sym, subst, arith}
+use Rattle.std.proofs.Common.{◌≡◌, ℕ, ◌+◌, ◌<◌, ◌≤◌, List, length, take, get_or, Some, sym, subst, arith}
 use Rattle.std.specs.Prelude.{All}
 use Rattle.std.proofs.lemmas.List.{take_more}
-use Rattle.std.proofs.lemmas.List.Elements.{All-nil, All-more, All-pop, All-weaker}
+use Rattle.std.proofs.lemmas.List.Elements.{All-more, All-pop, All-weaker}
 use Rattle.outcome_definitions.specs.Makings.{IsGreatestEntry}
 use Rattle.making_commands.specs.Entries.{IsGreatestOf}
 
@@ -14,9 +14,6 @@ higher low high l xs h = All-weaker (λ entry. entry ≤ low) (λ entry. entry �
 
 -- entries
 
-pub none_greater : (least : ℕ) → IsGreatestOf least [] least
-none_greater least = record { from = omega arith; up_to = All-nil (λ entry. entry ≤ least); least_such = λ most l h. l }
-
 pub one_entry : (least : ℕ) (xs : List ℕ) (i g g' : ℕ) → i < length xs → IsGreatestOf least (take i xs) g → g ≤ g' → get_or xs i 0 ≤ g' → ((most : ℕ) → g ≤ most → get_or xs i 0 ≤ most → g' ≤ most)
     → IsGreatestOf least (take (i + 1) xs) g'
 one_entry least xs i g g' l h more there such = record {
@@ -26,9 +23,6 @@ one_entry least xs i g g' l h more there such = record {
 }
 
 -- vectors
-
-pub none_greatest : IsGreatestEntry [] 0
-none_greatest = record { up_to = All-nil (UpTo 0); least = λ most h. omega arith }
 
 pub one_vector : (list : List (List ℕ)) (i : ℕ) (x : List ℕ) (g g' : ℕ) → i < length list → x ≡ get_or list i x → IsGreatestEntry (take i list) g → IsGreatestOf g x g' → IsGreatestEntry (take (i + 1) list) g'
 one_vector list i x g g' l is h k = record {

@@ -3,7 +3,7 @@ ghost use Rattle.std.specs.Prelude.{◌≡◌, ℕ, ◌+◌, ◌++◌, ◌<◌, 
 ghost use Rattle.surface_definitions.specs.declared.Coords.TheVariants.{Standard};
 ghost use Rattle.surface_definitions.specs.Coordinates.{is_quad_or_octagon};
 ghost use Rattle.surface_definitions.specs.Characteristic as characteristic;
-ghost use Rattle.outcome_definitions.specs.Lines.{line};
+ghost use Rattle.text_definitions.specs.Written.{line};
 ghost use Rattle.outcome_definitions.specs.Makings.{IsGreatestEntry, number_line, summary_text, summary_outcome};
 ghost use Rattle.making_commands.specs.Entries.{IsGreatestOf};
 

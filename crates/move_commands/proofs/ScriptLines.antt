@@ -5,6 +5,7 @@ use Rattle.std.proofs.lemmas.Grind.{flat_map-append}
 use Rattle.std.proofs.lemmas.List.{take_more, map-append}
 use Rattle.text_definitions.specs.declared.LexFault.{LexFault}
 use Rattle.text_definitions.specs.Reading.{Reading}
+use Rattle.text_definitions.specs.Written.{line}
 use Rattle.document_definitions.specs.Documents.{each_line_from}
 use Rattle.move_definitions.specs.Moves as moves
 use Rattle.move_definitions.specs.MoveText as text
@@ -15,7 +16,6 @@ use Rattle.move_undo.specs.declared.session.PlayFault.{PlayFault}
 use Rattle.move_undo.specs.declared.session.PlayFault.TheVariants.{Illegal, NoMemory}
 use Rattle.move_undo.specs.Faults.{IsRefusal}
 use Rattle.move_undo.specs.Steps.{step_value}
-use Rattle.outcome_definitions.specs.Lines.{line}
 use Rattle.outcome_definitions.specs.Scripts.{answers_text}
 use Rattle.command_answers.proofs.EachLine.{with_fronts}
 use Rattle.move_commands.specs.Scripts.{all_steps, Steps, Plays}

@@ -5,8 +5,8 @@ use Rattle.move_definitions.specs.MoveText as text
 use Rattle.move_definitions.specs.Sessions.{Session, StepAnswer, IsStep, AreSteps, step_answer_text}
 use Rattle.move_undo.specs.declared.reader.Step.{Step}
 use Rattle.move_undo.specs.Steps.{step_value}
-use Rattle.outcome_definitions.specs.Lines.{line}
 use Rattle.outcome_definitions.specs.Scripts.{answers_text}
+use Rattle.text_definitions.specs.Written.{line}
 
 abbrev pub all_steps : List Step → List text.Step
 all_steps steps = map step_value steps

@@ -1,36 +1,16 @@
 // The answers to the steps of a script.
-ghost use Rattle.std.specs.Prelude.{◌≡◌, ◌++◌, codes, decimal, IfOk, OnOk};
+ghost use Rattle.std.specs.Prelude.{◌≡◌, ◌++◌, codes, IfOk, OnOk};
 ghost use Rattle.move_definitions.specs.MoveText as text;
 ghost use Rattle.move_definitions.specs.Sessions.{move_fault_text};
-ghost use Rattle.outcome_definitions.specs.Lines.{line};
+ghost use Rattle.text_definitions.specs.Written.{line};
 ghost use Rattle.move_undo.specs.Steps.{step_value};
 ghost use Rattle.move_commands.specs.Scripts.{all_steps, Steps, Plays};
 
-use move_undo::{PlayFault, Session, Step};
+use move_undo::{PlayFault, Session, Step, append_move_fault};
 use no_memory::NoMemory;
 use pachner_moves::{Move, MoveFault};
 use std::alloc::Global;
-use text_writing::{append, append_decimal};
-
-// Two labels.
-fn append_labels(alloc: Global, out: &mut Vec<u8>, first: u8, second: u8) -> Result<(), NoMemory>
-    ensures { OnOk result (out.new.items ≡ out.old.items ++ codes "not-matched " ++ decimal first ++ codes " " ++ decimal second) }
-{
-    append(out, b"not-matched ")?;
-    append_decimal(alloc, out, u128::from(first))?;
-    append(out, b" ")?;
-    append_decimal(alloc, out, u128::from(second))?;
-    Ok(())
-}
-
-// A word and a label.
-fn append_label(alloc: Global, out: &mut Vec<u8>, word: &[u8], label: u8) -> Result<(), NoMemory>
-    ensures { OnOk result (out.new.items ≡ out.old.items ++ word.now ++ decimal label) }
-{
-    append(out, word)?;
-    append_decimal(alloc, out, u128::from(label))?;
-    Ok(())
-}
+use text_writing::append;
 
 fn append_word(out: &mut Vec<u8>, word: &[u8]) -> Result<(), NoMemory>
     ensures { OnOk result (out.new.items ≡ out.old.items ++ word.now) }
@@ -39,25 +19,12 @@ fn append_word(out: &mut Vec<u8>, word: &[u8]) -> Result<(), NoMemory>
     Ok(())
 }
 
-// Why a move can't be made.
-fn append_fault(alloc: Global, out: &mut Vec<u8>, fault: MoveFault) -> Result<(), NoMemory>
-    ensures { OnOk result (out.new.items ≡ out.old.items ++ move_fault_text fault) }
-{
-    match fault {
-        MoveFault::NoSuchTet => append_word(out, b"no-such-tet"),
-        MoveFault::Boundary { label } => append_label(alloc, out, b"boundary ", label),
-        MoveFault::Repeated { label } => append_label(alloc, out, b"repeated ", label),
-        MoveFault::NotMatched { first, second } => append_labels(alloc, out, first, second),
-        MoveFault::TooMany => append_word(out, b"too-many"),
-    }
-}
-
 // The line of a refused move.
 fn append_illegal(alloc: Global, out: &mut Vec<u8>, fault: MoveFault) -> Result<(), NoMemory>
     ensures { OnOk result (out.new.items ≡ out.old.items ++ line (codes "illegal " ++ move_fault_text fault)) }
 {
     append(out, b"illegal ")?;
-    append_fault(alloc, out, fault)?;
+    append_move_fault(alloc, out, fault)?;
     append(out, b"\n")?;
     Ok(())
 }

@@ -1,34 +1,22 @@
 //! The command `csig`: the component signature of a table.
 
-ghost use Rattle.std.specs.Prelude.{◌≡◌, ◌≤◌, ◌^◌, length, IfOk};
+ghost use Rattle.std.specs.Prelude.{◌≤◌, ◌^◌, length, IfOk};
 ghost use Rattle.document_definitions.specs.Documents.{table_document};
-ghost use Rattle.outcome_definitions.specs.Lines.{line};
 ghost use Rattle.outcome_definitions.specs.Outcomes.{IsReadOutcome};
-ghost use Rattle.outcome_definitions.specs.Canonical.{done};
 ghost use Rattle.outcome_definitions.specs.Parts.{IsComponentSignatureAnswer};
 
-use command_answers::{Outcome, fault_outcome, read_table_document};
+use command_answers::{Outcome, fault_outcome, line_outcome, read_table_document};
 use component_signature::component_signature;
 use gluing_table::Table;
 use no_memory::NoMemory;
-use outcome_definitions::Status;
 use std::alloc::Global;
-use text_writing::append;
-
-/// A component signature as a line.
-fn told(mut text: Vec<u8>) -> Result<Outcome, NoMemory>
-    ensures { IfOk result (λ o. o ≡ done (line text.items)) }
-{
-    append(&mut text, b"\n")?;
-    Ok(Outcome::built(Status::Done, text))
-}
 
 /// The answer to a table.
 fn answer(alloc: Global, table: &Table) -> Result<Outcome, NoMemory>
     ensures { IfOk result (IsComponentSignatureAnswer table.now) }
 {
     let text = component_signature(alloc, table)?;
-    let outcome = told(text)?;
+    let outcome = line_outcome(text)?;
     Ok(outcome)
 }
 

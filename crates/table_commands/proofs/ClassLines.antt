@@ -1,9 +1,9 @@
 -- The lines of classes, one more at a time.
-use Rattle.std.proofs.Common.{◌≡◌, ℕ, ◌+◌, ◌<◌, List, [], ◌∷◌, ◌++◌, length, Bool, false, sym, ap, ◌∙◌, subst, add-one, append_assoc, append-nil, length-append, arith, ◌⊎◌, inl, inr, Option, Some, None, true}
+use Rattle.std.proofs.Common.{◌≡◌, ℕ, ◌+◌, ◌<◌, List, [], ◌∷◌, ◌++◌, length, Bool, false, sym, ap, ◌∙◌, subst, append_assoc, length-append, arith, ◌⊎◌, inl, inr, Option, Some, None, true}
 use Rattle.std.specs.Prelude.{IsTrue, is_some, codes, ◌↔◌}
 use Rattle.std.specs.List.{slice_index_or}
 use Rattle.skeleton_definitions.specs.declared.Link.{Link}
-use Rattle.outcome_definitions.specs.Information.{classes_text, counted, told, edge_line, vertex_line, AreValid, Information, IsInformation, information_text, IsInformationAnswer}
+use Rattle.outcome_definitions.specs.Information.{counted, told, edge_line, vertex_line, AreValid, Information, IsInformation, information_text, IsInformationAnswer}
 use Rattle.outcome_definitions.specs.Outcomes.{Outcome}
 use Rattle.outcome_definitions.specs.declared.Status.TheVariants.{Done}
 use Rattle.table_definitions.specs.Table.{Row}
@@ -17,20 +17,6 @@ use denote.Ref.{Bor}
 
 last_or_earlier : (c n : ℕ) → c < n + 1 → (c ≡ n) ⊎ (c < n)
 last_or_earlier c n h = elim (cases_lt c n) [ inl less ↦ inr less | inr more ↦ inl (omega arith) ]
-
-pub lines_begin : (text : ℕ → List ℕ) (front : List ℕ) → front ≡ front ++ classes_text text 0
-unfolding classes_text
-lines_begin text front = sym (append-nil front)
-
-one_more : (text : ℕ → List ℕ) (n : ℕ) → classes_text text (n + 1) ≡ classes_text text n ++ text n
-unfolding classes_text
-one_more text n = ap (classes_text text) (add-one n)
-
-pub lines_more : (text : ℕ → List ℕ) (n : ℕ) (front before now line : List ℕ) → now ≡ before ++ line → before ≡ front ++ classes_text text n → line ≡ text n
-    → now ≡ front ++ classes_text text (n + 1)
-lines_more text n front before now line grown so_far same =
-    grown ∙ ap (λ (b : List ℕ). b ++ line) so_far ∙ ap (λ (l : List ℕ). (front ++ classes_text text n) ++ l) same
-    ∙ append_assoc front (classes_text text n) (text n) ∙ ap (λ (r : List ℕ). front ++ r) (sym (one_more text n))
 
 pub edge_same : (c m n : ℕ) (p q v : Bool) → m ≡ n → p ≡ q → edge_line c m p v ≡ edge_line c n q v
 edge_same c m n p q v e f = ap (λ (d : ℕ). edge_line c d p v) e ∙ ap (λ (b : Bool). edge_line c n b v) f

@@ -1,8 +1,9 @@
 -- Reading tables to the end of the input, table by table.
 use Rattle.std.proofs.Common.{◌≡◌, ◌+◌, ◌≤◌, List, [], ◌∷◌, ◌++◌, Result, Ok, Err, length, refl, sym, ap, ◌∙◌, arith, append_assoc, append-nil}
 use Rattle.table_definitions.specs.Table.{Row}
+use Rattle.table_definitions.proofs.LineLaws.{BeginsLine, line_begun}
 use Rattle.text_definitions.specs.Text.{Line}
-use Rattle.text_definitions.specs.Reading.{Reading, ◌>>=◌, begun, line_from, need_line_at, Fails}
+use Rattle.text_definitions.specs.Reading.{Reading, ◌>>=◌, begun, need_line_at, Fails}
 use Rattle.signature_definitions.specs.declared.InputFault.{InputFault}
 use Rattle.signature_definitions.specs.declared.InputFault.TheVariants.{NoMemory}
 use Rattle.signature_definitions.specs.SignatureText.{any_table_at}
@@ -64,39 +65,30 @@ first_line : (c : Reading) (l : Line) (ls : List Line) → c.later ≡ l ∷ ls 
 unfolding tables_from
 first_line c l ls same = ap (λ (us : List Line). tables_from us c) same ∙ ap (λ (us : List Line). tables_on us c (λ d. tables_from ls d)) same
 
--- a further line is begun
-next_begun : (c d : Reading) → need_line_at c ≡ Ok d → (l : Line) × (ls : List Line) × (c.later ≡ l ∷ ls) × (begun l ls c ≡ d)
-unfolding need_line_at
-next_begun c d e = from_lines c.later refl e
-  where
-    from_lines : (ls : List Line) → c.later ≡ ls → line_from ls c ≡ Ok d → (l : Line) × (rest : List Line) × (c.later ≡ l ∷ rest) × (begun l rest c ≡ d)
-    from_lines [] same e = cc
-    from_lines (l ∷ ls) same e = (l, ls, same, (let x : Ok (begun l ls c) ≡ Ok d = e in cc))
-
 pub table_taken : (front : List (List Row)) (c d : Reading) (x : List Row × Reading) → need_line_at c ≡ Ok d → any_table_at d ≡ Ok x
     → with_tables (front ++ x.0 ∷ []) (tables_from x.1.later x.1) ≡ with_tables front (tables_from c.later c)
 table_taken front c d x e f =
-    let n = next_begun c d e in
-    let read : any_table_at (begun n.0 n.1 c) ≡ Ok x = rw n.3 f in
-    let fewer = fewer_left n.0 n.1 n.1 c x read (omega arith) in
+    let n : BeginsLine c d = line_begun c d e in
+    let read : any_table_at (begun n.line n.rest c) ≡ Ok x = rw (sym n.left) f in
+    let fewer = fewer_left n.line n.rest n.rest c x read (omega arith) in
     with_tables-first front x.0 (tables_from x.1.later x.1)
-    ∙ ap (λ (r : ReadTables). with_tables front (first_and x.0 r)) (any_most x.1.later n.1 x.1 (omega arith) fewer)
-    ∙ ap (λ (r : Result (List Row × Reading) InputFault). with_tables front (table_then (λ d. tables_from n.1 d) r)) (sym read)
-    ∙ ap (with_tables front) (sym (first_line c n.0 n.1 n.2))
+    ∙ ap (λ (r : ReadTables). with_tables front (first_and x.0 r)) (any_most x.1.later n.rest x.1 (omega arith) fewer)
+    ∙ ap (λ (r : Result (List Row × Reading) InputFault). with_tables front (table_then (λ d. tables_from n.rest d) r)) (sym read)
+    ∙ ap (with_tables front) (sym (first_line c n.line n.rest n.lines))
 
 pub tables_fewer : (c d : Reading) (x : List Row × Reading) → need_line_at c ≡ Ok d → any_table_at d ≡ Ok x → length x.1.later + 1 ≤ length c.later
 tables_fewer c d x e f =
-    let n = next_begun c d e in
+    let n : BeginsLine c d = line_begun c d e in
     let less = (any_table_read d x.0 x.1 f).fewer in
-    let there : n.1 ≡ d.later = ap (λ (r : Reading). r.later) n.3 in
-    omega (arith, ap length there, ap length n.2)
+    let there : n.rest ≡ d.later = ap (λ (r : Reading). r.later) (sym n.left) in
+    omega (arith, ap length there, ap length n.lines)
 
 pub table_faulty : (front : List (List Row)) (c d : Reading) (fault : InputFault) → need_line_at c ≡ Ok d → any_table_at d ≡ Err fault
     → with_tables front (tables_from c.later c) ≡ Err fault
 table_faulty front c d fault e f =
-    let n = next_begun c d e in
-    let read : any_table_at (begun n.0 n.1 c) ≡ Err fault = rw n.3 f in
-    ap (with_tables front) (first_line c n.0 n.1 n.2) ∙ ap (λ (r : Result (List Row × Reading) InputFault). with_tables front (table_then (λ d. tables_from n.1 d) r)) read
+    let n : BeginsLine c d = line_begun c d e in
+    let read : any_table_at (begun n.line n.rest c) ≡ Err fault = rw (sym n.left) f in
+    ap (with_tables front) (first_line c n.line n.rest n.lines) ∙ ap (λ (r : Result (List Row × Reading) InputFault). with_tables front (table_then (λ d. tables_from n.rest d) r)) read
 
 pub tables_ended : (front : List (List Row)) (c : Reading) → c.later ≡ [] → with_tables front (tables_from c.later c) ≡ Ok (front, c)
 unfolding tables_from

@@ -3,12 +3,12 @@ use Rattle.std.proofs.Common.{◌≡◌, ◌≢◌, ℕ, ◌+◌, ◌<◌, ◌�
 use Rattle.std.specs.declared.alloc.Global.{Global}
 use Rattle.std.proofs.Math.ListN.{get_or-append}
 use Rattle.std.proofs.Math.Seq.{get_or-append_seam}
-use Rattle.std.proofs.lemmas.Bool.{cases_lt}
+use Rattle.plain_facts.proofs.Numbers.{last_or_before}
 use Rattle.table_definitions.specs.Table.{Row, IsTable}
 use Rattle.table_definitions.specs.Places.{IsConnected, IsLeastUnreached}
 use Rattle.signature_definitions.specs.Spelling.{IsSignature}
 use Rattle.labelling_definitions.specs.Census.{table_in, IsCensus, IsPlaced}
-use Rattle.labelling_definitions.proofs.CensusLaws.{census_goes_on, empty_census}
+use Rattle.labelling_definitions.proofs.CensusLaws.{census_goes_on}
 use Rattle.canonical_labelling.proofs.Told.{tells_tables}
 use Rattle.canonical_labelling.specs.declared.walks.WalkFault.TheVariants as faults
 use Rattle.table_commands.specs.declared.groups.NotConnected.{NotConnected}
@@ -24,9 +24,6 @@ where_classed : (tables : List (List Row)) (classes : List ℕ) (signatures : Li
     → AreClassed tables classes signatures → AreGroupedBy tables classes signatures found
 where_classed tables classes signatures None e h = h
 where_classed tables classes signatures (Some f) e h = absurd cc
-
-last_or_before : (n k : ℕ) → k < n + 1 → (k < n) ⊎ (k ≡ n)
-last_or_before n k h = ⊎_elim (λ (l : k < n). inl l) (λ more. inr (omega arith)) (cases_lt k n)
 
 module _ (tables : List (List Row)) (a : List Row) where
   abbrev more : List (List Row)
@@ -115,15 +112,3 @@ module _ (tables : List (List Row)) (a : List Row) where
     where
       first : IsFirstFound tables found
       first = subst (AreGroupedBy tables before.classes.items before.census) e g.grouped
-
--- no tables
-pub none_grouped : (census : List (List ℕ)) (classes : Vec ℕ Global) → census ≡ [] → classes.items ≡ [] → AreGrouped [] (record { census = census; classes = classes; found = None })
-none_grouped census classes e f = record {
-  are_tables = λ k h. absurd (omega arith);
-  few_classes = omega (arith, ap length f);
-  few_signatures = omega (arith, ap length e);
-  grouped = record {
-    connected = λ k h. absurd (omega arith);
-    census = subst (λ (cs : List ℕ). IsCensus [] cs census) (sym f) (subst (IsCensus [] []) (sym e) empty_census);
-  };
-}

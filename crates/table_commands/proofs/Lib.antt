@@ -2,4 +2,3 @@ pub mod ClassLines
 pub mod EachTable
 pub mod Grouping
 pub mod LabelLines
-pub mod LineCount

@@ -28,16 +28,6 @@ fn valid_edges(alloc: Global, skeleton: &Skeleton) -> Result<Vec<bool>, NoMemory
     Ok(valid)
 }
 
-// Whether every two tetrahedra are joined.
-fn is_connected(alloc: Global, table: &Table) -> Result<bool, NoMemory>
-    ensures { IfOk result (λ connected. IsTrue connected ↔ IsConnected table.now) }
-{
-    match table.unreached(alloc)? {
-        Some(_) => Ok(false),
-        None => Ok(true),
-    }
-}
-
 // Whether there are signs that stay across odd gluings and change across even ones.
 fn is_orientable(skeleton: &Skeleton) -> bool
     ensures { IsTrue result ↔ IsOrientable skeleton.now.rows }
@@ -71,7 +61,7 @@ fn answer(alloc: Global, table: &Table) -> Result<Outcome, NoMemory>
     ensures { IfOk result (IsInformationAnswer table.now) }
 {
     let skeleton = Skeleton::of(alloc, table)?;
-    let connected = is_connected(alloc, skeleton.table())?;
+    let connected = skeleton.table().is_connected(alloc)?;
     let links = links(alloc, &skeleton)?;
     let valid = valid_edges(alloc, &skeleton)?;
     informed(alloc, &skeleton, &links, &valid, connected)

@@ -1,7 +1,7 @@
 // The text of `info`.
 ghost use Rattle.std.specs.Prelude.{◌≡◌, ◌++◌, IfOk, OnOk, codes, length};
 ghost use Rattle.std.specs.Fmt.{signed_decimal};
-ghost use Rattle.outcome_definitions.specs.Lines.{line};
+ghost use Rattle.text_definitions.specs.Written.{line};
 ghost use Rattle.outcome_definitions.specs.Information as information;
 ghost use Rattle.outcome_definitions.specs.Information.{classes_text};
 

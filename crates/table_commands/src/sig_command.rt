@@ -1,32 +1,23 @@
 // The command `sig`: the signature of a table.
-ghost use Rattle.std.specs.Prelude.{◌≡◌, ◌≤◌, ◌^◌, length, IfOk};
+ghost use Rattle.std.specs.Prelude.{◌≤◌, ◌^◌, length, IfOk};
 ghost use Rattle.document_definitions.specs.Documents.{table_document};
-ghost use Rattle.outcome_definitions.specs.Lines.{line};
 ghost use Rattle.outcome_definitions.specs.Outcomes.{IsReadOutcome};
-ghost use Rattle.outcome_definitions.specs.Canonical.{done, IsSignatureAnswer};
+ghost use Rattle.outcome_definitions.specs.Canonical.{IsSignatureAnswer};
 
 use canonical_labelling::{WalkFault, signature};
-use command_answers::{Outcome, fault_outcome, not_connected_outcome, read_table_document};
+use command_answers::{
+    Outcome, fault_outcome, line_outcome, not_connected_outcome, read_table_document,
+};
 use gluing_table::Table;
 use no_memory::NoMemory;
-use outcome_definitions::Status;
 use std::alloc::Global;
-use text_writing::append;
-
-// A signature as a line.
-fn told(mut text: Vec<u8>) -> Result<Outcome, NoMemory>
-    ensures { IfOk result (λ o. o ≡ done (line text.items)) }
-{
-    append(&mut text, b"\n")?;
-    Ok(Outcome::built(Status::Done, text))
-}
 
 // The answer to a table.
 fn answer(alloc: Global, table: &Table) -> Result<Outcome, NoMemory>
     ensures { IfOk result (IsSignatureAnswer table.now) }
 {
     match signature(alloc, table) {
-        Ok(text) => told(text),
+        Ok(text) => line_outcome(text),
         Err(WalkFault::NotConnected { tet }) => not_connected_outcome(alloc, 0, tet),
         Err(WalkFault::NoMemory) => Err(NoMemory),
     }

@@ -1,54 +1,27 @@
--- A vector that is fit is a surface, and no sum of its components is large where none of its own is.
-use Rattle.std.proofs.Common.{◌≡◌, ◌≢◌, ℕ, zero, suc, ◌+◌, ◌<◌, ◌≤◌, Bool, true, false, List, [], ◌∷◌, length, Some, None, Option, refl, ap, ◌∙◌, subst, arith}
+-- No sum of a component of a vector is large where none of the vector's own is.
+use Rattle.std.proofs.Common.{◌≡◌, ℕ, zero, suc, ◌+◌, ◌<◌, ◌≤◌, Bool, true, false, List, [], ◌∷◌, length, Some, None, Option, refl, ap, ◌∙◌, arith}
 use Rattle.std.specs.Prelude.{sum, sum_by, nat_lt, if◌then◌else◌, slice_index}
 use Rattle.std.specs.List.{AllZip, slice_index_or}
 use Rattle.std.proofs.lemmas.Bool.{ltb-false}
 use Rattle.std.proofs.lemmas.List.Sums.{sum_by_more_le}
 use Rattle.std.proofs.lemmas.List.FromFn.{length-range_with_len, get_or-range_with_len}
 use Rattle.text_definitions.specs.Written.{limit}
-use Rattle.cone_definitions.specs.Rows.{Row as EquationRow, IsSolution}
 use Rattle.table_definitions.specs.Lists.{below}
-use Rattle.table_definitions.specs.Table.{Row, IsTable}
 use Rattle.skeleton_definitions.specs.Skeleton.{Skeleton}
-use Rattle.surface_definitions.specs.Coordinates.{columns, clash_list}
+use Rattle.surface_definitions.specs.Coordinates.{columns}
 use Rattle.surface_definitions.specs.declared.Coords.{Coords}
-use Rattle.surface_definitions.specs.declared.Coords.TheVariants.{Standard, Quad, Octagon}
-use Rattle.surface_definitions.specs.Verdict.{solution}
-use Rattle.surface_definitions.specs.Laws.{IsAccepted}
-use Rattle.surface_definitions.specs.QuadEquations.{AreEquations}
 use Rattle.surface_definitions.specs.Pieces.{component_vector}
 use Rattle.surface_definitions.specs.Characteristic.{points, arcs}
-use Rattle.surface_definitions.proofs.VerdictLaws.{accepted_by}
-use Rattle.vector_definitions.specs.Answers.{verdict_in}
 use Rattle.vector_definitions.specs.Components.{Component, IsComponent, AreListedComponents}
 use Rattle.vector_definitions.specs.Properties.{first_large, large_sum}
 use Rattle.vector_definitions.specs.declared.Sum.{Sum}
 use Rattle.vector_definitions.specs.declared.Sum.TheVariants.{Points, Arcs, PointsAndPieces}
-use Rattle.vector_laws.specs.PieceLaws.{IsSurface}
 use Rattle.vector_laws.specs.CharacteristicLaws.{ComponentSumsAre}
 use Rattle.vector_laws.proofs.ComponentSums.{component_sums}
 use Rattle.vector_laws.proofs.ComponentCounts.{component_width}
 use Rattle.surface_properties.proofs.LargeSums.{none_large}
 use Rattle.surface_pieces.specs.Told.{no_component}
 use Rattle.vector_commands.specs.Describing.{AreSmall}
-
-accepted : (coords : Coords) (rows : List Row) (equations : List EquationRow) (xs : List ℕ) → verdict_in coords rows equations xs ≡ solution → IsAccepted limit (columns coords (length rows)) equations (clash_list coords (length rows)) xs
-accepted coords rows equations xs e = accepted_by limit (columns coords (length rows)) equations (clash_list coords (length rows)) xs e
-
-pub surface_is : (coords : Coords) (rows : List Row) (equations : List EquationRow) (xs : List ℕ) → coords ≢ Quad → IsTable rows → AreEquations coords rows equations → verdict_in coords rows equations xs ≡ solution → IsSurface rows coords xs
-surface_is Standard rows equations xs out table e fit = record {
-  table = table;
-  triangles = tt;
-  solves = subst (λ (q : List EquationRow). IsSolution (columns Standard (length rows)) q xs) e (accepted Standard rows equations xs fit).solves;
-  admissible = (accepted Standard rows equations xs fit).admissible;
-}
-surface_is Quad rows equations xs out table e fit = absurd (out refl)
-surface_is Octagon rows equations xs out table e fit = record {
-  table = table;
-  triangles = tt;
-  solves = subst (λ (q : List EquationRow). IsSolution (columns Octagon (length rows)) q xs) e (accepted Octagon rows equations xs fit).solves;
-  admissible = (accepted Octagon rows equations xs fit).admissible;
-}
 
 -- no sum passes the limit
 record AreWithin (p a q : ℕ) : Type 0 where
@@ -67,10 +40,6 @@ within p a q e = go (nat_lt limit p) (nat_lt limit a) (nat_lt limit (p + q)) ref
     go false true z ex ey ez e = absurd (some_none Arcs e)
     go false false true ex ey ez e = absurd (some_none PointsAndPieces e)
     go false false false ex ey ez e = record { points = ltb-false limit p ex; arcs = ltb-false limit a ey; both = ltb-false limit (p + q) ez }
-
-pub sum_fits : (s : Skeleton) (coords : Coords) (xs : List ℕ) → first_large limit s coords xs ≡ None → sum xs ≤ limit
-sum_fits s coords xs e = let w : AreWithin (points coords xs s.edges.classes s.edges.count) (arcs s.rows coords xs) (sum xs) = within (points coords xs s.edges.classes s.edges.count) (arcs s.rows coords xs) (sum xs) e in
-    let b = w.both in omega arith
 
 -- a term is at most the sum
 term_low : (f : ℕ → ℕ) (n i : ℕ) → i < n → f i ≤ sum_by f (below n)

@@ -1,9 +1,9 @@
 -- Vectors are told one after another.
-use Rattle.std.proofs.Common.{◌≡◌, ℕ, zero, suc, ◌<◌, ◌+◌, ◌-◌, List, [], ◌∷◌, ◌++◌, length, take, Result, Ok, Err, refl, sym, ap, ◌∙◌, subst, arith, append_assoc, append-nil}
+use Rattle.std.proofs.Common.{◌≡◌, ℕ, zero, suc, ◌<◌, ◌+◌, ◌-◌, List, [], ◌∷◌, ◌++◌, length, take, Result, Ok, Err, refl, sym, ap, ◌∙◌, subst, arith, append-nil}
 use Rattle.std.specs.List.{AllZip, flat_map, slice_index_or}
 use Rattle.std.proofs.lemmas.Grind.{flat_map-append}
 use Rattle.vector_definitions.specs.declared.Refusal.{Refusal}
-use Rattle.vector_definitions.specs.Answers.{IsFirstRefused, AreTold}
+use Rattle.vector_definitions.specs.Answers.{IsFirstRefused}
 use Rattle.vector_commands.specs.Telling.{AreToldIn}
 
 module _ {A : Type 0} (IsTold : List ℕ → Result A Refusal → Type 0) (line : A → List ℕ) where
@@ -13,9 +13,6 @@ module _ {A : Type 0} (IsTold : List ℕ → Result A Refusal → Type 0) (line 
   all_more [] (b ∷ answers) xs a f h = absurd f
   all_more (ys ∷ vectors) [] xs a f h = absurd f
   all_more (ys ∷ vectors) (b ∷ answers) xs a f h = (f.0, all_more vectors answers xs a f.1 h)
-
-  pub none_told : (text : List ℕ) → text ≡ [] → AreToldIn IsTold line [] text
-  none_told text e = record { answers = []; told = tt; lines = e }
 
   pub one_more_told : (vectors : List (List ℕ)) (xs : List ℕ) (before now : List ℕ) → AreToldIn IsTold line vectors before → (a : A) × IsTold xs (Ok a) × (now ≡ before ++ line a)
       → AreToldIn IsTold line (vectors ++ xs ∷ []) now

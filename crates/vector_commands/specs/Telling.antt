@@ -3,7 +3,6 @@ use Rattle.std.specs.Prelude.{◌≡◌, ℕ, List, ◌++◌, Vec, Result, Ok, E
 use Rattle.std.specs.declared.alloc.Global.{Global}
 use Rattle.std.specs.List.{AllZip, flat_map}
 use Rattle.cone_definitions.specs.Rows.{Row as EquationRow}
-use Rattle.cone_text_definitions.specs.VectorText.{vector_text}
 use Rattle.skeleton_definitions.specs.Skeleton.{Skeleton}
 use Rattle.vector_definitions.specs.declared.Refusal.{Refusal}
 use Rattle.vector_definitions.specs.Answers.{IsLifted, IsFirstRefused}

@@ -2,6 +2,7 @@
 ghost use Rattle.std.specs.Prelude.{◌≡◌, ◌≢◌, ◌<◌, ◌++◌, length, None, codes, decimal, OnOk, Ok};
 ghost use Rattle.std.specs.Fmt.{signed_decimal};
 ghost use Rattle.std.specs.List.{flat_map, slice_index_or};
+ghost use Rattle.text_definitions.specs.Written as written;
 ghost use Rattle.text_definitions.specs.Written.{limit};
 ghost use Rattle.surface_definitions.specs.Coordinates.{columns};
 ghost use Rattle.vector_definitions.specs.Properties.{first_large};
@@ -19,7 +20,7 @@ use surface_properties::{Properties, properties_of};
 use text_writing::{append, append_decimal};
 
 fn yes_or_no(answer: bool) -> &'static [u8]
-    ensures { result.now ≡ texts.yes_or_no answer }
+    ensures { result.now ≡ written.yes_or_no answer }
 {
     if answer { b"yes" } else { b"no" }
 }

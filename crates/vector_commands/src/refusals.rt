@@ -1,11 +1,11 @@
 // The line for a vector that is refused.
-ghost use Rattle.std.specs.Prelude.{◌≡◌, ◌++◌, codes, decimal, IfOk, OnOk};
-ghost use Rattle.outcome_definitions.specs.Lines.{line};
+ghost use Rattle.std.specs.Prelude.{◌≡◌, ◌++◌, IfOk, OnOk};
+ghost use Rattle.text_definitions.specs.Written.{line};
 ghost use Rattle.outcome_definitions.specs.Vectors as vectors;
 ghost use Rattle.vector_commands.specs.Faults.{fault_at};
 ghost use Rattle.vector_definitions.specs.Texts.{sum_word, fault_text, refusal_line};
 
-use command_answers::{Outcome, append_checked};
+use command_answers::{Outcome, append_checked, append_numbered};
 use no_memory::NoMemory;
 use outcome_definitions::Status;
 use std::alloc::Global;
@@ -68,21 +68,6 @@ fn append_words(out: &mut Vec<u8>, first: &[u8], second: &[u8]) -> Result<(), No
 {
     append(out, first)?;
     append(out, second)?;
-    append(out, b"\n")?;
-    Ok(())
-}
-
-// A line of a word and a number.
-fn append_numbered(
-    alloc: Global,
-    out: &mut Vec<u8>,
-    word: &[u8],
-    number: u128,
-) -> Result<(), NoMemory>
-    ensures { OnOk result (out.new.items ≡ out.old.items ++ line (word.now ++ decimal number)) }
-{
-    append(out, word)?;
-    append_decimal(alloc, out, number)?;
     append(out, b"\n")?;
     Ok(())
 }

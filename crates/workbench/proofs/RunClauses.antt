@@ -1,14 +1,13 @@
 -- What was delivered is the outcome of the words and of the input, or a prefix of what was due.
-use Rattle.std.proofs.Common.{◌≡◌, ℕ, false, inl, inr, List, [], Option, Some, None, sym, ◌∙◌, ap, subst}
+use Rattle.std.proofs.Common.{◌≡◌, ℕ, inl, inr, List, Option, Some, None, sym, ◌∙◌, ap, subst}
 use Rattle.std.specs.Prelude.{IfSome}
 use Rattle.bench_io.specs.Causes.{Grows}
 use Rattle.command_definitions.specs.declared.Request.{Request}
-use Rattle.command_definitions.specs.Requests.{reads_input}
 use Rattle.command_definitions.specs.Words.{accepted_request}
 use Rattle.outcome_definitions.specs.declared.Status.{Status}
 use Rattle.outcome_definitions.specs.declared.Status.TheVariants.{ReadFault, WriteFault}
 use Rattle.outcome_definitions.specs.Outcomes.{Outcome, IsOwnStatus}
-use Rattle.outcome_definitions.specs.Answers.{IsOutcome, IsOutcomeOf, IsAnswerTo, IsRequestOutcome}
+use Rattle.outcome_definitions.specs.Answers.{IsOutcome, IsOutcomeOf, IsRequestOutcome}
 use Rattle.workbench.specs.Runs.{IsAnswered, IsReadFault, IsReadWell, IsResponse, IsCutOff, IsDelivered, IsDue}
 
 module _ (words : List (List ℕ)) (r : Request) (accepted : accepted_request words ≡ Some r) (rest : Option (List ℕ)) (before now : ℕ) (o : Outcome)
@@ -29,16 +28,6 @@ module _ (words : List (List ℕ)) (r : Request) (accepted : accepted_request wo
   run_outcome left (inl fault) (inr cut) h = absurd (subst IsAnswered cut.0 h)
   run_outcome left (inr well) (inl whole) h = answered_well left well whole.0 whole.1
   run_outcome left (inr well) (inr cut) h = absurd (subst IsAnswered cut.0 h)
-
-  -- the clause on a command that reads nothing
-  abbrev Alone : Type 0
-  Alone = (p : Outcome) × IsAnswerTo r [] p × (status ≡ p.status) × Grows held grown p.text
-
-  pub run_alone : (left : Option (List ℕ)) → IsResponse r left rest before now o → IsDelivered o status held grown faults_before faults_now → reads_input r ≡ false → IsAnswered status → Alone
-  run_alone left (inl fault) (inl whole) nothing h = absurd (let e : status ≡ ReadFault = whole.0 ∙ ap (λ (p : Outcome). p.status) fault.outcome in subst IsAnswered e h)
-  run_alone left (inl fault) (inr cut) nothing h = absurd (subst IsAnswered cut.0 h)
-  run_alone left (inr well) (inl whole) nothing h = (o, well.alone nothing, whole.0, whole.1)
-  run_alone left (inr well) (inr cut) nothing h = absurd (subst IsAnswered cut.0 h)
 
   -- the clause on a failed sink
   abbrev CutOff : List ℕ → Type 0

@@ -1,27 +1,35 @@
 // Calls that take memory and have no test in a crate of their own: each gives its ordinary answer.
-use cone_core::{SparseRow, System};
-use matching_equations::Coords;
+use bench_io::Words;
 use no_memory::NoMemory;
-use quad_condition::Masks;
-use support_bits::Support;
+use text_writing::{append, append_decimal, append_signed};
+use workbench::{Status, run_steadily};
 
 #[test]
-fn rows_are_kept(rt: HostRuntime) -> Result<(), NoMemory> {
-    let row = SparseRow::new(rt.alloc(), &[(0, 2), (1, -1)])?;
-    let mut system = System::new(rt.alloc(), 2);
-    system.push_row(row)?;
-    assert_eq!(rt; system.len(), 1);
+fn texts_and_numbers_are_appended(rt: HostRuntime) -> Result<(), NoMemory> {
+    let alloc = rt.alloc();
+    let mut out = Vec::new(alloc);
+    append(&mut out, b"vec ")?;
+    append_decimal(alloc, &mut out, 0)?;
+    append(&mut out, b"")?;
+    append_decimal(alloc, &mut out, 340282366920938463463374607431768211455)?;
+    append_signed(alloc, &mut out, 0)?;
+    append_signed(alloc, &mut out, -9223372036854775808)?;
+    append_signed(alloc, &mut out, 12)?;
+    assert_eq!(rt;
+        out.as_slice(),
+        b"vec 03402823669209384634633746074317682114550-922337203685477580812".as_slice()
+    );
     Ok(())
 }
 
 #[test]
-fn clashing_supports_are_told(rt: HostRuntime) -> Result<(), NoMemory> {
-    let masks = Masks::new(rt.alloc(), Coords::Quad, 1)?;
-    let first = Support::of(rt.alloc(), &[1, 0, 0])?;
-    let second = Support::of(rt.alloc(), &[0, 0, 5])?;
-    assert!(rt; first.contains(0));
-    assert!(rt; !second.contains(0));
-    assert!(rt; masks.allows(&first, &first));
-    assert!(rt; !masks.allows(&first, &second));
+fn a_run_without_disturbance_ends(rt: HostRuntime) -> Result<(), NoMemory> {
+    let alloc = rt.alloc();
+    let mut words = Words::new(alloc);
+    words.push("surfaces")?;
+    let mut input = Vec::new(alloc);
+    append(&mut input, b"sig bkaagj\n")?;
+    assert_eq!(rt; run_steadily(alloc, &words, input), Status::Done);
+    assert_eq!(rt; run_steadily(alloc, &words, Vec::new(alloc)), Status::Input);
     Ok(())
 }

@@ -3,7 +3,7 @@ use crate::running::{Row, are_answered};
 use std::test::Fail;
 use workbench::Status;
 
-const ROWS: [Row; 30] = [
+const ROWS: [Row; 31] = [
     Row {
         words: &["surfaces"],
         input: b"sig bkaagj\n",
@@ -173,16 +173,22 @@ const ROWS: [Row; 30] = [
         text: b"# surfaces 2\nvec 1 1 0 0 1 0 0\nvec 1 1 1 1 0 0 0\n",
     },
     Row {
-        words: &["surfaces", "--order", "short"],
-        input: b"sig bkaagj\n",
-        status: Status::Done,
-        text: b"# surfaces 2\nvec 1 1 0 0 1 0 0\nvec 1 1 1 1 0 0 0\n",
+        words: &["surfaces", "--max-entry", "1"],
+        input: b"tri 1\n0:3102 0:1230 0:3012 0:2130\n",
+        status: Status::Large,
+        text: b"refused: large step 3 row 3 pair 1 0 1 1 0 0 0 and 0 0 1 0 0 0 1\n",
     },
     Row {
-        words: &["surfaces", "--order", "zeros"],
-        input: b"sig bkaagj\n",
-        status: Status::Done,
-        text: b"# surfaces 2\nvec 1 1 0 0 1 0 0\nvec 1 1 1 1 0 0 0\n",
+        words: &["surfaces", "--order", "short", "--max-entry", "1"],
+        input: b"tri 1\n0:3102 0:1230 0:3012 0:2130\n",
+        status: Status::Large,
+        text: b"refused: large step 4 row 3 pair 1 0 1 1 0 0 0 and 0 0 1 0 0 0 1\n",
+    },
+    Row {
+        words: &["surfaces", "--order", "zeros", "--max-entry", "1"],
+        input: b"tri 1\n0:3102 0:1230 0:3012 0:2130\n",
+        status: Status::Large,
+        text: b"refused: large step 2 row 4 value 0 0 1 0 0 0 1\n",
     },
 ];
 

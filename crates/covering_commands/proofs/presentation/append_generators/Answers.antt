@@ -3,7 +3,7 @@ use Rattle.std.proofs.Common.{◌≡◌, ◌+◌, ◌-◌, ℕ, false, ap, ap₂
 use Rattle.std.specs.Prelude.{slice_index}
 use Rattle.std.specs.List.{slice_index_or}
 use Rattle.outcome_definitions.specs.Presented.{generator_line, generator_text}
-use Rattle.covering_commands.proofs.Lines.{lines_begin, lines_more}
+use Rattle.outcome_definitions.proofs.ClassTexts.{lines_begin, lines_more}
 use Rattle.covering_commands.proofs.presentation.append_generators.Goals as goal
 
 pub loop-before-init : goal.loop-before-init

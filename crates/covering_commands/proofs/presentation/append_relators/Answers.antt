@@ -1,7 +1,7 @@
 -- One more line.
 use Rattle.std.proofs.Common.{ap₂}
 use Rattle.outcome_definitions.specs.Presented.{relator_line, relator_text}
-use Rattle.covering_commands.proofs.Lines.{lines_begin, lines_more}
+use Rattle.outcome_definitions.proofs.ClassTexts.{lines_begin, lines_more}
 use Rattle.covering_commands.proofs.presentation.append_relators.Goals as goal
 
 pub loop-relator-init : goal.loop-relator-init

@@ -1,7 +1,7 @@
 -- One more line.
 use Rattle.std.proofs.Common.{length, refl}
 use Rattle.outcome_definitions.specs.Covers.{sheet_line}
-use Rattle.covering_commands.proofs.Lines.{lines_begin, lines_more}
+use Rattle.outcome_definitions.proofs.ClassTexts.{lines_begin, lines_more}
 use Rattle.covering_commands.proofs.sheets.append_sheets.Goals as goal
 
 pub loop-tet-init : goal.loop-tet-init

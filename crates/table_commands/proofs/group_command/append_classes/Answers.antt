@@ -2,7 +2,7 @@
 use Rattle.std.proofs.Common.{refl}
 use Rattle.std.specs.Prelude.{slice_index}
 use Rattle.outcome_definitions.specs.Canonical.{class_line}
-use Rattle.table_commands.proofs.ClassLines.{lines_begin, lines_more}
+use Rattle.outcome_definitions.proofs.ClassTexts.{lines_begin, lines_more}
 use Rattle.table_commands.proofs.group_command.append_classes.Goals as goal
 
 pub loop-table-init : goal.loop-table-init

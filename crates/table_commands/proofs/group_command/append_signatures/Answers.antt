@@ -2,7 +2,7 @@
 use Rattle.std.proofs.Common.{ap}
 use Rattle.labelling_definitions.specs.Census.{signature_in}
 use Rattle.outcome_definitions.specs.Canonical.{class_signature_line}
-use Rattle.table_commands.proofs.ClassLines.{lines_begin, lines_more}
+use Rattle.outcome_definitions.proofs.ClassTexts.{lines_begin, lines_more}
 use Rattle.table_commands.proofs.group_command.append_signatures.Goals as goal
 
 pub loop-class-init : goal.loop-class-init

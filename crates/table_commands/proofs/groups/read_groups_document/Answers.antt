@@ -1,7 +1,7 @@
 -- There are few lines.
 use Rattle.std.proofs.Common.{length, ap, arith}
 use Rattle.text_definitions.specs.Reading.{Reading}
-use Rattle.table_commands.proofs.LineCount.{few_lines}
+use Rattle.text_definitions.proofs.LineCount.{few_lines}
 use Rattle.table_commands.proofs.groups.read_groups_document.Goals as goal
 
 pub read_groups-requires : goal.read_groups-requires

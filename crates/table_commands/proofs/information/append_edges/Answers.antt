@@ -2,7 +2,8 @@
 use Rattle.std.proofs.Common.{false}
 use Rattle.std.specs.List.{slice_index_or}
 use Rattle.outcome_definitions.specs.Information.{edge_text, edge_line}
-use Rattle.table_commands.proofs.ClassLines.{lines_begin, lines_more, edge_same}
+use Rattle.outcome_definitions.proofs.ClassTexts.{lines_begin, lines_more}
+use Rattle.table_commands.proofs.ClassLines.{edge_same}
 use Rattle.table_commands.proofs.information.append_edges.Goals as goal
 
 pub loop-class-init : goal.loop-class-init

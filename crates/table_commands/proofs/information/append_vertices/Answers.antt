@@ -1,7 +1,8 @@
 -- One more line.
 use Rattle.std.specs.List.{slice_index_or}
 use Rattle.outcome_definitions.specs.Information.{vertex_text, vertex_line, no_link}
-use Rattle.table_commands.proofs.ClassLines.{lines_begin, lines_more, vertex_same}
+use Rattle.outcome_definitions.proofs.ClassTexts.{lines_begin, lines_more}
+use Rattle.table_commands.proofs.ClassLines.{vertex_same}
 use Rattle.table_commands.proofs.information.append_vertices.Goals as goal
 
 pub loop-class-init : goal.loop-class-init

@@ -1,7 +1,7 @@
 -- One more line.
 use Rattle.table_definitions.specs.Relabelling.{stand_in}
 use Rattle.outcome_definitions.specs.Canonical.{image_line}
-use Rattle.table_commands.proofs.ClassLines.{lines_begin, lines_more}
+use Rattle.outcome_definitions.proofs.ClassTexts.{lines_begin, lines_more}
 use Rattle.table_commands.proofs.LabelLines.{image_same}
 use Rattle.table_commands.proofs.same_command.append_images.Goals as goal
 

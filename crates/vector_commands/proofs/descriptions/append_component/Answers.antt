@@ -7,8 +7,9 @@ use mir.Syntax.{w128}
 use mir.Val.{SFits}
 use Rattle.cone_text_definitions.specs.VectorText.{vector_text}
 use Rattle.vector_definitions.specs.Components.{Component}
-use Rattle.vector_definitions.specs.Texts.{characteristic, sides_word, yes_or_no}
+use Rattle.vector_definitions.specs.Texts.{characteristic, sides_word}
 use Rattle.surface_pieces.specs.Told.{no_component}
+use Rattle.text_definitions.specs.Written.{yes_or_no}
 use Rattle.vector_commands.proofs.Grown.{grown}
 use Rattle.vector_commands.proofs.descriptions.append_component.Goals as goal
 

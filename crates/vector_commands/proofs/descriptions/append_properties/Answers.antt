@@ -4,7 +4,7 @@ use Rattle.std.proofs.lemmas.Int.{to_z-of_z}
 use mir.Syntax.{w128}
 use mir.Val.{SFits}
 use Rattle.std.specs.Fmt.{signed_decimal}
-use Rattle.vector_definitions.specs.Texts.{yes_or_no}
+use Rattle.text_definitions.specs.Written.{yes_or_no}
 use Rattle.vector_commands.proofs.Grown.{grown}
 use Rattle.vector_commands.proofs.descriptions.append_properties.Goals as goal
 

@@ -1,0 +1,9 @@
+-- The outcome over bytes at hand.
+use Rattle.std.proofs.Common.{ℕ, List, subst}
+use Rattle.outcome_definitions.specs.Answers.{IsOutcome}
+use Rattle.workbench.proofs.steady.run_steadily.Goals as goal
+
+pub returns-clause-outcome : goal.returns-clause-outcome
+returns-clause-outcome c = λ answered.
+    let told = c.run.ensures.outcome answered in
+    (told.0, subst (λ (bytes : List ℕ). IsOutcome c.args.words.now bytes told.0) c.new-source.ensures told.1, told.2)
