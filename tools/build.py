@@ -49,6 +49,14 @@ def all_below(known, name, found):
     return found
 
 
+def sources(names):
+    """The files that these crates are made of. Each is named in another one, so a new file comes with a change."""
+    for name in names:
+        for part in PARTS:
+            for folder, _, files in os.walk(os.path.join(TOP, "crates", name, part)):
+                yield from (os.path.join(folder, it) for it in files)
+
+
 def size_of(name):
     total = 0
     for folder, _, files in os.walk(os.path.join(TOP, "crates", name)):
@@ -108,8 +116,9 @@ def write_list(known, names, to):
 
 
 def jobs_that_fit():
+    """As many as there are processors and two more, since some of them wait for crates below theirs, where memory allows."""
     memory = os.sysconf("SC_PAGE_SIZE") * os.sysconf("SC_PHYS_PAGES")
-    return max(1, min(len(os.sched_getaffinity(0)), memory // MEMORY_EACH))
+    return max(1, min(len(os.sched_getaffinity(0)) + 2, memory // MEMORY_EACH))
 
 
 class Progress:
@@ -122,7 +131,7 @@ class Progress:
     def left(self):
         passed = sum(self.sizes[it] for it in self.done)
         seconds = time.monotonic() - self.began
-        if passed == 0 or seconds < 20:
+        if seconds < 20 or 50 * passed < sum(self.sizes.values()):
             return ""
         minutes = seconds * (sum(self.sizes.values()) - passed) / passed / 60
         return f" (about {max(1, round(minutes))} min left)"
@@ -185,12 +194,14 @@ def build_program(to, log, progress):
     return program
 
 
-def install(program, begun):
-    """Puts the program where the launcher looks for it, with the time at which its sources were read."""
+def install(program, names, begun):
+    """Puts the program where the launcher looks for it, with the time at which its sources were read and their list."""
     out = os.path.join(TOP, "crates", PROGRAM, "out")
     os.makedirs(out, exist_ok=True)
     shutil.copy(program, os.path.join(out, f".{PROGRAM}.new"))
     os.replace(os.path.join(out, f".{PROGRAM}.new"), os.path.join(out, PROGRAM))
+    with open(os.path.join(out, ".sources"), "w", encoding="utf8") as file:
+        file.write("".join(it + "\0" for it in [os.path.join(TOP, "crates.txt"), *sources(names)]))
     stamp = os.path.join(out, ".built")
     with open(stamp, "w", encoding="utf8"):
         pass
@@ -213,11 +224,13 @@ def main(arguments):
         known = crates()
         names = all_below(known, PROGRAM, [])
         progress = Progress({it: size_of(it) for it in names})
-        # what nothing stands beside goes last, with all processors at one crate
-        last = [it for it in names if len(all_below(known, it, [])) >= len(names) - 1]
+        # The program goes last, with all processors. All else stands below one crate, so rt reads the sources once before
+        # it proves, and not once for each crate on which nothing stands.
+        last = [PROGRAM]
         first = [it for it in names if it not in last]
         progress.say("reading what is kept")
-        park(last, to)
+        park([it for it in os.listdir(os.path.join(to, "crates")) if it not in first], to)
+        bring_back(first, to)
         copy_sources(first, to)
         write_list(known, first, to)
         prove_libraries(to, os.path.join(to, "libraries.log"), jobs, progress)
@@ -226,7 +239,7 @@ def main(arguments):
         write_list(known, names, to)
         progress.say(" and ".join(last))
         program = build_program(to, os.path.join(to, "program.log"), progress)
-        install(program, begun)
+        install(program, names, begun)
         progress.end()
         print(f"{PROGRAM}: built in {round(time.time() - begun)} s", file=sys.stderr)
 
