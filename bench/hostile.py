@@ -1,7 +1,7 @@
 #!/usr/bin/env python3
 """Runs the built program on many mutated inputs, and checks what needs no second program.
 
-    bench/hostile.py [--inputs N] [--seed S] [--program PROGRAM]
+    bench/hostile.py [--inputs N] [--seed S] [--processes P] [--program PROGRAM]
 
 Each input is one of bench/hostile_inputs.json with some bytes changed, dropped or doubled, numbers made wide, words or lines
 exchanged. Checked of each run: the status is one of those told; a refusal is one line of the grammar of refusals and
@@ -83,6 +83,11 @@ def table_text(program, table):
     again(program, ["play"], table, table, "a table that was written")
 
 
+def lines_of(text):
+    """The text of a document, with the end of its last line."""
+    return text if text.endswith(b"\n") else text + b"\n"
+
+
 def lists(program, words, text, answer):
     lines = answer.split(b"\n")[:-1]
     vectors = [tuple(map(int, it.split()[1:])) for it in lines[1:]]
@@ -92,7 +97,7 @@ def lists(program, words, text, answer):
         raise Wrong("a list that doesn't ascend")
     if words[0] == "surfaces":
         coords = option(words, "coords") or "standard"
-        document = text + (b"" if text.endswith(b"\n") else b"\n") + answer
+        document = lines_of(text) + answer
         if len(document) <= 1048576:
             again(program, ["verify", "--coords", coords], document, b"solution\n" * len(vectors), "a list behind its table")
 
@@ -140,15 +145,57 @@ def certified(program, words, text, answer):
 
 
 def descended(program, words, text, answer):
-    match = re.fullmatch(rb"(reached|stuck) \d+\n((?:(?:41|32) \d+ \d+\n)*)(tri (?s:.*))", answer)
-    if not match:
+    """The moves that were told lead to the table that was told."""
+    match = re.fullmatch(rb"(?:reached|stuck) (\d+)\n((?:(?:41|32) \d+ \d+\n)*)(tri (?s:.*))", answer)
+    if not match or int(match[1]) != match[2].count(b"\n"):
         raise Wrong(f"no descent: {answer[:200]!r}")
-    table_text(program, match[3])
+    again(program, ["play"], lines_of(text) + match[2], b"done\n" * int(match[1]) + match[3], "moves of a descent")
 
 
 def lifted(program, words, text, answer):
+    """Each lift is a solution on its table."""
     if not re.fullmatch(rb"(?:vec(?: \d+)*\n)*", answer):
         raise Wrong(f"no lifts: {answer[:200]!r}")
+    table = lines_of(re.split(rb"(?m)^[ \t]*vec(?=[ \t\r\n]|$)", text)[0])
+    again(program, ["verify"], table + answer, b"solution\n" * answer.count(b"\n"), "lifts behind their table")
+
+
+def signed_apart(program, words, text, answer):
+    if not re.fullmatch(rb"[A-Za-z0-9+.-]+\n", answer):
+        raise Wrong(f"no component signature: {answer[:200]!r}")
+    for signature in answer[:-1].split(b"."):
+        again(program, ["sig"], b"sig " + signature + b"\n", signature + b"\n", "a part's signature")
+
+
+def described(program, words, text, answer):
+    """Each vector is told, and its components, which add up to it."""
+    vector = rb"vec((?: \d+)*)\neuler (-?\d+) linking (?:yes|no) boundary (?:yes|no) components (\d+)\n"
+    component = rb"component euler (-?\d+) sides (?:one|two) orientable (?:yes|no) vec((?: \d+)*)\n"
+    if not re.fullmatch(rb"(?:%s(?:%s)*)*" % (vector, component), answer):
+        raise Wrong(f"no description: {answer[:200]!r}")
+    for told in re.finditer(rb"%s((?:%s)*)" % (vector, component), answer):
+        parts = re.findall(component, told[4])
+        sums = [sum(column) for column in zip(*(map(int, entries.split()) for _, entries in parts))]
+        entries = list(map(int, told[1].split()))
+        if len(parts) != int(told[3]) or (sums or [0] * len(entries)) != entries or sum(int(euler) for euler, _ in parts) != int(told[2]):
+            raise Wrong(f"components that don't add up: {told[0][:200]!r}")
+
+
+def presented(program, words, text, answer):
+    match = re.fullmatch(rb"generators (\d+)\n((?:generator \d+ face \d+ turns (?:yes|no)\n)*)relators (\d+)\n((?:relator \d+(?: -?\d+)*\n)*)", answer)
+    if not match or int(match[1]) != match[2].count(b"\n") or int(match[3]) != match[4].count(b"\n"):
+        raise Wrong(f"no presentation: {answer[:200]!r}")
+
+
+def accepted(program, words, text, answer):
+    if answer != b"accepted\n":
+        raise Wrong(f"status 0 and not accepted: {answer[:200]!r}")
+
+
+def summed_up(program, words, text, answer):
+    numbers = rb"seed \d+\nmoves \d+\ntetrahedra \d+\ncertificate accepted \d+\nsurfaces \d+\nlargest \d+\nlinking \d+\n"
+    if not re.fullmatch(numbers, answer):
+        raise Wrong(f"nothing summed up: {answer[:200]!r}")
 
 
 def decomposed(program, words, text, answer):
@@ -160,14 +207,11 @@ def covered(program, words, text, answer):
     again(program, ["info"], answer, None, "a cover")
 
 
-def any_answer(program, words, text, answer):
-    """Nothing beyond the status is asked."""
-
-
 CHECKS = {
     "surfaces": lists, "rays": lists, "sig": signed, "same": compared, "group": grouped, "play": played, "info": informed,
     "verify": judged, "crush": written_table, "make": certified, "descend": descended, "lift": lifted, "decompose": decomposed,
-    "cover": covered, "csame": compared,
+    "cover": covered, "csame": compared, "csig": signed_apart, "describe": described, "pi1": presented, "check": accepted,
+    "addup": accepted, "bulk": summed_up,
 }
 
 
@@ -214,7 +258,7 @@ def try_one(program, inputs, seed, number):
     try:
         status, answer = run(program, words, text)
         if status == 0:
-            CHECKS.get(words[0], any_answer)(program, words, text, answer)
+            CHECKS[words[0]](program, words, text, answer)
         else:
             refusal(status, answer)
     except Wrong as wrong:
@@ -238,6 +282,7 @@ def main():
     reader = argparse.ArgumentParser(description=__doc__.split("\n")[0])
     reader.add_argument("--inputs", type=int, default=100000)
     reader.add_argument("--seed", type=int, default=1)
+    reader.add_argument("--processes", type=int, help="at most so many at a time; one for each processor where it is left out")
     reader.add_argument("--program", default=os.path.join(HERE, "..", "crates", "trinorm", "out", "trinorm"))
     given = reader.parse_args()
     with open(os.path.join(HERE, "hostile_inputs.json"), encoding="utf8") as file:
@@ -245,7 +290,7 @@ def main():
     begun = time.time()
     shares = [range(it, min(it + 500, given.inputs)) for it in range(0, given.inputs, 500)]
     statuses = collections.Counter()
-    with multiprocessing.Pool() as pool:
+    with multiprocessing.Pool(given.processes) as pool:
         for counted, wrong in pool.imap(work, [(given.program, inputs, given.seed, it) for it in shares]):
             statuses += counted
             if wrong:

@@ -3,7 +3,9 @@
 
 Usage: bench/limits.py [PROGRAM]
 """
+import itertools
 import os
+import random
 import subprocess
 import sys
 import tempfile
@@ -51,6 +53,37 @@ def vertex_links(count, columns, times):
     return "vec " + " ".join(entries * count) + "\n"
 
 
+def tree(count, seed):
+    """A table of tetrahedra of which each but the first is glued to an earlier one, at a face drawn from a seed."""
+    draw = random.Random(seed)
+    words = list(itertools.permutations(range(4)))
+    rows = [["-"] * 4 for _ in range(count)]
+    for new in range(1, count):
+        tet, face = draw.choice([(t, f) for t in range(new) for f in range(4) if rows[t][f] == "-"])
+        word = draw.choice(words)
+        rows[tet][face] = f"{new}:" + "".join(map(str, word))
+        rows[new][word[face]] = f"{tet}:" + "".join(str(word.index(v)) for v in range(4))
+    return f"tri {count}\n" + "".join(" ".join(row) + "\n" for row in rows)
+
+
+def sums(table, many, seed):
+    """Sums of drawn vertex surfaces of a table, of which no two have different quads in a tetrahedron."""
+    draw = random.Random(seed)
+    lines = run(["surfaces"], table)[3].split("\n")
+    surfaces = [[int(it) for it in line.split()[1:]] for line in lines if line.startswith("vec")]
+    text = ""
+    for _ in range(many):
+        vector, quads = [0] * len(surfaces[0]), {}
+        for surface in draw.choices(surfaces, k=400):
+            own = {column // 7: column for column, entry in enumerate(surface) if column % 7 > 3 and entry}
+            if all(quads.get(tet, column) == column for tet, column in own.items()):
+                quads.update(own)
+                times = draw.randint(1, 9)
+                vector = [a + times * b for a, b in zip(vector, surface)]
+        text += "vec " + " ".join(map(str, vector)) + "\n"
+    return text
+
+
 def cases():
     """A name, the words, the input, and the seconds and megabytes that are to be kept, if any."""
     yield "describe, 100,000 pieces", ["describe"], spheres(100_000), 1.0, 100
@@ -65,6 +98,9 @@ def cases():
     yield "descend, 1,000 tetrahedra", ["descend"], big, 2.0, None
     term = "term 1 1 1 1 1 0 0 0\n"
     yield "addup, 10,000 terms", ["addup"], "sig bkaagj\nvec 10000 10000 10000 10000 0 0 0\ntimes 1 10000\n" + term * 10_000, 1.0, None
+    grown = tree(13, 1)
+    yield "decompose, 5,794 surfaces, no vector", ["decompose"], grown, None, None
+    yield "decompose, the same, 1,000 vectors", ["decompose"], grown + sums(grown, 1000, 1), 2.0, None
     yield "cover, 500 tetrahedra", ["cover"], chain(500), 0.2, None
     yield "pi1, 1,000 tetrahedra", ["pi1"], chain(1000), 0.2, None
     yield "pi1, 1,000 tetrahedra, closed", ["pi1"], big, 0.2, None
