@@ -10,6 +10,19 @@ use Rattle.table_definitions.specs.Relabelling.{IsRelabelled}
 use Rattle.signature_definitions.specs.Spelling.{IsSignature}
 use Rattle.labelling_definitions.specs.Census.{table_in, signature_in, AreRelabelled, IsCensus, IsKnown, IsFresh, IsPlaced}
 
+-- a census of no tables
+pub empty_census : IsCensus [] [] []
+empty_census = record {
+  numbering = record {
+    one_each = refl;
+    in_range = λ i h. absurd (omega arith);
+    together = λ i j h k. absurd (omega arith);
+    ascending = λ i c h l. absurd (omega arith);
+    none_empty = λ c h. absurd (omega arith);
+  };
+  signed = λ k h. absurd (omega arith);
+}
+
 -- what is known of the tables of a list, of one more, and of its signature's place
 pub record Step (tables : List (List Row)) (a : List Row) (classes : List ℕ) (before : List (List ℕ)) (text : List ℕ) (class : ℕ) (now : List (List ℕ)) : Type 0 where
   pub are_tables : (k : ℕ) → k < length tables → IsTable (table_in tables k)

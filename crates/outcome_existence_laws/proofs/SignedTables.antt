@@ -8,7 +8,7 @@ use Rattle.cone_definitions.proofs.Below.{all_or_one, all_or_first}
 use Rattle.table_definitions.specs.Table.{Row, IsTable}
 use Rattle.table_definitions.specs.Places.{IsConnected, IsLeastUnreached}
 use Rattle.labelling_definitions.specs.Census.{table_in, signature_in, IsCensus, IsPlaced}
-use Rattle.labelling_definitions.proofs.CensusLaws.{census_goes_on}
+use Rattle.labelling_definitions.proofs.CensusLaws.{census_goes_on, empty_census}
 use Rattle.canonical_labelling.proofs.Told.{tells_tables}
 use Rattle.signature_laws.proofs.Connected.{connected_or_unreached_lem}
 use Rattle.signature_laws.proofs.Walks.{signatures_exist_lem}
@@ -17,19 +17,6 @@ use Rattle.part_existence_laws.proofs.Answers.{relabelled_or_not}
 use Rattle.text_definitions.specs.Written.{line}
 use Rattle.outcome_definitions.specs.Outcomes.{Outcome}
 use Rattle.outcome_definitions.specs.Canonical.{done, not_connected_outcome, IsSignatureAnswer, relabelling_text, different_outcome, IsSameAnswer, census_text, IsGroupAnswer}
-
--- a census of no tables
-empty_census : IsCensus [] [] []
-empty_census = record {
-  numbering = record {
-    one_each = refl;
-    in_range = λ i h. absurd (omega arith);
-    together = λ i j h k. absurd (omega arith);
-    ascending = λ i c h l. absurd (omega arith);
-    none_empty = λ c h. absurd (omega arith);
-  };
-  signed = λ k h. absurd (omega arith);
-}
 
 pub some_signature : (rows : List Row) → IsTable rows → (o : Outcome) × IsSignatureAnswer rows o
 some_signature rows table = elim (connected_or_unreached_lem rows table) [

@@ -12,8 +12,7 @@ use Rattle.skeleton_definitions.specs.Skeleton.{Skeleton, IsValidClass, AreLinks
 use Rattle.outcome_definitions.specs.declared.Status.TheVariants.{Done}
 use Rattle.outcome_definitions.specs.Outcomes.{Outcome}
 use Rattle.outcome_definitions.specs.Information.{Information, IsInformation, IsInformationAnswer, no_link, AreValid, vertex_line, vertex_text, edge_line, edge_text, classes_text, flags_text, counts_text, information_text}
-use Rattle.skeleton_definitions.proofs.OneSkeleton.{one_classes}
-use Rattle.outcome_laws.proofs.OneSkeleton.{one_skeleton}
+use Rattle.skeleton_definitions.proofs.OneSkeleton.{one_classes, one_skeleton}
 
 -- two tests of the same fact are equal
 pub same_test : (P : Type 0) (a b : Bool) → IsTrue a ↔ P → IsTrue b ↔ P → a ≡ b

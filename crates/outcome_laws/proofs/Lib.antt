@@ -11,4 +11,3 @@ pub mod Making
 pub mod Parted
 pub mod Vectored
 pub mod Agreement
-pub mod OneSkeleton

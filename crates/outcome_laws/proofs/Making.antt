@@ -13,7 +13,7 @@ use Rattle.surface_definitions.specs.declared.Coords.TheVariants.{Standard}
 use Rattle.surface_definitions.specs.TableSurfaces.{table_enumeration}
 use Rattle.move_definitions.specs.Moves.{Move}
 use Rattle.certificate_laws.proofs.Made.{tables_are_made_lem, one_is_made_lem}
-use Rattle.outcome_definitions.specs.Outcomes.{Outcome, IsOwnStatus}
+use Rattle.outcome_definitions.specs.Outcomes.{Outcome}
 use Rattle.outcome_definitions.specs.Enumerations.{large_outcome}
 use Rattle.outcome_definitions.specs.Makings.{make_outcome, IsMakeAnswer, IsGreatestEntry, Numbers, summary_outcome, AreSummedUp, ArePastLimit, IsSummary, IsBulkAnswer}
 use Rattle.surface_definitions.proofs.OneSystem.{one_equations}
@@ -28,10 +28,6 @@ pub some_make : (seed moves : ℕ) → (o : Outcome) × IsMakeAnswer seed moves 
 some_make seed moves =
     let made = tables_are_made_lem seed moves in
     (make_outcome made.0 made.1, record { table = made.0; certificate = made.1; made = made.2; outcome = refl })
-
--- its status is that of an answer
-pub make_own : (seed moves : ℕ) (o : Outcome) → IsMakeAnswer seed moves o → IsOwnStatus o.status
-make_own seed moves o h = subst (λ (q : Outcome). IsOwnStatus q.status) (sym h.outcome) tt
 
 -- the summary of a table
 

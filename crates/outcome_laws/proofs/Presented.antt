@@ -14,7 +14,7 @@ use Rattle.outcome_definitions.specs.Canonical.{done, IsNotConnected}
 use Rattle.outcome_definitions.specs.Vectors.{IsInvalidTold}
 use Rattle.outcome_definitions.specs.Presented.{presentation_text, IsPresented, IsPresentationAnswer}
 use Rattle.outcome_laws.proofs.Labelled.{one_not_connected, not_both}
-use Rattle.outcome_laws.proofs.OneSkeleton.{one_skeleton}
+use Rattle.skeleton_definitions.proofs.OneSkeleton.{one_skeleton}
 
 -- the least invalid edge class is one
 one_invalid : (s : Skeleton) (c d : ℕ) → IsFirstInvalid s (Some c) → IsFirstInvalid s (Some d) → c ≡ d

@@ -11,7 +11,7 @@ use Rattle.vector_laws.proofs.ToldLemmas.{lifted_each, crushed_along_once}
 use Rattle.outcome_definitions.specs.Outcomes.{Outcome}
 use Rattle.outcome_definitions.specs.Vectors.{IsCrushAnswer, crush_outcome, IsLiftsAnswer, lift_outcome, AreDescribed, describe_outcome, IsInvalidTold, IsDescribeAnswer}
 use Rattle.surface_definitions.proofs.OneSystem.{one_equations}
-use Rattle.outcome_laws.proofs.OneSkeleton.{one_skeleton}
+use Rattle.skeleton_definitions.proofs.OneSkeleton.{one_skeleton}
 use Rattle.outcome_laws.proofs.Presented.{one_refusal, never_invalid}
 
 pub one_crush : (d : List Row × List ℕ) (o p : Outcome) → IsTable d.0 → IsCrushAnswer d o → IsCrushAnswer d p → o ≡ p
