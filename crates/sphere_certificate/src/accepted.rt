@@ -1,4 +1,4 @@
-//! The first move that is accepted, of those with given cores.
+//! Moves that are accepted, and the first one of those with given cores.
 
 ghost use Rattle.std.specs.Prelude.{◌≡◌, ◌<◌, ◌∷◌, [], length, map, find, not, nat_lt};
 ghost use Rattle.table_definitions.specs.Permutation.{four};
@@ -30,8 +30,8 @@ fn keeps_limit(table: &Table, m: Move) -> bool
     table.len().saturating_sub(5 - size) + size <= MAX_TETS
 }
 
-/// Whether a move is accepted.
-fn is_accepted(table: &Table, m: Move) -> bool
+/// Whether a move is legal and leads to a table of no more than 1,000 tetrahedra, so that `apply` takes it.
+pub fn is_accepted(table: &Table, m: Move) -> bool
     ensures { result ≡ certificates.is_accepted table.now m }
 {
     match legal(table, m) {

@@ -7,6 +7,7 @@ mod checking;
 mod descending;
 mod sphere;
 
+pub use accepted::is_accepted;
 pub use checking::{CheckFault, check};
 pub use descending::{Descent, descend};
 pub use sphere::standard;

@@ -6,9 +6,10 @@ ghost use Rattle.move_definitions.specs.Certificates as certificates;
 ghost use Rattle.move_definitions.specs.Certificates.{moves_with};
 ghost use Rattle.tri_build.specs.Candidates.{moves_at};
 
-use gluing_table::{MAX_TETS, Table};
+use gluing_table::Table;
 use no_memory::NoMemory;
-use pachner_moves::{Core, Move, legal};
+use pachner_moves::{Core, Move};
+use sphere_certificate::is_accepted;
 use std::alloc::Global;
 
 /// The vertices of each face, by the vertex opposite it.
@@ -21,15 +22,6 @@ fn faces() -> [Core; 4]
         Core::of_mask(11),
         Core::of_mask(7),
     ]
-}
-
-/// Whether `apply` accepts a move.
-fn is_accepted(table: &Table, m: Move) -> bool
-    ensures { result ≡ certificates.is_accepted table.now m }
-{
-    let size = u32::from(m.core.size());
-    let kept = table.len().saturating_sub(5 - size);
-    legal(table, m).is_ok() && kept + size <= MAX_TETS
 }
 
 /// Appends the moves of a tetrahedron with these cores that are accepted.
