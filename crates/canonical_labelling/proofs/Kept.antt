@@ -4,7 +4,7 @@ use Rattle.std.specs.Prelude.{option_map, slice_index}
 use Rattle.std.specs.List.{slice_index_or}
 use Rattle.table_definitions.specs.Permutation.{image}
 use Rattle.table_definitions.specs.Table.{Row, Face, IsTable, glue}
-use Rattle.table_definitions.specs.Places.{Place, whole, carried, across, along, IsJoined, IsConnected}
+use Rattle.table_definitions.specs.Places.{Place, whole, across, along, IsJoined, IsConnected}
 use Rattle.table_definitions.specs.Relabelling.{Relabelling, IsRelabelling, IsRelabelled, Carries, stand_in, gluing_under}
 use Rattle.table_definitions.proofs.TableLaws.{glued_face, glued_tet}
 use Rattle.table_definitions.proofs.ChainLaws.{kept_along, joined_refl, joined_trans, crossed}

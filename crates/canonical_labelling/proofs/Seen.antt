@@ -1,5 +1,5 @@
 -- The tetrahedra that are seen in a walk-ordered table are those below a number.
-use Rattle.std.proofs.Common.{◌≡◌, ℕ, ◌+◌, ◌-◌, ◌*◌, ◌/◌, ◌%◌, ◌<◌, ◌≤◌, Bool, true, false, List, length, map, get_or, Option, Some, None, refl, sym, ap, ◌∙◌, arith, ⊎_elim}
+use Rattle.std.proofs.Common.{◌≡◌, ℕ, ◌+◌, ◌-◌, ◌*◌, ◌/◌, ◌%◌, ◌<◌, ◌≤◌, true, List, length, map, get_or, Option, Some, None, sym, ap, ◌∙◌, arith, ⊎_elim}
 use Rattle.std.specs.Prelude.{◌==◌, ◌||◌, ◌&&◌, nat_lt}
 use Rattle.std.specs.List.{list_all}
 use Rattle.std.proofs.lemmas.Bool.{eqb-true, eq-eqb, ltb-true, lt-ltb, le-ltb, and_parts, or_cases, cases_lt, cases_eq}
@@ -12,7 +12,7 @@ use Rattle.signature_definitions.specs.WalkOrder.{is_glued_to, is_seen, is_order
 use Rattle.table_definitions.proofs.ListFacts.{list_all-at, list_all-below, same_list-true}
 use Rattle.signature_codec.specs.Slots.{face_at}
 use Rattle.signature_codec.proofs.Simulation.{faces-places}
-use Rattle.signature_codec.proofs.SeenLaws.{is_seen-more, is_seen-begun, is_seen-later, or_left}
+use Rattle.signature_codec.proofs.SeenLaws.{is_seen-more, is_seen-begun, is_seen-later}
 use Rattle.table_definitions.proofs.Marked.{or-false as or_none}
 use Rattle.signature_codec.proofs.WalkLaws.{seen_same, seen_next}
 

@@ -10,7 +10,7 @@ use Rattle.cone_definitions.specs.declared.Order.{Order}
 use Rattle.cone_definitions.specs.declared.Order.TheVariants.{Given, Short, Zeros, Free}
 use Rattle.command_definitions.specs.declared.Request.{Request}
 use Rattle.command_definitions.specs.declared.Request.TheVariants.{Verify, Describe, Make, Bulk, Addup}
-use Rattle.command_definitions.specs.Requests.{IsInRange, IsLimit, HoldsRange, most_moves, most_bulk_moves}
+use Rattle.command_definitions.specs.Requests.{IsLimit, HoldsRange, most_moves, most_bulk_moves}
 use Rattle.surface_definitions.specs.declared.Coords.{Coords}
 use Rattle.surface_definitions.specs.declared.Coords.TheVariants.{Standard, Quad, Octagon}
 use Rattle.command_definitions.specs.Values.{Values, has_pieces, coordinates_named, piece_coordinates_named, ◌>>=◌, request_with, plain_request, surfaces_with, rays_with, made_with, decompose_with, coordinates_in, piece_coordinates_in, order_in, order_named, limit_in, limit_named, positive, decimal_up_to, is_short_decimal, seed_in, moves_in, values_of, or_default, needed}

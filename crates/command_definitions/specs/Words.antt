@@ -1,6 +1,6 @@
 -- Which words are accepted, and what they ask for. The words are one command and then its options, in any order, each
 -- at most once, as `--name value` or `--name=value`.
-use Rattle.std.specs.Prelude.{ℕ, List, [], ◌∷◌, Option, Some, None, codes}
+use Rattle.std.specs.Prelude.{ℕ, List, [], ◌∷◌, Option, None, codes}
 use Rattle.std.specs.List.{find}
 use Rattle.text_definitions.specs.Reading.{same_word}
 use Rattle.command_definitions.specs.declared.Request.{Request}

@@ -12,7 +12,7 @@ use Rattle.table_definitions.proofs.Permutations.{image_below, preimage_below, i
 use Rattle.move_definitions.specs.Moves.{Move, IsCore, Facet, own_facet, opposite, facet_behind, facet}
 use Rattle.move_laws.specs.Stars.{StandsFor, MeetsByLabels, IsOldLabel, IsStar, LegalExactlyByStars, StarsAreTakenOut}
 use Rattle.move_definitions.proofs.CoreTests.{core_size}
-use Rattle.move_laws.proofs.Labels.{AreLabels, HasLabel, label_at, length-labels, image-map}
+use Rattle.move_laws.proofs.Labels.{HasLabel, label_at, length-labels, image-map}
 use Rattle.move_laws.proofs.ListedFacets.{same_some}
 use Rattle.move_laws.proofs.Legal.{IsFacet, facet_is, facet-found, HasNoFault, no_fault, old_facet, old_label, facets_apart}
 use Rattle.table_definitions.proofs.InPlace.{in_place-same, in_place-other}

@@ -1,5 +1,5 @@
 -- Facts of lists.
-use Rattle.std.proofs.Common.{◌≡◌, Bool, true, false, cond, List, [], ◌∷◌, Some, refl, sym, ap, ◌∙◌, ◌≢◌, length, take, get_or, get_or-take, length-take, ⊎_elim, arith, ℕ, ◌+◌, ◌++◌}
+use Rattle.std.proofs.Common.{◌≡◌, Bool, true, false, cond, List, [], ◌∷◌, Some, refl, sym, ap, ◌∙◌, ◌≢◌, take, get_or, get_or-take, length-take, ⊎_elim, arith, ℕ, ◌+◌, ◌++◌}
 use Rattle.std.specs.Prelude.{find}
 use Rattle.std.proofs.lemmas.Bool.{cases_lt}
 use Rattle.std.proofs.lemmas.List.{get_or_past}

@@ -1,5 +1,5 @@
 -- The verdict, by the first row that isn't met.
-use Rattle.std.proofs.Common.{◌≡◌, ◌≢◌, ℕ, zero, suc, ◌+◌, ◌<◌, Bool, true, false, ℤ, List, [], ◌∷◌, length, get_or, Option, Some, None, inl, inr, refl, sym, ap, ◌∙◌, subst, arith, add-zero}
+use Rattle.std.proofs.Common.{◌≡◌, ◌≢◌, ℕ, zero, suc, ◌+◌, ◌<◌, true, false, ℤ, List, [], ◌∷◌, length, get_or, Option, Some, None, inl, inr, refl, sym, ap, ◌∙◌, subst, arith, add-zero}
 use Rattle.std.specs.List.{All, find}
 use Rattle.std.specs.Prelude.{◌==◌, ◌||◌, ◌↔◌, nat_lt, if◌then◌else◌, Result, Ok, Err, IsOk}
 use Rattle.std.proofs.lemmas.Bool.{eq-eqb, ne_eqb, le-ltb, lt-ltb, or_from, or_right}

@@ -13,7 +13,7 @@ use Rattle.signature_definitions.specs.declared.SigFault.{SigFault}
 use Rattle.signature_definitions.specs.declared.SigFault.TheVariants as sig_faults
 use Rattle.signature_definitions.specs.Spelling.{alphabet, character, value_of, in_values, head_values, width}
 use Rattle.signature_definitions.specs.SignatureText as signatures
-use Rattle.signature_definitions.specs.SignatureText.{Head, value_at, number_in, head_of, faces_of_type, Types, numbers_in, types_from}
+use Rattle.signature_definitions.specs.SignatureText.{Head, value_at, number_in, head_of}
 use Rattle.signature_codec.proofs.SlotLaws.{unless_ok, ok_same}
 use Rattle.signature_codec.proofs.TypeLaws.{value_at_below}
 

@@ -11,7 +11,7 @@ use Rattle.table_definitions.proofs.Faces.{same_face-true, same_face-itself, the
 use Rattle.signature_definitions.specs.declared.SigFault.{SigFault}
 use Rattle.signature_definitions.specs.declared.SigFault.TheVariants as sig_faults
 use Rattle.signature_definitions.specs.SignatureText as signatures
-use Rattle.signature_definitions.specs.SignatureText.{join_faces, Joining}
+use Rattle.signature_definitions.specs.SignatureText.{Joining}
 use Rattle.table_definitions.proofs.Permutations.{image_below, words_permute, inverse_permutes}
 use Rattle.signature_codec.specs.Slots.{Slots, IsSlots}
 use Rattle.signature_codec.proofs.SlotLaws.{unless_ok, ok_same, times-same}

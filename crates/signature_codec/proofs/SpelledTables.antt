@@ -14,7 +14,7 @@ use Rattle.signature_definitions.specs.declared.SigFault.TheVariants as sig_faul
 use Rattle.signature_definitions.specs.WalkOrder.{is_seen, is_ordered_gluing, IsWalkOrdered}
 use Rattle.signature_definitions.specs.Spelling.{character, in_values, head_values, width, packed, joined, type_of, seen_gluing, face_types, seen_gluings, spelling, spelling_values, Spells}
 use Rattle.signature_definitions.specs.SignatureText as signatures
-use Rattle.signature_definitions.specs.SignatureText.{Types, Head, Parts, numbers_in, types_from, head_of, signature_table, faces_of_type}
+use Rattle.signature_definitions.specs.SignatureText.{Head, Parts, numbers_in, types_from, signature_table, faces_of_type}
 use Rattle.table_definitions.proofs.Permutations.{index_below}
 use Rattle.signature_definitions.specs.declared.SigFault.{SigFault}
 use Rattle.signature_definitions.specs.declared.SigFault.TheVariants.{NoMemory}

@@ -5,7 +5,7 @@ use Rattle.std.specs.List.{before_first, after_first, position_or_len, list_all}
 use Rattle.std.specs.Char.{is_ascii_digit}
 use Rattle.std.proofs.Math.Seq.{take-append_seam, drop-append_seam, get_or-append_seam}
 use Rattle.std.proofs.Math.ListN.{drop_of_length-le, get_or-append, length-append}
-use Rattle.std.proofs.lemmas.Bool.{eqb-true, ne_eqb, ltb-true, leb-true, and_parts, false≢true, not-false, cases_lt}
+use Rattle.std.proofs.lemmas.Bool.{eqb-true, ne_eqb, ltb-true, leb-true, and_parts, not-false, cases_lt}
 use Rattle.std.proofs.lemmas.List.Sums.{split_at_first, position_or_len_is, prefix_len_stops, AllPass-from_list_all}
 use Rattle.table_definitions.specs.Lists.{same_list}
 use Rattle.table_definitions.specs.Permutation.{is_permutation, digits_of, words, IsPermutationOfFour}

@@ -3,9 +3,7 @@ use Rattle.table_definitions.proofs.Computed.{computed}
 use Rattle.std.proofs.Common.{◌≡◌, ℕ, List, [], ◌∷◌, ◌++◌, Option, Some, refl}
 use Rattle.std.specs.Prelude.{codes}
 use Rattle.table_definitions.specs.Table.{Gluing, Row}
-use Rattle.text_definitions.specs.Text.{tokens_from, word, stray}
 use Rattle.table_definitions.specs.TableText.{table_text}
-use Rattle.text_definitions.proofs.Examples.{tokens_lem}
 
 glued : ℕ → List ℕ → Option Gluing
 glued t p = Some (record { tet = t; perm = p })

@@ -1,7 +1,6 @@
 -- One step through the vectors of a document.
 use Rattle.std.proofs.Common.{◌≡◌, ℕ, ◌<◌, ◌+◌, List, [], ◌∷◌, ◌++◌, length, take, get_or, Vec, Result, Ok, Err, sym, subst, ◌∙◌, arith}
 use Rattle.std.specs.declared.alloc.Global.{Global}
-use Rattle.std.specs.List.{slice_index_or}
 use Rattle.command_answers.specs.Reads.{all_entries}
 use Rattle.vector_definitions.specs.declared.Refusal.{Refusal}
 use Rattle.vector_commands.specs.declared.refusals.ToldFault.{ToldFault}

@@ -15,7 +15,6 @@ use Rattle.vector_definitions.specs.Properties.{first_large, IsPropertyAnswer}
 use Rattle.vector_definitions.specs.Components.{Component, IsPiecesAnswer}
 use Rattle.vector_definitions.specs.Lifting.{IsLiftAnswer}
 use Rattle.vector_definitions.specs.declared.Properties.{Properties}
-use Rattle.vector_definitions.specs.declared.Sum.{Sum}
 use Rattle.vector_definitions.specs.declared.PropertyFault.TheVariants as property_faults
 use Rattle.vector_definitions.specs.declared.LiftFault.TheVariants as lift_faults
 use Rattle.vector_definitions.specs.declared.PiecesFault.TheVariants as pieces_faults
