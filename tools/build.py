@@ -224,20 +224,15 @@ def main(arguments):
         known = crates()
         names = all_below(known, PROGRAM, [])
         progress = Progress({it: size_of(it) for it in names})
-        # The program goes last, with all processors. All else stands below one crate, so rt reads the sources once before
-        # it proves, and not once for each crate on which nothing stands.
-        last = [PROGRAM]
-        first = [it for it in names if it not in last]
+        # All stands below the program, so rt reads the sources once before it proves, and not once for each crate on
+        # which nothing stands; and no crate is checked a second time for the program's sake.
         progress.say("reading what is kept")
-        park([it for it in os.listdir(os.path.join(to, "crates")) if it not in first], to)
-        bring_back(first, to)
-        copy_sources(first, to)
-        write_list(known, first, to)
-        prove_libraries(to, os.path.join(to, "libraries.log"), jobs, progress)
-        bring_back(last, to)
-        copy_sources(last, to)
+        park([it for it in os.listdir(os.path.join(to, "crates")) if it not in names], to)
+        bring_back(names, to)
+        copy_sources(names, to)
         write_list(known, names, to)
-        progress.say(" and ".join(last))
+        prove_libraries(to, os.path.join(to, "libraries.log"), jobs, progress)
+        progress.say("compiling")
         program = build_program(to, os.path.join(to, "program.log"), progress)
         install(program, names, begun)
         progress.end()
