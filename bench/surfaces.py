@@ -13,7 +13,7 @@ import subprocess
 import sys
 import tempfile
 
-from tables import CLOSED, IDEAL
+from tables import CLOSED, IDEAL, SLOW
 from verify import HERE
 
 # What Regina's interpreter is told: seconds of its double description in standard coordinates, without its start.
@@ -116,6 +116,9 @@ def main():
 
     compare(program, "closed", CLOSED)
     compare(program, "ideal", IDEAL)
+    for count, text in SLOW.items():
+        for order in ("given", "zeros"):
+            measure(program, ["surfaces", "--order", order], f"slow table of {count}", text)
 
 
 if __name__ == "__main__":
