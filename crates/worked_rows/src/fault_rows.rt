@@ -139,17 +139,15 @@ const ROWS: [Row; 21] = [
 /// is answered. Each run before is told as a failed read.
 fn each_read_fails(rt: &impl Abort, alloc: Global, row: &Row) -> Result<(), Fail> {
     let mut is_answered = false;
-    let mut call = 1;
-    while !is_answered && call < 100 {
+    for call in 1..100 {
         let answer = answered(alloc, row.words, row.input, call, STEADY, 7)?;
-        is_answered = answer.status == row.status;
-        if is_answered {
+        if answer.status == row.status {
             assert_eq!(rt; answer.text.as_slice(), row.text);
-        } else {
-            assert_eq!(rt; answer.status, Status::ReadFault);
-            assert_eq!(rt; answer.text.as_slice(), b"refused: read\n".as_slice());
+            is_answered = true;
+            break;
         }
-        call += 1;
+        assert_eq!(rt; answer.status, Status::ReadFault);
+        assert_eq!(rt; answer.text.as_slice(), b"refused: read\n".as_slice());
     }
     assert!(rt; is_answered);
     Ok(())
