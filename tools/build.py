@@ -160,7 +160,7 @@ def fail(progress, log, crate):
     sys.exit(9)
 
 
-def prove_libraries(to, log, jobs, progress):
+def prove_crates(to, log, jobs, progress):
     """Proves the crates of the copy side by side. rt tells each one when it is done."""
     failed = None
     with open(log, "w", encoding="utf8") as kept:
@@ -231,7 +231,7 @@ def main(arguments):
         bring_back(names, to)
         copy_sources(names, to)
         write_list(known, names, to)
-        prove_libraries(to, os.path.join(to, "libraries.log"), jobs, progress)
+        prove_crates(to, os.path.join(to, "proofs.log"), jobs, progress)
         progress.say("compiling")
         program = build_program(to, os.path.join(to, "program.log"), progress)
         install(program, names, begun)
