@@ -1,20 +1,21 @@
 //! The components of a table: which tetrahedra gluings join.
 
-ghost use Rattle.std.specs.Prelude.{IfOk};
+ghost use Rattle.std.specs.Prelude.{IfOk, length};
 ghost use Rattle.table_definitions.specs.Table.{IsTable};
-ghost use Rattle.component_signature.specs.Components.{AreComponents};
+ghost use Rattle.table_definitions.specs.Places.{SameComponent};
+ghost use Rattle.table_definitions.specs.Classes.{IsNumbering};
 
-use finite_walks::classes;
+use finite_walks::{Numbering, classes};
 use gluing_table::{Row, rows_behind};
 use no_memory::NoMemory;
 use std::alloc::Global;
 
-/// The component of each tetrahedron. Components are numbered by their least tetrahedra.
-pub fn components(alloc: Global, rows: &[Row]) -> Result<Vec<u32>, NoMemory>
+/// The component of each tetrahedron, and how many there are. Components are numbered by their least tetrahedra.
+pub fn components(alloc: Global, rows: &[Row]) -> Result<Numbering, NoMemory>
     requires { IsTable rows.now }
-    ensures { IfOk result (λ classes. AreComponents rows.now classes.items) }
+    ensures { IfOk result (λ r. IsNumbering (length rows.now) (SameComponent rows.now) r.classes.items r.count) }
 {
     let neighbours = rows_behind(alloc, rows)?;
-    let classes = classes(alloc, &neighbours)?;
-    Ok(classes)
+    let numbering = classes(alloc, &neighbours)?;
+    Ok(numbering)
 }

@@ -74,14 +74,11 @@ pub fn parts(alloc: Global, table: &Table) -> Result<Vec<Part>, NoMemory>
     ensures parts { IfOk result (λ parts. AreParts table.now parts.items) }
     ensures is_table { OnOk result (IsTable table.now) }
 {
-    let classes = components(alloc, table.rows())?;
+    let components = components(alloc, table.rows())?;
     let mut parts = Vec::new(alloc);
-    for tet in 0..table.len() {
-        let class = classes[tet as usize];
-        if class as usize == parts.len() {
-            let part = part_of(alloc, table, &classes, class)?;
-            parts.push(part)?;
-        }
+    for component in 0..components.count {
+        let part = part_of(alloc, table, &components.classes, component)?;
+        parts.push(part)?;
     }
     Ok(parts)
 }

@@ -2,7 +2,8 @@
 use Rattle.std.proofs.Common.{◌≡◌, ◌≢◌, ℕ, ◌+◌, ◌/◌, ◌%◌, ◌<◌, ◌≤◌, Bool, true, false, List, [], ◌∷◌, ◌++◌, length, set, Option, Some, None, refl, ◌∙◌}
 use Rattle.std.specs.List.{slice_index_or}
 use Rattle.finite_walks.specs.Search.{IsMarked, IsTurn, IsSearch}
-use Rattle.finite_walks.proofs.Rows.{present, present_all, entry_marks, entry_passes, entry_skips}
+use Rattle.finite_walks.specs.Joined.{present}
+use Rattle.finite_walks.proofs.Rows.{present_all, entry_marks, entry_passes, entry_skips}
 use Rattle.finite_walks.proofs.SearchLemmas.{turn_ends}
 use Rattle.table_definitions.specs.Table.{Row, glue}
 use Rattle.skeleton.specs.Crossings.{crossed_vertex}

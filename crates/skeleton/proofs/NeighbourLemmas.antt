@@ -5,8 +5,8 @@ use Rattle.std.specs.List.{slice_index_or}
 use Rattle.std.proofs.lemmas.List.{get_or_push, get_or_append_left}
 use Rattle.std.proofs.lemmas.Bool.{cases_lt}
 use Rattle.plain_facts.proofs.Members.{contains_at}
-use Rattle.finite_walks.specs.Joined.{LeadsBy, IsJoined, IsSymmetric, HasNeighboursBelow, neighbours_of}
-use Rattle.finite_walks.proofs.Rows.{present, present_contains}
+use Rattle.finite_walks.specs.Joined.{LeadsBy, IsJoined, IsSymmetric, HasNeighboursBelow, neighbours_of, present}
+use Rattle.finite_walks.proofs.Rows.{present_contains}
 use Rattle.finite_walks.proofs.Places.{place_of}
 use Rattle.skeleton.specs.Neighbours.{AreNeighbours, row_at, led, IsLed, IsReversible}
 

@@ -5,7 +5,6 @@ use Rattle.std.proofs.lemmas.Bool.{cases_lt, cases_order, eq-eqb, ne_eqb}
 use Rattle.std.proofs.lemmas.List.{get_or_push, get_or_append_left}
 use Rattle.std.proofs.lemmas.List.Sums.{position_or_len_is}
 use Rattle.table_definitions.specs.Classes.{IsNumbering, least}
-use Rattle.finite_walks.specs.Classes.{AreClasses}
 use Rattle.finite_walks.specs.Joined.{IsJoined}
 use Rattle.skeleton.specs.Numberings.{IsOrdered, AreFirsts, AreFirstsUpTo}
 
@@ -78,12 +77,12 @@ firsts_end classes firsts i l m a f = record {
 }
 
 -- classes by a relation are a numbering
-pub numbering_from : (neighbours : ℕ → List ℕ) (n : ℕ) (Same : ℕ → ℕ → Type 0) (classes firsts : List ℕ) → AreClasses neighbours n classes → AreFirsts classes firsts
+pub numbering_from : (neighbours : ℕ → List ℕ) (n : ℕ) (Same : ℕ → ℕ → Type 0) (classes firsts : List ℕ) (count : ℕ) → IsNumbering n (IsJoined neighbours) classes count → AreFirsts classes firsts
     → ((i j : ℕ) → i < n → j < n → IsJoined neighbours i j ↔ Same i j) → IsNumbering n Same classes (length firsts)
-numbering_from neighbours n Same classes firsts a f tie = record {
-  one_each = a.size;
-  in_range = λ i l. f.below i (omega (arith, a.size));
-  together = λ i j l m. (λ e. (tie i j l m).0 ((a.same i j l m).0 e), λ s. (a.same i j l m).1 ((tie i j l m).1 s));
-  ascending = λ i c l m. a.order i c l m;
-  none_empty = λ c l. let o : slice_index firsts c < length classes = f.in_range c l in let m : slice_index firsts c < n = omega (arith, a.size) in (slice_index firsts c, m, f.member c l);
+numbering_from neighbours n Same classes firsts count a f tie = record {
+  one_each = a.one_each;
+  in_range = λ i l. f.below i (omega (arith, a.one_each));
+  together = λ i j l m. (λ e. (tie i j l m).0 ((a.together i j l m).0 e), λ s. (a.together i j l m).1 ((tie i j l m).1 s));
+  ascending = λ i c l m. a.ascending i c l m;
+  none_empty = λ c l. let o : slice_index firsts c < length classes = f.in_range c l in let m : slice_index firsts c < n = omega (arith, a.one_each) in (slice_index firsts c, m, f.member c l);
 }

@@ -39,7 +39,10 @@ pub fn classes_of(alloc: Global, table: &Table, kind: Kind) -> Result<Numbering,
     ensures { IfOk result (λ r. AreClassesOf kind table.now r.classes.items r.firsts.items) }
 {
     let neighbours = neighbours(alloc, table, kind)?;
-    let classes = classes(alloc, &neighbours)?;
-    let firsts = firsts(alloc, &classes)?;
-    Ok(Numbering { classes, firsts })
+    let numbered = classes(alloc, &neighbours)?;
+    let firsts = firsts(alloc, &numbered.classes)?;
+    Ok(Numbering {
+        classes: numbered.classes,
+        firsts,
+    })
 }

@@ -11,8 +11,8 @@ ghost use Rattle.surface_pieces.specs.Joinings.{IsFree, AreSigned};
 use crate::counts::Piece;
 use crate::rows::signed_rows;
 use crate::steps::Joining;
+use finite_walks::{Numbering, classes};
 use gluing_table::Table;
-use joined_rows::{Numbering, classes};
 use std::alloc::{AllocError, Global};
 use surface_definitions::Coords;
 

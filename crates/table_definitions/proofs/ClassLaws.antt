@@ -1,5 +1,5 @@
 -- Classes are numbered in one way alone, and by their least members.
-use Rattle.std.proofs.Common.{◌≡◌, ℕ, zero, suc, ◌<◌, ◌≤◌, false, List, ◌⊎◌, refl, sym, ◌∙◌, subst, arith, ⊎_elim, inl, inr}
+use Rattle.std.proofs.Common.{◌≡◌, ℕ, zero, suc, ◌<◌, ◌≤◌, false, List, ◌⊎◌, ◌↔◌, refl, sym, ◌∙◌, subst, arith, ⊎_elim, inl, inr}
 use Rattle.std.specs.Prelude.{◌==◌, slice_index}
 use Rattle.std.proofs.lemmas.Bool.{eq-eqb, false≢true, cases_order, cases_lt}
 use Rattle.std.proofs.lemmas.List.Sums.{fails_before_first}
@@ -59,3 +59,13 @@ module _ (n : ℕ) (Same : ℕ → ℕ → Type 0) where
     | inr (inl less) ↦ absurd (no_more_classes classes k m a b less)
     | inr (inr more) ↦ absurd (no_more_classes classes m k b a more)
   ]
+
+  -- what is the same exactly where other things are has the same numbering
+  pub numbering_same : (Other : ℕ → ℕ → Type 0) (classes : List ℕ) (k : ℕ) → IsNumbering n Same classes k → ((i j : ℕ) → i < n → j < n → Same i j ↔ Other i j) → IsNumbering n Other classes k
+  numbering_same Other classes k a tie = record {
+    one_each = a.one_each;
+    in_range = a.in_range;
+    together = λ i j l m. (λ e. (tie i j l m).0 ((a.together i j l m).0 e), λ o. (a.together i j l m).1 ((tie i j l m).1 o));
+    ascending = a.ascending;
+    none_empty = a.none_empty;
+  }

@@ -1,5 +1,5 @@
 -- A vector that is fit is an admissible solution, and in coordinates with triangles a surface.
-use Rattle.std.proofs.Common.{◌≡◌, ◌≢◌, ℕ, List, length, refl, subst}
+use Rattle.std.proofs.Common.{◌≢◌, ℕ, List, length, refl, subst}
 use Rattle.text_definitions.specs.Written.{limit}
 use Rattle.cone_definitions.specs.Rows.{Row as EquationRow, IsSolution}
 use Rattle.table_definitions.specs.Table.{Row, IsTable}

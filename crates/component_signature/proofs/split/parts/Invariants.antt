@@ -1,6 +1,8 @@
--- The parts of the components of the tetrahedra so far.
-use Rattle.component_signature.proofs.PartLemmas.{ArePartsUpTo}
+-- The parts of the components so far.
+use Rattle.std.proofs.Common.{◌≡◌, map}
+use Rattle.table_definitions.specs.Lists.{below}
+use Rattle.component_signature.specs.Components.{part_of}
 use Rattle.component_signature.proofs.split.parts.Given as goal
 
-abbrev pub invariant-loop-tet : goal.invariant-loop-tet
-invariant-loop-tet l = ArePartsUpTo l.table l.classes.items l.tet l.parts.items
+abbrev pub invariant-loop-component : goal.invariant-loop-component
+invariant-loop-component l = l.parts.items ≡ map (part_of l.table l.components.classes.items) (below l.component)

@@ -9,19 +9,20 @@ use Rattle.surface_pieces.specs.Vectors.{AreVectors}
 use Rattle.surface_pieces.proofs.ComponentsTold.{joins, components_of, told}
 use Rattle.surface_pieces.proofs.pieces.built.Goals as goal
 
-pub classes-requires-clause-few : goal.classes-requires-clause-few
-classes-requires-clause-few c = omega (arith, c.in_ok-rows.ensures.size, (piece_numbers c.args.x.now).count, c.requires.few, ap (λ (rs : List (List (Option ℕ))). length rs) c.deref-3.ensures.value)
-
-pub classes-requires-clause-below : goal.classes-requires-clause-below
-classes-requires-clause-below c =
-    subst (λ (rs : List (List (Option ℕ))). HasNeighboursBelow (length rs) (neighbours_of rs)) (sym c.deref-3.ensures.value)
-    (subst (λ n. HasNeighboursBelow n (neighbours_of c.in_ok-rows.rows.items)) (sym c.in_ok-rows.ensures.size)
-    (joins c.args.table.now c.args.coords c.args.x.now c.requires.surface c.in_ok-rows.rows.items c.in_ok-rows.ensures).below)
-
-pub classes-requires-clause-symmetric : goal.classes-requires-clause-symmetric
-classes-requires-clause-symmetric c =
-    subst (λ (rs : List (List (Option ℕ))). IsSymmetric (neighbours_of rs)) (sym c.deref-3.ensures.value)
-    (joins c.args.table.now c.args.coords c.args.x.now c.requires.surface c.in_ok-rows.rows.items c.in_ok-rows.ensures).symmetric
+pub classes-requires : goal.classes-requires
+classes-requires c = (
+  omega arith,
+  (
+    omega (arith, c.in_ok-rows.ensures.size, (piece_numbers c.args.x.now).count, c.requires.few, ap (λ (rs : List (List (Option ℕ))). length rs) c.deref-3.ensures.value),
+    (
+      subst (λ (rs : List (List (Option ℕ))). HasNeighboursBelow (length rs) (neighbours_of rs)) (sym c.deref-3.ensures.value)
+          (subst (λ n. HasNeighboursBelow n (neighbours_of c.in_ok-rows.rows.items)) (sym c.in_ok-rows.ensures.size)
+          (joins c.args.table.now c.args.coords c.args.x.now c.requires.surface c.in_ok-rows.rows.items c.in_ok-rows.ensures).below),
+      subst (λ (rs : List (List (Option ℕ))). IsSymmetric (neighbours_of rs)) (sym c.deref-3.ensures.value)
+          (joins c.args.table.now c.args.coords c.args.x.now c.requires.surface c.in_ok-rows.rows.items c.in_ok-rows.ensures).symmetric,
+    ),
+  ),
+)
 
 pub vectors_of-requires-clause-few : goal.vectors_of-requires-clause-few
 vectors_of-requires-clause-few c =
@@ -30,17 +31,17 @@ vectors_of-requires-clause-few c =
 pub signs_of-requires-clause-components : goal.signs_of-requires-clause-components
 signs_of-requires-clause-components c =
     components_of c.args.table.now c.args.coords c.args.x.now c.requires.surface c.in_ok-rows.rows.items c.in_ok-rows.ensures c.in_ok-all.all.classes.items c.in_ok-all.all.count
-    (subst (λ (rs : List (List (Option ℕ))). IsNumbering (length rs) (IsJoined (neighbours_of rs)) c.in_ok-all.all.classes.items c.in_ok-all.all.count) c.deref-3.ensures.value c.in_ok-all.ensures.numbered)
+    (subst (λ (rs : List (List (Option ℕ))). IsNumbering (length rs) (IsJoined (neighbours_of rs)) c.in_ok-all.all.classes.items c.in_ok-all.all.count) c.deref-3.ensures.value c.in_ok-all.ensures)
 
 pub signs_of-requires-2-clause-components : goal.signs_of-requires-2-clause-components
 signs_of-requires-2-clause-components c =
     components_of c.args.table.now c.args.coords c.args.x.now c.requires.surface c.in_ok-rows.rows.items c.in_ok-rows.ensures c.in_ok-all.all.classes.items c.in_ok-all.all.count
-    (subst (λ (rs : List (List (Option ℕ))). IsNumbering (length rs) (IsJoined (neighbours_of rs)) c.in_ok-all.all.classes.items c.in_ok-all.all.count) c.deref-3.ensures.value c.in_ok-all.ensures.numbered)
+    (subst (λ (rs : List (List (Option ℕ))). IsNumbering (length rs) (IsJoined (neighbours_of rs)) c.in_ok-all.all.classes.items c.in_ok-all.all.count) c.deref-3.ensures.value c.in_ok-all.ensures)
 
 pub returns : goal.returns
 returns c =
     told c.args.table.now c.args.coords c.args.x.now c.in_ok-all.all.classes.items c.in_ok-all.all.count (all_entries c.in_ok-vectors.vectors.items) c.in_ok-two_sided.two_sided.items c.in_ok-orientable.orientable.items
     (components_of c.args.table.now c.args.coords c.args.x.now c.requires.surface c.in_ok-rows.rows.items c.in_ok-rows.ensures c.in_ok-all.all.classes.items c.in_ok-all.all.count
-    (subst (λ (rs : List (List (Option ℕ))). IsNumbering (length rs) (IsJoined (neighbours_of rs)) c.in_ok-all.all.classes.items c.in_ok-all.all.count) c.deref-3.ensures.value c.in_ok-all.ensures.numbered))
+    (subst (λ (rs : List (List (Option ℕ))). IsNumbering (length rs) (IsJoined (neighbours_of rs)) c.in_ok-all.all.classes.items c.in_ok-all.all.count) c.deref-3.ensures.value c.in_ok-all.ensures))
     (subst (λ (cs : List ℕ). AreVectors c.args.x.now cs c.in_ok-all.all.count (all_entries c.in_ok-vectors.vectors.items)) c.deref-5.ensures.value c.in_ok-vectors.ensures)
     c.in_ok-two_sided.ensures c.in_ok-orientable.ensures

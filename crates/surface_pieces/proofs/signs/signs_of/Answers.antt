@@ -8,19 +8,20 @@ use Rattle.vector_laws.proofs.Offsets.{piece_numbers}
 use Rattle.surface_pieces.proofs.SignsFound.{signed_below, signed_back, free_is}
 use Rattle.surface_pieces.proofs.signs.signs_of.Goals as goal
 
-pub classes-requires-clause-few : goal.classes-requires-clause-few
-classes-requires-clause-few c = omega (arith, c.in_ok-rows.ensures.size, (piece_numbers c.args.x.now).count, c.requires.few, ap (λ (rs : List (List (Option ℕ))). length rs) c.deref.ensures.value)
-
-pub classes-requires-clause-below : goal.classes-requires-clause-below
-classes-requires-clause-below c =
-    subst (λ (rs : List (List (Option ℕ))). HasNeighboursBelow (length rs) (neighbours_of rs)) (sym c.deref.ensures.value)
-    (subst (λ n. HasNeighboursBelow n (neighbours_of c.in_ok-rows.rows.items)) (sym c.in_ok-rows.ensures.size)
-    (signed_below c.args.table.now c.args.coords c.args.x.now c.requires.surface c.args.joining c.requires.joining c.in_ok-rows.rows.items c.in_ok-rows.ensures))
-
-pub classes-requires-clause-symmetric : goal.classes-requires-clause-symmetric
-classes-requires-clause-symmetric c =
-    subst (λ (rs : List (List (Option ℕ))). IsSymmetric (neighbours_of rs)) (sym c.deref.ensures.value)
-    (signed_back c.args.table.now c.args.coords c.args.x.now c.requires.surface c.args.joining c.requires.joining c.in_ok-rows.rows.items c.in_ok-rows.ensures)
+pub classes-requires : goal.classes-requires
+classes-requires c = (
+  omega arith,
+  (
+    omega (arith, c.in_ok-rows.ensures.size, (piece_numbers c.args.x.now).count, c.requires.few, ap (λ (rs : List (List (Option ℕ))). length rs) c.deref.ensures.value),
+    (
+      subst (λ (rs : List (List (Option ℕ))). HasNeighboursBelow (length rs) (neighbours_of rs)) (sym c.deref.ensures.value)
+          (subst (λ n. HasNeighboursBelow n (neighbours_of c.in_ok-rows.rows.items)) (sym c.in_ok-rows.ensures.size)
+          (signed_below c.args.table.now c.args.coords c.args.x.now c.requires.surface c.args.joining c.requires.joining c.in_ok-rows.rows.items c.in_ok-rows.ensures)),
+      subst (λ (rs : List (List (Option ℕ))). IsSymmetric (neighbours_of rs)) (sym c.deref.ensures.value)
+          (signed_back c.args.table.now c.args.coords c.args.x.now c.requires.surface c.args.joining c.requires.joining c.in_ok-rows.rows.items c.in_ok-rows.ensures),
+    ),
+  ),
+)
 
 pub free_components-requires-clause-few : goal.free_components-requires-clause-few
 free_components-requires-clause-few c = omega (arith, c.requires.components.one_each, (piece_numbers c.args.x.now).count, c.requires.few)
@@ -38,7 +39,7 @@ returns c = record {
     rows = c.in_ok-rows.rows.items
 
     read : IsNumbering (length rows) (IsJoined (neighbours_of rows)) c.in_ok-signed.signed.classes.items c.in_ok-signed.signed.count
-    read = subst (λ (rs : List (List (Option ℕ))). IsNumbering (length rs) (IsJoined (neighbours_of rs)) c.in_ok-signed.signed.classes.items c.in_ok-signed.signed.count) c.deref.ensures.value c.in_ok-signed.ensures.numbered
+    read = subst (λ (rs : List (List (Option ℕ))). IsNumbering (length rs) (IsJoined (neighbours_of rs)) c.in_ok-signed.signed.classes.items c.in_ok-signed.signed.count) c.deref.ensures.value c.in_ok-signed.ensures
 
     numbered : IsNumbering (2 * length (pieces_of c.args.x.now)) (IsJoined (neighbours_of rows)) c.in_ok-signed.signed.classes.items c.in_ok-signed.signed.count
     numbered = subst (λ n. IsNumbering n (IsJoined (neighbours_of rows)) c.in_ok-signed.signed.classes.items c.in_ok-signed.signed.count) c.in_ok-rows.ensures.size read
