@@ -4,6 +4,7 @@ use Rattle.std.specs.Prelude.{◌==◌, ◌||◌, option_map}
 use Rattle.std.specs.List.{list_all}
 use Rattle.std.proofs.lemmas.Bool.{eqb-true, cases_eq, cases_lt}
 use Rattle.std.proofs.lemmas.List.{length-map}
+use Rattle.plain_facts.proofs.Numbers.{given_apart}
 use Rattle.table_definitions.specs.Lists.{below, in_place_of}
 use Rattle.table_definitions.specs.Permutation.{IsPermutationOfFour, image, preimage, compose, four}
 use Rattle.table_definitions.specs.Table.{Gluing, Row, glue, IsTable}
@@ -90,25 +91,22 @@ no_fifth : list_all (λ i. list_all (λ l. first i l) (below 5)) (below 5) ≡ t
 unfolding first second third fourth fifth
 no_fifth = refl
 
-skipped : (a b : ℕ) (c : Bool) → ((a == b) || c) ≡ true → a ≢ b → c ≡ true
-skipped a b c h d = grind arith
-
 four_of_five : (i l a b c d : ℕ) → i < 5 → l < 5 → a < 5 → b < 5 → c < 5 → d < 5
     → i ≢ l → i ≢ a → l ≢ a → i ≢ b → l ≢ b → a ≢ b → i ≢ c → l ≢ c → a ≢ c → b ≢ c → i ≢ d → l ≢ d → a ≢ d → b ≢ d → c ≢ d
     → ⊥
 unfolding first second third fourth fifth
 four_of_five i l a b c d hi hl ha hb hc hd il ia la ib lb ab ic lc ac bc id ld ad bd cd =
     let t0 : first i l ≡ true = list_all-below (λ l. first i l) 5 (list_all-below (λ i. list_all (λ l. first i l) (below 5)) 5 no_fifth i hi) l hl in
-    let t1 : second i l a ≡ true = list_all-below (λ a. second i l a) 5 (skipped i l (list_all (λ a. second i l a) (below 5)) t0 il) a ha in
-    let t2 : list_all (λ b. third i l a b) (below 5) ≡ true = skipped l a (list_all (λ b. third i l a b) (below 5)) (skipped i a ((l == a) || list_all (λ b. third i l a b) (below 5)) t1 ia) la in
+    let t1 : second i l a ≡ true = list_all-below (λ a. second i l a) 5 (given_apart i l (list_all (λ a. second i l a) (below 5)) t0 il) a ha in
+    let t2 : list_all (λ b. third i l a b) (below 5) ≡ true = given_apart l a (list_all (λ b. third i l a b) (below 5)) (given_apart i a ((l == a) || list_all (λ b. third i l a b) (below 5)) t1 ia) la in
     let t3 : third i l a b ≡ true = list_all-below (λ b. third i l a b) 5 t2 b hb in
     let rest3 : Bool = list_all (λ c. fourth i l a b c) (below 5) in
-    let t4 : rest3 ≡ true = skipped a b rest3 (skipped l b ((a == b) || rest3) (skipped i b ((l == b) || ((a == b) || rest3)) t3 ib) lb) ab in
+    let t4 : rest3 ≡ true = given_apart a b rest3 (given_apart l b ((a == b) || rest3) (given_apart i b ((l == b) || ((a == b) || rest3)) t3 ib) lb) ab in
     let t5 : fourth i l a b c ≡ true = list_all-below (λ c. fourth i l a b c) 5 t4 c hc in
     let rest4 : Bool = list_all (λ d. fifth i l a b c d) (below 5) in
-    let t6 : rest4 ≡ true = skipped b c rest4 (skipped a c ((b == c) || rest4) (skipped l c ((a == c) || ((b == c) || rest4)) (skipped i c ((l == c) || ((a == c) || ((b == c) || rest4))) t5 ic) lc) ac) bc in
+    let t6 : rest4 ≡ true = given_apart b c rest4 (given_apart a c ((b == c) || rest4) (given_apart l c ((a == c) || ((b == c) || rest4)) (given_apart i c ((l == c) || ((a == c) || ((b == c) || rest4))) t5 ic) lc) ac) bc in
     let t7 : fifth i l a b c d ≡ true = list_all-below (λ d. fifth i l a b c d) 5 t6 d hd in
-    let t8 : (c == d) ≡ true = skipped b d (c == d) (skipped a d ((b == d) || (c == d)) (skipped l d ((a == d) || ((b == d) || (c == d))) (skipped i d ((l == d) || ((a == d) || ((b == d) || (c == d)))) t7 id) ld) ad) bd in
+    let t8 : (c == d) ≡ true = given_apart b d (c == d) (given_apart a d ((b == d) || (c == d)) (given_apart l d ((a == d) || ((b == d) || (c == d))) (given_apart i d ((l == d) || ((a == d) || ((b == d) || (c == d)))) t7 id) ld) ad) bd in
     cd (eqb-true c d t8)
 
 distinct : (rows : List Row) (i : ℕ) (f : Facet) → StandsFor rows i f → (v w : ℕ) → v < 4 → w < 4 → v ≢ w → image f.labels v ≢ image f.labels w
