@@ -26,7 +26,7 @@ some_position Zeros system left l = let b = first_best Zeros system left l in (b
 some_position Free system left l = (0, l, l)
 
 -- the turns so far and one more
-named_more : (order : Order) (system : Cone) (taken : List ℕ) (number : ℕ) → AreNamed order system taken → IsNamedTurn order system taken number
+pub named_more : (order : Order) (system : Cone) (taken : List ℕ) (number : ℕ) → AreNamed order system taken → IsNamedTurn order system taken number
     → AreNamed order system (taken ++ number ∷ [])
 named_more order system taken number h turn k less = ⊎_elim
     (λ old. subst₂ (IsNamedTurn order system) (sym (take-append-le k taken (number ∷ []) (omega arith))) (sym (get_or_append_left taken (number ∷ []) 0 k old)) (h k old))

@@ -1,17 +1,21 @@
 // All rays of a cone, with no pairs of columns that clash.
 
-ghost use Rattle.std.specs.Prelude.{◌≢◌, ◌≤◌, [], IfOk, IfErr};
+ghost use Rattle.std.specs.Prelude.{◌≢◌, ◌≤◌, [], IfOk, IfErr, IfSome};
+ghost use Rattle.cone_definitions.specs.Surfaces.{IsSurfaceList};
 ghost use Rattle.double_description.specs.Enumerated.{IsOnlyList};
 ghost use Rattle.cone_definitions.specs.Listings.{IsListed, without_pairs};
-ghost use Rattle.ray_answers.specs.Answers.{AreRefused};
+ghost use Rattle.ray_answers.specs.Answers.{AreRefused, IsBoundedList};
 
-use cone_core::{MAX_ENTRY, System};
+use crate::row_order::rows_in_order;
+use cone_core::{MAX_ENTRY, Ray, System};
 use double_description::{EnumFault, Order, Permit, Picker, Rays, choice, enumerate};
+use no_memory::NoMemory;
+use number_bounds::columns_fit;
 use std::alloc::Global;
 use support_bits::Support;
 
-/// All rays of the cone of a system, ascending, its rows taken in a named order; refused where a number passes the limit.
-pub fn rays(alloc: Global, system: &System, order: Order, limit: u128) -> Result<Rays, EnumFault>
+/// The rays, by elimination of the rows in a named order.
+fn walked(alloc: Global, system: &System, order: Order, limit: u128) -> Result<Rays, EnumFault>
     requires named { order ≢ Order.Free }
     requires some_limit { 1 ≤ limit }
     requires most_limit { limit ≤ MAX_ENTRY }
@@ -26,4 +30,52 @@ pub fn rays(alloc: Global, system: &System, order: Order, limit: u128) -> Result
     );
     let picker = Picker::new(order, |s: &System, rows: &[u32]| choice(order, s, rows));
     enumerate(alloc, system, &permit, &picker, limit)
+}
+
+/// The rays of a system whose numbers don't matter, found in the quickest order; nothing where a number passes the
+/// greatest entry in it.
+fn found(alloc: Global, system: &System) -> Result<Option<Vec<Ray>>, NoMemory>
+    ensures { IfOk result (λ answer. IfSome answer (λ list. IsSurfaceList system.now.columns system.now.rows [] list.items)) }
+{
+    match walked(alloc, system, Order::Zeros, MAX_ENTRY) {
+        Ok(rays) => {
+            let Rays { list, order: _ } = rays;
+            Ok(Some(list))
+        }
+        Err(EnumFault::Large { .. }) => Ok(None),
+        Err(EnumFault::NoMemory) => Err(NoMemory),
+    }
+}
+
+/// The rays found in the quickest order, where no number can pass the limit in any.
+fn found_where_bounded(
+    alloc: Global,
+    system: &System,
+    limit: u128,
+) -> Result<Option<Vec<Ray>>, NoMemory>
+    ensures { IfOk result (λ answer. IfSome answer (λ list. IsBoundedList system.now limit list.items)) }
+{
+    if columns_fit(alloc, system, limit)? {
+        found(alloc, system)
+    } else {
+        Ok(None)
+    }
+}
+
+/// All rays of the cone of a system, ascending, its rows taken in a named order; refused where a number passes the limit.
+pub fn rays(alloc: Global, system: &System, order: Order, limit: u128) -> Result<Rays, EnumFault>
+    requires named { order ≢ Order.Free }
+    requires some_limit { 1 ≤ limit }
+    requires most_limit { limit ≤ MAX_ENTRY }
+    ensures ok { IfOk result (λ r. IsListed (without_pairs system.now order limit) r.order.items r.list.items) }
+    ensures only { IfOk result (IsOnlyList system.now []) }
+    ensures err { IfErr result (AreRefused (without_pairs system.now order limit)) }
+{
+    if order != Order::Zeros {
+        if let Some(list) = found_where_bounded(alloc, system, limit)? {
+            let order = rows_in_order(alloc, system, order)?;
+            return Ok(Rays { list, order });
+        }
+    }
+    walked(alloc, system, order, limit)
 }

@@ -2,6 +2,7 @@
 #![tactic(auto)]
 
 mod enumeration;
+mod row_order;
 mod text;
 
 pub use enumeration::rays;

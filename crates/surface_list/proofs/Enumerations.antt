@@ -1,13 +1,13 @@
 -- From what the engine gives to surfaces.
 use Rattle.std.proofs.Common.{◌≡◌, ℕ, List, length, subst}
-use Rattle.std.specs.Prelude.{Result, Ok, Err, IfOk, IfErr}
+use Rattle.std.specs.Prelude.{Result, Ok, Err, Option, Some, None, IfOk, IfErr, IfSome}
 use Rattle.std.proofs.lemmas.List.Sorted.{IsPermutation-refl}
 use Rattle.table_definitions.specs.Table.{Row}
 use Rattle.surface_definitions.specs.Coordinates.{columns, clash_list}
 use Rattle.surface_definitions.specs.declared.Coords.{Coords}
 use Rattle.surface_definitions.specs.QuadEquations.{AreEquations}
 use Rattle.surface_definitions.specs.TableSurfaces.{table_enumeration}
-use Rattle.cone_definitions.specs.Surfaces.{Clash}
+use Rattle.cone_definitions.specs.Surfaces.{Clash, IsSurfaceList}
 use Rattle.cone_definitions.specs.Systems.{Cone}
 use Rattle.cone_definitions.specs.Orders.{AreNamed}
 use Rattle.cone_definitions.specs.Listings.{Enumeration, IsListed}
@@ -19,7 +19,12 @@ use Rattle.double_description.specs.declared.engine.EnumFault.TheVariants.{Large
 use Rattle.double_description.specs.Turns.{AreTaken}
 use Rattle.double_description.specs.Enumerated.{IsEnumerated, IsRefused}
 use Rattle.ray_answers.specs.Answers.{AreRefused}
-use Rattle.surface_list.specs.Surfaces.{AreTableSurfaces}
+use Rattle.enumeration_laws.proofs.Taken.{some_rows_taken}
+use Rattle.solved_laws.proofs.Listings.{listed}
+use Rattle.row_operation_laws.specs.Solutions.{HaveSameSolutions}
+use Rattle.row_operation_laws.proofs.Kept.{list_kept}
+use Rattle.surface_list.specs.Caps.{is_triangle, group_of, cap_of, group_count}
+use Rattle.surface_list.specs.Surfaces.{AreTableSurfaces, IsBoundedList}
 use denote.Ref.{Bor}
 
 abbrev pub Listed : Enumeration → Rays → Type 0
@@ -59,15 +64,38 @@ module _ (limit : ℕ) (coords : Coords) (rows : List Row) (system : Cone) (n : 
       same : system ≡ record { columns = columns coords (length rows); rows = system.rows }
       same = λ i. record { columns = width i; rows = system.rows }
 
-  pub surfaces_by : (rays : Rays) → Listed (given system n) rays → AreTableSurfaces limit coords rows order rays.list.items
-  surfaces_by rays h =
-      let there : Listed (table_enumeration coords order limit rows system.rows) rays = of_table (λ e. Listed e rays) h in (
+  -- a list that was found is the only one
+  only_listing : (taken : List ℕ) (list : List (List ℕ)) → IsListed (given system n) taken list → AreTableSurfaces limit coords rows order list
+  only_listing taken list h =
+      let there : IsListed (table_enumeration coords order limit rows system.rows) taken list = of_table (λ e. IsListed e taken list) h in (
         system.rows,
         equations,
         record {
-          taken = rays.order.items;
+          taken = taken;
           listed = there;
-          only = λ others is_list. one_surface_list_lem (columns coords (length rows)) system.rows system.rows (clash_list coords (length rows)) others rays.list.items
+          only = λ others is_list. one_surface_list_lem (columns coords (length rows)) system.rows system.rows (clash_list coords (length rows)) others list
               (IsPermutation-refl system.rows) is_list there.surfaces;
         },
       )
+
+  pub surfaces_by : (rays : Rays) → Listed (given system n) rays → AreTableSurfaces limit coords rows order rays.list.items
+  surfaces_by rays h = only_listing rays.order.items rays.list.items h
+
+  -- where all numbers are bounded, however it was found
+  pub surfaces_found : (list : List (List ℕ)) → IsBoundedList coords n system limit list → AreTableSurfaces limit coords rows order list
+  surfaces_found list h =
+      let t = some_rows_taken order system in
+      only_listing t.0 list
+      (listed (given system n) (is_triangle coords) (group_of coords n) (cap_of n) (group_count coords n) h.bounded.size (h.bounded.bounded order) t.0 list t.1 t.2 h.surfaces)
+
+-- the list of a system with the same solutions is its list
+module _ (system solved : Cone) (pairs : List Clash) (width : solved.columns ≡ system.columns) (same : HaveSameSolutions system.columns system.rows solved.rows) where
+  list_of : (list : List (List ℕ)) → IsSurfaceList solved.columns solved.rows pairs list → IsSurfaceList system.columns system.rows pairs list
+  list_of list h = (list_kept system.columns system.rows solved.rows pairs list same).1 (subst (λ w. IsSurfaceList w solved.rows pairs list) width h)
+
+  pub list_of_solved : (A E : Type 0) (items : A → List (List ℕ)) (result : Result (Option A) E) →
+      IfOk result (λ answer. IfSome answer (λ list. IsSurfaceList solved.columns solved.rows pairs (items list))) →
+      IfOk result (λ answer. IfSome answer (λ list. IsSurfaceList system.columns system.rows pairs (items list)))
+  list_of_solved A E items (Ok (Some list)) h = list_of (items list) h
+  list_of_solved A E items (Ok None) h = tt
+  list_of_solved A E items (Err fault) h = tt

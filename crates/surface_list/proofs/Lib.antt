@@ -1,1 +1,2 @@
 pub mod Enumerations
+pub mod Bounds

@@ -1,16 +1,20 @@
 //! All admissible vertex surfaces, by elimination of the equations.
 
-ghost use Rattle.std.specs.Prelude.{◌≡◌, ◌≢◌, ◌≤◌, IfOk, IfErr};
+ghost use Rattle.std.specs.Prelude.{◌≡◌, ◌≢◌, ◌≤◌, IfOk, IfErr, IfSome};
 ghost use Rattle.surface_definitions.specs.Coordinates as coordinates;
+ghost use Rattle.cone_definitions.specs.Surfaces.{IsSurfaceList};
 ghost use Rattle.cone_definitions.specs.Listings.{IsListed};
 ghost use Rattle.ray_answers.specs.Answers.{AreRefused};
-ghost use Rattle.surface_list.specs.Surfaces.{AreTableSurfaces, IsTableRefused};
+ghost use Rattle.surface_list.specs.Surfaces.{AreTableSurfaces, IsTableRefused, IsBoundedList};
 
+use crate::caps::{fits, is_triangle};
 use cone_core::{MAX_ENTRY, Ray, System};
 use double_description::{EnumFault, Order, Permit, Picker, Rays, choice, enumerate};
-use matching_equations::{Coords, equations};
+use matching_equations::{Coords, equations, triangles_each};
+use no_memory::NoMemory;
 use quad_condition::{Masks, clash_list};
 use skeleton::Skeleton;
+use solved_rows::{SolveFault, solve};
 use std::alloc::Global;
 use support_bits::Support;
 
@@ -40,6 +44,102 @@ fn enumerated(
     enumerate(alloc, system, &permit, &picker, limit)
 }
 
+/// The triangle columns of a system, tetrahedron by tetrahedron.
+fn triangles(alloc: Global, coords: Coords, system: &System) -> Result<Vec<u32>, NoMemory> {
+    let mut pivots = Vec::new(alloc);
+    for column in 0..system.columns() {
+        if is_triangle(coords, column) {
+            pivots.push(column)?;
+        }
+    }
+    Ok(pivots)
+}
+
+/// The vertex surfaces of a system, its rows taken in this order; nothing where a number passes the greatest entry.
+fn found_in_order(
+    alloc: Global,
+    coords: Coords,
+    tets: u32,
+    system: &System,
+    order: Order,
+) -> Result<Option<Vec<Ray>>, NoMemory>
+    requires tets { tets ≤ 1000 }
+    requires columns { system.now.columns ≡ coordinates.columns coords tets }
+    requires named { order ≢ Order.Free }
+    ensures { IfOk result (λ answer. IfSome answer (λ list. IsSurfaceList system.now.columns system.now.rows (coordinates.clash_list coords tets) list.items)) }
+{
+    match enumerated(alloc, coords, tets, system, order, MAX_ENTRY) {
+        Ok(rays) => {
+            let Rays {
+                list: surfaces,
+                order: _,
+            } = rays;
+            Ok(Some(surfaces))
+        }
+        Err(EnumFault::Large { .. }) => Ok(None),
+        Err(EnumFault::NoMemory) => Err(NoMemory),
+    }
+}
+
+/// The vertex surfaces of a system, found from its rows solved for the triangles; nothing where a coefficient or a number
+/// gets too large.
+fn found_solved(
+    alloc: Global,
+    coords: Coords,
+    tets: u32,
+    system: &System,
+) -> Result<Option<Vec<Ray>>, NoMemory>
+    requires tets { tets ≤ 1000 }
+    requires columns { system.now.columns ≡ coordinates.columns coords tets }
+    ensures { IfOk result (λ answer. IfSome answer (λ list. IsSurfaceList system.now.columns system.now.rows (coordinates.clash_list coords tets) list.items)) }
+{
+    let pivots = triangles(alloc, coords, system)?;
+    match solve(alloc, system, &pivots) {
+        Ok(solved) => found_in_order(alloc, coords, tets, &solved, Order::Given),
+        Err(SolveFault::Passed) => Ok(None),
+        Err(SolveFault::NoMemory) => Err(NoMemory),
+    }
+}
+
+/// The vertex surfaces of a system whose numbers don't matter, found in the quickest way: by its rows solved for the
+/// triangles, where there are any, and else in the quickest order; nothing where a number passes the greatest entry in it.
+fn found(
+    alloc: Global,
+    coords: Coords,
+    tets: u32,
+    system: &System,
+) -> Result<Option<Vec<Ray>>, NoMemory>
+    requires tets { tets ≤ 1000 }
+    requires columns { system.now.columns ≡ coordinates.columns coords tets }
+    ensures { IfOk result (λ answer. IfSome answer (λ list. IsSurfaceList system.now.columns system.now.rows (coordinates.clash_list coords tets) list.items)) }
+{
+    if triangles_each(coords) > 0 {
+        if let Some(known) = found_solved(alloc, coords, tets, system)? {
+            return Ok(Some(known));
+        }
+    }
+    found_in_order(alloc, coords, tets, system, Order::Zeros)
+}
+
+/// The vertex surfaces found in the quickest order, where no number can pass the limit in any.
+fn found_where_bounded(
+    alloc: Global,
+    coords: Coords,
+    tets: u32,
+    system: &System,
+    limit: u128,
+) -> Result<Option<Vec<Ray>>, NoMemory>
+    requires tets { tets ≤ 1000 }
+    requires columns { system.now.columns ≡ coordinates.columns coords tets }
+    ensures { IfOk result (λ answer. IfSome answer (λ list. IsBoundedList coords tets system.now limit list.items)) }
+{
+    if fits(alloc, system, coords, tets, limit)? {
+        found(alloc, coords, tets, system)
+    } else {
+        Ok(None)
+    }
+}
+
 /// The vertex surfaces of a table, strictly ascending, its equations taken in a named order; refused exactly where a
 /// number of a step passes the limit (Haken 1961; Tollefson 1998; Burton 2010).
 pub fn surfaces(
@@ -57,6 +157,9 @@ pub fn surfaces(
 {
     let system = equations(alloc, skeleton, coords)?;
     let tets = skeleton.table().len();
+    if let Some(known) = found_where_bounded(alloc, coords, tets, &system, limit)? {
+        return Ok(known);
+    }
     let rays = enumerated(alloc, coords, tets, &system, order, limit)?;
     let Rays { list, order: _ } = rays;
     Ok(list)

@@ -1,10 +1,11 @@
 ghost use Rattle.std.specs.Prelude.{◌≤◌};
 
 use super::*;
+use crate::caps::fits;
 use cone_core::MAX_ENTRY;
 use double_description::Order;
 use gluing_table::{Glue, Row, Table};
-use matching_equations::Coords;
+use matching_equations::{Coords, equations};
 use perm_four::Perm4;
 use skeleton::Skeleton;
 use std::alloc::Global;
@@ -85,4 +86,22 @@ fn surfaces_of_small_tables(rt: HostRuntime) {
             &[1, 0, 0, 0, 0, 0, 0],
         ],
     );
+}
+
+#[test]
+fn columns_bound_numbers(rt: HostRuntime) {
+    let sphere = [[
+        by(0, b"1023"),
+        by(0, b"1023"),
+        by(0, b"1230"),
+        by(0, b"3012"),
+    ]];
+    let alloc = rt.alloc();
+    let table = Table::from_rows(alloc, &sphere).expect(&rt, "a table");
+    let skeleton = Skeleton::of(alloc, &table).expect(&rt, "a skeleton");
+    for coords in [Coords::Standard, Coords::Quad, Coords::Octagon] {
+        let system = equations(alloc, &skeleton, coords).expect(&rt, "equations");
+        assert_eq!(&rt; fits(alloc, &system, coords, 1, MAX_ENTRY), Ok(true));
+        assert_eq!(&rt; fits(alloc, &system, coords, 1, 15), Ok(false));
+    }
 }
