@@ -11,21 +11,24 @@ import re
 
 TOP = os.path.dirname(os.path.dirname(os.path.realpath(__file__)))
 WIDE, HIGH, LEFT, BELOW = 720, 400, 70, 50
-COLOURS = {"trinorm, --order zeros": "#1f6fb4", "Regina 7.3": "#c2571a"}
+COLOURS = {"trinorm": "#1f6fb4", "Regina, default": "#c2571a", "Regina, straight": "#d9a066"}
 
 
 def figures():
-    """Of each series its points: tetrahedra (ideal tables half a step to the right) and seconds."""
-    series = {name: [] for name in COLOURS}
+    """Of each series its points: tetrahedra (ideal tables a little to the right) and seconds, where a figure stands."""
+    series, names = {name: [] for name in COLOURS}, []
     with open(os.path.join(TOP, "docs", "SPEED.md"), encoding="utf8") as file:
         for line in file:
-            row = re.match(r"\| (\d+) (closed|ideal) \|", line)
-            if row:
-                cells = [it.strip() for it in line.strip().strip("|").split("|")]
+            cells = [it.strip() for it in line.strip().strip("|").split("|")]
+            row = re.fullmatch(r"(\d+) (closed|ideal)", cells[0])
+            if cells[0] == "Table":
+                names = cells
+            elif row:
                 at = int(row[1]) + (0.25 if row[2] == "ideal" else 0)
-                series["trinorm, --order zeros"].append((at, float(cells[5])))
-                series["Regina 7.3"].append((at, float(cells[6])))
-    return series
+                for name, cell in zip(names, cells):
+                    if name in series and re.fullmatch(r"[\d.]+", cell):
+                        series[name].append((at, float(cell)))
+    return {name: points for name, points in series.items() if points}
 
 
 def place(at, seconds, first, last, least, most):
