@@ -1,13 +1,18 @@
 #!/usr/bin/env python3
 """Proves and builds the program, with all processors, and puts it at crates/trinorm/out/trinorm.
 
-    tools/build.py [--jobs N]
+    tools/build.py [--jobs N] [--keep] [--measure]
 
 Only what the program stands on is proved: the laws beside it and the tests are the gate's work (`rt ci`).
 The work goes on in a copy of the sources in the user's cache folder, since `rt` lets one command at a time into a
 crate's folder: so a build harms no other, is interrupted at any time and goes on where it stopped, and a second one
 waits for the first. What it does is said on standard error, on one line that is written over where that is a terminal.
+
+The copy, with all that was proved in it, is dropped once the program stands. It is kept by --keep, and where the
+sources differ from the commit, since then the next build is most likely another change, which takes a minute of it.
+--measure builds from nothing and writes what each crate took into build_times.txt, from which the time left is told.
 """
+import argparse
 import fcntl
 import hashlib
 import os
@@ -17,9 +22,12 @@ import subprocess
 import sys
 import time
 
+from build_times import Plan, Sampler, read_times, write_times
+
 TOP = os.path.dirname(os.path.dirname(os.path.realpath(__file__)))
 PROGRAM = "trinorm"
 PARTS = ("src", "specs", "proofs")
+TIMES = os.path.join(TOP, "build_times.txt")
 # a proof takes 0.5 to 2 GB, now and then more
 MEMORY_EACH = 3 << 30
 
@@ -57,14 +65,6 @@ def sources(names):
                 yield from (os.path.join(folder, it) for it in files)
 
 
-def size_of(name):
-    total = 0
-    for folder, _, files in os.walk(os.path.join(TOP, "crates", name)):
-        if not folder.endswith("/out") and "/out/" not in folder:
-            total += sum(os.path.getsize(os.path.join(folder, it)) for it in files)
-    return total
-
-
 def same(one, other):
     try:
         with open(one, "rb") as first, open(other, "rb") as second:
@@ -73,26 +73,36 @@ def same(one, other):
         return False
 
 
+def copy_part(here, there):
+    """Makes a folder like another one, and tells whether it differed. A file that is the same is left alone."""
+    wanted, changed = set(), False
+    for folder, _, files in os.walk(here):
+        for it in files:
+            path = os.path.relpath(os.path.join(folder, it), here)
+            wanted.add(path)
+            if not same(os.path.join(here, path), os.path.join(there, path)):
+                os.makedirs(os.path.dirname(os.path.join(there, path)), exist_ok=True)
+                shutil.copyfile(os.path.join(here, path), os.path.join(there, path))
+                changed = True
+    for folder, _, files in os.walk(there):
+        for it in files:
+            if os.path.relpath(os.path.join(folder, it), there) not in wanted:
+                os.remove(os.path.join(folder, it))
+                changed = True
+    return changed
+
+
 def copy_sources(names, to):
-    """Makes the copy like the sources. A file that is the same is left alone, so that what was proved stays proved."""
+    """Makes the copy like the sources, so that what was proved stays proved, and tells which crates differed."""
+    changed = set()
     for name in names:
         for part in PARTS:
-            here, there = os.path.join(TOP, "crates", name, part), os.path.join(to, "crates", name, part)
-            wanted = set()
-            for folder, _, files in os.walk(here):
-                for it in files:
-                    path = os.path.relpath(os.path.join(folder, it), here)
-                    wanted.add(path)
-                    if not same(os.path.join(here, path), os.path.join(there, path)):
-                        os.makedirs(os.path.dirname(os.path.join(there, path)), exist_ok=True)
-                        shutil.copyfile(os.path.join(here, path), os.path.join(there, path))
-            for folder, _, files in os.walk(there):
-                for it in files:
-                    if os.path.relpath(os.path.join(folder, it), there) not in wanted:
-                        os.remove(os.path.join(folder, it))
+            if copy_part(os.path.join(TOP, "crates", name, part), os.path.join(to, "crates", name, part)):
+                changed.add(name)
     handles = os.path.join(TOP, "HANDLES")
     if os.path.exists(handles):
         shutil.copyfile(handles, os.path.join(to, "HANDLES"))
+    return changed
 
 
 def park(names, to):
@@ -110,47 +120,87 @@ def bring_back(names, to):
             os.rename(f"{to}.parked/{name}", os.path.join(to, "crates", name))
 
 
+def drop(to):
+    for folder in (to, f"{to}.parked"):
+        shutil.rmtree(folder, ignore_errors=True)
+
+
 def write_list(known, names, to):
     with open(os.path.join(to, "crates.txt"), "w", encoding="utf8") as file:
         file.writelines(known[name][0] + "\n" for name in names)
 
 
+def differs_from_commit():
+    """Whether someone changes the code here. Where that can't be told, as outside a checkout, nobody does."""
+    asked = ["git", "-C", TOP, "status", "--porcelain", "--", "crates", "crates.txt", "HANDLES"]
+    try:
+        told = subprocess.run(asked, capture_output=True, text=True, check=False)
+    except OSError:
+        return False
+    return told.returncode == 0 and told.stdout.strip() != ""
+
+
+def memory():
+    """Bytes of memory that the system, or the container, lets this process have."""
+    total = os.sysconf("SC_PAGE_SIZE") * os.sysconf("SC_PHYS_PAGES")
+    try:
+        with open("/sys/fs/cgroup/memory.max", encoding="ascii") as file:
+            return min(total, int(file.read()))
+    except (OSError, ValueError):
+        return total
+
+
+def processors():
+    return len(os.sched_getaffinity(0))
+
+
 def jobs_that_fit():
     """As many as there are processors and two more, since some of them wait for crates below theirs, where memory allows."""
-    memory = os.sysconf("SC_PAGE_SIZE") * os.sysconf("SC_PHYS_PAGES")
-    return max(1, min(len(os.sched_getaffinity(0)) + 2, memory // MEMORY_EACH))
+    return max(1, min(processors() + 2, memory() // MEMORY_EACH))
 
 
 class Progress:
     """What is said while crates are proved: how many, which one, and about how long it still takes."""
 
-    def __init__(self, sizes):
-        self.sizes, self.done, self.began = sizes, [], time.monotonic()
+    def __init__(self, plan, count):
+        self.plan, self.count, self.done, self.began = plan, count, [], time.monotonic()
         self.over = sys.stderr.isatty()
 
-    def left(self):
-        passed = sum(self.sizes[it] for it in self.done)
-        seconds = time.monotonic() - self.began
-        if seconds < 20 or 50 * passed < sum(self.sizes.values()):
-            return ""
-        minutes = seconds * (sum(self.sizes.values()) - passed) / passed / 60
-        return f" (about {max(1, round(minutes))} min left)"
-
-    def say(self, name):
-        line = f"{PROGRAM}: proving and building {len(self.done)} of {len(self.sizes)}: {name}{self.left()}"
+    def say(self, doing):
+        left = self.plan.left(self.done, time.monotonic() - self.began)
+        told = "less than a minute" if left < 45 else f"about {max(1, round(left / 60))} min"
+        line = f"{PROGRAM}: proving and building, {len(self.done)} of {self.count} crates done: {doing} ({told} left)"
         if self.over:
             print(f"\r\033[K{line[:110]}", end="", file=sys.stderr, flush=True)
         else:
             print(line, file=sys.stderr, flush=True)
 
     def finish(self, name):
-        if name in self.sizes and name not in self.done:
+        if name not in self.done:
             self.done.append(name)
             self.say(name)
 
     def end(self):
         if self.over:
             print("\r\033[K", end="", file=sys.stderr, flush=True)
+
+
+def refuse_what_does_not_fit(to, times):
+    """Ends at once where the build would end by a full disk or by want of memory, with a line that says so."""
+    free, wanted = shutil.disk_usage(os.path.dirname(to)).free, times.disk << 20
+    if not os.path.isdir(to) and free < wanted:
+        sys.exit(f"{PROGRAM}: building needs {wanted / 1e9:.1f} GB of disk, and {os.path.dirname(to)} has {free / 1e9:.1f} "
+                 "GB free; XDG_CACHE_HOME names another place")
+    largest = max((it.memory for it in times.crates.values()), default=0) << 20
+    if memory() < largest:
+        sys.exit(f"{PROGRAM}: building needs {largest / 1e9:.1f} GB of memory, and there are {memory() / 1e9:.1f} GB")
+
+
+def say_what_comes(plan, times, to, keep):
+    minutes = max(1, round(plan.length() / 60))
+    stays = "" if keep else ", dropped afterwards"
+    print(f"{PROGRAM}: proves and builds the program once: about {minutes} min on {processors()} processors, "
+          f"and {times.disk / 1000:.1f} GB of disk in {to}{stays}", file=sys.stderr, flush=True)
 
 
 def fail(progress, log, crate):
@@ -208,12 +258,52 @@ def install(program, names, begun):
     os.utime(stamp, (begun, begun))
 
 
-def main(arguments):
+def build(to, words, begun):
+    """Proves what has changed, builds the program, and installs it."""
+    known = crates()
+    names = all_below(known, PROGRAM, [])
+    times = read_times(TIMES)
+    refuse_what_does_not_fit(to, times)
+    os.makedirs(os.path.join(to, "crates"), exist_ok=True)
+    park([it for it in os.listdir(os.path.join(to, "crates")) if it not in names], to)
+    bring_back(names, to)
+    changed = copy_sources(names, to)
+    kept = {it for it in names if os.path.isdir(os.path.join(to, "crates", it, "out"))}
+    plan = Plan({it: known[it][1] for it in names}, times, processors())
+    plan.take_kept(kept, changed)
+    say_what_comes(plan, times, to, words.keep)
+    progress = Progress(plan, len(names))
+    sampler = Sampler(to) if words.measure else None
+    # The program is proved and compiled in one run, which reads what all crates are made of once. Without it all stands
+    # below one crate, so rt reads the sources once before it proves, and not once for each crate on which nothing stands.
+    park([PROGRAM], to)
+    write_list(known, names[:-1], to)
+    prove_crates(to, os.path.join(to, "proofs.log"), words.jobs, progress)
+    bring_back([PROGRAM], to)
+    write_list(known, names, to)
+    progress.say(PROGRAM)
+    program = build_program(to, os.path.join(to, "program.log"), progress)
+    if sampler:
+        write_times(TIMES, names, sampler.end(), to)
+    install(program, names, begun)
+    progress.end()
+
+
+def read_words():
+    parser = argparse.ArgumentParser(description="Proves and builds the program.")
+    parser.add_argument("--jobs", type=int, default=jobs_that_fit(), metavar="N", help="prove N crates at a time")
+    parser.add_argument("--keep", action="store_true", help="keep what was proved, for the build after a change")
+    parser.add_argument("--measure", action="store_true", help="build from nothing, and write build_times.txt")
+    return parser.parse_args()
+
+
+def main():
+    words = read_words()
     if shutil.which("rt") is None:
         sys.exit(f"{PROGRAM}: the command rt of the Rattle kit is not there; README.md says which kit")
-    jobs = int(arguments[1]) if arguments[:1] == ["--jobs"] else jobs_that_fit()
+    words.keep = words.keep or differs_from_commit()
     to = folder_of_build()
-    os.makedirs(os.path.join(to, "crates"), exist_ok=True)
+    os.makedirs(os.path.dirname(to), exist_ok=True)
     with open(f"{to}.lock", "w", encoding="utf8") as lock:
         try:
             fcntl.flock(lock, fcntl.LOCK_EX | fcntl.LOCK_NB)
@@ -221,23 +311,13 @@ def main(arguments):
             print(f"{PROGRAM}: another build is going on; waiting for it", file=sys.stderr, flush=True)
             fcntl.flock(lock, fcntl.LOCK_EX)
         begun = time.time()
-        known = crates()
-        names = all_below(known, PROGRAM, [])
-        progress = Progress({it: size_of(it) for it in names})
-        # All stands below the program, so rt reads the sources once before it proves, and not once for each crate on
-        # which nothing stands; and no crate is checked a second time for the program's sake.
-        progress.say("reading what is kept")
-        park([it for it in os.listdir(os.path.join(to, "crates")) if it not in names], to)
-        bring_back(names, to)
-        copy_sources(names, to)
-        write_list(known, names, to)
-        prove_crates(to, os.path.join(to, "proofs.log"), jobs, progress)
-        progress.say("compiling")
-        program = build_program(to, os.path.join(to, "program.log"), progress)
-        install(program, names, begun)
-        progress.end()
+        if words.measure:
+            drop(to)
+        build(to, words, begun)
+        if not words.keep:
+            drop(to)
         print(f"{PROGRAM}: built in {round(time.time() - begun)} s", file=sys.stderr)
 
 
 if __name__ == "__main__":
-    main(sys.argv[1:])
+    main()

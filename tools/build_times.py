@@ -1,0 +1,153 @@
+"""What a build takes: the table build_times.txt, and the time left told from it."""
+import heapq
+import os
+import re
+import threading
+from typing import Dict, NamedTuple
+
+# What is proved again of a crate that changed, or stands on one that did.
+SHARE_AFTER_CHANGE = 0.15
+TICKS = os.sysconf("SC_CLK_TCK")
+HEAD = """\
+# What a first build takes, as `tools/build.py --measure` writes it: the disk in MB,
+# and for each crate the seconds of a processor and the greatest memory in MB.
+"""
+
+
+class Took(NamedTuple):
+    """What proving a crate took: seconds of a processor, and MB of memory."""
+
+    seconds: float
+    memory: int
+
+
+class Times(NamedTuple):
+    """What a build took: MB of disk, and each crate's part."""
+
+    disk: int
+    crates: Dict[str, Took]
+
+
+def read_times(path):
+    disk, found = 0, {}
+    try:
+        with open(path, encoding="utf8") as file:
+            lines = [line.split() for line in file if not line.startswith("#")]
+    except OSError:
+        lines = []
+    for name, *numbers in filter(None, lines):
+        if name == "disk":
+            disk = int(numbers[0])
+        else:
+            found[name] = Took(float(numbers[0]), int(numbers[1]))
+    return Times(disk, found)
+
+
+def write_times(path, names, took, folder):
+    with open(path, "w", encoding="utf8") as file:
+        file.write(HEAD)
+        file.write(f"disk {size_of(folder) >> 20}\n")
+        for name in [*names, *(it for it in took if it not in names)]:
+            if name in took:
+                file.write(f"{name} {round(took[name].seconds)} {took[name].memory}\n")
+
+
+def size_of(folder):
+    total = 0
+    for place, _, files in os.walk(folder):
+        total += sum(os.lstat(os.path.join(place, it)).st_blocks * 512 for it in files)
+    return total
+
+
+class Plan:
+    """The crates that are still to be proved, what each stands on, and what it takes."""
+
+    def __init__(self, below, times, processors):
+        self.below, self.processors = dict(below), processors
+        known = [it.seconds for name, it in times.crates.items() if name in below]
+        usual = sum(known) / len(known) if known else 20.0
+        self.seconds = {it: times.crates[it].seconds if it in times.crates else usual for it in below}
+
+    def take_kept(self, kept, changed):
+        """Counts for little what was proved before and is as it was, and for less than the whole what changed."""
+        stale = set()
+        for name in self.below:
+            if name in changed or any(it in stale for it in self.below[name]):
+                stale.add(name)
+        for name in kept:
+            self.seconds[name] *= SHARE_AFTER_CHANGE if name in stale else 0.0
+
+    def length(self, done=()):
+        """Seconds until all else is done, where each processor takes the ready crate with most above it."""
+        left = [it for it in self.below if it not in done]
+        waiting = {it: {on for on in self.below[it] if on not in done} for it in left}
+        above = {it: [on for on in left if it in waiting[on]] for it in left}
+        chain = self.chains(left, above)
+        ready = [(-chain[it], it) for it in left if not waiting[it]]
+        heapq.heapify(ready)
+        running, now = [], 0.0
+        while ready or running:
+            while ready and len(running) < self.processors:
+                _, name = heapq.heappop(ready)
+                heapq.heappush(running, (now + self.seconds[name], name))
+            now, name = heapq.heappop(running)
+            for it in above[name]:
+                waiting[it].discard(name)
+                if not waiting[it]:
+                    heapq.heappush(ready, (-chain[it], it))
+        return now
+
+    def chains(self, left, above):
+        """For each crate the seconds from its start to the end of the longest chain above it."""
+        chain = {}
+        for name in reversed(left):
+            chain[name] = self.seconds[name] + max((chain[it] for it in above[name]), default=0.0)
+        return chain
+
+    def left(self, done, passed):
+        """Seconds left, after what is done took the seconds that passed."""
+        rest, whole = self.length(done), self.length()
+        told = whole - rest
+        if passed < 30 or told < whole / 20:
+            return max(0.0, whole - passed)
+        return rest * min(10.0, passed / told)
+
+
+class Sampler:
+    """Reads once a second what the processes that prove crates below a folder have taken."""
+
+    def __init__(self, folder):
+        self.place = re.escape(os.path.realpath(folder)) + r"/crates/(\w+)"
+        self.seen, self.ended = {}, threading.Event()
+        self.thread = threading.Thread(target=self.go_on, daemon=True)
+        self.thread.start()
+
+    def go_on(self):
+        while not self.ended.is_set():
+            for process in filter(str.isdigit, os.listdir("/proc")):
+                try:
+                    self.look_at(process)
+                except (OSError, ValueError, IndexError, TypeError):
+                    continue
+            self.ended.wait(1)
+
+    def look_at(self, process):
+        """Counts a process for the crate in whose folder it works."""
+        at = re.match(self.place, os.readlink(f"/proc/{process}/cwd"))
+        if not at:
+            return
+        with open(f"/proc/{process}/stat", encoding="utf8", errors="replace") as file:
+            fields = file.read().rsplit(")", 1)[1].split()
+        with open(f"/proc/{process}/status", encoding="utf8", errors="replace") as file:
+            peak = int(re.search(r"VmHWM:\s+(\d+)", file.read())[1]) >> 10
+        self.seen[process, fields[19]] = (at[1], (int(fields[11]) + int(fields[12])) / TICKS, peak)
+
+    def end(self):
+        """What each crate took."""
+        self.ended.set()
+        self.thread.join()
+        took = {}
+        for name, seconds, peak in self.seen.values():
+            before = took.get(name, Took(0.0, 0))
+            took[name] = Took(before.seconds + seconds, max(before.memory, peak))
+        return took
