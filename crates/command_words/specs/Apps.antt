@@ -1,6 +1,7 @@
 -- The command line as the parser is told it, and what is read of its matches.
 use Rattle.std.specs.Prelude.{true, List, [], map, fold, Option, Some, None, codes}
-use Rattle.clap.specs.Walk.{Row, Rule, Text, first_of}
+use Rattle.std.specs.Borrow.{Bor}
+use Rattle.clap.specs.Walk.{Row, Rule, Text, first_of, texts}
 use Rattle.clap.specs.Simple.{App, Shape, new_rule, new_shape, with_subcommand}
 use Rattle.clap.specs.declared.builder.action.ArgAction.TheVariants.{Set}
 use Rattle.command_definitions.specs.declared.Request.{Request}
@@ -30,6 +31,10 @@ bare_program = record {
 -- the program with a command for each of the definitions
 abbrev pub program_with : List Command → App
 program_with cs = fold (λ a c. with_subcommand a (subcommand_with c.0 c.1)) bare_program cs
+
+-- a command and the names of its options, as the code lists them
+abbrev pub listed_command : Bor Text × Bor (List (Bor Text)) → Command
+listed_command row = (row.0.now, texts row.1.now)
 
 abbrev pub program : App
 program = program_with commands

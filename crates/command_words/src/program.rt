@@ -3,22 +3,35 @@ ghost use Rattle.std.specs.Prelude.{◌≡◌, false, map, IfOk};
 ghost use Rattle.clap.specs.Walk.{rule_of, texts};
 ghost use Rattle.clap.specs.Simple.{app_of, shape_of, with_subcommand};
 ghost use Rattle.clap.specs.declared.builder.command.Command.TheViews.{out-Command};
-ghost use Rattle.command_words.specs.Apps.{bare_program, option_argument, program, subcommand_with};
+ghost use Rattle.command_words.specs.Apps.{bare_program, listed_command, option_argument, program, program_with, subcommand_with};
 
 use clap::{Arg, ArgAction, Command};
 use std::alloc::{AllocError, Global};
 
-static COORDS: [&str; 1] = ["coords"];
-
-static SURFACES: [&str; 3] = ["coords", "order", "max-entry"];
-
-static DECOMPOSE: [&str; 2] = ["coords", "max-entry"];
-
-static RAYS: [&str; 2] = ["order", "max-entry"];
-
-static MADE: [&str; 2] = ["seed", "moves"];
-
-static NONE: [&str; 0] = [];
+// Each command, with its options.
+static COMMANDS: [(&str, &[&str]); 21] = [
+    ("verify", &["coords"]),
+    ("info", &[]),
+    ("surfaces", &["coords", "order", "max-entry"]),
+    ("rays", &["order", "max-entry"]),
+    ("describe", &["coords"]),
+    ("lift", &[]),
+    ("crush", &[]),
+    ("play", &[]),
+    ("sig", &[]),
+    ("same", &[]),
+    ("group", &[]),
+    ("check", &[]),
+    ("descend", &[]),
+    ("make", &["seed", "moves"]),
+    ("bulk", &["seed", "moves"]),
+    ("decompose", &["coords", "max-entry"]),
+    ("addup", &["coords"]),
+    ("cover", &[]),
+    ("pi1", &[]),
+    ("csig", &[]),
+    ("csame", &[]),
+];
 
 // The argument of an option.
 fn option_argument<'a>(alloc: Global, name: &'a str) -> Arg<'a>
@@ -67,30 +80,23 @@ fn bare_program<'a>(alloc: Global) -> Command<'a>
         .disable_version_flag(true)
 }
 
-/// The program with its commands, one subcommand each.
+// The program with these commands, one subcommand each.
+fn program_with<'a>(
+    alloc: Global,
+    commands: &'static [(&'static str, &'static [&'static str])],
+) -> Result<Command<'a>, AllocError>
+    ensures { IfOk result (λ c. app_of c ≡ program_with (map listed_command commands.entry.now)) }
+{
+    let mut program = bare_program(alloc);
+    for (name, options) in commands {
+        program = add(alloc, program, name, options)?;
+    }
+    Ok(program)
+}
+
+/// The program with its commands.
 pub fn program<'a>(alloc: Global) -> Result<Command<'a>, AllocError>
     ensures { IfOk result (λ c. app_of c ≡ program) }
 {
-    let program = bare_program(alloc);
-    let program = add(alloc, program, "verify", &COORDS)?;
-    let program = add(alloc, program, "info", &NONE)?;
-    let program = add(alloc, program, "surfaces", &SURFACES)?;
-    let program = add(alloc, program, "rays", &RAYS)?;
-    let program = add(alloc, program, "describe", &COORDS)?;
-    let program = add(alloc, program, "lift", &NONE)?;
-    let program = add(alloc, program, "crush", &NONE)?;
-    let program = add(alloc, program, "play", &NONE)?;
-    let program = add(alloc, program, "sig", &NONE)?;
-    let program = add(alloc, program, "same", &NONE)?;
-    let program = add(alloc, program, "group", &NONE)?;
-    let program = add(alloc, program, "check", &NONE)?;
-    let program = add(alloc, program, "descend", &NONE)?;
-    let program = add(alloc, program, "make", &MADE)?;
-    let program = add(alloc, program, "bulk", &MADE)?;
-    let program = add(alloc, program, "decompose", &DECOMPOSE)?;
-    let program = add(alloc, program, "addup", &COORDS)?;
-    let program = add(alloc, program, "cover", &NONE)?;
-    let program = add(alloc, program, "pi1", &NONE)?;
-    let program = add(alloc, program, "csig", &NONE)?;
-    add(alloc, program, "csame", &NONE)
+    program_with(alloc, &COMMANDS)
 }
