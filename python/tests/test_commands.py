@@ -1,0 +1,131 @@
+"""Each command on a small triangulation, with the answer that the pages tell."""
+import unittest
+
+import trinorm
+from trinorm import Gluing, Table
+
+SPHERE = "bkaagj"
+FIGURE_EIGHT = "cPcbbbiht"
+TORUS = (1, 1, 0, 0, 1, 0, 0)
+LINK = (1, 1, 1, 1, 0, 0, 0)
+GIESEKING = ["0:1203 0:2013 0:0231 0:0312"]
+BALL_AND_SPHERE = ["- - - -", "1:1023 1:1023 1:1230 1:3012"]
+SPHERE_AND_BALL = ["0:1023 0:1023 0:1230 0:3012", "- - - -"]
+MADE = "tri 3\n1:3120 1:3120 1:3120 2:1032\n2:0123 0:3120 0:3120 0:3120\n1:0123 2:0321 0:1032 2:0321\n"
+PARTED = "tri 4\n1:0123 2:1023 3:1203 1:0123\n0:0123 2:0123 3:0213 0:0123\n0:1023 1:0123 3:0123 3:1203\n0:2013 1:0213 2:0123 2:2013\n"
+
+
+class Lists(unittest.TestCase):
+    def test_surfaces(self):
+        self.assertEqual(trinorm.surfaces(SPHERE), [TORUS, LINK])
+        self.assertEqual(trinorm.surfaces(FIGURE_EIGHT), [LINK + LINK])
+        quads = [(0, 0, 2, 0, 0, 1), (0, 1, 0, 0, 2, 0), (0, 1, 0, 2, 0, 0), (2, 0, 0, 0, 0, 1)]
+        self.assertEqual(trinorm.surfaces(FIGURE_EIGHT, coords="quad"), quads)
+        self.assertEqual(trinorm.surfaces([]), [])
+
+    def test_orders_list_the_same(self):
+        lists = [trinorm.surfaces("gLLPQccdfeefqffaqnw", order=it) for it in ("given", "short", "zeros")]
+        self.assertTrue(lists[0] == lists[1] == lists[2])
+        self.assertEqual(lists[0], sorted(lists[0]))
+
+    def test_rays(self):
+        self.assertEqual(trinorm.rays([[1, -2, 0], [0, 1, -2]]), [(4, 2, 1)])
+        self.assertEqual(trinorm.rays([], columns=2), [(0, 1), (1, 0)])
+
+    def test_decompose_and_addup(self):
+        sums = trinorm.decompose(SPHERE, [(3, 3, 1, 1, 2, 0, 0), (0,) * 7])
+        terms = (trinorm.Term(2, TORUS), trinorm.Term(1, LINK))
+        self.assertEqual(sums, [trinorm.Sum((3, 3, 1, 1, 2, 0, 0), 1, terms), trinorm.Sum((0,) * 7, 1, ())])
+        self.assertTrue(trinorm.addup(SPHERE, sums))
+
+
+class Surfaces(unittest.TestCase):
+    def test_verify(self):
+        said = trinorm.verify(SPHERE, [TORUS, (1, 0, 0, 0, 0, 0, 0), (0, 0, 1, 1, 0, 1, 1), TORUS[1:]])
+        self.assertEqual([(it.kind, it.places) for it in said], [("solution", ()), ("fails", (0,)), ("clash", (5, 6)), ("length", (6,))])
+        self.assertEqual([it.is_solution for it in said], [True, False, False, False])
+
+    def test_describe(self):
+        klein, torus = trinorm.describe("bkaajj", [(0, 0, 0, 0, 0, 1, 0), (0, 0, 0, 0, 0, 2, 0)])
+        self.assertEqual((klein.euler, klein.linking, klein.boundary, len(klein.components)), (0, False, False, 1))
+        self.assertEqual(klein.components[0], trinorm.Component(0, 1, False, (0, 0, 0, 0, 0, 1, 0)))
+        self.assertEqual(torus.components[0], trinorm.Component(0, 2, True, (0, 0, 0, 0, 0, 2, 0)))
+
+    def test_describe_octagons(self):
+        [sphere] = trinorm.describe(SPHERE, [(0, 0, 1, 1, 0, 0, 0, 1, 0, 0)], coords="octagon")
+        self.assertEqual((sphere.euler, sphere.components[0].sides), (2, 2))
+
+    def test_describe_several_components(self):
+        [both] = trinorm.describe(SPHERE, [tuple(a + b for a, b in zip(TORUS, LINK))])
+        self.assertEqual(sorted(it.euler for it in both.components), [0, 2])
+
+    def test_lift_and_crush(self):
+        self.assertEqual(trinorm.lift(SPHERE, [(1, 0, 0)]), [TORUS])
+        two = ["1:0123 1:0123 - -", "0:0123 0:0123 - -"]
+        crushed = trinorm.crush(two, (1, 1, 0, 0, 0, 0, 0, 0, 0, 0, 0, 1, 0, 0))
+        self.assertEqual(str(crushed), "tri 1\n0:1023 0:1023 - -\n")
+        self.assertEqual(len(trinorm.crush(SPHERE, TORUS)), 0)
+
+
+class Triangulations(unittest.TestCase):
+    def test_info(self):
+        info = trinorm.info(FIGURE_EIGHT)
+        self.assertEqual((info.tetrahedra, info.connected, info.orientable, info.closed, info.faces, info.euler), (2, True, True, True, 4, 1))
+        self.assertEqual(info.vertices, (trinorm.Vertex(8, 0, True, "torus"),))
+        self.assertEqual(info.edges, (trinorm.Edge(6, "inner", True),) * 2)
+
+    def test_signatures(self):
+        self.assertEqual(trinorm.sig("bkaagn"), SPHERE)
+        self.assertEqual(trinorm.csig(BALL_AND_SPHERE), "baa.bkaagj")
+
+    def test_same(self):
+        self.assertEqual(trinorm.same("bkaagn", SPHERE), trinorm.Isomorphism(((0, (0, 1, 3, 2)),)))
+        self.assertIsNone(trinorm.same("bkaagb", SPHERE))
+        self.assertEqual(trinorm.csame(BALL_AND_SPHERE, SPHERE_AND_BALL).images, ((1, (0, 1, 2, 3)), (0, (0, 1, 2, 3))))
+
+    def test_group(self):
+        self.assertEqual(trinorm.group(["bkaagn", "bkaagb", SPHERE]), trinorm.Grouping((0, 1, 0), (SPHERE, "bkaagb")))
+        self.assertEqual(trinorm.group([]), trinorm.Grouping((), ()))
+
+    def test_cover(self):
+        cover = trinorm.cover(GIESEKING)
+        self.assertEqual((cover.over, cover.connected), (((0, 0), (0, 1)), True))
+        self.assertEqual(trinorm.sig(cover.table), FIGURE_EIGHT)
+
+    def test_pi1(self):
+        group = trinorm.pi1(GIESEKING)
+        self.assertEqual(group.generators, (trinorm.Generator(0, True), trinorm.Generator(1, True)))
+        self.assertEqual(group.relators, (trinorm.Relator(0, (2, -1, -2, 1, 1, 2)),))
+
+
+class Moves(unittest.TestCase):
+    def test_play(self):
+        played = trinorm.play(SPHERE, ["14 0", "41 0 3", "undo", "undo", "undo", "23 0 0"])
+        self.assertEqual(played.answers[:5], ("done", "done", "undone", "undone", "nothing"))
+        self.assertTrue(played.answers[5].startswith("illegal "))
+        self.assertEqual(str(played.table), "tri 1\n0:1023 0:1023 0:1230 0:3012\n")
+
+    def test_table(self):
+        self.assertEqual(trinorm.table(SPHERE).rows[0][2], Gluing(0, (1, 2, 3, 0)))
+        self.assertEqual(trinorm.table("tri 0"), Table(()))
+
+    def test_check(self):
+        self.assertTrue(trinorm.check(MADE, ["23 1 0", "41 3 2"]))
+
+    def test_descend(self):
+        descent = trinorm.descend(PARTED)
+        self.assertEqual((descent.reached, descent.moves, len(descent.table)), (True, ("41 0 3",), 1))
+        self.assertTrue(trinorm.check(PARTED, descent.moves))
+        self.assertEqual(trinorm.descend("bkaagb").reached, False)
+
+    def test_make(self):
+        made = trinorm.make(0, 2)
+        self.assertEqual((str(made.table), made.moves), (MADE, ("23 1 0", "41 3 2")))
+        self.assertTrue(trinorm.check(made.table, made.moves))
+
+    def test_bulk(self):
+        self.assertEqual(trinorm.bulk(5, 5), trinorm.Bulk(5, 5, 6, 5, 16, 2, 2))
+
+
+if __name__ == "__main__":
+    unittest.main()

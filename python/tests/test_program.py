@@ -1,0 +1,95 @@
+"""Refusals, failed runs, and how the program is found."""
+import os
+import pickle
+import tempfile
+import unittest
+from unittest import mock
+
+import trinorm
+from trinorm.program import kind_and_places
+
+
+def script(folder, text):
+    """A program that isn't trinorm."""
+    path = os.path.join(folder, "program")
+    with open(path, "w", encoding="utf8") as file:
+        file.write("#!/bin/sh\n" + text)
+    os.chmod(path, 0o755)
+    return path
+
+
+class Refusals(unittest.TestCase):
+    def refused(self, call, *words, **named):
+        with self.assertRaises(trinorm.Refused) as caught:
+            call(*words, **named)
+        return caught.exception.status, caught.exception.kind, caught.exception.places
+
+    def test_input(self):
+        self.assertEqual(self.refused(trinorm.info, "tri 1\n0:1023 0:1023 0:1230"), (3, "input missing-word", (2, 21)))
+        self.assertEqual(self.refused(trinorm.info, [["0:1023", None, "-", None]]), (3, "table not-mutual", (0, 0)))
+        self.assertEqual(self.refused(trinorm.info, "bkaagjx"), (3, "signature trailing", (6,)))
+        self.assertEqual(self.refused(trinorm.verify, "bkaagj", [(-1,)]), (3, "input bad-word", (2, 5)))
+
+    def test_checks(self):
+        self.assertEqual(self.refused(trinorm.lift, "cPcbbbiht", [(2, 0, 0, 0, 0, 1)]), (4, "vector no-lift", (0, 0)))
+        self.assertEqual(self.refused(trinorm.check, "bkaagb", []), (4, "check not-standard", ("bkaagb",)))
+        self.assertEqual(self.refused(trinorm.check, "bkaagj", ["14 0", "41 0 3", "23 0 0"]), (4, "check illegal repeated", (3, 3)))
+        self.assertEqual(self.refused(trinorm.sig, ["- - - -"] * 2), (4, "not-connected", (0, 1)))
+
+    def test_limit(self):
+        said = self.refused(trinorm.rays, [[1, -2, 0], [0, 1, -2]], order="given", max_entry=2)
+        self.assertEqual(said, (5, "large pair", (1, 1, (2, 1, 0), (0, 0, 1))))
+        self.assertEqual(kind_and_places("refused: large step 0 row 2 value 3 0"), ("large value", (0, 2, (3, 0))))
+
+    def test_words(self):
+        self.assertEqual(self.refused(trinorm.surfaces, "bkaagj", coords="standard.")[0], 2)
+
+    def test_is_kept_by_pickle(self):
+        again = pickle.loads(pickle.dumps(trinorm.Refused(3, "refused: input 1 1 bad-word")))
+        self.assertEqual((again.status, again.places), (3, (1, 1)))
+
+
+class Failures(unittest.TestCase):
+    def failed(self, text, **named):
+        with tempfile.TemporaryDirectory() as folder, self.assertRaises(trinorm.Failed) as caught:
+            trinorm.info("bkaagj", program=script(folder, text), **named)
+        return caught.exception
+
+    def test_statuses(self):
+        self.assertIn("no memory", str(self.failed("exit 8\n")))
+        self.assertIn("reading failed", str(self.failed("echo 'refused: read'; exit 6\n")))
+        self.assertIn("signal 9", str(self.failed("kill -9 $$\n")))
+
+    def test_answers_that_are_none(self):
+        self.assertIn("isn't understood", str(self.failed("echo tetrahedra 1\n")))
+        self.assertIn("status 3", str(self.failed("exit 3\n")))
+
+    def test_timeout(self):
+        self.assertIsInstance(self.failed("exec sleep 20\n", timeout=0.1), trinorm.TimedOut)
+
+    def test_no_program(self):
+        with self.assertRaises(trinorm.Failed):
+            trinorm.info("bkaagj", program="/no/such/program")
+        with mock.patch.dict(os.environ, TRINORM="/no/such/program"), self.assertRaises(trinorm.Failed):
+            trinorm.info("bkaagj")
+
+
+class Finding(unittest.TestCase):
+    def test_what_is_named_comes_first(self):
+        with tempfile.TemporaryDirectory() as folder:
+            path = script(folder, "exit 8\n")
+            with mock.patch.dict(os.environ, TRINORM=path):
+                self.assertEqual(trinorm.find(), path)
+                self.assertEqual(trinorm.find("/bin/sh"), "/bin/sh")
+
+    def test_the_path_comes_last(self):
+        with tempfile.TemporaryDirectory() as folder:
+            path = os.path.join(folder, "trinorm")
+            os.rename(script(folder, "exit 8\n"), path)
+            others = {name: value for name, value in os.environ.items() if name != "TRINORM"}
+            with mock.patch.dict(os.environ, dict(others, PATH=folder), clear=True), mock.patch("trinorm.program.REPOSITORY", trinorm.program.Path(folder)):
+                self.assertEqual(trinorm.find(), path)
+
+
+if __name__ == "__main__":
+    unittest.main()

@@ -1,0 +1,23 @@
+"""trinorm: triangulated 3-manifolds and their normal surfaces, by a program that is proved to meet its contracts.
+
+    >>> import trinorm
+    >>> trinorm.surfaces("cPcbbbiht")
+    [(1, 1, 1, 1, 0, 0, 0, 1, 1, 1, 1, 0, 0, 0)]
+
+This package starts the program and reads what it writes; what is proved is said of the program and not of the package.
+"""
+from .answers import (Bulk, Component, Cover, Descent, Edge, Generator, Grouping, Info, Isomorphism, Made, Played,
+                      Presentation, Relator, Sum, Surface, Term, Verdict, Vertex)
+from .commands import (addup, bulk, check, cover, crush, csame, csig, decompose, descend, describe, group, info, lift,
+                       make, pi1, play, rays, same, sig, surfaces, table, verify)
+from .program import Error, Failed, Refused, TimedOut, find
+from .regina_surfaces import normal_surface, to_regina, vector_of
+from .tables import Gluing, Table, from_regina
+
+__all__ = [
+    "addup", "bulk", "check", "cover", "crush", "csame", "csig", "decompose", "descend", "describe", "group", "info",
+    "lift", "make", "pi1", "play", "rays", "same", "sig", "surfaces", "table", "verify",
+    "Bulk", "Component", "Cover", "Descent", "Edge", "Generator", "Gluing", "Grouping", "Info", "Isomorphism", "Made",
+    "Played", "Presentation", "Relator", "Sum", "Surface", "Table", "Term", "Verdict", "Vertex",
+    "Error", "Failed", "Refused", "TimedOut", "find", "from_regina", "normal_surface", "to_regina", "vector_of",
+]

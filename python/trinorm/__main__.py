@@ -1,0 +1,64 @@
+"""python3 -m trinorm: a census on all processors, a comparison with Regina, and pictures."""
+from __future__ import annotations
+
+import argparse
+import sys
+from typing import Any, List, Optional
+
+from . import census, commands, crosscheck, pictures
+from .program import Error, Failed
+
+
+def draw_graph(given: Any) -> int:
+    table = commands.table(given.signature)
+    print(pictures.face_pairing_svg(table) if given.svg else pictures.face_pairing_dot(table), end="")
+    return 0
+
+
+def draw_growth(given: Any) -> int:
+    try:
+        with open(given.answers, encoding="utf8") as file:
+            picture = pictures.growth_svg(pictures.growth_points(file))
+    except (OSError, ValueError) as fault:
+        raise Failed(f"{given.answers}: {fault}") from None
+    print(picture, end="")
+    return 0
+
+
+def reader_of_words() -> argparse.ArgumentParser:
+    reader = argparse.ArgumentParser(prog="python3 -m trinorm", description=__doc__)
+    kinds = reader.add_subparsers(dest="what", required=True)
+
+    one = kinds.add_parser("census", help="run a command on each signature of a file, and write a JSON line for each",
+                           description="Started again with the same words it goes on where it stopped. Status 1: some runs failed.")
+    census.add_arguments(one)
+    one.set_defaults(main=census.main)
+
+    one = kinds.add_parser("crosscheck", help="list vertex surfaces with Regina too, and print what differs", description="Status 1: something differs.")
+    crosscheck.add_arguments(one)
+    one.set_defaults(main=crosscheck.main)
+
+    one = kinds.add_parser("graph", help="the face-pairing graph of a signature, as DOT or SVG")
+    one.add_argument("signature", metavar="SIGNATURE")
+    one.add_argument("--svg", action="store_true")
+    one.set_defaults(main=draw_graph)
+
+    one = kinds.add_parser("growth", help="an SVG picture of how lists grow, from the answers of a census")
+    one.add_argument("answers", metavar="ANSWERS.jsonl")
+    one.set_defaults(main=draw_growth)
+    return reader
+
+
+def main(words: Optional[List[str]] = None) -> int:
+    given = reader_of_words().parse_args(words)
+    try:
+        return given.main(given)
+    except Error as wrong:
+        print(f"trinorm: {wrong}", file=sys.stderr)
+        return 3
+    except KeyboardInterrupt:
+        return 130
+
+
+if __name__ == "__main__":
+    sys.exit(main())

@@ -1,0 +1,337 @@
+"""What the commands answer, as plain data, and how it is read from the lines that the program writes.
+
+Vectors are tuples of whole numbers, as long as the coordinates have columns: 7 a tetrahedron in standard coordinates
+(triangles at vertices 0 to 3, quads 01/23, 02/13, 03/12), 3 in quad coordinates (the quads), 10 in octagon coordinates
+(triangles, quads, octagons).
+"""
+from __future__ import annotations
+
+from dataclasses import dataclass
+from typing import Any, List, Optional, Sequence, Tuple
+
+from .tables import Table
+
+Vector = Tuple[int, ...]
+
+
+@dataclass(frozen=True)
+class Verdict:
+    """What `verify` says of a vector: `solution`, `length`, `large`, `fails` or `clash`, and its numbers."""
+    kind: str
+    places: Tuple[int, ...]
+
+    @property
+    def is_solution(self) -> bool:
+        return self.kind == "solution"
+
+
+@dataclass(frozen=True)
+class Vertex:
+    """A vertex class: degree, and Euler characteristic, closedness and kind of its link."""
+    degree: int
+    euler: int
+    closed: bool
+    kind: str
+
+
+@dataclass(frozen=True)
+class Edge:
+    """An edge class: degree, `inner` or `boundary`, and whether no chain of gluings reverses it."""
+    degree: int
+    place: str
+    valid: bool
+
+
+@dataclass(frozen=True)
+class Info:
+    """The skeleton of a triangulation. `closed` says that no face is left unglued."""
+    tetrahedra: int
+    connected: bool
+    orientable: bool
+    closed: bool
+    faces: int
+    euler: int
+    vertices: Tuple[Vertex, ...]
+    edges: Tuple[Edge, ...]
+
+
+@dataclass(frozen=True)
+class Component:
+    """A component of a normal surface; `sides` is 1 or 2."""
+    euler: int
+    sides: int
+    orientable: bool
+    vector: Vector
+
+
+@dataclass(frozen=True)
+class Surface:
+    """What `describe` says of a vector. `linking`: triangles alone. `boundary`: it meets a boundary face."""
+    vector: Vector
+    euler: int
+    linking: bool
+    boundary: bool
+    components: Tuple[Component, ...]
+
+
+@dataclass(frozen=True)
+class Isomorphism:
+    """Where tetrahedra and their vertices go: `images[t]` is a tetrahedron and the images of vertices 0 to 3 of t."""
+    images: Tuple[Tuple[int, Tuple[int, ...]], ...]
+
+    def to_regina(self) -> Any:
+        """The `regina.Isomorphism3`."""
+        import regina
+        made = regina.Isomorphism3(len(self.images))
+        for tet, (there, images) in enumerate(self.images):
+            made.setSimpImage(tet, there)
+            made.setFacetPerm(tet, regina.Perm4(*images))
+        return made
+
+
+@dataclass(frozen=True)
+class Grouping:
+    """The isomorphism classes of many triangulations: `classes[k]` of the k-th, `signatures[c]` of class c."""
+    classes: Tuple[int, ...]
+    signatures: Tuple[str, ...]
+
+
+@dataclass(frozen=True)
+class Cover:
+    """The orientable double cover: tetrahedron u of `table` lies over tetrahedron `over[u][0]`, on sheet `over[u][1]`."""
+    table: Table
+    over: Tuple[Tuple[int, int], ...]
+    connected: bool
+
+    def to_regina(self) -> Any:
+        """The cover as a `regina.Triangulation3`."""
+        return self.table.to_regina()
+
+
+@dataclass(frozen=True)
+class Generator:
+    """A generator of a presentation: its face class, and whether its loop reverses orientation."""
+    face: int
+    turns: bool
+
+
+@dataclass(frozen=True)
+class Relator:
+    """A relator: its edge class, and its letters; k is generator k, counted from 1, and -k its inverse."""
+    edge: int
+    letters: Tuple[int, ...]
+
+
+@dataclass(frozen=True)
+class Presentation:
+    """Generators, counted from 1, and relators."""
+    generators: Tuple[Generator, ...]
+    relators: Tuple[Relator, ...]
+
+    def to_regina(self) -> Any:
+        """The `regina.GroupPresentation`, in which generators count from 0."""
+        import regina
+        words = [" ".join(f"g{abs(it) - 1}^{1 if it > 0 else -1}" for it in relator.letters) for relator in self.relators]
+        return regina.GroupPresentation(len(self.generators), [word for word in words if word])
+
+
+@dataclass(frozen=True)
+class Term:
+    """A vertex surface, and how often it is taken."""
+    count: int
+    vector: Vector
+
+
+@dataclass(frozen=True)
+class Sum:
+    """`times` times the vector is the sum of the terms, each taken as often as it says."""
+    vector: Vector
+    times: int
+    terms: Tuple[Term, ...]
+
+    def __str__(self) -> str:
+        lines = [vector_line(self.vector), f"times {self.times} {len(self.terms)}"]
+        lines += [f"term {it.count} " + " ".join(map(str, it.vector)) for it in self.terms]
+        return "".join(line.rstrip() + "\n" for line in lines)
+
+
+@dataclass(frozen=True)
+class Played:
+    """What was answered to each step (`done`, `undone`, `redone`, `nothing`, `illegal ..`), and the last table."""
+    answers: Tuple[str, ...]
+    table: Table
+
+    def to_regina(self) -> Any:
+        """The last table as a `regina.Triangulation3`."""
+        return self.table.to_regina()
+
+
+@dataclass(frozen=True)
+class Descent:
+    """The moves of a descent, the table where it ended, and whether that is the standard 3-sphere."""
+    reached: bool
+    moves: Tuple[str, ...]
+    table: Table
+
+    def to_regina(self) -> Any:
+        """The last table as a `regina.Triangulation3`."""
+        return self.table.to_regina()
+
+
+@dataclass(frozen=True)
+class Made:
+    """A triangulated 3-sphere, and the moves that lead from it to the standard one."""
+    table: Table
+    moves: Tuple[str, ...]
+
+    def to_regina(self) -> Any:
+        """The sphere as a `regina.Triangulation3`."""
+        return self.table.to_regina()
+
+
+@dataclass(frozen=True)
+class Bulk:
+    """What `bulk` counts: moves that were played, tetrahedra, moves of the certificate that was accepted, vertex
+    surfaces, the greatest entry of them, and how many have no quads."""
+    seed: int
+    moves: int
+    tetrahedra: int
+    certificate: int
+    surfaces: int
+    largest: int
+    linking: int
+
+
+# How answers are read. Each reader takes the lines of an answer; what it doesn't understand is a ValueError or an
+# IndexError, and `commands` tells it as a failed run.
+
+def vector_line(vector: Sequence[Any]) -> str:
+    return " ".join(["vec", *map(str, vector)])
+
+
+def numbers(line: str, skip: int = 1) -> Vector:
+    return tuple(int(it) for it in line.split()[skip:])
+
+
+def is_yes(word: str) -> bool:
+    return {"yes": True, "no": False}[word]
+
+
+def read_vectors(lines: List[str]) -> List[Vector]:
+    return [numbers(line) for line in lines if not line.startswith("#")]
+
+
+def read_verdicts(lines: List[str]) -> List[Verdict]:
+    return [Verdict(line.split()[0], numbers(line)) for line in lines]
+
+
+def read_table(lines: List[str]) -> Table:
+    return Table.parse("\n".join(lines))
+
+
+def read_word(lines: List[str]) -> str:
+    [word] = lines
+    return word
+
+
+def read_accepted(lines: List[str]) -> bool:
+    if lines != ["accepted"]:
+        raise ValueError("not accepted")
+    return True
+
+
+def read_info(lines: List[str]) -> Info:
+    head = dict(line.split() for line in lines[:8])
+    rows = [line.split() for line in lines[8:]]
+    vertices = [Vertex(int(it[3]), int(it[5]), is_yes(it[7]), it[9]) for it in rows if it[0] == "vertex"]
+    edges = [Edge(int(it[3]), it[5], is_yes(it[7])) for it in rows if it[0] == "edge"]
+    if (len(vertices), len(edges)) != (int(head["vertices"]), int(head["edges"])):
+        raise ValueError("a class is missing")
+    return Info(int(head["tetrahedra"]), is_yes(head["connected"]), is_yes(head["orientable"]), is_yes(head["closed"]),
+                int(head["faces"]), int(head["euler"]), tuple(vertices), tuple(edges))
+
+
+def read_component(line: str) -> Component:
+    words = line.split()
+    return Component(int(words[2]), {"one": 1, "two": 2}[words[4]], is_yes(words[6]), numbers(line, 8))
+
+
+def read_surfaces(lines: List[str]) -> List[Surface]:
+    found = []
+    at = 0
+    while at < len(lines):
+        words = lines[at + 1].split()
+        last = at + 2 + int(words[7])
+        components = tuple(read_component(line) for line in lines[at + 2:last])
+        found.append(Surface(numbers(lines[at]), int(words[1]), is_yes(words[3]), is_yes(words[5]), components))
+        at = last
+    return found
+
+
+def read_isomorphism(lines: List[str]) -> Optional[Isomorphism]:
+    if lines == ["different"]:
+        return None
+    if lines[0] != "same":
+        raise ValueError(lines[0])
+    rows = [line.split() for line in lines[1:]]
+    return Isomorphism(tuple((int(there), tuple(map(int, images))) for _, there, images in rows))
+
+
+def read_grouping(lines: List[str]) -> Grouping:
+    rows = [line.split() for line in lines]
+    classes = tuple(int(it[3]) for it in rows if it[0] == "table")
+    return Grouping(classes, tuple(it[2] for it in rows if it[0] == "class"))
+
+
+def read_cover(lines: List[str]) -> Cover:
+    table = read_table([line for line in lines if not line.startswith("#")])
+    rows = [line.split() for line in lines if line.startswith("# tet ")]
+    return Cover(table, tuple((int(it[4]), int(it[6])) for it in rows), is_yes(lines[-1].split()[2]))
+
+
+def read_presentation(lines: List[str]) -> Presentation:
+    rows = [line.split() for line in lines]
+    generators = [Generator(int(it[3]), is_yes(it[5])) for it in rows if it[0] == "generator"]
+    relators = [Relator(int(it[1]), tuple(map(int, it[2:]))) for it in rows if it[0] == "relator"]
+    return Presentation(tuple(generators), tuple(relators))
+
+
+def read_term(line: str) -> Term:
+    count, *vector = numbers(line)
+    return Term(count, tuple(vector))
+
+
+def read_sums(lines: List[str]) -> List[Sum]:
+    """The blocks behind the table."""
+    at = 1 + int(lines[0].split()[1])
+    found = []
+    while at < len(lines):
+        times, terms = numbers(lines[at + 1])
+        last = at + 2 + terms
+        found.append(Sum(numbers(lines[at]), times, tuple(read_term(line) for line in lines[at + 2:last])))
+        at = last
+    return found
+
+
+def _at_table(lines: List[str]) -> int:
+    """The place of the line at which a table begins."""
+    return next(at for at, line in enumerate(lines) if line.startswith("tri "))
+
+
+def read_played(lines: List[str]) -> Played:
+    at = _at_table(lines)
+    return Played(tuple(lines[:at]), read_table(lines[at:]))
+
+
+def read_descent(lines: List[str]) -> Descent:
+    at = _at_table(lines)
+    return Descent({"reached": True, "stuck": False}[lines[0].split()[0]], tuple(lines[1:at]), read_table(lines[at:]))
+
+
+def read_made(lines: List[str]) -> Made:
+    last = 1 + int(lines[0].split()[1])
+    return Made(read_table(lines[:last]), tuple(lines[last:]))
+
+
+def read_bulk(lines: List[str]) -> Bulk:
+    return Bulk(*(int(line.split()[-1]) for line in lines))

@@ -1,0 +1,171 @@
+"""A function for each command of the program, with its name.
+
+Where a triangulation is wanted, each takes a signature, the text of a gluing table, a list of rows, a Table or a
+`regina.Triangulation3` (see `tables.document`). A refusal is `Refused`, anything else that goes wrong is `Failed`.
+Each takes two more arguments by name:
+
+timeout: seconds after which the run is ended with `TimedOut`
+program: the program to run, in place of the one that `program.find` finds
+"""
+from __future__ import annotations
+
+from typing import Any, Callable, Iterable, List, Optional, Sequence, TypeVar
+
+from . import answers
+from .answers import (Bulk, Cover, Descent, Grouping, Info, Isomorphism, Made, Played, Presentation, Sum, Surface,
+                      Vector, Verdict, vector_line)
+from .program import Failed, run
+from .regina_surfaces import is_surface, vector_of
+from .tables import Table, document
+
+Answer = TypeVar("Answer")
+Vectors = Iterable[Sequence[int]]
+
+
+def _ask(words: Sequence[str], text: str, read: Callable[[List[str]], Answer],
+         timeout: Optional[float], program: Optional[str]) -> Answer:
+    lines = run(words, text, timeout, program).splitlines()
+    try:
+        return read(lines)
+    except (ValueError, IndexError, KeyError, TypeError, StopIteration) as fault:
+        raise Failed(f"{' '.join(words)}: an answer that isn't understood, {lines[:2]}") from fault
+
+
+def _with_vectors(t: Any, vectors: Iterable[Any], coords: str) -> str:
+    """A document of a triangulation with vectors; a `regina.NormalSurface` is taken for its vector."""
+    lines = (vector_line(vector_of(it, coords) if is_surface(it) else it) + "\n" for it in vectors)
+    return document(t) + "".join(lines)
+
+
+def _limit(max_entry: Optional[int]) -> List[str]:
+    return [] if max_entry is None else ["--max-entry", str(max_entry)]
+
+
+def surfaces(t: Any, coords: str = "standard", order: str = "zeros", max_entry: Optional[int] = None, *,
+             timeout: Optional[float] = None, program: Optional[str] = None) -> List[Vector]:
+    """All vertex normal surfaces, each once, in lexicographic order.
+
+    coords: `standard`, `quad` or `octagon`; a vector has 7, 3 or 10 columns a tetrahedron
+    order: `given`, `short` or `zeros`; the list doesn't depend on it, the time does
+    max_entry: the greatest number that may occur on the way; 2^127 - 1 where it isn't said
+    """
+    words = ["surfaces", "--coords", coords, "--order", order, *_limit(max_entry)]
+    return _ask(words, document(t), answers.read_vectors, timeout, program)
+
+
+def rays(rows: Sequence[Sequence[int]], columns: Optional[int] = None, order: str = "zeros",
+         max_entry: Optional[int] = None, *, timeout: Optional[float] = None, program: Optional[str] = None) -> List[Vector]:
+    """All primitive extreme rays of the cone of nonnegative vectors at which each row is 0, in lexicographic order.
+
+    rows: lists of coefficients, of up to 1,000,000 in magnitude
+    columns: how many columns there are; needed where there are no rows
+    """
+    width = len(rows[0]) if columns is None else columns
+    text = "".join(" ".join(map(str, row)) + "\n" for row in [("cone", width, len(rows)), *rows])
+    return _ask(["rays", "--order", order, *_limit(max_entry)], text, answers.read_vectors, timeout, program)
+
+
+def verify(t: Any, vectors: Vectors, coords: str = "standard", *,
+           timeout: Optional[float] = None, program: Optional[str] = None) -> List[Verdict]:
+    """For each vector whether it is an admissible solution, or what fails first."""
+    return _ask(["verify", "--coords", coords], _with_vectors(t, vectors, coords), answers.read_verdicts, timeout, program)
+
+
+def info(t: Any, *, timeout: Optional[float] = None, program: Optional[str] = None) -> Info:
+    """The skeleton: classes of vertices with their links, of edges with their degrees, orientability, boundary."""
+    return _ask(["info"], document(t), answers.read_info, timeout, program)
+
+
+def sig(t: Any, *, timeout: Optional[float] = None, program: Optional[str] = None) -> str:
+    """The isomorphism signature of a connected triangulation."""
+    return _ask(["sig"], document(t), answers.read_word, timeout, program)
+
+
+def csig(t: Any, *, timeout: Optional[float] = None, program: Optional[str] = None) -> str:
+    """The signatures of the components, ascending, with a full stop between each two."""
+    return _ask(["csig"], document(t), answers.read_word, timeout, program)
+
+
+def same(one: Any, other: Any, *, timeout: Optional[float] = None, program: Optional[str] = None) -> Optional[Isomorphism]:
+    """An isomorphism between two connected triangulations, or None where there is none."""
+    return _ask(["same"], document(one) + document(other), answers.read_isomorphism, timeout, program)
+
+
+def csame(one: Any, other: Any, *, timeout: Optional[float] = None, program: Optional[str] = None) -> Optional[Isomorphism]:
+    """As `same`, of triangulations that needn't be connected."""
+    return _ask(["csame"], document(one) + document(other), answers.read_isomorphism, timeout, program)
+
+
+def group(tables: Iterable[Any], *, timeout: Optional[float] = None, program: Optional[str] = None) -> Grouping:
+    """The isomorphism classes of connected triangulations, numbered as they are first met."""
+    return _ask(["group"], "".join(map(document, tables)), answers.read_grouping, timeout, program)
+
+
+def cover(t: Any, *, timeout: Optional[float] = None, program: Optional[str] = None) -> Cover:
+    """The orientable double cover."""
+    return _ask(["cover"], document(t), answers.read_cover, timeout, program)
+
+
+def pi1(t: Any, *, timeout: Optional[float] = None, program: Optional[str] = None) -> Presentation:
+    """Generators and relators, read from faces and edges."""
+    return _ask(["pi1"], document(t), answers.read_presentation, timeout, program)
+
+
+def describe(t: Any, vectors: Vectors, coords: str = "standard", *,
+             timeout: Optional[float] = None, program: Optional[str] = None) -> List[Surface]:
+    """For each vector, in standard or octagon coordinates, its Euler characteristic and its components."""
+    return _ask(["describe", "--coords", coords], _with_vectors(t, vectors, coords), answers.read_surfaces, timeout, program)
+
+
+def lift(t: Any, vectors: Vectors, *, timeout: Optional[float] = None, program: Optional[str] = None) -> List[Vector]:
+    """The standard vector of each quad vector; where one has none, `Refused` names it and a vertex class."""
+    return _ask(["lift"], _with_vectors(t, vectors, "quad"), answers.read_vectors, timeout, program)
+
+
+def crush(t: Any, vector: Sequence[int], *, timeout: Optional[float] = None, program: Optional[str] = None) -> Table:
+    """The triangulation crushed along a normal surface in standard coordinates."""
+    return _ask(["crush"], _with_vectors(t, [vector], "standard"), answers.read_table, timeout, program)
+
+
+def decompose(t: Any, vectors: Vectors, coords: str = "standard", max_entry: Optional[int] = None, *,
+              timeout: Optional[float] = None, program: Optional[str] = None) -> List[Sum]:
+    """Each vector as a sum of vertex surfaces."""
+    words = ["decompose", "--coords", coords, *_limit(max_entry)]
+    return _ask(words, _with_vectors(t, vectors, coords), answers.read_sums, timeout, program)
+
+
+def addup(t: Any, sums: Iterable[Sum], coords: str = "standard", *,
+          timeout: Optional[float] = None, program: Optional[str] = None) -> bool:
+    """True where all vectors and terms are admissible solutions and the terms add up; else `Refused` says what fails."""
+    text = document(t) + "".join(map(str, sums))
+    return _ask(["addup", "--coords", coords], text, answers.read_accepted, timeout, program)
+
+
+def play(t: Any, steps: Iterable[str] = (), *, timeout: Optional[float] = None, program: Optional[str] = None) -> Played:
+    """The triangulation after bistellar moves, as `14 0`, `23 1 0`, `32 0 01`, `41 2 3`, `undo` and `redo`."""
+    return _ask(["play"], document(t) + "".join(f"{it}\n" for it in steps), answers.read_played, timeout, program)
+
+
+def check(t: Any, moves: Iterable[str], *, timeout: Optional[float] = None, program: Optional[str] = None) -> bool:
+    """True where the moves are legal and lead to the standard 3-sphere; else `Refused` says what fails."""
+    return _ask(["check"], document(t) + "".join(f"{it}\n" for it in moves), answers.read_accepted, timeout, program)
+
+
+def descend(t: Any, *, timeout: Optional[float] = None, program: Optional[str] = None) -> Descent:
+    """Moves that make the triangulation smaller, and whether they reach the standard 3-sphere."""
+    return _ask(["descend"], document(t), answers.read_descent, timeout, program)
+
+
+def make(seed: int, moves: int, *, timeout: Optional[float] = None, program: Optional[str] = None) -> Made:
+    """A triangulated 3-sphere drawn from a seed, with moves that certify it."""
+    return _ask(["make", "--seed", str(seed), "--moves", str(moves)], "", answers.read_made, timeout, program)
+
+
+def bulk(seed: int, moves: int, *, timeout: Optional[float] = None, program: Optional[str] = None) -> Bulk:
+    """A 3-sphere as of `make`, with its certificate checked and its vertex surfaces counted."""
+    return _ask(["bulk", "--seed", str(seed), "--moves", str(moves)], "", answers.read_bulk, timeout, program)
+
+
+def table(t: Any, *, timeout: Optional[float] = None, program: Optional[str] = None) -> Table:
+    """A triangulation in any form as a Table: what `play` answers without steps."""
+    return play(t, timeout=timeout, program=program).table

@@ -1,0 +1,122 @@
+"""Finds the program and runs it. What it refuses and what failed are exceptions."""
+from __future__ import annotations
+
+import os
+import shutil
+import subprocess
+import threading
+from pathlib import Path
+from typing import Optional, Sequence, Tuple, Union
+
+REPOSITORY = Path(__file__).resolve().parents[2]
+# statuses of a refusal: words, input, checks, a number past the limit
+REFUSED = (2, 3, 4, 5)
+FAILURES = {6: "reading failed", 7: "writing failed", 8: "no memory", 9: "the program could not be built"}
+
+Place = Union[int, str, Tuple[int, ...]]
+
+
+class Error(Exception):
+    """What this package raises: `Refused` or `Failed`."""
+
+
+class Refused(Error):
+    """The program's own refusal.
+
+    status: 2 words, 3 input, 4 checks, 5 a number past the limit
+    line: the line that the program wrote
+    kind: its words without the places, as `input bad-word`, `vector clash`, `large pair`
+    places: its numbers in their order; behind `large` the step, the row and the rays; behind `check not-standard`
+        the signature
+    """
+
+    def __init__(self, status: int, line: str) -> None:
+        super().__init__(line)
+        self.status = status
+        self.line = line
+        self.kind, self.places = kind_and_places(line)
+
+    def __reduce__(self):  # an exception with two arguments is not pickled by itself
+        return Refused, (self.status, self.line)
+
+
+class Failed(Error):
+    """The program isn't there, didn't end by itself, or answered what it never answers."""
+
+
+class TimedOut(Failed):
+    """The run was ended, since it took longer than it may."""
+
+
+def kind_and_places(line: str) -> Tuple[str, Tuple[Place, ...]]:
+    """A refusal's words and its numbers."""
+    text = line.partition("refused: ")[2]
+    words = text.split()
+    if words[:2] == ["large", "step"]:
+        rays = text.split(" value " if "value" in words else " pair ")[1].split(" and ")
+        vectors = [tuple(int(it) for it in ray.split()) for ray in rays]
+        return ("large value" if "value" in words else "large pair"), (int(words[2]), int(words[4]), *vectors)
+    if words[:2] == ["check", "not-standard"]:
+        return "check not-standard", tuple(words[2:])
+    return " ".join(it for it in words if not it.isdigit()), tuple(int(it) for it in words if it.isdigit())
+
+
+_build = threading.Lock()
+_is_built = False
+
+
+def _built_in_repository() -> str:
+    """The repository's program; where it isn't built, or a source is newer, it is built first, once a process."""
+    global _is_built
+    program = REPOSITORY / "crates" / "trinorm" / "out" / "trinorm"
+    with _build:
+        if not _is_built:
+            done = subprocess.run([str(REPOSITORY / "trinorm"), "csig"], input=b"tri 0\n", stdout=subprocess.DEVNULL, check=False)
+            if done.returncode != 0:
+                raise Failed(f"{REPOSITORY / 'trinorm'}: {FAILURES.get(done.returncode, f'status {done.returncode}')}")
+            _is_built = True
+    return str(program)
+
+
+def find(program: Optional[str] = None) -> str:
+    """The path of the program: the one named, else by TRINORM in the environment, else the one of the repository that
+    this package lies in (which is built on first use), else the first on the path."""
+    named = program or os.environ.get("TRINORM")
+    if named:
+        path = shutil.which(os.path.expanduser(named))
+        if path is None:
+            raise Failed(f"no program at {named}")
+        return path
+    if (REPOSITORY / "trinorm").is_file() and (REPOSITORY / "crates" / "trinorm").is_dir():
+        return _built_in_repository()
+    path = shutil.which("trinorm")
+    if path is None:
+        raise Failed("the program trinorm is neither named by TRINORM, nor beside this package, nor on the path")
+    return path
+
+
+def run(words: Sequence[str], text: str = "", timeout: Optional[float] = None, program: Optional[str] = None) -> str:
+    """What the program writes to standard output for these words and this standard input.
+
+    timeout: seconds after which the run is ended and `TimedOut` is raised
+    """
+    path = find(program)
+    try:
+        done = subprocess.run([path, *words], input=text.encode("utf8", "surrogateescape"), stdout=subprocess.PIPE,
+                              stderr=subprocess.PIPE, timeout=timeout, check=False)
+    except subprocess.TimeoutExpired:
+        raise TimedOut(f"{' '.join(words)}: no answer in {timeout} s") from None
+    except OSError as fault:
+        raise Failed(f"{path}: {fault.strerror}") from None
+    answer = done.stdout.decode("ascii", "replace")
+    if done.returncode == 0:
+        return answer
+    if done.returncode in REFUSED and answer.startswith("refused: "):
+        raise Refused(done.returncode, answer.rstrip("\n"))
+    raise Failed(f"{' '.join(words)}: {_how_it_ended(done.returncode)}")
+
+
+def _how_it_ended(status: int) -> str:
+    if status < 0:
+        return f"killed by signal {-status}"
+    return FAILURES.get(status, f"status {status}")

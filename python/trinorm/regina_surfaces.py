@@ -1,0 +1,55 @@
+"""Normal surfaces of Regina's and vectors of trinorm's. Regina is imported only where a value of its own is made."""
+from __future__ import annotations
+
+from typing import Any, List, Sequence
+
+from .answers import Vector
+from .tables import Table, is_of_regina
+
+# Regina's names of the coordinates, for vertex surfaces and for vectors
+COORDS = {"standard": "NS_STANDARD", "quad": "NS_QUAD", "octagon": "NS_AN_STANDARD"}
+
+
+def is_surface(value: Any) -> bool:
+    """Whether a value is a `regina.NormalSurface`."""
+    return hasattr(value, "triangles") and hasattr(value, "quads")
+
+
+def vector_of(surface: Any, coords: str = "standard") -> Vector:
+    """The vector of a `regina.NormalSurface` in these coordinates.
+
+    surface: in quad coordinates it may be spun-normal; else it has finitely many triangles
+    """
+    entries: List[Any] = []
+    for tet in range(surface.triangulation().size()):
+        if coords != "quad":
+            entries += [surface.triangles(tet, vertex) for vertex in range(4)]
+        entries += [surface.quads(tet, kind) for kind in range(3)]
+        if coords == "octagon":
+            entries += [surface.octs(tet, kind) for kind in range(3)]
+    return tuple(int(str(it)) for it in entries)
+
+
+def normal_surface(t: Any, vector: Sequence[int], coords: str = "standard") -> Any:
+    """The `regina.NormalSurface` of a vector.
+
+    t: a `regina.Triangulation3`, or a triangulation in any other form, which is made one first
+    """
+    import regina
+    return regina.NormalSurface(to_regina(t), getattr(regina, COORDS[coords]), list(vector))
+
+
+def to_regina(t: Any) -> Any:
+    """A triangulation in any form as a `regina.Triangulation3`, with its numbers of tetrahedra, faces and vertices."""
+    if is_of_regina(t):
+        return t
+    if isinstance(t, Table):
+        return t.to_regina()
+    from .commands import table
+    return table(t).to_regina()
+
+
+def vertex_surfaces(t: Any, coords: str = "standard") -> List[Vector]:
+    """The vectors that Regina lists for `surfaces`, in lexicographic order."""
+    import regina
+    return sorted(vector_of(it, coords) for it in regina.NormalSurfaces(to_regina(t), getattr(regina, COORDS[coords])))
