@@ -3,16 +3,22 @@
 
     bench/examples.py [PAGE..]
 
-An example is a line `$ COMMAND` in an indented block, with what it writes to standard output below it; a command of the
-README's table of commands has to end with status 0. Stops at the first that differs; the last line says how many ran.
+An example is a line `$ COMMAND` in an indented block, with what it writes to standard output below it, or a Python session
+(`>>> `) in one; the sessions of a page go on from each other. A command of the README's table of commands has to end with
+status 0. Python is the one that runs this script; what needs Regina is left out where it has no module regina. Stops at the
+first that differs; the last line says how many ran.
 """
+import doctest
 import glob
+import importlib.util
 import os
 import re
 import subprocess
 import sys
 
 TOP = os.path.dirname(os.path.dirname(os.path.realpath(__file__)))
+PYTHON = os.path.join(TOP, "python")
+HAS_REGINA = importlib.util.find_spec("regina") is not None
 
 
 def blocks(text):
@@ -41,20 +47,54 @@ def examples(text):
         yield command, None
 
 
+def needs_regina(example):
+    return "regina" in example or "crosscheck" in example
+
+
+def is_right(command, answer, around):
+    """Runs a command; where it differs, says so."""
+    run = subprocess.run(["bash", "-c", command], cwd=TOP, env=around, stdin=subprocess.DEVNULL, stdout=subprocess.PIPE, text=True, timeout=600, check=False)
+    said = run.stdout.rstrip("\n").split("\n") if run.stdout else []
+    if (run.returncode != 0) if answer is None else (said != answer):
+        print(f"{command}\n  expected {answer}\n  got      {said} status {run.returncode}")
+        return False
+    return True
+
+
+def is_right_session(session, names, page):
+    """Runs a Python session after those whose names it goes on with; where it differs, doctest says so."""
+    test = doctest.DocTestParser().get_doctest(session, names, page, page, 0)
+    failed = doctest.DocTestRunner(verbose=False).run(test, clear_globs=False).failed
+    names.update(test.globs)
+    return failed == 0
+
+
+def runs(page, around):
+    """Whether each example of a page is right, or None where it is left out."""
+    with open(page, encoding="utf8") as file:
+        text = file.read()
+    for command, answer in examples(text):
+        yield None if needs_regina(command) and not HAS_REGINA else is_right(command, answer, around)
+    names = {}
+    for block in blocks(text):
+        if block[0].startswith(">>> "):
+            session = "\n".join(block) + "\n"
+            yield None if needs_regina(session) and not HAS_REGINA else is_right_session(session, names, os.path.relpath(page, TOP))
+
+
 def main(pages):
     pages = pages or [os.path.join(TOP, "README.md"), *sorted(glob.glob(os.path.join(TOP, "docs", "*.md")))]
-    ran = 0
+    os.chdir(TOP)
+    sys.path.insert(0, PYTHON)
+    around = dict(os.environ, PYTHONPATH=PYTHON, PATH=os.path.dirname(sys.executable) + os.pathsep + os.environ["PATH"])
+    counts = {True: 0, False: 0, None: 0}
     for page in pages:
-        with open(page, encoding="utf8") as file:
-            text = file.read()
-        for command, answer in examples(text):
-            run = subprocess.run(["bash", "-c", command], cwd=TOP, stdin=subprocess.DEVNULL, stdout=subprocess.PIPE, text=True, timeout=600, check=False)
-            said = run.stdout.rstrip("\n").split("\n") if run.stdout else []
-            if (run.returncode != 0) if answer is None else (said != answer):
-                print(f"{os.path.relpath(page, TOP)}: {command}\n  expected {answer}\n  got      {said} status {run.returncode}")
+        for right in runs(page, around):
+            counts[right] += 1
+            if right is False:
+                print(f"in {os.path.relpath(page, TOP)}")
                 return 1
-            ran += 1
-    print(f"{ran} examples ran, each as it stands in the page")
+    print(f"{counts[True]} examples ran, each as it stands in the page; {counts[None]} that need Regina were left out")
     return 0
 
 

@@ -17,7 +17,7 @@ import subprocess
 import sys
 import tempfile
 
-from verify import HERE
+from common import find
 
 LIBRARY = r"""
 #define _GNU_SOURCE
@@ -160,10 +160,10 @@ def failing_calls(run, kind, ordinary, is_right):
 def main():
     parser = argparse.ArgumentParser()
     parser.add_argument("--command")
-    parser.add_argument("--program", default=os.path.join(HERE, "..", "crates", "trinorm", "out", "trinorm"))
+    parser.add_argument("--program")
     given = parser.parse_args()
     with tempfile.TemporaryDirectory() as folder:
-        runner = Runner(given.program, folder)
+        runner = Runner(find(given.program), folder)
         for words, text in ROWS:
             if given.command not in (None, words[0]):
                 continue

@@ -19,7 +19,8 @@ import resource
 import subprocess
 import time
 
-HERE = os.path.dirname(os.path.realpath(__file__))
+from common import HERE, find
+
 SECONDS = 30
 BYTES = 2 << 30
 
@@ -283,15 +284,16 @@ def main():
     reader.add_argument("--inputs", type=int, default=100000)
     reader.add_argument("--seed", type=int, default=1)
     reader.add_argument("--processes", type=int, help="at most so many at a time; one for each processor where it is left out")
-    reader.add_argument("--program", default=os.path.join(HERE, "..", "crates", "trinorm", "out", "trinorm"))
+    reader.add_argument("--program")
     given = reader.parse_args()
+    program = find(given.program)
     with open(os.path.join(HERE, "hostile_inputs.json"), encoding="utf8") as file:
         inputs = json.load(file)
     begun = time.time()
     shares = [range(it, min(it + 500, given.inputs)) for it in range(0, given.inputs, 500)]
     statuses = collections.Counter()
     with multiprocessing.Pool(given.processes) as pool:
-        for counted, wrong in pool.imap(work, [(given.program, inputs, given.seed, it) for it in shares]):
+        for counted, wrong in pool.imap(work, [(program, inputs, given.seed, it) for it in shares]):
             statuses += counted
             if wrong:
                 print(wrong)

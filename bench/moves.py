@@ -3,13 +3,7 @@
 
 Usage: bench/moves.py [PROGRAM]
 """
-import os
-import subprocess
-import sys
-import time
-
-from surfaces import layered_loop
-from verify import HERE
+from common import layered_loop, named_program, run
 
 
 def there_and_back(tetrahedra, steps):
@@ -28,15 +22,12 @@ def refused(tetrahedra, steps):
 
 
 def main():
-    program = sys.argv[1] if len(sys.argv) > 1 else os.path.join(HERE, "..", "trinorm")
-    subprocess.run([program], stdin=subprocess.DEVNULL, stdout=subprocess.DEVNULL)
+    program = named_program()
     for tetrahedra in (10, 100, 990):
         for script in (there_and_back, and_undone, refused):
-            text = layered_loop(tetrahedra) + script(tetrahedra, 1000)
-            begun = time.time()
-            done = subprocess.run([program, "play"], input=text.encode(), stdout=subprocess.PIPE)
-            accepted = done.stdout.count(b"done\n")
-            print(f"{script.__doc__} 1000 steps on {tetrahedra} tetrahedra: {accepted} done, status {done.returncode}, {time.time() - begun:.2f} s")
+            done = run([program, "play"], layered_loop(tetrahedra) + script(tetrahedra, 1000))
+            accepted = done.answer.count("done\n")
+            print(f"{script.__doc__} 1000 steps on {tetrahedra} tetrahedra: {accepted} done, status {done.status}, {done.seconds:.2f} s")
 
 
 if __name__ == "__main__":

@@ -6,13 +6,11 @@ Usage: bench/rays.py [PROGRAM]
 """
 import os
 import shutil
-import subprocess
-import sys
 import tempfile
 
-from surfaces import layered_loop_gluings, processor_seconds
+import common
+from common import ENDED, layered_loop_gluings, named_program
 from tables import CLOSED, gluings_of
-from verify import HERE
 
 LIMIT = 120
 
@@ -69,14 +67,10 @@ def quad_cone(gluings):
     return 3 * len(gluings), rows
 
 
-def run(command, text=None, folder=None):
-    begun = processor_seconds()
-    try:
-        done = subprocess.run(command, input=text and text.encode(), stdout=subprocess.PIPE, stderr=subprocess.DEVNULL,
-                              cwd=folder, timeout=LIMIT)
-        return processor_seconds() - begun, done.stdout.decode(errors="replace")
-    except subprocess.TimeoutExpired:
-        return None, ""
+def run(command, text="", folder=None):
+    """The seconds of a command, None where it took too long, and its answer."""
+    done = common.run(command, text, LIMIT, folder)
+    return None if done.status == ENDED else done.seconds, done.answer
 
 
 def lines_of(rows):
@@ -84,16 +78,16 @@ def lines_of(rows):
 
 
 def by_4ti2(program, columns, rows, folder):
-    with open(os.path.join(folder, "cone.mat"), "w") as out:
+    with open(os.path.join(folder, "cone.mat"), "w", encoding="utf8") as out:
         out.write(f"{len(rows)} {columns}\n" + lines_of(rows))
-    with open(os.path.join(folder, "cone.sign"), "w") as out:
+    with open(os.path.join(folder, "cone.sign"), "w", encoding="utf8") as out:
         out.write(f"1 {columns}\n" + " ".join(["1"] * columns) + "\n")
-    with open(os.path.join(folder, "cone.rel"), "w") as out:
+    with open(os.path.join(folder, "cone.rel"), "w", encoding="utf8") as out:
         out.write(f"1 {len(rows)}\n" + " ".join(["="] * len(rows)) + "\n")
     seconds, _ = run([program, "-q", "cone"], folder=folder)
     if seconds is None:
         return None, 0
-    with open(os.path.join(folder, "cone.ray")) as given:
+    with open(os.path.join(folder, "cone.ray"), encoding="utf8") as given:
         return seconds, int(given.readline().split()[0])
 
 
@@ -107,7 +101,7 @@ def half_spaces(columns, rows):
 
 
 def by_lrs(program, columns, rows, folder):
-    with open(os.path.join(folder, "cone.ine"), "w") as out:
+    with open(os.path.join(folder, "cone.ine"), "w", encoding="utf8") as out:
         out.write(half_spaces(columns, rows))
     seconds, text = run([program, "cone.ine"], folder=folder)
     return seconds, sum(line.startswith(" 0 ") for line in text.splitlines())
@@ -119,12 +113,12 @@ def by_cdd(program, columns, rows, folder):
 
 
 def by_normaliz(program, columns, rows, folder):
-    with open(os.path.join(folder, "cone.in"), "w") as out:
+    with open(os.path.join(folder, "cone.in"), "w", encoding="utf8") as out:
         out.write(f"amb_space {columns}\nequations {len(rows)}\n{lines_of(rows)}nonnegative\nSupportHyperplanes\n")
     seconds, _ = run([program, "-x=1", "cone.in"], folder=folder)
     if seconds is None:
         return None, 0
-    with open(os.path.join(folder, "cone.out")) as given:
+    with open(os.path.join(folder, "cone.out"), encoding="utf8") as given:
         counts = [line.split()[0] for line in given if "extreme rays" in line and line.split()[0].isdigit()]
     return seconds, int(counts[0])
 
@@ -164,8 +158,7 @@ def measure(program, name, columns, rows):
 
 
 def main():
-    program = sys.argv[1] if len(sys.argv) > 1 else os.path.join(HERE, "..", "trinorm")
-    subprocess.run([program], stdin=subprocess.DEVNULL, stdout=subprocess.DEVNULL)
+    program = named_program()
     for tetrahedra in (8, 9, 10):
         measure(program, f"quad cone of a layered loop of {tetrahedra}", *quad_cone(layered_loop_gluings(tetrahedra)))
         measure(program, f"quad cone of a closed table of {tetrahedra}", *quad_cone(gluings_of(CLOSED[tetrahedra])))

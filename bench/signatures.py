@@ -4,13 +4,7 @@ every face glued), on chains and on tables grown by 2-3 moves that are drawn fro
 
 Usage: bench/signatures.py [PROGRAM]
 """
-import os
-import random
-import subprocess
-import sys
-
-from surfaces import layered_loop, processor_seconds, regina_takes
-from verify import HERE, chain
+from common import chain, grown, layered_loop, named_program, regina_takes, run
 
 # What Regina's interpreter is told: seconds of its signature, without its start.
 REGINA = """
@@ -22,37 +16,24 @@ print(time.process_time() - begun)
 """
 
 
-def grown(program, steps):
-    """A closed table and how many tetrahedra it has, after so many 2-3 moves at drawn faces, of which some are refused."""
-    draw = random.Random(steps)
-    script = "".join(f"23 {draw.randrange(5 + k // 2)} {draw.randrange(4)}\n" for k in range(steps))
-    done = subprocess.run([program, "play"], input=(layered_loop(5) + script).encode(), stdout=subprocess.PIPE)
-    text = done.stdout.decode()
-    table = text[text.index("tri "):]
-    return table, table.split()[1]
-
-
 def measure(program, command, name, text):
-    begun = processor_seconds()
-    done = subprocess.run([program, command], input=text.encode(), stdout=subprocess.PIPE)
-    seconds = processor_seconds() - begun
-    line = f"{command}, {name}: {len(done.stdout)} bytes, status {done.returncode}, {seconds:.3f} s"
-    peer = command == "sig" and regina_takes(REGINA % done.stdout.decode().split()[-1])
+    done = run([program, command], text)
+    line = f"{command}, {name}: {len(done.answer)} bytes, status {done.status}, {done.seconds:.3f} s"
+    peer = command == "sig" and regina_takes(REGINA % done.answer.split()[-1])
     if peer:
-        line += f"; Regina {peer:.3f} s, ratio {seconds / peer:.2f}"
+        line += f"; Regina {peer:.3f} s, ratio {done.seconds / peer:.2f}"
     print(line, flush=True)
 
 
 def main():
-    program = sys.argv[1] if len(sys.argv) > 1 else os.path.join(HERE, "..", "trinorm")
-    subprocess.run([program], stdin=subprocess.DEVNULL, stdout=subprocess.DEVNULL)
+    program = named_program()
     for tetrahedra in (10, 40, 100, 300, 1000):
         measure(program, "sig", f"layered loop of {tetrahedra}", layered_loop(tetrahedra))
         measure(program, "sig", f"chain of {tetrahedra}", chain(tetrahedra))
         measure(program, "same", f"layered loop of {tetrahedra} and itself", layered_loop(tetrahedra) * 2)
     for steps in (60, 200, 600, 1500):
-        table, tetrahedra = grown(program, steps)
-        measure(program, "sig", f"grown table of {tetrahedra}", table)
+        table = grown(program, steps)
+        measure(program, "sig", f"grown table of {table.split()[1]}", table)
     measure(program, "group", "layered loops of 3 to 60", "".join(layered_loop(n) for n in range(3, 61)))
 
 

@@ -173,10 +173,10 @@ def census(given: str, out: str, task: Task, jobs: int, retry: bool = False) -> 
     """Runs what of a file of signatures is missing in the output. Returns how many were run now, and how many failed."""
     with open(given, encoding="utf8") as file:
         wanted = list(entries(file))
-    done = started_again(out, task, retry)
+    done = set() if out == "-" else started_again(out, task, retry)
     todo = [it for it in wanted if it not in done]
     progress = Progress(len(todo), sys.stderr)
-    with open(out, "a", encoding="utf8") as file:
+    with sys.stdout if out == "-" else open(out, "a", encoding="utf8") as file:
         for line in answered(todo, task, jobs):
             file.write(json.dumps(line) + "\n")
             file.flush()
@@ -191,7 +191,7 @@ def add_arguments(reader: Any) -> None:
     reader.add_argument("--coords", choices=("standard", "quad", "octagon"), help="for surfaces and describe")
     reader.add_argument("--jobs", type=int, default=len(os.sched_getaffinity(0)), help="runs at a time (default: as many as processors)")
     reader.add_argument("--timeout", type=float, help="seconds after which a run is ended")
-    reader.add_argument("--out", help="the file of answers (default: SIGNATURES.COMMAND.jsonl)")
+    reader.add_argument("--out", help="the file of answers, or - (default: SIGNATURES.COMMAND.jsonl)")
     reader.add_argument("--retry-failed", action="store_true", help="run those again whose run failed")
 
 

@@ -1,0 +1,137 @@
+"""What the scripts of this folder share: the program, runs with their seconds and megabytes, and families of tables.
+
+Seconds are those of the processor, with the program's start and without the launcher's.
+"""
+import itertools
+import os
+import random
+import shutil
+import subprocess
+import sys
+import tempfile
+import threading
+from typing import NamedTuple
+
+HERE = os.path.dirname(os.path.realpath(__file__))
+TOP = os.path.dirname(HERE)
+sys.path.insert(0, os.path.join(TOP, "python"))
+
+from trinorm import find  # noqa: E402  (the package stands beside this folder)
+
+MOST_BYTES = 1048576
+# the status of a run that was ended, since it took too long
+ENDED = -9
+
+
+class Run(NamedTuple):
+    """A run that has ended."""
+    status: int
+    answer: str
+    seconds: float
+    megabytes: float
+
+
+def named_program():
+    """The program that the first word of the command line names, else the repository's, which is built where it isn't."""
+    return find(sys.argv[1] if len(sys.argv) > 1 else None)
+
+
+def run(command, text="", limit=None, folder=None):
+    """Runs a command on a text, at most for so many seconds of the clock."""
+    with tempfile.TemporaryFile() as given, tempfile.TemporaryFile() as answer:
+        given.write(text.encode())
+        given.seek(0)
+        child = subprocess.Popen(command, stdin=given, stdout=answer, stderr=subprocess.DEVNULL, cwd=folder)
+        timer = threading.Timer(limit or 0, child.kill)
+        if limit:
+            timer.start()
+        _, status, used = os.wait4(child.pid, 0)
+        timer.cancel()
+        child.returncode = os.waitstatus_to_exitcode(status)
+        answer.seek(0)
+        return Run(child.returncode, answer.read().decode(errors="replace"), used.ru_utime + used.ru_stime, used.ru_maxrss / 1024)
+
+
+def regina_takes(text):
+    """The seconds that a script of Regina's prints last, or None where Regina isn't installed."""
+    python = shutil.which("regina-python")
+    if python is None:
+        return None
+    with tempfile.NamedTemporaryFile("w", suffix=".py", encoding="utf8") as script:
+        script.write(text)
+        script.flush()
+        return float(run([python, script.name]).answer.split()[-1])
+
+
+def table_text(rows):
+    """A table of rows of entries, as `1:0132` or `-`."""
+    return f"tri {len(rows)}\n" + "".join(" ".join(row) + "\n" for row in rows)
+
+
+def vector_line(entries):
+    return "vec" + "".join(f" {entry}" for entry in entries) + "\n"
+
+
+def inverse(word):
+    """The inverse of a permutation of 0 to 3."""
+    return tuple(word.index(v) for v in range(4))
+
+
+def entry(tet, word):
+    return f"{tet}:" + "".join(map(str, word))
+
+
+def layered_loop_gluings(tetrahedra):
+    """A closed orientable table whose vertex links are spheres: each tetrahedron is glued to the next along two faces."""
+    gluings = [[None] * 4 for _ in range(tetrahedra)]
+    for t in range(tetrahedra):
+        u = (t + 1) % tetrahedra
+        for face, word in ((0, (1, 0, 2, 3)), (3, (0, 1, 3, 2))):
+            gluings[t][face] = (u, word)
+            gluings[u][word[face]] = (t, inverse(word))
+    return gluings
+
+
+def layered_loop(tetrahedra):
+    """The rows of a layered loop."""
+    return table_text([[entry(*it) for it in row] for row in layered_loop_gluings(tetrahedra)])
+
+
+def chain(tetrahedra):
+    """A chain of tetrahedra, each glued to the next along one face by the identity."""
+    rows = [["-"] * 4 for _ in range(tetrahedra)]
+    for t in range(tetrahedra - 1):
+        rows[t][t % 2] = f"{t + 1}:0123"
+        rows[t + 1][t % 2] = f"{t}:0123"
+    return table_text(rows)
+
+
+def loose(tetrahedra):
+    """Tetrahedra of which none is glued."""
+    return table_text([["-"] * 4] * tetrahedra)
+
+
+def tree(tetrahedra, seed):
+    """A table of tetrahedra of which each but the first is glued to an earlier one, at a face drawn from a seed."""
+    draw = random.Random(seed)
+    words = list(itertools.permutations(range(4)))
+    rows = [["-"] * 4 for _ in range(tetrahedra)]
+    for new in range(1, tetrahedra):
+        tet, face = draw.choice([(t, f) for t in range(new) for f in range(4) if rows[t][f] == "-"])
+        word = draw.choice(words)
+        rows[tet][face] = entry(new, word)
+        rows[new][word[face]] = entry(tet, inverse(word))
+    return table_text(rows)
+
+
+def parted(program, moves):
+    """The sphere of one tetrahedron after so many moves 1-4 at tetrahedron 0."""
+    return run([program, "play"], "sig bkaagj\n" + "14 0\n" * moves).answer.split("done\n")[-1]
+
+
+def grown(program, steps):
+    """A closed table after so many 2-3 moves at drawn faces, of which some are refused."""
+    draw = random.Random(steps)
+    script = "".join(f"23 {draw.randrange(5 + k // 2)} {draw.randrange(4)}\n" for k in range(steps))
+    answer = run([program, "play"], layered_loop(5) + script).answer
+    return answer[answer.index("tri "):]
