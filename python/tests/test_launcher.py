@@ -37,7 +37,9 @@ class Launcher(unittest.TestCase):
             else:
                 done = subprocess.run([program, *words], input=text, stdout=subprocess.PIPE, stderr=theirs, timeout=60, check=False)
             os.write(theirs, b".\n")
-            said = os.read(ours, 10000).decode()
+            said = ""
+            while not said.replace("\r\n", "\n").endswith(".\n"):
+                said += os.read(ours, 10000).decode()
         finally:
             os.close(ours)
             os.close(theirs)

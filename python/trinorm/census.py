@@ -5,13 +5,14 @@ A line of the output has `name`, `signature`, `command`, `seconds`, and one of `
 """
 from __future__ import annotations
 
+import contextlib
 import dataclasses
 import json
 import os
 import sys
 import time
 from concurrent.futures import FIRST_COMPLETED, Future, ThreadPoolExecutor, wait
-from typing import Any, Callable, Dict, Iterable, Iterator, List, NamedTuple, Optional, Set, TextIO, Tuple
+from typing import Any, Callable, ContextManager, Dict, Iterable, Iterator, NamedTuple, Optional, Set, TextIO, Tuple
 
 from . import commands
 from .program import Error, Failed, Refused, find
@@ -97,31 +98,35 @@ def entries(lines: Iterable[str]) -> Iterator[Entry]:
                 yield entry
 
 
-def kept_lines(path: str, task: Task, retry: bool) -> List[str]:
+def kept_lines(lines: Iterable[str], task: Task, retry: bool) -> Iterator[str]:
     """The lines of an earlier run that stay: whole ones, and those of failed runs only where these aren't tried again."""
-    if not os.path.exists(path):
-        return []
-    kept = []
-    with open(path, encoding="utf8") as file:
-        for line in file:
-            if not line.endswith("\n"):
-                break
-            told = json.loads(line)
-            if told["command"] != task.words:
-                raise ValueError(f"{path} has answers of `{told['command']}`, and `{task.words}` is asked for")
-            if not (retry and "failed" in told):
-                kept.append(line)
-    return kept
+    for line in lines:
+        if not line.endswith("\n"):
+            return
+        told = json.loads(line)
+        if told.get("command") != task.words:
+            raise ValueError(f"there are answers of `{told.get('command')}` in the output, and `{task.words}` is asked for")
+        if not (retry and "failed" in told):
+            yield line
 
 
 def started_again(path: str, task: Task, retry: bool) -> Set[Entry]:
     """Leaves in the output what stays of an earlier run, and says which triangulations are done."""
-    kept = kept_lines(path, task, retry)
-    with open(f"{path}.new", "w", encoding="utf8") as file:
-        file.writelines(kept)
+    done: Set[Entry] = set()
+    if not os.path.exists(path):
+        return done
+    with open(path, encoding="utf8") as old, open(f"{path}.new", "w", encoding="utf8") as new:
+        for line in kept_lines(old, task, retry):
+            told = json.loads(line)
+            done.add(Entry(told["signature"], told["name"]))
+            new.write(line)
     os.replace(f"{path}.new", path)
-    told = (json.loads(line) for line in kept)
-    return {Entry(it["signature"], it["name"]) for it in told}
+    return done
+
+
+def opened(path: str) -> ContextManager[TextIO]:
+    """The output, to write behind what is there."""
+    return contextlib.nullcontext(sys.stdout) if path == "-" else open(path, "a", encoding="utf8")
 
 
 def answered(todo: Iterable[Entry], task: Task, jobs: int) -> Iterator[Dict[str, Any]]:
@@ -176,7 +181,7 @@ def census(given: str, out: str, task: Task, jobs: int, retry: bool = False) -> 
     done = set() if out == "-" else started_again(out, task, retry)
     todo = [it for it in wanted if it not in done]
     progress = Progress(len(todo), sys.stderr)
-    with sys.stdout if out == "-" else open(out, "a", encoding="utf8") as file:
+    with opened(out) as file:
         for line in answered(todo, task, jobs):
             file.write(json.dumps(line) + "\n")
             file.flush()
