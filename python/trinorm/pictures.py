@@ -3,6 +3,7 @@ from __future__ import annotations
 
 import json
 import math
+from collections import Counter
 from typing import Dict, Iterable, Iterator, List, NamedTuple, Sequence, Tuple
 
 from .tables import Table, size_of_signature
@@ -55,26 +56,33 @@ def _loop(at: Point, centre: Point, radius: float) -> str:
     return f'<circle cx="{at[0] + radius * way[0]:.1f}" cy="{at[1] + radius * way[1]:.1f}" r="{radius:.1f}" fill="none" stroke="{GREY}"/>'
 
 
+def _edges(pairs: Sequence[Pair], at: Sequence[Point], centre: Point) -> Iterator[str]:
+    """Curves side by side for the pairs of two tetrahedra, and circles one in another for those of one."""
+    counts = Counter((it.tet, it.other_tet) for it in pairs)
+    drawn: Counter[Tuple[int, int]] = Counter()
+    for pair in pairs:
+        ends = one, other = pair.tet, pair.other_tet
+        if one == other:
+            yield _loop(at[one], centre, 20.0 + 6 * drawn[ends])
+        else:
+            yield _arc(at[one], at[other], 34 * (drawn[ends] - (counts[ends] - 1) / 2))
+        drawn[ends] += 1
+
+
+def _node(tet: int, at: Point, has_boundary: bool) -> str:
+    dashes = ' stroke-dasharray="3 3"' if has_boundary else ""
+    return (f'<circle cx="{at[0]:.1f}" cy="{at[1]:.1f}" r="12" fill="white" stroke="black"{dashes}/>'
+            f'<text x="{at[0]:.1f}" y="{at[1] + 4.5:.1f}" text-anchor="middle">{tet}</text>')
+
+
 def face_pairing_svg(table: Table) -> str:
     """The face-pairing graph with its tetrahedra on a circle; one with boundary faces is drawn with a dashed rim."""
     ring = 0.0 if len(table) == 1 else max(60.0, 11.0 * len(table))
     centre = (ring + 70, ring + 70)
     angles = [2 * math.pi * tet / len(table) - math.pi / 2 for tet in range(len(table))]
     at = [(centre[0] + ring * math.cos(it), centre[1] + ring * math.sin(it)) for it in angles]
-    drawn: Dict[Tuple[int, int], int] = {}
-    edges, nodes = [], []
-    for pair in face_pairs(table):
-        ends = (pair.tet, pair.other_tet)
-        before = drawn[ends] = drawn.get(ends, -1) + 1
-        if ends[0] == ends[1]:
-            edges.append(_loop(at[ends[0]], centre, 20.0 + 6 * before))
-        else:
-            edges.append(_arc(at[ends[0]], at[ends[1]], (before + 1) // 2 * 28 * (-1) ** before))
-    for tet, (x, y) in enumerate(at):
-        dashes = ' stroke-dasharray="3 3"' if None in table.rows[tet] else ""
-        nodes.append(f'<circle cx="{x:.1f}" cy="{y:.1f}" r="12" fill="white" stroke="black"{dashes}/>'
-                     f'<text x="{x:.1f}" y="{y + 4.5:.1f}" text-anchor="middle">{tet}</text>')
-    return _svg(2 * centre[0], 2 * centre[1], edges + nodes)
+    nodes = [_node(tet, at[tet], None in row) for tet, row in enumerate(table.rows)]
+    return _svg(2 * centre[0], 2 * centre[1], [*_edges(face_pairs(table), at, centre), *nodes])
 
 
 def growth_points(lines: Iterable[str]) -> Iterator[Tuple[int, int]]:
