@@ -1,13 +1,11 @@
 """The launcher: what it says where standard error is a terminal, and that nothing else of a run changes."""
 import os
 import pty
-import shutil
 import subprocess
 import tempfile
 import unittest
 
-import trinorm
-from trinorm.program import REPOSITORY
+from tests import repository
 
 
 class Launcher(unittest.TestCase):
@@ -16,14 +14,8 @@ class Launcher(unittest.TestCase):
         """A folder in which the launcher finds a program that is current."""
         cls.folder = tempfile.TemporaryDirectory()
         cls.addClassCleanup(cls.folder.cleanup)
-        out = os.path.join(cls.folder.name, "crates", "trinorm", "out")
-        os.makedirs(out)
-        cls.program = os.path.join(out, "trinorm")
-        os.symlink(os.path.realpath(trinorm.find()), cls.program)
-        cls.launcher = shutil.copy(REPOSITORY / "trinorm", cls.folder.name)
-        for name in ("crates.txt", "crates/trinorm/out/.sources", "crates/trinorm/out/.built"):
-            with open(os.path.join(cls.folder.name, name), "w", encoding="utf8"):
-                pass
+        cls.program = repository.make(cls.folder.name)
+        cls.launcher = os.path.join(cls.folder.name, "trinorm")
 
     def run_with(self, program, words, text, by_name=False, terminal=True):
         """Status, answer, and what is said on standard error, with a pipe or a file for standard input."""

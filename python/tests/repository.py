@@ -1,0 +1,22 @@
+"""A folder like the repository's, in which the launcher finds a program that is current."""
+import os
+import shutil
+from pathlib import Path
+
+import trinorm
+from trinorm.program import REPOSITORY
+
+
+def make(folder: str) -> Path:
+    """Lays the folder out. Returns where the program stands: a link to the one that is tested."""
+    top = Path(folder)
+    out = top / "crates" / "trinorm" / "out"
+    out.mkdir(parents=True)
+    program = out / "trinorm"
+    program.symlink_to(os.path.realpath(trinorm.find()))
+    shutil.copy(REPOSITORY / "trinorm", top)
+    (top / "bench").mkdir()
+    shutil.copy(REPOSITORY / "bench" / "census.sh", top / "bench")
+    for path in (top / "crates.txt", out / ".sources", out / ".built"):
+        path.touch()
+    return program
