@@ -1,6 +1,7 @@
 """What the scripts of this folder share: the program, runs with their seconds and megabytes, and families of tables.
 
-Seconds are those of the processor, with the program's start and without the launcher's.
+Seconds are those of the processor, with the program's start and without the launcher's. Megabytes are never fewer than this
+script's own (20 to 40), since a process begins as a copy of it.
 """
 import itertools
 import os
