@@ -1,8 +1,8 @@
 -- From what the engine gives to surfaces.
-use Rattle.std.proofs.Common.{◌≡◌, ℕ, List, length, subst}
+use Rattle.std.proofs.Common.{◌≡◌, ◌≤◌, ℕ, List, length, ap, subst}
 use Rattle.std.specs.Prelude.{Result, Ok, Err, Option, Some, None, IfOk, IfErr, IfSome}
 use Rattle.std.proofs.lemmas.List.Sorted.{IsPermutation-refl}
-use Rattle.table_definitions.specs.Table.{Row}
+use Rattle.table_definitions.specs.Table.{Row, IsTable}
 use Rattle.surface_definitions.specs.Coordinates.{columns, clash_list}
 use Rattle.surface_definitions.specs.declared.Coords.{Coords}
 use Rattle.surface_definitions.specs.QuadEquations.{AreEquations}
@@ -20,11 +20,11 @@ use Rattle.double_description.specs.Turns.{AreTaken}
 use Rattle.double_description.specs.Enumerated.{IsEnumerated, IsRefused}
 use Rattle.ray_answers.specs.Answers.{AreRefused}
 use Rattle.enumeration_laws.proofs.Taken.{some_rows_taken}
-use Rattle.solved_laws.proofs.Listings.{listed}
 use Rattle.row_operation_laws.specs.Solutions.{HaveSameSolutions}
 use Rattle.row_operation_laws.proofs.Kept.{list_kept}
-use Rattle.surface_list.specs.Caps.{is_triangle, group_of, cap_of, group_count}
-use Rattle.surface_list.specs.Surfaces.{AreTableSurfaces, IsBoundedList}
+use Rattle.equation_bounds_laws.specs.Bounds.{number_bound}
+use Rattle.equation_bounds_laws.proofs.Bounds.{are_listed as table_listed}
+use Rattle.surface_list.specs.Surfaces.{AreTableSurfaces}
 use denote.Ref.{Bor}
 
 abbrev pub Listed : Enumeration → Rays → Type 0
@@ -81,12 +81,14 @@ module _ (limit : ℕ) (coords : Coords) (rows : List Row) (system : Cone) (n : 
   pub surfaces_by : (rays : Rays) → Listed (given system n) rays → AreTableSurfaces limit coords rows order rays.list.items
   surfaces_by rays h = only_listing rays.order.items rays.list.items h
 
-  -- where all numbers are bounded, however it was found
-  pub surfaces_found : (list : List (List ℕ)) → IsBoundedList coords n system limit list → AreTableSurfaces limit coords rows order list
-  surfaces_found list h =
+  -- where all numbers are bounded by the limit, however it was found
+  pub surfaces_found : (list : List (List ℕ)) → IsTable rows → number_bound coords n ≤ limit → IsSurfaceList system.columns system.rows (clash_list coords n) list
+      → AreTableSurfaces limit coords rows order list
+  surfaces_found list table room h =
       let t = some_rows_taken order system in
       only_listing t.0 list
-      (listed (given system n) (is_triangle coords) (group_of coords n) (cap_of n) (group_count coords n) h.bounded.size (h.bounded.bounded order) t.0 list t.1 t.2 h.surfaces)
+      (table_listed coords rows (given system n) (record { table = table; equations = equations; columns = width; pairs = ap (clash_list coords) count })
+      (subst (λ m. number_bound coords m ≤ limit) count room) t.0 list t.1 t.2 h)
 
 -- the list of a system with the same solutions is its list
 module _ (system solved : Cone) (pairs : List Clash) (width : solved.columns ≡ system.columns) (same : HaveSameSolutions system.columns system.rows solved.rows) where

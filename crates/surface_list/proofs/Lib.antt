@@ -1,2 +1,1 @@
 pub mod Enumerations
-pub mod Bounds

@@ -3,16 +3,13 @@ use Rattle.std.specs.Prelude.{◌≡◌, ℕ, List}
 use Rattle.table_definitions.specs.Table.{Row}
 use Rattle.surface_definitions.specs.declared.Coords.{Coords}
 use Rattle.surface_definitions.specs.QuadEquations.{AreEquations}
-use Rattle.surface_definitions.specs.Coordinates.{clash_list}
 use Rattle.surface_definitions.specs.TableSurfaces.{table_enumeration}
 use Rattle.cone_definitions.specs.Rows.{Row as EquationRow}
 use Rattle.cone_definitions.specs.Surfaces.{IsSurfaceList}
-use Rattle.cone_definitions.specs.Systems.{Cone}
 use Rattle.cone_definitions.specs.Listings.{Enumeration, IsListed, IsPastLimit}
 use Rattle.cone_definitions.specs.declared.Order.{Order}
 use Rattle.double_description.specs.declared.engine.EnumFault.{EnumFault}
 use Rattle.double_description.specs.declared.engine.EnumFault.TheVariants.{Large, NoMemory}
-use Rattle.surface_list.specs.Caps.{AreBounded}
 
 -- the surface list, which is the only one, its rows taken in the order's own order
 pub record IsOnlyListing (e : Enumeration) (list : List (List ℕ)) : Type 0 where
@@ -30,8 +27,3 @@ abbrev pub IsTableRefused : ℕ → Coords → List Row → Order → EnumFault 
 IsTableRefused limit coords rows order (Large taken kind) =
     (equations : List EquationRow) × AreEquations coords rows equations × IsPastLimit (table_enumeration coords order limit rows equations) taken.items kind
 IsTableRefused limit coords rows order NoMemory = Unit {0}
-
--- the surface list of a system whose numbers are bounded by the limit
-pub record IsBoundedList (coords : Coords) (n : ℕ) (system : Cone) (limit : ℕ) (list : List (List ℕ)) : Type 0 where
-  pub bounded : AreBounded coords n system limit
-  pub surfaces : IsSurfaceList system.columns system.rows (clash_list coords n) list

@@ -1,7 +1,7 @@
 //! The vertex surfaces of a gluing table.
 #![tactic(auto)]
 
-mod caps;
+mod bounds;
 mod listed;
 
 pub use listed::surfaces;

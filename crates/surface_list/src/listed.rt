@@ -4,13 +4,14 @@ ghost use Rattle.std.specs.Prelude.{◌≡◌, ◌≢◌, ◌≤◌, IfOk, IfErr
 ghost use Rattle.surface_definitions.specs.Coordinates as coordinates;
 ghost use Rattle.cone_definitions.specs.Surfaces.{IsSurfaceList};
 ghost use Rattle.cone_definitions.specs.Listings.{IsListed};
+ghost use Rattle.equation_bounds_laws.specs.OneForm.{is_triangle};
 ghost use Rattle.ray_answers.specs.Answers.{AreRefused};
-ghost use Rattle.surface_list.specs.Surfaces.{AreTableSurfaces, IsTableRefused, IsBoundedList};
+ghost use Rattle.surface_list.specs.Surfaces.{AreTableSurfaces, IsTableRefused};
 
-use crate::caps::{fits, is_triangle};
+use crate::bounds::numbers_fit;
 use cone_core::{MAX_ENTRY, Ray, System};
 use double_description::{EnumFault, Order, Permit, Picker, Rays, choice, enumerate};
-use matching_equations::{Coords, equations, triangles_each};
+use matching_equations::{Coords, columns_each, equations, triangles_each};
 use no_memory::NoMemory;
 use quad_condition::{Masks, clash_list};
 use skeleton::Skeleton;
@@ -42,6 +43,13 @@ fn enumerated(
     });
     let picker = Picker::new(order, |s: &System, rows: &[u32]| choice(order, s, rows));
     enumerate(alloc, system, &permit, &picker, limit)
+}
+
+/// Whether a column counts a triangle.
+fn is_triangle(coords: Coords, column: u32) -> bool
+    ensures { result ≡ is_triangle coords column }
+{
+    column % columns_each(coords) < triangles_each(coords)
 }
 
 /// The triangle columns of a system, tetrahedron by tetrahedron.
@@ -121,25 +129,6 @@ fn found(
     found_in_order(alloc, coords, tets, system, Order::Zeros)
 }
 
-/// The vertex surfaces found in the quickest order, where no number can pass the limit in any.
-fn found_where_bounded(
-    alloc: Global,
-    coords: Coords,
-    tets: u32,
-    system: &System,
-    limit: u128,
-) -> Result<Option<Vec<Ray>>, NoMemory>
-    requires tets { tets ≤ 1000 }
-    requires columns { system.now.columns ≡ coordinates.columns coords tets }
-    ensures { IfOk result (λ answer. IfSome answer (λ list. IsBoundedList coords tets system.now limit list.items)) }
-{
-    if fits(alloc, system, coords, tets, limit)? {
-        found(alloc, coords, tets, system)
-    } else {
-        Ok(None)
-    }
-}
-
 /// The vertex surfaces of a table, strictly ascending, its equations taken in a named order; refused exactly where a
 /// number of a step passes the limit (Haken 1961; Tollefson 1998; Burton 2010).
 pub fn surfaces(
@@ -157,7 +146,10 @@ pub fn surfaces(
 {
     let system = equations(alloc, skeleton, coords)?;
     let tets = skeleton.table().len();
-    if let Some(known) = found_where_bounded(alloc, coords, tets, &system, limit)? {
+    // Where no number can pass the limit, it doesn't matter how the list was found.
+    if numbers_fit(coords, tets, limit)
+        && let Some(known) = found(alloc, coords, tets, &system)?
+    {
         return Ok(known);
     }
     let rays = enumerated(alloc, coords, tets, &system, order, limit)?;

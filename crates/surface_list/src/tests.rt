@@ -1,11 +1,11 @@
 ghost use Rattle.std.specs.Prelude.{◌≤◌};
 
 use super::*;
-use crate::caps::fits;
+use crate::bounds::numbers_fit;
 use cone_core::MAX_ENTRY;
 use double_description::Order;
 use gluing_table::{Glue, Row, Table};
-use matching_equations::{Coords, equations};
+use matching_equations::Coords;
 use perm_four::Perm4;
 use skeleton::Skeleton;
 use std::alloc::Global;
@@ -50,22 +50,16 @@ fn surfaces_of_small_tables(rt: HostRuntime) {
         by(0, b"3012"),
     ]];
     let alloc = rt.alloc();
-    are_surfaces(
-        &rt,
-        alloc,
-        &sphere,
-        Coords::Standard,
-        MAX_ENTRY,
-        &[&[1, 1, 0, 0, 1, 0, 0], &[1, 1, 1, 1, 0, 0, 0]],
-    );
-    are_surfaces(
-        &rt,
-        alloc,
-        &sphere,
-        Coords::Standard,
-        1,
-        &[&[1, 1, 0, 0, 1, 0, 0], &[1, 1, 1, 1, 0, 0, 0]],
-    );
+    for limit in [MAX_ENTRY, 64, 63, 1] {
+        are_surfaces(
+            &rt,
+            alloc,
+            &sphere,
+            Coords::Standard,
+            limit,
+            &[&[1, 1, 0, 0, 1, 0, 0], &[1, 1, 1, 1, 0, 0, 0]],
+        );
+    }
     are_surfaces(&rt, alloc, &sphere, Coords::Quad, MAX_ENTRY, &[&[1, 0, 0]]);
     let free = [[None, None, None, None]];
     let empty: Vec<Row> = Vec::new(alloc);
@@ -89,19 +83,26 @@ fn surfaces_of_small_tables(rt: HostRuntime) {
 }
 
 #[test]
-fn columns_bound_numbers(rt: HostRuntime) {
-    let sphere = [[
-        by(0, b"1023"),
-        by(0, b"1023"),
-        by(0, b"1230"),
-        by(0, b"3012"),
-    ]];
-    let alloc = rt.alloc();
-    let table = Table::from_rows(alloc, &sphere).expect(&rt, "a table");
-    let skeleton = Skeleton::of(alloc, &table).expect(&rt, "a skeleton");
-    for coords in [Coords::Standard, Coords::Quad, Coords::Octagon] {
-        let system = equations(alloc, &skeleton, coords).expect(&rt, "equations");
-        assert_eq!(&rt; fits(alloc, &system, coords, 1, MAX_ENTRY), Ok(true));
-        assert_eq!(&rt; fits(alloc, &system, coords, 1, 15), Ok(false));
+fn limits_at_the_bounds(rt: HostRuntime) {
+    let worked = [
+        (Coords::Standard, 0, 4, true),
+        (Coords::Standard, 0, 3, false),
+        (Coords::Standard, 1, 64, true),
+        (Coords::Standard, 1, 63, false),
+        (Coords::Standard, 31, MAX_ENTRY, true),
+        (Coords::Standard, 32, MAX_ENTRY, false),
+        (Coords::Quad, 0, 0, true),
+        (Coords::Quad, 1, 192, true),
+        (Coords::Quad, 1, 191, false),
+        (Coords::Quad, 29, MAX_ENTRY, true),
+        (Coords::Quad, 30, MAX_ENTRY, false),
+        (Coords::Octagon, 1, 8192, true),
+        (Coords::Octagon, 1, 8191, false),
+        (Coords::Octagon, 29, MAX_ENTRY, true),
+        (Coords::Octagon, 30, MAX_ENTRY, false),
+        (Coords::Octagon, 1000, MAX_ENTRY, false),
+    ];
+    for (coords, tets, limit, fits) in worked {
+        assert_eq!(&rt; numbers_fit(coords, tets, limit), fits);
     }
 }
