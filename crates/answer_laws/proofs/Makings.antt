@@ -1,0 +1,29 @@
+-- A certificate has as many moves as are asked for.
+use Rattle.std.proofs.Common.{◌≡◌, ℕ, length, subst}
+use Rattle.command_definitions.specs.declared.Request.TheVariants.{Make, Bulk}
+use Rattle.outcome_definitions.specs.Makings.{IsMakeAnswer, IsBulkAnswer, IsSummary}
+use Rattle.certificate_laws.proofs.Made.{made_are_certified_lem}
+use Rattle.making_length_laws.proofs.Makings.{certificates_have_most}
+use Rattle.answer_laws.specs.Makings.{AllMovesAreMade, AllMovesAreSummedUp}
+use Rattle.answer_laws.proofs.Asked.{answer_to}
+
+pub all_moves_made : AllMovesAreMade
+all_moves_made words bytes o seed moves h few =
+    let a : IsMakeAnswer seed moves o = answer_to (Make seed moves) words bytes o h in record {
+      table = a.table;
+      certificate = a.certificate;
+      certified = made_are_certified_lem seed moves a.table a.certificate a.made;
+      count = certificates_have_most seed moves a.table a.certificate few a.made;
+      outcome = a.outcome;
+    }
+
+pub all_moves_summed_up : AllMovesAreSummedUp
+all_moves_summed_up words bytes o seed moves h few =
+    let a : IsBulkAnswer seed moves o = answer_to (Bulk seed moves) words bytes o h in
+    let count : length a.certificate ≡ moves = certificates_have_most seed moves a.table a.certificate few a.made in record {
+      table = a.table;
+      certificate = a.certificate;
+      certified = a.accepted;
+      count = count;
+      summary = subst (λ (n : ℕ). IsSummary (record { seed = seed; moves = n; tetrahedra = length a.table }) a.table o) count a.summary;
+    }

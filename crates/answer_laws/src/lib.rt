@@ -1,0 +1,42 @@
+//! What the answers of commands mean, whatever the code: with few tetrahedra `surfaces` gives its list, where vertex links
+//! are spheres or discs `lift` has a lift, `make` makes as many moves as asked for, `check` accepts certificates and nothing
+//! else, and equal signatures tell relabelled tables.
+#![tactic(auto)]
+
+ghost use Rattle.answer_laws.specs.Surfaces.{BoundedTablesAreListed, FewTablesAreListed};
+ghost use Rattle.answer_laws.specs.Lifts.{NoneWithoutLift, SolutionsAreLifted};
+ghost use Rattle.answer_laws.specs.Makings.{AllMovesAreMade, AllMovesAreSummedUp};
+ghost use Rattle.answer_laws.specs.Checks.{CertificatesAreAccepted};
+ghost use Rattle.answer_laws.specs.Signatures.{SignaturesTell, ComponentSignaturesTell};
+
+/// Where the limit is at least the bound of a table's numbers, the outcome of `surfaces` is the list of its vertex surfaces; so
+/// it is at the default limit for up to 31 tetrahedra in standard coordinates and up to 29 in quad and octagon coordinates.
+pub fn few_tables_are_listed()
+    ensures bounded { BoundedTablesAreListed }
+    ensures few { FewTablesAreListed }
+{}
+
+/// Where the link of each vertex class is a sphere or a disc, `lift` refuses no vector for want of a lift, and lifts all
+/// vectors that are admissible solutions of which no sum is too large.
+pub fn solutions_are_lifted()
+    ensures none { NoneWithoutLift }
+    ensures lifted { SolutionsAreLifted }
+{}
+
+/// The certificate that `make` writes, and that `bulk` checks, has exactly as many moves as are asked for, up to 333.
+pub fn all_moves_are_made()
+    ensures make { AllMovesAreMade }
+    ensures bulk { AllMovesAreSummedUp }
+{}
+
+/// `check` accepts the moves that are a certificate, and no others.
+pub fn certificates_are_accepted()
+    ensures { CertificatesAreAccepted }
+{}
+
+/// Two answers of `sig` to connected tables, or of `csig` to any, are equal exactly where a relabelling carries the one table to
+/// the other.
+pub fn signatures_tell_tables()
+    ensures sig { SignaturesTell }
+    ensures csig { ComponentSignaturesTell }
+{}
