@@ -1,8 +1,6 @@
 -- What a run answers to a document of `surfaces` or `rays`, whatever its status.
-use Rattle.std.proofs.Common.{◌≡◌, ◌≤◌, ℕ, List, length, Bool, true, false, Option, Some, None, Ok, inl, inr, refl, ◌∙◌, ap, subst, arith, nat_lt}
-use Rattle.std.specs.Prelude.{◌⊎◌, ◌<◌, ◌&&◌, IfSome, codes}
-use Rattle.std.proofs.lemmas.Bool.{ltb-true}
-use Rattle.std.specs.Bool.{MatchBool}
+use Rattle.std.proofs.Common.{◌≡◌, ◌≤◌, ℕ, List, length, Option, Some, None, Ok, inl, inr, refl, ◌∙◌, ap, subst}
+use Rattle.std.specs.Prelude.{◌⊎◌, IfSome, codes}
 use Rattle.bench_io.specs.Causes.{Grows}
 use Rattle.cone_text_definitions.specs.ConeText.{Cone as ConeText}
 use Rattle.cone_definitions.specs.declared.Order.{Order}
@@ -11,32 +9,16 @@ use Rattle.surface_definitions.specs.declared.Coords.{Coords}
 use Rattle.document_definitions.specs.Documents.{worded, table_document, cone_document}
 use Rattle.command_definitions.specs.declared.Request.{Request}
 use Rattle.command_definitions.specs.declared.Request.TheVariants.{Surfaces, Rays}
-use Rattle.command_definitions.specs.Requests.{reads_input}
 use Rattle.command_definitions.specs.Words.{accepted_request}
 use Rattle.outcome_definitions.specs.declared.Status.{Status}
 use Rattle.outcome_definitions.specs.declared.Status.TheVariants.{Done, Usage, Input, Refused, Large, ReadFault, WriteFault, NoMemory}
-use Rattle.outcome_definitions.specs.Outcomes.{Outcome, too_long_outcome, IsReadOutcome}
+use Rattle.outcome_definitions.specs.Outcomes.{Outcome, IsReadOutcome}
 use Rattle.outcome_definitions.specs.Enumerations.{IsEnumerationAnswer, IsSurfacesAnswer, ray_enumeration, list_outcome, large_outcome}
 use Rattle.outcome_definitions.specs.Answers.{IsOutcomeOf, IsAnswerTo, is_too_long, most_bytes}
+use Rattle.answer_laws.proofs.Asked.{within, not_long}
 use Rattle.workbench.specs.Runs.{IsAnswered}
 use Rattle.workbench.specs.Prints.{AnswersSurfaces, AnswersRays, IsCutShort}
 use Rattle.workbench.proofs.Headlines.{Tells}
-
--- an input that isn't too long is answered
-within : (b : Bool) (A : Type 0) (o : Outcome) → b ≡ false → MatchBool b (o ≡ too_long_outcome) A → A
-within true A o e h = absurd (let z : true ≡ false = e in cc)
-within false A o e h = h
-
-pub not_long : (r : Request) (bytes : List ℕ) → length bytes ≤ most_bytes → is_too_long r bytes ≡ false
-not_long r bytes l = and_false (reads_input r) (cases_false (nat_lt most_bytes (length bytes)) (λ long. let more : most_bytes < length bytes = ltb-true most_bytes (length bytes) long in omega arith))
-  where
-    and_false : (b : Bool) {c : Bool} → c ≡ false → (b && c) ≡ false
-    and_false true e = e
-    and_false false e = refl
-
-    cases_false : (b : Bool) → (b ≡ true → ⊥) → b ≡ false
-    cases_false true f = absurd (f refl)
-    cases_false false f = refl
 
 module _ (words : List (List ℕ)) (bytes : List ℕ) (few : length bytes ≤ most_bytes) (status : Status) (held grown : Option (List ℕ)) (t : Tells words status held grown bytes) where
   abbrev o : Outcome

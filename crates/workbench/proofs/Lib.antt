@@ -2,3 +2,4 @@ pub mod RunClauses
 pub mod Headlines
 pub mod Completeness
 mod Responses
+pub mod FewSurfaces

@@ -2,6 +2,7 @@
 ghost use Rattle.std.specs.Prelude.{◌≡◌, ◌↔◌, ◌⊎◌, ◌-◌, ◌^◌, ◌<◌, ◌≤◌, ℕ, true, false, List, [], None, Some, Ok, length, IfOk, IfSome, OnErr};
 ghost use Rattle.bench_io.specs.Causes.{Grows, Rose, IsEnded};
 ghost use Rattle.outcome_definitions.specs.Lines.{read_line, usage_line};
+ghost use Rattle.text_definitions.specs.Written.{limit};
 ghost use Rattle.cone_text_definitions.specs.ConeText.{Cone as ConeText};
 ghost use Rattle.table_definitions.specs.Table.{Row};
 ghost use Rattle.document_definitions.specs.Documents.{worded, table_document, cone_document};
@@ -11,7 +12,8 @@ ghost use Rattle.command_definitions.specs.Words.{accepted_request};
 ghost use Rattle.command_definitions.specs.Requests.{HoldsRange, reads_input};
 ghost use Rattle.cone_definitions.specs.declared.Order.{Order};
 ghost use Rattle.surface_definitions.specs.declared.Coords.{Coords};
-ghost use Rattle.workbench.specs.Prints.{PrintsSurfaces, PrintsRays, PrintsVerdicts, AnswersSurfaces, AnswersRays};
+ghost use Rattle.equation_bounds_laws.specs.Few.{most_tetrahedra};
+ghost use Rattle.workbench.specs.Prints.{PrintsSurfaces, PrintsRays, PrintsVerdicts, ListsSurfaces, IsCutShort, AnswersSurfaces, AnswersRays};
 ghost use Rattle.workbench.specs.Runs.{Answers, IsAnswered, IsCalm, IsWithin, IsResponse, IsWithoutMemory, IsCutOff, IsDue, IsDelivered};
 
 use bench_io::{ReadEnd, Sink, Source, Words, read_all, write_all};
@@ -166,6 +168,12 @@ pub fn run<S: Source, K: Sink>(alloc: Global, words: &Words, source: &mut S, sin
     ensures all_rays { (order : Order) → (most : ℕ) → accepted_request words.now ≡ Some (Request.Rays order most)
         → IfSome (S.left source.old) (λ bytes. (cone : ConeText) → length bytes ≤ most_bytes → worded (cone_document bytes) ≡ Ok cone
         → AnswersRays order most cone result (K.held sink.old) (K.held sink.new)) }
+
+    // With the default limit, and at most 31 tetrahedra in standard coordinates or 29 in quad and octagon coordinates, no
+    // number passes the limit, whatever the order of the equations: that list was printed, or the run was cut short.
+    ensures few_surfaces { (coords : Coords) → (order : Order) → accepted_request words.now ≡ Some (Request.Surfaces coords order limit)
+        → IfSome (S.left source.old) (λ bytes. (rows : List Row) → length bytes ≤ most_bytes → table_document bytes ≡ Ok rows
+        → length rows ≤ most_tetrahedra coords → ListsSurfaces coords rows result (K.held sink.old) (K.held sink.new) ⊎ IsCutShort result) }
 
     // `rays` prints exactly the primitive extreme rays of a cone, and `verify` a verdict for each vector.
     ensures rays { result ≡ Status.Done → (order : Order) → (most : ℕ) → accepted_request words.now ≡ Some (Request.Rays order most)

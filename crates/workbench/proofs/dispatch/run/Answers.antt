@@ -3,6 +3,7 @@ use Rattle.workbench.proofs.Headlines.{told_surfaces, told_rays, told_verdicts, 
 use Rattle.workbench.proofs.RunClauses.{run_outcome, run_prefix}
 use Rattle.outcome_definitions.specs.declared.Status.TheVariants.{NoMemory}
 use Rattle.workbench.proofs.Completeness.{all_surfaces, all_rays}
+use Rattle.workbench.proofs.FewSurfaces.{few_surfaces}
 use Rattle.workbench.proofs.dispatch.run.Goals as goal
 
 pub returns-in-Ok-respond-clause-prefix : goal.returns-in-Ok-respond-clause-prefix
@@ -42,3 +43,13 @@ returns-in-Err-NoMemory-clause-all_surfaces g c = all_surfaces c.args.words.now 
 
 pub returns-in-Err-NoMemory-clause-all_rays : goal.returns-in-Err-NoMemory-clause-all_rays
 returns-in-Err-NoMemory-clause-all_rays g c = all_rays c.args.words.now NoMemory _ _ (g.S.Source.left c.args.source.now) (λ h. absurd h)
+
+pub returns-in-Ok-respond-clause-few_surfaces : goal.returns-in-Ok-respond-clause-few_surfaces
+returns-in-Ok-respond-clause-few_surfaces g c = few_surfaces c.args.words.now c.deliver.result _ _ (g.S.Source.left c.args.source.now)
+    (run_outcome c.args.words.now _ c.in-Ok.ensures.answers _ _ _ _ _ _ _ _ c.deliver.result (g.S.Source.left c.args.source.now) c.in-Ok-respond.ensures.response c.deliver.ensures)
+
+pub returns-in-Err-clause-few_surfaces : goal.returns-in-Err-clause-few_surfaces
+returns-in-Err-clause-few_surfaces g c = few_surfaces c.args.words.now NoMemory _ _ (g.S.Source.left c.args.source.now) (λ h. absurd h)
+
+pub returns-in-Err-NoMemory-clause-few_surfaces : goal.returns-in-Err-NoMemory-clause-few_surfaces
+returns-in-Err-NoMemory-clause-few_surfaces g c = few_surfaces c.args.words.now NoMemory _ _ (g.S.Source.left c.args.source.now) (λ h. absurd h)
