@@ -102,7 +102,7 @@ fn found_solved(
     ensures { IfOk result (λ answer. IfSome answer (λ list. IsSurfaceList system.now.columns system.now.rows (coordinates.clash_list coords tets) list.items)) }
 {
     let pivots = triangles(alloc, coords, system)?;
-    match solve(alloc, system, &pivots) {
+    match solve(alloc, system, columns_each(coords), &pivots) {
         Ok(solved) => found_in_order(alloc, coords, tets, &solved, Order::Given),
         Err(SolveFault::Passed) => Ok(None),
         Err(SolveFault::NoMemory) => Err(NoMemory),

@@ -1,0 +1,13 @@
+-- the rows are 0 where they were
+use Rattle.std.proofs.Common.{◌≡◌, length}
+use Rattle.std.specs.List.{All}
+use Rattle.cone_core.specs.Sparse.{IsInRange}
+use Rattle.row_operation_laws.specs.Solutions.{HaveSameZeros}
+use Rattle.solved_rows.proofs.thin.thin_row.Given as goal
+
+abbrev pub invariant-loop-j : goal.invariant-loop-j
+invariant-loop-j l = record {
+  count : length l.rows.items ≡ length l.fn.rows.items;
+  same : HaveSameZeros l.fn.rows.items l.rows.items;
+  in_range : All (IsInRange l.columns) l.rows.items;
+}

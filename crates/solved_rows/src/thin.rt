@@ -1,0 +1,153 @@
+// Rows made sparser: a row gives way to itself plus or less another row, where that has fewer terms.
+
+ghost use Rattle.std.specs.Prelude.{◌≡◌, ◌<◌, ◌≢◌, ◌≤◌, length, OnOk};
+ghost use Rattle.std.specs.List.{All};
+ghost use Rattle.cone_core.specs.Sparse.{IsInRange};
+ghost use Rattle.row_operation_laws.specs.Solutions.{HaveSameZeros};
+
+use crate::clear::{add_at, copy};
+use crate::fault::SolveFault;
+use cone_core::SparseRow;
+use std::alloc::Global;
+
+/// How often all pairs of rows are looked at, at most.
+const ROUNDS: u32 = 20;
+
+/// At how many columns two rows have the same coefficient, opposite ones, and any.
+#[derive(Clone, Copy, Debug, PartialEq, Eq)]
+struct Shared {
+    same: usize,
+    opposite: usize,
+    any: usize,
+}
+
+/// The place of the first term from here on whose column isn't before this one.
+fn place_from(terms: &[(u32, i32)], from: usize, column: u32) -> usize
+    requires { from ≤ length terms.now }
+    ensures { result ≤ length terms.now }
+{
+    let mut place = from;
+    while place < terms.len() && terms[place].0 < column {
+        place += 1;
+    }
+    place
+}
+
+/// One column more that both rows have.
+fn with_column(shared: Shared, one: i32, other: i32) -> Shared {
+    Shared {
+        same: shared.same.saturating_add(usize::from(one == other)),
+        opposite: shared
+            .opposite
+            .saturating_add(usize::from(i64::from(one) + i64::from(other) == 0)),
+        any: shared.any.saturating_add(1),
+    }
+}
+
+/// What two rows share.
+fn shared_by(row: &[(u32, i32)], other: &[(u32, i32)]) -> Shared {
+    let mut shared = Shared {
+        same: 0,
+        opposite: 0,
+        any: 0,
+    };
+    let mut place = 0;
+    for (column, coefficient) in row {
+        place = place_from(other, place, *column);
+        if place < other.len() && other[place].0 == *column {
+            shared = with_column(shared, *coefficient, other[place].1);
+        }
+    }
+    shared
+}
+
+/// The factor, 1 or -1, by which another row leaves fewer terms in a row when it is added, if there is one.
+fn thinning_factor(row: &[(u32, i32)], other: &[(u32, i32)]) -> Option<i32> {
+    let shared = shared_by(row, other);
+    if shared.any.saturating_add(shared.opposite.max(shared.same)) <= other.len() {
+        None
+    } else if shared.opposite >= shared.same {
+        Some(1)
+    } else {
+        Some(-1)
+    }
+}
+
+/// Makes the row at a place sparser by the row at another place, if it can; tells whether it did.
+fn thin_by(
+    alloc: Global,
+    columns: u32,
+    rows: &mut Vec<SparseRow>,
+    i: usize,
+    j: usize,
+) -> Result<bool, SolveFault>
+    requires place { i < length rows.old.items }
+    requires other_place { j < length rows.old.items }
+    requires apart { i ≢ j }
+    requires in_range { All (IsInRange columns) rows.old.items }
+    ensures count { OnOk result (length rows.new.items ≡ length rows.old.items) }
+    ensures same { OnOk result (HaveSameZeros rows.old.items rows.new.items) }
+    ensures in_range { OnOk result (All (IsInRange columns) rows.new.items) }
+{
+    match thinning_factor(rows[i].entries(), rows[j].entries()) {
+        Some(factor) => {
+            let other = copy(alloc, &rows[j])?;
+            add_at(alloc, columns, rows, i, factor, &other)?;
+            Ok(true)
+        }
+        None => Ok(false),
+    }
+}
+
+/// Makes the row at a place sparser by all others; tells whether it did.
+fn thin_row(
+    alloc: Global,
+    columns: u32,
+    rows: &mut Vec<SparseRow>,
+    i: usize,
+) -> Result<bool, SolveFault>
+    requires place { i < length rows.old.items }
+    requires in_range { All (IsInRange columns) rows.old.items }
+    ensures count { OnOk result (length rows.new.items ≡ length rows.old.items) }
+    ensures same { OnOk result (HaveSameZeros rows.old.items rows.new.items) }
+    ensures in_range { OnOk result (All (IsInRange columns) rows.new.items) }
+{
+    let mut thinner = false;
+    for j in 0..rows.len() {
+        if j != i {
+            thinner |= thin_by(alloc, columns, rows, i, j)?;
+        }
+    }
+    Ok(thinner)
+}
+
+/// Makes each row sparser once by all others; tells whether one became so.
+fn thin_once(alloc: Global, columns: u32, rows: &mut Vec<SparseRow>) -> Result<bool, SolveFault>
+    requires in_range { All (IsInRange columns) rows.old.items }
+    ensures same { OnOk result (HaveSameZeros rows.old.items rows.new.items) }
+    ensures in_range { OnOk result (All (IsInRange columns) rows.new.items) }
+{
+    let mut thinner = false;
+    for i in 0..rows.len() {
+        thinner |= thin_row(alloc, columns, rows, i)?;
+    }
+    Ok(thinner)
+}
+
+/// Makes rows sparser, in rounds, while that goes on.
+pub(crate) fn thin_rows(
+    alloc: Global,
+    columns: u32,
+    rows: &mut Vec<SparseRow>,
+) -> Result<(), SolveFault>
+    requires in_range { All (IsInRange columns) rows.old.items }
+    ensures same { OnOk result (HaveSameZeros rows.old.items rows.new.items) }
+    ensures in_range { OnOk result (All (IsInRange columns) rows.new.items) }
+{
+    for _ in 0..ROUNDS {
+        if !thin_once(alloc, columns, rows)? {
+            break;
+        }
+    }
+    Ok(())
+}
