@@ -11,6 +11,7 @@ use cone_core::{MAX_ENTRY, Ray, System};
 use double_description::{EnumFault, Order, Permit, Picker, Rays, choice, enumerate};
 use no_memory::NoMemory;
 use number_bounds::columns_fit;
+use solved_rows::{SolveFault, solve};
 use std::alloc::Global;
 use support_bits::Support;
 
@@ -32,12 +33,11 @@ fn walked(alloc: Global, system: &System, order: Order, limit: u128) -> Result<R
     enumerate(alloc, system, &permit, &picker, limit)
 }
 
-/// The rays of a system whose numbers don't matter, found in the quickest order; nothing where a number passes the
-/// greatest entry in it.
-fn found(alloc: Global, system: &System) -> Result<Option<Vec<Ray>>, NoMemory>
+/// The rays of a system, its rows taken as they stand; nothing where a number passes the greatest entry.
+fn found_as_given(alloc: Global, system: &System) -> Result<Option<Vec<Ray>>, NoMemory>
     ensures { IfOk result (λ answer. IfSome answer (λ list. IsSurfaceList system.now.columns system.now.rows [] list.items)) }
 {
-    match walked(alloc, system, Order::Zeros, MAX_ENTRY) {
+    match walked(alloc, system, Order::Given, MAX_ENTRY) {
         Ok(rays) => {
             let Rays { list, order: _ } = rays;
             Ok(Some(list))
@@ -47,7 +47,19 @@ fn found(alloc: Global, system: &System) -> Result<Option<Vec<Ray>>, NoMemory>
     }
 }
 
-/// The rays found in the quickest order, where no number can pass the limit in any.
+/// The rays of a system whose numbers don't matter, found from its rows made sparser and in a quick order; nothing where
+/// a coefficient or a number gets too large.
+fn found(alloc: Global, system: &System) -> Result<Option<Vec<Ray>>, NoMemory>
+    ensures { IfOk result (λ answer. IfSome answer (λ list. IsSurfaceList system.now.columns system.now.rows [] list.items)) }
+{
+    match solve(alloc, system, 1, &[]) {
+        Ok(solved) => found_as_given(alloc, &solved),
+        Err(SolveFault::Passed) => Ok(None),
+        Err(SolveFault::NoMemory) => Err(NoMemory),
+    }
+}
+
+/// The rays found in the quickest way, where no number can pass the limit in any.
 fn found_where_bounded(
     alloc: Global,
     system: &System,
@@ -71,11 +83,9 @@ pub fn rays(alloc: Global, system: &System, order: Order, limit: u128) -> Result
     ensures only { IfOk result (IsOnlyList system.now []) }
     ensures err { IfErr result (AreRefused (without_pairs system.now order limit)) }
 {
-    if order != Order::Zeros {
-        if let Some(list) = found_where_bounded(alloc, system, limit)? {
-            let order = rows_in_order(alloc, system, order)?;
-            return Ok(Rays { list, order });
-        }
+    if let Some(list) = found_where_bounded(alloc, system, limit)? {
+        let order = rows_in_order(alloc, system, order)?;
+        return Ok(Rays { list, order });
     }
     walked(alloc, system, order, limit)
 }

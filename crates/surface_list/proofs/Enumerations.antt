@@ -20,8 +20,6 @@ use Rattle.double_description.specs.Turns.{AreTaken}
 use Rattle.double_description.specs.Enumerated.{IsEnumerated, IsRefused}
 use Rattle.ray_answers.specs.Answers.{AreRefused}
 use Rattle.enumeration_laws.proofs.Taken.{some_rows_taken}
-use Rattle.row_operation_laws.specs.Solutions.{HaveSameSolutions}
-use Rattle.row_operation_laws.proofs.Kept.{list_kept}
 use Rattle.equation_bounds_laws.specs.Bounds.{number_bound}
 use Rattle.equation_bounds_laws.proofs.Bounds.{are_listed as table_listed}
 use Rattle.surface_list.specs.Surfaces.{AreTableSurfaces}
@@ -89,15 +87,3 @@ module _ (limit : ℕ) (coords : Coords) (rows : List Row) (system : Cone) (n : 
       only_listing t.0 list
       (table_listed coords rows (given system n) (record { table = table; equations = equations; columns = width; pairs = ap (clash_list coords) count })
       (subst (λ m. number_bound coords m ≤ limit) count room) t.0 list t.1 t.2 h)
-
--- the list of a system with the same solutions is its list
-module _ (system solved : Cone) (pairs : List Clash) (width : solved.columns ≡ system.columns) (same : HaveSameSolutions system.columns system.rows solved.rows) where
-  list_of : (list : List (List ℕ)) → IsSurfaceList solved.columns solved.rows pairs list → IsSurfaceList system.columns system.rows pairs list
-  list_of list h = (list_kept system.columns system.rows solved.rows pairs list same).1 (subst (λ w. IsSurfaceList w solved.rows pairs list) width h)
-
-  pub list_of_solved : (A E : Type 0) (items : A → List (List ℕ)) (result : Result (Option A) E) →
-      IfOk result (λ answer. IfSome answer (λ list. IsSurfaceList solved.columns solved.rows pairs (items list))) →
-      IfOk result (λ answer. IfSome answer (λ list. IsSurfaceList system.columns system.rows pairs (items list)))
-  list_of_solved A E items (Ok (Some list)) h = list_of (items list) h
-  list_of_solved A E items (Ok None) h = tt
-  list_of_solved A E items (Err fault) h = tt

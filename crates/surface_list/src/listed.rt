@@ -89,7 +89,7 @@ fn found_in_order(
     }
 }
 
-/// The vertex surfaces of a system, found from its rows solved for the triangles; nothing where a coefficient or a number
+/// The vertex surfaces of a system, found from its rows solved for the triangles, if there are any; nothing where a coefficient or a number
 /// gets too large.
 fn found_solved(
     alloc: Global,
@@ -109,8 +109,8 @@ fn found_solved(
     }
 }
 
-/// The vertex surfaces of a system whose numbers don't matter, found in the quickest way: by its rows solved for the
-/// triangles, where there are any, and else in the quickest order; nothing where a number passes the greatest entry in it.
+/// The vertex surfaces of a system whose numbers don't matter, found in the quickest way: from its rows solved for the
+/// triangles, and where these get too large in the quickest order; nothing where a number passes the greatest entry in it.
 fn found(
     alloc: Global,
     coords: Coords,
@@ -121,10 +121,8 @@ fn found(
     requires columns { system.now.columns ≡ coordinates.columns coords tets }
     ensures { IfOk result (λ answer. IfSome answer (λ list. IsSurfaceList system.now.columns system.now.rows (coordinates.clash_list coords tets) list.items)) }
 {
-    if triangles_each(coords) > 0 {
-        if let Some(known) = found_solved(alloc, coords, tets, system)? {
-            return Ok(Some(known));
-        }
+    if let Some(known) = found_solved(alloc, coords, tets, system)? {
+        return Ok(Some(known));
     }
     found_in_order(alloc, coords, tets, system, Order::Zeros)
 }

@@ -1,4 +1,4 @@
-use Rattle.surface_list.proofs.Enumerations.{list_of_solved}
+use Rattle.solved_rows.proofs.ListLemmas.{list_of_solved}
 use Rattle.surface_list.proofs.listed.found_solved.Goals as goal
 
 pub returns-in-Ok : goal.returns-in-Ok
