@@ -4,11 +4,10 @@ use Rattle.std.specs.List.{count_by, range_with_len}
 use Rattle.std.proofs.lemmas.Bool.{cases_eq, cases_lt, lt-ltb}
 use Rattle.cone_definitions.specs.Vectors.{IsInside, IsInsideUnion, ray_at}
 use Rattle.cone_definitions.specs.Rows.{Row, IsPrimitiveExtreme}
-use Rattle.cone_definitions.specs.Surfaces.{Clash, IsSurfaceList}
+use Rattle.cone_definitions.specs.Surfaces.{Clash}
 use Rattle.cone_definitions.specs.Elimination.{Step}
 use Rattle.cone_definitions.proofs.OneRay.{same_ray}
 use Rattle.cone_definitions.proofs.Unions.{ray_primitive}
-use Rattle.cone_definitions.proofs.FromList.{place_is_one}
 use Rattle.cone_definitions.proofs.Entries.{zero_or_nonzero, nonzero_before}
 use Rattle.support_bits.specs.Columns.{support_of}
 use Rattle.bound_laws.specs.Unions.{is_in_union, union_size}
@@ -16,6 +15,8 @@ use Rattle.bound_laws.proofs.Counts.{count_cons}
 use Rattle.union_counts.specs.Counts.{columns_in_either}
 use Rattle.union_counts.proofs.BitCounts.{columns_of_vectors}
 use Rattle.double_description.specs.Unions.{HasSingle, IsSingle, MakeSinglesPairs}
+use Rattle.double_description.specs.Unordered.{HasSurfaces}
+use Rattle.double_description.proofs.UnorderedLemmas.{one_place}
 
 -- a ray inside the union of one of a single column and another is one of them
 no_third_beside_single : (columns : ℕ) (rows : List Row) (u w v : List ℕ) → IsPrimitiveExtreme columns rows u → IsPrimitiveExtreme columns rows w → IsPrimitiveExtreme columns rows v →
@@ -34,7 +35,7 @@ no_third_beside_single columns rows u w v hu hw hv single inside = ⊎_elim
     in_it : slice_index v single.0 ≢ 0 → IsInside u v
     in_it some j at_v = single.1 j (λ same. some (ap (slice_index v) (sym same) ∙ at_v))
 
-module _ (columns : ℕ) (rows : List Row) (pairs : List Clash) (rays : List (List ℕ)) (h : IsSurfaceList columns rows pairs rays) where
+module _ (columns : ℕ) (rows : List Row) (pairs : List Clash) (rays : List (List ℕ)) (h : HasSurfaces columns rows pairs rays) where
   -- a step after these rows, whatever its row
   step : Step
   step = record { columns = columns; pairs = pairs; before = rows; row = [] }
@@ -43,15 +44,11 @@ module _ (columns : ℕ) (rows : List Row) (pairs : List Clash) (rays : List (Li
   unfolding step
   primitive_at k within = ray_primitive step (ray_at rays k) (h.vertex_surfaces k [] within)
 
-  one_place : (i k : ℕ) → i < length rays → k < length rays → ray_at rays k ≡ ray_at rays i → k ≡ i
-  unfolding step
-  one_place = place_is_one step rays h
-
   third_of_two : (i j k : ℕ) → i < length rays → j < length rays → k < length rays → IsSingle (ray_at rays i) ⊎ IsSingle (ray_at rays j) →
       IsInsideUnion (ray_at rays k) (ray_at rays i) (ray_at rays j) → (k ≡ i) ⊎ (k ≡ j)
-  third_of_two i j k i_in j_in k_in (inl single) inside = ⊎_elim (λ e. inl (one_place i k i_in k_in e)) (λ e. inr (one_place j k j_in k_in e))
+  third_of_two i j k i_in j_in k_in (inl single) inside = ⊎_elim (λ e. inl (one_place rays h.apart i k i_in k_in e)) (λ e. inr (one_place rays h.apart j k j_in k_in e))
       (no_third_beside_single columns rows (ray_at rays i) (ray_at rays j) (ray_at rays k) (primitive_at i i_in) (primitive_at j j_in) (primitive_at k k_in) single inside)
-  third_of_two i j k i_in j_in k_in (inr single) inside = ⊎_elim (λ e. inr (one_place j k j_in k_in e)) (λ e. inl (one_place i k i_in k_in e))
+  third_of_two i j k i_in j_in k_in (inr single) inside = ⊎_elim (λ e. inr (one_place rays h.apart j k j_in k_in e)) (λ e. inl (one_place rays h.apart i k i_in k_in e))
       (no_third_beside_single columns rows (ray_at rays j) (ray_at rays i) (ray_at rays k) (primitive_at j j_in) (primitive_at i i_in) (primitive_at k k_in) single (λ c at_w at_u. inside c at_u at_w))
 
   pub single_pairs : MakeSinglesPairs pairs rays
