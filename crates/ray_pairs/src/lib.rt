@@ -1,0 +1,7 @@
+//! The combinations of the pairs of a step's rays, in any order and the quick way.
+#![tactic(auto)]
+
+mod made;
+mod turned;
+
+pub use made::made_rays;

@@ -1,0 +1,65 @@
+// The combinations of the pairs of a step's rays.
+
+ghost use Rattle.std.specs.Prelude.{◌≡◌, length, IfOk, IfSome};
+ghost use Rattle.std.specs.List.{All};
+ghost use Rattle.double_description.specs.Clashes.{DecidesClashes};
+ghost use Rattle.double_description.specs.Kepts.{rays_of, AreOfWidth};
+ghost use Rattle.double_description.specs.Signs.{IsBoundedSign, IsMadeUpTo};
+ghost use Rattle.double_description.specs.Unions.{HaveSmallUnions, MakeSinglesPairs};
+
+use crate::turned::{has_more_positives, turned_signs};
+use cone_core::MAX_ENTRY;
+use double_description::{Kept, Permit, Sign, StepFault, combinations};
+use no_memory::NoMemory;
+use std::alloc::Global;
+use support_bits::Support;
+
+/// The combinations of each positive ray in turn; nothing where an entry passes the greatest.
+fn made_in_turn<F: Fn(&Support, &Support) -> bool>(
+    alloc: Global,
+    permit: &Permit<F>,
+    kepts: &[Kept],
+    signs: &[Sign],
+    most: u64,
+) -> Result<Option<Vec<Kept>>, NoMemory>
+    requires decides { DecidesClashes permit.now.columns permit.now.clashes.items (F.pre permit.now.test) (F.post permit.now.test) }
+    requires widths { AreOfWidth permit.now.columns kepts.now }
+    requires count { length signs.now ≡ length kepts.now }
+    requires bounded { All (IsBoundedSign MAX_ENTRY) signs.now }
+    requires small { HaveSmallUnions permit.now.columns most permit.now.clashes.items (rays_of kepts.now) }
+    requires singles { MakeSinglesPairs permit.now.clashes.items (rays_of kepts.now) }
+    ensures made { IfOk result (λ answer. IfSome answer (λ made. IsMadeUpTo MAX_ENTRY permit.now.clashes.items (rays_of kepts.now) signs.now (length signs.now) 0 (rays_of made.items))) }
+    ensures widths { IfOk result (λ answer. IfSome answer (λ made. AreOfWidth permit.now.columns made.items)) }
+{
+    match combinations(alloc, permit, kepts, signs, most, MAX_ENTRY) {
+        Ok(made) => Ok(Some(made)),
+        Err(StepFault::Large(_)) => Ok(None),
+        Err(StepFault::NoMemory) => Err(NoMemory),
+    }
+}
+
+/// The combinations of all pairs of a positive and a negative ray, in any order; nothing where an entry passes the greatest.
+/// The rays of the sign that fewer have are taken in turn, since for each the rivals are gathered.
+pub fn made_rays<F: Fn(&Support, &Support) -> bool>(
+    alloc: Global,
+    permit: &Permit<F>,
+    kepts: &[Kept],
+    signs: &[Sign],
+    most: u64,
+) -> Result<Option<Vec<Kept>>, NoMemory>
+    requires decides { DecidesClashes permit.now.columns permit.now.clashes.items (F.pre permit.now.test) (F.post permit.now.test) }
+    requires widths { AreOfWidth permit.now.columns kepts.now }
+    requires count { length signs.now ≡ length kepts.now }
+    requires bounded { All (IsBoundedSign MAX_ENTRY) signs.now }
+    requires small { HaveSmallUnions permit.now.columns most permit.now.clashes.items (rays_of kepts.now) }
+    requires singles { MakeSinglesPairs permit.now.clashes.items (rays_of kepts.now) }
+    ensures made { IfOk result (λ answer. IfSome answer (λ made. IsMadeUpTo MAX_ENTRY permit.now.clashes.items (rays_of kepts.now) signs.now (length signs.now) 0 (rays_of made.items))) }
+    ensures widths { IfOk result (λ answer. IfSome answer (λ made. AreOfWidth permit.now.columns made.items)) }
+{
+    if has_more_positives(signs) {
+        let turned = turned_signs(alloc, signs)?;
+        made_in_turn(alloc, permit, kepts, &turned, most)
+    } else {
+        made_in_turn(alloc, permit, kepts, signs, most)
+    }
+}

@@ -1,0 +1,40 @@
+// Signs with positive and negative turned, and which of the two are fewer.
+
+ghost use Rattle.std.specs.Prelude.{◌≡◌, map, IfOk};
+ghost use Rattle.ray_pairs.specs.Turned.{turned_sign};
+
+use double_description::Sign;
+use no_memory::NoMemory;
+use std::alloc::Global;
+
+/// The sign of the row with all signs turned.
+fn turned_sign(sign: Sign) -> Sign
+    ensures { result ≡ turned_sign sign }
+{
+    match sign {
+        Sign::Zero => Sign::Zero,
+        Sign::Positive(value) => Sign::Negative(value),
+        Sign::Negative(value) => Sign::Positive(value),
+    }
+}
+
+/// The signs of the row with all signs turned.
+pub fn turned_signs(alloc: Global, signs: &[Sign]) -> Result<Vec<Sign>, NoMemory>
+    ensures { IfOk result (λ turned. turned.items ≡ map turned_sign signs.now) }
+{
+    let turned = signs.iter().map(|sign| turned_sign(*sign)).collect(alloc)?;
+    Ok(turned)
+}
+
+/// Whether more signs are positive than negative. Any answer will do, so nothing is said of it.
+pub fn has_more_positives(signs: &[Sign]) -> bool {
+    let positives = signs
+        .iter()
+        .filter(|sign| matches!(sign, Sign::Positive(_)))
+        .count();
+    let negatives = signs
+        .iter()
+        .filter(|sign| matches!(sign, Sign::Negative(_)))
+        .count();
+    negatives < positives
+}
