@@ -3,7 +3,7 @@ use Rattle.std.proofs.Common.{◌≡◌, ℕ, ◌<◌, ◌≤◌, ◌↔◌, ⊎
 use Rattle.cone_definitions.specs.Surfaces.{Clash}
 use Rattle.support_bits.specs.Columns.{support_of, Meets}
 use Rattle.support_bits.specs.Words.{AreWordsOf, HaveCommon}
-use Rattle.double_description.specs.declared.rivals.Rivals.{Rivals}
+use Rattle.support_table.specs.Joins.{AreJoinedTo}
 use Rattle.double_description.specs.declared.negatives.Negatives.{Negatives}
 use Rattle.double_description.specs.declared.signs.Sign.{Sign}
 use Rattle.cone_definitions.specs.Vectors.{ray_at}
@@ -11,7 +11,6 @@ use Rattle.double_description.specs.Signs.{IsFacePair}
 use Rattle.double_description.specs.declared.kept.Kept.{Kept}
 use Rattle.double_description.specs.Kepts.{rays_of, AreOfWidth}
 use Rattle.double_description.specs.Unions.{HaveSmallUnions}
-use Rattle.double_description.specs.Rivals.{AreRivals}
 use Rattle.double_description.specs.Negatives.{AreNegatives, IsFar, IsFirstNear}
 use Rattle.double_description.proofs.KeptLemmas.{length-rays_of, ray_width}
 use Rattle.double_description.proofs.RivalLemmas.{support_read, support_of_rival, count_of_rivals, not_face_clash}
@@ -26,25 +25,25 @@ common_iff s t words other of_s of_t = (
 )
 
 -- a far ray makes no pair
-pub not_face_far : (pairs : List Clash) (rays : List (List ℕ)) (signs : List Sign) (i columns most k : ℕ) (rivals : Rivals) (negatives : Negatives) (a : List Bool) →
-    AreRivals pairs rays i columns rivals → HaveSmallUnions columns most pairs rays → AreNegatives rays signs columns negatives → length signs ≡ length rays →
+pub not_face_far : (pairs : List Clash) (rays : List (List ℕ)) (signs : List Sign) (i columns most k : ℕ) (joined : List Bool) (negatives : Negatives) (a : List Bool) →
+    AreJoinedTo pairs (support_of (ray_at rays i)) joined → HaveSmallUnions columns most pairs rays → AreNegatives rays signs columns negatives → length signs ≡ length rays →
     i < length rays → length (ray_at rays i) ≡ columns → a ≡ support_of (ray_at rays i) → k < length negatives.places.items →
-    IsFar a rivals.joined most (get_or negatives.table.supports k []) → ¬ IsFacePair pairs rays i (get_or negatives.places.items k 0)
-not_face_far pairs rays signs i columns most k rivals negatives a h small n count i_in wide a_is within far =
+    IsFar a joined most (get_or negatives.table.supports k []) → ¬ IsFacePair pairs rays i (get_or negatives.places.items k 0)
+not_face_far pairs rays signs i columns most k joined negatives a h small n count i_in wide a_is within far =
     let j = get_or negatives.places.items k 0 in
     let b_is = support_of_rival rays columns negatives.places.items negatives.table k n.table within in
     let j_in : j < length rays = let less = n.places.in_range k 0 within in omega (arith, count) in
     ⊎_elim
-    (λ meets. not_face_clash pairs rays i j columns rivals h (subst (λ s. Meets s rivals.joined) b_is meets))
+    (λ meets. not_face_clash pairs rays i j joined h (subst (λ s. Meets s joined) b_is meets))
     (λ large. not_face_large columns most pairs rays i j a (get_or negatives.table.supports k []) small i_in j_in a_is b_is wide large)
     far
 
 -- up to the first ray that isn't far, the pairs are taken
-pub near_taken : (limit : ℕ) (pairs : List Clash) (kepts : List Kept) (signs : List Sign) (i columns most m n : ℕ) (rivals : Rivals) (negatives : Negatives) (u : Kept) (made : List (List ℕ)) →
-    AreRivals pairs (rays_of kepts) i columns rivals → HaveSmallUnions columns most pairs (rays_of kepts) → AreNegatives (rays_of kepts) signs columns negatives → length signs ≡ length kepts →
-    i < length kepts → AreOfWidth columns kepts → ray_at (rays_of kepts) i ≡ u.ray → IsFirstNear u.support rivals.joined most negatives.table.supports m n →
+pub near_taken : (limit : ℕ) (pairs : List Clash) (kepts : List Kept) (signs : List Sign) (i columns most m n : ℕ) (joined : List Bool) (negatives : Negatives) (u : Kept) (made : List (List ℕ)) →
+    AreJoinedTo pairs (support_of (ray_at (rays_of kepts) i)) joined → HaveSmallUnions columns most pairs (rays_of kepts) → AreNegatives (rays_of kepts) signs columns negatives → length signs ≡ length kepts →
+    i < length kepts → AreOfWidth columns kepts → ray_at (rays_of kepts) i ≡ u.ray → IsFirstNear u.support joined most negatives.table.supports m n →
     HaveTaken limit pairs (rays_of kepts) signs negatives.places.items i m made → (n ≤ length negatives.places.items) × HaveTaken limit pairs (rays_of kepts) signs negatives.places.items i n made
-near_taken limit pairs kepts signs i columns most m n rivals negatives u made h small neg count i_in widths read near taken =
+near_taken limit pairs kepts signs i columns most m n joined negatives u made h small neg count i_in widths read near taken =
     let rays = rays_of kepts in
     let places = negatives.places.items in
     let all = length-rays_of kepts in
@@ -52,7 +51,7 @@ near_taken limit pairs kepts signs i columns most m n rivals negatives u made h 
     let within : n ≤ length places = let w = near.within in omega (arith, same) in (
       within,
       taken_to limit pairs rays signs places i m n made neg.places near.least within
-          (λ k low less p. not_face_far pairs rays signs i columns most k rivals negatives u.support h small neg (omega (arith, count)) (omega arith)
+          (λ k low less p. not_face_far pairs rays signs i columns most k joined negatives u.support h small neg (omega (arith, count)) (omega arith)
           (ray_width kepts i columns i_in widths) (support_read u (ray_at rays i) read) (omega arith) (near.earlier k low less) p.face)
           taken,
     )
