@@ -1,1 +1,2 @@
 pub mod TurnedLemmas
+pub mod JoinLemmas

@@ -2,6 +2,7 @@
 #![tactic(auto)]
 
 mod made;
+mod search;
 mod turned;
 
 pub use made::made_rays;

@@ -7,39 +7,82 @@ ghost use Rattle.double_description.specs.Kepts.{rays_of, AreOfWidth};
 ghost use Rattle.double_description.specs.Signs.{IsBoundedSign, IsMadeUpTo};
 ghost use Rattle.double_description.specs.Unions.{HaveSmallUnions, MakeSinglesPairs};
 
-use crate::turned::{has_more_positives, turned_signs};
+use crate::search::{combine_with, no_rivals};
+use crate::turned::{has_more_positives, has_positive, turned_signs};
 use cone_core::MAX_ENTRY;
-use double_description::{Kept, Permit, Sign, StepFault, combinations};
+use double_description::{Kept, Permit, Sign, StepFault, negatives_of};
 use no_memory::NoMemory;
 use std::alloc::Global;
 use support_bits::Support;
 
-/// The combinations of each positive ray in turn; nothing where an entry passes the greatest.
+/// The combinations of each positive ray in turn.
 fn made_in_turn<F: Fn(&Support, &Support) -> bool>(
     alloc: Global,
     permit: &Permit<F>,
     kepts: &[Kept],
     signs: &[Sign],
     most: u64,
-) -> Result<Option<Vec<Kept>>, NoMemory>
+) -> Result<Vec<Kept>, StepFault>
     requires decides { DecidesClashes permit.now.columns permit.now.clashes.items (F.pre permit.now.test) (F.post permit.now.test) }
     requires widths { AreOfWidth permit.now.columns kepts.now }
     requires count { length signs.now ≡ length kepts.now }
     requires bounded { All (IsBoundedSign MAX_ENTRY) signs.now }
     requires small { HaveSmallUnions permit.now.columns most permit.now.clashes.items (rays_of kepts.now) }
     requires singles { MakeSinglesPairs permit.now.clashes.items (rays_of kepts.now) }
-    ensures made { IfOk result (λ answer. IfSome answer (λ made. IsMadeUpTo MAX_ENTRY permit.now.clashes.items (rays_of kepts.now) signs.now (length signs.now) 0 (rays_of made.items))) }
-    ensures widths { IfOk result (λ answer. IfSome answer (λ made. AreOfWidth permit.now.columns made.items)) }
+    ensures made { IfOk result (λ made. IsMadeUpTo MAX_ENTRY permit.now.clashes.items (rays_of kepts.now) signs.now (length signs.now) 0 (rays_of made.items)) }
+    ensures widths { IfOk result (λ made. AreOfWidth permit.now.columns made.items) }
 {
-    match combinations(alloc, permit, kepts, signs, most, MAX_ENTRY) {
-        Ok(made) => Ok(Some(made)),
-        Err(StepFault::Large(_)) => Ok(None),
-        Err(StepFault::NoMemory) => Err(NoMemory),
+    let mut made = Vec::new(alloc);
+    if !has_positive(signs) {
+        return Ok(made);
+    }
+    let negatives = negatives_of(alloc, kepts, signs, permit.columns)?;
+    let mut rivals = no_rivals(alloc, kepts, permit.columns)?;
+    for (i, sign) in signs.iter().enumerate() {
+        if let Sign::Positive(at_u) = *sign {
+            combine_with(
+                alloc,
+                permit,
+                kepts,
+                signs,
+                &negatives,
+                &mut rivals,
+                i,
+                at_u,
+                most,
+                &mut made,
+            )?;
+        }
+    }
+    Ok(made)
+}
+
+/// The combinations of each ray in turn that has the sign of the fewer, since for each the rivals are gathered.
+fn made_by_fewer<F: Fn(&Support, &Support) -> bool>(
+    alloc: Global,
+    permit: &Permit<F>,
+    kepts: &[Kept],
+    signs: &[Sign],
+    most: u64,
+) -> Result<Vec<Kept>, StepFault>
+    requires decides { DecidesClashes permit.now.columns permit.now.clashes.items (F.pre permit.now.test) (F.post permit.now.test) }
+    requires widths { AreOfWidth permit.now.columns kepts.now }
+    requires count { length signs.now ≡ length kepts.now }
+    requires bounded { All (IsBoundedSign MAX_ENTRY) signs.now }
+    requires small { HaveSmallUnions permit.now.columns most permit.now.clashes.items (rays_of kepts.now) }
+    requires singles { MakeSinglesPairs permit.now.clashes.items (rays_of kepts.now) }
+    ensures made { IfOk result (λ made. IsMadeUpTo MAX_ENTRY permit.now.clashes.items (rays_of kepts.now) signs.now (length signs.now) 0 (rays_of made.items)) }
+    ensures widths { IfOk result (λ made. AreOfWidth permit.now.columns made.items) }
+{
+    if has_more_positives(signs) {
+        let turned = turned_signs(alloc, signs)?;
+        made_in_turn(alloc, permit, kepts, &turned, most)
+    } else {
+        made_in_turn(alloc, permit, kepts, signs, most)
     }
 }
 
 /// The combinations of all pairs of a positive and a negative ray, in any order; nothing where an entry passes the greatest.
-/// The rays of the sign that fewer have are taken in turn, since for each the rivals are gathered.
 pub fn made_rays<F: Fn(&Support, &Support) -> bool>(
     alloc: Global,
     permit: &Permit<F>,
@@ -56,10 +99,9 @@ pub fn made_rays<F: Fn(&Support, &Support) -> bool>(
     ensures made { IfOk result (λ answer. IfSome answer (λ made. IsMadeUpTo MAX_ENTRY permit.now.clashes.items (rays_of kepts.now) signs.now (length signs.now) 0 (rays_of made.items))) }
     ensures widths { IfOk result (λ answer. IfSome answer (λ made. AreOfWidth permit.now.columns made.items)) }
 {
-    if has_more_positives(signs) {
-        let turned = turned_signs(alloc, signs)?;
-        made_in_turn(alloc, permit, kepts, &turned, most)
-    } else {
-        made_in_turn(alloc, permit, kepts, signs, most)
+    match made_by_fewer(alloc, permit, kepts, signs, most) {
+        Ok(made) => Ok(Some(made)),
+        Err(StepFault::Large(_)) => Ok(None),
+        Err(StepFault::NoMemory) => Err(NoMemory),
     }
 }

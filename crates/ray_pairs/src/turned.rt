@@ -1,7 +1,7 @@
 // Signs with positive and negative turned, and which of the two are fewer.
 
-ghost use Rattle.std.specs.Prelude.{◌≡◌, map, IfOk};
-ghost use Rattle.ray_pairs.specs.Turned.{turned_sign};
+ghost use Rattle.std.specs.Prelude.{◌≡◌, ◌↔◌, map, IsTrue, IfOk};
+ghost use Rattle.ray_pairs.specs.Turned.{turned_sign, HasPositive};
 
 use double_description::Sign;
 use no_memory::NoMemory;
@@ -37,4 +37,16 @@ pub fn has_more_positives(signs: &[Sign]) -> bool {
         .filter(|sign| matches!(sign, Sign::Negative(_)))
         .count();
     negatives < positives
+}
+
+/// Whether a sign is positive.
+pub fn has_positive(signs: &[Sign]) -> bool
+    ensures { IsTrue result ↔ HasPositive signs.now }
+{
+    for (place, _) in signs.iter().enumerate() {
+        if let Sign::Positive(_) = signs[place] {
+            return true;
+        }
+    }
+    false
 }

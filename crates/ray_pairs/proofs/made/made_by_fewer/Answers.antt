@@ -1,6 +1,5 @@
 -- With the signs turned the same pairs are taken.
 use Rattle.std.proofs.Common.{◌≡◌, ◌∙◌, subst, sym, length, map}
-use Rattle.std.proofs.lemmas.Option.{IfSome_then}
 use Rattle.std.proofs.lemmas.Result.{IfOk-weaker}
 use Rattle.std.specs.List.{All}
 use Rattle.cone_core.specs.declared.numbers.TheConstants.{MAX_ENTRY}
@@ -9,7 +8,7 @@ use Rattle.double_description.specs.Signs.{IsBoundedSign, IsMadeUpTo}
 use Rattle.double_description.proofs.KeptLemmas.{length-rays_of}
 use Rattle.ray_pairs.specs.Turned.{turned_sign}
 use Rattle.ray_pairs.proofs.TurnedLemmas.{made-turned, all_bounded-turned}
-use Rattle.ray_pairs.proofs.made.made_rays.Goals as goal
+use Rattle.ray_pairs.proofs.made.made_by_fewer.Goals as goal
 
 pub made_in_turn-requires-clause-bounded : goal.made_in_turn-requires-clause-bounded
 made_in_turn-requires-clause-bounded g c =
@@ -22,6 +21,6 @@ returns-in_ok-turned-clause-made g c =
     let pairs = c.args.permit.now.clashes.items in
     let is : c.deref.result.now ≡ map turned_sign signs = c.deref.ensures.value ∙ c.in_ok-turned.ensures in
     IfOk-weaker c.made_in_turn.result _ _
-    (λ answer some. IfSome_then answer some (λ made h. made-turned MAX_ENTRY pairs rays signs (rays_of made.items) (c.requires.count ∙ sym (length-rays_of c.args.kepts.now))
-    (subst (λ s. IsMadeUpTo MAX_ENTRY pairs rays s (length s) 0 (rays_of made.items)) is h)))
+    (λ made h. made-turned MAX_ENTRY pairs rays signs (rays_of made.items) (c.requires.count ∙ sym (length-rays_of c.args.kepts.now))
+    (subst (λ s. IsMadeUpTo MAX_ENTRY pairs rays s (length s) 0 (rays_of made.items)) is h))
     c.made_in_turn.ensures.made
