@@ -1,75 +1,169 @@
 #!/usr/bin/env python3
-"""Measures `trinorm surfaces` and `trinorm rays`: seconds and vectors per line, on layered loops of
-tetrahedra (closed, orientable), on random sparse cones from fixed seeds, and on the tables of bench/tables.py, these
-beside Regina's double description in the same coordinates where it is installed. Seconds are those of the processor.
+"""Measures `trinorm surfaces` and `trinorm decompose` beside Regina, in one run.
 
-Usage: bench/surfaces.py [PROGRAM]
+    bench/surfaces.py [PROGRAM] [--families closed,ideal,..] [--straight] [--best 3] [--cut 60]
+
+The program is a process of its own, its start counted; Regina is one call inside its interpreter, without its start: what
+`NormalSurfaces(table, coordinates)` gives by default and, where asked for, its straight double description. Seconds are
+those of the processor, the least of so many runs (one where a run takes over a second). A call of Regina's that takes
+longer than the cut is ended, and counts as the cut.
 """
-import random
+import argparse
+import math
+import shutil
+import subprocess
+import sys
 
-from common import ENDED, layered_loop, named_program, regina_takes, run
-from tables import CLOSED, IDEAL, SLOW
+from common import ENDED, layered_loop, run
+from tables import BOUNDARY, CLOSED, HYPERBOLIC, IDEAL, SLOW
+from trinorm import find
 
-LIMIT = 120
-
-# What Regina's interpreter is told: seconds of its double description in standard coordinates, without its start.
+# What Regina's interpreter is told: how many surfaces there are, and the least seconds of a call.
 REGINA = """
 import regina, time
 table = regina.Triangulation3.fromIsoSig(%r)
-begun = time.process_time()
-how = regina.NS_VERTEX_STD_DIRECT | regina.NS_VERTEX_DD
-found = regina.NormalSurfaces(table, regina.NS_STANDARD, regina.NS_VERTEX, how)
-print(found.size(), time.process_time() - begun)
+least = None
+for _ in range(%d):
+    begun = time.process_time()
+    found = regina.NormalSurfaces(table, regina.%s%s)
+    seconds = time.process_time() - begun
+    least = seconds if least is None else min(least, seconds)
+    if seconds > 1:
+        break
+print(found.size(), least)
 """
+DEFAULT, STRAIGHT = "", ", regina.NS_VERTEX, regina.NS_VERTEX_STD_DIRECT | regina.NS_VERTEX_DD"
+COORDINATES = {"standard": "NS_STANDARD", "quad": "NS_QUAD", "octagon": "NS_AN_STANDARD"}
+FAMILIES = {"closed": CLOSED, "hyperbolic": HYPERBOLIC, "ideal": IDEAL, "boundary": BOUNDARY}
 
 
-def cone(columns, rows, seed):
-    """Rows of four coefficients between -2 and 2 each, drawn from a fixed seed."""
-    draw = random.Random(seed)
-    lines = []
-    for _ in range(rows):
-        row = [0] * columns
-        for column in draw.sample(range(columns), 4):
-            row[column] = draw.choice([-2, -1, 1, 2])
-        lines.append(" ".join(map(str, row)))
-    return f"cone {columns} {rows}\n" + "".join(line + "\n" for line in lines)
+def interpreter():
+    """The Python that has the module regina; None where Regina isn't installed."""
+    for path in filter(None, (shutil.which("python3"), "/usr/bin/python3", shutil.which("regina-python"))):
+        if run([path, "-c", "import regina"] if "regina" not in path else [path, "--version"]).status == 0:
+            return path
+    return None
 
 
-def measure(program, words, name, text):
-    done = run([program, *words], text, LIMIT)
-    told = f"no answer in {LIMIT} s" if done.status == ENDED else f"{done.answer.count('vec')} vectors, status {done.status}, {done.seconds:.2f} s"
-    print(f"{name}, {' '.join(words)}: {told}", flush=True)
+class Ratios:
+    """The ratios of one comparison, for their mean."""
+
+    def __init__(self, name):
+        self.name, self.them = name, []
+
+    def add(self, ratio):
+        self.them.append(ratio)
+
+    def tell(self):
+        if self.them:
+            mean = math.exp(sum(map(math.log, self.them)) / len(self.them))
+            print(f"{self.name}: {len(self.them)} tables, geometric mean {mean:.3f}, greatest {max(self.them):.3f}", flush=True)
 
 
-def compare(program, kind, tables):
-    """Standard coordinates with the order `zeros`, beside Regina; and the default order where it takes few seconds."""
-    for count, signature in tables.items():
-        text = f"sig {signature}\n"
-        zeros = run([program, "surfaces", "--order", "zeros"], text, LIMIT)
-        line = f"{kind} table of {count}, zeros: {zeros.answer.count('vec')} vectors, {zeros.seconds:.3f} s"
-        peer = regina_takes(REGINA % signature)
-        if peer:
-            line += f"; Regina {peer:.3f} s, ratio {zeros.seconds / peer:.2f}"
-        if count <= 10:
-            line += f"; given {run([program, 'surfaces'], text, LIMIT).seconds:.3f} s"
+class Bench:
+    """The program beside Regina, and how often and how long both are asked."""
+
+    def __init__(self, program, best, cut):
+        self.program, self.best, self.cut, self.python = program, best, cut, interpreter()
+
+    def ask(self, words, text):
+        """The answer and the least seconds; None where it takes longer than twice the cut."""
+        least, answer = None, ""
+        for _ in range(self.best):
+            done = run([self.program, *words], text, 2 * self.cut)
+            if done.status == ENDED:
+                return None
+            answer, least = done.answer, min(done.seconds, least or done.seconds)
+            if done.seconds > 1:
+                break
+        return answer, least
+
+    def regina(self, signature, coords, how):
+        """How many surfaces Regina lists and the least seconds, or None where it takes longer than the cut."""
+        script = REGINA % (signature, self.best, COORDINATES[coords], how)
+        try:
+            done = subprocess.run([self.python, "-c", script], stdout=subprocess.PIPE, timeout=self.best * self.cut, check=False)
+        except subprocess.TimeoutExpired:
+            return None
+        count, seconds = done.stdout.split()[-2:]
+        return int(count), float(seconds)
+
+    def compare(self, name, text, coords, peers):
+        """One line: the name, how many surfaces, the seconds, and of each peer its seconds and the ratio."""
+        own = self.ask(["surfaces"] if coords == "standard" else ["surfaces", "--coords", coords], text)
+        if own is None:
+            print(f"| {name} | no answer in {2 * self.cut} s |", flush=True)
+            return
+        found, seconds = own[0].count("vec"), own[1]
+        line = f"| {name} | {found:,} | {seconds:.4f} |"
+        signature = text.split()[1] if text.startswith("sig ") else run([self.program, "sig"], text).answer.split()[0]
+        for ratios, how in peers if self.python else ():
+            peer = self.regina(signature, coords, how)
+            if peer and peer[0] != found:
+                line += f" {peer[0]} surfaces!"
+            took, over = (peer[1], "") if peer else (self.cut, "over ")
+            ratios.add(seconds / took)
+            line += f" {over}{took:.4f} | {seconds / took:.3f} |"
         print(line, flush=True)
+
+    def decompose(self, name, text, ratios):
+        """A sum for the first surface of the list, beside the list."""
+        listed = self.ask(["surfaces"], text)
+        first = next(line for line in listed[0].splitlines() if line.startswith("vec"))
+        whole = self.ask(["decompose"], f"{text}{first}\n")
+        ratios.add(whole[1] / listed[1])
+        print(f"| {name}, decompose | {listed[1]:.4f} | {whole[1]:.4f} | {whole[1] / listed[1]:.2f} |", flush=True)
+
+
+def tables(least, most):
+    """The families with their tables, a loop for each even number of tetrahedra."""
+    for family, them in FAMILIES.items():
+        for count, signature in them.items():
+            if least <= count <= most:
+                yield family, f"{count} {family}", f"sig {signature}\n"
+    for count in range(least + least % 2, most + 1, 2):
+        yield "loop", f"{count} loop", layered_loop(count)
+
+
+def words():
+    asked = argparse.ArgumentParser(description=__doc__.split("\n", maxsplit=1)[0])
+    asked.add_argument("program", nargs="?")
+    asked.add_argument("--families", default="closed,hyperbolic,ideal,boundary,loop,twenty,quad,octagon,decompose,slow")
+    asked.add_argument("--straight", action="store_true")
+    asked.add_argument("--best", type=int, default=3)
+    asked.add_argument("--cut", type=int, default=60)
+    return asked.parse_args()
 
 
 def main():
-    program = named_program()
-    for tetrahedra in range(3, 13):
-        for order in ("given", "short", "zeros"):
-            measure(program, ["surfaces", "--order", order], f"layered loop of {tetrahedra}", layered_loop(tetrahedra))
-    for columns in (20, 30, 40):
-        for order in ("given", "zeros"):
-            measure(program, ["rays", "--order", order], f"cone of {columns} columns", cone(columns, columns // 2, columns))
-
-    compare(program, "closed", CLOSED)
-    compare(program, "ideal", IDEAL)
+    told = words()
+    chosen = told.families.split(",")
+    bench = Bench(find(told.program), told.best, told.cut)
+    names = {"default": "standard, Regina's default", "straight": "standard, Regina's straight way", "twenty": "20, Regina's default",
+             "quad": "quad, Regina's default", "octagon": "octagon, Regina's default", "decompose": "decompose, the list"}
+    ratios = {key: Ratios(name) for key, name in names.items()}
+    peers = [(ratios["default"], DEFAULT)] + ([(ratios["straight"], STRAIGHT)] if told.straight else [])
+    for family, name, text in tables(12, 18):
+        if family in chosen:
+            bench.compare(name, text, "standard", peers)
+    for family, name, text in tables(20, 20):
+        if "twenty" in chosen and family != "loop":
+            bench.compare(name, text, "standard", [(ratios["twenty"], DEFAULT)])
+    for family, name, text in tables(14, 18):
+        if "quad" in chosen:
+            bench.compare(f"{name}, quad", text, "quad", [(ratios["quad"], DEFAULT)])
+    for family, name, text in tables(9, 12):
+        if "octagon" in chosen:
+            bench.compare(f"{name}, octagon", text, "octagon", [(ratios["octagon"], DEFAULT)])
+    for family, name, text in tables(12, 16):
+        if "decompose" in chosen:
+            bench.decompose(name, text, ratios["decompose"])
     for count, text in SLOW.items():
-        for order in ("given", "zeros"):
-            measure(program, ["surfaces", "--order", order], f"slow table of {count}", text)
+        if "slow" in chosen:
+            bench.compare(f"{count} numbered badly", text, "standard", [])
+    for them in ratios.values():
+        them.tell()
 
 
 if __name__ == "__main__":
-    main()
+    sys.exit(main())

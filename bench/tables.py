@@ -1,5 +1,7 @@
-"""Tables for measurements, as signatures: from two or three tetrahedra grown by 2-3 moves at triangles drawn from fixed
-seeds. Those of CLOSED have one vertex, whose link is a sphere; the link of the one vertex of each of IDEAL is a torus."""
+"""Tables for measurements, as signatures: from a few tetrahedra grown by 2-3 moves at triangles drawn from fixed seeds.
+Those of CLOSED and HYPERBOLIC have one vertex, whose link is a sphere (these are grown from a filling of the figure-eight
+knot's complement); the link of the one vertex of each of IDEAL is a torus; those of BOUNDARY are grown from a layered
+solid torus."""
 import itertools
 
 CLOSED = {
@@ -14,6 +16,20 @@ CLOSED = {
     14: "oLLLLvAMQQcbedhklimnnjklmnapfbaaflxxkkbgs",
     15: "pLLMvLzQPPQccdfijkkjmlmonnoabvxqiffvnoohhcf",
     16: "qLMvvzzAQMQkacdgmmnjlolkppnopbgpdcsagvmjoamdcc",
+    17: "rLMvAzLvPMQQcacdefhikommmnqqqppbgmgbaocrcwwouuudc",
+    18: "sLLMzvAPwMAPQacdegihlkknppoqqrrrbsaclvcaosaaaneulow",
+    20: "uLLMLwvAwwAAQQcbdedhhimnlponrptstrstavafaagrpgdiuocmolbvp",
+}
+
+HYPERBOLIC = {
+    12: "mvLALwPQQdcfhgjljiklklokqqavmffitiv",
+    13: "nLvLAwwQQkbefeghljkmmlmlelalfruuldsnnn",
+    14: "oLLAvLwMQQcbcedgkikmlknnmnajhffaorercpqmf",
+    15: "pLLLLPzLQMQccfgfhkmlnlmnoootnagfkaiivbjjpeu",
+    16: "qLLvLzQvAQQkcdghgiholnpmmoppoargscrvhucbsbvrgb",
+    17: "rLvLwwLzAQQQcbdefkmkjqkpqponopqafmfuelqonrsrjcofb",
+    18: "sLvLPvwMMPPQQbdhgkhljpmoqnrorqprafdgaflpowjdftvaugf",
+    20: "uLvLMLvLvQQMQQcbdghgppklnmrnrsttsstraftvgucbcgcsgriuuitmf",
 }
 
 IDEAL = {
@@ -28,6 +44,18 @@ IDEAL = {
     14: "oLLLvLQQzQcacfhglikilkmmnnnkgivxmckjjamfn",
     15: "pLvLMvQPAMQbdhgjihmjlmloonodflgavoulagcatfo",
     16: "qLLLvvLQPQQkbcenkoljilkmopnppacqpdhtqkgvcckbrk",
+    17: "rLLLMvvMQzQQccdgeflmjknpmmpooqqhsapbhnfngukfivcnb",
+    18: "sLLALvLPwMQAQcddefmjjjlpmnooqrrravvavgvwcoibagffaaa",
+}
+
+BOUNDARY = {
+    12: "mHLfzPPPMcbcgghhijkkllhgaxaarveagb",
+    13: "nLgvwwMjQQacfgilkjkmlmmbgvutavjklaev",
+    14: "oLLLLrPPAIkbedhjjlilmmlnnaafvuauohpjbaf",
+    15: "pLLLwLvQPQGcbddfkkimjnllmooabfttgcsbffkgdc",
+    16: "qLfvvwLQPQQIcgknmmmoplokpnnpagnlllldtadcahvv",
+    17: "rHvrMwPzzzQQkbeehjilmkqmnnopqqaffqiewqghpsjcvsb",
+    18: "sLLAwLLLQjzjQcbddeejlijkmnorqrqrabcuevxvcaojuvsrfo",
 }
 
 # Tables that are slow in the default order, the worst of some eight hundred that were drawn, grown, renumbered and climbed.
