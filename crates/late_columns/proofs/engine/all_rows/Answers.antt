@@ -1,0 +1,23 @@
+use Rattle.std.proofs.Common.{◌≡◌, ◌≤◌, ◌++◌, ◌∷◌, [], length, take, take_all, subst, sym, ap, ◌∙◌, arith}
+use Rattle.std.proofs.lemmas.List.{take_more}
+use Rattle.late_columns.specs.Late.{AreLate}
+use Rattle.late_columns.proofs.LateSteps.{pairs_apart, all_seen}
+use Rattle.late_columns.proofs.engine.all_rows.Goals as goal
+
+pub loop-number-preserved : goal.loop-number-preserved
+loop-number-preserved g c =
+    let rows = c.args.system.now.rows in
+    let number = c.loop-number.number in
+    subst (λ taken. AreLate c.args.permit.now.columns taken c.args.permit.now.clashes.items c.in_ok-late-2.late)
+    (ap (λ row. take number rows ++ row ∷ []) c.row.ensures.row ∙ sym (take_more rows number [] (omega (arith, c.len-number-end.ensures, c.loop-number-test.true))))
+    (c.in_ok-late-2.ensures (take number rows) c.loop-number.invariant)
+
+pub returns : goal.returns
+returns g c =
+    let rows = c.args.system.now.rows in
+    let pairs = c.args.permit.now.clashes.items in
+    let columns = c.args.permit.now.columns in
+    let entered = c.in_ok-enter_all.ensures.entered in
+    all_seen columns rows pairs c.enter_all.new.late c.in_ok-enter_all.ensures.seen
+    (entered.late rows pairs (pairs_apart columns pairs c.args.permit.now.different)
+    (subst (λ taken. AreLate columns taken pairs c.loop-number.late) (take_all c.loop-number.number rows (omega (arith, c.len-number-end.ensures, c.loop-number-test.false))) c.loop-number.invariant))

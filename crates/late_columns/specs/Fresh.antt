@@ -1,0 +1,34 @@
+-- Fresh columns of rows.
+use Rattle.std.specs.Prelude.{◌≡◌, ◌≢◌, ℕ, ◌<◌, List, Bool, true, false}
+use Rattle.std.specs.List.{All}
+use Rattle.cone_definitions.specs.Rows.{Row, plus_part, minus_part}
+use Rattle.cone_definitions.specs.Surfaces.{Clash}
+use Rattle.cone_definitions.specs.Vectors.{unit}
+use Rattle.row_operation_laws.specs.Operations.{turned}
+use Rattle.late_columns.specs.Late.{IsUnseen}
+use Rattle.late_columns.specs.declared.fresh.Fresh.{Fresh}
+
+-- the row, or the row with all its signs turned
+abbrev pub oriented : Bool → Row → Row
+oriented true row = turned row
+oriented false row = row
+
+-- so oriented the row has 1 in the column
+abbrev pub HasOne : ℕ → Row → ℕ → Bool → Type 0
+HasOne columns row column is_turned = (plus_part (oriented is_turned row) (unit columns column) ≡ 1) × (minus_part (oriented is_turned row) (unit columns column) ≡ 0)
+
+-- no column of the row but this one is unseen
+abbrev pub IsLone : Row → List Bool → ℕ → Type 0
+IsLone row seen column = All (λ term. IsUnseen seen term.0 → term.0 ≡ column) row
+
+-- the column clashes with none
+abbrev pub IsFree : List Clash → ℕ → Type 0
+IsFree pairs column = All (λ pair. (pair.0 ≢ column) × (pair.1 ≢ column)) pairs
+
+-- the only unseen column of the row, with the coefficient 1 or -1, which clashes with none
+pub record IsFreshColumn (columns : ℕ) (row : Row) (pairs : List Clash) (seen : List Bool) (fresh : Fresh) : Type 0 where
+  pub in_range : fresh.column < columns
+  pub unseen : IsUnseen seen fresh.column
+  pub lone : IsLone row seen fresh.column
+  pub one : HasOne columns row fresh.column fresh.is_turned
+  pub free : IsFree pairs fresh.column

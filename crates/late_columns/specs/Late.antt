@@ -1,0 +1,44 @@
+-- Rays of the rows so far that have none of the columns not seen yet.
+use Rattle.std.specs.Prelude.{◌≡◌, ℕ, ◌+◌, ◌≤◌, ◌++◌, List, [], ◌∷◌, pos, Bool, true, false, length, slice_index_or}
+use Rattle.std.specs.List.{All}
+use Rattle.cone_definitions.specs.Rows.{Row}
+use Rattle.cone_definitions.specs.Surfaces.{Clash, PairsAreApart}
+use Rattle.double_description.specs.Kepts.{rays_of}
+use Rattle.double_description.specs.Unordered.{HasSurfaces}
+use Rattle.solved_laws.specs.Fresh.{IsUntouched}
+use Rattle.late_columns.specs.declared.entering.LateRays.{LateRays}
+
+-- the column isn't seen; a column past the end isn't among those
+abbrev pub IsUnseen : List Bool → ℕ → Type 0
+IsUnseen seen column = slice_index_or seen column true ≡ false
+
+-- for each column that isn't seen the row that is 0 where the column is, counted from a column on
+unfoldable pub held_rows : ℕ → List Bool → List Row
+held_rows column [] = []
+held_rows column (true ∷ seen) = held_rows (column + 1) seen
+held_rows column (false ∷ seen) = ((column, pos 1) ∷ []) ∷ held_rows (column + 1) seen
+
+-- the rays are the vertex surfaces of the rows that are 0 at each column not seen, and none of the rows has such a column
+pub record AreLate (columns : ℕ) (rows : List Row) (pairs : List Clash) (late : LateRays) : Type 0 where
+  pub count : length late.seen.items ≡ columns
+  pub untouched : (column : ℕ) → IsUnseen late.seen.items column → IsUntouched columns rows column
+  pub surfaces : HasSurfaces columns (rows ++ held_rows 0 late.seen.items) pairs (rays_of late.kepts.items)
+
+-- such rays of rows of which there are so few that the union of a pair has at most so many columns
+pub record AreLateOfFew (columns most : ℕ) (pairs : List Clash) (late : LateRays) : Type 0 where
+  pub rows : List Row
+  pub few : length rows + 2 ≤ most
+  pub so_far : AreLate columns rows pairs late
+
+-- they are still such rays, and no further column is unseen
+pub record HaveEntered (columns : ℕ) (old new : LateRays) : Type 0 where
+  pub late : (rows : List Row) (pairs : List Clash) → PairsAreApart pairs → AreLate columns rows pairs old → AreLate columns rows pairs new
+  pub unseen : (column : ℕ) → IsUnseen new.seen.items column → IsUnseen old.seen.items column
+
+-- each column of the row is seen
+abbrev pub AreSeen : List Bool → Row → Type 0
+AreSeen seen row = All (λ term. slice_index_or seen term.0 true ≡ true) row
+
+-- from such rays of some rows they are those of one row more
+abbrev pub AreNextLate : ℕ → List Clash → Row → LateRays → LateRays → Type 0
+AreNextLate columns pairs row old new = (rows : List Row) → AreLate columns rows pairs old → AreLate columns (rows ++ row ∷ []) pairs new

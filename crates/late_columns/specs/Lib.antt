@@ -1,0 +1,3 @@
+pub mod Late
+pub mod Fresh
+pub mod Raised

@@ -1,0 +1,90 @@
+// Columns that enter: the unit vector of a column joins the rays when a row first has it.
+
+ghost use Rattle.std.specs.Prelude.{◌≡◌, ℕ, ◌<◌, true, [], List, length, slice_set, slice_index_or, IfOk, OnOk};
+ghost use Rattle.cone_core.specs.Sparse.{IsInRange};
+ghost use Rattle.cone_definitions.specs.Surfaces.{Clash};
+ghost use Rattle.late_columns.specs.Late.{IsUnseen, AreLate, AreSeen, HaveEntered};
+
+use cone_core::{Ray, SparseRow};
+use double_description::Kept;
+use no_memory::NoMemory;
+use std::alloc::Global;
+
+/// The rays of the rows so far that have none of the columns not seen yet, and which columns were seen.
+#[derive(Drop)]
+pub struct LateRays {
+    pub kepts: Vec<Kept>,
+    pub seen: Vec<bool>,
+}
+
+/// No column is seen, and there is no ray.
+pub fn none_seen(alloc: Global, columns: u32) -> Result<LateRays, NoMemory>
+    ensures { IfOk result (λ late. (pairs : List Clash) → AreLate columns [] pairs late) }
+{
+    let kepts = Vec::new(alloc);
+    let seen = vec![in alloc; false; columns as usize]?;
+    Ok(LateRays { kepts, seen })
+}
+
+/// A column that isn't seen enters.
+fn enter(alloc: Global, columns: u32, column: u32, late: &mut LateRays) -> Result<(), NoMemory>
+    requires columns { length late.old.seen.items ≡ columns }
+    requires in_range { column < columns }
+    requires unseen { IsUnseen late.old.seen.items column }
+    ensures entered { OnOk result (HaveEntered columns late.old late.new) }
+    ensures seen { OnOk result (late.new.seen.items ≡ slice_set late.old.seen.items column true) }
+{
+    let ray = Ray::unit(alloc, columns, column)?;
+    late.kepts.push(Kept::new(alloc, ray)?)?;
+    late.seen[column as usize] = true;
+    Ok(())
+}
+
+/// A column enters, unless it is seen.
+fn enter_unseen(
+    alloc: Global,
+    columns: u32,
+    column: u32,
+    late: &mut LateRays,
+) -> Result<(), NoMemory>
+    requires columns { length late.old.seen.items ≡ columns }
+    requires in_range { column < columns }
+    ensures count { OnOk result (length late.new.seen.items ≡ columns) }
+    ensures entered { OnOk result (HaveEntered columns late.old late.new) }
+    ensures seen { OnOk result (slice_index_or late.new.seen.items column true ≡ true) }
+{
+    if !late.seen[column as usize] {
+        enter(alloc, columns, column, late)?;
+    }
+    Ok(())
+}
+
+/// All columns of a row enter.
+pub fn enter_row(
+    alloc: Global,
+    columns: u32,
+    row: &SparseRow,
+    late: &mut LateRays,
+) -> Result<(), NoMemory>
+    requires columns { length late.old.seen.items ≡ columns }
+    requires in_range { IsInRange columns row.now }
+    ensures entered { OnOk result (HaveEntered columns late.old late.new) }
+    ensures seen { OnOk result (AreSeen late.new.seen.items row.now) }
+{
+    for (column, _) in row.entries() {
+        enter_unseen(alloc, columns, *column, late)?;
+    }
+    Ok(())
+}
+
+/// All columns enter.
+pub fn enter_all(alloc: Global, columns: u32, late: &mut LateRays) -> Result<(), NoMemory>
+    requires columns { length late.old.seen.items ≡ columns }
+    ensures entered { OnOk result (HaveEntered columns late.old late.new) }
+    ensures seen { OnOk result ((column : ℕ) → slice_index_or late.new.seen.items column true ≡ true) }
+{
+    for column in 0..columns {
+        enter_unseen(alloc, columns, column, late)?;
+    }
+    Ok(())
+}
