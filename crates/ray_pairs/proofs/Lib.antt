@@ -1,2 +1,3 @@
 pub mod TurnedLemmas
 pub mod JoinLemmas
+pub mod PartnerLemmas

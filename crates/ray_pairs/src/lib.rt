@@ -2,7 +2,9 @@
 #![tactic(auto)]
 
 mod made;
+mod partners;
 mod search;
 mod turned;
 
 pub use made::made_rays;
+pub use partners::partners_of;

@@ -6,6 +6,7 @@ ghost use Rattle.double_description.specs.Clashes.{DecidesClashes};
 ghost use Rattle.double_description.specs.Kepts.{rays_of, AreOfWidth};
 ghost use Rattle.double_description.specs.Signs.{IsBoundedSign, IsMadeUpTo};
 ghost use Rattle.double_description.specs.Unions.{HaveSmallUnions, MakeSinglesPairs};
+ghost use Rattle.ray_pairs.specs.Partners.{ArePartners};
 
 use crate::search::{combine_with, no_rivals};
 use crate::turned::{has_more_positives, has_positive, turned_signs};
@@ -19,11 +20,13 @@ use support_bits::Support;
 fn made_in_turn<F: Fn(&Support, &Support) -> bool>(
     alloc: Global,
     permit: &Permit<F>,
+    partners: &[Support],
     kepts: &[Kept],
     signs: &[Sign],
     most: u64,
 ) -> Result<Vec<Kept>, StepFault>
     requires decides { DecidesClashes permit.now.columns permit.now.clashes.items (F.pre permit.now.test) (F.post permit.now.test) }
+    requires partners { ArePartners permit.now.columns permit.now.clashes.items partners.now }
     requires widths { AreOfWidth permit.now.columns kepts.now }
     requires count { length signs.now ≡ length kepts.now }
     requires bounded { All (IsBoundedSign MAX_ENTRY) signs.now }
@@ -43,6 +46,7 @@ fn made_in_turn<F: Fn(&Support, &Support) -> bool>(
             combine_with(
                 alloc,
                 permit,
+                partners,
                 kepts,
                 signs,
                 &negatives,
@@ -61,11 +65,13 @@ fn made_in_turn<F: Fn(&Support, &Support) -> bool>(
 fn made_by_fewer<F: Fn(&Support, &Support) -> bool>(
     alloc: Global,
     permit: &Permit<F>,
+    partners: &[Support],
     kepts: &[Kept],
     signs: &[Sign],
     most: u64,
 ) -> Result<Vec<Kept>, StepFault>
     requires decides { DecidesClashes permit.now.columns permit.now.clashes.items (F.pre permit.now.test) (F.post permit.now.test) }
+    requires partners { ArePartners permit.now.columns permit.now.clashes.items partners.now }
     requires widths { AreOfWidth permit.now.columns kepts.now }
     requires count { length signs.now ≡ length kepts.now }
     requires bounded { All (IsBoundedSign MAX_ENTRY) signs.now }
@@ -76,9 +82,9 @@ fn made_by_fewer<F: Fn(&Support, &Support) -> bool>(
 {
     if has_more_positives(signs) {
         let turned = turned_signs(alloc, signs)?;
-        made_in_turn(alloc, permit, kepts, &turned, most)
+        made_in_turn(alloc, permit, partners, kepts, &turned, most)
     } else {
-        made_in_turn(alloc, permit, kepts, signs, most)
+        made_in_turn(alloc, permit, partners, kepts, signs, most)
     }
 }
 
@@ -86,11 +92,13 @@ fn made_by_fewer<F: Fn(&Support, &Support) -> bool>(
 pub fn made_rays<F: Fn(&Support, &Support) -> bool>(
     alloc: Global,
     permit: &Permit<F>,
+    partners: &[Support],
     kepts: &[Kept],
     signs: &[Sign],
     most: u64,
 ) -> Result<Option<Vec<Kept>>, NoMemory>
     requires decides { DecidesClashes permit.now.columns permit.now.clashes.items (F.pre permit.now.test) (F.post permit.now.test) }
+    requires partners { ArePartners permit.now.columns permit.now.clashes.items partners.now }
     requires widths { AreOfWidth permit.now.columns kepts.now }
     requires count { length signs.now ≡ length kepts.now }
     requires bounded { All (IsBoundedSign MAX_ENTRY) signs.now }
@@ -99,7 +107,7 @@ pub fn made_rays<F: Fn(&Support, &Support) -> bool>(
     ensures made { IfOk result (λ answer. IfSome answer (λ made. IsMadeUpTo MAX_ENTRY permit.now.clashes.items (rays_of kepts.now) signs.now (length signs.now) 0 (rays_of made.items))) }
     ensures widths { IfOk result (λ answer. IfSome answer (λ made. AreOfWidth permit.now.columns made.items)) }
 {
-    match made_by_fewer(alloc, permit, kepts, signs, most) {
+    match made_by_fewer(alloc, permit, partners, kepts, signs, most) {
         Ok(made) => Ok(Some(made)),
         Err(StepFault::Large(_)) => Ok(None),
         Err(StepFault::NoMemory) => Err(NoMemory),

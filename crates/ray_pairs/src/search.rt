@@ -11,7 +11,9 @@ ghost use Rattle.double_description.specs.Signs.{IsBoundedSign, IsFacePair, IsMa
 ghost use Rattle.double_description.specs.Negatives.{AreNegatives};
 ghost use Rattle.double_description.specs.Rivals.{HaveRivals, AreRivals};
 ghost use Rattle.double_description.specs.Unions.{HaveSmallUnions, MakeSinglesPairs};
+ghost use Rattle.ray_pairs.specs.Partners.{ArePartners};
 
+use crate::partners::joined_by;
 use cone_core::MAX_ENTRY;
 use double_description::{
     Kept, Negatives, Permit, Rivals, Sign, StepFault, combine_pair, face_of_single, first_near,
@@ -20,7 +22,6 @@ use double_description::{
 use no_memory::NoMemory;
 use std::alloc::Global;
 use support_bits::Support;
-use support_table::joined;
 
 /// No rivals, as those of a ray with whose columns all clash: none are gathered yet.
 pub fn no_rivals(alloc: Global, kepts: &[Kept], columns: u32) -> Result<Rivals, NoMemory>
@@ -36,16 +37,16 @@ pub fn no_rivals(alloc: Global, kepts: &[Kept], columns: u32) -> Result<Rivals, 
 fn joined_at<F: Fn(&Support, &Support) -> bool>(
     alloc: Global,
     permit: &Permit<F>,
+    partners: &[Support],
     kepts: &[Kept],
     i: usize,
 ) -> Result<Support, NoMemory>
+    requires partners { ArePartners permit.now.columns permit.now.clashes.items partners.now }
     requires widths { AreOfWidth permit.now.columns kepts.now }
     requires in_range { i < length kepts.now }
     ensures { IfOk result (AreJoinedTo permit.now.clashes.items (support_of (ray_at (rays_of kepts.now) i))) }
 {
-    let support = &kepts[i].support;
-    let _columns = support.columns();
-    joined(alloc, &permit.clashes, support)
+    joined_by(alloc, partners, &kepts[i].support)
 }
 
 /// Gathers the rivals of the ray at a place, unless those at hand have the same columns joined.
@@ -64,8 +65,8 @@ fn gather<F: Fn(&Support, &Support) -> bool>(
     ensures { OnOk result (AreRivals permit.now.clashes.items (rays_of kepts.now) i permit.now.columns rivals.new) }
 {
     if !rivals.joined.same(columns) {
-        let again = joined_at(alloc, permit, kepts, i)?;
-        *rivals = rivals_with(alloc, kepts, permit.columns, again)?;
+        let joined = columns.copy(alloc)?;
+        *rivals = rivals_with(alloc, kepts, permit.columns, joined)?;
     }
     Ok(())
 }
@@ -103,6 +104,7 @@ fn is_face<F: Fn(&Support, &Support) -> bool>(
 pub fn combine_with<F: Fn(&Support, &Support) -> bool>(
     alloc: Global,
     permit: &Permit<F>,
+    partners: &[Support],
     kepts: &[Kept],
     signs: &[Sign],
     negatives: &Negatives,
@@ -113,6 +115,7 @@ pub fn combine_with<F: Fn(&Support, &Support) -> bool>(
     made: &mut Vec<Kept>,
 ) -> Result<(), StepFault>
     requires decides { DecidesClashes permit.now.columns permit.now.clashes.items (F.pre permit.now.test) (F.post permit.now.test) }
+    requires partners { ArePartners permit.now.columns permit.now.clashes.items partners.now }
     requires widths { AreOfWidth permit.now.columns kepts.now }
     requires count { length signs.now ≡ length kepts.now }
     requires bounded { All (IsBoundedSign MAX_ENTRY) signs.now }
@@ -129,7 +132,7 @@ pub fn combine_with<F: Fn(&Support, &Support) -> bool>(
     ensures rivals { OnOk result (HaveRivals (rays_of kepts.now) permit.now.columns rivals.new) }
 {
     let u = &kepts[i];
-    let columns = joined_at(alloc, permit, kepts, i)?;
+    let columns = joined_at(alloc, permit, partners, kepts, i)?;
     let places = negatives.places.as_slice();
     let mut hint = 0;
     let mut m = first_near(&negatives.table, &u.support, &columns, most, 0);

@@ -1,12 +1,17 @@
+use Rattle.std.proofs.Common.{get_or}
 use Rattle.std.proofs.lemmas.Result.{IfOk-weaker}
-use Rattle.ray_pairs.proofs.JoinLemmas.{pairs_of_place, joined_to_ray}
+use Rattle.ray_pairs.proofs.JoinLemmas.{joined_to_ray, support_width}
+use Rattle.ray_pairs.proofs.PartnerLemmas.{joined_all}
 use Rattle.ray_pairs.proofs.search.joined_at.Goals as goal
 
-pub joined-requires-clause-pairs : goal.joined-requires-clause-pairs
-joined-requires-clause-pairs g c = pairs_of_place c.args.permit.now.columns c.args.permit.now.clashes.items c.deref.result.now c.args.kepts.now c.args.i c.index-kepts-i.result
-    c.args.permit.now.different c.deref.ensures.value c.requires.in_range c.requires.widths
-
 pub returns : goal.returns
-returns g c = IfOk-weaker c.joined.result _ _
-    (λ joined h. joined_to_ray c.args.permit.now.clashes.items c.deref.result.now c.args.kepts.now c.args.i c.index-kepts-i.result joined c.deref.ensures.value c.requires.in_range h)
-    c.joined.ensures
+returns g c =
+    let pairs = c.args.permit.now.clashes.items in
+    let kepts = c.args.kepts.now in
+    let i = c.args.i in
+    let kept = c.index-kepts-i.result in
+    let columns = c.args.permit.now.columns in
+    IfOk-weaker c.joined_by.result _ _
+    (λ joined h. joined_to_ray pairs kepts i kept joined c.requires.in_range
+    (joined_all columns pairs c.args.partners.now (get_or kepts i kept).support joined c.requires.partners (support_width kepts i columns kept c.requires.in_range c.requires.widths) h))
+    c.joined_by.ensures

@@ -1,0 +1,19 @@
+-- For each column the columns that clash with it.
+use Rattle.std.specs.Prelude.{◌≡◌, ℕ, ◌<◌, ◌⊎◌, ◌↔◌, List, Bool, [], length, slice_index_or, Contains}
+use Rattle.cone_definitions.specs.Surfaces.{Clash}
+use Rattle.support_bits.specs.Columns.{HasColumn}
+
+-- the columns that clash with one
+pub record IsPartnerOf (columns : ℕ) (pairs : List Clash) (column : ℕ) (partner : List Bool) : Type 0 where
+  pub count : length partner ≡ columns
+  pub each : (other : ℕ) → HasColumn partner other ↔ (Contains pairs (other, column) ⊎ Contains pairs (column, other))
+
+-- of each column
+pub record ArePartners (columns : ℕ) (pairs : List Clash) (partners : List (List Bool)) : Type 0 where
+  pub count : length partners ≡ columns
+  pub each : (column : ℕ) → column < length partners → IsPartnerOf columns pairs column (slice_index_or partners column [])
+
+-- the columns below n of the support have these partners
+pub record IsJoinedBelow (n : ℕ) (partners : List (List Bool)) (support joined : List Bool) : Type 0 where
+  pub count : length joined ≡ length support
+  pub each : (other : ℕ) → HasColumn joined other ↔ ((column : ℕ) × (column < n) × HasColumn support column × HasColumn (slice_index_or partners column []) other)

@@ -1,0 +1,6 @@
+-- the words so far have the bits of both, and the others are as they were
+use Rattle.support_bits.proofs.EitherLemmas.{AreEitherBelow}
+use Rattle.support_bits.proofs.bits.add_bits.Given as goal
+
+abbrev pub invariant-loop-k : goal.invariant-loop-k
+invariant-loop-k l = AreEitherBelow l.k l.initial.words.items l.other l.words.items
