@@ -1,6 +1,6 @@
 // The combinations of the pairs of a step's rays.
 
-ghost use Rattle.std.specs.Prelude.{◌≡◌, length, IfOk, IfSome};
+ghost use Rattle.std.specs.Prelude.{◌≡◌, length, IfOk};
 ghost use Rattle.std.specs.List.{All};
 ghost use Rattle.double_description.specs.Clashes.{DecidesClashes};
 ghost use Rattle.double_description.specs.Kepts.{rays_of, AreOfWidth};
@@ -12,7 +12,6 @@ use crate::search::{combine_with, no_rivals};
 use crate::turned::{has_more_positives, has_positive, turned_signs};
 use cone_core::MAX_ENTRY;
 use double_description::{Kept, Permit, Sign, StepFault, negatives_of};
-use no_memory::NoMemory;
 use std::alloc::Global;
 use support_bits::Support;
 
@@ -61,8 +60,9 @@ fn made_in_turn<F: Fn(&Support, &Support) -> bool>(
     Ok(made)
 }
 
-/// The combinations of each ray in turn that has the sign of the fewer, since for each the rivals are gathered.
-fn made_by_fewer<F: Fn(&Support, &Support) -> bool>(
+/// The combinations of all pairs of a positive and a negative ray, in any order; refused where an entry passes the greatest.
+/// The rays of the sign that fewer have are taken in turn, since for each the rivals are gathered.
+pub fn made_rays<F: Fn(&Support, &Support) -> bool>(
     alloc: Global,
     permit: &Permit<F>,
     partners: &[Support],
@@ -85,31 +85,5 @@ fn made_by_fewer<F: Fn(&Support, &Support) -> bool>(
         made_in_turn(alloc, permit, partners, kepts, &turned, most)
     } else {
         made_in_turn(alloc, permit, partners, kepts, signs, most)
-    }
-}
-
-/// The combinations of all pairs of a positive and a negative ray, in any order; nothing where an entry passes the greatest.
-pub fn made_rays<F: Fn(&Support, &Support) -> bool>(
-    alloc: Global,
-    permit: &Permit<F>,
-    partners: &[Support],
-    kepts: &[Kept],
-    signs: &[Sign],
-    most: u64,
-) -> Result<Option<Vec<Kept>>, NoMemory>
-    requires decides { DecidesClashes permit.now.columns permit.now.clashes.items (F.pre permit.now.test) (F.post permit.now.test) }
-    requires partners { ArePartners permit.now.columns permit.now.clashes.items partners.now }
-    requires widths { AreOfWidth permit.now.columns kepts.now }
-    requires count { length signs.now ≡ length kepts.now }
-    requires bounded { All (IsBoundedSign MAX_ENTRY) signs.now }
-    requires small { HaveSmallUnions permit.now.columns most permit.now.clashes.items (rays_of kepts.now) }
-    requires singles { MakeSinglesPairs permit.now.clashes.items (rays_of kepts.now) }
-    ensures made { IfOk result (λ answer. IfSome answer (λ made. IsMadeUpTo MAX_ENTRY permit.now.clashes.items (rays_of kepts.now) signs.now (length signs.now) 0 (rays_of made.items))) }
-    ensures widths { IfOk result (λ answer. IfSome answer (λ made. AreOfWidth permit.now.columns made.items)) }
-{
-    match made_by_fewer(alloc, permit, partners, kepts, signs, most) {
-        Ok(made) => Ok(Some(made)),
-        Err(StepFault::Large(_)) => Ok(None),
-        Err(StepFault::NoMemory) => Err(NoMemory),
     }
 }

@@ -8,7 +8,7 @@ use Rattle.double_description.specs.Signs.{IsBoundedSign, IsMadeUpTo}
 use Rattle.double_description.proofs.KeptLemmas.{length-rays_of}
 use Rattle.ray_pairs.specs.Turned.{turned_sign}
 use Rattle.ray_pairs.proofs.TurnedLemmas.{made-turned, all_bounded-turned}
-use Rattle.ray_pairs.proofs.made.made_by_fewer.Goals as goal
+use Rattle.ray_pairs.proofs.made.made_rays.Goals as goal
 
 pub made_in_turn-requires-clause-bounded : goal.made_in_turn-requires-clause-bounded
 made_in_turn-requires-clause-bounded g c =
