@@ -1,8 +1,9 @@
 """A function for each command of the program, with its name.
 
 Where a triangulation is wanted, each takes a signature, the text of a gluing table, a list of rows, a Table or a
-`regina.Triangulation3` (see `tables.document`). A refusal is `Refused`, anything else that goes wrong is `Failed`.
-Each takes two more arguments by name:
+`regina.Triangulation3` (see `tables.document`); it has n tetrahedra below. A vector is a tuple of whole numbers, where it is
+given a list or a `regina.NormalSurface` too, and its width is 7n in standard, 3n in quad and 10n in octagon coordinates.
+A refusal is `Refused`, anything else that goes wrong is `Failed`. Each takes two more arguments by name:
 
 timeout: seconds after which the run is ended with `TimedOut`
 program: the program to run, in place of the one that `program.find` finds
@@ -43,10 +44,10 @@ def _limit(max_entry: Optional[int]) -> List[str]:
 
 def surfaces(t: Any, coords: str = "standard", order: str = "zeros", max_entry: Optional[int] = None, *,
              timeout: Optional[float] = None, program: Optional[str] = None) -> List[Vector]:
-    """All vertex normal surfaces, each once, in lexicographic order.
+    """All vertex normal surfaces, each once, in lexicographic order: vectors of the width of the coordinates.
 
-    coords: `standard`, `quad` or `octagon`; a vector has 7, 3 or 10 columns a tetrahedron
-    order: `given`, `short` or `zeros`; the list doesn't depend on it, the time does
+    coords: `standard`, `quad` or `octagon`
+    order: `given`, `short` or `zeros`; the list doesn't depend on it, the time may
     max_entry: the greatest number that may occur on the way; 2^127 - 1 where it isn't said
     """
     words = ["surfaces", "--coords", coords, "--order", order, *_limit(max_entry)]
@@ -55,10 +56,11 @@ def surfaces(t: Any, coords: str = "standard", order: str = "zeros", max_entry: 
 
 def rays(rows: Sequence[Sequence[int]], columns: Optional[int] = None, order: str = "zeros",
          max_entry: Optional[int] = None, *, timeout: Optional[float] = None, program: Optional[str] = None) -> List[Vector]:
-    """All primitive extreme rays of the cone of nonnegative vectors at which each row is 0, in lexicographic order.
+    """All primitive extreme rays of the cone of nonnegative vectors at which each row is 0: vectors of the width of the
+    rows, in lexicographic order.
 
-    rows: lists of coefficients, of up to 1,000,000 in magnitude
-    columns: how many columns there are; needed where there are no rows
+    rows: lists of coefficients of up to 1,000,000 in magnitude, all of one width
+    columns: that width; it must be said where there are no rows
     """
     width = len(rows[0]) if columns is None else columns
     text = "".join(" ".join(map(str, row)) + "\n" for row in [("cone", width, len(rows)), *rows])
@@ -67,7 +69,7 @@ def rays(rows: Sequence[Sequence[int]], columns: Optional[int] = None, order: st
 
 def verify(t: Any, vectors: Vectors, coords: str = "standard", *,
            timeout: Optional[float] = None, program: Optional[str] = None) -> List[Verdict]:
-    """For each vector whether it is an admissible solution, or what fails first."""
+    """For each vector, in order, whether it is an admissible solution, or what fails first."""
     return _ask(["verify", "--coords", coords], _with_vectors(t, vectors, coords), answers.read_verdicts, timeout, program)
 
 
@@ -87,7 +89,7 @@ def csig(t: Any, *, timeout: Optional[float] = None, program: Optional[str] = No
 
 
 def same(one: Any, other: Any, *, timeout: Optional[float] = None, program: Optional[str] = None) -> Optional[Isomorphism]:
-    """An isomorphism between two connected triangulations, or None where there is none."""
+    """An isomorphism from one connected triangulation to another, n images long, or None where there is none."""
     return _ask(["same"], document(one) + document(other), answers.read_isomorphism, timeout, program)
 
 
@@ -97,39 +99,40 @@ def csame(one: Any, other: Any, *, timeout: Optional[float] = None, program: Opt
 
 
 def group(tables: Iterable[Any], *, timeout: Optional[float] = None, program: Optional[str] = None) -> Grouping:
-    """The isomorphism classes of connected triangulations, numbered as they are first met."""
+    """The isomorphism classes of connected triangulations, numbered as they are first met: one for each of `tables`."""
     return _ask(["group"], "".join(map(document, tables)), answers.read_grouping, timeout, program)
 
 
 def cover(t: Any, *, timeout: Optional[float] = None, program: Optional[str] = None) -> Cover:
-    """The orientable double cover."""
+    """The orientable double cover, of 2n tetrahedra: u and n+u lie over u."""
     return _ask(["cover"], document(t), answers.read_cover, timeout, program)
 
 
 def pi1(t: Any, *, timeout: Optional[float] = None, program: Optional[str] = None) -> Presentation:
-    """Generators and relators, read from faces and edges."""
+    """Generators and relators: a generator for each pair of glued faces off a maximal tree, a relator for each inner edge."""
     return _ask(["pi1"], document(t), answers.read_presentation, timeout, program)
 
 
 def describe(t: Any, vectors: Vectors, coords: str = "standard", *,
              timeout: Optional[float] = None, program: Optional[str] = None) -> List[Surface]:
-    """For each vector, in standard or octagon coordinates, its Euler characteristic and its components."""
+    """For each vector, in order, its Euler characteristic and its components; in standard or octagon coordinates."""
     return _ask(["describe", "--coords", coords], _with_vectors(t, vectors, coords), answers.read_surfaces, timeout, program)
 
 
 def lift(t: Any, vectors: Vectors, *, timeout: Optional[float] = None, program: Optional[str] = None) -> List[Vector]:
-    """The standard vector of each quad vector; where one has none, `Refused` names it and a vertex class."""
+    """For each vector of width 3n, in order, the standard one over it, of width 7n and without a vertex link; where one has
+    none, `Refused` names it and a vertex class."""
     return _ask(["lift"], _with_vectors(t, vectors, "quad"), answers.read_vectors, timeout, program)
 
 
 def crush(t: Any, vector: Sequence[int], *, timeout: Optional[float] = None, program: Optional[str] = None) -> Table:
-    """The triangulation crushed along a normal surface in standard coordinates."""
+    """The triangulation crushed along a normal surface, a vector of width 7n: tetrahedra without quads stay."""
     return _ask(["crush"], _with_vectors(t, [vector], "standard"), answers.read_table, timeout, program)
 
 
 def decompose(t: Any, vectors: Vectors, coords: str = "standard", max_entry: Optional[int] = None, *,
               timeout: Optional[float] = None, program: Optional[str] = None) -> List[Sum]:
-    """Each vector as a sum of vertex surfaces."""
+    """Each vector, in order, as a sum of vertex surfaces; all of the width of the coordinates."""
     words = ["decompose", "--coords", coords, *_limit(max_entry)]
     return _ask(words, _with_vectors(t, vectors, coords), answers.read_sums, timeout, program)
 
@@ -142,7 +145,8 @@ def addup(t: Any, sums: Iterable[Sum], coords: str = "standard", *,
 
 
 def play(t: Any, steps: Iterable[str] = (), *, timeout: Optional[float] = None, program: Optional[str] = None) -> Played:
-    """The triangulation after bistellar moves, as `14 0`, `23 1 0`, `32 0 01`, `41 2 3`, `undo` and `redo`."""
+    """The triangulation after bistellar moves, as `14 0`, `23 1 0`, `32 0 01`, `41 2 3`, `undo` and `redo`, with an answer
+    for each of them."""
     return _ask(["play"], document(t) + "".join(f"{it}\n" for it in steps), answers.read_played, timeout, program)
 
 
