@@ -10,7 +10,7 @@ from .program import Error, Failed
 
 
 def draw_graph(given: Any) -> int:
-    table = commands.table(given.signature)
+    table = commands.table(sys.stdin.read() if given.triangulation == "-" else given.triangulation)
     print(pictures.face_pairing_svg(table) if given.svg else pictures.face_pairing_dot(table), end="")
     return 0
 
@@ -38,8 +38,8 @@ def reader_of_words() -> argparse.ArgumentParser:
     crosscheck.add_arguments(one)
     one.set_defaults(main=crosscheck.main)
 
-    one = kinds.add_parser("graph", help="the face-pairing graph of a signature, as DOT or SVG")
-    one.add_argument("signature", metavar="SIGNATURE")
+    one = kinds.add_parser("graph", help="the face-pairing graph of a triangulation, as DOT or SVG")
+    one.add_argument("triangulation", metavar="SIGNATURE", help="a signature, or - for a gluing table on standard input")
     one.add_argument("--svg", action="store_true")
     one.set_defaults(main=draw_graph)
 

@@ -1,0 +1,44 @@
+"""The words behind `python3 -m trinorm`."""
+import contextlib
+import io
+import os
+import tempfile
+import unittest
+from unittest import mock
+
+from trinorm.__main__ import main
+
+
+class Words(unittest.TestCase):
+    def said(self, *words, text=""):
+        """The status, and what is written to standard output and to standard error."""
+        with contextlib.redirect_stdout(io.StringIO()) as out, contextlib.redirect_stderr(io.StringIO()) as error, \
+                mock.patch("sys.stdin", io.StringIO(text)):
+            status = main(list(words))
+        return status, out.getvalue(), error.getvalue()
+
+    def test_graph(self):
+        status, dot, _ = self.said("graph", "bkaagj")
+        self.assertEqual((status, dot.count(" -- ")), (0, 2))
+        self.assertEqual(self.said("graph", "-", text="tri 1\n- - - -\n")[1].count(" -- "), 0)
+        self.assertTrue(self.said("graph", "cPcbbbiht", "--svg")[1].startswith("<svg "))
+
+    def test_census_and_growth(self):
+        with tempfile.TemporaryDirectory() as folder:
+            given, out = os.path.join(folder, "signatures"), os.path.join(folder, "answers")
+            with open(given, "w", encoding="utf8") as file:
+                file.write("bkaagj\ncPcbbbiht\n")
+            self.assertEqual(self.said("census", given, "--out", out)[0], 0)
+            self.assertEqual(self.said("growth", out)[1].count("<circle"), 2)
+            self.assertEqual(self.said("census", given, "--out", "-")[1].count('"answer"'), 2)
+            self.assertIn("`info` is asked for", self.said("census", given, "--command", "info", "--out", out)[2])
+
+    def test_what_is_wrong(self):
+        self.assertEqual(self.said("graph", "bkaagjx"), (3, "", "trinorm: refused: signature trailing 6\n"))
+        self.assertEqual(self.said("census", "/no/such/file")[0], 3)
+        self.assertEqual(self.said("growth", os.devnull)[0], 3)
+        self.assertIn("takes no coordinates", self.said("census", os.devnull, "--command", "info", "--coords", "quad")[2])
+
+
+if __name__ == "__main__":
+    unittest.main()
