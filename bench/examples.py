@@ -53,7 +53,8 @@ def needs_regina(example):
 
 def is_right(command, answer, around):
     """Runs a command; where it differs, says so."""
-    run = subprocess.run(["bash", "-c", command], cwd=TOP, env=around, stdin=subprocess.DEVNULL, stdout=subprocess.PIPE, text=True, timeout=600, check=False)
+    run = subprocess.run(["bash", "-c", command], cwd=TOP, env=around, stdin=subprocess.DEVNULL, stdout=subprocess.PIPE,
+                         text=True, timeout=600, check=False)
     said = run.stdout.rstrip("\n").split("\n") if run.stdout else []
     if (run.returncode != 0) if answer is None else (said != answer):
         print(f"{command}\n  expected {answer}\n  got      {said} status {run.returncode}")
@@ -79,7 +80,8 @@ def runs(page, around):
     for block in blocks(text):
         if block[0].startswith(">>> "):
             session = "\n".join(block) + "\n"
-            yield None if needs_regina(session) and not HAS_REGINA else is_right_session(session, names, os.path.relpath(page, TOP))
+            left_out = needs_regina(session) and not HAS_REGINA
+            yield None if left_out else is_right_session(session, names, os.path.relpath(page, TOP))
 
 
 def main(pages):

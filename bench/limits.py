@@ -73,10 +73,12 @@ def main():
     for cases in (surface_cases, table_cases, move_cases):
         for name, words, text, seconds, megabytes in cases(program):
             took = run([program, *words], text)
-            kept = took.status == 0 and (seconds is None or took.seconds <= seconds) and (megabytes is None or took.megabytes <= megabytes)
+            in_time = seconds is None or took.seconds <= seconds
+            kept = took.status == 0 and in_time and (megabytes is None or took.megabytes <= megabytes)
             missed += not kept
             aim = "" if seconds is None else f"at most {seconds} s" + ("" if megabytes is None else f" and {megabytes} MB")
-            print(f"{name:38} status {took.status} {took.seconds:7.3f} s {took.megabytes:6.0f} MB  {aim}{'' if kept else '  MISSED'}", flush=True)
+            told = f"{name:38} status {took.status} {took.seconds:7.3f} s {took.megabytes:6.0f} MB  {aim}"
+            print(told if kept else f"{told}  MISSED", flush=True)
     return 1 if missed else 0
 
 

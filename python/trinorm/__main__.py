@@ -30,16 +30,19 @@ def reader_of_words() -> argparse.ArgumentParser:
     kinds = reader.add_subparsers(dest="what", required=True)
 
     one = kinds.add_parser("census", help="run a command on each signature of a file, and write a JSON line for each",
-                           description="Started again with the same words it goes on where it stopped. Status 1: some runs failed.")
+                           description="Started again with the same words it goes on where it stopped. "
+                                       "Status 1: some runs failed.")
     census.add_arguments(one)
     one.set_defaults(main=census.main)
 
-    one = kinds.add_parser("crosscheck", help="list vertex surfaces with Regina too, and print what differs", description="Status 1: something differs.")
+    one = kinds.add_parser("crosscheck", help="list vertex surfaces with Regina too, and print what differs",
+                           description="Status 1: something differs.")
     crosscheck.add_arguments(one)
     one.set_defaults(main=crosscheck.main)
 
     one = kinds.add_parser("graph", help="the face-pairing graph of a triangulation, as DOT or SVG")
-    one.add_argument("triangulation", metavar="SIGNATURE", help="a signature, or - for a gluing table on standard input")
+    one.add_argument("triangulation", metavar="SIGNATURE",
+                     help="a signature, or - for a gluing table on standard input")
     one.add_argument("--svg", action="store_true")
     one.set_defaults(main=draw_graph)
 

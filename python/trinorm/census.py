@@ -57,7 +57,12 @@ def _plainly(command: Callable[..., Any]) -> Callable[[str, Task], Any]:
 COMMANDS: Dict[str, Callable[[str, Task], Any]] = {
     "surfaces": _surfaces,
     "describe": _described,
-    **{it.__name__: _plainly(it) for it in (commands.info, commands.sig, commands.csig, commands.cover, commands.pi1, commands.descend)},
+    "info": _plainly(commands.info),
+    "sig": _plainly(commands.sig),
+    "csig": _plainly(commands.csig),
+    "cover": _plainly(commands.cover),
+    "pi1": _plainly(commands.pi1),
+    "descend": _plainly(commands.descend),
 }
 WITH_COORDS = ("surfaces", "describe")
 
@@ -79,7 +84,7 @@ def line_of(entry: Entry, task: Task) -> Dict[str, Any]:
     try:
         said = {"answer": plain(COMMANDS[task.command](entry.signature, task))}
     except Refused as refused:
-        said = {"refused": {"status": refused.status, "line": refused.line, "kind": refused.kind, "places": plain(refused.places)}}
+        said = {"refused": {it: plain(getattr(refused, it)) for it in ("status", "line", "kind", "places")}}
     except Error as failed:
         said = {"failed": str(failed)}
     seconds = round(time.monotonic() - begun, 4)
@@ -166,7 +171,8 @@ class Progress:
         now = time.monotonic()
         if self.to.isatty() and (now - self.last > 0.2 or self.done() == self.count):
             left = (now - self.begun) / self.done() * (self.count - self.done())
-            print(f"\r\033[K{self.done()} of {self.count}: {self.counts()}; about {left:.0f} s left", end="", file=self.to, flush=True)
+            told = f"{self.done()} of {self.count}: {self.counts()}; about {left:.0f} s left"
+            print(f"\r\033[K{told}", end="", file=self.to, flush=True)
             self.last = now
 
     def end(self, path: str) -> None:
@@ -194,7 +200,8 @@ def add_arguments(reader: Any) -> None:
     reader.add_argument("signatures", help="a file of lines SIGNATURE or SIGNATURE NAME")
     reader.add_argument("--command", choices=sorted(COMMANDS), default="surfaces")
     reader.add_argument("--coords", choices=("standard", "quad", "octagon"), help="for surfaces and describe")
-    reader.add_argument("--jobs", type=int, default=len(os.sched_getaffinity(0)), help="runs at a time (default: as many as processors)")
+    reader.add_argument("--jobs", type=int, default=len(os.sched_getaffinity(0)),
+                        help="runs at a time (default: as many as processors)")
     reader.add_argument("--timeout", type=float, help="seconds after which a run is ended")
     reader.add_argument("--out", help="the file of answers, or - (default: SIGNATURES.COMMAND.jsonl)")
     reader.add_argument("--retry-failed", action="store_true", help="run those again whose run failed")
@@ -205,8 +212,9 @@ def main(given: Any) -> int:
         raise Failed(f"{given.command} takes no coordinates")
     coords = (given.coords or "standard") if given.command in WITH_COORDS else None
     task = Task(given.command, coords, given.timeout, find())
+    out = given.out or f"{given.signatures}.{given.command}.jsonl"
     try:
-        _, failed = census(given.signatures, given.out or f"{given.signatures}.{given.command}.jsonl", task, max(1, given.jobs), given.retry_failed)
+        _, failed = census(given.signatures, out, task, max(1, given.jobs), given.retry_failed)
     except (OSError, ValueError) as fault:
         raise Failed(str(fault)) from None
     return 1 if failed else 0

@@ -70,7 +70,8 @@ def rays(rows: Sequence[Sequence[int]], columns: Optional[int] = None, order: st
 def verify(t: Any, vectors: Vectors, coords: str = "standard", *,
            timeout: Optional[float] = None, program: Optional[str] = None) -> List[Verdict]:
     """For each vector, in order, whether it is an admissible solution, or what fails first."""
-    return _ask(["verify", "--coords", coords], _with_vectors(t, vectors, coords), answers.read_verdicts, timeout, program)
+    text = _with_vectors(t, vectors, coords)
+    return _ask(["verify", "--coords", coords], text, answers.read_verdicts, timeout, program)
 
 
 def info(t: Any, *, timeout: Optional[float] = None, program: Optional[str] = None) -> Info:
@@ -88,12 +89,14 @@ def csig(t: Any, *, timeout: Optional[float] = None, program: Optional[str] = No
     return _ask(["csig"], document(t), answers.read_word, timeout, program)
 
 
-def same(one: Any, other: Any, *, timeout: Optional[float] = None, program: Optional[str] = None) -> Optional[Isomorphism]:
+def same(one: Any, other: Any, *,
+         timeout: Optional[float] = None, program: Optional[str] = None) -> Optional[Isomorphism]:
     """An isomorphism from one connected triangulation to another, n images long, or None where there is none."""
     return _ask(["same"], document(one) + document(other), answers.read_isomorphism, timeout, program)
 
 
-def csame(one: Any, other: Any, *, timeout: Optional[float] = None, program: Optional[str] = None) -> Optional[Isomorphism]:
+def csame(one: Any, other: Any, *,
+          timeout: Optional[float] = None, program: Optional[str] = None) -> Optional[Isomorphism]:
     """As `same`, of triangulations that needn't be connected."""
     return _ask(["csame"], document(one) + document(other), answers.read_isomorphism, timeout, program)
 
@@ -109,14 +112,16 @@ def cover(t: Any, *, timeout: Optional[float] = None, program: Optional[str] = N
 
 
 def pi1(t: Any, *, timeout: Optional[float] = None, program: Optional[str] = None) -> Presentation:
-    """Generators and relators: a generator for each pair of glued faces off a maximal tree, a relator for each inner edge."""
+    """Generators and relators: a generator for each pair of glued faces off a maximal tree, a relator for each inner
+    edge class."""
     return _ask(["pi1"], document(t), answers.read_presentation, timeout, program)
 
 
 def describe(t: Any, vectors: Vectors, coords: str = "standard", *,
              timeout: Optional[float] = None, program: Optional[str] = None) -> List[Surface]:
     """For each vector, in order, its Euler characteristic and its components; in standard or octagon coordinates."""
-    return _ask(["describe", "--coords", coords], _with_vectors(t, vectors, coords), answers.read_surfaces, timeout, program)
+    text = _with_vectors(t, vectors, coords)
+    return _ask(["describe", "--coords", coords], text, answers.read_surfaces, timeout, program)
 
 
 def lift(t: Any, vectors: Vectors, *, timeout: Optional[float] = None, program: Optional[str] = None) -> List[Vector]:

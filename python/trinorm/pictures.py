@@ -21,20 +21,23 @@ class Pair(NamedTuple):
 
 def face_pairs(table: Table) -> List[Pair]:
     """The glued pairs of faces, each once."""
-    both = [Pair(tet, face, it.tet, it.images[face]) for tet, row in enumerate(table.rows) for face, it in enumerate(row) if it is not None]
+    glued = [(tet, face, it) for tet, row in enumerate(table.rows) for face, it in enumerate(row) if it is not None]
+    both = [Pair(tet, face, it.tet, it.images[face]) for tet, face, it in glued]
     return [it for it in both if it[:2] < it[2:]]
 
 
 def face_pairing_dot(table: Table) -> str:
     """The face-pairing graph: a node for each tetrahedron, an edge for each pair of glued faces, with their numbers."""
     nodes = [f"  {tet};" for tet in range(len(table))]
-    edges = [f'  {it.tet} -- {it.other_tet} [taillabel="{it.face}", headlabel="{it.other_face}"];' for it in face_pairs(table)]
+    edges = [f'  {it.tet} -- {it.other_tet} [taillabel="{it.face}", headlabel="{it.other_face}"];'
+             for it in face_pairs(table)]
     return "\n".join(["graph face_pairing {", "  node [shape=circle];", *nodes, *edges, "}"]) + "\n"
 
 
 def _svg(wide: float, high: float, parts: Iterable[str]) -> str:
-    head = f'<svg xmlns="http://www.w3.org/2000/svg" width="{wide:.0f}" height="{high:.0f}" font-family="sans-serif" font-size="13">'
-    return "\n".join([head, f'<rect width="{wide:.0f}" height="{high:.0f}" fill="white"/>', *parts, "</svg>"]) + "\n"
+    size = f'width="{wide:.0f}" height="{high:.0f}"'
+    head = f'<svg xmlns="http://www.w3.org/2000/svg" {size} font-family="sans-serif" font-size="13">'
+    return "\n".join([head, f'<rect {size} fill="white"/>', *parts, "</svg>"]) + "\n"
 
 
 Point = Tuple[float, float]
@@ -45,7 +48,8 @@ def _arc(one: Point, other: Point, bend: float) -> str:
     across, up = other[0] - one[0], other[1] - one[1]
     length = math.hypot(across, up)
     middle = ((one[0] + other[0]) / 2 - bend * up / length, (one[1] + other[1]) / 2 + bend * across / length)
-    return f'<path d="M{one[0]:.1f},{one[1]:.1f} Q{middle[0]:.1f},{middle[1]:.1f} {other[0]:.1f},{other[1]:.1f}" fill="none" stroke="{GREY}"/>'
+    begin, over, end = (f"{x:.1f},{y:.1f}" for x, y in (one, middle, other))
+    return f'<path d="M{begin} Q{over} {end}" fill="none" stroke="{GREY}"/>'
 
 
 def _loop(at: Point, centre: Point, radius: float) -> str:
@@ -53,7 +57,8 @@ def _loop(at: Point, centre: Point, radius: float) -> str:
     across, up = at[0] - centre[0], at[1] - centre[1]
     length = math.hypot(across, up)
     way = (across / length, up / length) if length else (0.0, -1.0)
-    return f'<circle cx="{at[0] + radius * way[0]:.1f}" cy="{at[1] + radius * way[1]:.1f}" r="{radius:.1f}" fill="none" stroke="{GREY}"/>'
+    x, y = at[0] + radius * way[0], at[1] + radius * way[1]
+    return f'<circle cx="{x:.1f}" cy="{y:.1f}" r="{radius:.1f}" fill="none" stroke="{GREY}"/>'
 
 
 def _edges(pairs: Sequence[Pair], at: Sequence[Point], centre: Point) -> Iterator[str]:
@@ -120,7 +125,8 @@ class Plane:
             yield f'<text x="{self.LEFT - 8}" y="{y + 4:.0f}" text-anchor="end">{10 ** power:,}</text>'
         for at in range(self.first, self.last + 1):
             yield f'<text x="{self.x(at):.0f}" y="{self.HIGH - self.BELOW + 18}" text-anchor="middle">{at}</text>'
-        yield f'<text x="{(self.LEFT + self.WIDE) / 2:.0f}" y="{self.HIGH - 12}" text-anchor="middle">tetrahedra; the line joins the medians</text>'
+        legend = "tetrahedra; the line joins the medians"
+        yield f'<text x="{(self.LEFT + self.WIDE) / 2:.0f}" y="{self.HIGH - 12}" text-anchor="middle">{legend}</text>'
 
 
 def growth_svg(points: Iterable[Tuple[int, int]]) -> str:
@@ -135,7 +141,8 @@ def growth_svg(points: Iterable[Tuple[int, int]]) -> str:
     by_size: Dict[int, List[int]] = {}
     for at, count in them:
         by_size.setdefault(at, []).append(count)
-    dots = [f'<circle cx="{plane.x(at):.1f}" cy="{plane.y(count):.1f}" r="3.5" fill="{BLUE}" fill-opacity="0.5"/>' for at, count in them]
+    dots = [f'<circle cx="{plane.x(at):.1f}" cy="{plane.y(count):.1f}" r="3.5" fill="{BLUE}" fill-opacity="0.5"/>'
+            for at, count in them]
     way = " ".join(f"{plane.x(at):.1f},{plane.y(_median(counts)):.1f}" for at, counts in by_size.items())
     line = f'<polyline points="{way}" fill="none" stroke="{BLUE}"/>'
     return _svg(plane.WIDE, plane.HIGH, [*plane.axes(), line, *dots])

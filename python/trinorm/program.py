@@ -71,9 +71,10 @@ def _built_in_repository() -> str:
     program = REPOSITORY / "crates" / "trinorm" / "out" / "trinorm"
     with _build:
         if not _is_built:
-            done = subprocess.run([str(REPOSITORY / "trinorm"), "csig"], input=b"tri 0\n", stdout=subprocess.DEVNULL, check=False)
+            launcher = str(REPOSITORY / "trinorm")
+            done = subprocess.run([launcher, "csig"], input=b"tri 0\n", stdout=subprocess.DEVNULL, check=False)
             if done.returncode != 0:
-                raise Failed(f"{REPOSITORY / 'trinorm'}: {FAILURES.get(done.returncode, f'status {done.returncode}')}")
+                raise Failed(f"{launcher}: {_how_it_ended(done.returncode)}")
             _is_built = True
     return str(program)
 

@@ -83,7 +83,8 @@ def _entry(entry: Any) -> Optional[Gluing]:
     if isinstance(entry, str):
         return Gluing.parse(entry)
     tet, permutation = entry
-    return Gluing.parse(f"{int(tet)}:" + (permutation if isinstance(permutation, str) else "".join(str(int(it)) for it in permutation)))
+    word = permutation if isinstance(permutation, str) else "".join(str(int(it)) for it in permutation)
+    return Gluing.parse(f"{int(tet)}:{word}")
 
 
 def is_of_regina(value: Any) -> bool:
@@ -93,7 +94,8 @@ def is_of_regina(value: Any) -> bool:
 
 def from_regina(triangulation: Any) -> Table:
     """The table of a `regina.Triangulation3`; tetrahedra, faces and vertices keep their numbers."""
-    return Table(tuple(row_of([_gluing_in_regina(tet, face) for face in range(4)]) for tet in triangulation.tetrahedra()))
+    rows = ([_gluing_in_regina(tet, face) for face in range(4)] for tet in triangulation.tetrahedra())
+    return Table(tuple(map(row_of, rows)))
 
 
 def _gluing_in_regina(tet: Any, face: int) -> Optional[Gluing]:
