@@ -11,6 +11,7 @@ ghost use Rattle.surface_list.specs.Surfaces.{AreTableSurfaces, IsTableRefused};
 use crate::bounds::numbers_fit;
 use cone_core::{MAX_ENTRY, Ray, System};
 use double_description::{EnumFault, Order, Permit, Picker, Rays, choice, enumerate};
+use late_columns::vertex_surfaces;
 use matching_equations::{Coords, columns_each, equations, triangles_each};
 use no_memory::NoMemory;
 use quad_condition::{Masks, clash_list};
@@ -63,35 +64,28 @@ fn triangles(alloc: Global, coords: Coords, system: &System) -> Result<Vec<u32>,
     Ok(pivots)
 }
 
-/// The vertex surfaces of a system, its rows taken in this order; nothing where a number passes the greatest entry.
-fn found_in_order(
+/// The vertex surfaces of a system in these coordinates; nothing where a number passes the greatest entry.
+fn found_late(
     alloc: Global,
     coords: Coords,
     tets: u32,
     system: &System,
-    order: Order,
 ) -> Result<Option<Vec<Ray>>, NoMemory>
     requires tets { tets ≤ 1000 }
     requires columns { system.now.columns ≡ coordinates.columns coords tets }
-    requires named { order ≢ Order.Free }
     ensures { IfOk result (λ answer. IfSome answer (λ list. IsSurfaceList system.now.columns system.now.rows (coordinates.clash_list coords tets) list.items)) }
 {
-    match enumerated(alloc, coords, tets, system, order, MAX_ENTRY) {
-        Ok(rays) => {
-            let Rays {
-                list: surfaces,
-                order: _,
-            } = rays;
-            Ok(Some(surfaces))
-        }
-        Err(EnumFault::Large { .. }) => Ok(None),
-        Err(EnumFault::NoMemory) => Err(NoMemory),
-    }
+    let clashes = clash_list(alloc, coords, tets)?;
+    let masks = Masks::new(alloc, coords, tets)?;
+    let permit = Permit::new(clashes, system.columns(), |u: &Support, w: &Support| {
+        masks.allows(u, w)
+    });
+    vertex_surfaces(alloc, system, &permit)
 }
 
-/// The vertex surfaces of a system, found from its rows solved for the triangles, if there are any; nothing where a coefficient or a number
-/// gets too large.
-fn found_solved(
+/// The vertex surfaces of a system whose numbers don't matter, found from its rows solved for the triangles, if there are
+/// any; nothing where a coefficient or a number gets too large.
+fn found(
     alloc: Global,
     coords: Coords,
     tets: u32,
@@ -103,28 +97,10 @@ fn found_solved(
 {
     let pivots = triangles(alloc, coords, system)?;
     match solve(alloc, system, columns_each(coords), &pivots) {
-        Ok(solved) => found_in_order(alloc, coords, tets, &solved, Order::Given),
+        Ok(solved) => found_late(alloc, coords, tets, &solved),
         Err(SolveFault::Passed) => Ok(None),
         Err(SolveFault::NoMemory) => Err(NoMemory),
     }
-}
-
-/// The vertex surfaces of a system whose numbers don't matter, found in the quickest way: from its rows solved for the
-/// triangles, and where these get too large in the quickest order; nothing where a number passes the greatest entry in it.
-fn found(
-    alloc: Global,
-    coords: Coords,
-    tets: u32,
-    system: &System,
-) -> Result<Option<Vec<Ray>>, NoMemory>
-    requires tets { tets ≤ 1000 }
-    requires columns { system.now.columns ≡ coordinates.columns coords tets }
-    ensures { IfOk result (λ answer. IfSome answer (λ list. IsSurfaceList system.now.columns system.now.rows (coordinates.clash_list coords tets) list.items)) }
-{
-    if let Some(known) = found_solved(alloc, coords, tets, system)? {
-        return Ok(Some(known));
-    }
-    found_in_order(alloc, coords, tets, system, Order::Zeros)
 }
 
 /// The vertex surfaces of a table, strictly ascending, its equations taken in a named order; refused exactly where a
