@@ -1,14 +1,13 @@
 -- Columns that entered.
-use Rattle.std.proofs.Common.{◌≡◌, ℕ, ℤ, ◌+◌, ◌<◌, List, [], ◌∷◌, ◌++◌, Bool, true, false, true≢false, ⊎_elim, All, take, set, length, length-set, slice_index_or, get_or, subst, subst₂, sym, ap, ◌∙◌, arith}
+use Rattle.std.proofs.Common.{◌≡◌, ℕ, ℤ, ◌+◌, ◌<◌, [], ◌∷◌, ◌++◌, true, true≢false, ⊎_elim, take, set, length, length-set, slice_index_or, get_or, subst, subst₂, sym, ap, ◌∙◌, arith}
 use Rattle.std.proofs.lemmas.Bool.{cases_Bool, cases_lt}
 use Rattle.std.proofs.lemmas.List.Elements.{All-more, All-weaker}
 use Rattle.cone_definitions.specs.Rows.{Row}
-use Rattle.cone_definitions.specs.Surfaces.{Clash}
 use Rattle.cone_definitions.specs.Vectors.{unit}
 use Rattle.double_description.specs.Kepts.{rays_of}
 use Rattle.double_description.specs.Unordered.{HasSurfaces}
 use Rattle.late_columns.specs.declared.entering.LateRays.{LateRays}
-use Rattle.late_columns.specs.Late.{IsUnseen, held_rows, AreLate, AreSeen, HaveEntered}
+use Rattle.late_columns.specs.Late.{IsUnseen, held_rows, AreSeen, HaveEntered}
 use Rattle.late_columns.proofs.Held.{unseen_after}
 use Rattle.late_columns.proofs.UnitRays.{entered_surfaces}
 

@@ -1,9 +1,8 @@
 -- Solutions without some columns: their vertex surfaces are those without these columns.
-use Rattle.std.proofs.Common.{◌≡◌, ◌≢◌, ℕ, inl, inr, subst, sym, List, ◌++◌, Bool, true, set, All, length, slice_index, slice_index_or, Contains}
+use Rattle.std.proofs.Common.{◌≡◌, ℕ, inl, inr, subst, sym, List, ◌++◌, Bool, true, set, slice_index, slice_index_or}
 use Rattle.std.specs.Prelude.{◌↔◌}
 use Rattle.std.proofs.lemmas.Bool.{cases_eq}
-use Rattle.cone_definitions.specs.Vectors.{IsInside}
-use Rattle.cone_definitions.specs.Rows.{Row, IsSolution, IsExtreme}
+use Rattle.cone_definitions.specs.Rows.{Row, IsSolution}
 use Rattle.cone_definitions.specs.Surfaces.{Clash, IsVertexSurface}
 use Rattle.row_operation_laws.specs.Solutions.{HaveSameSolutions}
 use Rattle.row_operation_laws.proofs.Kept.{surface_kept}

@@ -1,14 +1,13 @@
 -- The rows that hold columns at 0.
-use Rattle.std.proofs.Common.{◌≡◌, ◌≢◌, ℕ, zero, suc, ◌+◌, ◌*◌, ◌<◌, ◌⊎◌, List, [], ◌∷◌, ◌++◌, pos, Bool, true, false, true≢false, ⊎_elim, All, length, set, get_or, slice_index, slice_index_or, get_or-set_same, get_or-set_other, subst, sym, ap, refl, ◌∙◌, arith}
+use Rattle.std.proofs.Common.{◌≡◌, ◌≢◌, ℕ, zero, suc, ◌+◌, ◌*◌, ◌<◌, List, [], ◌∷◌, ◌++◌, pos, Bool, true, false, true≢false, All, length, set, slice_index, slice_index_or, get_or-set_same, get_or-set_other, subst, sym, ap, refl, ◌∙◌, arith}
 use Rattle.std.specs.Prelude.{◌↔◌}
-use Rattle.std.proofs.lemmas.Bool.{cases_eq}
 use Rattle.std.proofs.lemmas.List.Elements.{All-nil, All-cons, All-head, All-tail, All-append}
 use Rattle.std.proofs.lemmas.List.Sums.{sum_by-cons}
 use Rattle.cone_definitions.specs.Vectors.{unit}
 use Rattle.cone_definitions.specs.Rows.{Row, plus_part, minus_part, positive_coefficient, negative_coefficient, IsZeroAt, IsSolution}
 use Rattle.cone_definitions.proofs.Units.{entry-unit_other}
 use Rattle.solved_laws.specs.Fresh.{IsUntouched}
-use Rattle.late_columns.specs.Late.{IsUnseen, AreSeen, held_rows}
+use Rattle.late_columns.specs.Late.{IsUnseen, held_rows}
 
 -- the row that is 0 where a column is
 abbrev pub at_column : ℕ → Row

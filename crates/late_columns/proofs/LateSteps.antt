@@ -1,15 +1,14 @@
 -- One row more.
-use Rattle.std.proofs.Common.{◌≡◌, ◌≢◌, ℕ, ◌+◌, ◌<◌, ◌≤◌, ◌⊎◌, inl, inr, List, [], ◌∷◌, ◌++◌, Bool, true, false, true≢false, set, All, Contains, length, length-set, slice_index, slice_index_or, subst, subst₂, sym, ap, refl, ◌∙◌, arith}
+use Rattle.std.proofs.Common.{◌≡◌, ◌≢◌, ℕ, ◌+◌, ◌<◌, ◌≤◌, inl, inr, List, [], ◌∷◌, ◌++◌, Bool, true, false, true≢false, set, All, length, length-set, slice_index, slice_index_or, subst, sym, ap, ◌∙◌, arith}
 use Rattle.std.specs.Prelude.{◌↔◌}
-use Rattle.std.proofs.lemmas.Bool.{cases_eq}
-use Rattle.std.proofs.lemmas.List.Elements.{All-nil, All-cons, All-head, All-push, All-weaker}
+use Rattle.std.proofs.lemmas.List.Elements.{All-push, All-weaker}
 use Rattle.cone_definitions.specs.Vectors.{IsInsideUnion, ray_at, unit}
-use Rattle.cone_definitions.specs.Rows.{Row, plus_part, minus_part, IsZeroAt, IsSolution, IsPrimitiveExtreme}
+use Rattle.cone_definitions.specs.Rows.{Row, plus_part, minus_part, IsZeroAt, IsPrimitiveExtreme}
 use Rattle.cone_definitions.specs.Surfaces.{Clash, PairsAreApart, IsVertexSurface}
 use Rattle.cone_definitions.proofs.Rays.{IsSolution-front, IsSolution-last, IsSolution-push}
 use Rattle.cone_definitions.proofs.Unions.{third_ray}
 use Rattle.row_operation_laws.specs.Solutions.{HaveSameSolutions}
-use Rattle.row_operation_laws.proofs.Sums.{plus-turned, minus-turned, turned_zero}
+use Rattle.row_operation_laws.proofs.Sums.{turned_zero}
 use Rattle.bound_laws.specs.Laws.{HasNoThird}
 use Rattle.bound_laws.proofs.Bound.{union_bound}
 use Rattle.double_description.specs.Clashes.{AreClashes}
@@ -23,9 +22,9 @@ use Rattle.solved_laws.specs.Fresh.{IsUntouched}
 use Rattle.late_columns.specs.declared.entering.LateRays.{LateRays}
 use Rattle.late_columns.specs.declared.fresh.Fresh.{Fresh}
 use Rattle.late_columns.specs.Late.{IsUnseen, held_rows, AreLate, AreSeen}
-use Rattle.late_columns.specs.Fresh.{oriented, IsLone, IsFreshColumn}
+use Rattle.late_columns.specs.Fresh.{oriented, IsFreshColumn}
 use Rattle.late_columns.specs.Raised.{HasRoom, AreRaised}
-use Rattle.late_columns.proofs.Held.{held_solution, parts_without, seen_before, unseen_after}
+use Rattle.late_columns.proofs.Held.{held_solution, parts_without, unseen_after}
 use Rattle.late_columns.proofs.Faces.{surface_of_face, surface_in_face, gone_in_face, held_face, same_surfaces}
 use Rattle.late_columns.proofs.RaisedSurfaces.{raised_surfaces}
 

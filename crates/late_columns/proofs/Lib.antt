@@ -3,7 +3,6 @@ pub mod Faces
 pub mod UnitRays
 pub mod Entered
 pub mod RaisedLists
-pub mod TurnedSigns
 pub mod RaisedSurfaces
 pub mod LateSteps
 pub mod SortedSurfaces

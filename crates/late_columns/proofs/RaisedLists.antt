@@ -14,7 +14,7 @@ use Rattle.double_description.specs.declared.signs.Sign.{Sign}
 use Rattle.double_description.specs.declared.signs.Sign.TheVariants.{Zero, Positive, Negative}
 use Rattle.double_description.specs.Kepts.{rays_of}
 use Rattle.double_description.specs.Steps.{step_of}
-use Rattle.double_description.specs.Signs.{IsBoundedSign, ComesFromPlaces, IsStepAt, IsMadeUpTo}
+use Rattle.double_description.specs.Signs.{IsBoundedSign, ComesFromPlaces, IsMadeUpTo}
 use Rattle.double_description.proofs.KeptLemmas.{rays_of-push}
 use Rattle.double_description.proofs.UnorderedLemmas.{place_is_one}
 use Rattle.double_description.proofs.MadeLemmas.{sign_read, comes_read}

@@ -1,10 +1,9 @@
 -- The rays raised by a row with a fresh column are the vertex surfaces of one row more.
-use Rattle.std.proofs.Common.{◌≡◌, ◌≢◌, ℕ, ◌-◌, ◌<◌, ◌≤◌, ◌⊎◌, inl, inr, List, [], ◌∷◌, ◌++◌, Bool, true, false, set, All, Contains, length, slice_index, slice_index_or, slice_set, subst, subst₂, sym, ap, refl, ◌∙◌, arith}
-use Rattle.std.proofs.lemmas.Bool.{cases_eq}
-use Rattle.cone_definitions.specs.Vectors.{IsInsideUnion, ray_at, unit}
-use Rattle.cone_definitions.specs.Rows.{Row, plus_part, minus_part, IsSolution}
+use Rattle.std.proofs.Common.{◌≡◌, ℕ, ◌-◌, ◌≤◌, ◌⊎◌, inl, inr, List, [], ◌∷◌, ◌++◌, Bool, true, set, Contains, length, slice_index, slice_index_or, slice_set, subst, sym, ap, refl, ◌∙◌, arith}
+use Rattle.cone_definitions.specs.Vectors.{ray_at, unit}
+use Rattle.cone_definitions.specs.Rows.{Row, plus_part, minus_part}
 use Rattle.cone_definitions.specs.Surfaces.{Clash, IsVertexSurface}
-use Rattle.cone_definitions.specs.Elimination.{Step, IsRay, IsPair}
+use Rattle.cone_definitions.specs.Elimination.{IsPair}
 use Rattle.cone_definitions.specs.Enumeration.{ComesFromPair}
 use Rattle.double_description.specs.declared.signs.Sign.{Sign}
 use Rattle.double_description.specs.declared.signs.Sign.TheVariants.{Zero, Positive, Negative}
@@ -12,7 +11,7 @@ use Rattle.double_description.specs.Steps.{step_of}
 use Rattle.double_description.specs.Unordered.{HasSurfaces}
 use Rattle.double_description.specs.Signs.{IsSignAt, AreSigns, ComesFromPlaces}
 use Rattle.double_description.proofs.UnorderedLemmas.{place_of}
-use Rattle.double_description.proofs.MadeLemmas.{sign_read, comes_read}
+use Rattle.double_description.proofs.MadeLemmas.{comes_read}
 use Rattle.double_description.proofs.SurfaceSteps.{the_step, sign_at_place, pair_stands}
 use Rattle.solved_laws.specs.Fresh.{IsUntouched, IsFresh, IsRaised, ComesFromOthers}
 use Rattle.solved_laws.proofs.Fresh.{fresh_next}

@@ -1,5 +1,5 @@
 -- The vertex surfaces in ascending order.
-use Rattle.std.proofs.Common.{◌≡◌, ◌≢◌, ℕ, List, All, Contains, length, nat_cmp, IsSorted}
+use Rattle.std.proofs.Common.{◌≡◌, ℕ, List, All, length, nat_cmp, IsSorted}
 use Rattle.std.specs.Cmp.Lexicographic.{slice_cmp}
 use Rattle.std.specs.List.Sorted.{IsPermutation}
 use Rattle.std.proofs.lemmas.List.Elements.{All-weaker}

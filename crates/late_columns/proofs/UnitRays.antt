@@ -1,11 +1,11 @@
 -- A column enters: its unit vector joins the rays.
-use Rattle.std.proofs.Common.{◌≡◌, ◌≢◌, ℕ, ◌<◌, inl, inr, List, [], ◌∷◌, ◌++◌, Bool, true, false, set, length, replicate, length-set, slice_index, slice_index_or, All, Contains, subst, sym, ap, refl, ◌∙◌, arith}
+use Rattle.std.proofs.Common.{◌≡◌, ◌≢◌, ℕ, ◌<◌, inl, inr, List, [], ◌∷◌, ◌++◌, Bool, true, false, set, length, replicate, slice_index, slice_index_or, Contains, subst, sym, ap, refl, arith}
 use Rattle.std.proofs.lemmas.Bool.{cases_eq}
 use Rattle.std.proofs.lemmas.List.{get_or-replicate, length-replicate}
 use Rattle.std.proofs.lemmas.List.Elements.{All-nil, All-push, All-weaker, Contains-push, Contains-append_left}
 use Rattle.std.proofs.lemmas.List.Quantifiers.{all_pairs_push}
 use Rattle.cone_definitions.specs.Vectors.{unit}
-use Rattle.cone_definitions.specs.Rows.{Row, IsSolution, plus_part, minus_part}
+use Rattle.cone_definitions.specs.Rows.{Row, plus_part, minus_part}
 use Rattle.cone_definitions.specs.Surfaces.{Clash, PairsAreApart, IsVertexSurface}
 use Rattle.cone_definitions.proofs.Units.{entry-unit_same}
 use Rattle.cone_definitions.proofs.Entries.{nonzero_before}

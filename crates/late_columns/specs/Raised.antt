@@ -9,12 +9,6 @@ use Rattle.double_description.specs.declared.signs.Sign.{Sign}
 use Rattle.double_description.specs.declared.signs.Sign.TheVariants.{Zero, Positive, Negative}
 use Rattle.double_description.specs.Signs.{AreSigns, IsSignedPair, ComesFromPlaces, GivesFrom, IsStepAt}
 
--- the sign of the row with all its signs turned
-abbrev pub turned_sign : Sign → Sign
-turned_sign Zero = Zero
-turned_sign (Positive value) = Negative value
-turned_sign (Negative value) = Positive value
-
 -- what a row leaves for a column in which it has 1: nothing where it is zero, its magnitude where it is negative
 abbrev pub IsLeft : Sign → ℕ → Type 0
 IsLeft Zero left = left ≡ 0

@@ -7,9 +7,11 @@ ghost use Rattle.double_description.specs.Clashes.{DecidesClashes};
 ghost use Rattle.double_description.specs.Kepts.{rays_of, AreOfWidth};
 ghost use Rattle.double_description.specs.Unions.{HaveSmallUnions, MakeSinglesPairs};
 ghost use Rattle.double_description.specs.Unordered.{HasSurfaces};
+ghost use Rattle.ray_pairs.specs.Partners.{ArePartners};
 
 use cone_core::{MAX_ENTRY, SparseRow};
-use double_description::{Kept, Permit, StepFault, combinations, keep_zeros, signs_at};
+use double_description::{Kept, Permit, StepFault, keep_zeros, signs_at};
+use ray_pairs::made_rays;
 use std::alloc::Global;
 use support_bits::Support;
 
@@ -17,11 +19,13 @@ use support_bits::Support;
 pub fn next_rays<F: Fn(&Support, &Support) -> bool>(
     alloc: Global,
     permit: &Permit<F>,
+    partners: &[Support],
     row: &SparseRow,
     kepts: Vec<Kept>,
     most: u64,
 ) -> Result<Vec<Kept>, StepFault>
     requires decides { DecidesClashes permit.now.columns permit.now.clashes.items (F.pre permit.now.test) (F.post permit.now.test) }
+    requires partners { ArePartners permit.now.columns permit.now.clashes.items partners.now }
     requires widths { AreOfWidth permit.now.columns kepts.items }
     requires in_range { IsInRange permit.now.columns row.now }
     requires small { HaveSmallUnions permit.now.columns most permit.now.clashes.items (rays_of kepts.items) }
@@ -30,7 +34,7 @@ pub fn next_rays<F: Fn(&Support, &Support) -> bool>(
         → HasSurfaces permit.now.columns (before ++ row.now ∷ []) permit.now.clashes.items (rays_of next.items)) }
 {
     let signs = signs_at(alloc, row, &kepts, MAX_ENTRY)?;
-    let mut next = combinations(alloc, permit, &kepts, &signs, most, MAX_ENTRY)?;
+    let mut next = made_rays(alloc, permit, partners, &kepts, &signs, most)?;
     keep_zeros(kepts, &signs, &mut next)?;
     Ok(next)
 }

@@ -9,6 +9,7 @@ ghost use Rattle.double_description.specs.Kepts.{rays_of};
 ghost use Rattle.double_description.specs.Unordered.{HasSurfaces};
 ghost use Rattle.late_columns.specs.Late.{AreLateOfFew, AreNextLate};
 ghost use Rattle.late_columns.specs.Fresh.{IsFreshColumn};
+ghost use Rattle.ray_pairs.specs.Partners.{ArePartners};
 
 use crate::elimination::next_rays;
 use crate::entering::{LateRays, enter_all, enter_row, none_seen};
@@ -17,6 +18,7 @@ use crate::raising::raised_rays;
 use cone_core::{Ray, SparseRow, System};
 use double_description::{Kept, Permit, StepFault, sort_rays, without_supports};
 use no_memory::NoMemory;
+use ray_pairs::partners_of;
 use std::alloc::Global;
 use support_bits::Support;
 
@@ -24,18 +26,20 @@ use support_bits::Support;
 fn eliminated<F: Fn(&Support, &Support) -> bool>(
     alloc: Global,
     permit: &Permit<F>,
+    partners: &[Support],
     row: &SparseRow,
     mut late: LateRays,
     most: u64,
 ) -> Result<LateRays, StepFault>
     requires decides { DecidesClashes permit.now.columns permit.now.clashes.items (F.pre permit.now.test) (F.post permit.now.test) }
+    requires partners { ArePartners permit.now.columns permit.now.clashes.items partners.now }
     requires in_range { IsInRange permit.now.columns row.now }
     requires late { AreLateOfFew permit.now.columns most permit.now.clashes.items late }
     ensures { IfOk result (AreNextLate permit.now.columns permit.now.clashes.items row.now late) }
 {
     enter_row(alloc, permit.columns, row, &mut late)?;
     let LateRays { kepts, seen } = late;
-    let next = next_rays(alloc, permit, row, kepts, most)?;
+    let next = next_rays(alloc, permit, partners, row, kepts, most)?;
     Ok(LateRays { kepts: next, seen })
 }
 
@@ -43,19 +47,21 @@ fn eliminated<F: Fn(&Support, &Support) -> bool>(
 fn extended<F: Fn(&Support, &Support) -> bool>(
     alloc: Global,
     permit: &Permit<F>,
+    partners: &[Support],
     row: &SparseRow,
     fresh: Fresh,
     late: LateRays,
     most: u64,
 ) -> Result<LateRays, StepFault>
     requires decides { DecidesClashes permit.now.columns permit.now.clashes.items (F.pre permit.now.test) (F.post permit.now.test) }
+    requires partners { ArePartners permit.now.columns permit.now.clashes.items partners.now }
     requires in_range { IsInRange permit.now.columns row.now }
     requires late { AreLateOfFew permit.now.columns most permit.now.clashes.items late }
     requires fresh { IsFreshColumn permit.now.columns row.now permit.now.clashes.items late.seen.items fresh }
     ensures { IfOk result (AreNextLate permit.now.columns permit.now.clashes.items row.now late) }
 {
     let LateRays { kepts, mut seen } = late;
-    let next = raised_rays(alloc, permit, row, fresh, kepts, most)?;
+    let next = raised_rays(alloc, permit, partners, row, fresh, kepts, most)?;
     seen[fresh.column as usize] = true;
     Ok(LateRays { kepts: next, seen })
 }
@@ -64,18 +70,20 @@ fn extended<F: Fn(&Support, &Support) -> bool>(
 fn next_late<F: Fn(&Support, &Support) -> bool>(
     alloc: Global,
     permit: &Permit<F>,
+    partners: &[Support],
     row: &SparseRow,
     late: LateRays,
     most: u64,
 ) -> Result<LateRays, StepFault>
     requires decides { DecidesClashes permit.now.columns permit.now.clashes.items (F.pre permit.now.test) (F.post permit.now.test) }
+    requires partners { ArePartners permit.now.columns permit.now.clashes.items partners.now }
     requires in_range { IsInRange permit.now.columns row.now }
     requires late { AreLateOfFew permit.now.columns most permit.now.clashes.items late }
     ensures { IfOk result (AreNextLate permit.now.columns permit.now.clashes.items row.now late) }
 {
     match fresh_column(alloc, permit.columns, &permit.clashes, row, &late.seen)? {
-        Some(fresh) => extended(alloc, permit, row, fresh, late, most),
-        None => eliminated(alloc, permit, row, late, most),
+        Some(fresh) => extended(alloc, permit, partners, row, fresh, late, most),
+        None => eliminated(alloc, permit, partners, row, late, most),
     }
 }
 
@@ -89,11 +97,12 @@ fn all_rows<F: Fn(&Support, &Support) -> bool>(
     requires decides { DecidesClashes permit.now.columns permit.now.clashes.items (F.pre permit.now.test) (F.post permit.now.test) }
     ensures { IfOk result (λ kepts. HasSurfaces permit.now.columns system.now.rows permit.now.clashes.items (rays_of kepts.items)) }
 {
+    let partners = partners_of(alloc, &permit.clashes, permit.columns)?;
     let mut late = none_seen(alloc, permit.columns)?;
     for number in 0..system.len() {
         // the union of a pair has at most two columns more than rows were taken
         let most = u64::from(number) + 2;
-        late = next_late(alloc, permit, system.row(number), late, most)?;
+        late = next_late(alloc, permit, &partners, system.row(number), late, most)?;
     }
     enter_all(alloc, permit.columns, &mut late)?;
     let LateRays { kepts, seen: _ } = late;

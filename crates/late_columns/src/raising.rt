@@ -1,6 +1,6 @@
 // The step of a row with a fresh column: what the row leaves for the column mustn't be negative.
 
-ghost use Rattle.std.specs.Prelude.{◌≡◌, ℕ, ◌<◌, ◌≤◌, List, length, slice_set, slice_index_or, IfOk, OnOk};
+ghost use Rattle.std.specs.Prelude.{◌≡◌, ◌≤◌, List, length, slice_set, IfOk, OnOk};
 ghost use Rattle.std.specs.List.{All};
 ghost use Rattle.cone_core.specs.Sparse.{IsInRange};
 ghost use Rattle.cone_definitions.specs.Surfaces.{Clash};
@@ -8,37 +8,17 @@ ghost use Rattle.double_description.specs.Clashes.{DecidesClashes};
 ghost use Rattle.double_description.specs.Kepts.{rays_of, AreOfWidth};
 ghost use Rattle.double_description.specs.Signs.{AreSigns, IsBoundedSign, IsMadeUpTo};
 ghost use Rattle.double_description.specs.Unions.{HaveSmallUnions, MakeSinglesPairs};
-ghost use Rattle.double_description.specs.declared.signs.Sign.{Sign};
 ghost use Rattle.late_columns.specs.Fresh.{oriented};
-ghost use Rattle.late_columns.specs.Raised.{turned_sign, HasRoom, AppendsRaised, IsRaisedFrom, AreRaised};
+ghost use Rattle.late_columns.specs.Raised.{HasRoom, AppendsRaised, IsRaisedFrom, AreRaised};
+ghost use Rattle.ray_pairs.specs.Partners.{ArePartners};
 
 use crate::fresh::Fresh;
 use cone_core::{MAX_ENTRY, SparseRow};
-use double_description::{Kept, Permit, Sign, StepFault, combinations, signs_at};
+use double_description::{Kept, Permit, Sign, StepFault, signs_at};
 use no_memory::NoMemory;
+use ray_pairs::{made_rays, turned_signs};
 use std::alloc::Global;
 use support_bits::Support;
-
-/// The sign of the row with all its signs turned.
-fn turned(sign: Sign) -> Sign
-    ensures { result ≡ turned_sign sign }
-{
-    match sign {
-        Sign::Zero => Sign::Zero,
-        Sign::Positive(value) => Sign::Negative(value),
-        Sign::Negative(value) => Sign::Positive(value),
-    }
-}
-
-/// Turns all signs.
-fn turn_all(signs: &mut [Sign])
-    ensures count { length signs.new ≡ length signs.old }
-    ensures each { (k : ℕ) (d : Sign) → k < length signs.old → slice_index_or signs.new k d ≡ turned_sign (slice_index_or signs.old k d) }
-{
-    for sign in signs.iter_mut() {
-        *sign = turned(*sign);
-    }
-}
 
 /// The signs of the row at the rays, or of the row with all its signs turned.
 fn signs_of(
@@ -50,11 +30,12 @@ fn signs_of(
     requires in_range { All (λ kept. IsInRange (length kept.ray) row.now) kepts.now }
     ensures { IfOk result (λ signs. AreSigns MAX_ENTRY (oriented is_turned row.now) (rays_of kepts.now) signs.items) }
 {
-    let mut signs = signs_at(alloc, row, kepts, MAX_ENTRY)?;
-    if is_turned {
-        turn_all(&mut signs);
+    let signs = signs_at(alloc, row, kepts, MAX_ENTRY)?;
+    if !is_turned {
+        return Ok(signs);
     }
-    Ok(signs)
+    let turned = turned_signs(alloc, &signs)?;
+    Ok(turned)
 }
 
 /// A ray with what is left for a column.
@@ -121,12 +102,14 @@ fn raise_all(
 pub fn raised_rays<F: Fn(&Support, &Support) -> bool>(
     alloc: Global,
     permit: &Permit<F>,
+    partners: &[Support],
     row: &SparseRow,
     fresh: Fresh,
     kepts: Vec<Kept>,
     most: u64,
 ) -> Result<Vec<Kept>, StepFault>
     requires decides { DecidesClashes permit.now.columns permit.now.clashes.items (F.pre permit.now.test) (F.post permit.now.test) }
+    requires partners { ArePartners permit.now.columns permit.now.clashes.items partners.now }
     requires widths { AreOfWidth permit.now.columns kepts.items }
     requires in_range { IsInRange permit.now.columns row.now }
     requires small { HaveSmallUnions permit.now.columns most permit.now.clashes.items (rays_of kepts.items) }
@@ -135,7 +118,7 @@ pub fn raised_rays<F: Fn(&Support, &Support) -> bool>(
     ensures { IfOk result (λ next. AreRaised MAX_ENTRY permit.now.clashes.items (oriented fresh.is_turned row.now) fresh.column (rays_of kepts.items) (rays_of next.items)) }
 {
     let signs = signs_of(alloc, row, fresh.is_turned, &kepts)?;
-    let mut next = combinations(alloc, permit, &kepts, &signs, most, MAX_ENTRY)?;
+    let mut next = made_rays(alloc, permit, partners, &kepts, &signs, most)?;
     raise_all(alloc, kepts, &signs, fresh.column, &mut next)?;
     Ok(next)
 }

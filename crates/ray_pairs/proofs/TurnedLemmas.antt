@@ -47,6 +47,15 @@ sign_of_turned row x (Negative value) h = let p = plus-turned row x in let m = m
 parts-turned : (limit : ℕ) (row : Row) (x : List ℕ) → HasPartsWithin limit row x → HasPartsWithin limit (turned row) x
 parts-turned limit row x h = let p = plus-turned row x in let m = minus-turned row x in (omega (arith, p, h.1), omega (arith, m, h.0))
 
+pub signs-turned : (limit : ℕ) (rays : List (List ℕ)) (signs : List Sign) (row : Row) → AreSigns limit row rays signs → AreSigns limit (turned row) rays (map turned_sign signs)
+signs-turned limit rays signs row h = record {
+  count = length-map signs turned_sign ∙ h.count;
+  each = λ k d within. let n = length-map signs turned_sign in
+      subst (IsSignAt (turned row) (ray_at rays k)) (sym (get_or-map turned_sign signs k (turned_sign d)) ∙ ap (slice_index_or (map turned_sign signs) k) (turned-twice d))
+      (sign_of_turned row (ray_at rays k) (slice_index_or signs k (turned_sign d)) (h.each k (turned_sign d) (omega (arith, n, within))));
+  within = All-weaker (HasPartsWithin limit row) (HasPartsWithin limit (turned row)) (parts-turned limit row) rays h.within;
+}
+
 -- ---- pairs
 
 union-turned : (pairs : List Clash) (u w : List ℕ) → IsAdmissibleUnion pairs u w → IsAdmissibleUnion pairs w u
@@ -103,17 +112,8 @@ module _ (limit : ℕ) (pairs : List Clash) (rays : List (List ℕ)) (signs : Li
     face = face-turned pairs rays u w p.face;
   }
 
-  signs-turned : (row : Row) → AreSigns limit row rays signs → AreSigns limit (turned row) rays (map turned_sign signs)
-  signs-turned row h = record {
-    count = length-map signs turned_sign ∙ h.count;
-    each = λ k d within. let n = length-map signs turned_sign in
-        subst (IsSignAt (turned row) (ray_at rays k)) (sym (get_or-map turned_sign signs k (turned_sign d)) ∙ ap (slice_index_or (map turned_sign signs) k) (turned-twice d))
-        (sign_of_turned row (ray_at rays k) (slice_index_or signs k (turned_sign d)) (h.each k (turned_sign d) (omega (arith, n, within))));
-    within = All-weaker (HasPartsWithin limit row) (HasPartsWithin limit (turned row)) (parts-turned limit row) rays h.within;
-  }
-
   step-turned : IsStepAt limit pairs rays signs → IsStepAt limit pairs rays (map turned_sign signs)
-  step-turned h = record { columns = h.columns; before = h.before; row = turned h.row; surfaces = h.surfaces; signed = signs-turned h.row h.signed }
+  step-turned h = record { columns = h.columns; before = h.before; row = turned h.row; surfaces = h.surfaces; signed = signs-turned limit rays signs h.row h.signed }
 
   -- all pairs were taken with the signs turned
   pub made-turned : (made : List (List ℕ)) → length signs ≡ length rays →

@@ -8,3 +8,4 @@ mod turned;
 
 pub use made::made_rays;
 pub use partners::partners_of;
+pub use turned::turned_signs;

@@ -1,4 +1,4 @@
-use Rattle.std.proofs.Common.{◌≡◌, All, length, subst, subst₂, sym, ◌∙◌}
+use Rattle.std.proofs.Common.{All, length, subst, subst₂, sym, ◌∙◌}
 use Rattle.cone_core.specs.declared.numbers.TheConstants.{MAX_ENTRY}
 use Rattle.double_description.specs.Kepts.{rays_of}
 use Rattle.double_description.specs.Unions.{HaveSmallUnions, MakeSinglesPairs}
@@ -8,17 +8,17 @@ use Rattle.double_description.proofs.StepLemmas.{bounded_signs}
 use Rattle.double_description.proofs.SurfaceSteps.{next_surfaces}
 use Rattle.late_columns.proofs.elimination.next_rays.Goals as goal
 
-pub combinations-requires-clause-bounded : goal.combinations-requires-clause-bounded
-combinations-requires-clause-bounded g c =
+pub made_rays-requires-clause-bounded : goal.made_rays-requires-clause-bounded
+made_rays-requires-clause-bounded g c =
     subst (All (IsBoundedSign MAX_ENTRY)) (sym c.deref-3.ensures.value)
     (bounded_signs MAX_ENTRY c.args.row.now (rays_of c.deref.result.now) c.in_ok-signs.signs.items c.in_ok-signs.ensures.ok)
 
-pub combinations-requires-clause-small : goal.combinations-requires-clause-small
-combinations-requires-clause-small g c =
+pub made_rays-requires-clause-small : goal.made_rays-requires-clause-small
+made_rays-requires-clause-small g c =
     subst (λ xs. HaveSmallUnions c.args.permit.now.columns c.args.most c.args.permit.now.clashes.items (rays_of xs)) (sym c.deref-2.ensures.value) c.requires.small
 
-pub combinations-requires-clause-singles : goal.combinations-requires-clause-singles
-combinations-requires-clause-singles g c =
+pub made_rays-requires-clause-singles : goal.made_rays-requires-clause-singles
+made_rays-requires-clause-singles g c =
     subst (λ xs. MakeSinglesPairs c.args.permit.now.clashes.items (rays_of xs)) (sym c.deref-2.ensures.value) c.requires.singles
 
 pub returns : goal.returns
@@ -27,7 +27,7 @@ returns g c before surfaces =
     let signs = c.in_ok-signs.signs.items in
     let pairs = c.args.permit.now.clashes.items in
     let signed = subst (λ xs. AreSigns MAX_ENTRY c.args.row.now (rays_of xs) signs) c.deref.ensures.value c.in_ok-signs.ensures.ok in
-    let made = subst₂ (λ xs ss. IsMadeUpTo MAX_ENTRY pairs (rays_of xs) ss (length ss) 0 (rays_of c.in_ok-next.next.items)) c.deref-2.ensures.value c.deref-3.ensures.value c.in_ok-next.ensures.ok in
+    let made = subst₂ (λ xs ss. IsMadeUpTo MAX_ENTRY pairs (rays_of xs) ss (length ss) 0 (rays_of c.in_ok-next.next.items)) c.deref-2.ensures.value c.deref-3.ensures.value c.in_ok-next.ensures.made in
     let all = subst₂ (λ ss n. IsMadeUpTo MAX_ENTRY pairs (rays_of kepts) ss n 0 (rays_of c.in_ok-next.next.items)) (sym c.deref-4.ensures.value) (signed.count ∙ length-rays_of kepts) made in
     let next = subst (λ ss. IsNextFrom MAX_ENTRY pairs (rays_of kepts) ss 0 (rays_of c.keep_zeros.new.next.items)) c.deref-4.ensures.value (c.in_ok-keep_zeros.ensures.keeps MAX_ENTRY pairs all) in
     next_surfaces MAX_ENTRY c.args.permit.now.columns pairs before c.args.row.now (rays_of kepts) signs surfaces signed (rays_of c.keep_zeros.new.next.items) next

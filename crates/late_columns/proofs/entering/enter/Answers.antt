@@ -1,4 +1,4 @@
-use Rattle.std.proofs.Common.{◌≡◌, ◌++◌, ◌∷◌, [], ap, refl, ◌∙◌}
+use Rattle.std.proofs.Common.{◌++◌, ◌∷◌, [], ap, refl, ◌∙◌}
 use Rattle.double_description.specs.Kepts.{rays_of}
 use Rattle.double_description.proofs.KeptLemmas.{rays_of-push}
 use Rattle.late_columns.proofs.Entered.{entered_one}

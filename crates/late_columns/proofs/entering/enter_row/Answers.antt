@@ -1,4 +1,4 @@
-use Rattle.std.proofs.Common.{◌≡◌, ◌≤◌, length, take, take_all, subst, ◌∙◌, ap, arith}
+use Rattle.std.proofs.Common.{take_all, subst, ◌∙◌, arith}
 use Rattle.late_columns.specs.Late.{AreSeen}
 use Rattle.late_columns.proofs.Entered.{entered_more, seen_more}
 use Rattle.late_columns.proofs.entering.enter_row.Goals as goal

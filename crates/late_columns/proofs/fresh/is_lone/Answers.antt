@@ -1,4 +1,4 @@
-use Rattle.std.proofs.Common.{◌≡◌, ◌≤◌, length, take, take_all, subst, arith, rules}
+use Rattle.std.proofs.Common.{◌≡◌, take_all, subst, arith}
 use Rattle.std.proofs.lemmas.List.Elements.{All-more}
 use Rattle.late_columns.specs.Late.{IsUnseen}
 use Rattle.late_columns.specs.Fresh.{IsLone}

@@ -1,4 +1,4 @@
-use Rattle.std.proofs.Common.{◌≡◌, ℕ, ◌≤◌, List, length, take, vec_len}
+use Rattle.std.proofs.Common.{◌≡◌, ◌≤◌, List, length, take, vec_len}
 use Rattle.cone_core.specs.declared.numbers.TheConstants.{MAX_ENTRY}
 use Rattle.cone_definitions.specs.Surfaces.{Clash}
 use Rattle.double_description.specs.Kepts.{rays_of}
