@@ -10,6 +10,9 @@ use cone_core::SparseRow;
 use no_memory::NoMemory;
 use std::alloc::Global;
 
+/// How many rows there are at most where each of them is tried as the first.
+const MOST_STARTS: usize = 128;
+
 /// The blocks of columns that a row names, and how many terms it has.
 #[derive(Drop)]
 struct Named {
@@ -194,12 +197,17 @@ fn cheaper(one: RowOrder, other: RowOrder) -> RowOrder
     if other.cost < one.cost { other } else { one }
 }
 
-/// The order that costs least among those that begin with one row each.
+/// How many of the rows are tried as the first: all, where they are few.
+fn start_count(rows: usize) -> usize {
+    if rows <= MOST_STARTS { rows } else { 1 }
+}
+
+/// The order that costs least among those that begin with the rows that are tried.
 fn cheapest(alloc: Global, rows: &[Named], blocks: usize) -> Result<RowOrder, NoMemory>
     ensures { IfOk result (λ order. IsPermutation (range_with_len 0 (length rows.now)) order.places.items) }
 {
     let mut best = order_from(alloc, rows, blocks, 0)?;
-    for start in 1..rows.len() {
+    for start in 1..start_count(rows.len()) {
         best = cheaper(best, order_from(alloc, rows, blocks, start)?);
     }
     Ok(best)
