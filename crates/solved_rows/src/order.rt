@@ -15,7 +15,7 @@ const MOST_STARTS: usize = 128;
 
 /// The blocks of columns that a row names, and how many terms it has.
 #[derive(Drop)]
-struct Named {
+struct RowBlocks {
     blocks: Vec<u32>,
     terms: usize,
 }
@@ -43,7 +43,7 @@ struct RowOrder {
 }
 
 /// The blocks of columns that a row names, ascending.
-fn named_of(alloc: Global, each: u32, row: &SparseRow) -> Result<Named, NoMemory> {
+fn blocks_of(alloc: Global, each: u32, row: &SparseRow) -> Result<RowBlocks, NoMemory> {
     let mut blocks = Vec::new(alloc);
     let mut last = None;
     for (column, _) in row.entries() {
@@ -53,19 +53,19 @@ fn named_of(alloc: Global, each: u32, row: &SparseRow) -> Result<Named, NoMemory
             last = Some(block);
         }
     }
-    Ok(Named {
+    Ok(RowBlocks {
         blocks,
         terms: row.entries().len(),
     })
 }
 
 /// The blocks that each of the rows names.
-fn named_of_all(alloc: Global, each: u32, rows: &[SparseRow]) -> Result<Vec<Named>, NoMemory>
+fn blocks_of_all(alloc: Global, each: u32, rows: &[SparseRow]) -> Result<Vec<RowBlocks>, NoMemory>
     ensures { IfOk result (λ all. length all.items ≡ length rows.now) }
 {
     let mut all = Vec::with_capacity(alloc, rows.len())?;
     for row in rows {
-        all.push(named_of(alloc, each, row)?)?;
+        all.push(blocks_of(alloc, each, row)?)?;
     }
     Ok(all)
 }
@@ -88,11 +88,11 @@ fn fresh_count(seen: &[bool], blocks: &[u32]) -> usize {
 }
 
 /// The rank of the row at a place.
-fn rank_of(walk: &Walk, rows: &[Named], place: usize) -> Rank {
+fn rank_of(walk: &Walk, rows: &[RowBlocks], place: usize) -> Rank {
     match rows.get(place) {
-        Some(named) => Rank {
-            fresh: fresh_count(&walk.seen, &named.blocks),
-            terms: named.terms,
+        Some(row) => Rank {
+            fresh: fresh_count(&walk.seen, &row.blocks),
+            terms: row.terms,
         },
         None => Rank {
             fresh: usize::MAX,
@@ -107,7 +107,7 @@ fn is_before(one: Rank, other: Rank) -> bool {
 }
 
 /// The position of the row that comes first among those that are left.
-fn first_position(walk: &Walk, rows: &[Named], left: &[usize]) -> usize
+fn first_position(walk: &Walk, rows: &[RowBlocks], left: &[usize]) -> usize
     requires { 0 < length left.now }
     ensures { result < length left.now }
 {
@@ -124,7 +124,7 @@ fn first_position(walk: &Walk, rows: &[Named], left: &[usize]) -> usize
 }
 
 /// The position of the next row: while all rows are left that of the start, and then that of the first.
-fn next_position(walk: &Walk, rows: &[Named], left: &[usize], start: usize) -> usize
+fn next_position(walk: &Walk, rows: &[RowBlocks], left: &[usize], start: usize) -> usize
     requires { 0 < length left.now }
     ensures { result < length left.now }
 {
@@ -145,27 +145,27 @@ fn note(walk: &mut Walk, block: u32) {
 }
 
 /// Notes the blocks of a row that is taken; an empty row costs nothing.
-fn note_row(walk: &mut Walk, named: &Named) {
-    for block in &named.blocks {
+fn note_row(walk: &mut Walk, row: &RowBlocks) {
+    for block in &row.blocks {
         note(walk, *block);
     }
-    if named.terms > 0 {
+    if row.terms > 0 {
         let square = walk.count.saturating_mul(walk.count);
         walk.cost = walk.cost.saturating_add(square);
     }
 }
 
 /// Notes the blocks of the row at a place.
-fn note_place(walk: &mut Walk, rows: &[Named], place: usize) {
-    if let Some(named) = rows.get(place) {
-        note_row(walk, named);
+fn note_place(walk: &mut Walk, rows: &[RowBlocks], place: usize) {
+    if let Some(row) = rows.get(place) {
+        note_row(walk, row);
     }
 }
 
 /// The order that begins with the row at a place.
 fn order_from(
     alloc: Global,
-    rows: &[Named],
+    rows: &[RowBlocks],
     blocks: usize,
     start: usize,
 ) -> Result<RowOrder, NoMemory>
@@ -203,7 +203,7 @@ fn start_count(rows: usize) -> usize {
 }
 
 /// The order that costs least among those that begin with the rows that are tried.
-fn cheapest(alloc: Global, rows: &[Named], blocks: usize) -> Result<RowOrder, NoMemory>
+fn cheapest(alloc: Global, rows: &[RowBlocks], blocks: usize) -> Result<RowOrder, NoMemory>
     ensures { IfOk result (λ order. IsPermutation (range_with_len 0 (length rows.now)) order.places.items) }
 {
     let mut best = order_from(alloc, rows, blocks, 0)?;
@@ -234,8 +234,8 @@ pub(crate) fn in_cheapest_order(
 ) -> Result<Vec<SparseRow>, NoMemory>
     ensures { IfOk result (λ ordered. IsPermutation rows.now ordered.items) }
 {
-    let named = named_of_all(alloc, each, rows)?;
+    let all = blocks_of_all(alloc, each, rows)?;
     let blocks = (columns / each.max(1)) as usize + 1;
-    let order = cheapest(alloc, &named, blocks)?;
+    let order = cheapest(alloc, &all, blocks)?;
     rows_at(alloc, rows, &order.places)
 }

@@ -12,7 +12,7 @@ use Rattle.solved_rows.proofs.order.in_cheapest_order.Goals as goal
 pub rows_at-requires : goal.rows_at-requires
 rows_at-requires c =
     let rows = c.args.rows.now in
-    let count = ap length c.deref.ensures.value ∙ c.in_ok-named.ensures in
+    let count = ap length c.deref.ensures.value ∙ c.in_ok-all.ensures in
     let places : IsPermutation (range_with_len 0 (length rows)) c.in_ok-order.order.places.items =
     subst (λ n. IsPermutation (range_with_len 0 n) c.in_ok-order.order.places.items) count c.in_ok-order.ensures in
     subst (All (λ place. place < length rows)) (sym c.deref-2.ensures.value) (places_within (length rows) c.in_ok-order.order.places.items places)
@@ -20,7 +20,7 @@ rows_at-requires c =
 pub returns : goal.returns
 returns c =
     let rows = c.args.rows.now in
-    let count = ap length c.deref.ensures.value ∙ c.in_ok-named.ensures in
+    let count = ap length c.deref.ensures.value ∙ c.in_ok-all.ensures in
     let places : IsPermutation (range_with_len 0 (length rows)) c.in_ok-order.order.places.items =
     subst (λ n. IsPermutation (range_with_len 0 n) c.in_ok-order.order.places.items) count c.in_ok-order.ensures in
     IfOk-weaker c.rows_at.result (λ taken. taken.items ≡ in_order rows c.deref-2.result.now) (λ ordered. IsPermutation rows ordered.items)
