@@ -3,6 +3,7 @@ import os
 import pickle
 import tempfile
 import unittest
+from pathlib import Path
 from unittest import mock
 
 import trinorm
@@ -82,12 +83,28 @@ class Finding(unittest.TestCase):
                 self.assertEqual(trinorm.find(), path)
                 self.assertEqual(trinorm.find("/bin/sh"), "/bin/sh")
 
+    def test_the_repository_builds_it_once(self):
+        with tempfile.TemporaryDirectory() as folder:
+            os.makedirs(os.path.join(folder, "crates", "trinorm"))
+            launcher = os.path.join(folder, "trinorm")
+            others = {name: value for name, value in os.environ.items() if name != "TRINORM"}
+            with mock.patch.dict(os.environ, others, clear=True), mock.patch("trinorm.program.REPOSITORY", Path(folder)), \
+                    mock.patch("trinorm.program._is_built", False):
+                os.rename(script(folder, "exit 9\n"), launcher)
+                with self.assertRaisesRegex(trinorm.Failed, "could not be built"):
+                    trinorm.find()
+                os.rename(script(folder, f"echo built >> {folder}/log\n"), launcher)
+                self.assertEqual([trinorm.find(), trinorm.find()], [os.path.join(folder, "crates", "trinorm", "out", "trinorm")] * 2)
+            with open(os.path.join(folder, "log"), encoding="utf8") as file:
+                self.assertEqual(file.read(), "built\n")
+
     def test_the_path_comes_last(self):
         with tempfile.TemporaryDirectory() as folder:
             path = os.path.join(folder, "trinorm")
             os.rename(script(folder, "exit 8\n"), path)
             others = {name: value for name, value in os.environ.items() if name != "TRINORM"}
-            with mock.patch.dict(os.environ, dict(others, PATH=folder), clear=True), mock.patch("trinorm.program.REPOSITORY", trinorm.program.Path(folder)):
+            around = mock.patch.dict(os.environ, dict(others, PATH=folder), clear=True)
+            with around, mock.patch("trinorm.program.REPOSITORY", Path(folder)):
                 self.assertEqual(trinorm.find(), path)
 
 

@@ -210,7 +210,7 @@ def vector_line(vector: Sequence[Any]) -> str:
 
 
 def numbers(line: str, skip: int = 1) -> Vector:
-    return tuple(int(it) for it in line.split()[skip:])
+    return tuple(map(int, line.split()[skip:]))
 
 
 def is_yes(word: str) -> bool:
