@@ -1,21 +1,24 @@
 -- A certificate has as many moves as are asked for.
-use Rattle.std.proofs.Common.{◌≡◌, ℕ, length, subst}
+use Rattle.std.proofs.Common.{◌≡◌, ◌≤◌, ℕ, length, subst}
 use Rattle.command_definitions.specs.declared.Request.TheVariants.{Make, Bulk}
+use Rattle.outcome_definitions.specs.Outcomes.{Outcome}
 use Rattle.outcome_definitions.specs.Makings.{IsMakeAnswer, IsBulkAnswer, IsSummary}
 use Rattle.certificate_laws.proofs.Made.{made_are_certified_lem}
 use Rattle.making_length_laws.proofs.Makings.{certificates_have_most}
-use Rattle.answer_laws.specs.Makings.{AllMovesAreMade, AllMovesAreSummedUp}
+use Rattle.answer_laws.specs.Makings.{IsTableWithMoves, AllMovesAreMade, AllMovesAreSummedUp}
 use Rattle.answer_laws.proofs.Asked.{answer_to}
 
+pub made_with_moves : (seed moves : ℕ) (o : Outcome) → moves ≤ 333 → IsMakeAnswer seed moves o → IsTableWithMoves moves o
+made_with_moves seed moves o few a = record {
+  table = a.table;
+  certificate = a.certificate;
+  certified = made_are_certified_lem seed moves a.table a.certificate a.made;
+  count = certificates_have_most seed moves a.table a.certificate few a.made;
+  outcome = a.outcome;
+}
+
 pub all_moves_made : AllMovesAreMade
-all_moves_made words bytes o seed moves h few =
-    let a : IsMakeAnswer seed moves o = answer_to (Make seed moves) words bytes o h in record {
-      table = a.table;
-      certificate = a.certificate;
-      certified = made_are_certified_lem seed moves a.table a.certificate a.made;
-      count = certificates_have_most seed moves a.table a.certificate few a.made;
-      outcome = a.outcome;
-    }
+all_moves_made words bytes o seed moves h few = made_with_moves seed moves o few (answer_to (Make seed moves) words bytes o h)
 
 pub all_moves_summed_up : AllMovesAreSummedUp
 all_moves_summed_up words bytes o seed moves h few =

@@ -6,7 +6,7 @@
 ghost use Rattle.answer_laws.specs.Surfaces.{BoundedTablesAreListed, FewTablesAreListed};
 ghost use Rattle.answer_laws.specs.Lifts.{NoneWithoutLift, SolutionsAreLifted};
 ghost use Rattle.answer_laws.specs.Makings.{AllMovesAreMade, AllMovesAreSummedUp};
-ghost use Rattle.answer_laws.specs.Checks.{CertificatesAreAccepted};
+ghost use Rattle.answer_laws.specs.Checks.{CertificatesAreAccepted, CertificatesAreDone};
 ghost use Rattle.answer_laws.specs.Signatures.{SignaturesTell, ComponentSignaturesTell};
 
 /// Where the limit is at least the bound of a table's numbers, the outcome of `surfaces` is the list of its vertex surfaces; so
@@ -31,7 +31,8 @@ pub fn all_moves_are_made()
 
 /// `check` accepts the moves that are a certificate, and no others.
 pub fn certificates_are_accepted()
-    ensures { CertificatesAreAccepted }
+    ensures accepted { CertificatesAreAccepted }
+    ensures done { CertificatesAreDone }
 {}
 
 /// Two answers of `sig` to connected tables, or of `csig` to any, are equal exactly where a relabelling carries the one table to

@@ -3,3 +3,4 @@ pub mod Headlines
 pub mod Completeness
 mod Responses
 pub mod FewSurfaces
+pub mod Meant

@@ -15,6 +15,7 @@ use Rattle.document_definitions.specs.Documents.{worded, table_document, vectors
 use Rattle.surface_definitions.specs.TableSurfaces.{table_enumeration}
 use Rattle.outcome_definitions.specs.declared.Status.{Status}
 use Rattle.outcome_definitions.specs.declared.Status.TheVariants.{Done, Large, ReadFault, WriteFault, NoMemory}
+use Rattle.outcome_definitions.specs.Outcomes.{Outcome}
 use Rattle.outcome_definitions.specs.Enumerations.{listing, large_outcome, ray_enumeration}
 use Rattle.outcome_definitions.specs.Answers.{verdict_on}
 
@@ -85,3 +86,7 @@ pub record ListsRays (cone : ConeText) (status : Status) (before now : Option (L
 abbrev pub AnswersRays : Order → ℕ → ConeText → Status → Option (List ℕ) → Option (List ℕ) → Type 0
 AnswersRays order most cone status before now =
     ListsRays cone status before now ⊎ NamesLarge (ray_enumeration order most cone) status before now ⊎ IsCutShort status
+
+-- an outcome of this kind was written, or the run was cut short
+abbrev pub Writes : (Outcome → Type 0) → Status → Option (List ℕ) → Option (List ℕ) → Type 0
+Writes IsMeant status before now = ((o : Outcome) × IsMeant o × (status ≡ o.status) × Grows before now o.text) ⊎ IsCutShort status

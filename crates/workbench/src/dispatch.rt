@@ -1,11 +1,15 @@
 // The one call that does all that the program does.
-ghost use Rattle.std.specs.Prelude.{◌≡◌, ◌↔◌, ◌⊎◌, ◌-◌, ◌^◌, ◌<◌, ◌≤◌, ℕ, true, false, List, [], None, Some, Ok, length, IfOk, IfSome, OnErr};
+ghost use Rattle.std.specs.Prelude.{◌≡◌, ◌↔◌, ◌⊎◌, ◌-◌, ◌^◌, ◌<◌, ◌≤◌, ℕ, true, false, List, [], None, Some, Ok, length, IfOk, IfSome, OnErr, All};
 ghost use Rattle.bench_io.specs.Causes.{Grows, Rose, IsEnded};
 ghost use Rattle.outcome_definitions.specs.Lines.{read_line, usage_line};
 ghost use Rattle.text_definitions.specs.Written.{limit};
 ghost use Rattle.cone_text_definitions.specs.ConeText.{Cone as ConeText};
 ghost use Rattle.table_definitions.specs.Table.{Row};
-ghost use Rattle.document_definitions.specs.Documents.{worded, table_document, cone_document};
+ghost use Rattle.cone_definitions.specs.Rows.{Row as EquationRow};
+ghost use Rattle.surface_definitions.specs.QuadEquations.{AreEquations};
+ghost use Rattle.move_definitions.specs.Moves.{Move};
+ghost use Rattle.move_definitions.specs.Certificates.{IsCertificate};
+ghost use Rattle.document_definitions.specs.Documents.{worded, table_document, vectors_document, moves_document, cone_document};
 ghost use Rattle.outcome_definitions.specs.Outcomes as outcomes;
 ghost use Rattle.outcome_definitions.specs.Answers.{IsOutcome, IsAnswerTo, most_bytes};
 ghost use Rattle.command_definitions.specs.Words.{accepted_request};
@@ -13,7 +17,9 @@ ghost use Rattle.command_definitions.specs.Requests.{HoldsRange, reads_input};
 ghost use Rattle.cone_definitions.specs.declared.Order.{Order};
 ghost use Rattle.surface_definitions.specs.declared.Coords.{Coords};
 ghost use Rattle.equation_bounds_laws.specs.Few.{most_tetrahedra};
-ghost use Rattle.workbench.specs.Prints.{PrintsSurfaces, PrintsRays, PrintsVerdicts, ListsSurfaces, IsCutShort, AnswersSurfaces, AnswersRays};
+ghost use Rattle.answer_laws.specs.Lifts.{HasSphereAndDiscVertices, IsSmallSolution, AreLifted};
+ghost use Rattle.answer_laws.specs.Makings.{IsTableWithMoves};
+ghost use Rattle.workbench.specs.Prints.{PrintsSurfaces, PrintsRays, PrintsVerdicts, ListsSurfaces, IsCutShort, Writes, AnswersSurfaces, AnswersRays};
 ghost use Rattle.workbench.specs.Runs.{Answers, IsAnswered, IsCalm, IsWithin, IsResponse, IsWithoutMemory, IsCutOff, IsDue, IsDelivered};
 
 use bench_io::{ReadEnd, Sink, Source, Words, read_all, write_all};
@@ -180,6 +186,19 @@ pub fn run<S: Source, K: Sink>(alloc: Global, words: &Words, source: &mut S, sin
         → IfSome (S.left source.old) (λ bytes. PrintsRays bytes (K.held sink.old) (K.held sink.new)) }
     ensures verify { result ≡ Status.Done → (coords : Coords) → accepted_request words.now ≡ Some (Request.Verify coords)
         → IfSome (S.left source.old) (λ bytes. PrintsVerdicts coords bytes (K.held sink.old) (K.held sink.new)) }
+
+    // Where the link of each vertex class is a sphere or a disc, `lift` has a lift of each admissible solution of the quad
+    // equations, and writes them all where no sum is too large; `make` writes a certificate of exactly as many moves as are
+    // asked for, up to 333; and `check` is done exactly where the moves are a certificate.
+    ensures lifts { accepted_request words.now ≡ Some Request.Lift
+        → IfSome (S.left source.old) (λ bytes. (rows : List Row) → (vectors : List (List ℕ)) → (equations : List EquationRow) → length bytes ≤ most_bytes
+        → vectors_document bytes ≡ Ok (rows, vectors) → HasSphereAndDiscVertices rows → AreEquations Coords.Quad rows equations
+        → All (IsSmallSolution rows equations) vectors → Writes (AreLifted rows vectors) result (K.held sink.old) (K.held sink.new)) }
+    ensures makes { (seed : ℕ) → (moves : ℕ) → accepted_request words.now ≡ Some (Request.Make seed moves) → moves ≤ 333
+        → Writes (IsTableWithMoves moves) result (K.held sink.old) (K.held sink.new) }
+    ensures checks { IsAnswered result → accepted_request words.now ≡ Some Request.Check
+        → IfSome (S.left source.old) (λ bytes. (rows : List Row) → (moves : List Move) → length bytes ≤ most_bytes
+        → moves_document bytes ≡ Ok (rows, moves) → (result ≡ Status.Done) ↔ IsCertificate rows moves) }
 
     // Where neither count rose, the words and the input are answered, or memory ran out.
     ensures answered { S.faults source.old < 2 ^ 64 - 1 → K.faults sink.old < 2 ^ 64 - 1 → S.faults source.new ≡ S.faults source.old

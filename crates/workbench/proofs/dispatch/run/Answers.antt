@@ -4,6 +4,7 @@ use Rattle.workbench.proofs.RunClauses.{run_outcome, run_prefix}
 use Rattle.outcome_definitions.specs.declared.Status.TheVariants.{NoMemory}
 use Rattle.workbench.proofs.Completeness.{all_surfaces, all_rays}
 use Rattle.workbench.proofs.FewSurfaces.{few_surfaces}
+use Rattle.workbench.proofs.Meant.{all_lifts, checks_told, makes_told}
 use Rattle.workbench.proofs.dispatch.run.Goals as goal
 
 pub returns-in-Ok-respond-clause-prefix : goal.returns-in-Ok-respond-clause-prefix
@@ -53,3 +54,21 @@ returns-in-Err-clause-few_surfaces g c = few_surfaces c.args.words.now NoMemory 
 
 pub returns-in-Err-NoMemory-clause-few_surfaces : goal.returns-in-Err-NoMemory-clause-few_surfaces
 returns-in-Err-NoMemory-clause-few_surfaces g c = few_surfaces c.args.words.now NoMemory _ _ (g.S.Source.left c.args.source.now) (λ h. absurd h)
+
+pub returns-in-Ok-respond-clause-lifts : goal.returns-in-Ok-respond-clause-lifts
+returns-in-Ok-respond-clause-lifts g c = all_lifts c.args.words.now c.deliver.result _ _ (g.S.Source.left c.args.source.now)
+    (run_outcome c.args.words.now _ c.in-Ok.ensures.answers _ _ _ _ _ _ _ _ c.deliver.result (g.S.Source.left c.args.source.now) c.in-Ok-respond.ensures.response c.deliver.ensures)
+
+pub returns-in-Err-clause-lifts : goal.returns-in-Err-clause-lifts
+returns-in-Err-clause-lifts g c = all_lifts c.args.words.now NoMemory _ _ (g.S.Source.left c.args.source.now) (λ h. absurd h)
+
+pub returns-in-Err-NoMemory-clause-lifts : goal.returns-in-Err-NoMemory-clause-lifts
+returns-in-Err-NoMemory-clause-lifts g c = all_lifts c.args.words.now NoMemory _ _ (g.S.Source.left c.args.source.now) (λ h. absurd h)
+
+pub returns-in-Ok-respond-clause-makes : goal.returns-in-Ok-respond-clause-makes
+returns-in-Ok-respond-clause-makes g c =
+    makes_told c.args.words.now _ c.in-Ok.ensures.answers _ _ _ _ _ _ _ _ c.deliver.result (g.S.Source.left c.args.source.now) c.in-Ok-respond.ensures.response c.deliver.ensures
+
+pub returns-in-Ok-respond-clause-checks : goal.returns-in-Ok-respond-clause-checks
+returns-in-Ok-respond-clause-checks g c = λ answered. checks_told c.args.words.now c.deliver.result _ _ (g.S.Source.left c.args.source.now)
+    (run_outcome c.args.words.now _ c.in-Ok.ensures.answers _ _ _ _ _ _ _ _ c.deliver.result (g.S.Source.left c.args.source.now) c.in-Ok-respond.ensures.response c.deliver.ensures answered)

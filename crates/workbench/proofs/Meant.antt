@@ -1,0 +1,98 @@
+-- What the outcome of words and of an input means, or that the run was cut short.
+use Rattle.std.proofs.Common.{◌≡◌, ◌≤◌, ◌↔◌, ℕ, false, List, [], length, Option, Some, None, Ok, inl, inr, refl, sym, ◌∙◌, ap, subst}
+use Rattle.std.specs.Prelude.{◌⊎◌, IfSome, All}
+use Rattle.bench_io.specs.Causes.{Grows}
+use Rattle.cone_definitions.specs.Rows.{Row as EquationRow}
+use Rattle.table_definitions.specs.Table.{Row}
+use Rattle.surface_definitions.specs.declared.Coords.TheVariants.{Quad}
+use Rattle.surface_definitions.specs.QuadEquations.{AreEquations}
+use Rattle.move_definitions.specs.Moves.{Move}
+use Rattle.move_definitions.specs.Certificates.{IsCertificate}
+use Rattle.document_definitions.specs.Documents.{vectors_document, moves_document}
+use Rattle.command_definitions.specs.declared.Request.{Request}
+use Rattle.command_definitions.specs.declared.Request.TheVariants.{Lift, Check, Make}
+use Rattle.command_definitions.specs.Requests.{reads_input}
+use Rattle.command_definitions.specs.Words.{accepted_request}
+use Rattle.outcome_definitions.specs.declared.Status.{Status}
+use Rattle.outcome_definitions.specs.declared.Status.TheVariants.{Done, ReadFault}
+use Rattle.outcome_definitions.specs.Outcomes.{Outcome}
+use Rattle.outcome_definitions.specs.Answers.{IsAnswerTo, most_bytes}
+use Rattle.answer_laws.specs.Asked.{IsOutcomeTo}
+use Rattle.answer_laws.specs.Lifts.{HasSphereAndDiscVertices, IsSmallSolution, AreLifted}
+use Rattle.answer_laws.specs.Makings.{IsTableWithMoves}
+use Rattle.answer_laws.proofs.Lifts.{solutions_lifted}
+use Rattle.answer_laws.proofs.Makings.{made_with_moves}
+use Rattle.answer_laws.proofs.Checks.{done_where_certified}
+use Rattle.workbench.specs.Runs.{IsAnswered, IsResponse, IsDelivered}
+use Rattle.workbench.specs.Prints.{Writes, IsCutShort}
+use Rattle.workbench.proofs.Headlines.{Tells}
+use Rattle.workbench.proofs.Completeness.{answered_or_cut}
+
+module _ (words : List (List ℕ)) (status : Status) (held grown : Option (List ℕ)) where
+  -- `lift` on these bytes
+  abbrev pub LiftsOn : List ℕ → Type 0
+  LiftsOn bytes =
+      (rows : List Row) (vectors : List (List ℕ)) (equations : List EquationRow) → length bytes ≤ most_bytes → vectors_document bytes ≡ Ok (rows, vectors) → HasSphereAndDiscVertices rows
+      → AreEquations Quad rows equations → All (IsSmallSolution rows equations) vectors → Writes (AreLifted rows vectors) status held grown
+
+  lifts_told : (bytes : List ℕ) → accepted_request words ≡ Some Lift → Tells words status held grown bytes → LiftsOn bytes
+  lifts_told bytes e t = λ rows vectors equations few read links of_table small.
+      let asked : IsOutcomeTo Lift words bytes t.0 = record { accepted = e; within = few; outcome = t.1 } in
+      inl (t.0, solutions_lifted words bytes t.0 rows vectors equations asked read links of_table small, t.2, t.3)
+
+  lifts_by : (left : Option (List ℕ)) → accepted_request words ≡ Some Lift → IsAnswered status → IfSome left (Tells words status held grown) → IfSome left LiftsOn
+  lifts_by None e a t = tt
+  lifts_by (Some bytes) e a t = lifts_told bytes e t
+
+  lifts_cut : (left : Option (List ℕ)) → IsCutShort status → IfSome left LiftsOn
+  lifts_cut None cut = tt
+  lifts_cut (Some bytes) cut = λ rows vectors equations few read links of_table small. inr cut
+
+  pub all_lifts : (left : Option (List ℕ)) → (IsAnswered status → IfSome left (Tells words status held grown)) → accepted_request words ≡ Some Lift → IfSome left LiftsOn
+  all_lifts left h e = elim (answered_or_cut status) [
+    | inl told ↦ lifts_by left e told (h told)
+    | inr cut ↦ lifts_cut left cut
+  ]
+
+  -- `check` on these bytes
+  abbrev pub ChecksOn : List ℕ → Type 0
+  ChecksOn bytes = (rows : List Row) (moves : List Move) → length bytes ≤ most_bytes → moves_document bytes ≡ Ok (rows, moves) → (status ≡ Done) ↔ IsCertificate rows moves
+
+  pub checks_told : (left : Option (List ℕ)) → IfSome left (Tells words status held grown) → accepted_request words ≡ Some Check → IfSome left ChecksOn
+  checks_told None t e = tt
+  checks_told (Some bytes) t e = λ rows moves few read.
+      let asked : IsOutcomeTo Check words bytes t.0 = record { accepted = e; within = few; outcome = t.1 } in
+      let d = done_where_certified words bytes t.0 rows moves asked read in
+      ((λ done. d.0 (sym t.2 ∙ done)), (λ certificate. t.2 ∙ d.1 certificate))
+
+-- two requests of the same words are one
+same_request : (words : List (List ℕ)) (r q : Request) → accepted_request words ≡ Some r → accepted_request words ≡ Some q → r ≡ q
+same_request words r q e f = (let g : (let o : Option Request = Some r in o ≡ Some q) = sym e ∙ f in cc)
+
+-- a command that reads nothing
+module _ (r : Request) (rest : Option (List ℕ)) (before now : ℕ) (o : Outcome) (held grown : Option (List ℕ)) (faults_before faults_now : ℕ) (status : Status) (nothing : reads_input r ≡ false) where
+  abbrev Alone : Type 0
+  Alone = (p : Outcome) × IsAnswerTo r [] p × (status ≡ p.status) × Grows held grown p.text
+
+  answered_alone : (left : Option (List ℕ)) → IsResponse r left rest before now o → IsDelivered o status held grown faults_before faults_now → IsAnswered status → Alone
+  answered_alone left (inl fault) (inl whole) h = absurd (let e : status ≡ ReadFault = whole.0 ∙ ap (λ (p : Outcome). p.status) fault.outcome in subst IsAnswered e h)
+  answered_alone left (inl fault) (inr cut) h = absurd (subst IsAnswered cut.0 h)
+  answered_alone left (inr well) (inl whole) h = (o, well.alone nothing, whole.0, whole.1)
+  answered_alone left (inr well) (inr cut) h = absurd (subst IsAnswered cut.0 h)
+
+  pub alone_or_cut : (left : Option (List ℕ)) → IsResponse r left rest before now o → IsDelivered o status held grown faults_before faults_now → Alone ⊎ IsCutShort status
+  alone_or_cut left response delivered = elim (answered_or_cut status) [
+    | inl told ↦ inl (answered_alone left response delivered told)
+    | inr cut ↦ inr cut
+  ]
+
+-- `make` where the words are read
+pub makes_told : (words : List (List ℕ)) (r : Request) → accepted_request words ≡ Some r → (rest : Option (List ℕ)) (before now : ℕ) (o : Outcome) (held grown : Option (List ℕ))
+    (faults_before faults_now : ℕ) (status : Status) (left : Option (List ℕ)) → IsResponse r left rest before now o → IsDelivered o status held grown faults_before faults_now
+    → (seed moves : ℕ) → accepted_request words ≡ Some (Make seed moves) → moves ≤ 333 → Writes (IsTableWithMoves moves) status held grown
+makes_told words r accepted rest before now o held grown faults_before faults_now status left response delivered seed moves e few =
+    let here : IsResponse (Make seed moves) left rest before now o = subst (λ (q : Request). IsResponse q left rest before now o) (same_request words r (Make seed moves) accepted e) response in
+    elim (alone_or_cut (Make seed moves) rest before now o held grown faults_before faults_now status refl left here delivered) [
+      | inl t ↦ inl (t.0, made_with_moves seed moves t.0 few t.1, t.2, t.3)
+      | inr cut ↦ inr cut
+    ]
