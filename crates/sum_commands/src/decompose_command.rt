@@ -2,6 +2,8 @@
 ghost use Rattle.std.specs.Prelude.{◌≡◌, ℕ, ◌≤◌, ◌^◌, length, IfOk, slice_index};
 ghost use Rattle.std.specs.List.{All};
 ghost use Rattle.cone_core.specs.declared.numbers.TheConstants.{MAX_ENTRY};
+ghost use Rattle.surface_definitions.specs.Coordinates.{columns};
+ghost use Rattle.surface_definitions.specs.QuadEquations.{AreEquations};
 ghost use Rattle.document_definitions.specs.Documents.{vectors_document};
 ghost use Rattle.sum_definitions.specs.Sums.{HasRays};
 ghost use Rattle.command_answers.specs.Reads.{all_entries};
@@ -136,6 +138,38 @@ fn summed(
     }
 }
 
+// The answer to a table and vectors, by the skeleton and the equations of the table.
+fn answer_by(
+    alloc: Global,
+    coords: Coords,
+    limit: u128,
+    table: &Table,
+    skeleton: &Skeleton,
+    system: &System,
+    vectors: &[Vec<u128>],
+) -> Result<Outcome, NoMemory>
+    requires rows { skeleton.now.rows ≡ table.now }
+    requires columns { system.now.columns ≡ columns coords (length skeleton.now.rows) }
+    requires equations { AreEquations coords skeleton.now.rows system.now.rows }
+    requires entries { AreInRange (all_entries vectors.now) }
+    requires some_limit { 1 ≤ limit }
+    requires most_limit { limit ≤ MAX_ENTRY }
+    ensures { IfOk result (IsDecomposeAnswer coords limit (table.now, all_entries vectors.now)) }
+{
+    if let Err(first) = check_vectors(coords, skeleton, system, vectors) {
+        return refusal_outcome(
+            alloc,
+            first.number,
+            SumRefusal::Unfit { fault: first.fault },
+        );
+    }
+    match surfaces(alloc, skeleton, coords, Order::Given, limit) {
+        Ok(list) => summed(alloc, table, system, &list, vectors, limit),
+        Err(EnumFault::Large { order, kind }) => large_outcome(alloc, &order, &kind),
+        Err(EnumFault::NoMemory) => Err(NoMemory),
+    }
+}
+
 // The answer to a table and vectors.
 fn answer(
     alloc: Global,
@@ -151,18 +185,7 @@ fn answer(
 {
     let skeleton = Skeleton::of(alloc, table)?;
     let system = equations(alloc, &skeleton, coords)?;
-    if let Err(first) = check_vectors(coords, &skeleton, &system, vectors) {
-        return refusal_outcome(
-            alloc,
-            first.number,
-            SumRefusal::Unfit { fault: first.fault },
-        );
-    }
-    match surfaces(alloc, &skeleton, coords, Order::Given, limit) {
-        Ok(list) => summed(alloc, table, &system, &list, vectors, limit),
-        Err(EnumFault::Large { order, kind }) => large_outcome(alloc, &order, &kind),
-        Err(EnumFault::NoMemory) => Err(NoMemory),
-    }
+    answer_by(alloc, coords, limit, table, &skeleton, &system, vectors)
 }
 
 /// The outcome of `decompose` on an input that isn't too long.
