@@ -39,11 +39,9 @@ fn the_figure_eight_complement(rt: HostRuntime) {
     assert_eq!(rt; skeleton.vertices(), 1);
     assert_eq!(rt; skeleton.vertex_degree(0), 8);
     assert_eq!(rt; skeleton.edges(), 2);
-    assert_eq!(rt; skeleton.edge_degree(0), 6);
-    assert_eq!(rt; skeleton.edge_degree(1), 6);
+    assert_eq!(rt; (skeleton.edge_degree(0), skeleton.edge_degree(1)), (6, 6));
     assert_eq!(rt; skeleton.faces(), 4);
-    assert!(rt; skeleton.is_closed());
-    assert!(rt; skeleton.orientation().is_some());
+    assert!(rt; skeleton.is_closed() && skeleton.orientation().is_some());
     assert_eq!(rt; skeleton.first_invalid(), None);
 }
 
@@ -69,21 +67,37 @@ fn an_edge_that_meets_its_reverse(rt: HostRuntime) {
         rt.alloc(),
         &[[by(0, b"1032"), by(0, b"1032"), None, None]],
     );
-    assert_eq!(rt; skeleton.vertices(), 2);
     assert_eq!(rt; skeleton.edges(), 4);
-    assert_eq!(rt; skeleton.edge_degree(0), 1);
-    assert_eq!(rt; skeleton.edge_degree(1), 2);
-    assert_eq!(rt; skeleton.edge_degree(2), 2);
-    assert_eq!(rt; skeleton.edge_degree(3), 1);
-    assert_eq!(rt; skeleton.faces(), 3);
-    assert!(rt; !skeleton.is_closed());
-    assert!(rt; skeleton.is_boundary_edge(0));
-    assert!(rt; !skeleton.is_boundary_edge(3));
-    assert!(rt; skeleton.around(0).is_empty());
+    assert_eq!(rt; (skeleton.edge_degree(0), skeleton.edge_degree(1)), (1, 2));
+    assert_eq!(rt; (skeleton.edge_degree(2), skeleton.edge_degree(3)), (2, 1));
+    assert_eq!(rt; (skeleton.vertices(), skeleton.faces()), (2, 3));
     assert_eq!(rt; skeleton.first_invalid(), Some(3));
+}
+
+#[test]
+fn edges_of_the_boundary(rt: HostRuntime) {
+    let skeleton = of(
+        &rt,
+        rt.alloc(),
+        &[[by(0, b"1032"), by(0, b"1032"), None, None]],
+    );
+    assert_eq!(rt; skeleton.edges(), 4);
+    assert!(rt; !skeleton.is_closed() && skeleton.around(0).is_empty());
+    assert!(rt; skeleton.is_boundary_edge(0) && !skeleton.is_boundary_edge(3));
+}
+
+#[test]
+fn classes_of_a_tetrahedron(rt: HostRuntime) {
+    let skeleton = of(
+        &rt,
+        rt.alloc(),
+        &[[by(0, b"1032"), by(0, b"1032"), None, None]],
+    );
     assert_eq!(rt; skeleton.table().len(), 1);
-    assert_eq!(rt; skeleton.vertex_class(0, 3), 1);
-    assert_eq!(rt; skeleton.face_class(0, 1), 0);
+    assert_eq!(rt;
+        (skeleton.vertex_class(0, 3), skeleton.face_class(0, 1)),
+        (1, 0)
+    );
     assert_eq!(rt; skeleton.edge_class(0, 5), (3, false));
 }
 
