@@ -4,6 +4,7 @@ use no_memory::NoMemory;
 use pachner_moves::{Core, Move, MoveFault};
 use perm_four::Perm4;
 use std::alloc::Global;
+use std::process::Abort;
 use std::test::Fail;
 
 fn to_itself(word: &[u8]) -> Option<Glue> {
@@ -22,6 +23,11 @@ fn sphere_rows() -> [Row; 1] {
     ]]
 }
 
+const SPHERE: &[u8] = b"tri 1\n0:1023 0:1023 0:1230 0:3012\n";
+
+const FOUR: &[u8] =
+    b"tri 4\n1:0123 2:1023 3:1203 1:0123\n0:0123 2:0123 3:0213 0:0123\n0:1023 1:0123 3:0123 3:1203\n0:2013 1:0213 2:0123 2:2013\n";
+
 /// The text of the table of a session.
 fn text(alloc: Global, session: &Session) -> Result<Vec<u8>, NoMemory> {
     let mut out = Vec::new(alloc);
@@ -29,34 +35,42 @@ fn text(alloc: Global, session: &Session) -> Result<Vec<u8>, NoMemory> {
     Ok(out)
 }
 
+/// A session on the sphere of one tetrahedron.
+fn session(rt: &impl Abort, alloc: Global) -> Session {
+    let table = Table::from_rows(alloc, &sphere_rows()).expect(rt, "a table");
+    Session::new(alloc, table)
+}
+
+/// The move of tetrahedron 0 whose core's vertices are the bits of the mask.
+fn at(rt: &impl Abort, mask: u8) -> Move {
+    let core = Core::new(mask).expect(rt, "a core");
+    Move { tet: 0, core }
+}
+
 #[test]
-fn a_session_plays_its_moves(rt: HostRuntime) -> Result<(), Fail> {
+fn a_move_is_undone_and_redone(rt: HostRuntime) -> Result<(), Fail> {
     let alloc = rt.alloc();
-    let sphere = b"tri 1\n0:1023 0:1023 0:1230 0:3012\n".as_slice();
-    let four =
-        b"tri 4\n1:0123 2:1023 3:1203 1:0123\n0:0123 2:0123 3:0213 0:0123\n0:1023 1:0123 3:0123 3:1203\n0:2013 1:0213 2:0123 2:2013\n".as_slice();
-    let table = Table::from_rows(alloc, &sphere_rows()).expect(&rt, "a table");
-    let mut session = Session::new(alloc, table);
-    let one_four = Move {
-        tet: 0,
-        core: Core::new(15).expect(&rt, "a core"),
-    };
-    let two_three = Move {
-        tet: 0,
-        core: Core::new(14).expect(&rt, "a core"),
-    };
-    assert_eq!(rt; session.play(one_four), Ok(()));
-    assert_eq!(rt; text(alloc, &session)?.as_slice(), four);
+    let mut session = session(&rt, alloc);
+    assert_eq!(rt; session.play(at(&rt, 15)), Ok(()));
     assert!(rt; session.undo());
-    assert_eq!(rt; text(alloc, &session)?.as_slice(), sphere);
-    assert!(rt; !session.undo());
-    let repeated = MoveFault::Repeated { label: 3 };
-    assert_eq!(rt; session.play(two_three), Err(PlayFault::Illegal(repeated)));
+    assert_eq!(rt; text(alloc, &session)?.as_slice(), SPHERE);
     assert!(rt; session.redo());
-    assert_eq!(rt; text(alloc, &session)?.as_slice(), four);
-    assert!(rt; !session.redo());
+    assert_eq!(rt; text(alloc, &session)?.as_slice(), FOUR);
     assert_eq!(rt; session.played(), 1);
     Ok(())
+}
+
+#[test]
+fn a_refused_move_leaves_what_was_undone(rt: HostRuntime) {
+    let mut session = session(&rt, rt.alloc());
+    assert_eq!(rt; session.play(at(&rt, 15)), Ok(()));
+    assert!(rt; session.undo() && !session.undo());
+    let repeated = MoveFault::Repeated { label: 3 };
+    assert_eq!(rt;
+        session.play(at(&rt, 14)),
+        Err(PlayFault::Illegal(repeated))
+    );
+    assert!(rt; session.redo() && !session.redo());
 }
 
 #[test]
