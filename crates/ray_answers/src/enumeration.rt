@@ -9,6 +9,7 @@ ghost use Rattle.ray_answers.specs.Answers.{AreRefused, IsBoundedList};
 use crate::row_order::rows_in_order;
 use cone_core::{MAX_ENTRY, Ray, System};
 use double_description::{EnumFault, Order, Permit, Picker, Rays, choice, enumerate};
+use late_columns::vertex_surfaces;
 use no_memory::NoMemory;
 use number_bounds::columns_fit;
 use solved_rows::{SolveFault, solve};
@@ -33,18 +34,16 @@ fn walked(alloc: Global, system: &System, order: Order, limit: u128) -> Result<R
     enumerate(alloc, system, &permit, &picker, limit)
 }
 
-/// The rays of a system, its rows taken as they stand; nothing where a number passes the greatest entry.
-fn found_as_given(alloc: Global, system: &System) -> Result<Option<Vec<Ray>>, NoMemory>
+/// The rays of a system; nothing where a number passes the greatest entry.
+fn found_late(alloc: Global, system: &System) -> Result<Option<Vec<Ray>>, NoMemory>
     ensures { IfOk result (λ answer. IfSome answer (λ list. IsSurfaceList system.now.columns system.now.rows [] list.items)) }
 {
-    match walked(alloc, system, Order::Given, MAX_ENTRY) {
-        Ok(rays) => {
-            let Rays { list, order: _ } = rays;
-            Ok(Some(list))
-        }
-        Err(EnumFault::Large { .. }) => Ok(None),
-        Err(EnumFault::NoMemory) => Err(NoMemory),
-    }
+    let permit = Permit::new(
+        Vec::new(alloc),
+        system.columns(),
+        |_u: &Support, _w: &Support| true,
+    );
+    vertex_surfaces(alloc, system, &permit)
 }
 
 /// The rays of a system whose numbers don't matter, found from its rows made sparser and in a quick order; nothing where
@@ -53,7 +52,7 @@ fn found(alloc: Global, system: &System) -> Result<Option<Vec<Ray>>, NoMemory>
     ensures { IfOk result (λ answer. IfSome answer (λ list. IsSurfaceList system.now.columns system.now.rows [] list.items)) }
 {
     match solve(alloc, system, 1, &[]) {
-        Ok(solved) => found_as_given(alloc, &solved),
+        Ok(solved) => found_late(alloc, &solved),
         Err(SolveFault::Passed) => Ok(None),
         Err(SolveFault::NoMemory) => Err(NoMemory),
     }
