@@ -1,5 +1,4 @@
-ghost use Rattle.std.specs.Prelude.{◌≡◌, ◌+◌, ◌<◌, ◌≤◌, ◌^◌, ◌↔◌, length, IsTrue};
-ghost use Rattle.double_description.specs.Clashes.{AreClashes, IsClashFree, IsInUnion};
+ghost use Rattle.std.specs.Prelude.{◌≤◌, ◌^◌, length};
 
 use super::*;
 use bench_io::Lexer;
@@ -25,97 +24,61 @@ fn are_rays(rt: &impl Abort, rays: &[Ray], vectors: &[&[u128]]) {
     }
 }
 
-fn is_in_union(a: &Support, b: &Support, column: u32) -> bool
-    requires first { column < length a.now }
-    requires second { column < length b.now }
-    ensures { IsTrue result ↔ IsInUnion a.now b.now column }
-{
-    a.contains(column) || b.contains(column)
-}
-
-fn is_clash_free(clashes: &[(u32, u32)], a: &Support, b: &Support) -> bool
-    requires lengths { length b.now ≡ length a.now }
-    requires clashes { AreClashes (length a.now) clashes.now }
-    ensures { IsTrue result ↔ IsClashFree clashes.now a.now b.now }
-{
-    for (first, second) in clashes {
-        if is_in_union(a, b, *first) && is_in_union(a, b, *second) {
-            return false;
-        }
-    }
-    true
-}
-
-// Seven columns, of which three clash, as those of one tetrahedron.
-fn surfaces_are(
-    rt: &impl Abort,
-    alloc: Global,
-    text: &[u8],
-    vectors: &[&[u128]],
-) -> Result<(), Fail>
+// Without clashing pairs.
+fn rays_of(rt: &impl Abort, alloc: Global, text: &[u8]) -> Result<Option<Vec<Ray>>, Fail>
     requires text { length text.now ≤ 2 ^ 31 }
 {
     let system = cone(rt, alloc, text)?;
-    assert_eq!(rt; system.columns(), 7);
-    let pairs = [(4, 5), (4, 6), (5, 6)];
     let permit = Permit::new(
-        Vec::from_slice(alloc, &pairs)?,
-        7,
-        |a: &Support, b: &Support| -> bool
-            requires lengths { length b.now ≡ length a.now }
-            requires clashes { AreClashes (length a.now) pairs }
-            ensures { IsTrue result ↔ IsClashFree pairs a.now b.now }
-        { is_clash_free(&pairs, a, b) },
+        Vec::new(alloc),
+        system.columns(),
+        |_: &Support, _: &Support| true,
     );
-    match vertex_surfaces(alloc, &system, &permit)? {
-        Some(rays) => are_rays(rt, &rays, vectors),
-        None => panic!(rt; "a list was expected"),
-    }
-    Ok(())
-}
-
-#[test]
-fn surfaces_of_one_tetrahedron(rt: HostRuntime) -> Result<(), Fail> {
-    let alloc = rt.alloc();
-    surfaces_are(
-        &rt,
-        alloc,
-        b"cone 7 6\n-1 1 0 0 0 0 0\n0 0 0 0 0 1 -1\n0 0 0 0 0 -1 1\n1 -1 0 0 0 0 0\n0 1 -1 0 -1 0 1\n-1 0 0 1 1 0 -1",
-        &[&[1, 1, 0, 0, 1, 0, 0], &[1, 1, 1, 1, 0, 0, 0]],
-    )?;
-    surfaces_are(
-        &rt,
-        alloc,
-        b"cone 7 6\n-1 1 0 0 0 0 0\n0 0 0 0 0 1 -1\n0 0 0 0 0 -1 1\n0 0 0 0 0 1 -1\n0 0 0 0 0 -1 1\n0 0 -1 1 0 0 0",
-        &[
-            &[0, 0, 0, 0, 1, 0, 0],
-            &[0, 0, 1, 1, 0, 0, 0],
-            &[1, 1, 0, 0, 0, 0, 0],
-        ],
-    )?;
-    Ok(())
+    let rays = vertex_surfaces(alloc, &system, &permit)?;
+    Ok(rays)
 }
 
 #[test]
 fn columns_enter_late(rt: HostRuntime) -> Result<(), Fail> {
     let alloc = rt.alloc();
-    // the second row has 1 in the third column, the third -2 in the fourth, the fourth -1 in the fifth, which clashes
-    surfaces_are(
+    let none = rays_of(&rt, alloc, b"cone 2 0")?;
+    are_rays(&rt, &none.expect(&rt, "rays"), &[&[0, 1], &[1, 0]]);
+    // the last column is new in the last row, but with -2
+    let doubled = rays_of(&rt, alloc, b"cone 3 2\n1 -2 0\n0 1 -2")?;
+    are_rays(&rt, &doubled.expect(&rt, "rays"), &[&[4, 2, 1]]);
+    // the fifth column comes with 1, the sixth with -1, and the last never
+    let raised = rays_of(
         &rt,
         alloc,
-        b"cone 7 4\n1 -1 0 0 0 0 0\n1 0 1 0 0 -1 0\n0 0 1 -2 0 0 0\n0 0 0 1 -1 0 0",
-        &[&[0, 0, 0, 0, 0, 0, 1], &[1, 1, 0, 0, 0, 1, 0]],
+        b"cone 7 3\n1 1 -1 -1 0 0 0\n1 0 -1 0 1 0 0\n0 1 0 0 -1 -1 0",
     )?;
-    // 1 and then -1, in columns that clash with none
-    surfaces_are(
+    are_rays(
         &rt,
-        alloc,
-        b"cone 7 3\n0 0 0 1 -1 0 0\n0 1 0 -1 0 1 0\n1 0 -1 0 0 0 0",
+        &raised.expect(&rt, "rays"),
         &[
             &[0, 0, 0, 0, 0, 0, 1],
-            &[0, 1, 0, 1, 1, 0, 0],
+            &[0, 1, 0, 1, 0, 1, 0],
+            &[0, 1, 1, 0, 1, 0, 0],
             &[1, 0, 1, 0, 0, 0, 0],
         ],
+    );
+    Ok(())
+}
+
+#[test]
+fn large_numbers_have_no_answer(rt: HostRuntime) -> Result<(), Fail> {
+    let alloc = rt.alloc();
+    let six = rays_of(
+        &rt,
+        alloc,
+        b"cone 5 4\n1000000 -1 0 0 0\n0 1000000 -1 0 0\n0 0 1000000 -1 0\n0 0 0 1000000 -1",
     )?;
+    assert!(rt; six.is_some());
+    let seven = rays_of(
+        &rt,
+        alloc,
+        b"cone 8 7\n1000000 -1 0 0 0 0 0 0\n0 1000000 -1 0 0 0 0 0\n0 0 1000000 -1 0 0 0 0\n0 0 0 1000000 -1 0 0 0\n0 0 0 0 1000000 -1 0 0\n0 0 0 0 0 1000000 -1 0\n0 0 0 0 0 0 1000000 -1",
+    )?;
+    assert!(rt; seven.is_none());
     Ok(())
 }
