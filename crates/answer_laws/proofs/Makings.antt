@@ -5,7 +5,7 @@ use Rattle.outcome_definitions.specs.Outcomes.{Outcome}
 use Rattle.outcome_definitions.specs.Makings.{IsMakeAnswer, IsBulkAnswer, IsSummary}
 use Rattle.certificate_laws.proofs.Made.{made_are_certified_lem}
 use Rattle.making_length_laws.proofs.Makings.{certificates_have_most}
-use Rattle.answer_laws.specs.Makings.{IsTableWithMoves, AllMovesAreMade, AllMovesAreSummedUp}
+use Rattle.answer_laws.specs.Makings.{IsTableWithMoves, IsSummaryWithMoves, AllMovesAreMade, AllMovesAreSummedUp}
 use Rattle.answer_laws.proofs.Asked.{answer_to}
 
 pub made_with_moves : (seed moves : ℕ) (o : Outcome) → moves ≤ 333 → IsMakeAnswer seed moves o → IsTableWithMoves moves o
@@ -20,9 +20,8 @@ made_with_moves seed moves o few a = record {
 pub all_moves_made : AllMovesAreMade
 all_moves_made words bytes o seed moves h few = made_with_moves seed moves o few (answer_to (Make seed moves) words bytes o h)
 
-pub all_moves_summed_up : AllMovesAreSummedUp
-all_moves_summed_up words bytes o seed moves h few =
-    let a : IsBulkAnswer seed moves o = answer_to (Bulk seed moves) words bytes o h in
+pub summed_up_with_moves : (seed moves : ℕ) (o : Outcome) → moves ≤ 333 → IsBulkAnswer seed moves o → IsSummaryWithMoves seed moves o
+summed_up_with_moves seed moves o few a =
     let count : length a.certificate ≡ moves = certificates_have_most seed moves a.table a.certificate few a.made in record {
       table = a.table;
       certificate = a.certificate;
@@ -30,3 +29,6 @@ all_moves_summed_up words bytes o seed moves h few =
       count = count;
       summary = subst (λ (n : ℕ). IsSummary (record { seed = seed; moves = n; tetrahedra = length a.table }) a.table o) count a.summary;
     }
+
+pub all_moves_summed_up : AllMovesAreSummedUp
+all_moves_summed_up words bytes o seed moves h few = summed_up_with_moves seed moves o few (answer_to (Bulk seed moves) words bytes o h)

@@ -1,5 +1,5 @@
 -- What the outcome of words and of an input means, or that the run was cut short.
-use Rattle.std.proofs.Common.{◌≡◌, ◌≤◌, ◌↔◌, ℕ, false, List, [], length, Option, Some, None, Ok, inl, inr, refl, sym, ◌∙◌, ap, subst}
+use Rattle.std.proofs.Common.{◌≡◌, ◌≤◌, ◌↔◌, ℕ, false, List, [], length, Option, Some, None, Ok, inl, inr, sym, ◌∙◌, ap, subst}
 use Rattle.std.specs.Prelude.{◌⊎◌, IfSome, All}
 use Rattle.bench_io.specs.Causes.{Grows}
 use Rattle.cone_definitions.specs.Rows.{Row as EquationRow}
@@ -10,7 +10,7 @@ use Rattle.move_definitions.specs.Moves.{Move}
 use Rattle.move_definitions.specs.Certificates.{IsCertificate}
 use Rattle.document_definitions.specs.Documents.{vectors_document, moves_document}
 use Rattle.command_definitions.specs.declared.Request.{Request}
-use Rattle.command_definitions.specs.declared.Request.TheVariants.{Lift, Check, Make}
+use Rattle.command_definitions.specs.declared.Request.TheVariants.{Lift, Check}
 use Rattle.command_definitions.specs.Requests.{reads_input}
 use Rattle.command_definitions.specs.Words.{accepted_request}
 use Rattle.outcome_definitions.specs.declared.Status.{Status}
@@ -19,9 +19,7 @@ use Rattle.outcome_definitions.specs.Outcomes.{Outcome}
 use Rattle.outcome_definitions.specs.Answers.{IsAnswerTo, most_bytes}
 use Rattle.answer_laws.specs.Asked.{IsOutcomeTo}
 use Rattle.answer_laws.specs.Lifts.{HasSphereAndDiscVertices, IsSmallSolution, AreLifted}
-use Rattle.answer_laws.specs.Makings.{IsTableWithMoves}
 use Rattle.answer_laws.proofs.Lifts.{solutions_lifted}
-use Rattle.answer_laws.proofs.Makings.{made_with_moves}
 use Rattle.answer_laws.proofs.Checks.{done_where_certified}
 use Rattle.workbench.specs.Runs.{IsAnswered, IsResponse, IsDelivered}
 use Rattle.workbench.specs.Prints.{Writes, IsCutShort}
@@ -86,13 +84,14 @@ module _ (r : Request) (rest : Option (List ℕ)) (before now : ℕ) (o : Outcom
     | inr cut ↦ inr cut
   ]
 
--- `make` where the words are read
-pub makes_told : (words : List (List ℕ)) (r : Request) → accepted_request words ≡ Some r → (rest : Option (List ℕ)) (before now : ℕ) (o : Outcome) (held grown : Option (List ℕ))
+-- what its outcome means, where the words are read
+pub alone_told : (IsMeant : Outcome → Type 0) (asked : Request) → reads_input asked ≡ false → ((p : Outcome) → IsAnswerTo asked [] p → IsMeant p)
+    → (words : List (List ℕ)) (r : Request) → accepted_request words ≡ Some r → (rest : Option (List ℕ)) (before now : ℕ) (o : Outcome) (held grown : Option (List ℕ))
     (faults_before faults_now : ℕ) (status : Status) (left : Option (List ℕ)) → IsResponse r left rest before now o → IsDelivered o status held grown faults_before faults_now
-    → (seed moves : ℕ) → accepted_request words ≡ Some (Make seed moves) → moves ≤ 333 → Writes (IsTableWithMoves moves) status held grown
-makes_told words r accepted rest before now o held grown faults_before faults_now status left response delivered seed moves e few =
-    let here : IsResponse (Make seed moves) left rest before now o = subst (λ (q : Request). IsResponse q left rest before now o) (same_request words r (Make seed moves) accepted e) response in
-    elim (alone_or_cut (Make seed moves) rest before now o held grown faults_before faults_now status refl left here delivered) [
-      | inl t ↦ inl (t.0, made_with_moves seed moves t.0 few t.1, t.2, t.3)
+    → accepted_request words ≡ Some asked → Writes IsMeant status held grown
+alone_told IsMeant asked nothing means words r accepted rest before now o held grown faults_before faults_now status left response delivered e =
+    let here : IsResponse asked left rest before now o = subst (λ (q : Request). IsResponse q left rest before now o) (same_request words r asked accepted e) response in
+    elim (alone_or_cut asked rest before now o held grown faults_before faults_now status nothing left here delivered) [
+      | inl t ↦ inl (t.0, means t.0 t.1, t.2, t.3)
       | inr cut ↦ inr cut
     ]

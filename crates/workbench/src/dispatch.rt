@@ -18,7 +18,7 @@ ghost use Rattle.cone_definitions.specs.declared.Order.{Order};
 ghost use Rattle.surface_definitions.specs.declared.Coords.{Coords};
 ghost use Rattle.equation_bounds_laws.specs.Few.{most_tetrahedra};
 ghost use Rattle.answer_laws.specs.Lifts.{HasSphereAndDiscVertices, IsSmallSolution, AreLifted};
-ghost use Rattle.answer_laws.specs.Makings.{IsTableWithMoves};
+ghost use Rattle.answer_laws.specs.Makings.{IsTableWithMoves, IsSummaryWithMoves};
 ghost use Rattle.workbench.specs.Prints.{PrintsSurfaces, PrintsRays, PrintsVerdicts, ListsSurfaces, IsCutShort, Writes, AnswersSurfaces, AnswersRays};
 ghost use Rattle.workbench.specs.Runs.{Answers, IsAnswered, IsCalm, IsWithin, IsResponse, IsWithoutMemory, IsCutOff, IsDue, IsDelivered};
 
@@ -187,15 +187,17 @@ pub fn run<S: Source, K: Sink>(alloc: Global, words: &Words, source: &mut S, sin
     ensures verify { result ≡ Status.Done → (coords : Coords) → accepted_request words.now ≡ Some (Request.Verify coords)
         → IfSome (S.left source.old) (λ bytes. PrintsVerdicts coords bytes (K.held sink.old) (K.held sink.new)) }
 
-    // Where the link of each vertex class is a sphere or a disc, `lift` has a lift of each admissible solution of the quad
-    // equations, and writes them all where no sum is too large; `make` writes a certificate of exactly as many moves as are
-    // asked for, up to 333; and `check` is done exactly where the moves are a certificate.
+    // Where the link of each vertex class is a sphere or a disc, `lift` writes the lifts of vectors that are admissible
+    // solutions of the quad equations with small sums: none is without a lift. `make` writes, and `bulk` checks, a certificate
+    // of exactly as many moves as are asked for, up to 333. `check` is done exactly where the moves are a certificate.
     ensures lifts { accepted_request words.now ≡ Some Request.Lift
         → IfSome (S.left source.old) (λ bytes. (rows : List Row) → (vectors : List (List ℕ)) → (equations : List EquationRow) → length bytes ≤ most_bytes
         → vectors_document bytes ≡ Ok (rows, vectors) → HasSphereAndDiscVertices rows → AreEquations Coords.Quad rows equations
         → All (IsSmallSolution rows equations) vectors → Writes (AreLifted rows vectors) result (K.held sink.old) (K.held sink.new)) }
     ensures makes { (seed : ℕ) → (moves : ℕ) → accepted_request words.now ≡ Some (Request.Make seed moves) → moves ≤ 333
         → Writes (IsTableWithMoves moves) result (K.held sink.old) (K.held sink.new) }
+    ensures sums_up { (seed : ℕ) → (moves : ℕ) → accepted_request words.now ≡ Some (Request.Bulk seed moves) → moves ≤ 333
+        → Writes (IsSummaryWithMoves seed moves) result (K.held sink.old) (K.held sink.new) }
     ensures checks { IsAnswered result → accepted_request words.now ≡ Some Request.Check
         → IfSome (S.left source.old) (λ bytes. (rows : List Row) → (moves : List Move) → length bytes ≤ most_bytes
         → moves_document bytes ≡ Ok (rows, moves) → (result ≡ Status.Done) ↔ IsCertificate rows moves) }

@@ -4,7 +4,11 @@ use Rattle.workbench.proofs.RunClauses.{run_outcome, run_prefix}
 use Rattle.outcome_definitions.specs.declared.Status.TheVariants.{NoMemory}
 use Rattle.workbench.proofs.Completeness.{all_surfaces, all_rays}
 use Rattle.workbench.proofs.FewSurfaces.{few_surfaces}
-use Rattle.workbench.proofs.Meant.{all_lifts, checks_told, makes_told}
+use Rattle.std.proofs.Common.{refl}
+use Rattle.command_definitions.specs.declared.Request.TheVariants.{Make, Bulk}
+use Rattle.answer_laws.specs.Makings.{IsTableWithMoves, IsSummaryWithMoves}
+use Rattle.answer_laws.proofs.Makings.{made_with_moves, summed_up_with_moves}
+use Rattle.workbench.proofs.Meant.{all_lifts, checks_told, alone_told}
 use Rattle.workbench.proofs.dispatch.run.Goals as goal
 
 pub returns-in-Ok-respond-clause-prefix : goal.returns-in-Ok-respond-clause-prefix
@@ -66,8 +70,12 @@ pub returns-in-Err-NoMemory-clause-lifts : goal.returns-in-Err-NoMemory-clause-l
 returns-in-Err-NoMemory-clause-lifts g c = all_lifts c.args.words.now NoMemory _ _ (g.S.Source.left c.args.source.now) (λ h. absurd h)
 
 pub returns-in-Ok-respond-clause-makes : goal.returns-in-Ok-respond-clause-makes
-returns-in-Ok-respond-clause-makes g c =
-    makes_told c.args.words.now _ c.in-Ok.ensures.answers _ _ _ _ _ _ _ _ c.deliver.result (g.S.Source.left c.args.source.now) c.in-Ok-respond.ensures.response c.deliver.ensures
+returns-in-Ok-respond-clause-makes g c = λ seed moves e few. alone_told (IsTableWithMoves moves) (Make seed moves) refl (λ p. made_with_moves seed moves p few)
+    c.args.words.now _ c.in-Ok.ensures.answers _ _ _ _ _ _ _ _ c.deliver.result (g.S.Source.left c.args.source.now) c.in-Ok-respond.ensures.response c.deliver.ensures e
+
+pub returns-in-Ok-respond-clause-sums_up : goal.returns-in-Ok-respond-clause-sums_up
+returns-in-Ok-respond-clause-sums_up g c = λ seed moves e few. alone_told (IsSummaryWithMoves seed moves) (Bulk seed moves) refl (λ p. summed_up_with_moves seed moves p few)
+    c.args.words.now _ c.in-Ok.ensures.answers _ _ _ _ _ _ _ _ c.deliver.result (g.S.Source.left c.args.source.now) c.in-Ok-respond.ensures.response c.deliver.ensures e
 
 pub returns-in-Ok-respond-clause-checks : goal.returns-in-Ok-respond-clause-checks
 returns-in-Ok-respond-clause-checks g c = λ answered. checks_told c.args.words.now c.deliver.result _ _ (g.S.Source.left c.args.source.now)
