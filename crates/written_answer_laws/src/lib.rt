@@ -1,0 +1,20 @@
+//! What one command writes is the next one's document, stated over the outcomes of the commands. The functions here have no
+//! code: their contracts are laws over the definitions.
+#![tactic(auto)]
+
+ghost use Rattle.written_answer_laws.specs.Entries.{ListedAreWithin};
+ghost use Rattle.written_answer_laws.specs.Surfaces.{SurfacesAreRead, SurfacesAreSolutions, ListedAreVerified};
+
+/// What `surfaces` lists, behind what is written for its table, is read as the table and all its vertex surfaces: no entry of
+/// a listed vector is above the limit of its enumeration.
+pub fn surfaces_are_read()
+    ensures within { ListedAreWithin }
+    ensures read { SurfacesAreRead }
+{}
+
+/// `verify` finds each listed surface a solution, or names the first equation of which a part is above the greatest number of a
+/// document.
+pub fn listed_are_verified()
+    ensures verdict { SurfacesAreSolutions }
+    ensures answer { ListedAreVerified }
+{}
