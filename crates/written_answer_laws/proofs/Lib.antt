@@ -1,3 +1,4 @@
 pub mod Entries
 pub mod Verdicts
 pub mod Surfaces
+pub mod Tables

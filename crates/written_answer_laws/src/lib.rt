@@ -4,6 +4,7 @@
 
 ghost use Rattle.written_answer_laws.specs.Entries.{ListedAreWithin};
 ghost use Rattle.written_answer_laws.specs.Surfaces.{SurfacesAreRead, SurfacesAreSolutions, ListedAreVerified};
+ghost use Rattle.written_answer_laws.specs.Tables.{CrushedAreRead, DescentsAreRead};
 
 /// What `surfaces` lists, behind what is written for its table, is read as the table and all its vertex surfaces: no entry of
 /// a listed vector is above the limit of its enumeration.
@@ -17,4 +18,15 @@ pub fn surfaces_are_read()
 pub fn listed_are_verified()
     ensures verdict { SurfacesAreSolutions }
     ensures answer { ListedAreVerified }
+{}
+
+/// What `crush` answers is read as the crushed table, which is the table itself where the vector has no quads.
+pub fn crushed_are_read()
+    ensures { CrushedAreRead }
+{}
+
+/// The table at which a descent ended, and its moves behind the table at which it began, are read as they are; where it reached
+/// the standard sphere, `check` accepts them.
+pub fn descents_are_read()
+    ensures { DescentsAreRead }
 {}
