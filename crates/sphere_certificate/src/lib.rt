@@ -1,5 +1,4 @@
-//! Certificates that a table is a triangulated 3-sphere: moves that lead from it to a relabelling of a standard table
-//! (Pachner).
+//! Certificates: moves that lead from a table to a relabelling of the standard sphere (Pachner).
 #![tactic(auto)]
 
 mod accepted;
