@@ -1,11 +1,12 @@
 -- The columns that clash with one of a support, from those that clash with each column.
-use Rattle.std.proofs.Common.{◌≡◌, ℕ, ◌+◌, ◌<◌, ◌||◌, ◌⊎◌, ◌∷◌, ◌++◌, inl, inr, ⊎_elim, Bool, true, false, IsTrue, List, [], Contains, length, replicate, get_or, length-append, ltb, subst, subst₂, sym, ◌∙◌, refl, arith}
+use Rattle.std.proofs.Common.{◌≡◌, ℕ, ◌+◌, ◌<◌, ◌||◌, ◌⊎◌, ◌∷◌, ◌++◌, inl, inr, ⊎_elim, Bool, true, false, IsTrue, List, [], Contains, length, replicate, get_or, length-append, ltb, subst, subst₂, sym, ◌∙◌, arith}
 use Rattle.std.proofs.lemmas.Bool.{cases_lt, cases_eq, false≢true}
 use Rattle.std.proofs.lemmas.List.{get_or_past, get_or_push, get_or_append_left, get_or-replicate, length-map, length-replicate}
 use Rattle.cone_definitions.specs.Surfaces.{Clash}
 use Rattle.cone_definitions.specs.Vectors.{unit}
 use Rattle.cone_definitions.proofs.Units.{length-unit, entry-unit_same, entry-unit_other}
 use Rattle.support_bits.specs.Columns.{support_of, HasColumn, IsUnion}
+use Rattle.double_description.proofs.UnitedLemmas.{left_true, right_true}
 use Rattle.support_table.specs.Joins.{AreJoinedTo}
 use Rattle.support_table.proofs.JoinLemmas.{nonzero_from_column, column_from_nonzero}
 use Rattle.ray_pairs.specs.Partners.{IsPartnerOf, ArePartners, IsJoinedBelow}
@@ -35,13 +36,6 @@ joined_skip n partners support joined h none = record {
 either_true : (a b : Bool) → IsTrue (a || b) → (a ≡ true) ⊎ (b ≡ true)
 either_true true b h = inl h
 either_true false b h = inr h
-
-left_true : (a b : Bool) → a ≡ true → IsTrue (a || b)
-left_true a b is = rw is refl
-
-right_true : (a b : Bool) → b ≡ true → IsTrue (a || b)
-right_true true b is = refl
-right_true false b is = is
 
 -- a column of the support
 pub joined_more : (n : ℕ) (partners : List (List Bool)) (support joined after : List Bool) → IsJoinedBelow n partners support joined → HasColumn support n →
