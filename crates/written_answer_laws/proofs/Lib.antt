@@ -1,4 +1,7 @@
 pub mod Entries
 pub mod Verdicts
 pub mod Surfaces
+pub mod Besides
+pub mod LiftEntries
+pub mod Lifts
 pub mod Tables

@@ -1,3 +1,4 @@
 pub mod Entries
 pub mod Surfaces
+pub mod Lifts
 pub mod Tables

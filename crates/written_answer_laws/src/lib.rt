@@ -4,6 +4,7 @@
 
 ghost use Rattle.written_answer_laws.specs.Entries.{ListedAreWithin};
 ghost use Rattle.written_answer_laws.specs.Surfaces.{SurfacesAreRead, SurfacesAreSolutions, ListedAreVerified};
+ghost use Rattle.written_answer_laws.specs.Lifts.{LiftsAreWithin, LiftsAreRead};
 ghost use Rattle.written_answer_laws.specs.Tables.{CrushedAreRead, DescentsAreRead};
 
 /// What `surfaces` lists, behind what is written for its table, is read as the table and all its vertex surfaces: no entry of
@@ -18,6 +19,13 @@ pub fn surfaces_are_read()
 pub fn listed_are_verified()
     ensures verdict { SurfacesAreSolutions }
     ensures answer { ListedAreVerified }
+{}
+
+/// What `lift` answers, behind what is written for its table, is read as the table and the lifts: no entry of a lift is above
+/// four times the sum of its quads.
+pub fn lifts_are_read()
+    ensures within { LiftsAreWithin }
+    ensures read { LiftsAreRead }
 {}
 
 /// What `crush` answers is read as the crushed table, which is the table itself where the vector has no quads.

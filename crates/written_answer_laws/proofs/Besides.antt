@@ -1,0 +1,79 @@
+-- The quads beside each vertex, added over vertices that are apart, are at most four times all quads.
+use Rattle.std.proofs.Common.{◌≡◌, ℕ, zero, suc, ◌+◌, ◌*◌, ◌/◌, ◌<◌, ◌≤◌, ⊎_elim, List, [], ◌∷◌, ◌++◌, length, take, inl, inr, refl, sym, ap, ◌∙◌, subst, arith}
+use Rattle.std.specs.Prelude.{sum, sum_by, slice_index}
+use Rattle.std.proofs.lemmas.List.{take_all}
+use Rattle.std.proofs.lemmas.List.Sums.{sum_by-append, sum_by-cons, sum_by_more}
+use Rattle.table_definitions.specs.Lists.{below}
+use Rattle.table_definitions.proofs.Bijections.{below-push}
+use Rattle.table_definitions.proofs.TableLaws.{Among}
+use Rattle.quad_laws.proofs.Rearranged.{AreApart, IsWithout, taken_out}
+
+-- the quads of tetrahedron t, and those beside vertex i
+abbrev pub three_of : List ℕ → ℕ → ℕ
+three_of xs t = slice_index xs (3 * t) + slice_index xs (3 * t + 1) + slice_index xs (3 * t + 2)
+
+abbrev pub beside : List ℕ → ℕ → ℕ
+beside xs i = three_of xs (i / 4)
+
+pub one_of_three : (xs : List ℕ) (t k : ℕ) → k < 3 → slice_index xs (3 * t + k) ≤ three_of xs t
+one_of_three xs t zero l = let e : slice_index xs (3 * t + 0) ≡ slice_index xs (3 * t) = ap (slice_index xs) (omega arith) in omega arith
+one_of_three xs t (suc zero) l = omega arith
+one_of_three xs t (suc (suc zero)) l = omega arith
+one_of_three xs t (suc (suc (suc k))) l = absurd (omega arith)
+
+-- things apart that stand in a list add up to no more than the list
+pub apart_sum : {A : Type 0} (f : A → ℕ) (xs ys : List A) → AreApart xs → ((x : A) → Among x xs → Among x ys) → sum_by f xs ≤ sum_by f ys
+apart_sum f [] ys apart inside = let z : sum_by f [] ≡ 0 = refl in omega arith
+apart_sum {A} f (x ∷ xs) ys apart inside =
+    let r = taken_out x ys (inside x (inl refl)) in
+    let w : IsWithout x ys r.0 = r.1 in
+    let more : sum_by f xs ≤ sum_by f r.0 = apart_sum f xs r.0 apart.1 (λ z a. ⊎_elim (λ q. absurd (apart.0 (subst (λ (u : A). Among u xs) q a))) (λ g. g) (w.others z (inside z (inr a)))) in
+    omega (arith, sum_by-cons f x xs, w.sums f)
+
+below-suc : (f : ℕ → ℕ) (n : ℕ) → sum_by f (below (suc n)) ≡ sum_by f (below n) + f n
+below-suc f n =
+    let e : sum_by f (below n ++ n ∷ []) ≡ sum_by f (below n) + sum_by f (n ∷ []) = sum_by-append f (below n) (n ∷ []) in
+    let g : sum_by f (n ∷ []) ≡ f n + sum_by f [] = sum_by-cons f n [] in
+    let z : sum_by f [] ≡ 0 = refl in
+    ap (sum_by f) (sym (below-push n)) ∙ omega arith
+
+beside_is : (xs : List ℕ) (t i : ℕ) → i / 4 ≡ t → beside xs i ≡ three_of xs t
+beside_is xs t i e = ap (three_of xs) e
+
+four-more : (xs : List ℕ) (t : ℕ) → sum_by (beside xs) (below (4 * (t + 1))) ≡ sum_by (beside xs) (below (4 * t)) + 4 * three_of xs t
+four-more xs t =
+    let e : 4 * (t + 1) ≡ suc (suc (suc (suc (4 * t)))) = omega arith in
+    let whole : sum_by (beside xs) (below (4 * (t + 1))) ≡ sum_by (beside xs) (below (suc (suc (suc (suc (4 * t)))))) = ap (λ n. sum_by (beside xs) (below n)) e in
+    omega (
+      arith,
+      whole,
+      below-suc (beside xs) (4 * t),
+      below-suc (beside xs) (suc (4 * t)),
+      below-suc (beside xs) (suc (suc (4 * t))),
+      below-suc (beside xs) (suc (suc (suc (4 * t)))),
+      beside_is xs t (4 * t) (omega arith),
+      beside_is xs t (suc (4 * t)) (omega arith),
+      beside_is xs t (suc (suc (4 * t))) (omega arith),
+      beside_is xs t (suc (suc (suc (4 * t)))) (omega arith),
+    )
+
+three-more : (xs : List ℕ) (t : ℕ) → 3 * (t + 1) ≤ length xs → sum (take (3 * (t + 1)) xs) ≡ sum (take (3 * t) xs) + three_of xs t
+three-more xs t l =
+    let e : 3 * (t + 1) ≡ (3 * t + 2) + 1 = omega arith in
+    let f : (3 * t + 1) + 1 ≡ 3 * t + 2 = omega arith in
+    let a : sum (take (3 * (t + 1)) xs) ≡ sum (take (3 * t + 2) xs) + slice_index xs (3 * t + 2) = ap (λ i. sum (take i xs)) e ∙ sum_by_more (λ n. n) xs (3 * t + 2) 0 (omega arith) in
+    let b : sum (take (3 * t + 2) xs) ≡ sum (take (3 * t + 1) xs) + slice_index xs (3 * t + 1) = ap (λ i. sum (take i xs)) (sym f) ∙ sum_by_more (λ n. n) xs (3 * t + 1) 0 (omega arith) in
+    let c : sum (take (3 * t + 1) xs) ≡ sum (take (3 * t) xs) + slice_index xs (3 * t) = sum_by_more (λ n. n) xs (3 * t) 0 (omega arith) in
+    omega arith
+
+before : (xs : List ℕ) (t : ℕ) → 3 * t ≤ length xs → sum_by (beside xs) (below (4 * t)) ≡ 4 * sum (take (3 * t) xs)
+before xs zero l = refl
+before xs (suc t) l =
+    let e : suc t ≡ t + 1 = omega arith in
+    subst (λ n. sum_by (beside xs) (below (4 * n)) ≡ 4 * sum (take (3 * n) xs)) (sym e)
+    (let more : sum_by (beside xs) (below (4 * t)) ≡ 4 * sum (take (3 * t) xs) = before xs t (omega arith) in omega (arith, four-more xs t, three-more xs t (omega arith)))
+
+pub all_beside : (xs : List ℕ) (n : ℕ) → length xs ≡ 3 * n → sum_by (beside xs) (below (4 * n)) ≡ 4 * sum xs
+all_beside xs n w =
+    let all : sum (take (3 * n) xs) ≡ sum xs = ap (λ (ys : List ℕ). sum ys) (take_all (3 * n) xs (omega arith)) in
+    omega (arith, before xs n (omega arith), all)
