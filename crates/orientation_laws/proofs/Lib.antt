@@ -1,0 +1,2 @@
+pub mod Tetrahedra
+pub mod Turned

@@ -1,0 +1,20 @@
+-- Sides and orientations of the components of a surface in an orientable table.
+use Rattle.std.specs.Prelude.{◌≡◌, ◌↔◌, ℕ, List}
+use Rattle.table_definitions.specs.Table.{Row}
+use Rattle.skeleton_definitions.specs.Orientation.{IsOrientable}
+use Rattle.surface_definitions.specs.Pieces.{IsTwoSided, IsOrientableComponent}
+use Rattle.surface_definitions.specs.declared.Coords.{Coords}
+use Rattle.vector_definitions.specs.Components.{Component, IsComponent}
+use Rattle.vector_laws.specs.PieceLaws.{IsSurface}
+
+-- there a component of a surface is two-sided exactly where it is orientable
+abbrev pub SidesTellOrientation : Type 0
+SidesTellOrientation =
+    (rows : List Row) (coords : Coords) (xs components : List ℕ) (component : ℕ) → IsSurface rows coords xs → IsOrientable rows
+    → IsTwoSided rows coords xs components component ↔ IsOrientableComponent rows coords xs components component
+
+-- and so it is told
+abbrev pub OneAnswerToBoth : Type 0
+OneAnswerToBoth =
+    (rows : List Row) (coords : Coords) (xs classes : List ℕ) (i : ℕ) (c : Component) → IsSurface rows coords xs → IsOrientable rows
+    → IsComponent rows coords xs classes i c → c.two_sided ≡ c.orientable
