@@ -1,6 +1,7 @@
 -- One row more.
-use Rattle.std.proofs.Common.{◌≡◌, ◌≢◌, ℕ, ◌+◌, ◌<◌, ◌≤◌, inl, inr, List, [], ◌∷◌, ◌++◌, Bool, true, false, true≢false, set, All, length, length-set, slice_index, slice_index_or, subst, sym, ap, ◌∙◌, arith}
+use Rattle.std.proofs.Common.{◌≡◌, ◌≢◌, ℕ, ◌+◌, ◌<◌, ◌≤◌, inl, inr, List, [], ◌∷◌, ◌++◌, Bool, true, false, true≢false, set, All, take, length, length-set, slice_index, slice_index_or, subst, sym, ap, ◌∙◌, arith}
 use Rattle.std.specs.Prelude.{◌↔◌}
+use Rattle.std.proofs.lemmas.List.{take_more}
 use Rattle.std.proofs.lemmas.List.Elements.{All-push, All-weaker}
 use Rattle.cone_definitions.specs.Vectors.{IsInsideUnion, ray_at, unit}
 use Rattle.cone_definitions.specs.Rows.{Row, plus_part, minus_part, IsZeroAt, IsPrimitiveExtreme}
@@ -142,6 +143,12 @@ late_extended limit columns rows pairs row fresh late next f same raised h = rec
 }
 
 -- ---- all rows
+
+-- the rows taken are those before and the row
+pub late_taken : (columns : ℕ) (rows : List Row) (pairs : List Clash) (number : ℕ) (row : Row) (late : LateRays) → number < length rows → row ≡ slice_index_or rows number [] →
+    AreLate columns (take number rows ++ row ∷ []) pairs late → AreLate columns (take (number + 1) rows) pairs late
+late_taken columns rows pairs number row late less is h =
+    subst (λ taken. AreLate columns taken pairs late) (ap (λ r. take number rows ++ r ∷ []) is ∙ sym (take_more rows number [] less)) h
 
 -- with all columns seen
 pub all_seen : (columns : ℕ) (rows : List Row) (pairs : List Clash) (late : LateRays) → ((column : ℕ) → slice_index_or late.seen.items column true ≡ true) → AreLate columns rows pairs late →

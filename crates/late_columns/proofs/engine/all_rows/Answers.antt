@@ -1,15 +1,13 @@
-use Rattle.std.proofs.Common.{◌++◌, ◌∷◌, [], take, take_all, subst, sym, ap, ◌∙◌, arith}
-use Rattle.std.proofs.lemmas.List.{take_more}
+use Rattle.std.proofs.Common.{take, take_all, subst, arith}
 use Rattle.late_columns.specs.Late.{AreLate}
-use Rattle.late_columns.proofs.LateSteps.{pairs_apart, all_seen}
+use Rattle.late_columns.proofs.LateSteps.{pairs_apart, late_taken, all_seen}
 use Rattle.late_columns.proofs.engine.all_rows.Goals as goal
 
 pub loop-number-preserved : goal.loop-number-preserved
 loop-number-preserved g c =
     let rows = c.args.system.now.rows in
     let number = c.loop-number.number in
-    subst (λ taken. AreLate c.args.permit.now.columns taken c.args.permit.now.clashes.items c.in_ok-late-2.late)
-    (ap (λ row. take number rows ++ row ∷ []) c.row.ensures.row ∙ sym (take_more rows number [] (omega (arith, c.len-number-end.ensures, c.loop-number-test.true))))
+    late_taken c.args.permit.now.columns rows c.args.permit.now.clashes.items number c.row.result.now c.in_ok-late-2.late (omega (arith, c.len-number-end.ensures, c.loop-number-test.true)) c.row.ensures.row
     (c.in_ok-late-2.ensures (take number rows) c.loop-number.invariant)
 
 pub returns : goal.returns
