@@ -1,2 +1,3 @@
 pub mod Tetrahedra
 pub mod Turned
+pub mod Described

@@ -2,11 +2,12 @@
 //! code: their contracts are laws over the definitions.
 #![tactic(auto)]
 
-ghost use Rattle.orientation_laws.specs.Laws.{SidesTellOrientation, OneAnswerToBoth};
+ghost use Rattle.orientation_laws.specs.Laws.{SidesTellOrientation, OneAnswerToBoth, DescribedAlike};
 
-/// In an orientable table a component of a surface is two-sided exactly where it is orientable, so what is told of it is the
-/// same of both.
+/// In an orientable table a component of a surface is two-sided exactly where it is orientable, so what is told of it, and
+/// of each component that `describe` lists, is the same of both.
 pub fn sides_tell_orientation()
     ensures signs { SidesTellOrientation }
     ensures told { OneAnswerToBoth }
+    ensures described { DescribedAlike }
 {}
