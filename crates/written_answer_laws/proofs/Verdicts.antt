@@ -4,16 +4,19 @@ use Rattle.std.specs.Prelude.{All, ◌==◌, nat_lt, ◌||◌, find, if◌then�
 use Rattle.std.proofs.lemmas.Bool.{eq-eqb, lt-ltb, or_left, or_right}
 use Rattle.std.proofs.lemmas.List.Elements.{All-nil, All-cons}
 use Rattle.text_definitions.specs.Written.{limit}
-use Rattle.cone_definitions.specs.Rows.{Row as EquationRow, plus_part, minus_part, IsZeroAt}
+use Rattle.cone_definitions.specs.Rows.{Row as EquationRow, plus_part, minus_part, IsZeroAt, IsSolution}
 use Rattle.cone_definitions.specs.Elimination.{HasLargePart}
+use Rattle.cone_definitions.specs.Surfaces.{IsAdmissible}
 use Rattle.cone_definitions.proofs.Decided.{parts_or_large}
+use Rattle.table_definitions.specs.Table.{Row}
 use Rattle.surface_definitions.specs.Coordinates.{columns, clash_list}
+use Rattle.surface_definitions.specs.declared.Coords.{Coords}
 use Rattle.surface_definitions.specs.declared.VectorFault.{VectorFault}
 use Rattle.surface_definitions.specs.declared.VectorFault.TheVariants.{Length, Large}
 use Rattle.surface_definitions.specs.Laws.{HasPartsUpTo}
 use Rattle.surface_definitions.specs.Verdict.{both_nonzero, Verdict, or_else, row_fault, rows_verdict, clash_verdict, verdict}
 use Rattle.surface_definitions.proofs.VerdictLaws.{none-row_fault, fault_by, accepted-verdict}
-use Rattle.written_answer_laws.specs.Surfaces.{IsFirstLarge, SurfacesAreSolutions}
+use Rattle.written_answer_laws.specs.Surfaces.{IsFirstLarge, IsSolutionUnlessLarge, SurfacesAreSolutions}
 
 -- no part passes the limit, or there is a first equation of which one does
 small_or_large : (equations : List EquationRow) (x : List ℕ) → All (HasPartsUpTo limit x) equations ⊎ ((row : ℕ) × IsFirstLarge equations x row)
@@ -60,12 +63,13 @@ large_is_told n equations pairs x row width z f =
     ∙ large_verdict 0 equations x (clash_verdict (find (both_nonzero x) pairs)) row z f
     ∙ ap (λ n. Err (Large n)) same
 
-pub surfaces_are_solutions : SurfacesAreSolutions
-surfaces_are_solutions coords rows equations x h = elim (small_or_large equations x) [
-  | inl small ↦ inl (
-    small,
-    accepted-verdict limit (columns coords (length rows)) equations (clash_list coords (length rows)) x
-        (record { solves = h.extreme.solution; admissible = h.admissible; within = small }),
-  )
-  | inr f ↦ inr (f.0, f.1, large_is_told (columns coords (length rows)) equations (clash_list coords (length rows)) x f.0 h.extreme.solution.width h.extreme.solution.zero f.1)
+-- so of each admissible solution
+pub solutions_are_told : (coords : Coords) (rows : List Row) (equations : List EquationRow) (x : List ℕ) → IsSolution (columns coords (length rows)) equations x
+    → IsAdmissible (clash_list coords (length rows)) x → IsSolutionUnlessLarge coords rows equations x
+solutions_are_told coords rows equations x solves admissible = elim (small_or_large equations x) [
+  | inl small ↦ inl (small, accepted-verdict limit (columns coords (length rows)) equations (clash_list coords (length rows)) x (record { solves = solves; admissible = admissible; within = small }))
+  | inr f ↦ inr (f.0, f.1, large_is_told (columns coords (length rows)) equations (clash_list coords (length rows)) x f.0 solves.width solves.zero f.1)
 ]
+
+pub surfaces_are_solutions : SurfacesAreSolutions
+surfaces_are_solutions coords rows equations x h = solutions_are_told coords rows equations x h.extreme.solution h.admissible

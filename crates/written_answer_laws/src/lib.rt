@@ -4,7 +4,7 @@
 
 ghost use Rattle.written_answer_laws.specs.Entries.{ListedAreWithin};
 ghost use Rattle.written_answer_laws.specs.Surfaces.{SurfacesAreRead, SurfacesAreSolutions, ListedAreVerified};
-ghost use Rattle.written_answer_laws.specs.Lifts.{LiftsAreWithin, LiftsAreRead};
+ghost use Rattle.written_answer_laws.specs.Lifts.{LiftsAreWithin, LiftsAreRead, LiftsAreVerified};
 ghost use Rattle.written_answer_laws.specs.Tables.{CrushedAreRead, DescentsAreRead};
 
 /// What `surfaces` lists, behind what is written for its table, is read as the table and all its vertex surfaces: no entry of
@@ -22,10 +22,12 @@ pub fn listed_are_verified()
 {}
 
 /// What `lift` answers, behind what is written for its table, is read as the table and the lifts: no entry of a lift is above
-/// four times the sum of its quads.
+/// four times the sum of its quads. `verify` finds each lift a solution, or names the first equation of which a part is above
+/// the greatest number of a document.
 pub fn lifts_are_read()
     ensures within { LiftsAreWithin }
     ensures read { LiftsAreRead }
+    ensures verified { LiftsAreVerified }
 {}
 
 /// What `crush` answers is read as the crushed table, which is the table itself where the vector has no quads.
