@@ -20,7 +20,8 @@ pub right_true : (a b : Bool) → b ≡ true → IsTrue (a || b)
 right_true true b is = refl
 right_true false b is = is
 
-either_positive : (a b x : ℕ) → (x ≡ 0 → a ≡ 0) → (x ≡ 0 → b ≡ 0) → (a ≡ 0 → b ≡ 0 → x ≡ 0) → (ltb 0 a || ltb 0 b) ≡ ltb 0 x
+-- a number is positive where one of two is
+pub either_positive : (a b x : ℕ) → (x ≡ 0 → a ≡ 0) → (x ≡ 0 → b ≡ 0) → (a ≡ 0 → b ≡ 0 → x ≡ 0) → (ltb 0 a || ltb 0 b) ≡ ltb 0 x
 either_positive a b x of_a of_b of_x = ⊎_elim
     (λ gone. rw (of_a gone, of_b gone, gone) refl)
     (λ some. ⊎_elim
