@@ -1,6 +1,6 @@
 // Vectors as text: a line `vec` with the entries for each.
 
-ghost use Rattle.std.specs.Prelude.{◌≡◌, ◌++◌, OnOk, OnErr, IfOk};
+ghost use Rattle.std.specs.Prelude.{◌≡◌, ◌++◌, decimal, OnOk, OnErr, IfOk};
 ghost use Rattle.cone_text_definitions.specs.VectorText.{vector_text, entries_text, list_text};
 
 use cone_core::Ray;
@@ -8,14 +8,26 @@ use no_memory::NoMemory;
 use std::alloc::Global;
 use text_writing::{append, append_decimal};
 
+/// Appends the digits of an entry. Most entries are below 10, and their one digit is appended as it is.
+fn append_entry(alloc: Global, text: &mut Vec<u8>, entry: u128) -> Result<(), NoMemory>
+    ensures { OnOk result (text.new.items ≡ text.old.items ++ decimal entry) }
+{
+    if entry < 10 {
+        text.push(b'0' + entry as u8)?;
+        Ok(())
+    } else {
+        append_decimal(alloc, text, entry)
+    }
+}
+
 /// The entries, each after a space.
 fn entries_of(alloc: Global, x: &[u128]) -> Result<Vec<u8>, NoMemory>
     ensures { IfOk result (λ text. text.items ≡ entries_text x.now) }
 {
-    let mut text = Vec::new(alloc);
+    let mut text = Vec::with_capacity(alloc, x.len().saturating_mul(2))?;
     for entry in x {
         append(&mut text, b" ")?;
-        append_decimal(alloc, &mut text, *entry)?;
+        append_entry(alloc, &mut text, *entry)?;
     }
     Ok(text)
 }
