@@ -26,7 +26,7 @@ holds_if : {A : Type 0} (P : A → Type 0) (b : Bool) (x y : Option A) → Holds
 holds_if P true x y h k = h
 holds_if P false x y h k = k
 
-holds_bind : {A B : Type 0} (P : A → Type 0) (Q : B → Type 0) (x : Option A) (f : A → Option B) → Holds P x → ((a : A) → P a → Holds Q (f a)) → Holds Q (x >>= f)
+pub holds_bind : {A B : Type 0} (P : A → Type 0) (Q : B → Type 0) (x : Option A) (f : A → Option B) → Holds P x → ((a : A) → P a → Holds Q (f a)) → Holds Q (x >>= f)
 holds_bind P Q None f h k = tt
 holds_bind P Q (Some a) f h k = k a h
 

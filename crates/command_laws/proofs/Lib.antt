@@ -1,0 +1,5 @@
+pub mod Lookups
+pub mod Spellings
+pub mod OptionLists
+pub mod RequestValues
+pub mod Accepted

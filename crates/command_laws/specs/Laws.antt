@@ -1,0 +1,17 @@
+-- Accepted words are those of the grammar.
+use Rattle.std.specs.Prelude.{◌≡◌, ◌↔◌, ℕ, List, Some, None}
+use Rattle.command_definitions.specs.declared.Request.{Request}
+use Rattle.command_definitions.specs.Grammar.{IsRequest}
+use Rattle.command_definitions.specs.Words.{accepted_request}
+
+-- words are accepted for a request exactly where they spell it
+abbrev pub RequestsAreAccepted : Type 0
+RequestsAreAccepted = (words : List (List ℕ)) (r : Request) → (accepted_request words ≡ Some r) ↔ IsRequest words r
+
+-- words are refused exactly where they spell no request
+abbrev pub OthersAreRefused : Type 0
+OthersAreRefused = (words : List (List ℕ)) → (accepted_request words ≡ None) ↔ ((r : Request) → IsRequest words r → ⊥)
+
+-- words spell at most one request
+abbrev pub WordsAskOnce : Type 0
+WordsAskOnce = (words : List (List ℕ)) (r s : Request) → IsRequest words r → IsRequest words s → r ≡ s
