@@ -1,0 +1,2 @@
+pub mod QuadOctagons
+pub mod Laws
