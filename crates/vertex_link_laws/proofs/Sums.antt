@@ -1,0 +1,67 @@
+-- Sums over what passes a test, over blocks of numbers, and with two terms alone.
+use Rattle.std.proofs.Common.{◌≡◌, ◌≢◌, ℕ, zero, suc, ◌+◌, ◌*◌, ◌<◌, Bool, true, false, cond, List, [], ◌∷◌, filter, inl, inr, refl, sym, ap, ◌∙◌, arith}
+use Rattle.std.specs.Prelude.{◌==◌, sum_by}
+use Rattle.std.proofs.lemmas.Bool.{cases_eq, eq-eqb, ne_eqb}
+use Rattle.std.proofs.lemmas.List.Sums.{sum_by-cons}
+use Rattle.table_definitions.specs.Lists.{below}
+use Rattle.table_definitions.proofs.Listed.{below-among}
+use Rattle.table_definitions.proofs.ListFacts.{sum_below_next}
+use Rattle.vector_laws.proofs.Counting.{sum_by_same, one_term, below_sum}
+use Rattle.vector_laws.proofs.Sums.{sum_by_plus}
+
+abbrev pub bit : Bool → ℕ
+bit b = cond b 1 0
+
+kept_sum : {A : Type 0} (f : A → ℕ) (x : A) (xs : List A) (b : Bool) → sum_by f (cond b (x ∷ xs) xs) ≡ bit b * f x + sum_by f xs
+kept_sum f x xs true = omega (arith, sum_by-cons f x xs)
+kept_sum f x xs false = omega arith
+
+pub sum_by-filter : {A : Type 0} (f : A → ℕ) (p : A → Bool) (xs : List A) → sum_by f (filter p xs) ≡ sum_by (λ x. bit (p x) * f x) xs
+sum_by-filter f p [] = refl
+sum_by-filter f p (x ∷ xs) =
+    kept_sum f x (filter p xs) (p x) ∙ ap (λ m. bit (p x) * f x + m) (sum_by-filter f p xs) ∙ sym (sum_by-cons (λ x. bit (p x) * f x) x xs)
+
+-- blocks of w numbers
+pub sum_blocks : (f : ℕ → ℕ) (w n : ℕ) → sum_by f (below (w * n)) ≡ sum_by (λ t. sum_by (λ j. f (w * t + j)) (below w)) (below n)
+sum_blocks f w zero = let z : w * 0 ≡ 0 = omega arith in ap (λ m. sum_by f (below m)) z
+sum_blocks f w (suc n) =
+    let e : w * suc n ≡ w * n + w = omega arith in
+    let up : n + 1 ≡ suc n = omega arith in
+    ap (λ m. sum_by f (below m)) e ∙ below_sum f (w * n) w ∙ ap (λ m. m + sum_by (λ j. f (w * n + j)) (below w)) (sum_blocks f w n)
+    ∙ sym (sum_below_next (λ t. sum_by (λ j. f (w * t + j)) (below w)) n) ∙ ap (λ m. sum_by (λ t. sum_by (λ j. f (w * t + j)) (below w)) (below m)) up
+
+-- the term at x, and 0 elsewhere
+term_at : (ℕ → ℕ) → ℕ → ℕ → ℕ
+term_at f x k = bit (k == x) * f x
+
+at_it : (f : ℕ → ℕ) (x k : ℕ) → k ≡ x → term_at f x k ≡ f x
+unfolding term_at
+at_it f x k e = ap (λ b. bit b * f x) (eq-eqb k x e) ∙ omega arith
+
+off_it : (f : ℕ → ℕ) (x k : ℕ) → k ≢ x → term_at f x k ≡ 0
+unfolding term_at
+off_it f x k ne = ap (λ b. bit b * f x) (ne_eqb k x ne) ∙ omega arith
+
+first_of_two : (f m n : ℕ) → m ≡ f → n ≡ 0 → f ≡ m + n
+first_of_two f m n e z = omega arith
+
+second_of_two : (f m n : ℕ) → m ≡ 0 → n ≡ f → f ≡ m + n
+second_of_two f m n z e = omega arith
+
+pub two_terms : (f : ℕ → ℕ) (a b n : ℕ) → a < n → b < n → a ≢ b → ((k : ℕ) → k < n → k ≢ a → k ≢ b → f k ≡ 0) → sum_by f (below n) ≡ f a + f b
+two_terms f a b n la lb ne rest =
+    sum_by_same f (λ k. term_at f a k + term_at f b k) (below n) (λ k m. each k (below-among k n m))
+    ∙ sum_by_plus (term_at f a) (term_at f b) (λ k. term_at f a k + term_at f b k) (λ k. refl) (below n)
+    ∙ (λ i. alone a la i + alone b lb i)
+  where
+    each : (k : ℕ) → k < n → f k ≡ term_at f a k + term_at f b k
+    each k lk = elim (cases_eq k a) [
+      | inl e ↦ ap f e ∙ first_of_two (f a) (term_at f a k) (term_at f b k) (at_it f a k e) (off_it f b k (λ d. ne (sym e ∙ d)))
+      | inr off ↦ elim (cases_eq k b) [
+        | inl e ↦ ap f e ∙ second_of_two (f b) (term_at f a k) (term_at f b k) (off_it f a k off) (at_it f b k e)
+        | inr too ↦ rest k lk off too ∙ second_of_two 0 (term_at f a k) (term_at f b k) (off_it f a k off) (off_it f b k too)
+      ]
+    ]
+
+    alone : (x : ℕ) → x < n → sum_by (term_at f x) (below n) ≡ f x
+    alone x lx = one_term (term_at f x) x n (λ k off. off_it f x k off) lx ∙ at_it f x x refl

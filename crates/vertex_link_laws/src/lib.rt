@@ -1,0 +1,15 @@
+//! The link of a vertex class, as a surface in standard or octagon coordinates, has the Euler characteristic of the link. The functions
+//! here have no code: their contracts are laws over the definitions.
+#![tactic(auto)]
+
+ghost use Rattle.vertex_link_laws.specs.Laws.{LinksHaveEdgesAndTriangles, LinkCharacteristicsAgree};
+
+/// The vertex link as a surface has an arc for each edge of the link, and a piece for each triangle.
+pub fn links_have_edges_and_triangles()
+    ensures { LinksHaveEdgesAndTriangles }
+{}
+
+/// Where no edge is invalid, it has a point for each vertex of the link, and the same Euler characteristic.
+pub fn link_characteristics_agree()
+    ensures { LinkCharacteristicsAgree }
+{}
