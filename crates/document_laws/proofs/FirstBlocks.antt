@@ -1,4 +1,4 @@
--- A table and blocks of sums: the first fault of their text.
+-- A table and blocks of sums: the first fault of their text, and of blocks behind a table that was read.
 use Rattle.std.proofs.Common.{◌≡◌, ◌≤◌, ◌+◌, ℕ, List, [], ◌∷◌, ◌++◌, length, Result, Ok, Err, refl, sym, ap, ◌∙◌, subst, arith}
 use Rattle.std.specs.Prelude.{⊤}
 use Rattle.std.proofs.lemmas.List.{length-append}
@@ -8,12 +8,15 @@ use Rattle.text_definitions.specs.Reading.{Reading, ◌>>=◌, begun, start_of}
 use Rattle.text_definitions.proofs.Readers.{bind_ok}
 use Rattle.table_definitions.specs.Table.{Row}
 use Rattle.table_definitions.proofs.ReadingLaws.{ok_parts}
+use Rattle.signature_definitions.specs.declared.InputFault.{InputFault}
 use Rattle.signature_definitions.specs.Grammar.{AreTableLines}
 use Rattle.document_definitions.specs.Documents.{worded, next_table_at}
+use Rattle.document_definitions.specs.Signs.{FirstLeavesAt}
 use Rattle.document_definitions.specs.TextForms.{AreTableText}
-use Rattle.document_definitions.specs.Blocks.{Block, block_at, blocks_on, blocks_from, blocks_document, AreBlockLines, AreBlocks, AreTableAndBlocksText}
+use Rattle.document_definitions.specs.Blocks.{Block, block_at, blocks_on, blocks_from, blocks_document, AreBlockLines, AreBlocks, AreTableAndBlocks, AreTableAndBlocksText}
 use Rattle.document_laws.specs.FormLaws.{FaultsStandFirst}
-use Rattle.document_laws.proofs.Tables.{table_blocks}
+use Rattle.document_laws.specs.FaultLaws.{SomeTableAndBlocks, BlocksFaultsLeaveFirst}
+use Rattle.document_laws.proofs.Tables.{table_blocks, table_read}
 use Rattle.document_laws.proofs.BlockReading.{BlockRead, block_read}
 use Rattle.document_laws.proofs.BlockFinding.{BlockFound, block_found}
 use Rattle.document_laws.proofs.SumDocuments.{any_most}
@@ -27,7 +30,8 @@ use Rattle.document_laws.proofs.TextReaders.{Read, next_text, left_only, Copies,
 use Rattle.document_laws.proofs.TextWays.{goes_next_text, well_next_text}
 use Rattle.document_laws.proofs.TextGrammar.{text_blocks}
 use Rattle.document_laws.proofs.TextEnds.{AtEnd, nothing, each_from, alike_each_from, from_nothing, well_each, each_sound, each_complete}
-use Rattle.document_laws.proofs.FirstFaults.{stands_first}
+use Rattle.document_laws.proofs.FirstFaults.{left_first, stands_first}
+use Rattle.document_laws.proofs.BehindTables.{first_behind}
 use Rattle.document_laws.proofs.FirstLines.{faults_ok}
 
 -- a block is read exactly where its text is
@@ -117,15 +121,39 @@ copy_left : (bytes : List ℕ) (rows : List Row) (d : Reading) → next_table_at
 copy_left bytes rows d e =
     subst (λ (r : Result Blocks LexFault). Copies as_is left_only r (each_from block_text (lines_of bytes) d)) (any_most (lines_of bytes) d.later d (left_of bytes rows d e) (omega arith)) (copy_blocks (lines_of bytes) d)
 
+behind_faults : (bytes : List ℕ) (rows : List Row) (d : Reading) → next_table_at (start_of bytes) ≡ Ok (rows, d)
+    → FaultsAs {X = List Row × List Block} in_text (worded (blocks_from d.later d) >>= λ (bs : Blocks). Ok (rows, bs.0)) (each_from block_text (lines_of bytes) d)
+behind_faults bytes rows d table =
+    faults_ok in_text left_only (worded (blocks_from d.later d)) (each_from block_text (lines_of bytes) d) (λ (bs : Blocks). (rows, bs.0))
+    (copy_worded left_only (blocks_from d.later d) (each_from block_text (lines_of bytes) d) (copy_left bytes rows d table))
+
 document_faults : (bytes : List ℕ) → FaultsAs in_text (blocks_document bytes) (read (lines_of bytes) (start_of bytes))
 unfolding blocks_document
 document_faults bytes =
     faults_bind in_text left_only (next_table_at (start_of bytes)) (next_text (start_of bytes)) (λ (t : List Row × Reading). worded (blocks_from t.1.later t.1) >>= λ (bs : Blocks). Ok (t.0, bs.0))
     (λ (u : ⊤ × Reading). each_from block_text (lines_of bytes) u.1) (copy_next_table (start_of bytes))
-    (λ t p. faults_ok in_text left_only (worded (blocks_from t.1.later t.1)) (each_from block_text (lines_of bytes) t.1) (λ (bs : Blocks). (t.0, bs.0))
-    (copy_worded left_only (blocks_from t.1.later t.1) (each_from block_text (lines_of bytes) t.1) (copy_left bytes t.0 t.1 p)))
+    (λ t p. behind_faults bytes t.0 t.1 p)
 
 pub blocks_faults_stand_first : FaultsStandFirst blocks_document AreTableAndBlocksText
 blocks_faults_stand_first bytes f e =
     stands_first (read (lines_of bytes)) AtEnd AreTableAndBlocksText (complete (lines_of bytes)) (sound (lines_of bytes)) bytes f.place
     (well_read (lines_of bytes) (start_of bytes) f (document_faults bytes f e))
+
+-- behind a table that was read
+put : (table rest : List Line) (rows : List Row) → AreTableLines table rows → Many rest → SomeTableAndBlocks (table ++ rest)
+put table rest rows t h = (rows, h.0, (table, rest, refl, t, h.1))
+
+taken : (lines : List Line) → SomeTableAndBlocks lines → (rows : List Row) × (table : List Line) × (rest : List Line) × (lines ≡ table ++ rest) × AreTableLines table rows × Many rest
+taken lines h = (let t : AreTableAndBlocks lines h.0 h.1 = h.2 in (h.0, t.0, t.1, t.2, t.3, (h.1, t.4)))
+
+rest_first : (most : List Line) (d : Reading) → d.current.tokens ≡ [] → (f : LexFault) → each_from block_text most d ≡ Err f → FirstLeavesAt Many d.input_end d.later f.place
+rest_first most d none f e =
+    left_first (each_from block_text most) AtEnd Many (λ c h. each_complete block_text Many next_block most c h) (λ o u next r a. each_sound block_text Many ([], refl) one_block most o u next r (a next refl)) d none f.place
+    (well_each block_text goes_block well_block most d f e)
+
+pub blocks_faults_leave_first : BlocksFaultsLeaveFirst
+unfolding blocks_document
+blocks_faults_leave_first bytes rows d f table e =
+    first_behind Many SomeTableAndBlocks put taken (start_of bytes) rows d f.place table
+    (rest_first (lines_of bytes) d (table_read (start_of bytes) rows d table).at_end f
+    (behind_faults bytes rows d table f (sym (ap (λ (r : Result (List Row × Reading) InputFault). r >>= λ (t : List Row × Reading). worded (blocks_from t.1.later t.1) >>= λ (bs : Blocks). Ok (t.0, bs.0)) table) ∙ e)))

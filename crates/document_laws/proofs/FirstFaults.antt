@@ -24,7 +24,7 @@ cons_of [] s e = absurd cc
 cons_of (x ∷ ss) s e = (let same : x ≡ s = cc in (ss, ap (λ (y : Sign). y ∷ ss) same))
 
 -- a reading of which no line is begun, with other lines left
-abbrev with_lines : Reading → List Line → Reading
+abbrev pub with_lines : Reading → List Line → Reading
 with_lines c lines = record c { later = lines }
 
 -- what reads so, from a reading of which no line is begun, is refused first at the fault's place

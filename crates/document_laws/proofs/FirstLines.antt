@@ -1,19 +1,22 @@
--- A table and lines of one form: the first fault of their text.
+-- A table and lines of one form: the first fault of their text, and of lines behind a table that was read.
 use Rattle.std.proofs.Common.{◌≡◌, ◌≤◌, ◌+◌, ℕ, List, [], ◌∷◌, ◌++◌, length, Result, Ok, Err, refl, sym, ap, ◌∙◌, subst, arith}
 use Rattle.std.specs.Prelude.{⊤}
-use Rattle.std.specs.List.{AllByRecursion}
+use Rattle.std.specs.List.{AllZip, AllByRecursion}
 use Rattle.std.proofs.lemmas.List.{length-append}
 use Rattle.text_definitions.specs.declared.LexFault.{LexFault}
 use Rattle.text_definitions.specs.Text.{Line, lines_of, end_of}
 use Rattle.text_definitions.specs.Reading.{Reading, ◌>>=◌, begun, start_of}
 use Rattle.text_definitions.proofs.Readers.{bind_ok}
 use Rattle.table_definitions.specs.Table.{Row}
+use Rattle.signature_definitions.specs.declared.InputFault.{InputFault}
 use Rattle.signature_definitions.specs.Grammar.{AreTableLines}
+use Rattle.document_definitions.specs.Grammar.{AreTableAndLines}
 use Rattle.document_definitions.specs.Documents.{worded, each_line_from, next_table_at, table_and_lines}
 use Rattle.document_definitions.specs.Signs.{Sign, FirstLeavesAt}
 use Rattle.document_definitions.specs.TextForms.{AreTableText, AreTextAndLines}
+use Rattle.document_laws.specs.FaultLaws.{SomeTableAndLines, FaultsBehindLeaveFirst}
 use Rattle.document_laws.proofs.Blocks.{ReadsLine}
-use Rattle.document_laws.proofs.Tables.{table_blocks}
+use Rattle.document_laws.proofs.Tables.{table_blocks, table_read}
 use Rattle.document_laws.proofs.Local.{shows, Goes}
 use Rattle.document_laws.proofs.LocalWords.{as_is}
 use Rattle.document_laws.proofs.LocalTables.{in_text}
@@ -22,7 +25,9 @@ use Rattle.document_laws.proofs.TextReaders.{Read, next_text, left_only, Copies,
 use Rattle.document_laws.proofs.TextWays.{goes_next_text, well_next_text}
 use Rattle.document_laws.proofs.TextGrammar.{text_blocks}
 use Rattle.document_laws.proofs.TextEnds.{AtEnd, nothing, each_from, each_none, each_more, alike_each_from, from_nothing, well_each, each_sound, each_complete}
-use Rattle.document_laws.proofs.FirstFaults.{stands_first}
+use Rattle.document_laws.proofs.FirstFaults.{left_first, stands_first}
+use Rattle.document_laws.proofs.BehindTables.{first_behind}
+use Rattle.document_laws.proofs.HaveText.{forget}
 
 -- what is made of a value has no fault of its own
 pub faults_ok : {X Y Z E : Type 0} (lex : LexFault → E) (view : X → Y) (r : Result X E) (s : Result Y LexFault) (g : X → Z) → Copies lex view r s → FaultsAs lex (r >>= λ (x : X). Ok (g x)) s
@@ -62,13 +67,18 @@ module _ {A : Type 0} (form : Reading → Result (A × Reading) LexFault) (Form 
       let parts : length (t.0 ++ d.later) ≡ length t.0 + length d.later = length-append t.0 d.later in
       omega (arith, whole, parts)
 
+  behind_faults : (bytes : List ℕ) (rows : List Row) (d : Reading) → next_table_at (start_of bytes) ≡ Ok (rows, d)
+      → FaultsAs {X = List Row × List A} in_text (worded (each_line_from form d.later d) >>= λ (xs : Lines). Ok (rows, xs.0)) (each_from form (lines_of bytes) d)
+  behind_faults bytes rows d table =
+      faults_ok in_text left_only (worded (each_line_from form d.later d)) (each_from form (lines_of bytes) d) (λ (xs : Lines). (rows, xs.0))
+      (copy_worded left_only (each_line_from form d.later d) (each_from form (lines_of bytes) d) (copy_each (lines_of bytes) d.later d refl (left_of bytes rows d table)))
+
   lines_faults : (bytes : List ℕ) → FaultsAs in_text (table_and_lines form bytes) (read (lines_of bytes) (start_of bytes))
   unfolding table_and_lines
   lines_faults bytes =
       faults_bind in_text left_only (next_table_at (start_of bytes)) (next_text (start_of bytes)) (λ (t : List Row × Reading). worded (each_line_from form t.1.later t.1) >>= λ (xs : Lines). Ok (t.0, xs.0))
       (λ (u : ⊤ × Reading). each_from form (lines_of bytes) u.1) (copy_next_table (start_of bytes))
-      (λ t p. faults_ok in_text left_only (worded (each_line_from form t.1.later t.1)) (each_from form (lines_of bytes) t.1) (λ (xs : Lines). (t.0, xs.0))
-      (copy_worded left_only (each_line_from form t.1.later t.1) (each_from form (lines_of bytes) t.1) (copy_each (lines_of bytes) t.1.later t.1 refl (left_of bytes t.0 t.1 p))))
+      (λ t p. behind_faults bytes t.0 t.1 p)
 
   -- the lines in the grammar
   abbrev Many : List Line → Type 0
@@ -95,6 +105,17 @@ module _ {A : Type 0} (form : Reading → Result (A × Reading) LexFault) (Form 
       let t : (lines : List Line) × (o.later ≡ lines ++ (b.0).1.later) × AreTableText lines = text_blocks.sound o (b.0).0 (b.0).1 b.1 in
       (t.0, (b.0).1.later, t.1, t.2, each_sound form Many tt one_line most (b.0).1 u next b.2 (a next refl))
 
+  -- a table and lines in the grammar
+  remember : (lines : List Line) → Many lines → (xs : List A) × AllZip Form lines xs
+  remember [] h = ([], tt)
+  remember (l ∷ lines) h = (let more : (xs : List A) × AllZip Form lines xs = remember lines h.1 in (h.0.0 ∷ more.0, (h.0.1, more.1)))
+
+  put : (table rest : List Line) (rows : List Row) → AreTableLines table rows → Many rest → SomeTableAndLines Form (table ++ rest)
+  put table rest rows t h = (let more : (xs : List A) × AllZip Form rest xs = remember rest h in (rows, more.0, (table, rest, refl, t, more.1)))
+
+  taken : (lines : List Line) → SomeTableAndLines Form lines → (rows : List Row) × (table : List Line) × (rest : List Line) × (lines ≡ table ++ rest) × AreTableLines table rows × Many rest
+  taken lines h = (let t : AreTableAndLines Form lines h.0 h.1 = h.2 in (h.0, t.0, t.1, t.2, t.3, forget Form t.1 h.1 t.4))
+
   module _ (goes : (c : Reading) → Goes form c) (well : (Aim : A → List Sign → Type 0) (k : Reading) → k.current.tokens ≡ [] → ((x : A) → Aim x (shows k)) → (c : Reading) → Well as_is form Aim c) where
     well_read : (most : List Line) (c : Reading) → WellOpen as_is (read most) AtEnd c
     well_read most c =
@@ -105,3 +126,16 @@ module _ {A : Type 0} (form : Reading → Result (A × Reading) LexFault) (Form 
     lines_faults_stand_first bytes f e =
         stands_first (read (lines_of bytes)) AtEnd (λ (lines : List Line). AreTextAndLines Value lines) (complete (lines_of bytes)) (sound (lines_of bytes)) bytes f.place
         (well_read (lines_of bytes) (start_of bytes) f (lines_faults bytes f e))
+
+    -- behind a table that was read
+    rest_first : (most : List Line) (d : Reading) → d.current.tokens ≡ [] → (f : LexFault) → each_from form most d ≡ Err f → FirstLeavesAt Many d.input_end d.later f.place
+    rest_first most d none f e =
+        left_first (each_from form most) AtEnd Many (λ c h. each_complete form Many next_line most c h) (λ o u next r a. each_sound form Many tt one_line most o u next r (a next refl)) d none f.place
+        (well_each form goes well most d f e)
+
+    pub lines_faults_leave_first : FaultsBehindLeaveFirst (table_and_lines form) (SomeTableAndLines Form)
+    unfolding table_and_lines
+    lines_faults_leave_first bytes rows d f table e =
+        first_behind Many (SomeTableAndLines Form) put taken (start_of bytes) rows d f.place table
+        (rest_first (lines_of bytes) d (table_read (start_of bytes) rows d table).at_end f
+        (behind_faults bytes rows d table f (sym (ap (λ (r : Result (List Row × Reading) InputFault). r >>= λ (t : List Row × Reading). worded (each_line_from form t.1.later t.1) >>= λ (xs : Lines). Ok (t.0, xs.0)) table) ∙ e)))

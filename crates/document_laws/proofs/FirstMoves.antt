@@ -1,4 +1,4 @@
--- A table with steps, or with moves: what a line of them is read as, and the first fault of the text.
+-- A table with steps, or with moves: what a line of them is read as, and the first fault of the text, and of what stands behind a table that was read.
 use Rattle.move_definitions.specs.MoveText.{move_at, step_at}
 use Rattle.move_definitions.specs.Grammar.{IsMoveLine, IsStepLine}
 use Rattle.move_definitions.specs.TextLaws.{ReadsMove, ReadsStep}
@@ -7,9 +7,10 @@ use Rattle.move_definitions.proofs.MoveFoundLaws.{move_found, step_found}
 use Rattle.document_definitions.specs.Documents.{steps_document, moves_document}
 use Rattle.document_definitions.specs.TextForms.{AreTableAndStepsText, AreTableAndMovesText}
 use Rattle.document_laws.specs.FormLaws.{FaultsStandFirst}
+use Rattle.document_laws.specs.FaultLaws.{StepsFaultsLeaveFirst, MovesFaultsLeaveFirst}
 use Rattle.document_laws.proofs.Blocks.{ReadsLine}
 use Rattle.document_laws.proofs.MoveWays.{goes_move, well_move, goes_step, well_step}
-use Rattle.document_laws.proofs.FirstLines.{lines_faults_stand_first}
+use Rattle.document_laws.proofs.FirstLines.{lines_faults_stand_first, lines_faults_leave_first}
 
 pub reads_moves : ReadsLine move_at IsMoveLine
 reads_moves = record {
@@ -28,3 +29,9 @@ steps_faults_stand_first bytes f e = lines_faults_stand_first step_at IsStepLine
 
 pub moves_faults_stand_first : FaultsStandFirst moves_document AreTableAndMovesText
 moves_faults_stand_first bytes f e = lines_faults_stand_first move_at IsMoveLine reads_moves goes_move well_move bytes f e
+
+pub steps_faults_leave_first : StepsFaultsLeaveFirst
+steps_faults_leave_first bytes rows d f table e = lines_faults_leave_first step_at IsStepLine reads_steps goes_step well_step bytes rows d f table e
+
+pub moves_faults_leave_first : MovesFaultsLeaveFirst
+moves_faults_leave_first bytes rows d f table e = lines_faults_leave_first move_at IsMoveLine reads_moves goes_move well_move bytes rows d f table e

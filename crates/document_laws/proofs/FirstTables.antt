@@ -47,12 +47,12 @@ closing_faults {X} x d = by_lines_left d.later
 abbrev pub one_text : Reading → Read
 one_text c = next_text c >>= λ (u : ⊤ × Reading). closing u.1
 
-one_complete : (c : Reading) → AreTableText c.later → (y : ⊤ × Reading) × (one_text c ≡ Ok y)
+pub one_complete : (c : Reading) → AreTableText c.later → (y : ⊤ × Reading) × (one_text c ≡ Ok y)
 one_complete c h =
     let t : (d : Reading) × (next_text c ≡ Ok (tt, d)) × (d.later ≡ []) = text_blocks.complete c tt c.later [] (sym (append-nil c.later)) h in
     ((tt, t.0), ap (λ (r : Read). r >>= λ (u : ⊤ × Reading). closing u.1) t.1 ∙ closing_none t.0 t.2)
 
-one_sound : (o : Reading) (u : ⊤) (next : Reading) → one_text o ≡ Ok (u, next) → Any u (shows next) → AreTableText o.later
+pub one_sound : (o : Reading) (u : ⊤) (next : Reading) → one_text o ≡ Ok (u, next) → Any u (shows next) → AreTableText o.later
 one_sound o u next e a =
     let b : (x : ⊤ × Reading) × (next_text o ≡ Ok x) × (closing x.1 ≡ Ok (u, next)) = bind_ok (next_text o) (λ (x : ⊤ × Reading). closing x.1) (u, next) e in
     let t : (lines : List Line) × (o.later ≡ lines ++ (b.0).1.later) × AreTableText lines = text_blocks.sound o (b.0).0 (b.0).1 b.1 in
@@ -68,8 +68,13 @@ from_closing = record { start = nothing; there = refl; value = tt; next = nothin
 pub alike_one : Alike one_text
 alike_one = alike_chained next_text (λ u. closing) (alike_goes next_text goes_next_text) (λ u. alike_closing)
 
-well_one : (c : Reading) → WellOpen as_is one_text Any c
+pub well_one : (c : Reading) → WellOpen as_is one_text Any c
 well_one c = well_open as_is next_text (λ u. closing) Any (λ u. alike_closing) c (goes_next_text c) (well_next_text ThenClosing nothing refl from_closing c) (λ u d e. well_closing d)
+
+pub one_faults : {X : Type 0} (x : X) (c : Reading) → FaultsAs {X = X × List Row} in_text (next_table_at c >>= λ (s : List Row × Reading). end_at s.1 >>= λ (last : Reading). Ok (x, s.0)) (one_text c)
+one_faults {X} x c =
+    faults_bind in_text left_only (next_table_at c) (next_text c) (λ (s : List Row × Reading). end_at s.1 >>= λ (last : Reading). Ok (x, s.0)) (λ (u : ⊤ × Reading). closing u.1) (copy_next_table c)
+    (λ s q. closing_faults (x, s.0) s.1)
 
 pub table_faults_stand_first : FaultsStandFirst table_document AreTableText
 unfolding table_document
@@ -109,17 +114,16 @@ two_tables_faults_stand_first bytes f e =
     (well_two (start_of bytes) f
     (faults_bind in_text left_only (next_table_at (start_of bytes)) (next_text (start_of bytes))
     (λ (t : List Row × Reading). next_table_at t.1 >>= λ (s : List Row × Reading). end_at s.1 >>= λ (last : Reading). Ok (t.0, s.0)) (λ (u : ⊤ × Reading). one_text u.1) (copy_next_table (start_of bytes))
-    (λ t p. faults_bind in_text left_only (next_table_at t.1) (next_text t.1) (λ (s : List Row × Reading). end_at s.1 >>= λ (last : Reading). Ok (t.0, s.0)) (λ (u : ⊤ × Reading). closing u.1) (copy_next_table t.1)
-    (λ s q. closing_faults (t.0, s.0) s.1)) f e))
+    (λ t p. one_faults t.0 t.1) f e))
 
 -- the text of any number of tables
-abbrev many_texts : List Line → Reading → Read
+abbrev pub many_texts : List Line → Reading → Read
 many_texts most c = each_from text_at most c
 
 abbrev Tables : Type 0
 Tables = List (List Row) × Reading
 
-copy_tables : (most : List Line) (c : Reading) → Copies in_text left_only (tables_from most c) (many_texts most c)
+pub copy_tables : (most : List Line) (c : Reading) → Copies in_text left_only (tables_from most c) (many_texts most c)
 unfolding tables_from each_from
 copy_tables [] c = refl
 copy_tables (m ∷ most) c = by_lines_left c.later (copy_tables most)
@@ -148,14 +152,14 @@ first_table b n (l ∷ front) back split h more =
     let t = text_given b front back tail (subst (λ (k : Line). AreTableText (k ∷ front)) (sym head) h) in
     (tt, t.0, t.1, (n, subst (λ (ls : List Line). AreManyTablesText n ls) (sym t.2) more))
 
-next_table : (b : Reading) → AreTablesText (b.current ∷ b.later) → NextTable b
+pub next_table : (b : Reading) → AreTablesText (b.current ∷ b.later) → NextTable b
 next_table b (zero, h) = absurd cc
 next_table b (suc n, h) = first_table b n h.0 h.1 h.2 h.3 h.4
 
-well_line_text : (Aim : ⊤ → List Sign → Type 0) (k : Reading) → k.current.tokens ≡ [] → ((x : ⊤) → Aim x (shows k)) → (c : Reading) → Well as_is text_at Aim c
+pub well_line_text : (Aim : ⊤ → List Sign → Type 0) (k : Reading) → k.current.tokens ≡ [] → ((x : ⊤) → Aim x (shows k)) → (c : Reading) → Well as_is text_at Aim c
 well_line_text Aim k none a c = well_text Aim k none (a tt) c
 
-many_sound : (most : List Line) (o : Reading) (u : ⊤) (next : Reading) → many_texts most o ≡ Ok (u, next) → AtEnd u (shows next) → AreTablesText o.later
+pub many_sound : (most : List Line) (o : Reading) (u : ⊤) (next : Reading) → many_texts most o ≡ Ok (u, next) → AtEnd u (shows next) → AreTablesText o.later
 many_sound most o u next e a = each_sound text_at AreTablesText (0, refl) one_table most o u next e (a next refl)
 
 pub tables_faults_stand_first : FaultsStandFirst tables_document AreTablesText

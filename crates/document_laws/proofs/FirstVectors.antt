@@ -1,6 +1,7 @@
--- A table with vectors, and with one vector: the first fault of their text.
+-- A table with vectors, and with one vector: the first fault of their text, and of what stands behind a table that was read.
 use Rattle.std.proofs.Common.{◌≡◌, ℕ, List, [], ◌∷◌, ◌++◌, Result, Ok, refl, sym, ap, ◌∙◌, subst}
 use Rattle.std.specs.Prelude.{⊤, codes}
+use Rattle.std.specs.List.{AllZip}
 use Rattle.text_definitions.specs.declared.LexFault.{LexFault}
 use Rattle.text_definitions.specs.Text.{word, Line}
 use Rattle.text_definitions.specs.Reading.{Reading, ◌>>=◌, begun, start_of, need_line_at}
@@ -9,10 +10,15 @@ use Rattle.table_definitions.specs.Table.{Row}
 use Rattle.table_definitions.proofs.LineLaws.{BeginsLine}
 use Rattle.cone_text_definitions.specs.VectorText.{vector_at}
 use Rattle.surface_definitions.specs.Grammar.{IsVectorLine}
+use Rattle.signature_definitions.specs.declared.InputFault.{InputFault}
+use Rattle.signature_definitions.specs.Grammar.{AreTableLines}
+use Rattle.document_definitions.specs.Grammar.{AreTableAndLines}
 use Rattle.document_definitions.specs.Documents.{worded, next_table_at, vectors_document, vector_document}
 use Rattle.document_definitions.specs.Signs.{Sign}
 use Rattle.document_definitions.specs.TextForms.{AreTableText, IsVectorText, AreTableAndVectorsText, AreTableAndVectorText}
 use Rattle.document_laws.specs.FormLaws.{FaultsStandFirst}
+use Rattle.document_laws.specs.FaultLaws.{SomeTableAndVector, VectorsFaultsLeaveFirst, VectorFaultsLeaveFirst}
+use Rattle.document_laws.proofs.Tables.{table_read}
 use Rattle.document_laws.proofs.Documents.{reads_vectors, end_at}
 use Rattle.document_laws.proofs.Local.{shows}
 use Rattle.document_laws.proofs.LocalWords.{as_is}
@@ -22,13 +28,15 @@ use Rattle.document_laws.proofs.LocalTables.{in_text}
 use Rattle.document_laws.proofs.Ways.{Sat, From, Alike, alike_goes, Well, WellOpen, well_goes, well_open, well_behind, from_sat}
 use Rattle.document_laws.proofs.WordWays.{free_line, well_line}
 use Rattle.document_laws.proofs.VectorWays.{well_vector}
-use Rattle.document_laws.proofs.TextReaders.{Read, next_text, left_only, shown_only, copy_alone, copy_same, copy_worded, faults_bind, copy_next_table}
+use Rattle.document_laws.proofs.TextReaders.{Read, next_text, left_only, shown_only, copy_alone, copy_same, copy_worded, FaultsAs, faults_bind, copy_next_table}
 use Rattle.document_laws.proofs.TextWays.{SatBehind, in_next_line, goes_next_text, well_next_text}
 use Rattle.document_laws.proofs.TextGrammar.{text_blocks, begins, next_found}
 use Rattle.document_laws.proofs.TextEnds.{closing, Any, closing_none, none_closing, alike_closing, well_closing, alike_chained, nothing}
-use Rattle.document_laws.proofs.FirstFaults.{stands_first}
+use Rattle.document_laws.proofs.FirstFaults.{left_first, stands_first}
+use Rattle.document_laws.proofs.BehindTables.{first_behind}
+use Rattle.document_laws.proofs.HaveText.{one_line}
 use Rattle.document_laws.proofs.FirstTables.{closing_faults, from_closing}
-use Rattle.document_laws.proofs.FirstLines.{lines_faults_stand_first}
+use Rattle.document_laws.proofs.FirstLines.{lines_faults_stand_first, lines_faults_leave_first}
 
 abbrev Vector : Type 0
 Vector = List ℕ × Reading
@@ -38,6 +46,9 @@ well_vector_line Aim k none a c = well_vector k none Aim a c
 
 pub vectors_faults_stand_first : FaultsStandFirst vectors_document AreTableAndVectorsText
 vectors_faults_stand_first bytes f e = lines_faults_stand_first vector_at IsVectorLine reads_vectors goes_vector well_vector_line bytes f e
+
+pub vectors_faults_leave_first : VectorsFaultsLeaveFirst
+vectors_faults_leave_first bytes rows d f table e = lines_faults_leave_first vector_at IsVectorLine reads_vectors goes_vector well_vector_line bytes rows d f table e
 
 -- one vector, and nothing more
 abbrev last_vector : Reading → Read
@@ -104,11 +115,20 @@ last_given c none (xs, h) =
     let v : (d : Reading) × (vector_at c ≡ Ok (xs, d)) × (d.later ≡ c.later) = reads_vectors.complete c xs h in
     ((tt, v.0), ap (λ (r : Result Vector LexFault). r >>= λ (x : Vector). closing x.1) v.1 ∙ closing_none v.0 (v.2 ∙ none))
 
+-- the one line of a vector
+abbrev OneVector : List Line → Type 0
+OneVector lines = (line : Line) × (lines ≡ line ∷ []) × IsVectorText line
+
+vector_complete : (c : Reading) → OneVector c.later → Given vector_line c
+vector_complete c h =
+    let v : Given last_vector (begun h.0 [] c) = last_given (begun h.0 [] c) refl h.2 in
+    (v.0, ap (λ (r : Read). r >>= λ (u : ⊤ × Reading). last_vector u.1) (next_found c h.0 [] h.1) ∙ v.1)
+
 complete : (c : Reading) → AreTableAndVectorText c.later → Given read c
 complete c h =
     let t : (d : Reading) × (next_text c ≡ Ok (tt, d)) × (d.later ≡ h.1 ∷ []) = text_blocks.complete c tt h.0 (h.1 ∷ []) h.2 h.3 in
-    let v : Given last_vector (begun h.1 [] t.0) = last_given (begun h.1 [] t.0) refl h.4 in
-    (v.0, ap (λ (r : Read). r >>= λ (u : ⊤ × Reading). vector_line u.1) t.1 ∙ ap (λ (r : Read). r >>= λ (u : ⊤ × Reading). last_vector u.1) (next_found t.0 h.1 [] t.2) ∙ v.1)
+    let v : Given vector_line t.0 = vector_complete t.0 (h.1, t.2, h.4) in
+    (v.0, ap (λ (r : Read). r >>= λ (u : ⊤ × Reading). vector_line u.1) t.1 ∙ v.1)
 
 last_taken : (b : Reading) (u : ⊤) (next : Reading) → last_vector b ≡ Ok (u, next) → (b.later ≡ []) × IsVectorText b.current
 last_taken b u next e =
@@ -116,20 +136,37 @@ last_taken b u next e =
     let s : IsVectorLine b.current (p.0).0 × ((p.0).1.later ≡ b.later) = reads_vectors.sound b (p.0).0 (p.0).1 p.1 in
     (sym s.1 ∙ (none_closing (p.0).1 u next p.2).0, ((p.0).0, s.0))
 
-line_taken : (c b : Reading) → BeginsLine c b → (b.later ≡ []) × IsVectorText b.current → (line : Line) × (c.later ≡ line ∷ []) × IsVectorText line
+line_taken : (c b : Reading) → BeginsLine c b → (b.later ≡ []) × IsVectorText b.current → OneVector c.later
 line_taken c b l v = (
   l.line,
   l.lines ∙ ap (λ (ls : List Line). l.line ∷ ls) (ap (λ (q : Reading). q.later) (sym l.left) ∙ v.0),
   subst (λ (q : Reading). IsVectorText q.current) l.left v.1,
 )
 
+vector_sound : (o : Reading) (u : ⊤) (next : Reading) → vector_line o ≡ Ok (u, next) → Any u (shows next) → OneVector o.later
+vector_sound o u next e a =
+    let q : (x : ⊤ × Reading) × (next_line o ≡ Ok x) × (last_vector x.1 ≡ Ok (u, next)) = bind_ok (next_line o) (λ (x : ⊤ × Reading). last_vector x.1) (u, next) e in
+    line_taken o (q.0).1 (begins o (q.0).0 (q.0).1 q.1) (last_taken (q.0).1 u next q.2)
+
 sound : (o : Reading) (u : ⊤) (next : Reading) → read o ≡ Ok (u, next) → Any u (shows next) → AreTableAndVectorText o.later
 sound o u next e a =
     let p : (x : ⊤ × Reading) × (next_text o ≡ Ok x) × (vector_line x.1 ≡ Ok (u, next)) = bind_ok (next_text o) (λ (x : ⊤ × Reading). vector_line x.1) (u, next) e in
-    let q : (x : ⊤ × Reading) × (next_line (p.0).1 ≡ Ok x) × (last_vector x.1 ≡ Ok (u, next)) = bind_ok (next_line (p.0).1) (λ (x : ⊤ × Reading). last_vector x.1) (u, next) p.2 in
     let t : (lines : List Line) × (o.later ≡ lines ++ (p.0).1.later) × AreTableText lines = text_blocks.sound o (p.0).0 (p.0).1 p.1 in
-    let v = line_taken (p.0).1 (q.0).1 (begins (p.0).1 (q.0).0 (q.0).1 q.1) (last_taken (q.0).1 u next q.2) in
+    let v : OneVector (p.0).1.later = vector_sound (p.0).1 u next p.2 a in
     (t.0, v.0, t.1 ∙ ap (λ (ls : List Line). t.0 ++ ls) v.1, t.2, v.2)
+
+abbrev line_on : List Row → Reading → Result (List Row × List ℕ) InputFault
+line_on rows line = worded (vector_at line) >>= λ (v : Vector). end_at v.1 >>= λ (last : Reading). Ok (rows, v.0)
+
+abbrev vector_on : List Row → Reading → Result (List Row × List ℕ) InputFault
+vector_on rows d = worded (need_line_at d) >>= λ (line : Reading). line_on rows line
+
+behind_faults : (rows : List Row) (d : Reading) → FaultsAs in_text (vector_on rows d) (vector_line d)
+behind_faults rows d =
+    faults_bind in_text shown_only (worded (need_line_at d)) (next_line d) (λ (line : Reading). line_on rows line) (λ (u : ⊤ × Reading). last_vector u.1)
+    (copy_worded shown_only (need_line_at d) (next_line d) (copy_alone (need_line_at d)))
+    (λ line q. faults_bind in_text (λ (v : Vector). v) (worded (vector_at line)) (vector_at line) (λ (v : Vector). end_at v.1 >>= λ (last : Reading). Ok (rows, v.0)) (λ (v : Vector). closing v.1)
+    (copy_worded (λ (v : Vector). v) (vector_at line) (vector_at line) (copy_same (vector_at line))) (λ v s. closing_faults (rows, v.0) v.1))
 
 pub vector_faults_stand_first : FaultsStandFirst vector_document AreTableAndVectorText
 unfolding vector_document
@@ -137,9 +174,20 @@ vector_faults_stand_first bytes f e =
     let c : Reading = start_of bytes in
     stands_first read Any AreTableAndVectorText complete sound bytes f.place
     (well_read c f
-    (faults_bind in_text left_only (next_table_at c) (next_text c)
-    (λ (t : List Row × Reading). worded (need_line_at t.1) >>= λ (line : Reading). worded (vector_at line) >>= λ (v : Vector). end_at v.1 >>= λ (last : Reading). Ok (t.0, v.0)) (λ (u : ⊤ × Reading). vector_line u.1) (copy_next_table c)
-    (λ t p. faults_bind in_text shown_only (worded (need_line_at t.1)) (next_line t.1) (λ (line : Reading). worded (vector_at line) >>= λ (v : Vector). end_at v.1 >>= λ (last : Reading). Ok (t.0, v.0)) (λ (u : ⊤ × Reading). last_vector u.1)
-    (copy_worded shown_only (need_line_at t.1) (next_line t.1) (copy_alone (need_line_at t.1)))
-    (λ line q. faults_bind in_text (λ (v : Vector). v) (worded (vector_at line)) (vector_at line) (λ (v : Vector). end_at v.1 >>= λ (last : Reading). Ok (t.0, v.0)) (λ (v : Vector). closing v.1)
-    (copy_worded (λ (v : Vector). v) (vector_at line) (vector_at line) (copy_same (vector_at line))) (λ v s. closing_faults (t.0, v.0) v.1))) f e))
+    (faults_bind in_text left_only (next_table_at c) (next_text c) (λ (t : List Row × Reading). vector_on t.0 t.1) (λ (u : ⊤ × Reading). vector_line u.1) (copy_next_table c) (λ t p. behind_faults t.0 t.1) f e))
+
+-- behind a table that was read
+put : (table rest : List Line) (rows : List Row) → AreTableLines table rows → OneVector rest → SomeTableAndVector (table ++ rest)
+put table rest rows t h =
+    let vector : IsVectorText h.0 = h.2 in
+    (rows, vector.0, (table, rest, refl, t, subst (λ (ls : List Line). AllZip IsVectorLine ls (vector.0 ∷ [])) (sym h.1) (vector.1, tt)))
+
+taken : (lines : List Line) → SomeTableAndVector lines → (rows : List Row) × (table : List Line) × (rest : List Line) × (lines ≡ table ++ rest) × AreTableLines table rows × OneVector rest
+taken lines h = (let t : AreTableAndLines IsVectorLine lines h.0 (h.1 ∷ []) = h.2 in (h.0, t.0, t.1, t.2, t.3, one_line t.1 h.1 t.4))
+
+pub vector_faults_leave_first : VectorFaultsLeaveFirst
+unfolding vector_document
+vector_faults_leave_first bytes rows d f table e =
+    first_behind OneVector SomeTableAndVector put taken (start_of bytes) rows d f.place table
+    (left_first vector_line Any OneVector vector_complete vector_sound d (table_read (start_of bytes) rows d table).at_end f.place
+    (well_vector_behind d f (behind_faults rows d f (sym (ap (λ (r : Result (List Row × Reading) InputFault). r >>= λ (t : List Row × Reading). vector_on t.0 t.1) table) ∙ e))))

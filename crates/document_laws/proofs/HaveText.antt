@@ -13,7 +13,7 @@ module _ {A : Type 0} (Form : Line → A → Type 0) where
   abbrev pub Value : Line → Type 0
   Value line = (x : A) × Form line x
 
-  forget : (lines : List Line) (xs : List A) → AllZip Form lines xs → AllByRecursion Value lines
+  pub forget : (lines : List Line) (xs : List A) → AllZip Form lines xs → AllByRecursion Value lines
   forget [] xs z = tt
   forget (l ∷ lines) [] z = absurd z
   forget (l ∷ lines) (x ∷ xs) z = ((x, z.0), forget lines xs z.1)
@@ -21,7 +21,7 @@ module _ {A : Type 0} (Form : Line → A → Type 0) where
   pub lines_have_text : (lines : List Line) (rows : List Row) (xs : List A) → AreTableAndLines Form lines rows xs → AreTextAndLines Value lines
   lines_have_text lines rows xs h = (h.0, h.1, h.2, tables_have_text h.0 rows h.3, forget h.1 xs h.4)
 
-one_line : (rest : List Line) (vector : List ℕ) → AllZip IsVectorLine rest (vector ∷ []) → (line : Line) × (rest ≡ line ∷ []) × IsVectorText line
+pub one_line : (rest : List Line) (vector : List ℕ) → AllZip IsVectorLine rest (vector ∷ []) → (line : Line) × (rest ≡ line ∷ []) × IsVectorText line
 one_line [] vector z = absurd z
 one_line (l ∷ []) vector z = (l, refl, (vector, z.0))
 one_line (l ∷ m ∷ rest) vector z = absurd z.1

@@ -4,12 +4,11 @@ use Rattle.std.specs.Prelude.{⊤}
 use Rattle.text_definitions.specs.declared.Place.{Place}
 use Rattle.text_definitions.specs.declared.LexFault.{LexFault}
 use Rattle.text_definitions.specs.Text.{Line, lines_of, end_of}
-use Rattle.text_definitions.specs.Reading.{Reading, ◌>>=◌, begun, start_of}
-use Rattle.document_definitions.specs.Documents.{no_line_at, no_line_from, each_line_from}
+use Rattle.text_definitions.specs.Reading.{Reading, begun, start_of}
+use Rattle.document_definitions.specs.Documents.{no_line_at, no_line_from}
 use Rattle.document_definitions.specs.Signs.{Sign, input_end, Placed, signs_of, plain, LeavesAt}
-use Rattle.document_laws.proofs.Blocks.{ReadsLine}
-use Rattle.document_laws.proofs.Local.{left_signs, shows, opening, opening_more, plain-append, StopsAt, Goes, Stops, alone}
-use Rattle.document_laws.proofs.LocalWords.{as_is, ending}
+use Rattle.document_laws.proofs.Local.{left_signs, shows, opening, opening_more, plain-append, StopsAt, alone}
+use Rattle.document_laws.proofs.LocalWords.{ending}
 use Rattle.document_laws.proofs.LocalLines.{by_lines, Further, further_in, no_input_end}
 
 -- a reading of which no line is begun, and where it stops among the lines that are left
@@ -89,34 +88,3 @@ no_line_alone c = by_list c.later
 
 pub none_never : (c : Reading) (f : LexFault) → none_stop c ≢ Err f
 none_never c f e = absurd cc
-
--- lines of one form to the end of the input
-module _ {A : Type 0} (form : Reading → Result (A × Reading) LexFault) (Form : Line → A → Type 0) (forms : ReadsLine form Form) (goes : (c : Reading) → Goes form c) (stops : (c : Reading) → Stops as_is form c) where
-  abbrev pub Lines : Type 0
-  Lines = List A × Reading
-
-  abbrev pub each_line : Reading → Result Lines LexFault
-  each_line c = each_line_from form c.later c
-
-  abbrev pub none : Reading → Result Lines LexFault
-  none c = Ok ([], c)
-
-  abbrev pub others_of : A → Reading → Result Lines LexFault
-  others_of x c = each_line c >>= λ (xs : Lines). Ok (x ∷ xs.0, xs.1)
-
-  abbrev pub one : Reading → Result Lines LexFault
-  one c = form c >>= λ (x : A × Reading). others_of x.0 x.1
-
-  like : {B C : Type 0} (r : Result B LexFault) (f g : B → Result C LexFault) → ((x : B) → r ≡ Ok x → f x ≡ g x) → r >>= f ≡ r >>= g
-  like (Ok x) f g e = e x refl
-  like (Err h) f g e = refl
-
-  pub each_stepped : (c : Reading) → by_lines none one c.later c ≡ each_line c
-  unfolding each_line_from
-  each_stepped c = by_list c.later
-    where
-      by_list : (ls : List Line) → by_lines none one ls c ≡ each_line_from form ls c
-      by_list [] = refl
-      by_list (l ∷ ls) =
-          like (form (begun l ls c)) (λ (x : A × Reading). others_of x.0 x.1) (λ (x : A × Reading). each_line_from form ls x.1 >>= λ (xs : Lines). Ok (x.0 ∷ xs.0, xs.1))
-          (λ x p. ap (λ (ks : List Line). each_line_from form ks x.1 >>= λ (xs : Lines). Ok (x.0 ∷ xs.0, xs.1)) ((forms.sound (begun l ls c) x.0 x.1 p).1))

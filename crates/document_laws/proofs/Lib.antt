@@ -21,7 +21,6 @@ pub mod WordWays
 pub mod ConeWays
 pub mod LeavingCones
 pub mod VectorWays
-pub mod LeavingVectors
 pub mod TextReaders
 pub mod TextWays
 pub mod TextWords
@@ -30,6 +29,8 @@ pub mod TextEnds
 pub mod FirstFaults
 pub mod FirstTables
 pub mod NextTables
+pub mod BehindTables
+pub mod LeavingTables
 pub mod FirstLines
 pub mod FirstVectors
 pub mod MoveWays

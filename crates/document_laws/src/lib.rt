@@ -4,7 +4,8 @@
 #![tactic(auto)]
 
 ghost use Rattle.document_laws.specs.ConeLaws.{ConesAreRead, ConeDocumentsAreRead};
-ghost use Rattle.document_laws.specs.FaultLaws.{ConeFaultsLeave, VectorsFaultsLeaveFirst};
+ghost use Rattle.document_laws.specs.FaultLaws.{ConeFaultsLeave, TableFaultsLeaveFirst, SecondTableFaultsLeaveFirst, TwoTablesFaultsLeaveFirst, TablesFaultsLeaveFirst};
+ghost use Rattle.document_laws.specs.FaultLaws.{VectorsFaultsLeaveFirst, VectorFaultsLeaveFirst, StepsFaultsLeaveFirst, MovesFaultsLeaveFirst, BlocksFaultsLeaveFirst};
 ghost use Rattle.document_laws.specs.FormLaws.{TableLaws, TwoTablesLaws, TablesLaws, VectorsLaws, VectorLaws, StepsLaws, MovesLaws, BlocksLaws};
 ghost use Rattle.document_laws.specs.TableLaws.{AnyTablesAreRead, AnyTableFaultsStandFirst};
 
@@ -25,28 +26,37 @@ pub fn next_tables_are_read()
 
 /// Inputs of one table, of two, and of any number are read exactly where their lines are these; their lines have the form
 /// of their text; where the text is refused, the fault stands at a sign with which no input of the kind goes on, the first
-/// with which nothing goes on to the form of such a text.
+/// with which nothing goes on to the form of such a text. Where tables were read and what stands behind them is refused, it is
+/// the first sign with which nothing goes on to as many tables and no more, or the form of a further one.
 pub fn tables_are_read()
     ensures one { TableLaws }
+    ensures one_first { TableFaultsLeaveFirst }
     ensures two { TwoTablesLaws }
+    ensures second_first { SecondTableFaultsLeaveFirst }
+    ensures two_first { TwoTablesFaultsLeaveFirst }
     ensures any { TablesLaws }
+    ensures any_first { TablesFaultsLeaveFirst }
 {}
 
-/// The same of a table and vectors, or one vector. Where the table was read and a vector is refused, the fault stands at the
-/// first sign with which no such input goes on.
+/// The same of a table and vectors, or one vector. Where the table was read and what stands behind it is refused, the fault
+/// stands at the first sign with which no such input goes on.
 pub fn tables_with_vectors_are_read()
     ensures vectors { VectorsLaws }
     ensures vectors_first { VectorsFaultsLeaveFirst }
     ensures vector { VectorLaws }
+    ensures vector_first { VectorFaultsLeaveFirst }
 {}
 
 /// The same of a table and steps, or moves.
 pub fn tables_with_moves_are_read()
     ensures steps { StepsLaws }
+    ensures steps_first { StepsFaultsLeaveFirst }
     ensures moves { MovesLaws }
+    ensures moves_first { MovesFaultsLeaveFirst }
 {}
 
 /// The same of a table and blocks of sums.
 pub fn tables_with_blocks_are_read()
-    ensures { BlocksLaws }
+    ensures blocks { BlocksLaws }
+    ensures blocks_first { BlocksFaultsLeaveFirst }
 {}

@@ -1,4 +1,4 @@
-use Rattle.document_laws.proofs.LeavingVectors.{vectors_faults_leave_first}
+use Rattle.document_laws.proofs.FirstVectors.{vectors_faults_leave_first, vector_faults_leave_first}
 use Rattle.document_laws.proofs.Lawful.{vectors_laws, vector_laws}
 use Rattle.document_laws.proofs.tables_with_vectors_are_read.Goals as goal
 
@@ -10,3 +10,6 @@ returns-clause-vectors_first c = vectors_faults_leave_first
 
 pub returns-clause-vector : goal.returns-clause-vector
 returns-clause-vector c = vector_laws
+
+pub returns-clause-vector_first : goal.returns-clause-vector_first
+returns-clause-vector_first c = vector_faults_leave_first
