@@ -8,7 +8,7 @@ use Rattle.command_definitions.specs.declared.Request.{Request}
 use Rattle.command_definitions.specs.Requests.{reads_input}
 use Rattle.outcome_definitions.specs.Outcomes.{Outcome, too_long_outcome, IsReadOutcome}
 use Rattle.outcome_definitions.specs.Answers.{IsOutcomeOf, IsAnswerTo, is_too_long, most_bytes}
-use Rattle.answer_laws.specs.Asked.{IsOutcomeTo}
+use Rattle.answer_laws.specs.Asked.{IsOutcomeTo, Means}
 
 -- an input that isn't too long is answered
 pub within : (b : Bool) (A : Type 0) (o : Outcome) → b ≡ false → MatchBool b (o ≡ too_long_outcome) A → A
@@ -33,3 +33,10 @@ answer_to r words bytes o h =
 -- and to what was read
 pub answer_to_value : {A : Type 0} (document : Result A InputFault) (value : A) (IsAnswer : A → Outcome → Type 0) (o : Outcome) → document ≡ Ok value → IsReadOutcome document IsAnswer o → IsAnswer value o
 answer_to_value document value IsAnswer o read h = subst (λ r. IsReadOutcome r IsAnswer o) read h
+
+-- so what follows of an answer to what was read is what the outcome means
+pub means_by : {A : Type 0} (r : Request) (document : List ℕ → Result A InputFault) (IsAnswer IsMeant : A → Outcome → Type 0)
+    → ((bytes : List ℕ) (o : Outcome) → IsAnswerTo r bytes o → IsReadOutcome (document bytes) IsAnswer o)
+    → ((bytes : List ℕ) (d : A) (o : Outcome) → document bytes ≡ Ok d → IsAnswer d o → IsMeant d o) → Means r document IsMeant
+means_by r document IsAnswer IsMeant answers follows words bytes o d asked read =
+    follows bytes d o read (answer_to_value (document bytes) d IsAnswer o read (answers bytes o (answer_to r words bytes o asked)))

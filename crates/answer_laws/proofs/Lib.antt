@@ -4,3 +4,8 @@ pub mod Lifts
 pub mod Makings
 pub mod Checks
 pub mod Signatures
+pub mod Comparisons
+pub mod Components
+pub mod Sums
+pub mod Covers
+pub mod Scripts

@@ -4,3 +4,7 @@ pub mod Lifts
 pub mod Makings
 pub mod Checks
 pub mod Signatures
+pub mod Comparisons
+pub mod Sums
+pub mod Covers
+pub mod Scripts

@@ -1,6 +1,7 @@
 //! What the answers of commands mean, whatever the code: with few tetrahedra `surfaces` gives its list, where vertex links
 //! are spheres or discs `lift` has a lift, `make` makes as many moves as asked for, `check` accepts certificates and nothing
-//! else, and equal signatures tell relabelled tables.
+//! else, equal signatures tell relabelled tables, and so do `same`, `csame` and `group`; `decompose` tells sums of vertex
+//! surfaces, `addup` accepts true sums, `cover` gives the orientation cover, and `play` the table to which moves lead.
 #![tactic(auto)]
 
 ghost use Rattle.answer_laws.specs.Surfaces.{BoundedTablesAreListed, FewTablesAreListed};
@@ -8,6 +9,10 @@ ghost use Rattle.answer_laws.specs.Lifts.{NoneWithoutLift, SolutionsAreLifted};
 ghost use Rattle.answer_laws.specs.Makings.{AllMovesAreMade, AllMovesAreSummedUp};
 ghost use Rattle.answer_laws.specs.Checks.{CertificatesAreAccepted, CertificatesAreDone};
 ghost use Rattle.answer_laws.specs.Signatures.{SignaturesTell, ComponentSignaturesTell};
+ghost use Rattle.answer_laws.specs.Comparisons.{ConnectedAreCompared, ComponentsAreCompared, TablesAreGrouped};
+ghost use Rattle.answer_laws.specs.Sums.{VectorsAreDecomposed, TrueSumsAreAccepted};
+ghost use Rattle.answer_laws.specs.Covers.{CoversAreTold};
+ghost use Rattle.answer_laws.specs.Scripts.{ScriptsArePlayed};
 
 /// Where the limit is at least the bound of a table's numbers, the outcome of `surfaces` is the list of its vertex surfaces; so
 /// it is at the default limit for up to 31 tetrahedra in standard coordinates and up to 29 in quad and octagon coordinates.
@@ -40,4 +45,32 @@ pub fn certificates_are_accepted()
 pub fn signatures_tell_tables()
     ensures sig { SignaturesTell }
     ensures csig { ComponentSignaturesTell }
+{}
+
+/// `same` says of connected tables, and `csame` of any, that they are the same exactly where a relabelling carries the one to
+/// the other, and tells one; for `csame` that is exactly where the components match up. `group` puts two tables into one
+/// class exactly there.
+pub fn tables_are_compared()
+    ensures same { ConnectedAreCompared }
+    ensures csame { ComponentsAreCompared }
+    ensures group { TablesAreGrouped }
+{}
+
+/// `decompose` tells vectors that are admissible solutions as sums of vertex surfaces, or the first number past the limit,
+/// and else the first vector that is none; `addup` accepts sums exactly where they are true.
+pub fn sums_are_told()
+    ensures decompose { VectorsAreDecomposed }
+    ensures addup { TrueSumsAreAccepted }
+{}
+
+/// `cover` gives an orientable table that lies twice over the other, and says that it is connected, over a connected table,
+/// exactly where that isn't orientable; it refuses exactly where there would be too many tetrahedra.
+pub fn covers_are_told()
+    ensures { CoversAreTold }
+{}
+
+/// `play` prints the table to which the moves lead that are played at the end: that of all moves, where they can be played,
+/// and the table of the input behind as many undos as steps.
+pub fn scripts_are_played()
+    ensures { ScriptsArePlayed }
 {}

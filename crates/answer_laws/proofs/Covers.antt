@@ -1,0 +1,72 @@
+-- What is told of a cover is the orientation cover.
+use Rattle.std.proofs.Common.{◌≡◌, ◌⊎◌, ◌*◌, ◌<◌, ◌≤◌, ℕ, Bool, true, false, List, length, None, Some, MatchOption, if◌then◌else◌, inl, inr, refl, sym, ◌∙◌, ap, ap₂, arith}
+use Rattle.std.specs.Prelude.{nat_lt}
+use Rattle.std.proofs.lemmas.Bool.{ltb-true, ltb-false}
+use Rattle.table_definitions.specs.Table.{max_tets, Row, IsTable}
+use Rattle.cover_definitions.specs.declared.CoverFault.TheVariants.{TooMany}
+use Rattle.cover_definitions.specs.Cover.{over, sheet, above, cover, sheet_signs}
+use Rattle.cover_laws.proofs.Sheets.{cases_sheet, sheet_small, above_over, over_above, glue-cover, length-cover}
+use Rattle.cover_laws.proofs.Covered.{cover_is_table, cover_signs}
+use Rattle.cover_laws.proofs.Moved.{exchange_carries}
+use Rattle.cover_laws.proofs.Connected.{connected_exactly}
+use Rattle.document_definitions.specs.Documents.{table_document}
+use Rattle.command_definitions.specs.declared.Request.TheVariants.{Cover}
+use Rattle.outcome_definitions.specs.declared.Status.TheVariants.{Done, Refused}
+use Rattle.outcome_definitions.specs.Outcomes.{Outcome}
+use Rattle.outcome_definitions.specs.Canonical.{done}
+use Rattle.outcome_definitions.specs.Covers.{cover_text, large_cover_outcome, IsCoverTold, IsCoverAnswer}
+use Rattle.outcome_laws.proofs.Certified.{table_alone}
+use Rattle.answer_laws.specs.Covers.{TwoLieOver, IsOrientationCover, TellsCover, IsCovering, CoversAreTold}
+use Rattle.answer_laws.proofs.Asked.{means_by}
+
+two_lie_over : (n : ℕ) → TwoLieOver n
+two_lie_over n t u lt lu = (by_sheet, lies)
+  where
+    by_sheet : over n u ≡ t → (u ≡ above n t 0) ⊎ (u ≡ above n t 1)
+    by_sheet e = elim (cases_sheet (sheet n u) (sheet_small n u)) [
+      | inl z ↦ inl (sym (above_over n u) ∙ ap₂ (above n) e z)
+      | inr s ↦ inr (sym (above_over n u) ∙ ap₂ (above n) e s)
+    ]
+
+    lies : (u ≡ above n t 0) ⊎ (u ≡ above n t 1) → over n u ≡ t
+    lies (inl e) = ap (over n) e ∙ over_above n t 0 lt (omega arith)
+    lies (inr e) = ap (over n) e ∙ over_above n t 1 lt (omega arith)
+
+module _ (rows : List Row) (table : IsTable rows) (o : Outcome) where
+  orientation_cover : 2 * length rows ≤ max_tets → IsOrientationCover rows (cover rows)
+  orientation_cover small = record {
+    table = cover_is_table rows table small;
+    twice = length-cover rows;
+    two_over = two_lie_over (length rows);
+    lies_over = glue-cover rows;
+    orientable = (sheet_signs (length rows), cover_signs rows table);
+    exchanged = exchange_carries rows table;
+  }
+
+  tells : 2 * length rows ≤ max_tets → IsCoverTold rows o → TellsCover rows o
+  tells small t = record {
+    is_cover = orientation_cover small;
+    connected = t.0;
+    outcome = t.2;
+    is_connected = t.1;
+    orientation = λ joined some. let e = connected_exactly rows table (cover_is_table rows table small) joined some in
+        ((λ told. e.0 (t.1.0 told)), (λ none. t.1.1 (e.1 none)));
+  }
+
+  apart : {P : Type 0} (connected : Bool) → o ≡ done (cover_text rows connected) → o ≡ large_cover_outcome → P
+  apart connected told e =
+      let z : Done ≡ Refused = sym (ap (λ (q : Outcome). q.status) told) ∙ ap (λ (q : Outcome). q.status) e in absurd cc
+
+  by_test : (b : Bool) → nat_lt max_tets (2 * length rows) ≡ b → MatchOption (if b then Some TooMany else None) (IsCoverTold rows o) (λ _. o ≡ large_cover_outcome) → IsCovering rows o
+  by_test true e h =
+      let large : max_tets < 2 * length rows = ltb-true max_tets (2 * length rows) e in
+      record { too_many = ((λ same. large), (λ l. h)); told = λ small. absurd (omega arith) }
+  by_test false e h =
+      let small : 2 * length rows ≤ max_tets = ltb-false max_tets (2 * length rows) e in
+      record { too_many = ((λ same. apart h.0 h.2 same), (λ l. absurd (omega arith))); told = λ l. tells small h }
+
+  covering : IsCoverAnswer rows o → IsCovering rows o
+  covering h = by_test (nat_lt max_tets (2 * length rows)) refl h
+
+pub covers_told : CoversAreTold
+covers_told = means_by Cover table_document IsCoverAnswer IsCovering (λ bytes o a. a) (λ bytes rows o read a. covering rows (table_alone bytes rows read) o a)
