@@ -1,7 +1,8 @@
 -- What the outcome of words and of an input means, or that the run was cut short.
-use Rattle.std.proofs.Common.{◌≡◌, ◌≤◌, ◌↔◌, ℕ, false, List, [], length, Option, Some, None, Ok, inl, inr, sym, ◌∙◌, ap, subst}
+use Rattle.std.proofs.Common.{◌≡◌, ◌≤◌, ◌↔◌, ℕ, false, List, [], length, Option, Some, None, Result, Ok, inl, inr, sym, ◌∙◌, ap, subst}
 use Rattle.std.specs.Prelude.{◌⊎◌, IfSome, All}
 use Rattle.bench_io.specs.Causes.{Grows}
+use Rattle.signature_definitions.specs.declared.InputFault.{InputFault}
 use Rattle.cone_definitions.specs.Rows.{Row as EquationRow}
 use Rattle.table_definitions.specs.Table.{Row}
 use Rattle.surface_definitions.specs.declared.Coords.TheVariants.{Quad}
@@ -17,12 +18,12 @@ use Rattle.outcome_definitions.specs.declared.Status.{Status}
 use Rattle.outcome_definitions.specs.declared.Status.TheVariants.{Done, ReadFault}
 use Rattle.outcome_definitions.specs.Outcomes.{Outcome}
 use Rattle.outcome_definitions.specs.Answers.{IsAnswerTo, most_bytes}
-use Rattle.answer_laws.specs.Asked.{IsOutcomeTo}
+use Rattle.answer_laws.specs.Asked.{IsOutcomeTo, Means}
 use Rattle.answer_laws.specs.Lifts.{HasSphereAndDiscVertices, IsSmallSolution, AreLifted}
 use Rattle.answer_laws.proofs.Lifts.{solutions_lifted}
 use Rattle.answer_laws.proofs.Checks.{done_where_certified}
 use Rattle.workbench.specs.Runs.{IsAnswered, IsResponse, IsDelivered}
-use Rattle.workbench.specs.Prints.{Writes, IsCutShort}
+use Rattle.workbench.specs.Prints.{Writes, WritesOf, IsCutShort}
 use Rattle.workbench.proofs.Headlines.{Tells}
 use Rattle.workbench.proofs.Completeness.{answered_or_cut}
 
@@ -62,6 +63,22 @@ module _ (words : List (List ℕ)) (status : Status) (held grown : Option (List 
       let asked : IsOutcomeTo Check words bytes t.0 = record { accepted = e; within = few; outcome = t.1 } in
       let d = done_where_certified words bytes t.0 rows moves asked read in
       ((λ done. d.0 (sym t.2 ∙ done)), (λ certificate. t.2 ∙ d.1 certificate))
+
+  -- what the outcome of a request means that reads such a document
+  module _ {A : Type 0} (asked : Request) (document : List ℕ → Result A InputFault) (IsMeant : A → Outcome → Type 0) (means : Means asked document IsMeant) (e : accepted_request words ≡ Some asked) where
+    told_of : (left : Option (List ℕ)) → IfSome left (Tells words status held grown) → WritesOf document IsMeant left status held grown
+    told_of None t = tt
+    told_of (Some bytes) t = λ d few read. inl (t.0, means words bytes t.0 d (record { accepted = e; within = few; outcome = t.1 }) read, t.2, t.3)
+
+    cut_of : (left : Option (List ℕ)) → IsCutShort status → WritesOf document IsMeant left status held grown
+    cut_of None cut = tt
+    cut_of (Some bytes) cut = λ d few read. inr cut
+
+    pub writes_of : (left : Option (List ℕ)) → (IsAnswered status → IfSome left (Tells words status held grown)) → WritesOf document IsMeant left status held grown
+    writes_of left h = elim (answered_or_cut status) [
+      | inl told ↦ told_of left (h told)
+      | inr cut ↦ cut_of left cut
+    ]
 
 -- two requests of the same words are one
 same_request : (words : List (List ℕ)) (r q : Request) → accepted_request words ≡ Some r → accepted_request words ≡ Some q → r ≡ q

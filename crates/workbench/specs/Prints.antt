@@ -1,6 +1,7 @@
 -- What a run that is done has printed, command by command.
-use Rattle.std.specs.Prelude.{◌≡◌, ◌⊎◌, ℕ, List, [], map, length, Option, Ok, codes}
+use Rattle.std.specs.Prelude.{◌≡◌, ◌⊎◌, ◌≤◌, ℕ, List, [], map, length, Option, Result, Ok, IfSome, codes}
 use Rattle.bench_io.specs.Causes.{Grows}
+use Rattle.signature_definitions.specs.declared.InputFault.{InputFault}
 use Rattle.table_definitions.specs.Table.{Row}
 use Rattle.cone_definitions.specs.Rows.{Row as EquationRow}
 use Rattle.cone_definitions.specs.Surfaces.{IsSurfaceList}
@@ -17,7 +18,7 @@ use Rattle.outcome_definitions.specs.declared.Status.{Status}
 use Rattle.outcome_definitions.specs.declared.Status.TheVariants.{Done, Large, ReadFault, WriteFault, NoMemory}
 use Rattle.outcome_definitions.specs.Outcomes.{Outcome}
 use Rattle.outcome_definitions.specs.Enumerations.{listing, large_outcome, ray_enumeration}
-use Rattle.outcome_definitions.specs.Answers.{verdict_on}
+use Rattle.outcome_definitions.specs.Answers.{verdict_on, most_bytes}
 
 -- The input spells a table, and exactly the primitive vectors that lie on extreme rays of the solution cone of its
 -- equations and meet the quadrilateral condition were printed, each once, in lexicographic order.
@@ -90,3 +91,9 @@ AnswersRays order most cone status before now =
 -- an outcome of this kind was written, or the run was cut short
 abbrev pub Writes : (Outcome → Type 0) → Status → Option (List ℕ) → Option (List ℕ) → Type 0
 Writes IsMeant status before now = ((o : Outcome) × IsMeant o × (status ≡ o.status) × Grows before now o.text) ⊎ IsCutShort status
+
+-- where the source tells its bytes, and these are such a document, an outcome was written that says this of what was read, or the
+-- run was cut short
+abbrev pub WritesOf : {A : Type 0} → (List ℕ → Result A InputFault) → (A → Outcome → Type 0) → Option (List ℕ) → Status → Option (List ℕ) → Option (List ℕ) → Type 0
+WritesOf {A} document IsMeant left status before now =
+    IfSome left (λ bytes. (d : A) → length bytes ≤ most_bytes → document bytes ≡ Ok d → Writes (IsMeant d) status before now)

@@ -9,7 +9,8 @@ ghost use Rattle.cone_definitions.specs.Rows.{Row as EquationRow};
 ghost use Rattle.surface_definitions.specs.QuadEquations.{AreEquations};
 ghost use Rattle.move_definitions.specs.Moves.{Move};
 ghost use Rattle.move_definitions.specs.Certificates.{IsCertificate};
-ghost use Rattle.document_definitions.specs.Documents.{worded, table_document, vectors_document, moves_document, cone_document};
+ghost use Rattle.document_definitions.specs.Documents.{worded, table_document, two_tables_document, tables_document, vectors_document, steps_document, moves_document, cone_document};
+ghost use Rattle.document_definitions.specs.Blocks.{blocks_document};
 ghost use Rattle.outcome_definitions.specs.Outcomes as outcomes;
 ghost use Rattle.outcome_definitions.specs.Answers.{IsOutcome, IsAnswerTo, most_bytes};
 ghost use Rattle.command_definitions.specs.Words.{accepted_request};
@@ -19,7 +20,11 @@ ghost use Rattle.surface_definitions.specs.declared.Coords.{Coords};
 ghost use Rattle.equation_bounds_laws.specs.Few.{most_tetrahedra};
 ghost use Rattle.answer_laws.specs.Lifts.{HasSphereAndDiscVertices, IsSmallSolution, AreLifted};
 ghost use Rattle.answer_laws.specs.Makings.{IsTableWithMoves, IsSummaryWithMoves};
-ghost use Rattle.workbench.specs.Prints.{PrintsSurfaces, PrintsRays, PrintsVerdicts, ListsSurfaces, IsCutShort, Writes, AnswersSurfaces, AnswersRays};
+ghost use Rattle.answer_laws.specs.Comparisons.{IsComparison, IsComponentComparison, IsGrouping};
+ghost use Rattle.answer_laws.specs.Sums.{IsDecomposition, IsAddition};
+ghost use Rattle.answer_laws.specs.Covers.{IsCovering};
+ghost use Rattle.answer_laws.specs.Scripts.{IsPlayed};
+ghost use Rattle.workbench.specs.Prints.{PrintsSurfaces, PrintsRays, PrintsVerdicts, ListsSurfaces, IsCutShort, Writes, WritesOf, AnswersSurfaces, AnswersRays};
 ghost use Rattle.workbench.specs.Runs.{Answers, IsAnswered, IsCalm, IsWithin, IsResponse, IsWithoutMemory, IsCutOff, IsDue, IsDelivered};
 
 use bench_io::{ReadEnd, Sink, Source, Words, read_all, write_all};
@@ -201,6 +206,26 @@ pub fn run<S: Source, K: Sink>(alloc: Global, words: &Words, source: &mut S, sin
     ensures checks { IsAnswered result → accepted_request words.now ≡ Some Request.Check
         → IfSome (S.left source.old) (λ bytes. (rows : List Row) → (moves : List Move) → length bytes ≤ most_bytes
         → moves_document bytes ≡ Ok (rows, moves) → (result ≡ Status.Done) ↔ IsCertificate rows moves) }
+
+    // `same` and `csame` say that tables are the same exactly where a relabelling carries the one to the other, and `group` puts
+    // them into one class exactly there; `same` and `group` ask for connected tables, and the components match up where `csame` says so.
+    ensures same { accepted_request words.now ≡ Some Request.Same
+        → WritesOf two_tables_document IsComparison (S.left source.old) result (K.held sink.old) (K.held sink.new) }
+    ensures csame { accepted_request words.now ≡ Some Request.Csame
+        → WritesOf two_tables_document IsComponentComparison (S.left source.old) result (K.held sink.old) (K.held sink.new) }
+    ensures group { accepted_request words.now ≡ Some Request.Group
+        → WritesOf tables_document IsGrouping (S.left source.old) result (K.held sink.old) (K.held sink.new) }
+
+    // `decompose` tells admissible solutions as sums of vertex surfaces, or the first that is none, or the first number past the limit;
+    // `addup` accepts sums exactly where they are true. `cover` writes the orientation cover, and `play` the table to which moves lead.
+    ensures decompose { (coords : Coords) → (most : ℕ) → accepted_request words.now ≡ Some (Request.Decompose coords most)
+        → WritesOf vectors_document (IsDecomposition coords most) (S.left source.old) result (K.held sink.old) (K.held sink.new) }
+    ensures addup { (coords : Coords) → accepted_request words.now ≡ Some (Request.Addup coords)
+        → WritesOf blocks_document (IsAddition coords) (S.left source.old) result (K.held sink.old) (K.held sink.new) }
+    ensures cover { accepted_request words.now ≡ Some Request.Cover
+        → WritesOf table_document IsCovering (S.left source.old) result (K.held sink.old) (K.held sink.new) }
+    ensures play { accepted_request words.now ≡ Some Request.Play
+        → WritesOf steps_document IsPlayed (S.left source.old) result (K.held sink.old) (K.held sink.new) }
 
     // Where neither count rose, the words and the input are answered, or memory ran out.
     ensures answered { S.faults source.old < 2 ^ 64 - 1 → K.faults sink.old < 2 ^ 64 - 1 → S.faults source.new ≡ S.faults source.old
