@@ -8,7 +8,7 @@ use Rattle.outcome_definitions.specs.declared.Status.{Status}
 use Rattle.outcome_definitions.specs.declared.Status.TheVariants.{ReadFault, WriteFault}
 use Rattle.outcome_definitions.specs.Outcomes.{Outcome, IsOwnStatus}
 use Rattle.outcome_definitions.specs.Answers.{IsOutcome, IsOutcomeOf, IsRequestOutcome}
-use Rattle.workbench.specs.Runs.{IsAnswered, IsReadFault, IsReadWell, IsResponse, IsCutOff, IsDelivered, IsDue}
+use Rattle.workbench.specs.Runs.{IsAnswered, IsReadWell, IsResponse, IsCutOff, IsDelivered, IsDue, IsOutcomeAlone}
 
 module _ (words : List (List ℕ)) (r : Request) (accepted : accepted_request words ≡ Some r) (rest : Option (List ℕ)) (before now : ℕ) (o : Outcome)
     (held grown : Option (List ℕ)) (faults_before faults_now : ℕ) (status : Status) where
@@ -30,20 +30,19 @@ module _ (words : List (List ℕ)) (r : Request) (accepted : accepted_request wo
   run_outcome left (inr well) (inr cut) h = absurd (subst IsAnswered cut.0 h)
 
   -- the clause on a failed sink
-  abbrev CutOff : List ℕ → Type 0
-  CutOff bytes = (p : Outcome) × IsDue words bytes before now p × IsCutOff held grown p.text
+  abbrev CutOff : Option (List ℕ) → Type 0
+  CutOff left = (p : Outcome) × IsDue words left before now p × IsCutOff held grown p.text
 
-  cut_fault : (left : Option (List ℕ)) → IsReadFault before now o → IsCutOff held grown o.text → IfSome left CutOff
-  cut_fault None fault cut = tt
-  cut_fault (Some bytes) fault cut = (o, inl fault, cut)
+  told_of_words : (left : Option (List ℕ)) → IfSome left (λ bytes. IsRequestOutcome r bytes o) → IfSome left (λ bytes. IsOutcome words bytes o)
+  told_of_words None h = tt
+  told_of_words (Some bytes) h = outcome_of_words bytes h
 
-  cut_well : (left : Option (List ℕ)) → IsReadWell r left rest before now o → IsCutOff held grown o.text → IfSome left CutOff
-  cut_well None well cut = tt
-  cut_well (Some bytes) well cut = (o, inr (well.calm, outcome_of_words bytes well.outcome), cut)
+  due_well : (left : Option (List ℕ)) → IsReadWell r left rest before now o → IsDue words left before now o
+  due_well left well = inr (well.calm, told_of_words left well.outcome, subst (λ (asked : Option Request). IsOutcomeAlone asked o) (sym accepted) well.alone)
 
-  pub run_prefix : (left : Option (List ℕ)) → IsResponse r left rest before now o → IsDelivered o status held grown faults_before faults_now → status ≡ WriteFault → IfSome left CutOff
+  pub run_prefix : (left : Option (List ℕ)) → IsResponse r left rest before now o → IsDelivered o status held grown faults_before faults_now → status ≡ WriteFault → CutOff left
   run_prefix left (inl fault) (inl whole) e =
       absurd (let same : ReadFault ≡ WriteFault = sym (ap (λ (p : Outcome). p.status) fault.outcome) ∙ sym whole.0 ∙ e in cc)
-  run_prefix left (inl fault) (inr cut) e = cut_fault left fault cut.1
+  run_prefix left (inl fault) (inr cut) e = (o, inl fault, cut.1)
   run_prefix left (inr well) (inl whole) e = absurd (subst IsOwnStatus (sym whole.0 ∙ e) well.own_status)
-  run_prefix left (inr well) (inr cut) e = cut_well left well cut.1
+  run_prefix left (inr well) (inr cut) e = (o, due_well left well, cut.1)

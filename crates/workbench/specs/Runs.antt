@@ -1,11 +1,12 @@
 -- What a run answers, over what is read and what is written.
-use Rattle.std.specs.Prelude.{◌≡◌, ℕ, ◌-◌, ◌^◌, ◌<◌, ◌≤◌, ◌+◌, true, false, List, [], length, take, Option, ◌⊎◌, ⊤, IfSome}
+use Rattle.std.specs.Prelude.{◌≡◌, ℕ, ◌-◌, ◌^◌, ◌<◌, ◌≤◌, ◌+◌, true, false, List, [], length, take, Option, Some, None, ◌⊎◌, ⊤, IfSome}
 use Rattle.bench_io.specs.Causes.{Grows, Rose, IsEnded}
 use Rattle.outcome_definitions.specs.declared.Status.{Status}
 use Rattle.outcome_definitions.specs.declared.Status.TheVariants.{Done, Usage, Input, Refused, Large, ReadFault, WriteFault, NoMemory}
 use Rattle.command_definitions.specs.declared.Request.{Request}
 use Rattle.command_definitions.specs.Requests.{reads_input}
-use Rattle.outcome_definitions.specs.Outcomes.{Outcome, IsOwnStatus, read_outcome}
+use Rattle.command_definitions.specs.Words.{accepted_request}
+use Rattle.outcome_definitions.specs.Outcomes.{Outcome, IsOwnStatus, usage_outcome, read_outcome}
 use Rattle.outcome_definitions.specs.Answers.{IsOutcome, IsAnswerTo, IsRequestOutcome, most_bytes}
 
 -- the status, unless the sink failed or memory ran out
@@ -57,9 +58,16 @@ pub record IsWithoutMemory (left rest : Option (List ℕ)) (before now : ℕ) : 
 abbrev pub IsCutOff : Option (List ℕ) → Option (List ℕ) → List ℕ → Type 0
 IsCutOff before now text = (n : ℕ) × (n < length text) × Grows before now (take n text)
 
--- what is to be written: that the source failed, exactly where its count rose, and the outcome of the words and of the input otherwise
-abbrev pub IsDue : List (List ℕ) → List ℕ → ℕ → ℕ → Outcome → Type 0
-IsDue words bytes before now o = IsReadFault before now o ⊎ (IsCalm before now × IsOutcome words bytes o)
+-- the outcome of the words alone, where they ask for nothing or for a command that reads nothing
+abbrev pub IsOutcomeAlone : Option Request → Outcome → Type 0
+IsOutcomeAlone None o = o ≡ usage_outcome
+IsOutcomeAlone (Some request) o = reads_input request ≡ false → IsAnswerTo request [] o
+
+-- What is to be written: that the source failed, exactly where its count rose, and otherwise the outcome of the words and
+-- of the input, if the source tells it, or of the words alone.
+abbrev pub IsDue : List (List ℕ) → Option (List ℕ) → ℕ → ℕ → Outcome → Type 0
+IsDue words left before now o = IsReadFault before now o
+    ⊎ (IsCalm before now × IfSome left (λ bytes. IsOutcome words bytes o) × IsOutcomeAlone (accepted_request words) o)
 
 -- an outcome was written whole, or cut off where the sink failed
 abbrev pub IsDelivered : Outcome → Status → Option (List ℕ) → Option (List ℕ) → ℕ → ℕ → Type 0

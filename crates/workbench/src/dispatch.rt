@@ -143,10 +143,11 @@ pub fn run<S: Source, K: Sink>(alloc: Global, words: &Words, source: &mut S, sin
     ensures read_fault_alone { result ≡ Status.ReadFault → Rose (S.faults source.old) (S.faults source.new) }
     ensures read_fault_line { result ≡ Status.ReadFault → Grows (K.held sink.old) (K.held sink.new) read_line }
 
-    // A write fault comes exactly where the sink's count rose. Then a prefix of what was to be written was appended.
+    // A write fault comes exactly where the sink's count rose. Then a prefix of what was to be written was appended: of the
+    // line of a failed read or of usage, of the outcome of a command that reads nothing, or of the input's outcome.
     ensures write_fault { K.faults sink.old < 2 ^ 64 - 1 → ((result ≡ Status.WriteFault) ↔ (K.faults sink.old < K.faults sink.new)) }
-    ensures prefix { result ≡ Status.WriteFault → IfSome (S.left source.old) (λ bytes. (o : outcomes.Outcome)
-        × IsDue words.now bytes (S.faults source.old) (S.faults source.new) o × IsCutOff (K.held sink.old) (K.held sink.new) o.text) }
+    ensures prefix { result ≡ Status.WriteFault → (o : outcomes.Outcome)
+        × IsDue words.now (S.left source.old) (S.faults source.old) (S.faults source.new) o × IsCutOff (K.held sink.old) (K.held sink.new) o.text }
 
     // Without memory nothing was written, the source didn't fail, and it didn't give too much.
     ensures no_memory { result ≡ Status.NoMemory → sink.new ≡ sink.old }
