@@ -4,7 +4,8 @@
     tools/floors.py [--check]
 
 A crate stands one floor above the highest crate that it names. With --check nothing is written, and the status is 1 where
-something would be.
+something would be. It is 1, too, where laws or definitions stand on code, where a crate's line lists one that none of its
+files names, or where it lacks one that they do.
 """
 import os
 import re
@@ -12,6 +13,9 @@ import sys
 
 TOP = os.path.dirname(os.path.dirname(os.path.realpath(__file__)))
 BEGIN, END = "<!-- floors: tools/floors.py -->", "<!-- end of floors -->"
+PARTS = ("src", "specs", "proofs")
+# what a kind of crates may stand on, beside its own; want of memory is the one fault that definitions share with code
+BELOW = {"definitions": ("plain_facts", "no_memory"), "laws": ("plain_facts",)}
 COLOURS = {"definitions": "#dbe9f6", "laws": "#fde8c8", "code": "#e3f1dc", "program": "#f5d9e2"}
 
 
@@ -43,9 +47,39 @@ def floors(known):
 def kind(name):
     if name.endswith("_definitions"):
         return "definitions"
-    if name.endswith("_laws"):
+    if name.endswith("_laws") or name == "plain_facts":
         return "laws"
     return "program" if name in ("trinorm", "worked_rows") else "code"
+
+
+def named(name):
+    """What the crate's files name: imports of definitions and lemmas, and paths of Rust."""
+    found = set()
+    for part in PARTS:
+        for folder, _, files in os.walk(os.path.join(TOP, "crates", name, part)):
+            for file in (it for it in files if it.endswith((".rt", ".antt"))):
+                text = read(os.path.join(folder, file))
+                found.update(re.findall(r"\bRattle\.(\w+)\.", text))
+                if file.endswith(".rt"):
+                    found.update(re.findall(r"\b(\w+)::", text), re.findall(r"\buse (\w+)", text))
+    return found
+
+
+def may_name(name, below):
+    """Whether a crate's kind lets it stand on another: laws stand on laws and definitions, these on definitions alone."""
+    if kind(name) not in BELOW or below in BELOW[kind(name)]:
+        return True
+    return kind(below) == "definitions" or kind(below) == kind(name)
+
+
+def refusals(known):
+    told = []
+    for name, below in known.items():
+        mine = named(name)
+        told += [f"refused: {name}, of the {kind(name)}, names {it}" for it in below if it in known and not may_name(name, it)]
+        told += [f"refused: {name} lists {it}, and no file of it names that" for it in below if it not in mine]
+        told += [f"refused: {name} doesn't list {it}, which a file of it names" for it in mine if it in known and it not in below + [name]]
+    return told
 
 
 def what(name):
@@ -97,6 +131,9 @@ def picture(storeys):
 
 def main(checking):
     known = crates()
+    refused = refusals(known)
+    for it in refused:
+        print(it)
     storeys = by_floor(floors(known))
     page = read("docs/ARCHITECTURE.md")
     table = f"{BEGIN}\n{page_text(storeys)}\n{END}"
@@ -111,7 +148,7 @@ def main(checking):
             with open(os.path.join(TOP, path), "w", encoding="utf8") as file:
                 file.write(wanted[path])
         print(("stale: " if checking else "written: ") + path)
-    return 1 if checking and stale else 0
+    return 1 if refused or (checking and stale) else 0
 
 
 if __name__ == "__main__":

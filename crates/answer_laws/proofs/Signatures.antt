@@ -6,7 +6,7 @@ use Rattle.table_definitions.specs.Table.{Row}
 use Rattle.table_definitions.specs.Places.{IsConnected}
 use Rattle.document_definitions.specs.Documents.{table_document}
 use Rattle.command_definitions.specs.declared.Request.TheVariants.{Sig, Csig}
-use Rattle.canonical_labelling.proofs.Told.{tells_tables}
+use Rattle.labelling_laws.proofs.Told.{tells_tables}
 use Rattle.part_laws.proofs.Signatures.{component_signatures_tell}
 use Rattle.outcome_definitions.specs.Outcomes.{Outcome}
 use Rattle.outcome_definitions.specs.Canonical.{done, IsSigned, IsSignatureAnswer}

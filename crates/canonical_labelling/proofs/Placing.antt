@@ -9,8 +9,8 @@ use Rattle.table_definitions.proofs.Bijections.{there}
 use Rattle.std.specs.List.{slice_set}
 use Rattle.plain_facts.proofs.Truths.{by_bool}
 use Rattle.labelling_definitions.specs.Labellings.{Start}
-use Rattle.canonical_labelling.specs.Orders.{start_at, IsWholeOrder}
-use Rattle.canonical_labelling.proofs.Marking.{start_is}
+use Rattle.labelling_laws.specs.Orders.{start_at, IsWholeOrder}
+use Rattle.labelling_laws.proofs.Marking.{start_is}
 
 -- the tetrahedron at the next place is in range
 pub item_below : (n : ℕ) (order : List Start) (i t : ℕ) (s : Start) → IsWholeOrder n order → i < length order → s ≡ get_or order i s → t ≡ s.tet → t < n

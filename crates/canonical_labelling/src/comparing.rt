@@ -7,8 +7,8 @@ ghost use Rattle.table_definitions.specs.Permutation.{IsPermutationOfFour};
 ghost use Rattle.table_definitions.specs.Table.{IsTable};
 ghost use Rattle.signature_definitions.specs.Spelling as spellings;
 ghost use Rattle.signature_definitions.specs.Spelling.{character, packed};
-ghost use Rattle.signature_codec.specs.Texts.{destinations_text, indices_text};
-ghost use Rattle.canonical_labelling.specs.Starts.{IsTextFrom};
+ghost use Rattle.signature_text_laws.specs.Texts.{destinations_text, indices_text};
+ghost use Rattle.labelling_laws.specs.Starts.{IsTextFrom};
 ghost use Rattle.canonical_labelling.specs.Tries as tries;
 ghost use Rattle.canonical_labelling.specs.Tries.{IsTrying, FollowsWalks, ReadsFew, IsTold, IsUntold, head_text, told_by, tried_shown};
 

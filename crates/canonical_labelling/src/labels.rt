@@ -3,7 +3,7 @@
 ghost use Rattle.std.specs.Prelude.{◌≡◌, ◌<◌, ◌≤◌, ℕ, [], length, slice_index, IfOk};
 ghost use Rattle.std.specs.List.{slice_index_or};
 ghost use Rattle.table_definitions.specs.Relabelling.{IsRelabelling};
-ghost use Rattle.canonical_labelling.specs.Orders.{IsWholeOrder, Numbers, start_at};
+ghost use Rattle.labelling_laws.specs.Orders.{IsWholeOrder, Numbers, start_at};
 
 use crate::Start;
 use gluing_table::{Relabelling, RelabellingFault};

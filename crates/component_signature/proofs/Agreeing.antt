@@ -6,7 +6,7 @@ use lib.Pointwise.{pointwise}
 use Rattle.std.proofs.lemmas.Bool.{cases_order}
 use Rattle.std.proofs.lemmas.List.{length-map, ext_get_or}
 use Rattle.component_signature.specs.declared.order.Signed.{Signed}
-use Rattle.component_signature.specs.Ordered.{entries_of}
+use Rattle.component_signature.specs.Entries.{entries_of}
 use Rattle.component_signature.proofs.JoinedText.{texts}
 
 pub texts_count : (S : List Signed) → length (texts S) ≡ length S

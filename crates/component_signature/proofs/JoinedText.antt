@@ -3,7 +3,8 @@ use Rattle.std.proofs.Common.{◌≡◌, ℕ, zero, suc, ◌<◌, ◌≤◌, ◌
 use Rattle.std.proofs.lemmas.List.{take_more, map-append}
 use Rattle.part_definitions.specs.ComponentSignature.{component_text}
 use Rattle.component_signature.specs.declared.order.Signed.{Signed}
-use Rattle.component_signature.specs.Ordered.{entries_of, texts_of}
+use Rattle.component_signature.specs.Entries.{entries_of}
+use Rattle.part_laws.specs.Ordered.{texts_of}
 
 text_more : (xs : List (List ℕ)) (y : List ℕ) → 0 < length xs → component_text (xs ++ y ∷ []) ≡ component_text xs ++ (codes "." ++ y)
 text_more [] y l = absurd (omega arith)

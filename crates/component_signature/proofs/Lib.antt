@@ -1,11 +1,9 @@
 pub mod Agreeing
 pub mod Chains
 pub mod ComponentLemmas
-pub mod DraftLemmas
+pub mod DraftedParts
 pub mod Filtered
 pub mod JoinedText
-pub mod MatchLemmas
-pub mod OrderLemmas
 pub mod PartLemmas
 pub mod PlaceLemmas
 pub mod Searching

@@ -11,10 +11,11 @@ use Rattle.part_definitions.specs.Parts.{Part, IsPart}
 use Rattle.part_definitions.specs.SameParts.{GoesBy}
 use Rattle.part_laws.proofs.Members.{part_at, no_part, member_below, length-part, part_is_table, one_part}
 use Rattle.component_signature.specs.declared.order.Signed.{Signed}
-use Rattle.component_signature.specs.Ordered.{Entry, entries_of, numbers_of, AreInOrder}
-use Rattle.component_signature.specs.Drafts.{AreMatched, AreWritten}
-use Rattle.component_signature.proofs.OrderLemmas.{permutes, number_below, numbers_long}
-use Rattle.component_signature.proofs.MatchLemmas.{part_in, there}
+use Rattle.part_laws.specs.Ordered.{Entry, numbers_of, AreInOrder}
+use Rattle.component_signature.specs.Entries.{entries_of}
+use Rattle.part_laws.specs.Drafts.{AreMatched, AreWritten}
+use Rattle.part_laws.proofs.OrderLemmas.{permutes, number_below, numbers_long}
+use Rattle.part_laws.proofs.MatchLemmas.{part_in, there}
 
 -- the part that stands at a place
 

@@ -12,7 +12,8 @@ use Rattle.part_definitions.specs.Parts.{Part, AreParts}
 use Rattle.part_definitions.specs.SameParts.{part_at}
 use Rattle.part_laws.proofs.Alone.{part_is_connected}
 use Rattle.component_signature.specs.declared.order.Signed.{Signed}
-use Rattle.component_signature.specs.Ordered.{Entry, entry_of, entries_of, numbers_of, AreSigned, compared, AreInOrder}
+use Rattle.part_laws.specs.Ordered.{Entry, numbers_of, AreSigned, compared, AreInOrder}
+use Rattle.component_signature.specs.Entries.{entry_of, entries_of}
 
 -- the first i parts are signed
 pub record AreSignedUpTo (parts : List Part) (i : ℕ) (entries : List Entry) : Type 0 where

@@ -1,3 +1,2 @@
 pub mod Components
-pub mod Ordered
-pub mod Drafts
+pub mod Entries

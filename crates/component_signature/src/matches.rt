@@ -5,8 +5,9 @@ ghost use Rattle.table_definitions.specs.Places.{IsConnected};
 ghost use Rattle.table_definitions.specs.Relabelling.{IsRelabelling, IsRelabelled};
 ghost use Rattle.labelling_definitions.specs.Labellings.{IsLeastRelabelling, Relabels};
 ghost use Rattle.part_definitions.specs.SameParts.{IsSameParts};
-ghost use Rattle.component_signature.specs.Ordered.{entries_of, texts_of, numbers_of};
-ghost use Rattle.component_signature.specs.Drafts.{AreMatched, AreWritten};
+ghost use Rattle.component_signature.specs.Entries.{entries_of};
+ghost use Rattle.part_laws.specs.Ordered.{texts_of, numbers_of};
+ghost use Rattle.part_laws.specs.Drafts.{AreMatched, AreWritten};
 
 use crate::drafts::{Draft, unwritten, write_part};
 use crate::order::{Ordered, Signed, in_order};

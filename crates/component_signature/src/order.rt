@@ -6,7 +6,8 @@ ghost use Rattle.table_definitions.specs.Places.{IsConnected};
 ghost use Rattle.signature_definitions.specs.Spelling.{IsSignature};
 ghost use Rattle.part_definitions.specs.Parts as definition;
 ghost use Rattle.part_definitions.specs.Parts.{AreParts};
-ghost use Rattle.component_signature.specs.Ordered.{entries_of, AreSigned, AreInOrder};
+ghost use Rattle.component_signature.specs.Entries.{entries_of};
+ghost use Rattle.part_laws.specs.Ordered.{AreSigned, AreInOrder};
 
 use crate::split::{Part, parts};
 use canonical_labelling::{WalkFault, signature};

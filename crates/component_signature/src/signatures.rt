@@ -2,7 +2,8 @@
 
 ghost use Rattle.std.specs.Prelude.{◌≡◌, IfOk};
 ghost use Rattle.part_definitions.specs.ComponentSignature.{component_text, IsComponentSignature};
-ghost use Rattle.component_signature.specs.Ordered.{entries_of, texts_of};
+ghost use Rattle.component_signature.specs.Entries.{entries_of};
+ghost use Rattle.part_laws.specs.Ordered.{texts_of};
 
 use crate::order::{Signed, in_order};
 use gluing_table::Table;

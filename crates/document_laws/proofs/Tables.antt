@@ -22,10 +22,10 @@ use Rattle.table_definitions.proofs.TableReadingLaws.{lexed_ok, TriTableRead, tr
 use Rattle.table_definitions.proofs.TableFoundLaws.{lexed_with, tri_table_found}
 use Rattle.table_definitions.proofs.ListFacts.{same_list-true}
 use Rattle.table_definitions.proofs.LineLaws.{BeginsLine, line_begun, line_found, line_ended, FirstWord, first_word, no_words}
-use Rattle.signature_codec.proofs.ReadTables.{read_spelled}
-use Rattle.signature_codec.proofs.SpelledTables.{spelled_read}
+use Rattle.signature_text_laws.proofs.ReadTables.{read_spelled}
+use Rattle.signature_text_laws.proofs.SpelledTables.{spelled_read}
 use Rattle.document_laws.proofs.Blocks.{ReadsBlocks, ReadsEnd}
-use Rattle.signature_codec.proofs.AnyTables.{texted_ok, decoded_ok}
+use Rattle.signature_text_laws.proofs.AnyTables.{texted_ok, decoded_ok}
 
 pub texted_with : {A : Type 0} (r : Result A TextFault) (x : A) → r ≡ Ok x → texted r ≡ Ok x
 texted_with {A} r x e = ap (λ (q : Result A TextFault). texted q) e

@@ -1,8 +1,5 @@
 mod Grown
 mod Searched
 mod Closer
-mod Firsts
-mod Marking
 mod Paths
 mod Relating
-pub mod Existing

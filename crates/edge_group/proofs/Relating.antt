@@ -20,7 +20,7 @@ use Rattle.skeleton_definitions.specs.Corners.{Corner, step, corner_behind, firs
 use Rattle.skeleton_definitions.specs.Skeleton.{Skeleton, IsAround}
 use Rattle.group_definitions.specs.declared.Letter.{Letter}
 use Rattle.group_definitions.specs.Presentations.{left_through}
-use Rattle.edge_group.specs.Classes.{generator_number, LeavesInRange}
+use Rattle.group_laws.specs.Classes.{generator_number, LeavesInRange}
 
 -- ---- the number of a generator
 

@@ -1,6 +1,7 @@
 -- What is kept of a group.
-use Rattle.std.specs.Prelude.{◌≡◌, ℕ, ◌<◌, ◌^◌, ◌↔◌, Bool, List, length, Option, None}
+use Rattle.std.specs.Prelude.{◌≡◌, ℕ, ◌<◌, ◌^◌, ◌↔◌, Bool, List, length, Option, None, Vec}
 use Rattle.std.specs.List.{slice_index_or}
+use Rattle.std.specs.declared.alloc.Global.{Global}
 use Rattle.table_definitions.specs.Table.{Face}
 use Rattle.group_definitions.specs.declared.Letter.{Letter}
 
@@ -11,3 +12,7 @@ pub record IsKept (tree : List (Option Face)) (generators : List ℕ) (turning :
   pub few_edges : length edges < 2 ^ 32
   pub one_each : length relators ≡ length edges
   pub root : (t : ℕ) → t < length tree → (slice_index_or tree t None ≡ None) ↔ (t ≡ 0)
+
+-- the letters of a list that is kept
+abbrev pub letters_of : Vec Letter Global → List Letter
+letters_of v = v.items

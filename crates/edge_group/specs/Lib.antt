@@ -1,6 +1,4 @@
 pub mod Searches
 pub mod Behind
-pub mod Classes
 pub mod Turns
 pub mod Kept
-pub mod Laws

@@ -5,7 +5,7 @@ ghost use Rattle.table_definitions.specs.Places as places;
 ghost use Rattle.skeleton_definitions.specs.Skeleton.{IsSkeleton};
 ghost use Rattle.group_definitions.specs.Groups.{IsTree};
 ghost use Rattle.group_definitions.specs.Presentations.{AreGenerators};
-ghost use Rattle.edge_group.specs.Classes.{AreLeastFaces, AreTreeClasses, IsGenerator};
+ghost use Rattle.group_laws.specs.Classes.{AreLeastFaces, AreTreeClasses, IsGenerator};
 
 use gluing_table::Face;
 use no_memory::NoMemory;

@@ -30,7 +30,7 @@ pub struct Group {
 impl Model for Group {
     ghost use Rattle.std.specs.Prelude.{map};
     ghost use Rattle.group_definitions.specs.Groups as definition;
-    ghost use Rattle.edge_group.specs.Classes.{letters_of};
+    ghost use Rattle.edge_group.specs.Kept.{letters_of};
     ghost use Rattle.edge_group.specs.Kept.{IsKept};
 
     ghost Value = { definition.Group };

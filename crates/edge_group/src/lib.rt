@@ -2,8 +2,6 @@
 //! edges.
 #![tactic(auto)]
 
-ghost use Rattle.edge_group.specs.Laws.{PresentationExists};
-
 mod distances;
 mod faces;
 mod group;
@@ -13,11 +11,6 @@ mod turning;
 
 pub use group::Group;
 pub use group_definitions::{GroupFault, Letter};
-
-/// Each connected table has a presentation.
-pub fn presentations_exist()
-    ensures { PresentationExists }
-{}
 
 #[cfg(test)]
 mod tests;

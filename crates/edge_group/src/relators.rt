@@ -6,7 +6,8 @@ ghost use Rattle.skeleton_definitions.specs.Corners as definition;
 ghost use Rattle.skeleton_definitions.specs.Skeleton.{IsSkeleton};
 ghost use Rattle.table_definitions.specs.Table.{face_number};
 ghost use Rattle.group_definitions.specs.Presentations.{AreGenerators, IsRelator, letter_of, left_through};
-ghost use Rattle.edge_group.specs.Classes.{AreLeastFaces, generator_number, LeavesInRange, letters_of};
+ghost use Rattle.group_laws.specs.Classes.{AreLeastFaces, generator_number, LeavesInRange};
+ghost use Rattle.edge_group.specs.Kept.{letters_of};
 
 use gluing_table::Face;
 use group_definitions::Letter;

@@ -7,7 +7,7 @@ ghost use Rattle.table_definitions.specs.Table.{IsTable};
 ghost use Rattle.skeleton_definitions.specs.Skeleton.{IsSkeleton};
 ghost use Rattle.group_definitions.specs.Trees.{is_even_gluing};
 ghost use Rattle.group_definitions.specs.Presentations.{AreGenerators, IsTurning, IsTurningFace};
-ghost use Rattle.edge_group.specs.Classes.{AreLeastFaces};
+ghost use Rattle.group_laws.specs.Classes.{AreLeastFaces};
 ghost use Rattle.edge_group.specs.Turns.{IsPathOdd, IsTreeWith};
 
 use crate::faces::face_of;

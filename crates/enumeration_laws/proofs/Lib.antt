@@ -1,2 +1,5 @@
+pub mod DistinctLemmas
+pub mod PrefersLemmas
+pub mod LeftRows
 pub mod Taken
 pub mod Ended

@@ -11,8 +11,8 @@ use Rattle.cone_definitions.specs.Systems.{Cone}
 use Rattle.cone_definitions.specs.Orders.{prefers, IsNamed, AreLeft, IsNamedTurn, AreNamed}
 use Rattle.cone_definitions.specs.declared.Order.{Order}
 use Rattle.cone_definitions.specs.declared.Order.TheVariants.{Given, Short, Zeros, Free}
-use Rattle.double_description.proofs.PrefersLemmas.{prefers_order}
-use Rattle.double_description.proofs.TurnLemmas.{left_none, left_more, all_taken}
+use Rattle.enumeration_laws.proofs.PrefersLemmas.{prefers_order}
+use Rattle.enumeration_laws.proofs.LeftRows.{left_none, left_more, all_taken}
 
 first_best : (order : Order) (system : Cone) (left : List ℕ) → 0 < length left → (p : ℕ) × IsFirstBest (prefers order system) left (length left) p
 first_best order system [] l = absurd (omega arith)

@@ -1,10 +1,8 @@
 -- The face class of a glued face has the face and its other side, and no other.
 use Rattle.std.proofs.Common.{◌≡◌, ◌≢◌, ℕ, zero, suc, ◌+◌, ◌*◌, ◌<◌, ◌⊎◌, inl, inr, true, not, List, [], ◌∷◌, length, Some, slice_index, subst, sym, ap, ap₂, refl, ◌∙◌, arith}
 use Rattle.std.specs.Prelude.{◌==◌, cond}
-use Rattle.std.specs.List.{position_or_len}
-use Rattle.std.proofs.lemmas.Bool.{cases_eq, cases_order, eq-eqb, ne_eqb}
-use Rattle.std.proofs.lemmas.List.{get_or_default}
-use Rattle.std.proofs.lemmas.List.Sums.{sum_by-cons, position_or_len_is}
+use Rattle.std.proofs.lemmas.Bool.{cases_order, eq-eqb, ne_eqb}
+use Rattle.std.proofs.lemmas.List.Sums.{sum_by-cons}
 use Rattle.table_definitions.specs.Lists.{has, times_in}
 use Rattle.table_definitions.specs.Permutation.{image}
 use Rattle.table_definitions.specs.Table.{Gluing, Row, Face, IsTable, glue, other_side, way_back, same_face, face_number}
@@ -12,27 +10,8 @@ use Rattle.table_definitions.specs.Classes.{IsNumbering, least, degree}
 use Rattle.table_definitions.specs.Places.{face_of, SameFace}
 use Rattle.table_definitions.proofs.TableLaws.{glued_tet, glued_face}
 use Rattle.table_definitions.proofs.Carried.{same_to}
-use Rattle.table_definitions.proofs.Bijections.{there}
 use Rattle.table_definitions.proofs.Faces.{face_of-number}
-use Rattle.group_laws.proofs.Levels.{none_or_first}
-
--- ---- first places
-
--- the first place of a number that stands in the list
-pub record FirstPlace (xs : List ℕ) (c : ℕ) : Type 0 where
-  pub in_range : position_or_len (λ d. d == c) xs < length xs
-  pub is : slice_index xs (position_or_len (λ d. d == c) xs) ≡ c
-
-pub first_place : (xs : List ℕ) (i c : ℕ) → i < length xs → slice_index xs i ≡ c → FirstPlace xs c
-first_place xs i c l e = elim (none_or_first (λ k. slice_index xs k ≡ c) (λ k. cases_eq (slice_index xs k) c) (suc i)) [
-  | inl none ↦ absurd (none i (omega arith) e)
-  | inr one ↦ let same : position_or_len (λ d. d == c) xs ≡ one.0 = position_or_len_is (λ d. d == c) xs one.0 0 (let m : one.0 < suc i = one.1 in omega arith)
-      (λ k less. ne_eqb (slice_index xs k) c (one.3 k less)) (λ _. eq-eqb (slice_index xs one.0) c one.2) in
-      record { in_range = subst (λ k. k < length xs) (sym same) (let m : one.0 < suc i = one.1 in omega arith); is = ap (slice_index xs) same ∙ one.2 }
-]
-
-pub has_place : (xs : List ℕ) (c : ℕ) → has xs c ≡ true → FirstPlace xs c
-has_place xs c h = let t = there xs c h in first_place xs t.0 c t.1 (sym (t.2 ∙ get_or_default xs t.0 c 0 t.1))
+use Rattle.class_laws.proofs.FirstPlaces.{first_place}
 
 -- ---- counts
 

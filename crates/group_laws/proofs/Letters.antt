@@ -17,7 +17,8 @@ use Rattle.group_definitions.specs.declared.Letter.{Letter}
 use Rattle.group_definitions.specs.Presentations.{HoldsTreeFace, letter_of, IsTurning, Presentation, IsPresentation}
 use Rattle.group_laws.specs.Laws.{turns}
 use Rattle.group_laws.proofs.Parity.{turn, turn_is, tree_turn, turn_back}
-use Rattle.group_laws.proofs.FaceClasses.{FirstPlace, has_place, class_of, same_class, degree_two, class_below, least_is, x_below}
+use Rattle.class_laws.proofs.FirstPlaces.{FirstPlace, has_place}
+use Rattle.group_laws.proofs.FaceClasses.{class_of, same_class, degree_two, class_below, least_is, x_below}
 
 pub zip_at : {A B : Type 0} (R : A → B → Type 0) (xs : List A) (ys : List B) → AllZip R xs ys → (i : ℕ) (d : A) (e : B) → i < length xs → R (slice_index_or xs i d) (slice_index_or ys i e)
 zip_at R [] ys z i d e l = absurd (omega arith)

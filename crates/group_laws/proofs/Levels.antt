@@ -2,25 +2,12 @@
 use Rattle.std.proofs.Common.{◌≡◌, ℕ, zero, suc, ◌+◌, ◌<◌, ◌≤◌, ◌⊎◌, inl, inr, List, [], ◌∷◌, ◌++◌, length, Option, Some, None, option_and_then, subst, sym, ap, refl, ◌∙◌, arith}
 use Rattle.std.proofs.lemmas.Bool.{cases_lt, cases_eq}
 use Rattle.std.proofs.lemmas.List.{length_push}
-use Rattle.plain_facts.proofs.Numbers.{below_suc}
+use Rattle.class_laws.proofs.FirstPlaces.{none_or_first}
 use Rattle.table_definitions.specs.Table.{Gluing, Row, Face, IsTable, glue}
 use Rattle.table_definitions.specs.Places.{Place, whole, across, along}
 use Rattle.table_definitions.proofs.TableLaws.{glued_tet, glued_face}
 use Rattle.table_definitions.proofs.ChainLaws.{along-append, kept_along, crossed}
 use Rattle.group_definitions.specs.Trees.{LeadsTo, IsDistance}
-
--- ---- searches below a bound
-
--- none below k has the fact, or a first one does
-pub none_or_first : (Q : ℕ → Type 0) → ((j : ℕ) → Q j ⊎ (Q j → ⊥)) → (k : ℕ) → ((j : ℕ) → j < k → Q j → ⊥) ⊎ ((j : ℕ) × (j < k) × Q j × ((i : ℕ) → i < j → Q i → ⊥))
-none_or_first Q decide zero = inl (λ j l q. absurd (omega arith))
-none_or_first Q decide (suc k) = elim (none_or_first Q decide k) [
-  | inr one ↦ let l : one.0 < suc k = omega (arith, one.1) in inr (one.0, l, one.2, one.3)
-  | inl below ↦ elim (decide k) [
-    | inl q ↦ let l : k < suc k = omega arith in inr (k, l, q, below)
-    | inr never ↦ inl (below_suc (λ j. Q j → ⊥) k below never)
-  ]
-]
 
 -- ---- levels
 

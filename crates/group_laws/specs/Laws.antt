@@ -44,3 +44,7 @@ NoneTurnsExactly = (s : Skeleton) (p : Presentation) → IsSkeleton s → IsConn
 -- a skeleton has one presentation at most
 abbrev pub OnePresentation : Type 0
 OnePresentation = (s : Skeleton) (p q : Presentation) → IsPresentation s p → IsPresentation s q → p ≡ q
+
+-- each connected table has a presentation
+abbrev pub PresentationExists : Type 0
+PresentationExists = (s : Skeleton) → IsSkeleton s → IsConnected s.rows → (p : Presentation) × IsPresentation s p

@@ -2,5 +2,4 @@ pub mod Ranges
 pub mod Terms
 pub mod Matched
 pub mod Images
-pub mod Rounds
-pub mod EdgeCorners
+pub mod ClassRows

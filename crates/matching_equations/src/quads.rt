@@ -5,7 +5,8 @@ ghost use Rattle.surface_definitions.specs.Coordinates as coordinates;
 ghost use Rattle.surface_definitions.specs.Equations as equations;
 ghost use Rattle.surface_definitions.specs.QuadEquations.{AreQuadRows, quad_equation};
 ghost use Rattle.skeleton_definitions.specs.Skeleton.{IsSkeleton};
-ghost use Rattle.matching_equations.specs.Quads.{AreCornersIn, IsRowAppended};
+ghost use Rattle.class_laws.specs.CornersIn.{AreCornersIn};
+ghost use Rattle.matching_equations.specs.Quads.{IsRowAppended};
 
 use crate::coords::{columns, columns_each};
 use crate::equation::{keeping, row_of};

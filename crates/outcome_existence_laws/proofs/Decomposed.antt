@@ -22,7 +22,7 @@ use Rattle.outcome_definitions.specs.Outcomes.{Outcome}
 use Rattle.outcome_definitions.specs.Enumerations.{large_outcome}
 use Rattle.outcome_definitions.specs.Sums.{AreTold, IsVerdict, IsSummed, sums_outcome, sum_refusal_outcome, IsDecomposed, IsDecomposeAnswer}
 use Rattle.outcome_existence_laws.proofs.ToldLists.{told_of}
-use Rattle.outcome_existence_laws.proofs.Enumerated.{clashes_apart}
+use Rattle.coordinate_laws.proofs.ClashPairs.{clashes_apart}
 use Rattle.outcome_existence_laws.proofs.AddedUp.{all_fit, verdicts_told}
 
 module _ (coords : Coords) (most : ℕ) (rows : List Row) (equations : List EquationRow) where

@@ -1,5 +1,5 @@
 -- Each enumeration has an answer, and each table and vectors have verdicts.
-use Rattle.std.proofs.Common.{◌≢◌, ℕ, List, length, inl, inr, refl, arith}
+use Rattle.std.proofs.Common.{◌≢◌, ℕ, List, length, inl, inr, refl}
 use Rattle.std.specs.Prelude.{codes}
 use Rattle.std.proofs.lemmas.List.Elements.{All-nil}
 use Rattle.cone_definitions.specs.Surfaces.{PairsAreApart}
@@ -7,19 +7,14 @@ use Rattle.cone_definitions.specs.Listings.{Enumeration}
 use Rattle.cone_definitions.specs.declared.Order.{Order}
 use Rattle.cone_text_definitions.specs.ConeText.{Cone}
 use Rattle.table_definitions.specs.Table.{Row, IsTable}
-use Rattle.surface_definitions.specs.Coordinates.{clash_list}
 use Rattle.surface_definitions.specs.declared.Coords.{Coords}
 use Rattle.surface_definitions.specs.TableSurfaces.{table_enumeration}
-use Rattle.quad_condition.proofs.MarkLemmas.{all_of_pairs}
+use Rattle.coordinate_laws.proofs.ClashPairs.{clashes_apart}
 use Rattle.enumeration_laws.proofs.Ended.{enumeration_ends}
 use Rattle.skeleton_laws.proofs.Equated.{some_equations}
 use Rattle.outcome_definitions.specs.Outcomes.{Outcome}
 use Rattle.outcome_definitions.specs.Enumerations.{list_outcome, large_outcome, IsEnumerationAnswer, ray_enumeration, IsSurfacesAnswer}
 use Rattle.outcome_definitions.specs.Answers.{verify_outcome, IsVerdictsAnswer}
-
--- clashing pairs are of different columns
-pub clashes_apart : (coords : Coords) (n : ℕ) → PairsAreApart (clash_list coords n)
-clashes_apart coords n = all_of_pairs (λ pair. pair.0 ≢ pair.1) coords n (λ c e less l test same. omega arith)
 
 some_enumeration : (name : List ℕ) (e : Enumeration) → PairsAreApart e.pairs → (o : Outcome) × IsEnumerationAnswer name e o
 some_enumeration name e apart = elim (enumeration_ends e apart) [

@@ -12,7 +12,7 @@ use Rattle.move_definitions.specs.Grammar.{IsStepLine}
 use Rattle.move_laws.proofs.Cores.{move_lines_have_cores_lem}
 use Rattle.signature_definitions.specs.declared.InputFault.{InputFault}
 use Rattle.signature_definitions.specs.SignatureText.{any_table_at}
-use Rattle.signature_codec.proofs.AnyTables.{any_table_read}
+use Rattle.signature_text_laws.proofs.AnyTables.{any_table_read}
 use Rattle.document_definitions.specs.Documents.{worded, next_table_at, tables_on, tables_from, tables_document, steps_document}
 use Rattle.document_definitions.specs.Blocks.{Block, blocks_from, blocks_document}
 use Rattle.document_laws.proofs.Lawful.{steps_laws}

@@ -9,7 +9,7 @@ use Rattle.table_definitions.specs.Table.{Row, IsTable}
 use Rattle.table_definitions.specs.Places.{IsConnected, IsLeastUnreached}
 use Rattle.labelling_definitions.specs.Census.{table_in, signature_in, IsCensus, IsPlaced}
 use Rattle.labelling_definitions.proofs.CensusLaws.{census_goes_on, empty_census}
-use Rattle.canonical_labelling.proofs.Told.{tells_tables}
+use Rattle.labelling_laws.proofs.Told.{tells_tables}
 use Rattle.signature_laws.proofs.Connected.{connected_or_unreached_lem}
 use Rattle.signature_laws.proofs.Walks.{signatures_exist_lem}
 use Rattle.part_existence_laws.proofs.LeastExists.{same_or_not, least_exists}

@@ -16,7 +16,7 @@ use Rattle.skeleton_laws.proofs.Equated.{some_equations}
 use Rattle.outcome_definitions.specs.Outcomes.{Outcome}
 use Rattle.outcome_definitions.specs.Enumerations.{large_outcome}
 use Rattle.outcome_definitions.specs.Makings.{AreUpTo, IsGreatestEntry, Numbers, summary_outcome, AreSummedUp, ArePastLimit, IsSummary, IsBulkAnswer}
-use Rattle.outcome_existence_laws.proofs.Enumerated.{clashes_apart}
+use Rattle.coordinate_laws.proofs.ClashPairs.{clashes_apart}
 
 -- the greatest entry of a vector
 record IsGreatestOf (x : List ℕ) (greatest : ℕ) : Type 0 where

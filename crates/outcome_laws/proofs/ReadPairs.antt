@@ -6,7 +6,7 @@ use Rattle.text_definitions.proofs.Readers.{bind_ok}
 use Rattle.table_definitions.specs.Table.{Row, IsTable}
 use Rattle.signature_definitions.specs.declared.InputFault.{InputFault}
 use Rattle.signature_definitions.specs.SignatureText.{any_table_at}
-use Rattle.signature_codec.proofs.AnyTables.{any_table_read}
+use Rattle.signature_text_laws.proofs.AnyTables.{any_table_read}
 use Rattle.cone_text_definitions.specs.VectorText.{vector_at}
 use Rattle.document_definitions.specs.Documents.{worded, next_table_at, no_line_at, two_tables_document, vector_document}
 

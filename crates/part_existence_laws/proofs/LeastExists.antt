@@ -12,14 +12,14 @@ use Rattle.table_definitions.proofs.Carried.{length-images, carried_is_table}
 use Rattle.table_definitions.proofs.Permutations.{words_permute, inverse_permutes}
 use Rattle.table_definitions.proofs.ListLaws.{not_before_itself}
 use Rattle.signature_definitions.specs.Spelling.{spelling, Spells}
-use Rattle.signature_codec.proofs.SlotLaws.{ok_same}
-use Rattle.signature_codec.proofs.SpelledTables.{spelled_read}
+use Rattle.signature_text_laws.proofs.SlotLaws.{ok_same}
+use Rattle.signature_text_laws.proofs.SpelledTables.{spelled_read}
 use Rattle.labelling_definitions.specs.Labellings.{Start, IsWalked, Relabels, is_stand_in_before, IsLeastRelabelling}
-use Rattle.canonical_labelling.specs.Between.{between}
-use Rattle.canonical_labelling.specs.Starts.{start_at, start_back_at, IsNoMatch}
-use Rattle.canonical_labelling.proofs.Agreeing.{one_walk}
-use Rattle.canonical_labelling.proofs.Matching.{no_relabelling, first_match_is_least}
-use Rattle.canonical_labelling.proofs.Told.{neither_before}
+use Rattle.labelling_laws.specs.Between.{between}
+use Rattle.labelling_laws.specs.Starts.{start_at, start_back_at, IsNoMatch}
+use Rattle.labelling_laws.proofs.Agreeing.{one_walk}
+use Rattle.labelling_laws.proofs.Matching.{no_relabelling, first_match_is_least}
+use Rattle.labelling_laws.proofs.Told.{neither_before}
 use Rattle.signature_laws.proofs.Walks.{walks_exist_lem}
 
 -- texts are the same or not

@@ -12,8 +12,8 @@ use Rattle.part_laws.proofs.Members.{part_at, part_is, part_is_table}
 use Rattle.part_laws.proofs.Alone.{part_is_connected}
 use Rattle.part_laws.proofs.Existing.{some_parts}
 use Rattle.signature_laws.proofs.Walks.{signatures_exist_lem}
-use Rattle.component_signature.specs.Ordered.{Entry, texts_of, numbers_of, AreInOrder}
-use Rattle.component_signature.proofs.OrderLemmas.{signs}
+use Rattle.part_laws.specs.Ordered.{Entry, texts_of, numbers_of, AreInOrder}
+use Rattle.part_laws.proofs.OrderLemmas.{signs}
 use Rattle.part_existence_laws.proofs.Sorting.{sort}
 
 -- the first i parts, signed

@@ -4,7 +4,7 @@ use Rattle.std.specs.Cmp.{IsStrictWeakOrder}
 use Rattle.std.proofs.lemmas.Cmp.{nat_list_cmp_total, nat_cmp_total, then_total, on_total}
 use Rattle.std.proofs.lemmas.List.Elements.{All-nil, All-cons, All-head}
 use Rattle.std.proofs.lemmas.List.Sorted.{IsPermutation-refl, IsPermutation-trans, IsPermutation-cons, IsPermutation-swap, All-permutation, ranks_by}
-use Rattle.component_signature.specs.Ordered.{Entry, compared}
+use Rattle.part_laws.specs.Ordered.{Entry, compared}
 
 abbrev before : Entry → Entry → Bool
 before e f = is_lt (compared e f)

@@ -6,8 +6,8 @@ use Rattle.plain_facts.proofs.Members.{contains_at}
 use Rattle.table_definitions.specs.Table.{Gluing, Row, IsTable}
 use Rattle.table_definitions.specs.Relabelling.{Relabelling, IsRelabelled}
 use Rattle.labelling_definitions.specs.Labellings.{IsLeastRelabelling}
-use Rattle.canonical_labelling.specs.Between.{made}
-use Rattle.canonical_labelling.proofs.Standing.{made_stands}
+use Rattle.labelling_laws.specs.Between.{made}
+use Rattle.labelling_laws.proofs.Standing.{made_stands}
 use Rattle.part_definitions.specs.Parts.{Part, AreParts}
 use Rattle.part_definitions.specs.ComponentSignature.{component_text}
 use Rattle.part_definitions.specs.SameParts.{GoesBy, IsSameParts}
@@ -16,11 +16,11 @@ use Rattle.part_laws.proofs.Matching.{Matches, stand_for, stand_is}
 use Rattle.part_laws.proofs.SameParts.{order_apart, order_holds}
 use Rattle.part_laws.proofs.Texts.{texts_apart}
 use Rattle.part_laws.proofs.Signatures.{ordered_plain, relabelled_same_text}
-use Rattle.component_signature.specs.Ordered.{Entry, texts_of, numbers_of, AreInOrder}
-use Rattle.component_signature.specs.Drafts.{AreMatched, AreWritten}
-use Rattle.component_signature.proofs.OrderLemmas.{entries_long, permutes, number_below}
-use Rattle.component_signature.proofs.MatchLemmas.{part_in, is_part, is_table, is_connected, signed, there, relabelled_at, parts_as_many}
-use Rattle.component_signature.proofs.DraftLemmas.{is_same_parts}
+use Rattle.part_laws.specs.Ordered.{Entry, texts_of, numbers_of, AreInOrder}
+use Rattle.part_laws.specs.Drafts.{AreMatched, AreWritten}
+use Rattle.part_laws.proofs.OrderLemmas.{entries_long, permutes, number_below}
+use Rattle.part_laws.proofs.MatchLemmas.{part_in, is_part, is_table, is_connected, signed, there, relabelled_at, parts_as_many}
+use Rattle.part_laws.proofs.DraftLemmas.{is_same_parts}
 use Rattle.part_existence_laws.proofs.LeastExists.{least_exists}
 use Rattle.part_existence_laws.proofs.Ordering.{in_order}
 

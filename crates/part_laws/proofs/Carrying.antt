@@ -7,10 +7,10 @@ use Rattle.table_definitions.specs.Table.{Gluing, Row, Face, IsTable, glue}
 use Rattle.table_definitions.specs.Places.{whole, IsJoined, SameComponent}
 use Rattle.table_definitions.specs.Relabelling.{Relabelling, IsRelabelling, IsRelabelled, Carries, stand_in, face_under, gluing_under}
 use Rattle.table_definitions.proofs.Carried.{image_in_range, images_apart, perm_permutes, comes_from}
-use Rattle.canonical_labelling.specs.Between.{made, inverted}
-use Rattle.canonical_labelling.proofs.Standing.{made_stands, made_relabelling}
-use Rattle.canonical_labelling.proofs.Back.{inverted_stands, carries_back}
-use Rattle.canonical_labelling.proofs.Kept.{led}
+use Rattle.labelling_laws.specs.Between.{made, inverted}
+use Rattle.labelling_laws.proofs.Standing.{made_stands, made_relabelling}
+use Rattle.labelling_laws.proofs.Back.{inverted_stands, carries_back}
+use Rattle.labelling_laws.proofs.Kept.{led}
 use Rattle.part_definitions.specs.Parts.{Part, place_in, renumbered, first_of, IsPart, AreParts}
 use Rattle.part_laws.proofs.Numbers.{place_of, fits, stands_once}
 use Rattle.part_laws.proofs.Members.{part_at, numbers_at, StandsAt, part_is, stands_at, one_part, member_of, member_below, first_member, joined_member, joins, glued_member, length-part, glue-part, part_is_table}

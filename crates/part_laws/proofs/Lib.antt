@@ -10,3 +10,6 @@ pub mod SameParts
 pub mod OneOrder
 pub mod Worked
 pub mod Existing
+pub mod OrderLemmas
+pub mod MatchLemmas
+pub mod DraftLemmas

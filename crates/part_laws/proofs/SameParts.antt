@@ -10,9 +10,9 @@ use Rattle.table_definitions.specs.Relabelling.{Relabelling, IsRelabelling, IsRe
 use Rattle.labelling_definitions.specs.Labellings.{IsLeastRelabelling}
 use Rattle.table_definitions.proofs.Bijections.{below_contains}
 use Rattle.table_definitions.proofs.Carried.{permutation_below, permutation_apart}
-use Rattle.canonical_labelling.proofs.Kept.{relabels_back}
-use Rattle.canonical_labelling.specs.Between.{made}
-use Rattle.canonical_labelling.proofs.Standing.{same_relabelling, made_stands}
+use Rattle.labelling_laws.proofs.Kept.{relabels_back}
+use Rattle.labelling_laws.specs.Between.{made}
+use Rattle.labelling_laws.proofs.Standing.{same_relabelling, made_stands}
 use Rattle.part_definitions.specs.SameParts.{GoesBy, IsSameParts}
 use Rattle.part_laws.proofs.Members.{part_at, StandsAt, part_is, part_is_table, stands_at}
 use Rattle.part_laws.proofs.Matching.{Matches, stand_for, stand_is, matched_fits, matched_carries, IsMatching, matches as matches_of}

@@ -1,13 +1,10 @@
 -- Masks of columns, and the clashing pairs that they find.
-use Rattle.std.proofs.Common.{◌≡◌, ◌≢◌, ℕ, zero, suc, ◌+◌, ◌-◌, ◌*◌, ◌/◌, ◌%◌, ◌<◌, ◌≤◌, Bool, true, false, cond, List, [], ◌∷◌, ◌++◌, length, map, filter, get_or, Vec, ⊎_elim, sym, ◌∙◌, ap, refl, subst, ◌⊎◌, inl, inr, arith}
+use Rattle.std.proofs.Common.{◌≡◌, ◌≢◌, ℕ, zero, suc, ◌+◌, ◌-◌, ◌*◌, ◌/◌, ◌%◌, ◌<◌, ◌≤◌, Bool, true, false, cond, List, [], ◌∷◌, ◌++◌, length, get_or, Vec, ⊎_elim, sym, ◌∙◌, ap, refl, subst, ◌⊎◌, inl, inr, arith}
 use Rattle.std.specs.Prelude.{◌==◌, ◌&&◌, not, nat_lt, nat_le, IsTrue, ◌↔◌}
 use Rattle.std.specs.List.{All, flat_map}
 use Rattle.std.specs.declared.alloc.Global.{Global}
 use Rattle.std.proofs.lemmas.Bool.{eqb-true, eq-eqb, ltb-true, lt-ltb, le-ltb, leb-true, le-leb, and_parts, and_from, and_left, or_left, or_right, cases_eq, cases_order, false≢true, false_from_ne_true, or_cases}
-use Rattle.std.proofs.lemmas.List.Elements.{All-map, All-append, All-cons}
-use Rattle.std.proofs.lemmas.List.FromFn.{get_or-range_with_len, length-range_with_len}
 use Rattle.support_bits.specs.Words.{bit_of, AreWordsOf}
-use Rattle.table_definitions.specs.Lists.{below, pairs_of}
 use Rattle.surface_definitions.specs.Coordinates.{columns, columns_each, triangles_each, is_octagon, is_quad_or_octagon, clash_test, clash_list}
 use Rattle.surface_definitions.specs.declared.Coords.{Coords}
 use Rattle.surface_definitions.specs.declared.Coords.TheVariants.{Standard, Quad, Octagon}
@@ -17,6 +14,7 @@ use Rattle.quad_condition.specs.Bits.{IsOfEither, IsMarkedIn, HasTwo}
 use Rattle.quad_condition.specs.Marks.{is_marked, AreMarks, AreNear, AreMasks, HasNear}
 use Rattle.quad_condition.proofs.Pairs.{Pairs, IsPrefix, prefix_by, pairs_prefix, partners_before, partners_more, pairs_before, all_pairs}
 use Rattle.matching_equations.proofs.Ranges.{flat_map-more}
+use Rattle.coordinate_laws.proofs.ClashPairs.{all_of_pairs}
 
 -- one column more
 below_other : (k column : ℕ) → k ≢ column → nat_lt k (column + 1) ≡ nat_lt k column
@@ -74,35 +72,6 @@ pair_of_all P coords n h c e less within clashes =
     let is : is_clash coords (c, e) ≡ true = and_from (nat_lt c e) (clash_test coords c e) (lt-ltb c e less) clashes in
     let last : All P (partners_before coords c e ++ (c, e) ∷ []) = subst (All P) (partners_more coords c e ∙ ap (λ b. partners_before coords c e ++ cond b ((c, e) ∷ []) []) is) cut in
     all_suffix P (partners_before coords c e) ((c, e) ∷ []) last 0 (c, e) (omega arith)
-
-filter_all : (P : ℕ × ℕ → Type 0) (q : ℕ × ℕ → Bool) (xs : Pairs) → All (λ x. q x ≡ true → P x) xs → All P (filter q xs)
-filter_all P q [] h = λ k d l. absurd (omega arith)
-filter_all P q (x ∷ xs) h = go (q x) refl (filter_all P q xs (λ k d l. h (suc k) d (omega arith)))
-  where
-    go : (b : Bool) → q x ≡ b → All P (filter q xs) → All P (cond b (x ∷ filter q xs) (filter q xs))
-    go true e rest = All-cons P x (filter q xs) (h 0 x (omega arith) e) rest
-    go false e rest = rest
-
-flat_map_all : (P : ℕ × ℕ → Type 0) (f : ℕ → Pairs) (ks : List ℕ) → All (λ k. All P (f k)) ks → All P (flat_map f ks)
-flat_map_all P f [] h = λ k d l. absurd (omega arith)
-flat_map_all P f (k ∷ ks) h = All-append P (f k) (flat_map f ks) (h 0 k (omega arith)) (flat_map_all P f ks (λ j d l. h (suc j) d (omega arith)))
-
-all_below : (P : ℕ → Type 0) (n : ℕ) → ((k : ℕ) → k < n → P k) → All P (below n)
-all_below P n h k d l =
-    let in_range : k < n = subst (λ m. k < m) (length-range_with_len 0 n) l in
-    let e : 0 + k ≡ k = omega arith in
-    subst P (sym (get_or-range_with_len 0 n k d in_range ∙ e)) (h k in_range)
-
-pub all_of_pairs : (P : ℕ × ℕ → Type 0) (coords : Coords) (n : ℕ) → ((c e : ℕ) → c < e → e < columns coords n → clash_test coords c e ≡ true → P (c, e)) → All P (clash_list coords n)
-unfolding clash_list
-all_of_pairs P coords n h =
-    filter_all P (is_clash coords) (pairs_of (below (columns coords n)) (below (columns coords n)))
-    (flat_map_all (λ x. is_clash coords x ≡ true → P x) (λ c. map (λ e. (c, e)) (below (columns coords n))) (below (columns coords n))
-    (all_below (λ c. All (λ x. is_clash coords x ≡ true → P x) (map (λ e. (c, e)) (below (columns coords n)))) (columns coords n)
-    (λ c lc. All-map (λ x. is_clash coords x ≡ true → P x) (λ e. (c, e)) (below (columns coords n))
-    (all_below (λ e. is_clash coords (c, e) ≡ true → P (c, e)) (columns coords n)
-    (λ e le is. let parts : (nat_lt c e ≡ true) × (clash_test coords c e ≡ true) = and_parts (nat_lt c e) (clash_test coords c e) is in
-    h c e (ltb-true c e parts.0) le parts.1)))))
 
 -- what a mark says of a column
 record IsAt (coords : Coords) (n least distance column : ℕ) : Type 0 where

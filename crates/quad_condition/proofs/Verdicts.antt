@@ -1,90 +1,30 @@
--- The verdict, by the first row that isn't met.
-use Rattle.std.proofs.Common.{◌≡◌, ◌≢◌, ℕ, zero, suc, ◌+◌, ◌<◌, true, false, ℤ, List, [], ◌∷◌, length, get_or, Option, Some, None, inl, inr, refl, sym, ap, ◌∙◌, subst, arith, add-zero}
+-- The verdict, by what the calls on a system of rows answer.
+use Rattle.std.proofs.Common.{◌≡◌, ◌≢◌, ℕ, ◌<◌, ℤ, List, length, Option, sym}
 use Rattle.std.specs.List.{All, find}
-use Rattle.std.specs.Prelude.{◌==◌, ◌||◌, ◌↔◌, nat_lt, if◌then◌else◌, Result, Ok, Err, IsOk}
-use Rattle.std.proofs.lemmas.Bool.{eq-eqb, ne_eqb, le-ltb, lt-ltb, or_from, or_right}
-use Rattle.surface_definitions.specs.Verdict.{Verdict, solution, both_nonzero, row_fault, rows_verdict, or_else, clash_verdict, verdict}
-use Rattle.cone_definitions.specs.Rows.{plus_part, minus_part, IsZeroAt}
-use Rattle.surface_definitions.specs.Laws.{IsAccepted}
-use Rattle.surface_definitions.proofs.VerdictLaws.{accepted_by, accepted-verdict, fault_by, none-row_fault}
-use Rattle.cone_definitions.specs.Elimination.{HasLargePart}
-use Rattle.cone_core.specs.Sparse.{ArePartsWithin}
-use Rattle.cone_core.specs.Faults.{IsMetAt, AreMetBefore, SolutionFails}
+use Rattle.std.specs.Prelude.{Err}
+use Rattle.surface_definitions.specs.Verdict.{both_nonzero, clash_verdict, verdict}
+use Rattle.surface_definitions.specs.declared.VectorFault.TheVariants.{Length}
+use Rattle.cone_core.specs.Faults.{IsMetAt, SolutionFails}
 use Rattle.cone_core.specs.declared.system.SolutionFault.{SolutionFault}
 use Rattle.cone_core.specs.declared.system.SolutionFault.TheVariants.{Passed, NotZero}
-use Rattle.surface_definitions.specs.declared.VectorFault.{VectorFault}
-use Rattle.surface_definitions.specs.declared.VectorFault.TheVariants.{Length, Large, NotSolution}
 use Rattle.quad_condition.specs.Faults.{fault_of}
+use Rattle.coordinate_laws.specs.Laws.{IsMet}
+use Rattle.coordinate_laws.proofs.FirstFaults.{length_told, large_told, failure_told, clash_told}
 
 abbrev pub SparseRow : Type 0
 SparseRow = List (ℕ × ℤ)
 
-fault_met : (max i : ℕ) (row : SparseRow) (x : List ℕ) → IsMetAt max x row → row_fault max i row x ≡ None
-fault_met max i row x met = none-row_fault max i row x met.zero (met.within.plus, met.within.minus)
-
-fault_large : (max i : ℕ) (row : SparseRow) (x : List ℕ) → HasLargePart max row x → row_fault max i row x ≡ Some (Large i)
-fault_large max i row x h = ap (λ l. fault_by i l (plus_part row x == minus_part row x)) (test h)
-  where
-    test : HasLargePart max row x → (nat_lt max (plus_part row x) || nat_lt max (minus_part row x)) ≡ true
-    test (inl p) = ap (λ b. b || nat_lt max (minus_part row x)) (lt-ltb max (plus_part row x) p)
-    test (inr m) = or_right (nat_lt max (plus_part row x)) (nat_lt max (minus_part row x)) (lt-ltb max (minus_part row x) m)
-
-fault_fails : (max i : ℕ) (row : SparseRow) (x : List ℕ) → ArePartsWithin max row x → (IsZeroAt row x → ⊥) → row_fault max i row x ≡ Some (NotSolution i)
-fault_fails max i row x within not_zero =
-    let l : (nat_lt max (plus_part row x) || nat_lt max (minus_part row x)) ≡ false =
-    or_from (nat_lt max (plus_part row x)) (nat_lt max (minus_part row x)) (le-ltb max (plus_part row x) within.plus) (le-ltb max (minus_part row x) within.minus) in
-    let e : (plus_part row x == minus_part row x) ≡ false = ne_eqb (plus_part row x) (minus_part row x) not_zero in
-    λ k. fault_by i (l k) (e k)
-
--- the verdict at the first row that isn't met
-first_fault : (max k : ℕ) (rows : List SparseRow) (x : List ℕ) (v : Verdict) (w : VectorFault) (i : ℕ) → i < length rows → AreMetBefore max rows x i → row_fault max (k + i) (get_or rows i []) x ≡ Some w
-    → rows_verdict max k rows x v ≡ Err w
-first_fault max k [] x v w i l met f = absurd (omega arith)
-first_fault max k (row ∷ rows) x v w zero l met f =
-    ap (λ o. or_else o (rows_verdict max (k + 1) rows x v)) (ap (λ n. row_fault max n row x) (sym (add-zero k)) ∙ f)
-first_fault max k (row ∷ rows) x v w (suc i) l met f =
-    let e : (k + 1) + i ≡ k + suc i = omega arith in
-    ap (λ o. or_else o (rows_verdict max (k + 1) rows x v)) (fault_met max k row x (met 0 (omega arith)))
-    ∙ first_fault max (k + 1) rows x v w i (omega arith) (λ j h. met (suc j) (omega arith)) (ap (λ n. row_fault max n (get_or rows i []) x) e ∙ f)
-
-no_fault : (max k : ℕ) (rows : List SparseRow) (x : List ℕ) (v : Verdict) → All (IsMetAt max x) rows → rows_verdict max k rows x v ≡ v
-no_fault max k [] x v met = refl
-no_fault max k (row ∷ rows) x v met =
-    ap (λ o. or_else o (rows_verdict max (k + 1) rows x v)) (fault_met max k row x (met 0 row (omega arith))) ∙ no_fault max (k + 1) rows x v (λ j d h. met (suc j) d (omega arith))
-
-at_width : (max n : ℕ) (rows : List SparseRow) (pairs : List (ℕ × ℕ)) (x : List ℕ) → length x ≡ n → verdict max n rows pairs x ≡ rows_verdict max 0 rows x (clash_verdict (find (both_nonzero x) pairs))
-unfolding verdict
-at_width max n rows pairs x e =
-    ap (λ b. if b then rows_verdict max 0 rows x (clash_verdict (find (both_nonzero x) pairs)) else Err (Length (length x))) (eq-eqb (length x) n e)
+is_met : (max : ℕ) (x : List ℕ) (row : SparseRow) → IsMetAt max x row → IsMet max x row
+is_met max x row met = ((met.within.plus, met.within.minus), met.zero)
 
 pub length_answer : (max n : ℕ) (rows : List SparseRow) (pairs : List (ℕ × ℕ)) (x : List ℕ) → length x ≢ n → Err (Length (length x)) ≡ verdict max n rows pairs x
-unfolding verdict
-length_answer max n rows pairs x ne =
-    ap (λ b. (if b then rows_verdict max 0 rows x (clash_verdict (find (both_nonzero x) pairs)) else Err (Length (length x)))) (sym (ne_eqb (length x) n ne))
+length_answer max n rows pairs x ne = sym (length_told max n rows pairs x ne)
 
 pub row_answer : (max n : ℕ) (rows : List SparseRow) (pairs : List (ℕ × ℕ)) (x : List ℕ) (fault : SolutionFault) → length x ≡ n → SolutionFails max rows x fault → Err (fault_of fault) ≡ verdict max n rows pairs x
-row_answer max n rows pairs x (Passed i) e h =
-    sym (at_width max n rows pairs x e
-    ∙ first_fault max 0 rows x (clash_verdict (find (both_nonzero x) pairs)) (Large i) i h.in_range h.earlier
-    (let z : 0 + i ≡ i = omega arith in ap (λ j. row_fault max j (get_or rows i []) x) z ∙ fault_large max i (get_or rows i []) x h.past))
+row_answer max n rows pairs x (Passed i) e h = sym (large_told max n rows pairs x i e h.in_range (λ j l. is_met max x _ (h.earlier j l)) h.past)
 row_answer max n rows pairs x (NotZero i) e h =
-    sym (at_width max n rows pairs x e
-    ∙ first_fault max 0 rows x (clash_verdict (find (both_nonzero x) pairs)) (NotSolution i) i h.in_range h.earlier
-    (let z : 0 + i ≡ i = omega arith in ap (λ j. row_fault max j (get_or rows i []) x) z ∙ fault_fails max i (get_or rows i []) x h.within h.not_zero))
+    sym (failure_told max n rows pairs x i e h.in_range (λ j l. is_met max x _ (h.earlier j l)) (h.within.plus, h.within.minus) h.not_zero)
 
 pub clash_answer : (max n : ℕ) (rows : List SparseRow) (pairs : List (ℕ × ℕ)) (x : List ℕ) (found : Option (ℕ × ℕ)) → length x ≡ n → All (IsMetAt max x) rows → found ≡ find (both_nonzero x) pairs
     → clash_verdict found ≡ verdict max n rows pairs x
-clash_answer max n rows pairs x found e met f =
-    ap clash_verdict f ∙ sym (at_width max n rows pairs x e ∙ no_fault max 0 rows x (clash_verdict (find (both_nonzero x) pairs)) met)
-
--- accepted are exactly the admissible solutions of which no part is large
-ok_solution : (v : Verdict) → IsOk v → v ≡ solution
-ok_solution (Ok u) h = refl
-ok_solution (Err fault) h = absurd cc
-
-pub accepts_by : (max n : ℕ) (rows : List SparseRow) (pairs : List (ℕ × ℕ)) (x : List ℕ) (result : Result (Unit {0}) VectorFault) → result ≡ verdict max n rows pairs x
-    → IsOk result ↔ IsAccepted max n rows pairs x
-accepts_by max n rows pairs x result e = (
-  (λ h. accepted_by max n rows pairs x (ok_solution (verdict max n rows pairs x) (subst IsOk e h))),
-  (λ a. subst IsOk (sym (e ∙ accepted-verdict max n rows pairs x a)) refl),
-)
+clash_answer max n rows pairs x found e met f = sym (clash_told max n rows pairs x found e (λ j d l. is_met max x _ (met j d l)) f)

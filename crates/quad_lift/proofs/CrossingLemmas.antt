@@ -9,7 +9,7 @@ use Rattle.table_definitions.specs.Places.{carried}
 use Rattle.table_definitions.proofs.PermutationLaws.{image_below, images_apart}
 use Rattle.skeleton_definitions.specs.Links.{vertex_number}
 use Rattle.skeleton_definitions.specs.Skeleton.{Skeleton, IsSkeleton}
-use Rattle.skeleton.specs.Crossings.{crossed_vertex, vertex_at}
+use Rattle.class_laws.specs.Crossings.{crossed_vertex, vertex_at}
 use Rattle.surface_definitions.specs.declared.Coords.TheVariants.{Quad}
 use Rattle.surface_definitions.specs.Coordinates.{quad_column, keeping}
 use Rattle.vector_laws.specs.LiftLaws.{AreHeights}

@@ -3,8 +3,8 @@
 ghost use Rattle.std.specs.Prelude.{◌≡◌, ◌<◌, ◌≤◌, length, IfOk};
 ghost use Rattle.signature_definitions.specs.SignatureText as signatures;
 ghost use Rattle.signature_definitions.specs.Spelling as spellings;
-ghost use Rattle.signature_codec.specs.Faults.{Reads};
-ghost use Rattle.signature_codec.specs.Parts.{head_shown};
+ghost use Rattle.signature_text_laws.specs.Faults.{Reads};
+ghost use Rattle.signature_codec.specs.Shown.{head_shown};
 
 use crate::SigFault;
 use crate::numbers::{number_in, value_at};

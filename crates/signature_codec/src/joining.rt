@@ -4,10 +4,10 @@ ghost use Rattle.std.specs.Prelude.{◌≡◌, ◌<◌, ◌≤◌, ◌+◌, ◌*
 ghost use Rattle.table_definitions.specs.Table as gluings;
 ghost use Rattle.table_definitions.specs.Table.{face_number};
 ghost use Rattle.signature_definitions.specs.SignatureText as signatures;
-ghost use Rattle.signature_codec.specs.Faults.{Reads, Leaves};
-ghost use Rattle.signature_codec.specs.Slots as slots;
-ghost use Rattle.signature_codec.specs.Slots.{IsSlots, IsTaking, face_at, meet_at, slots_shown, slots_begun};
-ghost use Rattle.signature_codec.specs.Parts.{parts_shown};
+ghost use Rattle.signature_text_laws.specs.Faults.{Reads, Leaves};
+ghost use Rattle.signature_text_laws.specs.Slots as slots;
+ghost use Rattle.signature_text_laws.specs.Slots.{IsSlots, IsTaking, face_at, meet_at, slots_begun};
+ghost use Rattle.signature_codec.specs.Shown.{slots_shown, parts_shown};
 
 use crate::SigFault;
 use crate::parts::Parts;

@@ -2,7 +2,8 @@
 
 ghost use Rattle.std.specs.Prelude.{◌≡◌, ◌<◌, ◌≤◌, ◌+◌, ◌*◌, ◌^◌, length, IfOk, OnOk};
 ghost use Rattle.signature_definitions.specs.SignatureText as signatures;
-ghost use Rattle.signature_codec.specs.Faults.{Reads, fault_of_part};
+ghost use Rattle.signature_text_laws.specs.Faults.{Reads};
+ghost use Rattle.signature_codec.specs.Shown.{fault_of_part};
 
 use crate::SigFault;
 use crate::characters::value_of;
@@ -16,7 +17,7 @@ pub enum Part {
 }
 
 impl Part {
-    ghost use Rattle.signature_codec.specs.Faults.{fault_of_part};
+    ghost use Rattle.signature_codec.specs.Shown.{fault_of_part};
 
     /// The fault of a number that is out of range.
     fn fault(self, at: usize) -> SigFault

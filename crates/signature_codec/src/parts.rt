@@ -2,8 +2,9 @@
 
 ghost use Rattle.std.specs.Prelude.{◌≡◌, ◌<◌, ◌≤◌, length, IfOk};
 ghost use Rattle.table_definitions.specs.Lists.{times_in};
-ghost use Rattle.signature_codec.specs.Faults.{Reads};
-ghost use Rattle.signature_codec.specs.Parts.{head_shown, types_shown, parts_shown, parts_of};
+ghost use Rattle.signature_text_laws.specs.Faults.{Reads};
+ghost use Rattle.signature_codec.specs.Shown.{head_shown, types_shown, parts_shown};
+ghost use Rattle.signature_text_laws.specs.Parts.{parts_of};
 
 use crate::SigFault;
 use crate::heads::Head;

@@ -4,7 +4,7 @@ ghost use Rattle.std.specs.Prelude.{◌≡◌, IfOk, IfErr};
 ghost use Rattle.signature_definitions.specs.Spelling.{Spells};
 ghost use Rattle.table_definitions.specs.Table.{IsTable};
 ghost use Rattle.signature_definitions.specs.SignatureText.{signature_table};
-ghost use Rattle.signature_codec.specs.Faults.{Reads, SpellsNothing};
+ghost use Rattle.signature_text_laws.specs.Faults.{Reads, SpellsNothing};
 
 use crate::SigFault;
 use crate::heads::head_of;

@@ -2,8 +2,9 @@
 
 ghost use Rattle.std.specs.Prelude.{◌≡◌, ◌<◌, ◌≤◌, ◌*◌, ◌-◌, ◌+◌, [], length, IfOk, OnOk};
 ghost use Rattle.signature_definitions.specs.SignatureText as signatures;
-ghost use Rattle.signature_codec.specs.Faults.{Reads, Leaves};
-ghost use Rattle.signature_codec.specs.Parts.{types_shown, types_begun, read_behind};
+ghost use Rattle.signature_text_laws.specs.Faults.{Reads, Leaves};
+ghost use Rattle.signature_codec.specs.Shown.{types_shown, read_behind};
+ghost use Rattle.signature_text_laws.specs.Parts.{types_begun};
 
 use crate::SigFault;
 use crate::heads::Head;

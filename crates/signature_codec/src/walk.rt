@@ -5,8 +5,8 @@ ghost use Rattle.table_definitions.specs.Lists.{same_list};
 ghost use Rattle.table_definitions.specs.Permutation.{identity};
 ghost use Rattle.table_definitions.specs.Table as gluings;
 ghost use Rattle.table_definitions.specs.Table.{IsTable};
-ghost use Rattle.signature_codec.specs.Walks as walks;
-ghost use Rattle.signature_codec.specs.Walks.{walk_shown, Takes, IsWholeWalk, StopsAt};
+ghost use Rattle.signature_text_laws.specs.Walks as walks;
+ghost use Rattle.signature_codec.specs.Shown.{walk_shown, Takes, IsWholeWalk, StopsAt};
 
 use crate::SpellFault;
 use gluing_table::{Face, Glue, Table};

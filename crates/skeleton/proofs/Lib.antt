@@ -1,17 +1,1 @@
-pub mod Cases
-pub mod ClassTies
-pub mod CrossingLemmas
 pub mod MarkLemmas
-pub mod NeighbourLemmas
-pub mod NumberingLemmas
-pub mod PlaceLemmas
-pub mod RoundLemmas
-pub mod SignTies
-pub mod SignLemmas
-pub mod VertexSignTies
-pub mod VertexTies
-pub mod WalkLemmas
-pub mod FaceTies
-pub mod DirectionTies
-pub mod DirectionLemmas
-pub mod EdgeTies

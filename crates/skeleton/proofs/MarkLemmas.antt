@@ -5,18 +5,14 @@ use Rattle.std.specs.List.{slice_index_or, list_any, list_all, range_with_len}
 use Rattle.std.proofs.lemmas.Bool.{cases_eq, cases_lt, eq-eqb, ne_eqb, false≢true, or_parts, or_cases}
 use Rattle.std.proofs.Math.Bool.{or-false}
 use Rattle.std.proofs.lemmas.List.{get_or-set_same, get_or-set_other}
-use Rattle.std.proofs.lemmas.List.Folds.{list_any-append}
 use Rattle.std.proofs.lemmas.List.Sums.{count_by_more_no, count_by_more_yes}
 use Rattle.table_definitions.specs.Lists.{below, times_in, pairs_of}
 use Rattle.table_definitions.specs.Permutation.{four}
 use Rattle.table_definitions.specs.Table.{Row}
 use Rattle.table_definitions.specs.Places.{is_boundary, is_closed, lies_in_boundary}
 use Rattle.table_definitions.proofs.Tests.{each_face}
-use Rattle.table_definitions.proofs.ListFacts.{below_next}
+use Rattle.class_laws.proofs.Marks.{any_more}
 use Rattle.skeleton.specs.Parts.{AreBoundaryMarks, AreBoundaryMarksUpTo, is_open_at}
-
-pub any_more : (p : ℕ → Bool) (i : ℕ) → list_any p (below (i + 1)) ≡ (list_any p (below i) || p i)
-any_more p i = ap (list_any p) (below_next i) ∙ list_any-append p (below i) (i ∷ []) ∙ ap (λ b. list_any p (below i) || b) (or-false (p i))
 
 -- a degree grows
 pub times_other : (classes : List ℕ) (i c : ℕ) → i < length classes → slice_index classes i ≢ c → times_in (take (i + 1) classes) c ≡ times_in (take i classes) c
@@ -156,11 +152,3 @@ closed_more rows i h e t f l m = elim (cases_lt t i) [
   | inl less ↦ h t f less m
   | inr more ↦ let same : t ≡ i = omega arith in ap (λ k. is_open_at rows k f) same ∙ no_face (is_open_at rows i) e f m
 ]
-
-pub all_zero : (degrees : List ℕ) (n : ℕ) → degrees ≡ replicate n 0 → (c : ℕ) → slice_index degrees c ≡ 0
-all_zero degrees n e c = ap (λ (xs : List ℕ). slice_index xs c) e ∙ zeros n c
-  where
-    zeros : (n c : ℕ) → slice_index (replicate n 0) c ≡ 0
-    zeros zero c = refl
-    zeros (suc n) zero = refl
-    zeros (suc n) (suc c) = zeros n c

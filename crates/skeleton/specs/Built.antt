@@ -5,9 +5,9 @@ use Rattle.skeleton_definitions.specs.Corners.{Corner}
 use Rattle.table_definitions.specs.Table.{Row, IsTable}
 use Rattle.table_definitions.specs.Places.{is_closed}
 use Rattle.skeleton_definitions.specs.Skeleton.{IsOrientation}
-use Rattle.skeleton.specs.declared.kinds.Kind.TheVariants.{Vertices, Edges, Directions, Faces}
-use Rattle.skeleton.specs.Numberings.{AreClassesOf}
-use Rattle.skeleton.specs.Rounds.{AreRounds}
+use Rattle.class_laws.specs.declared.Kind.TheVariants.{Vertices, Edges, Directions, Faces}
+use Rattle.class_laws.specs.Numberings.{AreClassesOf}
+use Rattle.skeleton.specs.Parts.{AreRounds}
 use Rattle.skeleton.specs.Parts.{AreDegrees, AreBoundaryMarks}
 
 pub record Built : Type 0 where

@@ -7,7 +7,7 @@ ghost use Rattle.table_definitions.specs.Places as places;
 ghost use Rattle.skeleton.specs.Parts.{AreBoundaryMarks, is_open_at};
 
 use crate::edges::edge_ends;
-use crate::kinds::behind;
+use crate::crossings::behind;
 use gluing_table::{Face, Table};
 use no_memory::NoMemory;
 use std::alloc::Global;

@@ -4,10 +4,11 @@ ghost use Rattle.std.specs.Prelude.{◌≡◌, ◌*◌, ◌<◌, ◌≤◌, ℕ,
 ghost use Rattle.std.specs.List.{slice_index_or};
 ghost use Rattle.table_definitions.specs.Permutation.{IsPermutationOfFour};
 ghost use Rattle.table_definitions.specs.Table.{IsTable};
-ghost use Rattle.finite_walks.specs.Walks.{IsInjectiveBelow, step_of};
-ghost use Rattle.skeleton.specs.Rounds.{corner_at, next_corner, start_of, swap, word_at, IsRound, IsRoundUnless, AreRounds};
+ghost use Rattle.walk_laws.specs.Walks.{IsInjectiveBelow, step_of};
+ghost use Rattle.class_laws.specs.Rounds.{corner_at, next_corner, start_of, swap, word_at, IsRound, IsRoundUnless};
+ghost use Rattle.skeleton.specs.Parts.{AreRounds};
 
-use crate::kinds::behind;
+use crate::crossings::behind;
 use finite_walks::orbit;
 use gluing_table::{Face, Table};
 use no_memory::NoMemory;

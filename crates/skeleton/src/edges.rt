@@ -4,10 +4,10 @@ ghost use Rattle.std.specs.Prelude.{◌≡◌, ◌≢◌, ◌*◌, ◌/◌, ◌%
 ghost use Rattle.table_definitions.specs.Table.{IsTable};
 ghost use Rattle.table_definitions.specs.Places as places;
 ghost use Rattle.table_definitions.specs.Permutation.{others};
-ghost use Rattle.skeleton.specs.Crossings.{crossed_edge, crossed_direction, pair_number};
-ghost use Rattle.skeleton.specs.Directions.{forward, backward, runs_against};
+ghost use Rattle.class_laws.specs.Crossings.{crossed_edge, crossed_direction, pair_number};
+ghost use Rattle.class_laws.specs.Directions.{forward, backward, runs_against};
 
-use crate::kinds::behind;
+use crate::crossings::behind;
 use gluing_table::{Face, Table};
 
 const LOWER_ENDS: [u8; 6] = [0, 0, 0, 1, 1, 2];

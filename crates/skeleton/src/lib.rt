@@ -3,16 +3,16 @@
 
 mod boundary;
 mod corners;
+mod crossings;
 mod degrees;
 mod edges;
-mod kinds;
 mod neighbours;
 mod numbering;
 mod signs;
 mod skeleton;
 
+pub use class_laws::Kind;
 pub use corners::Corner;
-pub use kinds::Kind;
 pub use numbering::{Numbering, classes_of};
 pub use skeleton::Skeleton;
 

@@ -2,12 +2,13 @@
 
 ghost use Rattle.std.specs.Prelude.{◌≡◌, ◌*◌, ◌<◌, ◌≤◌, length, IfOk, ℕ};
 ghost use Rattle.table_definitions.specs.Table.{IsTable};
-ghost use Rattle.skeleton.specs.Neighbours.{AreNeighbours, row_at};
-ghost use Rattle.skeleton.specs.Numberings.{per_tet, crossing};
+ghost use Rattle.class_laws.specs.Neighbours.{AreNeighbours, row_at};
+ghost use Rattle.class_laws.specs.Numberings.{per_tet, crossing};
 
 use crate::edges::{direction_across, edge_across};
-use crate::kinds::{Kind, face_across, vertex_across};
+use crate::crossings::{face_across, vertex_across};
 use crate::signs::{sign_across, vertex_sign_across};
+use class_laws::Kind;
 use gluing_table::Table;
 use no_memory::NoMemory;
 use std::alloc::Global;

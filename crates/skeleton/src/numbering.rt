@@ -2,10 +2,10 @@
 
 ghost use Rattle.std.specs.Prelude.{◌≡◌, ◌<◌, ◌^◌, length, IfOk, ℕ};
 ghost use Rattle.table_definitions.specs.Table.{IsTable};
-ghost use Rattle.skeleton.specs.Numberings.{AreClassesOf, AreFirsts, IsOrdered};
+ghost use Rattle.class_laws.specs.Numberings.{AreClassesOf, AreFirsts, IsOrdered};
 
-use crate::kinds::Kind;
 use crate::neighbours::neighbours;
+use class_laws::Kind;
 use finite_walks::classes;
 use gluing_table::Table;
 use no_memory::NoMemory;

@@ -1,4 +1,3 @@
-pub mod Numbered
 pub mod Skeletons
 pub mod Oriented
 pub mod Linked

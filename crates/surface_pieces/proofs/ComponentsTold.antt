@@ -4,7 +4,7 @@ use Rattle.std.specs.List.{slice_index_or, AllZip}
 use Rattle.std.proofs.lemmas.Bool.{cases_lt}
 use Rattle.std.proofs.lemmas.List.{get_or_past, get_or-map, length-map}
 use Rattle.std.proofs.lemmas.List.FromFn.{length-range_with_len, get_or-range_with_len}
-use Rattle.finite_walks.specs.Joined.{IsJoined, neighbours_of}
+use Rattle.walk_laws.specs.Joined.{IsJoined, neighbours_of}
 use Rattle.table_definitions.specs.Classes.{IsNumbering}
 use Rattle.table_definitions.specs.Lists.{below}
 use Rattle.table_definitions.specs.Table.{Row}

@@ -12,8 +12,8 @@ use Rattle.surface_definitions.specs.Pieces.{SurfacePiece, pieces_of}
 use Rattle.vector_laws.specs.PieceLaws.{IsSurface, IsPieceOf}
 use Rattle.table_definitions.proofs.Listed.{among_contains, flat_map-among, map-among, below-among}
 use Rattle.vector_laws.proofs.PieceNumbers.{piece_at, no_piece, of_column}
-use Rattle.finite_walks.specs.Joined.{present}
-use Rattle.finite_walks.proofs.Rows.{present_contains}
+use Rattle.walk_laws.specs.Joined.{present}
+use Rattle.walk_laws.proofs.Rows.{present_contains}
 use Rattle.surface_pieces.specs.declared.steps.Joining.{Joining}
 use Rattle.surface_pieces.specs.Joinings.{LeadsAt, IsRow}
 use Rattle.surface_pieces.specs.Meetings.{IsInside}

@@ -7,7 +7,7 @@ use Rattle.text_definitions.specs.Reading.{Reading, ◌>>=◌, begun, need_line_
 use Rattle.signature_definitions.specs.declared.InputFault.{InputFault}
 use Rattle.signature_definitions.specs.declared.InputFault.TheVariants.{NoMemory}
 use Rattle.signature_definitions.specs.SignatureText.{any_table_at}
-use Rattle.signature_codec.proofs.AnyTables.{any_table_read}
+use Rattle.signature_text_laws.proofs.AnyTables.{any_table_read}
 use Rattle.document_definitions.specs.Documents.{tables_on, tables_from}
 
 -- what tables are read as

@@ -11,7 +11,7 @@ use Rattle.surface_definitions.specs.Equations.{matching_rows}
 use Rattle.surface_definitions.specs.Pieces.{SurfacePiece, pieces_of, piece_number, Arc, arc_across, piece_of, Meets, SamePiece, AreComponents, component_vector}
 use Rattle.vector_definitions.specs.Components.{Component, IsPiecesAnswer}
 use Rattle.vector_definitions.specs.declared.PiecesFault.{PiecesFault}
-use Rattle.finite_walks.specs.Joined.{IsJoined, IsSymmetric, HasNeighboursBelow}
+use Rattle.walk_laws.specs.Joined.{IsJoined, IsSymmetric, HasNeighboursBelow}
 use Rattle.vector_laws.specs.MatchingLaws.{HasTriangles}
 
 -- an admissible solution of the equations of a table, in coordinates with triangles

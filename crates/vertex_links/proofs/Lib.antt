@@ -1,3 +1,1 @@
-pub mod TallyLemmas
 pub mod SideLemmas
-pub mod LinkSigns

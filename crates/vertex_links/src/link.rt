@@ -3,8 +3,8 @@
 ghost use Rattle.std.specs.Prelude.{◌≡◌, ◌==◌, ◌↔◌, IsTrue, ◌*◌, ◌/◌, ◌<◌, ℕ, length, slice_index, IfOk};
 ghost use Rattle.skeleton_definitions.specs.Links as definition;
 ghost use Rattle.skeleton_definitions.specs.Skeleton.{IsSkeleton, AreLinks};
-ghost use Rattle.skeleton.specs.Numberings.{AreClassesOf};
-ghost use Rattle.vertex_links.specs.Tallies.{CountsCorners};
+ghost use Rattle.class_laws.specs.Numberings.{AreClassesOf};
+ghost use Rattle.class_laws.specs.Tallies.{CountsCorners};
 
 use crate::sides::{first_sides, least_corners, open_sides, owners, turned_vertices};
 use crate::tally::tally;

@@ -9,15 +9,14 @@ use Rattle.text_definitions.specs.Written.{limit}
 use Rattle.cone_definitions.specs.Rows.{Row as EquationRow, plus_part, minus_part, IsZeroAt, IsSolution}
 use Rattle.cone_definitions.specs.Elimination.{HasLargePart}
 use Rattle.cone_definitions.specs.Surfaces.{IsAdmissible}
-use Rattle.cone_core.specs.Faults.{IsMetAt, IsPastAt}
-use Rattle.cone_core.specs.declared.system.SolutionFault.TheVariants.{Passed}
 use Rattle.table_definitions.specs.Table.{Row}
 use Rattle.surface_definitions.specs.declared.Coords.{Coords}
 use Rattle.surface_definitions.specs.declared.VectorFault.TheVariants.{Large}
 use Rattle.surface_definitions.specs.Coordinates.{columns, clash_list}
 use Rattle.surface_definitions.specs.Laws.{HasPartsUpTo}
 use Rattle.surface_definitions.proofs.VerdictLaws.{accepted-verdict}
-use Rattle.quad_condition.proofs.Verdicts.{row_answer}
+use Rattle.coordinate_laws.specs.Laws.{IsMet}
+use Rattle.coordinate_laws.proofs.FirstFaults.{large_told}
 use Rattle.vector_definitions.specs.Answers.{IsFit, IsUnfit}
 use Rattle.sum_definitions.specs.Sums.{Term}
 use Rattle.document_definitions.specs.Blocks.{Block}
@@ -86,13 +85,9 @@ module _ (coords : Coords) (rows : List Row) (equations : List EquationRow) (x :
   pub small_is_fit : All (HasPartsUpTo limit x) equations → IsFit coords rows equations x
   small_is_fit within = accepted-verdict limit (columns coords (length rows)) equations (clash_list coords (length rows)) x (record { solves = s.solves; admissible = s.admissible; within = within })
 
-  past_at : (row : ℕ) → IsFirst (HasPartsUpTo limit x) (λ equation. HasLargePart limit equation x) equations row → IsPastAt limit equations x row
-  past_at row f = record {
-    in_range = in_range;
-    earlier = λ j l. met j (let e = f.number_is in omega arith);
-    past = subst (λ (equation : EquationRow). HasLargePart limit equation x) (sym (ap (λ (es : List EquationRow). slice_index_or es row []) f.stands
-        ∙ ap (λ n. slice_index_or (f.before ++ f.value ∷ f.after) n []) f.number_is ∙ get_or-append_seam f.before f.value f.after [])) f.fails;
-  }
+  pub large_is_unfit : (row : ℕ) → IsFirst (HasPartsUpTo limit x) (λ equation. HasLargePart limit equation x) equations row → IsUnfit coords rows equations x (Large row)
+  large_is_unfit row f = large_told limit (columns coords (length rows)) equations (clash_list coords (length rows)) x row s.solves.width in_range
+      (λ j l. met j (let e = f.number_is in omega arith)) past
     where
       in_range : row < length equations
       in_range =
@@ -100,15 +95,15 @@ module _ (coords : Coords) (rows : List Row) (equations : List EquationRow) (x :
           let l : length (f.before ++ f.value ∷ f.after) ≡ length f.before + length (f.value ∷ f.after) = length-append f.before (f.value ∷ f.after) in
           let n = f.number_is in omega arith
 
-      met : (j : ℕ) → j < length f.before → IsMetAt limit x (slice_index_or equations j [])
+      past : HasLargePart limit (slice_index_or equations row []) x
+      past = subst (λ (equation : EquationRow). HasLargePart limit equation x) (sym (ap (λ (es : List EquationRow). slice_index_or es row []) f.stands
+          ∙ ap (λ n. slice_index_or (f.before ++ f.value ∷ f.after) n []) f.number_is ∙ get_or-append_seam f.before f.value f.after [])) f.fails
+
+      met : (j : ℕ) → j < length f.before → IsMet limit x (slice_index_or equations j [])
       met j l =
           let same : slice_index_or equations j [] ≡ slice_index_or f.before j [] =
           ap (λ (es : List EquationRow). slice_index_or es j []) f.stands ∙ get_or_append_left f.before (f.value ∷ f.after) [] j l in
           let parts : HasPartsUpTo limit x (slice_index_or f.before j []) = All-get_or (HasPartsUpTo limit x) f.before j [] l f.passed in
           let here : j < length equations = (let n = f.number_is in let r = in_range in omega arith) in
           let zero : IsZeroAt (slice_index_or equations j []) x = All-get_or (λ (equation : EquationRow). IsZeroAt equation x) equations j [] here s.solves.zero in
-          let within : HasPartsUpTo limit x (slice_index_or equations j []) = subst (HasPartsUpTo limit x) (sym same) parts in
-          record { within = record { plus = within.0; minus = within.1 }; zero = zero }
-
-  pub large_is_unfit : (row : ℕ) → IsFirst (HasPartsUpTo limit x) (λ equation. HasLargePart limit equation x) equations row → IsUnfit coords rows equations x (Large row)
-  large_is_unfit row f = sym (row_answer limit (columns coords (length rows)) equations (clash_list coords (length rows)) x (Passed row) s.solves.width (past_at row f))
+          (subst (HasPartsUpTo limit x) (sym same) parts, zero)

@@ -1,7 +1,7 @@
 -- Each entry by its lemma.
 use Rattle.std.proofs.Common.{◌≡◌, ◌<◌, ℕ, Vec, Global, None, Some, length, ap, ◌∙◌, arith}
 use Rattle.std.specs.List.{slice_index_or}
-use Rattle.finite_walks.proofs.Rows.{present_contains}
+use Rattle.walk_laws.proofs.Rows.{present_contains}
 use Rattle.finite_walks.proofs.RowMarks.{marks_one, passes_one, skips_one}
 use Rattle.finite_walks.proofs.mark_row.Goals as goal
 use Rattle.finite_walks.proofs.mark_row.Goals.{in-Some+then-not-marked-other+in_ok-push, in-Some+else-not-marked-other, in_default}

@@ -1,7 +1,7 @@
 -- The entries so far are done.
 use Rattle.std.proofs.Common.{take}
-use Rattle.finite_walks.specs.Joined.{present}
-use Rattle.finite_walks.specs.Search.{IsRowMarked}
+use Rattle.walk_laws.specs.Joined.{present}
+use Rattle.finite_walks.specs.Rows.{IsRowMarked}
 use Rattle.finite_walks.proofs.mark_row.Given as goal
 
 abbrev pub invariant-loop-neighbour : goal.invariant-loop-neighbour

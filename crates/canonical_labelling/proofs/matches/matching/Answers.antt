@@ -1,7 +1,7 @@
 use Rattle.std.proofs.Common.{subst, arith}
 use Rattle.labelling_definitions.specs.Labellings.{Start, IsWalked}
-use Rattle.canonical_labelling.specs.Starts.{start_back_at}
-use Rattle.canonical_labelling.proofs.Agreeing.{one_walk}
+use Rattle.labelling_laws.specs.Starts.{start_back_at}
+use Rattle.labelling_laws.proofs.Agreeing.{one_walk}
 use Rattle.canonical_labelling.proofs.matches.matching.Goals as goal
 
 pub returns-then-not-equals-clause-none : goal.returns-then-not-equals-clause-none

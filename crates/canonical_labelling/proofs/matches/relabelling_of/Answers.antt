@@ -1,4 +1,4 @@
-use Rattle.canonical_labelling.proofs.Matching.{none_bad}
+use Rattle.canonical_labelling.proofs.Positions.{none_bad}
 use Rattle.canonical_labelling.proofs.matches.relabelling_of.Goals as goal
 
 pub unreachable-requires : goal.unreachable-requires

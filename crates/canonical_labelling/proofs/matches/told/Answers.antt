@@ -1,9 +1,9 @@
 use Rattle.std.proofs.Common.{◌*◌, ◌<◌, ℕ, length, sym, ap, ◌∙◌, subst}
 use Rattle.table_definitions.proofs.Carried.{length-images}
 use Rattle.labelling_definitions.specs.Labellings.{Start, IsWalked, IsLeastRelabelling}
-use Rattle.canonical_labelling.specs.Between.{between}
-use Rattle.canonical_labelling.specs.Starts.{IsNoMatch, IsFirstMatch}
-use Rattle.canonical_labelling.proofs.Matching.{no_relabelling, first_match_is_least, from_none, from_some}
+use Rattle.labelling_laws.specs.Between.{between}
+use Rattle.labelling_laws.specs.Starts.{IsNoMatch, IsFirstMatch}
+use Rattle.labelling_laws.proofs.Matching.{no_relabelling, first_match_is_least, from_none, from_some}
 use Rattle.canonical_labelling.proofs.matches.told.Goals as goal
 
 pub returns-in_default-clause-none : goal.returns-in_default-clause-none

@@ -1,6 +1,6 @@
 use Rattle.std.proofs.Common.{subst}
-use Rattle.signature_codec.specs.Walks.{StopsAt}
-use Rattle.canonical_labelling.proofs.Least.{never_unordered}
+use Rattle.signature_codec.specs.Shown.{StopsAt}
+use Rattle.labelling_laws.proofs.Least.{never_unordered}
 use Rattle.canonical_labelling.proofs.signatures.text_of.Goals as goal
 
 pub unreachable-requires : goal.unreachable-requires

@@ -1,7 +1,7 @@
 -- One place more.
 use Rattle.std.proofs.Common.{ℕ, subst, sym, ◌∙◌, arith}
-use Rattle.component_signature.specs.Ordered.{entries_of}
-use Rattle.component_signature.specs.Drafts.{AreMatched}
+use Rattle.component_signature.specs.Entries.{entries_of}
+use Rattle.part_laws.specs.Drafts.{AreMatched}
 use Rattle.component_signature.proofs.matches.drafted.Goals as goal
 
 pub loop-place-init : goal.loop-place-init

@@ -1,7 +1,8 @@
 -- The parts at the places so far are written.
 use Rattle.std.proofs.Common.{◌≡◌, length}
-use Rattle.component_signature.specs.Ordered.{entries_of, numbers_of}
-use Rattle.component_signature.specs.Drafts.{AreWritten}
+use Rattle.component_signature.specs.Entries.{entries_of}
+use Rattle.part_laws.specs.Ordered.{numbers_of}
+use Rattle.part_laws.specs.Drafts.{AreWritten}
 use Rattle.component_signature.proofs.matches.drafted.Given as goal
 
 abbrev pub invariant-loop-place : goal.invariant-loop-place

@@ -5,9 +5,10 @@ use Rattle.table_definitions.specs.Relabelling.{Relabelling, IsRelabelling}
 use Rattle.labelling_definitions.specs.Labellings.{Relabels}
 use Rattle.part_definitions.specs.SameParts.{IsSameParts}
 use Rattle.component_signature.specs.declared.order.Signed.{Signed}
-use Rattle.component_signature.specs.Ordered.{entries_of, texts_of}
-use Rattle.component_signature.proofs.MatchLemmas.{differ}
-use Rattle.component_signature.proofs.DraftLemmas.{relabelling_of, told_of, relabels_of}
+use Rattle.component_signature.specs.Entries.{entries_of}
+use Rattle.part_laws.specs.Ordered.{texts_of}
+use Rattle.part_laws.proofs.MatchLemmas.{differ}
+use Rattle.component_signature.proofs.DraftedParts.{relabelling_of, told_of, relabels_of}
 use Rattle.component_signature.proofs.matches.same_parts.Goals as goal
 
 -- the signatures of both

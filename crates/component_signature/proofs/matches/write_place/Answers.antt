@@ -6,8 +6,8 @@ use Rattle.table_definitions.specs.Relabelling.{IsRelabelled, stand_in}
 use Rattle.labelling_definitions.specs.Labellings.{IsLeastRelabelling}
 use Rattle.part_definitions.specs.Parts.{Part, IsPart}
 use Rattle.part_definitions.specs.SameParts.{GoesBy}
-use Rattle.component_signature.specs.Ordered.{entries_of}
-use Rattle.component_signature.proofs.MatchLemmas.{part_in, is_part, is_connected, relabelled_at}
+use Rattle.component_signature.specs.Entries.{entries_of}
+use Rattle.part_laws.proofs.MatchLemmas.{part_in, is_part, is_connected, relabelled_at}
 use Rattle.component_signature.proofs.PlaceLemmas.{in_entries, in_others, number_in, part_here, tets_below, few_tets, one_image_each, images_there, written_more}
 use Rattle.component_signature.proofs.matches.write_place.Goals as goal
 

@@ -2,7 +2,8 @@
 use Rattle.std.proofs.Common.{List, All, subst, sym}
 use Rattle.table_definitions.specs.Places.{IsConnected}
 use Rattle.part_definitions.specs.Parts.{Part}
-use Rattle.component_signature.specs.Ordered.{entries_of, AreSigned}
+use Rattle.component_signature.specs.Entries.{entries_of}
+use Rattle.part_laws.specs.Ordered.{AreSigned}
 use Rattle.component_signature.proofs.Signing.{put_in_order, all_connected}
 use Rattle.component_signature.proofs.order.in_order.Goals as goal
 

@@ -1,5 +1,5 @@
 -- The parts so far are signed.
-use Rattle.component_signature.specs.Ordered.{entries_of}
+use Rattle.component_signature.specs.Entries.{entries_of}
 use Rattle.component_signature.proofs.Signing.{AreSignedUpTo}
 use Rattle.component_signature.proofs.order.sign_parts.Given as goal
 

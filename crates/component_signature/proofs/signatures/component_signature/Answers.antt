@@ -2,8 +2,9 @@
 use Rattle.std.proofs.Common.{List, ap, ◌∙◌}
 use Rattle.part_definitions.specs.ComponentSignature.{component_text}
 use Rattle.component_signature.specs.declared.order.Signed.{Signed}
-use Rattle.component_signature.specs.Ordered.{entries_of, texts_of}
-use Rattle.component_signature.proofs.OrderLemmas.{signs}
+use Rattle.component_signature.specs.Entries.{entries_of}
+use Rattle.part_laws.specs.Ordered.{texts_of}
+use Rattle.part_laws.proofs.OrderLemmas.{signs}
 use Rattle.component_signature.proofs.signatures.component_signature.Goals as goal
 
 pub returns : goal.returns

@@ -1,7 +1,8 @@
 -- The signatures so far are joined.
 use Rattle.std.proofs.Common.{◌≡◌, take}
 use Rattle.part_definitions.specs.ComponentSignature.{component_text}
-use Rattle.component_signature.specs.Ordered.{entries_of, texts_of}
+use Rattle.component_signature.specs.Entries.{entries_of}
+use Rattle.part_laws.specs.Ordered.{texts_of}
 use Rattle.component_signature.proofs.signatures.joined.Given as goal
 
 abbrev pub invariant-loop-place : goal.invariant-loop-place

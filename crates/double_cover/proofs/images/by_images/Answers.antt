@@ -1,7 +1,7 @@
 -- The images are a relabelling, so none of them is bad.
 use Rattle.std.proofs.Common.{length, replicate}
 use Rattle.table_definitions.specs.Permutation.{identity}
-use Rattle.canonical_labelling.proofs.Matching.{none_bad}
+use Rattle.canonical_labelling.proofs.Positions.{none_bad}
 use Rattle.double_cover.proofs.images.by_images.Goals as goal
 
 pub unreachable-requires : goal.unreachable-requires

@@ -3,8 +3,8 @@ use Rattle.std.proofs.Common.{ℕ, List, length, map, ap, sym, subst, ◌∙◌}
 use Rattle.std.proofs.lemmas.Slice.Zip.{AllZip-long}
 use Rattle.table_definitions.specs.Places.{IsConnected}
 use Rattle.group_definitions.specs.Presentations.{IsTurning, IsRelator}
-use Rattle.edge_group.specs.Classes.{letters_of}
-use Rattle.edge_group.proofs.Marking.{only_root}
+use Rattle.edge_group.specs.Kept.{letters_of}
+use Rattle.group_laws.proofs.Marking.{only_root}
 use Rattle.edge_group.proofs.group.presented.Goals as goal
 
 pub shortest_tree-requires-clause-connected : goal.shortest_tree-requires-clause-connected

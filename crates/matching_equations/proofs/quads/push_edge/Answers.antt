@@ -1,5 +1,6 @@
 use Rattle.std.proofs.Common.{sym}
-use Rattle.matching_equations.proofs.EdgeCorners.{round_of, row_appended}
+use Rattle.class_laws.proofs.EdgeCorners.{round_of}
+use Rattle.matching_equations.proofs.ClassRows.{row_appended}
 use Rattle.matching_equations.proofs.quads.push_edge.Goals as goal
 
 pub push_round-requires-clause-corners : goal.push_round-requires-clause-corners

@@ -1,5 +1,5 @@
 use Rattle.std.proofs.Common.{◌+◌, ◌≤◌, length, arith, ◌∙◌}
-use Rattle.matching_equations.proofs.EdgeCorners.{rows_more}
+use Rattle.matching_equations.proofs.ClassRows.{rows_more}
 use Rattle.matching_equations.proofs.quads.quad_system.Goals as goal
 
 pub loop-class-preserved : goal.loop-class-preserved

@@ -1,5 +1,5 @@
 -- Signatures tell tables.
-use Rattle.canonical_labelling.proofs.Told.{tells_tables}
+use Rattle.labelling_laws.proofs.Told.{tells_tables}
 use Rattle.labelling_definitions.proofs.CensusLaws.{census_goes_on}
 use Rattle.signature_census.proofs.laws.census_goes_on.Goals as goal
 

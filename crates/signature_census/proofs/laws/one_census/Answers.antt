@@ -1,5 +1,5 @@
 -- A table has one signature.
-use Rattle.canonical_labelling.proofs.Told.{one_signature}
+use Rattle.labelling_laws.proofs.Told.{one_signature}
 use Rattle.labelling_definitions.proofs.OneCensus.{one_census}
 use Rattle.signature_census.proofs.laws.one_census.Goals as goal
 

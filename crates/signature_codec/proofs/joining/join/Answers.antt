@@ -4,11 +4,11 @@ use Rattle.std.proofs.lemmas.Result.{err_from_is_err_and}
 use Rattle.table_definitions.specs.Table.{Row}
 use Rattle.signature_definitions.specs.declared.SigFault.{SigFault}
 use Rattle.signature_definitions.specs.SignatureText as signatures
-use Rattle.signature_codec.specs.Faults.{Fails}
-use Rattle.signature_codec.specs.Parts.{parts_shown}
-use Rattle.signature_codec.specs.Slots.{slot_rows, slots_shown}
-use Rattle.signature_codec.proofs.ReadLaws.{fails_on, next_ok}
-use Rattle.signature_codec.proofs.Simulation.{slots_join}
+use Rattle.signature_text_laws.specs.Faults.{Fails}
+use Rattle.signature_codec.specs.Shown.{parts_shown, slots_shown}
+use Rattle.signature_text_laws.specs.Slots.{slot_rows}
+use Rattle.signature_text_laws.proofs.ReadLaws.{fails_on, next_ok}
+use Rattle.signature_text_laws.proofs.Simulation.{slots_join}
 use Rattle.signature_codec.proofs.joining.join.Goals as goal
 
 pub returns-in_err-state : goal.returns-in_err-state

@@ -1,6 +1,6 @@
 use Rattle.std.proofs.Common.{◌<◌, length, arith}
-use Rattle.signature_codec.specs.Slots.{slots_shown}
-use Rattle.signature_codec.proofs.SlotLaws.{kept_on_ok, taken_kept, taking_next}
+use Rattle.signature_codec.specs.Shown.{slots_shown}
+use Rattle.signature_text_laws.proofs.SlotLaws.{kept_on_ok, taken_kept, taking_next}
 use Rattle.signature_codec.proofs.joining.join_face.Goals as goal
 
 pub returns-clause-slots : goal.returns-clause-slots

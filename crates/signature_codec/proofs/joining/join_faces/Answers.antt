@@ -3,9 +3,9 @@ use Rattle.std.specs.Prelude.{Result}
 use Rattle.std.proofs.lemmas.Result.{err_from_is_err_and}
 use Rattle.signature_definitions.specs.declared.SigFault.{SigFault}
 use Rattle.signature_definitions.specs.SignatureText as signatures
-use Rattle.signature_codec.specs.Faults.{Fails}
-use Rattle.signature_codec.specs.Slots.{Slots}
-use Rattle.signature_codec.proofs.SlotLaws.{slot_faces-more, slot_faces-end, slot_faces-wrong}
+use Rattle.signature_text_laws.specs.Faults.{Fails}
+use Rattle.signature_text_laws.specs.Slots.{Slots}
+use Rattle.signature_text_laws.proofs.SlotLaws.{slot_faces-more, slot_faces-end, slot_faces-wrong}
 use Rattle.signature_codec.proofs.joining.join_faces.Goals as goal
 
 pub returns-in_err-join_face-clause-joins : goal.returns-in_err-join_face-clause-joins

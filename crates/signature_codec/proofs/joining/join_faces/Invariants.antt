@@ -1,6 +1,6 @@
 use Rattle.std.proofs.Common.{◌≡◌, ◌<◌, ◌-◌, ◌*◌, length}
-use Rattle.signature_codec.specs.Slots.{IsSlots, slot_faces, slots_begun, slots_shown}
-use Rattle.signature_codec.specs.Parts.{parts_shown}
+use Rattle.signature_text_laws.specs.Slots.{IsSlots, slot_faces, slots_begun}
+use Rattle.signature_codec.specs.Shown.{slots_shown, parts_shown}
 use Rattle.signature_codec.proofs.joining.join_faces.Given as goal
 
 abbrev pub invariant-loop-place : goal.invariant-loop-place

@@ -1,4 +1,4 @@
-use Rattle.signature_codec.proofs.SlotLaws.{slot_rows-more}
+use Rattle.signature_text_laws.proofs.SlotLaws.{slot_rows-more}
 use Rattle.signature_codec.proofs.joining.rows_of.Goals as goal
 
 pub loop-tet-preserved : goal.loop-tet-preserved

@@ -1,5 +1,5 @@
 use Rattle.std.proofs.Common.{◌≡◌}
-use Rattle.signature_codec.specs.Slots.{slot_rows}
+use Rattle.signature_text_laws.specs.Slots.{slot_rows}
 use Rattle.signature_codec.proofs.joining.rows_of.Given as goal
 
 abbrev pub invariant-loop-tet : goal.invariant-loop-tet

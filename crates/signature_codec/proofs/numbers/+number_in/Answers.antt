@@ -1,6 +1,6 @@
 use Rattle.std.proofs.Common.{arith}
 use Rattle.std.proofs.lemmas.Result.{err_from_is_err_and}
-use Rattle.signature_codec.proofs.ReadLaws.{number_in-low, number_in-high, number_in-both, wider, narrow}
+use Rattle.signature_text_laws.proofs.ReadLaws.{number_in-low, number_in-high, number_in-both, wider, narrow}
 use Rattle.signature_codec.proofs.numbers.+number_in.Goals as goal
 
 pub returns-in_err-low-clause-reads : goal.returns-in_err-low-clause-reads

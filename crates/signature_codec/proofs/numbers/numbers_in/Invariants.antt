@@ -1,7 +1,7 @@
 use Rattle.std.proofs.Common.{◌≡◌, ◌≤◌, ◌+◌, ◌*◌, ◌-◌, length}
 use Rattle.signature_definitions.specs.SignatureText as signatures
-use Rattle.signature_codec.specs.Faults.{fault_of_part}
-use Rattle.signature_codec.proofs.ReadLaws.{fronted}
+use Rattle.signature_codec.specs.Shown.{fault_of_part}
+use Rattle.signature_text_laws.proofs.ReadLaws.{fronted}
 use Rattle.signature_codec.proofs.numbers.numbers_in.Given as goal
 
 abbrev pub invariant-loop-i : goal.invariant-loop-i

@@ -4,14 +4,14 @@ use Rattle.std.proofs.lemmas.Result.{err_from_is_err_and}
 use Rattle.table_definitions.specs.Table.{Row, IsTable}
 use Rattle.signature_definitions.specs.declared.SigFault.{SigFault}
 use Rattle.signature_definitions.specs.SignatureText as signatures
-use Rattle.signature_codec.specs.Faults.{Fails, Reads}
-use Rattle.signature_codec.specs.Parts.{head_shown, types_shown, parts_shown}
-use Rattle.signature_codec.specs.Slots.{IsSlots, slots_begun}
-use Rattle.signature_codec.proofs.ReadLaws.{fails_on}
-use Rattle.signature_codec.proofs.JoinedTables.{joined_table}
-use Rattle.signature_codec.proofs.TypeLaws.{parts_fit, behind_head, signature_table-head, signature_table-types, signature_table-parts, signature_table-joined}
-use Rattle.signature_codec.proofs.ReadTables.{spelled_on_ok}
-use Rattle.signature_codec.proofs.SpelledTables.{refused_on_err}
+use Rattle.signature_text_laws.specs.Faults.{Fails, Reads}
+use Rattle.signature_codec.specs.Shown.{head_shown, types_shown, parts_shown}
+use Rattle.signature_text_laws.specs.Slots.{IsSlots, slots_begun}
+use Rattle.signature_text_laws.proofs.ReadLaws.{fails_on}
+use Rattle.signature_text_laws.proofs.JoinedTables.{joined_table}
+use Rattle.signature_text_laws.proofs.TypeLaws.{parts_fit, behind_head, signature_table-head, signature_table-types, signature_table-parts, signature_table-joined}
+use Rattle.signature_text_laws.proofs.ReadTables.{spelled_on_ok}
+use Rattle.signature_text_laws.proofs.SpelledTables.{refused_on_err}
 use Rattle.signature_codec.proofs.reading.read_signature.Goals as goal
 
 pub returns-in_err-head-clause-reads : goal.returns-in_err-head-clause-reads

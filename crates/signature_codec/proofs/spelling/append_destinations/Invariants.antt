@@ -1,5 +1,5 @@
 use Rattle.std.proofs.Common.{◌≡◌, ◌++◌, drop}
-use Rattle.signature_codec.specs.Texts.{destinations_text}
+use Rattle.signature_text_laws.specs.Texts.{destinations_text}
 use Rattle.signature_codec.proofs.spelling.append_destinations.Given as goal
 
 abbrev pub invariant-loop-glue : goal.invariant-loop-glue

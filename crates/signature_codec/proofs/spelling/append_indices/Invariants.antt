@@ -1,5 +1,5 @@
 use Rattle.std.proofs.Common.{◌≡◌, ◌++◌, drop}
-use Rattle.signature_codec.specs.Texts.{indices_text}
+use Rattle.signature_text_laws.specs.Texts.{indices_text}
 use Rattle.signature_codec.proofs.spelling.append_indices.Given as goal
 
 abbrev pub invariant-loop-glue : goal.invariant-loop-glue

@@ -1,5 +1,5 @@
 use Rattle.std.proofs.Common.{◌≡◌, ◌-◌, ◌+◌, suc, arith, ◌∙◌, sym}
-use Rattle.signature_codec.proofs.TextLaws.{number_text-more, number_text-none}
+use Rattle.signature_text_laws.proofs.TextLaws.{number_text-more, number_text-none}
 use Rattle.signature_codec.proofs.spelling.append_number.Goals as goal
 
 pub loop-place-preserved : goal.loop-place-preserved

@@ -1,5 +1,5 @@
 use Rattle.std.proofs.Common.{◌≡◌, ◌-◌, ◌++◌}
-use Rattle.signature_codec.specs.Texts.{number_text}
+use Rattle.signature_text_laws.specs.Texts.{number_text}
 use Rattle.signature_codec.proofs.spelling.append_number.Given as goal
 
 abbrev pub invariant-loop-place : goal.invariant-loop-place

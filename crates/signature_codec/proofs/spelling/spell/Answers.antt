@@ -2,9 +2,9 @@ use Rattle.std.proofs.Common.{◌≡◌, ◌<◌, ◌++◌, [], length, map, ari
 use Rattle.std.specs.Prelude.{All}
 use Rattle.table_definitions.specs.Table.{Gluing, Row}
 use Rattle.signature_definitions.specs.Spelling as spellings
-use Rattle.signature_codec.specs.Texts.{destinations_text, indices_text}
-use Rattle.signature_codec.proofs.TextLaws.{types_small, few_types, whole_text}
-use Rattle.signature_codec.proofs.SpelledTables.{spelled_read}
+use Rattle.signature_text_laws.specs.Texts.{destinations_text, indices_text}
+use Rattle.signature_text_laws.proofs.TextLaws.{types_small, few_types, whole_text}
+use Rattle.signature_text_laws.proofs.SpelledTables.{spelled_read}
 use Rattle.signature_codec.proofs.spelling.spell.Goals as goal
 
 pub append_types-requires-clause-small : goal.append_types-requires-clause-small

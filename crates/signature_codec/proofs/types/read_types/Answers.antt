@@ -1,7 +1,7 @@
 use Rattle.std.proofs.Common.{arith}
 use Rattle.std.proofs.lemmas.Result.{err_from_is_err_and}
-use Rattle.signature_codec.specs.Parts.{types_shown}
-use Rattle.signature_codec.proofs.ReadLaws.{reads_on-more, reads_on-done, reads_on-unread, reads_on-wrong}
+use Rattle.signature_codec.specs.Shown.{types_shown}
+use Rattle.signature_text_laws.proofs.ReadLaws.{reads_on-more, reads_on-done, reads_on-unread, reads_on-wrong}
 use Rattle.signature_codec.proofs.types.read_types.Goals as goal
 
 pub returns-in_err-value-clause-reads : goal.returns-in_err-value-clause-reads

@@ -1,7 +1,8 @@
 use Rattle.std.proofs.Common.{◌≤◌, ◌+◌, ◌*◌, length}
 use Rattle.signature_definitions.specs.SignatureText as signatures
-use Rattle.signature_codec.specs.Parts.{types_shown, types_begun}
-use Rattle.signature_codec.proofs.ReadLaws.{ReadsOn}
+use Rattle.signature_codec.specs.Shown.{types_shown}
+use Rattle.signature_text_laws.specs.Parts.{types_begun}
+use Rattle.signature_text_laws.proofs.ReadLaws.{ReadsOn}
 use Rattle.signature_codec.proofs.types.read_types.Given as goal
 
 abbrev pub invariant-loop-types : goal.invariant-loop-types

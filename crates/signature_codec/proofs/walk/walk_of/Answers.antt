@@ -1,7 +1,8 @@
 use Rattle.std.proofs.Common.{◌≡◌, ◌*◌, ◌<◌, length, arith}
 use Rattle.std.proofs.lemmas.Result.{err_from_is_err_and}
-use Rattle.signature_codec.specs.Walks.{walk_shown}
-use Rattle.signature_codec.proofs.WalkLaws.{takes_on, stops_at, walk_begins, walk_ordered, walk_types, walk_gluings}
+use Rattle.signature_codec.specs.Shown.{walk_shown}
+use Rattle.signature_text_laws.proofs.WalkLaws.{takes_on, walk_begins, walk_ordered, walk_types, walk_gluings}
+use Rattle.signature_codec.proofs.Stops.{stops_at}
 use Rattle.signature_codec.proofs.walk.walk_of.Goals as goal
 
 pub loop-place-init : goal.loop-place-init

@@ -1,4 +1,5 @@
-use Rattle.signature_codec.specs.Walks.{IsWalk, walk_shown}
+use Rattle.signature_text_laws.specs.Walks.{IsWalk}
+use Rattle.signature_codec.specs.Shown.{walk_shown}
 use Rattle.signature_codec.proofs.walk.walk_of.Given as goal
 
 abbrev pub invariant-loop-place : goal.invariant-loop-place

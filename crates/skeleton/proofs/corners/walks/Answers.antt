@@ -1,6 +1,6 @@
 use Rattle.std.proofs.Common.{List, Option, ℕ, length, sym, subst}
-use Rattle.finite_walks.specs.Walks.{IsInjectiveBelow, step_of}
-use Rattle.skeleton.proofs.RoundLemmas.{table_injective}
+use Rattle.walk_laws.specs.Walks.{IsInjectiveBelow, step_of}
+use Rattle.class_laws.proofs.RoundLemmas.{table_injective}
 use Rattle.skeleton.proofs.corners.walks.Goals as goal
 
 pub walk_unless-requires-clause-injective : goal.walk_unless-requires-clause-injective

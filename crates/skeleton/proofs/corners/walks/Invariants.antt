@@ -1,4 +1,4 @@
-use Rattle.skeleton.specs.Rounds.{AreRounds}
+use Rattle.skeleton.specs.Parts.{AreRounds}
 use Rattle.skeleton.proofs.corners.walks.Given as goal
 
 abbrev pub invariant-loop-class : goal.invariant-loop-class

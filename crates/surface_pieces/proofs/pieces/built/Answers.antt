@@ -1,7 +1,7 @@
 -- The components by the classes of meeting pieces.
 use Rattle.std.proofs.Common.{ℕ, List, Option, length, ap, sym, subst, arith}
 use Rattle.vector_definitions.specs.Held.{all_entries}
-use Rattle.finite_walks.specs.Joined.{IsJoined, HasNeighboursBelow, IsSymmetric, neighbours_of}
+use Rattle.walk_laws.specs.Joined.{IsJoined, HasNeighboursBelow, IsSymmetric, neighbours_of}
 use Rattle.table_definitions.specs.Classes.{IsNumbering}
 use Rattle.surface_definitions.specs.Pieces.{SurfacePiece}
 use Rattle.vector_laws.proofs.Offsets.{piece_numbers}

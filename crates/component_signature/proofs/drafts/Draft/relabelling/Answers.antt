@@ -2,7 +2,7 @@
 use Rattle.std.proofs.Common.{ℕ, List, ◌∙◌, ap, subst}
 use Rattle.gluing_table.specs.Positions.{IsFirstBad}
 use Rattle.table_definitions.specs.Relabelling.{Relabelling}
-use Rattle.canonical_labelling.proofs.Matching.{none_bad}
+use Rattle.canonical_labelling.proofs.Positions.{none_bad}
 use Rattle.component_signature.proofs.drafts.Draft.relabelling.Goals as goal
 
 pub unreachable-requires : goal.unreachable-requires

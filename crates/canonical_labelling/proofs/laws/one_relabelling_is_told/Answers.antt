@@ -1,5 +1,0 @@
-use Rattle.canonical_labelling.proofs.Told.{one_least}
-use Rattle.canonical_labelling.proofs.laws.one_relabelling_is_told.Goals as goal
-
-pub returns : goal.returns
-returns c = λ first second by other table connected a b. one_least first second by other table connected a b

@@ -1,0 +1,9 @@
+pub mod Crossings
+pub mod Neighbours
+pub mod Signs
+pub mod Directions
+pub mod Numberings
+pub mod Rounds
+pub mod CornersIn
+pub mod Tallies
+pub mod Laws

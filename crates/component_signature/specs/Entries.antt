@@ -1,0 +1,10 @@
+-- The signatures of parts that are kept, as the definitions see them.
+use Rattle.std.specs.Prelude.{List, map}
+use Rattle.part_laws.specs.Ordered.{Entry}
+use Rattle.component_signature.specs.declared.order.Signed.{Signed}
+
+abbrev pub entry_of : Signed → Entry
+entry_of s = record { text = s.signature.items; number = s.part }
+
+abbrev pub entries_of : List Signed → List Entry
+entries_of signed = map entry_of signed

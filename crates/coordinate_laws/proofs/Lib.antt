@@ -1,0 +1,2 @@
+pub mod ClashPairs
+pub mod FirstFaults

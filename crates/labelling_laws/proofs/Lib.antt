@@ -1,0 +1,16 @@
+pub mod Group
+pub mod Standing
+pub mod Back
+pub mod Kept
+pub mod Seen
+pub mod Agreeing
+pub mod Told
+pub mod Least
+pub mod Matching
+pub mod Growing
+pub mod Labelled
+pub mod Marking
+pub mod NewGluings
+pub mod Reaching
+pub mod Seeing
+pub mod Sound

@@ -1,0 +1,29 @@
+//! Laws of walks from a start, relabellings and signatures. The statements stand in `labelling_definitions`; the functions
+//! here have no code: their contracts are the laws.
+#![tactic(auto)]
+
+ghost use Rattle.labelling_definitions.specs.Laws.{WalksAgree, RelabelsTables, RelabelsBack, RelabelsOn, RelabelsConnected, OneSignature, SignaturesTellTables, OneLeastRelabelling};
+
+/// A table has one walk from each start.
+pub fn walks_agree()
+    ensures { WalksAgree }
+{}
+
+/// Relabellings carry tables to tables, lead back, go on, and keep what is connected.
+pub fn relabellings_are_an_equivalence()
+    ensures tables { RelabelsTables }
+    ensures back { RelabelsBack }
+    ensures on { RelabelsOn }
+    ensures connected { RelabelsConnected }
+{}
+
+/// A table has one signature at most, and two tables have the same one exactly where they are relabellings of each other.
+pub fn signatures_tell_tables()
+    ensures one { OneSignature }
+    ensures tell { SignaturesTellTables }
+{}
+
+/// One relabelling is told of two tables.
+pub fn one_relabelling_is_told()
+    ensures { OneLeastRelabelling }
+{}

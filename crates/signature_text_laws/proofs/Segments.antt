@@ -1,0 +1,159 @@
+-- What is read of a text stands in it as it is spelled.
+use Rattle.std.proofs.Common.{◌≡◌, ℕ, zero, suc, ◌+◌, ◌*◌, ◌/◌, ◌%◌, ◌<◌, ◌≤◌, Bool, true, false, List, [], ◌∷◌, ◌++◌, length, drop, map, Option, Some, None, refl, sym, ap, ◌∙◌, subst, arith, append_assoc}
+use Rattle.std.specs.Prelude.{Result, Ok, nat_le, nat_lt, not, slice_get, slice_index, ◌||◌, ◌==◌, if◌then◌else◌, cond}
+use Rattle.std.specs.List.{position_or_len}
+use Rattle.std.proofs.lemmas.Bool.{eqb-true, eq-eqb, lt-ltb, or_parts, not-false}
+use Rattle.std.proofs.lemmas.List.{map-append, length-append}
+use Rattle.std.proofs.lemmas.List.Sums.{prefix_len_stops}
+use Rattle.plain_facts.proofs.Truths.{by_bool}
+use borrow.Author.Tests.{ltb-true, ltb-false}
+use Rattle.text_definitions.specs.Reading.{◌>>=◌}
+use Rattle.text_definitions.proofs.Readers.{bind_ok}
+use Rattle.signature_definitions.specs.declared.SigFault.{SigFault}
+use Rattle.signature_definitions.specs.declared.SigFault.TheVariants as sig_faults
+use Rattle.signature_definitions.specs.Spelling.{alphabet, character, value_of, in_values, head_values, width}
+use Rattle.signature_definitions.specs.SignatureText as signatures
+use Rattle.signature_definitions.specs.SignatureText.{Head, value_at, number_in, head_of}
+use Rattle.signature_text_laws.proofs.SlotLaws.{unless_ok, ok_same}
+use Rattle.signature_text_laws.proofs.TypeLaws.{value_at_below}
+
+-- the values stand in the text from a place on
+abbrev pub Holds : List ℕ → ℕ → List ℕ → Type 0
+Holds text at vs = drop at text ≡ map character vs ++ drop (at + length vs) text
+
+pub holds_nothing : (text : List ℕ) (at : ℕ) → Holds text at []
+holds_nothing text at = let e : at ≡ at + 0 = omega arith in ap (λ k. drop k text) e
+
+pub holds_more : (text : List ℕ) (at next : ℕ) (xs ys : List ℕ) → Holds text at xs → next ≡ at + length xs → Holds text next ys → Holds text at (xs ++ ys)
+holds_more text at next xs ys h e k =
+    let long = length-append xs ys in
+    let end : next + length ys ≡ at + length (xs ++ ys) = omega (arith, long, e) in
+    h ∙ ap (λ m. map character xs ++ drop m text) (sym e) ∙ ap (λ rest. map character xs ++ rest) k
+    ∙ sym (append_assoc (map character xs) (map character ys) (drop (next + length ys) text))
+    ∙ ap (λ zs. zs ++ drop (next + length ys) text) (sym (map-append character xs ys))
+    ∙ ap (λ m. map character (xs ++ ys) ++ drop m text) end
+
+-- one value
+drop_at : (text : List ℕ) (at b : ℕ) → slice_get text at ≡ Some b → drop at text ≡ b ∷ drop (at + 1) text
+drop_at [] at b e = absurd cc
+drop_at (x ∷ xs) zero b e = ap (λ c. c ∷ xs) (same x b e)
+  where
+    same : (x b : ℕ) → Some x ≡ Some b → x ≡ b
+    same x b e = cc
+drop_at (x ∷ xs) (suc at) b e = let one : suc at + 1 ≡ suc (at + 1) = omega arith in rw one (drop_at xs at b e)
+
+spelled_value : (b v : ℕ) → value_of b ≡ Some v → character v ≡ b
+spelled_value b v h = cases (nat_lt (position_or_len (λ c. c == b) alphabet) 64) refl h
+  where
+    cases : (t : Bool) → nat_lt (position_or_len (λ c. c == b) alphabet) 64 ≡ t → cond t (Some (position_or_len (λ c. c == b) alphabet)) None ≡ Some v → character v ≡ b
+    cases true e h =
+        let same : position_or_len (λ c. c == b) alphabet ≡ v = some_same _ v h in
+        let l = ltb-true (position_or_len (λ c. c == b) alphabet) 64 e in
+        let stops = prefix_len_stops (λ c. not (c == b)) alphabet 0 l in
+        let found = eqb-true (slice_index alphabet (position_or_len (λ c. c == b) alphabet)) b (not_not _ stops) in
+        subst (λ (k : ℕ). character k ≡ b) same found
+      where
+        some_same : (x y : ℕ) → Some x ≡ Some y → x ≡ y
+        some_same x y e = cc
+
+        not_not : (t : Bool) → not t ≡ false → t ≡ true
+        not_not true e = refl
+        not_not false e = cc
+    cases false e h = absurd cc
+
+pub holds_value : (text : List ℕ) (at v : ℕ) → value_at text at ≡ Ok v → Holds text at (v ∷ [])
+holds_value text at v h = cases (slice_get text at) refl h
+  where
+    valued : (b : ℕ) (o : Option ℕ) → value_of b ≡ o → slice_get text at ≡ Some b → signatures.value_or o (sig_faults.BadChar at) ≡ Ok v → Holds text at (v ∷ [])
+    valued b None e g k = absurd cc
+    valued b (Some w) e g k =
+        let same : w ≡ v = ok_same w v k in
+        let spelled : character v ≡ b = subst (λ (x : ℕ). character x ≡ b) same (spelled_value b w e) in
+        drop_at text at b g ∙ ap (λ c. c ∷ drop (at + 1) text) (sym spelled)
+
+    cases : (o : Option ℕ) → slice_get text at ≡ o → signatures.value_in o (length text) at ≡ Ok v → Holds text at (v ∷ [])
+    cases None g k = absurd cc
+    cases (Some b) g k = valued b (value_of b) refl g k
+
+-- a number
+pub length-in_values : (w v : ℕ) → length (in_values w v) ≡ w
+length-in_values zero v = refl
+length-in_values (suc w) v = ap suc (length-in_values w (v / 64))
+
+pub holds_number : (w : ℕ) (text : List ℕ) (at v : ℕ) → number_in text w at ≡ Ok v → Holds text at (in_values w v)
+holds_number zero text at v h = holds_nothing text at
+holds_number (suc w) text at v h =
+    let a = bind_ok (value_at text at) (λ low. number_in text w (at + 1) >>= (λ high. Ok (low + 64 * high))) v h in
+    let b = bind_ok (number_in text w (at + 1)) (λ high. Ok (a.0 + 64 * high)) v a.2 in
+    let same : a.0 + 64 * b.0 ≡ v = ok_same (a.0 + 64 * b.0) v b.2 in
+    let l = value_at_below text at a.0 a.1 in
+    let low : v % 64 ≡ a.0 = omega arith in
+    let high : v / 64 ≡ b.0 = omega arith in
+    let k = holds_more text at (at + 1) (a.0 ∷ []) (in_values w b.0) (holds_value text at a.0 a.1) refl (holds_number w text (at + 1) b.0 b.1) in
+    subst (λ (x : ℕ). Holds text at (x ∷ in_values w (v / 64))) (sym low) (subst (λ (y : ℕ). Holds text at (a.0 ∷ in_values w y)) (sym high) k)
+
+-- the head
+pub record HeadHolds (text : List ℕ) (h : Head) : Type 0 where
+  pub holds : Holds text 0 (head_values h.count)
+  pub next : h.next ≡ length (head_values h.count)
+  pub width : h.width ≡ width h.count
+  pub few : h.count ≤ 1000
+
+short_head : (text : List ℕ) (v : ℕ) → value_at text 0 ≡ Ok v → (v == 63) ≡ false → HeadHolds text (record { count = v; width = 1; next = 1 })
+short_head text v read apart =
+    let l = value_at_below text 0 v read in
+    let ne : v ≡ 63 → ⊥ = λ e. (let f = eq-eqb v 63 e in cc) in
+    let small : v < 63 = omega arith in
+    let head : head_values v ≡ v ∷ [] = rw (lt-ltb v 63 small) refl in
+    record {
+      holds = subst (λ (xs : List ℕ). Holds text 0 xs) (sym head) (holds_value text 0 v read);
+      next = sym (ap length head);
+      width = (let lt : v < 64 = omega arith in rw (lt-ltb v 64 lt) refl);
+      few = omega arith;
+    }
+
+wide_read : (text : List ℕ) (w : ℕ) (h : Head) → value_at text 0 ≡ Ok 63 → value_at text 1 ≡ Ok w → signatures.wide_head text w ≡ Ok h → HeadHolds text h
+wide_read text w h first second e =
+    let a = bind_ok (number_in text w 2) (λ n. signatures.unless (nat_lt 1000 n) sig_faults.TooMany (signatures.unless (nat_lt n 63 || not (w == width n)) (sig_faults.Width 1) (Ok (record { count = n; width = w; next = w + 2 })))) h e in
+    let n : ℕ = a.0 in
+    let made : Head = record { count = n; width = w; next = w + 2 } in
+    let b = unless_ok (nat_lt 1000 n) sig_faults.TooMany (signatures.unless (nat_lt n 63 || not (w == width n)) (sig_faults.Width 1) (Ok made)) h a.2 in
+    let c = unless_ok (nat_lt n 63 || not (w == width n)) (sig_faults.Width 1) (Ok made) h b.1 in
+    let parts = or_parts (nat_lt n 63) (not (w == width n)) c.0 in
+    let same : w ≡ width n = eqb-true w (width n) (not-false (w == width n) parts.1) in
+    let head : head_values n ≡ 63 ∷ w ∷ in_values w n = rw parts.0 (ap (λ k. 63 ∷ k ∷ in_values k n) (sym same)) in
+    let held : Holds text 0 (63 ∷ w ∷ in_values w n) =
+    holds_more text 0 1 (63 ∷ []) (w ∷ in_values w n) (holds_value text 0 63 first) refl
+    (holds_more text 1 2 (w ∷ []) (in_values w n) (holds_value text 1 w second) refl (holds_number w text 2 n a.1)) in
+    subst (HeadHolds text) (ok_same made h c.1) (record {
+      holds = subst (λ (xs : List ℕ). Holds text 0 xs) (sym head) held;
+      next = (let long = length-in_values w n in let f = ap length head in omega (arith, long, f));
+      width = same;
+      few = ltb-false 1000 n b.0;
+    })
+
+pub head_holds : (text : List ℕ) (h : Head) → head_of text ≡ Ok h → HeadHolds text h
+unfolding head_of
+head_holds text h e =
+    let a = bind_ok (value_at text 0) (λ v. if v == 63 then signatures.long_head text else Ok (record { count = v; width = 1; next = 1 })) h e in
+    by_bool (a.0 == 63)
+    (λ long.
+    let same : a.0 ≡ 63 = eqb-true a.0 63 long in
+    let first : value_at text 0 ≡ Ok 63 = a.1 ∙ ap (λ v. Ok v) same in
+    let k = if_first (a.0 == 63) (signatures.long_head text) (Ok (record { count = a.0; width = 1; next = 1 })) h long a.2 in
+    let b = bind_ok (value_at text 1) (λ w. signatures.unless (w == 0) (sig_faults.Width 1) (signatures.unless (nat_le 3 w) sig_faults.TooMany (signatures.wide_head text w))) h k in
+    let c = unless_ok (b.0 == 0) (sig_faults.Width 1) (signatures.unless (nat_le 3 b.0) sig_faults.TooMany (signatures.wide_head text b.0)) h b.2 in
+    let d = unless_ok (nat_le 3 b.0) sig_faults.TooMany (signatures.wide_head text b.0) h c.1 in
+    wide_read text b.0 h first b.1 d.1)
+    (λ short.
+    let made : Head = record { count = a.0; width = 1; next = 1 } in
+    let k = if_second (a.0 == 63) (signatures.long_head text) (Ok made) h short a.2 in
+    subst (HeadHolds text) (ok_same made h k) (short_head text a.0 a.1 short))
+  where
+    if_first : {A : Type 0} (b : Bool) (r q : Result A SigFault) (t : A) → b ≡ true → (if b then r else q) ≡ Ok t → r ≡ Ok t
+    if_first true r q t e h = h
+    if_first false r q t e h = absurd cc
+
+    if_second : {A : Type 0} (b : Bool) (r q : Result A SigFault) (t : A) → b ≡ false → (if b then r else q) ≡ Ok t → q ≡ Ok t
+    if_second true r q t e h = absurd cc
+    if_second false r q t e h = h

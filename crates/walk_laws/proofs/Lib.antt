@@ -1,0 +1,11 @@
+pub mod Places
+pub mod Repeats
+pub mod Steps
+pub mod OrbitLemmas
+pub mod ChainLemmas
+pub mod Joins
+pub mod SearchLemmas
+pub mod Members
+pub mod ClassLemmas
+pub mod Rows
+pub mod Numberings
