@@ -28,7 +28,7 @@ longer y ys zs e =
     let parts : length (ys ++ zs) ≡ length ys + length zs = length-append ys zs in
     absurd (omega (arith, same, parts))
 
-cancelled : {A : Type 0} (xs ys zs : List A) → xs ++ zs ≡ ys ++ zs → xs ≡ ys
+pub cancelled : {A : Type 0} (xs ys zs : List A) → xs ++ zs ≡ ys ++ zs → xs ≡ ys
 cancelled [] [] zs e = refl
 cancelled [] (y ∷ ys) zs e = absurd (longer y ys zs e)
 cancelled (x ∷ xs) [] zs e = absurd (longer x xs zs (sym e))
@@ -41,11 +41,11 @@ left_split : (c : Reading) → left_signs c ≡ rest_here c ++ signs_of c.input_
 left_split c = line_split c.current.number c.current.tokens c.current.end (signs_of c.input_end c.later)
 
 -- the signs of lines, before those of what is left behind them
-lines_front : List Line → List Placed
+unfoldable pub lines_front : List Line → List Placed
 lines_front [] = []
 lines_front (l ∷ ls) = rest_of_line l.number l.tokens l.end ++ lines_front ls
 
-lines_split : (p : Place) (ts ls : List Line) → signs_of p (ts ++ ls) ≡ lines_front ts ++ signs_of p ls
+pub lines_split : (p : Place) (ts ls : List Line) → signs_of p (ts ++ ls) ≡ lines_front ts ++ signs_of p ls
 unfolding lines_front signs_of
 lines_split p [] ls = refl
 lines_split p (t ∷ ts) ls =

@@ -1,0 +1,4 @@
+pub mod Completed
+pub mod Shown
+pub mod SoundSigns
+pub mod SoundFaults

@@ -1,0 +1,90 @@
+-- What is sound so far is gone on with to a table.
+use Rattle.std.proofs.Common.{◌≡◌, ℕ, ◌≤◌, List, [], ◌∷◌, ◌++◌, Some, inl, inr, refl, sym, ap, ◌∙◌, arith}
+use Rattle.std.specs.Prelude.{codes}
+use Rattle.std.proofs.lemmas.List.{append_assoc, append-nil}
+use Rattle.text_definitions.specs.declared.Place.{Place}
+use Rattle.text_definitions.specs.Text.{Line}
+use Rattle.table_definitions.specs.Permutation.{index}
+use Rattle.table_definitions.specs.Table.{Row, max_tets}
+use Rattle.table_definitions.specs.Grammar.{IsNumber}
+use Rattle.table_definitions.proofs.Tables.{sphere}
+use Rattle.table_definitions.proofs.RelationExamples.{sphere_table}
+use Rattle.signature_definitions.specs.Spelling.{Spells, spelling_values}
+use Rattle.document_definitions.specs.Signs.{Sign, shown, line_end, signs_of, plain}
+use Rattle.document_laws.specs.FaultLaws.{SomeTable}
+use Rattle.document_laws.proofs.Local.{plain-append}
+use Rattle.document_laws.proofs.BehindTables.{lines_front, lines_split}
+use Rattle.partial_table_laws.specs.Partial.{IsPartialTable}
+use Rattle.partial_table_laws.specs.Sound.{ShowRows, IsSound, nothing, tri_word, tri_number, tri_rows, sig_word, sig_text, sig_line}
+use Rattle.partial_table_laws.specs.Laws.{SoundSignsGoOn}
+use Rattle.partial_table_laws.proofs.Completed.{completed, completes}
+use Rattle.partial_table_laws.proofs.Shown.{line_with, are_words, line_shown, ShowsFirst, rows_first, begins, written_table}
+
+-- lines of a table that show these signs, whatever stands behind them
+abbrev pub GoesOn : List Sign → Type 0
+GoesOn ss = (lines : List Line) × (more : List Sign) × (plain (lines_front lines) ≡ ss ++ more) × SomeTable lines
+
+-- rows behind a line `tri N`
+with_rows : (w : List ℕ) (n : ℕ) (rows : List Row) (ss : List Sign) → IsNumber max_tets w n → IsPartialTable n rows → ShowRows rows ss → GoesOn (shown (codes "tri") ∷ shown w ∷ line_end ∷ ss)
+with_rows w n rows ss number p shows =
+    let c = completes rows n p in
+    let s : ShowsFirst (completed rows n) ss = rows_first rows (completed rows n) ss (begins n rows p) (written_table n rows p) shows in
+    let head : Line = line_with (codes "tri" ∷ w ∷ []) in (
+      head ∷ s.lines,
+      s.more,
+      line_shown (codes "tri" ∷ w ∷ []) s.lines ∙ ap (λ (xs : List Sign). shown (codes "tri") ∷ shown w ∷ line_end ∷ xs) s.there,
+      (completed rows n, inl (w, are_words (codes "tri" ∷ w ∷ []), number.value ∙ ap (λ (m : ℕ). Some m) (sym c.count), s.forms, c.is_table)),
+    )
+
+-- no entry is given yet
+none_given : (n : ℕ) → n ≤ max_tets → IsPartialTable n []
+none_given n few = record {
+  few = few;
+  many = omega arith;
+  four_faces = λ k d l. absurd (omega (arith, l));
+  permutes = λ x g e. absurd cc;
+  in_range = λ x g e. absurd cc;
+  apart = λ x g e. absurd cc;
+  leads_back = λ x g e h. absurd cc;
+  one_each = λ x z g h e f same. absurd cc;
+}
+
+naught : IsNumber max_tets (codes "0") 0
+naught = record { value = refl; up_to = omega arith }
+
+-- the standard sphere is spelled
+sphere_spelled : Spells (codes "bkaagj") sphere
+sphere_spelled = record { table = sphere_table; ordered = refl; spelled = unfold spelling_values index in refl }
+
+-- a line `sig TEXT`
+with_text : (text : List ℕ) (rows : List Row) → Spells text rows → GoesOn (shown (codes "sig") ∷ shown text ∷ line_end ∷ [])
+with_text text rows h = (
+  line_with (codes "sig" ∷ text ∷ []) ∷ [],
+  plain (lines_front []),
+  line_shown (codes "sig" ∷ text ∷ []) [],
+  (rows, inr (text, are_words (codes "sig" ∷ text ∷ []), h)),
+)
+
+-- fewer signs
+shorter : (xs ys : List Sign) → GoesOn (xs ++ ys) → GoesOn xs
+shorter xs ys (lines, more, there, table) = (lines, ys ++ more, there ∙ append_assoc xs ys more, table)
+
+pub sound_goes_on : (ss : List Sign) → IsSound ss → GoesOn ss
+sound_goes_on ss nothing = shorter [] (shown (codes "tri") ∷ shown (codes "0") ∷ line_end ∷ []) (with_rows (codes "0") 0 [] [] naught (none_given 0 (omega arith)) refl)
+sound_goes_on ss tri_word = shorter (shown (codes "tri") ∷ []) (shown (codes "0") ∷ line_end ∷ []) (with_rows (codes "0") 0 [] [] naught (none_given 0 (omega arith)) refl)
+sound_goes_on ss (tri_number w n number) = shorter (shown (codes "tri") ∷ shown w ∷ []) (line_end ∷ []) (with_rows w n [] [] number (none_given n number.up_to) refl)
+sound_goes_on ss (tri_rows w n rows more number p shows) = with_rows w n rows more number p shows
+sound_goes_on ss sig_word = shorter (shown (codes "sig") ∷ []) (shown (codes "bkaagj") ∷ line_end ∷ []) (with_text (codes "bkaagj") sphere sphere_spelled)
+sound_goes_on ss (sig_text text rows h) = shorter (shown (codes "sig") ∷ shown text ∷ []) (line_end ∷ []) (with_text text rows h)
+sound_goes_on ss (sig_line text rows h) = with_text text rows h
+
+-- the signs of lines with others behind them
+pub front_shown : (end : Place) (ss : List Sign) (lines rest : List Line) (more : List Sign) → plain (lines_front lines) ≡ ss ++ more → plain (signs_of end (lines ++ rest)) ≡ ss ++ (more ++ plain (signs_of end rest))
+front_shown end ss lines rest more e =
+    ap plain (lines_split end lines rest) ∙ plain-append (lines_front lines) (signs_of end rest) ∙ ap (λ (xs : List Sign). xs ++ plain (signs_of end rest)) e
+    ∙ append_assoc ss more (plain (signs_of end rest))
+
+pub sound_signs_go_on : SoundSignsGoOn
+sound_signs_go_on end ss sound =
+    let g : GoesOn ss = sound_goes_on ss sound in
+    (g.0, g.1 ++ plain (signs_of end []), ap (λ (ls : List Line). plain (signs_of end ls)) (sym (append-nil g.0)) ∙ front_shown end ss g.0 [] g.1 g.2, g.3)
