@@ -1,11 +1,13 @@
 -- What is told of a cover is the orientation cover.
-use Rattle.std.proofs.Common.{◌≡◌, ◌⊎◌, ◌*◌, ◌<◌, ◌≤◌, ℕ, Bool, true, false, List, length, None, Some, MatchOption, if◌then◌else◌, inl, inr, refl, sym, ◌∙◌, ap, ap₂, arith}
-use Rattle.std.specs.Prelude.{nat_lt}
+use Rattle.std.proofs.Common.{◌≡◌, ◌↔◌, ◌⊎◌, ◌*◌, ◌<◌, ◌≤◌, ℕ, Bool, true, false, List, length, Option, None, Some, MatchOption, option_map, if◌then◌else◌, inl, inr, refl, sym, ◌∙◌, ap, ap₂, subst, arith}
+use Rattle.std.specs.Prelude.{nat_lt, IsTrue}
 use Rattle.std.proofs.lemmas.Bool.{ltb-true, ltb-false}
-use Rattle.table_definitions.specs.Table.{max_tets, Row, IsTable}
+use Rattle.table_definitions.specs.Table.{max_tets, Row, Face, IsTable, glue}
+use Rattle.table_definitions.specs.Places.{is_closed}
 use Rattle.cover_definitions.specs.declared.CoverFault.TheVariants.{TooMany}
-use Rattle.cover_definitions.specs.Cover.{over, sheet, above, cover, sheet_signs}
-use Rattle.cover_laws.proofs.Sheets.{cases_sheet, sheet_small, above_over, over_above, glue-cover, length-cover}
+use Rattle.cover_definitions.specs.Cover.{over, sheet, above, lifted, cover, face_below, sheet_signs}
+use Rattle.kept_laws.proofs.Closed.{AreGluedAll, all_glued, is_closed-from}
+use Rattle.cover_laws.proofs.Sheets.{cases_sheet, sheet_small, above_over, over_above, over_below, above_below, glue-cover, length-cover}
 use Rattle.cover_laws.proofs.Covered.{cover_is_table, cover_signs}
 use Rattle.cover_laws.proofs.Moved.{exchange_carries}
 use Rattle.cover_laws.proofs.Connected.{connected_exactly}
@@ -32,6 +34,34 @@ two_lie_over n t u lt lu = (by_sheet, lies)
     lies (inl e) = ap (over n) e ∙ over_above n t 0 lt (omega arith)
     lies (inr e) = ap (over n) e ∙ over_above n t 1 lt (omega arith)
 
+-- ---- each face is glued exactly where the face below it is
+
+glued_below : {A B : Type 0} (f : A → B) (o : Option A) (h : B) → option_map f o ≡ Some h → (g : A) × (o ≡ Some g)
+glued_below f None h e = absurd cc
+glued_below f (Some g) h e = (g, refl)
+
+closed_above : (rows : List Row) → AreGluedAll rows → AreGluedAll (cover rows)
+closed_above rows all x lt lf =
+    let low : x.tet < 2 * length rows = subst (λ k. x.tet < k) (length-cover rows) lt in
+    let g = all (face_below (length rows) x) (over_below (length rows) x.tet low) lf in
+    (lifted (length rows) (sheet (length rows) x.tet) g.0, glue-cover rows x low ∙ ap (option_map (lifted (length rows) (sheet (length rows) x.tet))) g.1)
+
+closed_below : (rows : List Row) → AreGluedAll (cover rows) → AreGluedAll rows
+closed_below rows all x lt lf =
+    let up : Face = record { tet = above (length rows) x.tet 0; face = x.face } in
+    let low : above (length rows) x.tet 0 < 2 * length rows = above_below (length rows) x.tet 0 lt (omega arith) in
+    let g = all up (subst (λ k. above (length rows) x.tet 0 < k) (sym (length-cover rows)) low) lf in
+    let below = glued_below (lifted (length rows) (sheet (length rows) up.tet)) (glue rows (face_below (length rows) up)) g.0 (sym (glue-cover rows up low) ∙ g.1) in
+    (below.0, ap (λ t. glue rows (record { tet = t; face = x.face })) (sym (over_above (length rows) x.tet 0 lt (omega arith))) ∙ below.1)
+
+closed_exactly : (rows : List Row) → IsTrue (is_closed (cover rows)) ↔ IsTrue (is_closed rows)
+closed_exactly rows = (
+  (λ e. is_closed-from rows (closed_below rows (all_glued (cover rows) e))),
+  (λ e. is_closed-from (cover rows) (closed_above rows (all_glued rows e))),
+)
+
+-- ---- the outcome
+
 module _ (rows : List Row) (table : IsTable rows) (o : Outcome) where
   orientation_cover : 2 * length rows ≤ max_tets → IsOrientationCover rows (cover rows)
   orientation_cover small = record {
@@ -40,6 +70,7 @@ module _ (rows : List Row) (table : IsTable rows) (o : Outcome) where
     two_over = two_lie_over (length rows);
     lies_over = glue-cover rows;
     orientable = (sheet_signs (length rows), cover_signs rows table);
+    closed = closed_exactly rows;
     exchanged = exchange_carries rows table;
   }
 

@@ -1,11 +1,12 @@
 -- Sums that are told are sums of vertex surfaces, and sums are accepted exactly where they are true.
-use Rattle.std.proofs.Common.{◌≡◌, ◌↔◌, ℕ, List, [], ◌∷◌, length, map, None, Result, Ok, Err, inl, inr, refl, sym, ◌∙◌, ap}
+use Rattle.std.proofs.Common.{◌≡◌, ◌↔◌, ◌≤◌, ℕ, List, [], ◌∷◌, length, map, None, Result, Ok, Err, inl, inr, refl, sym, ◌∙◌, ap, arith}
 use Rattle.std.specs.List.{All, AllZip, AllByRecursion, slice_index_or}
 use Rattle.std.proofs.lemmas.List.Elements.{All-from_recursion, recursion_from_All}
 use Rattle.text_definitions.specs.Written.{limit}
 use Rattle.cone_definitions.specs.Rows.{Row as EquationRow}
 use Rattle.cone_definitions.specs.Surfaces.{IsSurfaceList}
 use Rattle.cone_definitions.specs.declared.Order.TheVariants.{Given}
+use Rattle.cone_text_definitions.specs.VectorText.{vector_at}
 use Rattle.table_definitions.specs.Table.{Row}
 use Rattle.surface_definitions.specs.Coordinates.{columns, clash_list}
 use Rattle.surface_definitions.specs.declared.Coords.{Coords}
@@ -29,6 +30,11 @@ use Rattle.outcome_definitions.specs.declared.Status.TheVariants as statuses
 use Rattle.outcome_definitions.specs.Outcomes.{Outcome}
 use Rattle.outcome_definitions.specs.Sums.{AreTold, unfit_status, sum_refusal_status, IsVerdict, IsSummed, IsDecomposed, IsDecomposeAnswer, AreFit, IsAddedUp, accepted_outcome, addup_outcome, sums_outcome, IsAddupAnswer}
 use Rattle.outcome_laws.proofs.Summed.{one_addup}
+use Rattle.outcome_laws.proofs.Certified.{table_with_lines}
+use Rattle.equation_bounds_laws.specs.Bounds.{number_bound}
+use Rattle.equation_bounds_laws.proofs.Bounds.{not_past}
+use Rattle.equation_bounds_laws.proofs.Few.{own}
+use Rattle.equation_bounds_laws.proofs.Powers.{most as few_within}
 use Rattle.answer_laws.specs.Sums.{IsSumOfSurfaces, AreSumsOfVertexSurfaces, AreDecomposed, IsDecomposition, IsTrueSum, IsAddition, VectorsAreDecomposed, TrueSumsAreAccepted}
 use Rattle.answer_laws.proofs.Asked.{means_by}
 
@@ -95,9 +101,20 @@ module _ (coords : Coords) (rows : List Row) (equations : List EquationRow) wher
   all_accepted [] h = tt
   all_accepted (b ∷ blocks) h = ((h.0.fit, (faultless b h.0.fit).1 h.0.adds_up), all_accepted blocks h.1)
 
+decomposition : (coords : Coords) (most : ℕ) (bytes : List ℕ) (d : List Row × List (List ℕ)) (o : Outcome) → vectors_document bytes ≡ Ok d → IsDecomposeAnswer coords most d o → IsDecomposition coords most d o
+decomposition coords most bytes d o read a = record {
+  equations = a.equations;
+  of_table = a.of_table;
+  decomposed = decomposed coords d.0 a.equations most d.1 o a.checked a.verdicts a.told;
+  never_past = λ few default past.
+      let bound : number_bound coords (length d.0) ≤ limit = (few_within coords (length d.0)).1 few in
+      let room : number_bound coords (length d.0) ≤ most = omega arith in
+      let own_order = own coords Given most d.0 a.equations (table_with_lines vector_at bytes d read) a.of_table in
+      not_past coords d.0 (table_enumeration coords Given most d.0 a.equations) own_order room past.0 past.1 past.2;
+}
+
 pub vectors_decomposed : VectorsAreDecomposed
-vectors_decomposed coords most = means_by (Decompose coords most) vectors_document (IsDecomposeAnswer coords most) (IsDecomposition coords most) (λ bytes o a. a)
-    (λ bytes d o read a. record { equations = a.equations; of_table = a.of_table; decomposed = decomposed coords d.0 a.equations most d.1 o a.checked a.verdicts a.told })
+vectors_decomposed coords most = means_by (Decompose coords most) vectors_document (IsDecomposeAnswer coords most) (IsDecomposition coords most) (λ bytes o a. a) (decomposition coords most)
 
 -- what is refused has another status than what is accepted
 unfit_apart : {P : Type 0} (fault : VectorFault) → unfit_status fault ≡ statuses.Done → P

@@ -1,5 +1,5 @@
 -- What `decompose` and `addup` answer: vectors as sums of vertex surfaces, and whether terms add up.
-use Rattle.std.specs.Prelude.{◌≡◌, ◌↔◌, ◌⊎◌, ℕ, List, ◌++◌, length}
+use Rattle.std.specs.Prelude.{◌≡◌, ◌↔◌, ◌⊎◌, ◌≤◌, ℕ, List, ◌++◌, length}
 use Rattle.std.specs.List.{All, AllZip}
 use Rattle.text_definitions.specs.Written.{limit}
 use Rattle.cone_definitions.specs.Rows.{Row as EquationRow}
@@ -23,6 +23,7 @@ use Rattle.outcome_definitions.specs.declared.Status.TheVariants.{Done}
 use Rattle.outcome_definitions.specs.Outcomes.{Outcome}
 use Rattle.outcome_definitions.specs.Canonical.{done}
 use Rattle.outcome_definitions.specs.Sums.{IsFirstRefused, sum_refusal_outcome, IsVerdict, IsSummed, IsPastTold, AreFit, accepted_outcome}
+use Rattle.equation_bounds_laws.specs.Few.{most_tetrahedra}
 use Rattle.answer_laws.specs.Asked.{Means}
 
 -- the vector, taken so many times, is the sum of the terms: listed surfaces, ascending, each taken at least once
@@ -63,11 +64,12 @@ AreDecomposed coords most rows equations vectors o =
     (All (IsFit coords rows equations) vectors × (AreSumsOfVertexSurfaces coords most rows equations vectors o ⊎ IsPastTold (table_enumeration coords Given most rows equations) o))
     ⊎ IsFirstUnfitTold coords rows equations vectors o
 
--- under the equations of the table
+-- under the equations of the table; with few tetrahedra no number of the enumeration passes a limit that is at least the default
 pub record IsDecomposition (coords : Coords) (most : ℕ) (d : List Row × List (List ℕ)) (o : Outcome) : Type 0 where
   pub equations : List EquationRow
   pub of_table : AreEquations coords d.0 equations
   pub decomposed : AreDecomposed coords most d.0 equations d.1 o
+  pub never_past : length d.0 ≤ most_tetrahedra coords → limit ≤ most → ¬ IsPastTold (table_enumeration coords Given most d.0 equations) o
 
 -- the vector and the terms are admissible solutions, and the vector, taken so many times, is the sum of the terms
 pub record IsTrueSum (coords : Coords) (rows : List Row) (equations : List EquationRow) (block : Block) : Type 0 where
