@@ -12,3 +12,6 @@ mod vectors;
 
 pub use pieces::Pieces;
 pub use vector_definitions::PiecesFault;
+
+#[cfg(test)]
+mod tests;
