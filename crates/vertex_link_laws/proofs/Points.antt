@@ -1,26 +1,30 @@
--- The points of a vertex link are its vertices: the two directions of each edge are two classes, where no edge is invalid.
+-- The points of a vertex link are its vertices, and one more for each invalid edge: its two directions are one class.
 use Rattle.std.proofs.Common.{◌≡◌, ◌≢◌, ℕ, ◌+◌, ◌*◌, ◌/◌, ◌%◌, ◌<◌, Bool, true, false, List, [], ◌∷◌, length, ◌⊎◌, inl, inr, refl, sym, ap, ◌∙◌, subst, subst₂, arith}
-use Rattle.std.specs.Prelude.{◌==◌, ◌&&◌, not, sum_by, slice_index}
-use Rattle.std.proofs.lemmas.Bool.{cases_eq, eqb-true, eq-eqb, eqb-false, ne_eqb, not-true}
+use Rattle.std.specs.Prelude.{◌==◌, ◌&&◌, ◌↔◌, not, filter, sum_by, slice_index}
+use Rattle.std.proofs.lemmas.List.Kept.{AllPairs-filter}
+use Rattle.std.proofs.lemmas.List.Sums.{length-filter}
+use Rattle.std.proofs.lemmas.Bool.{and_parts, and_from, cases_eq, eqb-true, eq-eqb, eqb-false, ne_eqb, not-true}
 use Rattle.table_definitions.specs.Classes.{IsNumbering, least, is_least}
 use Rattle.table_definitions.specs.Lists.{below, same_list}
-use Rattle.table_definitions.specs.Places.{Place, edge, ends, turned, IsJoined, SameEdge}
+use Rattle.table_definitions.specs.Places.{Place, edge, ends, turned, IsJoined, IsInvalidEdge, SameEdge}
 use Rattle.table_definitions.proofs.ChainLaws.{joined_sym}
 use Rattle.table_definitions.proofs.ListFacts.{same_list-true, list_all-below}
-use Rattle.table_definitions.proofs.Listed.{below-among}
+use Rattle.table_definitions.proofs.Listed.{below-among, Among-filter, filter-among, among_contains, contains_among}
+use Rattle.table_definitions.proofs.TableLaws.{Among-below}
 use Rattle.skeleton_definitions.specs.Links.{directed, SameDirected, vertex_number, link_vertices}
 use Rattle.skeleton_definitions.specs.Skeleton.{Skeleton, IsSkeleton}
 use Rattle.surface_definitions.specs.Characteristic.{points, weight}
 use Rattle.surface_definitions.specs.declared.Coords.{Coords}
 use Rattle.vector_laws.specs.MatchingLaws.{HasTriangles}
+use Rattle.vector_laws.proofs.Sums.{sum_by_plus}
 use Rattle.vector_laws.proofs.Counting.{sum_by_same, sum_swap, one_term}
 use Rattle.quad_laws.specs.LinkLaws.{link_of}
 use Rattle.quad_laws.proofs.InnerEdges.{two, start_below, start_class}
 use Rattle.quad_laws.proofs.VertexLinks.{member}
 use Rattle.quad_lift_laws.proofs.Ends.{direction_number, directed_is, place_is, IsAtClass, joined_class, two_at_class}
-use Rattle.vertex_link_laws.specs.Laws.{HasValidEdges}
+use Rattle.vertex_link_laws.specs.Laws.{AreInvalidEdgesAt}
 use Rattle.vertex_link_laws.proofs.Directions.{tail, head, edge_of, edge_of_below, same_either_way, either_way, IsLeastOf, least_of}
-use Rattle.vertex_link_laws.proofs.Sums.{bit, two_terms}
+use Rattle.vertex_link_laws.proofs.Sums.{bit, one_bounded, two_terms, ascending_below}
 use Rattle.vertex_link_laws.proofs.Weights.{low, high, ends_below, weight-link}
 
 ends_apart : (e : ℕ) → e < 6 → low e ≢ high e
@@ -38,7 +42,7 @@ none_of b m e = ap (λ x. bit x * m) e ∙ omega arith
 one_of : (b : Bool) (m : ℕ) → b ≡ true → bit b * m ≡ m
 one_of b m e = ap (λ x. bit x * m) e ∙ omega arith
 
-module _ (s : Skeleton) (k : IsSkeleton s) (c : ℕ) (valid : HasValidEdges s) (directions : List ℕ) (count : ℕ) (numbered : IsNumbering (12 * length s.rows) (SameDirected s.rows) directions count) where
+module _ (s : Skeleton) (k : IsSkeleton s) (c : ℕ) (directions : List ℕ) (count : ℕ) (numbered : IsNumbering (12 * length s.rows) (SameDirected s.rows) directions count) where
   abbrev n : ℕ
   n = length s.rows
 
@@ -94,6 +98,19 @@ module _ (s : Skeleton) (k : IsSkeleton s) (c : ℕ) (valid : HasValidEdges s) (
   abbrev edge_class : ℕ → ℕ
   edge_class i = slice_index s.edges.classes (edge_of i)
 
+  -- the first end of an edge class, at its least member
+  abbrev first_vertex : ℕ → ℕ
+  first_vertex e = vertex_number (least s.edges.classes e / 6) (low (least s.edges.classes e % 6))
+
+  -- whether both directions of an edge class are one class, and so at vertex class c
+  is_reversed : ℕ → Bool
+  is_reversed e =
+      slice_index directions (direction_number (least s.edges.classes e / 6) (low (least s.edges.classes e % 6)) (high (least s.edges.classes e % 6)))
+      == slice_index directions (direction_number (least s.edges.classes e / 6) (high (least s.edges.classes e % 6)) (low (least s.edges.classes e % 6)))
+
+  is_extra : ℕ → Bool
+  is_extra e = is_reversed e && (class_of (first_vertex e) == c)
+
   module _ (e : ℕ) (le : e < s.edges.count) where
     abbrev j : ℕ
     j = least s.edges.classes e
@@ -144,14 +161,6 @@ module _ (s : Skeleton) (k : IsSkeleton s) (c : ℕ) (valid : HasValidEdges s) (
     other_below : other < 12 * n
     other_below = (first t b a lt lb la back).below
 
-    are_two : one ≢ other
-    are_two q =
-        let d : ℕ = direction_number t a b in
-        let d' : ℕ = direction_number t b a in
-        let same : slice_index directions d ≡ slice_index directions d' = sym (first t a b lt la lb ne).same_class ∙ ap (slice_index directions) q ∙ (first t b a lt lb la back).same_class in
-        let joined : SameDirected s.rows d d' = (numbered.together d d' (number_below t a b lt la lb ne) (number_below t b a lt lb la back)).0 same in
-        valid e le (subst₂ (IsJoined s.rows) (directed_is t a b la lb ne ∙ sym (edge_is j)) (directed_is t b a lb la back ∙ sym (ap turned (edge_is j))) joined)
-
     -- a directed edge counts for the class where it is one of its edge
     term : ℕ → ℕ
     term i = bit (edge_class i == e) * is_vertex i
@@ -194,8 +203,56 @@ module _ (s : Skeleton) (k : IsSkeleton s) (c : ℕ) (valid : HasValidEdges s) (
         by_class (inl q) = nothing (bit (edge_class i == e)) (is_vertex i) (by_least q (is_least directions i) refl)
         by_class (inr ne) = none_of (edge_class i == e) (is_vertex i) (ne_eqb (edge_class i) e ne)
 
-    counted_twice : sum_by term (below (12 * n)) ≡ at_vertex t a + at_vertex t b
-    counted_twice = two_terms term one other (12 * n) one_below other_below are_two nowhere_else ∙ (λ i. at_one i + at_other i)
+    -- as numbers of directed edges
+    abbrev there : ℕ
+    there = direction_number t a b
+
+    abbrev back_there : ℕ
+    back_there = direction_number t b a
+
+    invalid_edge : (is_reversed e ≡ true) ↔ IsInvalidEdge s.rows (least s.edges.classes e)
+    unfolding is_reversed
+    invalid_edge =
+        let together = numbered.together there back_there (number_below t a b lt la lb ne) (number_below t b a lt lb la back) in
+        let to : directed there ≡ edge j = directed_is t a b la lb ne ∙ sym (edge_is j) in
+        let from : directed back_there ≡ turned (edge j) = directed_is t b a lb la back ∙ sym (ap turned (edge_is j)) in (
+          (λ h. subst₂ (IsJoined s.rows) to from (together.0 (eqb-true (slice_index directions there) (slice_index directions back_there) h))),
+          (λ i. eq-eqb (slice_index directions there) (slice_index directions back_there) (together.1 (subst₂ (IsJoined s.rows) (sym to) (sym from) i))),
+        )
+
+    -- both directions are one class, or two
+    one_for_both : is_reversed e ≡ true → one ≡ other
+    unfolding is_reversed
+    one_for_both h = ap (least directions) (eqb-true (slice_index directions there) (slice_index directions back_there) h)
+
+    are_two : is_reversed e ≡ false → one ≢ other
+    unfolding is_reversed
+    are_two h q =
+        let same : slice_index directions there ≡ slice_index directions back_there = sym (first t a b lt la lb ne).same_class ∙ ap (slice_index directions) q ∙ (first t b a lt lb la back).same_class in
+        let both : false ≡ true = sym h ∙ eq-eqb (slice_index directions there) (slice_index directions back_there) same in
+        cc
+
+    counted : at_vertex t a + at_vertex t b ≡ sum_by term (below (12 * n)) + bit (is_extra e)
+    unfolding is_extra
+    counted = by_test (is_reversed e) refl
+      where
+        nothing_more : (x y z w : ℕ) → z ≡ x + y → w ≡ 0 → x + y ≡ z + w
+        nothing_more x y z w f g = omega arith
+
+        once_more : (x y z w : ℕ) → z ≡ x → y ≡ x → w ≡ x → x + y ≡ z + w
+        once_more x y z w f g h = omega arith
+
+        by_test : (q : Bool) → is_reversed e ≡ q → at_vertex t a + at_vertex t b ≡ sum_by term (below (12 * n)) + bit (is_reversed e && (class_of (first_vertex e) == c))
+        by_test false h =
+            nothing_more (at_vertex t a) (at_vertex t b) (sum_by term (below (12 * n))) (bit (is_reversed e && (class_of (first_vertex e) == c)))
+            (two_terms term one other (12 * n) one_below other_below (are_two h) nowhere_else ∙ (λ i. at_one i + at_other i))
+            (ap (λ x. bit (x && (class_of (first_vertex e) == c))) h)
+        by_test true h =
+            let same : one ≡ other = one_for_both h in
+            once_more (at_vertex t a) (at_vertex t b) (sum_by term (below (12 * n))) (bit (is_reversed e && (class_of (first_vertex e) == c)))
+            (one_bounded term one (12 * n) one_below (λ i l off. nowhere_else i l off (λ q. off (q ∙ sym same))) ∙ at_one)
+            (sym at_other ∙ ap term (sym same) ∙ at_one)
+            (ap (λ x. bit (x && (class_of (first_vertex e) == c))) h)
 
   -- each directed edge counts for the class of its edge
   counts_once : (i : ℕ) → i < 12 * n → is_vertex i ≡ sum_by (λ e. bit (edge_class i == e) * is_vertex i) (below s.edges.count)
@@ -211,10 +268,29 @@ module _ (s : Skeleton) (k : IsSkeleton s) (c : ℕ) (valid : HasValidEdges s) (
       ∙ sum_by_same is_vertex (λ i. sum_by (λ e. bit (edge_class i == e) * is_vertex i) (below s.edges.count)) (below (12 * n)) (λ i a. counts_once i (below-among i (12 * n) a))
       ∙ sum_swap (λ i e. bit (edge_class i == e) * is_vertex i) (below (12 * n)) (below s.edges.count)
 
-  pub points-link : (coords : Coords) → HasTriangles coords → points coords (link_of s coords c) s.edges.classes s.edges.count ≡ link_vertices s.vertices.classes directions c
-  unfolding term
+  -- the edge classes that are counted once more
+  pub extra : List ℕ
+  extra = filter is_extra (below s.edges.count)
+
+  pub extra_are : AreInvalidEdgesAt s c extra
+  unfolding extra is_extra
+  extra_are = record {
+    ascending = AllPairs-filter ◌<◌ is_extra (below s.edges.count) (ascending_below s.edges.count);
+    each = λ e. (
+      (λ h. let m = filter-among is_extra e (below s.edges.count) (among_contains e (filter is_extra (below s.edges.count)) h) in
+          let le : e < s.edges.count = below-among e s.edges.count m.0 in
+          let p = and_parts (is_reversed e) (class_of (first_vertex e) == c) m.1 in
+          record { in_range = le; invalid = (invalid_edge e le).0 p.0; at_class = eqb-true (class_of (first_vertex e)) c p.1 }),
+      (λ i. contains_among e (filter is_extra (below s.edges.count)) (Among-filter is_extra e (below s.edges.count) (Among-below e s.edges.count i.in_range)
+          (and_from (is_reversed e) (class_of (first_vertex e) == c) ((invalid_edge e i.in_range).1 i.invalid) (eq-eqb (class_of (first_vertex e)) c i.at_class)))),
+    );
+  }
+
+  pub points-link : (coords : Coords) → HasTriangles coords → points coords (link_of s coords c) s.edges.classes s.edges.count ≡ link_vertices s.vertices.classes directions c + length extra
+  unfolding term extra
   points-link coords h =
-      sum_by_same (λ e. weight coords (link_of s coords c) (least s.edges.classes e)) (λ e. sum_by (λ i. bit (edge_class i == e) * is_vertex i) (below (12 * n))) (below s.edges.count)
+      sum_by_same (λ e. weight coords (link_of s coords c) (least s.edges.classes e)) (λ e. sum_by (λ i. bit (edge_class i == e) * is_vertex i) (below (12 * n)) + bit (is_extra e)) (below s.edges.count)
       (λ e m. let le : e < s.edges.count = below-among e s.edges.count m in
-      weight-link n s.vertices.classes c coords h (least s.edges.classes e) (lj e le) ∙ sym (counted_twice e le))
-      ∙ sym vertices-sum
+      weight-link n s.vertices.classes c coords h (least s.edges.classes e) (lj e le) ∙ counted e le)
+      ∙ sum_by_plus (λ e. sum_by (λ i. bit (edge_class i == e) * is_vertex i) (below (12 * n))) (λ e. bit (is_extra e)) (λ e. sum_by (λ i. bit (edge_class i == e) * is_vertex i) (below (12 * n)) + bit (is_extra e)) (λ e. refl) (below s.edges.count)
+      ∙ (λ i. sym vertices-sum i + sym (length-filter is_extra (below s.edges.count)) i)

@@ -1,8 +1,10 @@
 -- Sums over what passes a test, over blocks of numbers, and with two terms alone.
 use Rattle.std.proofs.Common.{◌≡◌, ◌≢◌, ℕ, zero, suc, ◌+◌, ◌*◌, ◌<◌, Bool, true, false, cond, List, [], ◌∷◌, filter, inl, inr, refl, sym, ap, ◌∙◌, arith}
-use Rattle.std.specs.Prelude.{◌==◌, sum_by}
+use Rattle.std.specs.Prelude.{◌==◌, get_or, sum_by}
+use Rattle.std.specs.List.{AllPairs}
 use Rattle.std.proofs.lemmas.Bool.{cases_eq, eq-eqb, ne_eqb}
 use Rattle.std.proofs.lemmas.List.Sums.{sum_by-cons}
+use Rattle.std.proofs.lemmas.List.FromFn.{length-range_with_len, get_or-range_with_len}
 use Rattle.table_definitions.specs.Lists.{below}
 use Rattle.table_definitions.proofs.Listed.{below-among}
 use Rattle.table_definitions.proofs.ListFacts.{sum_below_next}
@@ -48,11 +50,23 @@ first_of_two f m n e z = omega arith
 second_of_two : (f m n : ℕ) → m ≡ 0 → n ≡ f → f ≡ m + n
 second_of_two f m n z e = omega arith
 
+alone : (f : ℕ → ℕ) (x n : ℕ) → x < n → sum_by (term_at f x) (below n) ≡ f x
+alone f x n lx = one_term (term_at f x) x n (λ k off. off_it f x k off) lx ∙ at_it f x x refl
+
+pub one_bounded : (f : ℕ → ℕ) (a n : ℕ) → a < n → ((k : ℕ) → k < n → k ≢ a → f k ≡ 0) → sum_by f (below n) ≡ f a
+one_bounded f a n la rest = sum_by_same f (term_at f a) (below n) (λ k m. each k (below-among k n m)) ∙ alone f a n la
+  where
+    each : (k : ℕ) → k < n → f k ≡ term_at f a k
+    each k lk = elim (cases_eq k a) [
+      | inl e ↦ ap f e ∙ sym (at_it f a k e)
+      | inr off ↦ rest k lk off ∙ sym (off_it f a k off)
+    ]
+
 pub two_terms : (f : ℕ → ℕ) (a b n : ℕ) → a < n → b < n → a ≢ b → ((k : ℕ) → k < n → k ≢ a → k ≢ b → f k ≡ 0) → sum_by f (below n) ≡ f a + f b
 two_terms f a b n la lb ne rest =
     sum_by_same f (λ k. term_at f a k + term_at f b k) (below n) (λ k m. each k (below-among k n m))
     ∙ sum_by_plus (term_at f a) (term_at f b) (λ k. term_at f a k + term_at f b k) (λ k. refl) (below n)
-    ∙ (λ i. alone a la i + alone b lb i)
+    ∙ (λ i. alone f a n la i + alone f b n lb i)
   where
     each : (k : ℕ) → k < n → f k ≡ term_at f a k + term_at f b k
     each k lk = elim (cases_eq k a) [
@@ -63,5 +77,10 @@ two_terms f a b n la lb ne rest =
       ]
     ]
 
-    alone : (x : ℕ) → x < n → sum_by (term_at f x) (below n) ≡ f x
-    alone x lx = one_term (term_at f x) x n (λ k off. off_it f x k off) lx ∙ at_it f x x refl
+-- the numbers below n ascend
+pub ascending_below : (n : ℕ) → AllPairs ◌<◌ (below n)
+ascending_below n i j d less inside =
+    let lj : j < n = omega (arith, length-range_with_len 0 n) in
+    let at_i : get_or (below n) i d ≡ 0 + i = get_or-range_with_len 0 n i d (omega arith) in
+    let at_j : get_or (below n) j d ≡ 0 + j = get_or-range_with_len 0 n j d lj in
+    omega arith

@@ -26,7 +26,7 @@ module _ (n : ℕ) (classes : List ℕ) (c : ℕ) where
     pub link_bare : IsBare coords n (vertex_link coords n classes c)
     link_bare i l high = others-link n classes c coords i h l high
 
-    arcs_round-link : (t f v : ℕ) → t < n → f < 4 → v < 4 → (v ≡ f → ⊥) → arcs_round coords link t f v ≡ member classes c (vertex_number t v)
+    pub arcs_round-link : (t f v : ℕ) → t < n → f < 4 → v < 4 → (v ≡ f → ⊥) → arcs_round coords link t f v ≡ member classes c (vertex_number t v)
     arcs_round-link t f v lt lf lv off = arcs_alone coords n link h link_bare t f v lt lf lv off ∙ triangle-link n classes c coords t v h lt lv
 
     -- the arcs in a face are those of the triangles at its vertices

@@ -2,14 +2,19 @@
 //! here have no code: their contracts are laws over the definitions.
 #![tactic(auto)]
 
-ghost use Rattle.vertex_link_laws.specs.Laws.{LinksHaveEdgesAndTriangles, LinkCharacteristicsAgree};
+ghost use Rattle.vertex_link_laws.specs.Laws.{LinksHaveEdgesAndTriangles, LinksHaveVertices, LinkCharacteristicsAgree};
 
 /// The vertex link as a surface has an arc for each edge of the link, and a piece for each triangle.
 pub fn links_have_edges_and_triangles()
     ensures { LinksHaveEdgesAndTriangles }
 {}
 
-/// Where no edge is invalid, it has a point for each vertex of the link, and the same Euler characteristic.
+/// It has a point for each vertex of the link, and one more for each invalid edge that ends there.
+pub fn links_have_vertices()
+    ensures { LinksHaveVertices }
+{}
+
+/// So where no edge is invalid it has the Euler characteristic of the link.
 pub fn link_characteristics_agree()
     ensures { LinkCharacteristicsAgree }
 {}

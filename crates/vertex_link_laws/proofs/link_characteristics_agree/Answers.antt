@@ -1,4 +1,4 @@
--- Each edge has two ends, which are two vertices of the link.
+-- No edge is counted once more.
 use Rattle.vertex_link_laws.proofs.Agreement.{vertices_and_euler}
 use Rattle.vertex_link_laws.proofs.link_characteristics_agree.Goals as goal
 
