@@ -42,7 +42,7 @@ within_if : (max n : ℕ) (b : Bool) → nat_lt max n ≡ b → Holds (λ (m : �
 within_if max n true e = tt
 within_if max n false e = ltb-false max n e
 
-decimals_within : (max : ℕ) (w : List ℕ) → Holds (λ (m : ℕ). m ≤ max) (decimal_up_to max w)
+pub decimals_within : (max : ℕ) (w : List ℕ) → Holds (λ (m : ℕ). m ≤ max) (decimal_up_to max w)
 decimals_within max w = holds_if (λ (m : ℕ). m ≤ max) (is_short_decimal w) _ None (within_if max (digits_value w) (nat_lt max (digits_value w)) refl) tt
 
 moves_within : (max : ℕ) (x : Option (List ℕ)) → Holds (λ (m : ℕ). m ≤ max) (needed (decimal_up_to max) x)

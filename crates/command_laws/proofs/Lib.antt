@@ -3,3 +3,5 @@ pub mod Spellings
 pub mod OptionLists
 pub mod RequestValues
 pub mod Accepted
+pub mod Decimals
+pub mod Asking

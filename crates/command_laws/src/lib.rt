@@ -1,12 +1,18 @@
 //! The grammar of the command line as a relation, whatever the code: words are accepted exactly where they are a command's name
-//! and its options, in any order, none twice. The function here has no code: its contract is laws over the definitions.
+//! and its options, in any order, none twice. The functions here have no code: their contracts are laws over the
+//! definitions.
 #![tactic(auto)]
 
-ghost use Rattle.command_laws.specs.Laws.{RequestsAreAccepted, OthersAreRefused, WordsAskOnce};
+ghost use Rattle.command_laws.specs.Laws.{RequestsAreAccepted, OthersAreRefused, WordsAskOnce, RequestsAreSpelled};
 
 /// Words are accepted for a request exactly where they spell it, refused exactly where they spell none, and spell one at most.
 pub fn requests_are_accepted()
     ensures accepted { RequestsAreAccepted }
     ensures refused { OthersAreRefused }
     ensures once { WordsAskOnce }
+{}
+
+/// Each request that holds what is in range is spelled by some words, and no other request is.
+pub fn requests_are_spelled()
+    ensures { RequestsAreSpelled }
 {}

@@ -1,0 +1,6 @@
+-- Each option is one word, and values are in range where they are read.
+use Rattle.command_laws.proofs.Asking.{words_for, in_range}
+use Rattle.command_laws.proofs.requests_are_spelled.Goals as goal
+
+pub returns : goal.returns
+returns c = λ r. (in_range r, λ held. words_for r held.0 held.1)
