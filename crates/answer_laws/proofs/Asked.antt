@@ -1,5 +1,5 @@
 -- The outcome of words that are accepted is the answer to what they ask for.
-use Rattle.std.proofs.Common.{◌≡◌, ◌≤◌, ℕ, List, length, Bool, true, false, Option, Result, Ok, refl, subst, arith, nat_lt}
+use Rattle.std.proofs.Common.{◌≡◌, ◌≤◌, ℕ, List, length, Bool, true, false, Option, Result, Ok, refl, ap, subst, arith, nat_lt}
 use Rattle.std.specs.Prelude.{◌<◌, ◌&&◌}
 use Rattle.std.proofs.lemmas.Bool.{ltb-true}
 use Rattle.std.specs.Bool.{MatchBool}
@@ -40,3 +40,7 @@ pub means_by : {A : Type 0} (r : Request) (document : List ℕ → Result A Inpu
     → ((bytes : List ℕ) (d : A) (o : Outcome) → document bytes ≡ Ok d → IsAnswer d o → IsMeant d o) → Means r document IsMeant
 means_by r document IsAnswer IsMeant answers follows words bytes o d asked read =
     follows bytes d o read (answer_to_value (document bytes) d IsAnswer o read (answers bytes o (answer_to r words bytes o asked)))
+
+-- equal outcomes have one status
+pub status_of : (o p : Outcome) → o ≡ p → o.status ≡ p.status
+status_of o p e = ap (λ (q : Outcome). q.status) e

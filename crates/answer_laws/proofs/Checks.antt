@@ -15,13 +15,10 @@ use Rattle.outcome_definitions.specs.Certificates.{check_outcome, IsCheckAnswer}
 use Rattle.outcome_laws.proofs.Certified.{table_with_moves}
 use Rattle.answer_laws.specs.Asked.{IsOutcomeTo}
 use Rattle.answer_laws.specs.Checks.{CertificatesAreAccepted, CertificatesAreDone}
-use Rattle.answer_laws.proofs.Asked.{answer_to, answer_to_value}
+use Rattle.answer_laws.proofs.Asked.{answer_to, answer_to_value, status_of}
 
 not_refused : {P : Type 0} → Refused ≡ Done → P
 not_refused e = absurd cc
-
-status_of : (o p : Outcome) → o ≡ p → o.status ≡ p.status
-status_of o p e = ap (λ (q : Outcome). q.status) e
 
 module _ (rows : List Row) (moves : List Move) where
   certified : (told : CheckAnswer) → IsChecked rows moves told → (check_outcome told).status ≡ Done → IsCertificate rows moves

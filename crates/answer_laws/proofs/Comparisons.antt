@@ -11,7 +11,7 @@ use Rattle.outcome_definitions.specs.Outcomes.{Outcome}
 use Rattle.outcome_definitions.specs.Canonical.{done, not_connected_outcome, IsNotConnected, relabelling_text, different_text, different_outcome, IsCompared, IsSameAnswer, census_text, IsGroupAnswer}
 use Rattle.outcome_laws.proofs.Labelled.{not_both}
 use Rattle.answer_laws.specs.Comparisons.{AreCompared, IsComparison, IsGrouping, ConnectedAreCompared, TablesAreGrouped}
-use Rattle.answer_laws.proofs.Asked.{means_by}
+use Rattle.answer_laws.proofs.Asked.{means_by, status_of}
 
 -- the first letters differ
 apart : {P : Type 0} (by : Relabelling) → done (relabelling_text by) ≡ different_outcome → P
@@ -41,9 +41,6 @@ compared_by first second o (inr h) = record {
 least_told : (first second : List Row) (o : Outcome) → IsCompared first second o → IsTold first second o
 least_told first second o (inl h) = inl (h.0, h.1.relabels, h.2)
 least_told first second o (inr h) = inr h
-
-status_of : (o p : Outcome) → o ≡ p → o.status ≡ p.status
-status_of o p e = ap (λ (q : Outcome). q.status) e
 
 told_is_done : (first second : List Row) (o : Outcome) → IsTold first second o → o.status ≡ Done
 told_is_done first second o (inl h) = status_of o (done (relabelling_text h.0)) h.2

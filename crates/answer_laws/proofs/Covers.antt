@@ -19,7 +19,7 @@ use Rattle.outcome_definitions.specs.Canonical.{done}
 use Rattle.outcome_definitions.specs.Covers.{cover_text, large_cover_outcome, IsCoverTold, IsCoverAnswer}
 use Rattle.outcome_laws.proofs.Certified.{table_alone}
 use Rattle.answer_laws.specs.Covers.{TwoLieOver, IsOrientationCover, TellsCover, IsCovering, CoversAreTold}
-use Rattle.answer_laws.proofs.Asked.{means_by}
+use Rattle.answer_laws.proofs.Asked.{means_by, status_of}
 
 two_lie_over : (n : ℕ) → TwoLieOver n
 two_lie_over n t u lt lu = (by_sheet, lies)
@@ -86,7 +86,7 @@ module _ (rows : List Row) (table : IsTable rows) (o : Outcome) where
 
   apart : {P : Type 0} (connected : Bool) → o ≡ done (cover_text rows connected) → o ≡ large_cover_outcome → P
   apart connected told e =
-      let z : Done ≡ Refused = sym (ap (λ (q : Outcome). q.status) told) ∙ ap (λ (q : Outcome). q.status) e in absurd cc
+      let z : Done ≡ Refused = sym (status_of o (done (cover_text rows connected)) told) ∙ status_of o large_cover_outcome e in absurd cc
 
   by_test : (b : Bool) → nat_lt max_tets (2 * length rows) ≡ b → MatchOption (if b then Some TooMany else None) (IsCoverTold rows o) (λ _. o ≡ large_cover_outcome) → IsCovering rows o
   by_test true e h =

@@ -1,6 +1,6 @@
 -- Moves that are played lead to the table that is printed, and as many undos as steps lead back.
-use Rattle.std.proofs.Common.{◌≡◌, ◌+◌, ◌-◌, ◌≤◌, ℕ, zero, suc, List, [], ◌∷◌, ◌++◌, length, map, take, replicate, refl, sym, ◌∙◌, ap, subst, arith, take_all}
-use Rattle.std.proofs.lemmas.List.{length_push}
+use Rattle.std.proofs.Common.{◌≡◌, ◌+◌, ◌-◌, ◌≤◌, ℕ, zero, suc, List, [], ◌∷◌, ◌++◌, length, map, take, replicate, refl, sym, ◌∙◌, ap, subst, arith, take_all, take-take, length-take-le}
+use Rattle.std.proofs.lemmas.List.{length_push, take-append-le}
 use Rattle.table_definitions.specs.Table.{Row}
 use Rattle.move_definitions.specs.Moves.{Move, Plays, PlaysAll}
 use Rattle.move_definitions.specs.MoveText.{Step, play, undo, redo}
@@ -10,7 +10,7 @@ use Rattle.command_definitions.specs.declared.Request.TheVariants.{Play}
 use Rattle.outcome_definitions.specs.Outcomes.{Outcome}
 use Rattle.outcome_definitions.specs.Scripts.{script_outcome, IsScriptAnswer}
 use Rattle.outcome_laws.proofs.Scripted.{one_script}
-use Rattle.answer_laws.specs.Scripts.{MovesAreDone, IsPlayed, ScriptsArePlayed}
+use Rattle.answer_laws.specs.Scripts.{MovesAreDone, MovesAreTakenBack, IsPlayed, ScriptsArePlayed}
 use Rattle.answer_laws.proofs.Asked.{means_by}
 
 -- ---- a step keeps the first table, and plays one move more at most
@@ -76,49 +76,98 @@ played_on : (rows : List Row) (moves : List Move) (table : List Row) (m : Move) 
 played_on rows [] table m next h p = (next, subst (λ (r : List Row). Plays r m next) (sym h) p, refl)
 played_on rows (k ∷ ks) table m next h p = (h.0, h.1, played_on h.0 ks table m next h.2 p)
 
--- all moves that are kept are played, and lead to this table
-record IsAt (s : Session) (table : List Row) : Type 0 where
-  all : s.played ≡ length s.moves
-  led : PlaysAll s.first s.moves table
+-- the session behind a move has the table to which it leads
+moved_on : (s : Session) (table : List Row) (m : Move) (next : List Row) → IsTableOf s table → Plays table m next → IsTableOf (with_move s m) next
+moved_on s table m next at p =
+    let in_range : s.played ≤ length s.moves = at.in_range in
+    let size : length (take s.played s.moves) ≡ s.played = length-take-le s.played s.moves in_range in
+    let more : length (take s.played s.moves ++ m ∷ []) ≡ length (take s.played s.moves) + 1 = length_push (take s.played s.moves) m in
+    let whole : take (s.played + 1) (take s.played s.moves ++ m ∷ []) ≡ take s.played s.moves ++ m ∷ [] = take_all (s.played + 1) (take s.played s.moves ++ m ∷ []) (omega arith) in
+    let led : PlaysAll s.first (take s.played s.moves ++ m ∷ []) next = played_on s.first (take s.played s.moves) table m next at.reached p in
+    record { in_range = omega arith; reached = subst (λ (moves : List Move). PlaysAll s.first moves next) (sym whole) led; others = (next, led) }
 
-module _ (s : Session) (table : List Row) (at : IsAt s table) where
-  whole : take s.played s.moves ≡ s.moves
-  whole = let e : s.played ≡ length s.moves = at.all in take_all s.played s.moves (omega arith)
+-- and keeps the moves that were played
+kept_behind : (s : Session) (m : Move) → s.played ≤ length s.moves → take s.played (take s.played s.moves ++ m ∷ []) ≡ take s.played s.moves
+kept_behind s m in_range =
+    let size : length (take s.played s.moves) ≡ s.played = length-take-le s.played s.moves in_range in
+    take-append-le s.played (take s.played s.moves) (m ∷ []) (omega arith) ∙ take-take s.played s.played s.moves (omega arith)
 
-  table_at : IsTableOf s table
-  table_at = record {
-    in_range = (let e : s.played ≡ length s.moves = at.all in omega arith);
-    reached = subst (λ (moves : List Move). PlaysAll s.first moves table) (sym whole) at.led;
-    others = (table, at.led);
-  }
+-- what is kept of a longer front is kept of a shorter one
+shorter : (n : ℕ) (a b : List Move) → take (n + 1) a ≡ take (n + 1) b → take n a ≡ take n b
+shorter n a b e = sym (take-take n (n + 1) a (omega arith)) ∙ ap (λ (moves : List Move). take n moves) e ∙ take-take n (n + 1) b (omega arith)
 
-  moved_on : (m : Move) (next : List Row) → Plays table m next → IsAt (with_move s m) next
-  moved_on m next p = record {
-    all = (let e : s.played ≡ length s.moves = at.all in let w : length (take s.played s.moves) ≡ length s.moves = ap length whole in
-        let more : length (take s.played s.moves ++ m ∷ []) ≡ length (take s.played s.moves) + 1 = length_push (take s.played s.moves) m in omega arith);
-    led = played_on s.first (take s.played s.moves) table m next table_at.reached p;
-  }
+-- the moves are all done, behind those that were played
+record AreDone (s : Session) (moves : List Move) (end : List Row) : Type 0 where
+  last : Session
+  steps : AreSteps s (map play moves) (map (λ (m : Move). done) moves) last
+  at : IsTableOf last end
+  first : last.first ≡ s.first
+  played : last.played ≡ s.played + length moves
+  kept : take s.played last.moves ≡ take s.played s.moves
 
-all_done : (s : Session) (table : List Row) (moves : List Move) (end : List Row) → IsAt s table → PlaysAll table moves end
-    → (last : Session) × AreSteps s (map play moves) (map (λ (m : Move). done) moves) last × IsTableOf last end
-all_done s table [] end at led = (s, refl, subst (IsTableOf s) led (table_at s table at))
+all_done : (s : Session) (table : List Row) (moves : List Move) (end : List Row) → IsTableOf s table → PlaysAll table moves end → AreDone s moves end
+all_done s table [] end at led = record { last = s; steps = refl; at = subst (IsTableOf s) led at; first = refl; played = omega arith; kept = refl }
 all_done s table (m ∷ moves) end at led =
-    let rest = all_done (with_move s m) led.0 moves end (moved_on s table at m led.0 led.1) led.2 in
-    (rest.0, (with_move s m, ((table, table_at s table at, led.1.accepted), refl), rest.1), rest.2)
+    let rest : AreDone (with_move s m) moves end = all_done (with_move s m) led.0 moves end (moved_on s table m led.0 at led.1) led.2 in record {
+      last = rest.last;
+      steps = (with_move s m, ((table, at, led.1.accepted), refl), rest.steps);
+      at = rest.at;
+      first = rest.first;
+      played = (let e : rest.last.played ≡ s.played + 1 + length moves = rest.played in omega arith);
+      kept = shorter s.played rest.last.moves (take s.played s.moves ++ m ∷ []) rest.kept ∙ kept_behind s m at.in_range;
+    }
+
+-- ---- moves that are taken back
+
+abbrev played_to : Session → ℕ → Session
+played_to s n = record s { played = n }
+
+all_undone : (s : Session) (n : ℕ) (moves : List Move) → s.played ≡ n + length moves → AreSteps s (map (λ (m : Move). undo) moves) (map (λ (m : Move). undone) moves) (played_to s n)
+all_undone s n [] e = let here : s.played ≡ n = omega arith in ap (played_to s) here
+all_undone s n (m ∷ moves) e = (played_to s (s.played - 1), (omega arith, refl), all_undone (played_to s (s.played - 1)) n moves (omega arith))
+
+steps_on : (s : Session) (steps more : List Step) (answers others : List StepAnswer) (next last : Session) → AreSteps s steps answers next → AreSteps next more others last
+    → AreSteps s (steps ++ more) (answers ++ others) last
+steps_on s [] more [] others next last h k = subst (λ (t : Session). AreSteps t more others last) (sym h) k
+steps_on s [] more (a ∷ answers) others next last h k = absurd h
+steps_on s (step ∷ steps) more [] others next last h k = absurd h
+steps_on s (step ∷ steps) more (a ∷ answers) others next last h k = (h.0, h.1, steps_on h.0 steps more answers others next last h.2 k)
+
+-- what was played before is played then
+back_at : (s : Session) (table : List Row) (moves : List Move) (end : List Row) (a : AreDone s moves end) → IsTableOf s table → IsTableOf (played_to a.last s.played) table
+back_at s table moves end a at = record {
+  in_range = (let l : a.last.played ≤ length a.last.moves = a.at.in_range in let e : a.last.played ≡ s.played + length moves = a.played in omega arith);
+  reached = subst (λ (rows : List Row). PlaysAll rows (take s.played a.last.moves) table) (sym a.first)
+      (subst (λ (ms : List Move). PlaysAll s.first ms table) (sym a.kept) at.reached);
+  others = a.at.others;
+}
 
 module _ (d : List Row × List Step) (o : Outcome) (h : IsScriptAnswer d o) where
   moves_are_done : MovesAreDone d o
   moves_are_done moves end e led =
-      let all = all_done (begun d.0) d.0 moves end (record { all = refl; led = refl }) led in
-      let steps : AreSteps (begun d.0) d.1 (map (λ (m : Move). done) moves) all.0 =
-      subst (λ (steps : List Step). AreSteps (begun d.0) steps (map (λ (m : Move). done) moves) all.0) (sym e) all.1 in
-      one_script d o (script_outcome (map (λ (m : Move). done) moves) end) h (map (λ (m : Move). done) moves, all.0, end, steps, all.2, refl)
+      let a = all_done (begun d.0) d.0 moves end (record { in_range = omega arith; reached = refl; others = (d.0, refl) }) led in
+      let steps : AreSteps (begun d.0) d.1 (map (λ (m : Move). done) moves) a.last =
+      subst (λ (steps : List Step). AreSteps (begun d.0) steps (map (λ (m : Move). done) moves) a.last) (sym e) a.steps in
+      one_script d o (script_outcome (map (λ (m : Move). done) moves) end) h (map (λ (m : Move). done) moves, a.last, end, steps, a.at, refl)
+
+  moves_are_taken_back : MovesAreTakenBack d o
+  moves_are_taken_back before answers session table moves end led at plays e =
+      let a = all_done session table moves end at plays in
+      let last : Session = played_to a.last session.played in
+      let told : List StepAnswer = answers ++ (map (λ (m : Move). done) moves ++ map (λ (m : Move). undone) moves) in
+      let behind : AreSteps session (map play moves ++ map (λ (m : Move). undo) moves) (map (λ (m : Move). done) moves ++ map (λ (m : Move). undone) moves) last =
+      steps_on session (map play moves) (map (λ (m : Move). undo) moves) (map (λ (m : Move). done) moves) (map (λ (m : Move). undone) moves) a.last last a.steps
+      (all_undone a.last session.played moves a.played) in
+      let all : AreSteps (begun d.0) (before ++ (map play moves ++ map (λ (m : Move). undo) moves)) told last =
+      steps_on (begun d.0) before (map play moves ++ map (λ (m : Move). undo) moves) answers (map (λ (m : Move). done) moves ++ map (λ (m : Move). undone) moves) session last led behind in
+      let steps : AreSteps (begun d.0) d.1 told last = subst (λ (steps : List Step). AreSteps (begun d.0) steps told last) (sym e) all in
+      one_script d o (script_outcome told table) h (told, last, table, steps, back_at session table moves end a at, refl)
 
   reached : PlaysAll d.0 (take h.1.played h.1.moves) h.2
   reached = subst (λ (rows : List Row). PlaysAll rows (take h.1.played h.1.moves) h.2) (first_kept (begun d.0) d.1 h.0 h.1 h.3) h.4.reached
 
-  taken_back : (before : List Step) (undos : ℕ) → d.1 ≡ before ++ replicate undos undo → length before ≤ undos → h.2 ≡ d.0
-  taken_back before undos e enough =
+  all_taken_back : (before : List Step) (undos : ℕ) → d.1 ≡ before ++ replicate undos undo → length before ≤ undos → h.2 ≡ d.0
+  all_taken_back before undos e enough =
       let left : h.1.played ≤ 0 + length before - undos =
       left_behind before undos (begun d.0) h.0 h.1 (subst (λ (steps : List Step). AreSteps (begun d.0) steps h.0 h.1) e h.3) in
       let none : h.1.played ≡ 0 = omega arith in
@@ -133,7 +182,8 @@ module _ (d : List Row × List Step) (o : Outcome) (h : IsScriptAnswer d o) wher
     reached = reached;
     outcome = h.5;
     moves_done = moves_are_done;
-    taken_back = taken_back;
+    moves_taken_back = moves_are_taken_back;
+    all_taken_back = all_taken_back;
   }
 
 pub scripts_played : ScriptsArePlayed

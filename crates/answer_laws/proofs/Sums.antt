@@ -1,5 +1,5 @@
 -- Sums that are told are sums of vertex surfaces, and sums are accepted exactly where they are true.
-use Rattle.std.proofs.Common.{◌≡◌, ◌↔◌, ◌≤◌, ℕ, List, [], ◌∷◌, length, map, None, Result, Ok, Err, inl, inr, refl, sym, ◌∙◌, ap, arith}
+use Rattle.std.proofs.Common.{◌≡◌, ◌↔◌, ◌≤◌, ℕ, List, [], ◌∷◌, length, map, None, Result, Ok, Err, inl, inr, refl, sym, ◌∙◌, arith}
 use Rattle.std.specs.List.{All, AllZip, AllByRecursion, slice_index_or}
 use Rattle.std.proofs.lemmas.List.Elements.{All-from_recursion, recursion_from_All}
 use Rattle.text_definitions.specs.Written.{limit}
@@ -36,7 +36,7 @@ use Rattle.equation_bounds_laws.proofs.Bounds.{not_past}
 use Rattle.equation_bounds_laws.proofs.Few.{own}
 use Rattle.equation_bounds_laws.proofs.Powers.{most as few_within}
 use Rattle.answer_laws.specs.Sums.{IsSumOfSurfaces, AreSumsOfVertexSurfaces, AreDecomposed, IsDecomposition, IsTrueSum, IsAddition, VectorsAreDecomposed, TrueSumsAreAccepted}
-use Rattle.answer_laws.proofs.Asked.{means_by}
+use Rattle.answer_laws.proofs.Asked.{means_by, status_of}
 
 module _ (coords : Coords) (rows : List Row) (equations : List EquationRow) where
   abbrev width : ℕ
@@ -146,18 +146,15 @@ module _ (coords : Coords) (d : List Row × List Block) (o : Outcome) (a : IsAdd
     outcome = refl;
   })
 
-  status_of : (p : Outcome) → o ≡ p → o.status ≡ p.status
-  status_of p e = ap (λ (q : Outcome). q.status) e
-
   true_by : o.status ≡ statuses.Done → All (IsTrueSum coords d.0 a.equations) d.1
-  true_by e = true_where_done a.told a.added (sym (status_of (addup_outcome a.told) a.outcome) ∙ e)
+  true_by e = true_where_done a.told a.added (sym (status_of o (addup_outcome a.told) a.outcome) ∙ e)
 
   addition : IsAddition coords d o
   addition = record {
     equations = a.equations;
     of_table = a.of_table;
-    accepted = ((λ e. true_by (status_of accepted_outcome e)), accepted_where_true);
-    is_done = (true_by, (λ all. status_of accepted_outcome (accepted_where_true all)));
+    accepted = ((λ e. true_by (status_of o accepted_outcome e)), accepted_where_true);
+    is_done = (true_by, (λ all. status_of o accepted_outcome (accepted_where_true all)));
   }
 
 pub true_sums_accepted : TrueSumsAreAccepted

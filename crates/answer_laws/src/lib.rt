@@ -69,8 +69,8 @@ pub fn covers_are_told()
     ensures { CoversAreTold }
 {}
 
-/// `play` prints the table to which the moves lead that are played at the end: that of all moves, where they can be played,
-/// and the table of the input behind as many undos as steps.
+/// `play` prints the table to which the moves lead that are played at the end: that of all moves, where they can be played;
+/// the one before moves that are all taken back; and the table of the input behind as many undos as steps.
 pub fn scripts_are_played()
     ensures { ScriptsArePlayed }
 {}
