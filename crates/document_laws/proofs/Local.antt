@@ -44,10 +44,6 @@ pub record StopsAt {X E : Type 0} (read : Reading → Result X E) (c : Reading) 
 abbrev pub Goes : {A E : Type 0} → (Reading → Result (A × Reading) E) → Reading → Type 0
 Goes {A} read c = (x : A) (d : Reading) → read c ≡ Ok (x, d) → GoesOn read c x d
 
--- the faults that stand at a place are those of the lexer
-abbrev pub Stops : {X E : Type 0} → (LexFault → E) → (Reading → Result X E) → Reading → Type 0
-Stops lexical read c = (f : LexFault) → read c ≡ Err (lexical f) → StopsAt read c f.place
-
 pub bind_err : {A B E : Type 0} (r : Result A E) (g : A → Result B E) (e : E) → (r >>= g) ≡ Err e → (r ≡ Err e) ⊎ ((x : A) × (r ≡ Ok x) × (g x ≡ Err e))
 bind_err (Ok x) g e p = inr (x, refl, p)
 bind_err {A} (Err f) g e p = let same : f ≡ e = cc in inl (ap (λ (h : _). Err h) same)
@@ -108,21 +104,6 @@ module _ {A X E : Type 0} (lexical : LexFault → E) (first : Reading → Result
         h.same other more e b.0 b.1);
   }
 
-  pub stops_chained : (c : Reading) → Goes first c → Stops lexical first c → ((x : A) (d : Reading) → first c ≡ Ok (x, d) → Stops lexical (second x) d) → Stops lexical ended c
-  stops_chained c g s h f e = by_case (bind_err (first c) (λ (y : A × Reading). second y.0 y.1) (lexical f) e)
-    where
-      by_case : (first c ≡ Err (lexical f)) ⊎ ((y : A × Reading) × (first c ≡ Ok y) × (second y.0 y.1 ≡ Err (lexical f))) → StopsAt ended c f.place
-      by_case (inl p) = stops_early c f.place (s f p)
-      by_case (inr (y, p, q)) = stops_late c y.0 y.1 f.place (g y.0 y.1 p) (h y.0 y.1 p f q)
-
-  -- what comes after never fails by the lexer
-  pub stops_first : (c : Reading) → Stops lexical first c → ((y : A × Reading) (f : LexFault) → second y.0 y.1 ≢ Err (lexical f)) → Stops lexical ended c
-  stops_first c s never f e = by_case (bind_err (first c) (λ (y : A × Reading). second y.0 y.1) (lexical f) e)
-    where
-      by_case : (first c ≡ Err (lexical f)) ⊎ ((y : A × Reading) × (first c ≡ Ok y) × (second y.0 y.1 ≡ Err (lexical f))) → StopsAt ended c f.place
-      by_case (inl p) = stops_early c f.place (s f p)
-      by_case (inr (y, p, q)) = absurd (never y f q)
-
 -- a value, and no sign is taken
 pub goes_pure : {A E : Type 0} (x : A) (c : Reading) → Goes {A = A} {E = E} (λ d. Ok (x, d)) c
 goes_pure {A} {E} x c y d e =
@@ -132,9 +113,6 @@ goes_pure {A} {E} x c y d e =
 -- readers that give the same everywhere
 pub goes_same : {A E : Type 0} (r s : Reading → Result (A × Reading) E) → ((c : Reading) → r c ≡ s c) → (c : Reading) → Goes r c → Goes s c
 goes_same {A} {E} r s e c g = subst (λ (q : Reading → Result (A × Reading) E). Goes q c) (λ i d. e d i) g
-
-pub stops_same : {X E : Type 0} (lexical : LexFault → E) (r s : Reading → Result X E) → ((c : Reading) → r c ≡ s c) → (c : Reading) → Stops lexical r c → Stops lexical s c
-stops_same {X} {E} lexical r s e c g = subst (λ (q : Reading → Result X E). Stops lexical q c) (λ i d. e d i) g
 
 -- readers that give no value
 abbrev pub alone : {E : Type 0} → Result Reading E → Result (⊤ × Reading) E
@@ -156,11 +134,6 @@ module _ {E : Type 0} (lexical : LexFault → E) (move : Reading → Result Read
   pub goes_moved : {A : Type 0} (g : Reading → Result (A × Reading) E) (c : Reading) → Goes moved c → ((d : Reading) → move c ≡ Ok d → Goes g d) → Goes (λ b. move b >>= g) c
   goes_moved {A} g c h n =
       goes_same (chained moved (λ (u : ⊤). g)) (λ b. move b >>= g) (λ b. alone_bind (move b) g) c (goes_chained moved (λ (u : ⊤). g) c h (λ u d e. n d (alone_ok (move c) u d e)))
-
-  pub stops_moved : {X : Type 0} (g : Reading → Result X E) (c : Reading) → Goes moved c → Stops lexical moved c → ((d : Reading) → move c ≡ Ok d → Stops lexical g d) → Stops lexical (λ b. move b >>= g) c
-  stops_moved {X} g c h s n =
-      stops_same lexical (λ b. moved b >>= λ (y : ⊤ × Reading). g y.1) (λ b. move b >>= g) (λ b. alone_bind (move b) g) c
-      (stops_chained lexical moved (λ (u : ⊤). g) c h s (λ u d e. n d (alone_ok (move c) u d e)))
 
 -- readers with another kind of fault
 pub record Lift {X E F : Type 0} (low : LexFault → E) (high : LexFault → F) (lift : Result X E → Result X F) : Type 0 where

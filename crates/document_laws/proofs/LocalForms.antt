@@ -1,5 +1,5 @@
 -- Numbers, vectors and cones: their readers see no more than they take and the next sign.
-use Rattle.std.proofs.Common.{◌≡◌, ◌≢◌, ℕ, zero, suc, ℤ, Bool, true, false, List, [], ◌∷◌, Option, Some, None, Result, Ok, Err, refl, sym, ap, ◌∙◌}
+use Rattle.std.proofs.Common.{◌≡◌, ℕ, zero, suc, ℤ, Bool, true, false, List, [], ◌∷◌, Option, Some, None, Result, Ok, Err, refl, sym, ap, ◌∙◌}
 use Rattle.std.specs.Prelude.{⊤, nat_lt, if◌then◌else◌, codes, replicate}
 use Rattle.text_definitions.specs.declared.LexKind.{LexKind}
 use Rattle.text_definitions.specs.declared.LexKind.TheVariants.{BadWord, NumberTooWide}
@@ -10,13 +10,9 @@ use Rattle.text_definitions.specs.Reading.{Reading, ◌>>=◌, word_at, number_u
 use Rattle.cone_text_definitions.specs.VectorText.{vector_at}
 use Rattle.cone_text_definitions.specs.ConeText.{Cone, coefficients_at, cone_row_at, cone_rows_at, rows_of_cone_at, cone_at}
 use Rattle.table_definitions.proofs.ReadingLaws.{TakesNumber, number_read}
-use Rattle.document_laws.proofs.Local.{Goes, Stops, goes_chained, stops_chained, stops_first, goes_pure, goes_same, stops_same, alone, goes_moved, stops_moved}
-use Rattle.document_laws.proofs.LocalWords.{as_is, tested, word_with, goes_word, stops_word, goes_end}
-use Rattle.document_laws.proofs.LocalLines.{goes_line, by_end, by_ends, goes_by_end, stops_by_end}
-
--- a value never fails
-pub ok_never : {A : Type 0} (x : A) (f : LexFault) → ◌≢◌ {A = Result A LexFault} (Ok x) (Err f)
-ok_never x f e = absurd cc
+use Rattle.document_laws.proofs.Local.{Goes, goes_chained, goes_pure, goes_same, alone, goes_moved}
+use Rattle.document_laws.proofs.LocalWords.{as_is, tested, word_with, goes_word, goes_end}
+use Rattle.document_laws.proofs.LocalLines.{goes_line, by_end, by_ends, goes_by_end}
 
 -- a number up to max, of which f is made
 unfoldable pub number_test : {A : Type 0} → (ℕ → A) → ℕ → Option ℕ → Result A LexKind
@@ -54,9 +50,6 @@ number_word max c =
 pub goes_number : (max : ℕ) (c : Reading) → Goes (number_at max) c
 goes_number max c = goes_same (word_with (plain_test max)) (number_at max) (number_word max) c (goes_word (plain_test max) c)
 
-pub stops_number : (max : ℕ) (c : Reading) → Stops as_is (number_at max) c
-stops_number max c = stops_same as_is (word_with (plain_test max)) (number_at max) (number_word max) c (stops_word (plain_test max) c)
-
 unfoldable pub signed_test : ℕ → List ℕ → Result ℤ LexKind
 signed_test max w = number_test (λ n. with_sign (is_negative w) n) max (decimal_value (magnitude w))
 
@@ -92,9 +85,6 @@ exact_word wanted c = by_word (word_at c)
 
 pub goes_exactly : (wanted : List ℕ) (c : Reading) → Goes (exactly wanted) c
 goes_exactly wanted c = goes_same (word_with (exact_test wanted)) (exactly wanted) (exact_word wanted) c (goes_word (exact_test wanted) c)
-
-pub stops_exactly : (wanted : List ℕ) (c : Reading) → Stops as_is (exactly wanted) c
-stops_exactly wanted c = stops_same as_is (word_with (exact_test wanted)) (exactly wanted) (exact_word wanted) c (stops_word (exact_test wanted) c)
 
 -- numbers to the end of a line
 abbrev pub Numbers : Type 0
@@ -141,25 +131,10 @@ module _ (max : ℕ) where
   pub goes_numbers : (c : Reading) → Goes (numbers_at max) c
   goes_numbers c = goes_numbers_in c.current.tokens c refl
 
-  stops_numbers_in : (ts : List Token) (c : Reading) → c.current.tokens ≡ ts → Stops as_is (numbers_at max) c
-  stops_numbers_in [] c none =
-      stops_same as_is (by_end [] (one_more max)) (numbers_at max) (numbers_stepped max) c (stops_by_end [] (one_more max) as_is c (λ t ts split. (let e : [] ≡ t ∷ ts = sym none ∙ split in absurd cc)))
-  stops_numbers_in (u ∷ us) c first =
-      stops_same as_is (by_end [] (one_more max)) (numbers_at max) (numbers_stepped max) c
-      (stops_by_end [] (one_more max) as_is c (λ t ts split. stops_chained as_is (number_at max) (others_with max) c (goes_number max c) (stops_number max c)
-      (λ n d e. stops_first as_is (numbers_at max) (λ xs d'. Ok (n ∷ xs, d')) d (stops_numbers_in us d (sym (tokens_after max c u us n d first e))) (λ y f q. absurd (ok_never (n ∷ y.0, y.1) f q)))))
-
-  pub stops_numbers : (c : Reading) → Stops as_is (numbers_at max) c
-  stops_numbers c = stops_numbers_in c.current.tokens c refl
-
 -- vectors
 pub goes_vector : (c : Reading) → Goes vector_at c
 unfolding vector_at
 goes_vector c = goes_moved as_is (exactly_at (codes "vec")) (numbers_at limit) c (goes_exactly (codes "vec") c) (λ d e. goes_numbers limit d)
-
-pub stops_vector : (c : Reading) → Stops as_is vector_at c
-unfolding vector_at
-stops_vector c = stops_moved as_is (exactly_at (codes "vec")) (numbers_at limit) c (goes_exactly (codes "vec") c) (stops_exactly (codes "vec") c) (λ d e. stops_numbers limit d)
 
 -- coefficients, rows and cones
 abbrev pub Row : Type 0

@@ -10,7 +10,7 @@ use Rattle.text_definitions.specs.Reading.{Reading, begun, need_line_at, line_fr
 use Rattle.document_definitions.specs.Signs.{Sign, line_end, input_end, Placed, token_sign, line_signs, signs_of, plain}
 use Rattle.table_definitions.proofs.ReadingLaws.{ok_parts, with_tokens}
 use Rattle.table_definitions.proofs.LineLaws.{line_found}
-use Rattle.document_laws.proofs.Local.{left_signs, shows, opening, opening_more, plain-append, regrouped, GoesOn, StopsAt, Goes, Stops, alone}
+use Rattle.document_laws.proofs.Local.{left_signs, shows, opening, opening_more, plain-append, regrouped, GoesOn, StopsAt, Goes, alone}
 use Rattle.document_laws.proofs.LocalWords.{end_there}
 
 -- the tokens that are left in a line, and its end
@@ -206,10 +206,3 @@ module _ {A E : Type 0} (x : A) (go : Reading → Result (A × Reading) E) where
         let n : opening (shows other) ≢ Some line_end = λ r. token_shown c.current.tokens c t ts split (sym begins ∙ r) in
         h.same other more s y (sym (more_in other.current.tokens other n) ∙ q));
   }
-
-  stops_end_in : (lexical : LexFault → E) (ts : List Token) (c : Reading) → c.current.tokens ≡ ts → ((t : Token) (us : List Token) → c.current.tokens ≡ t ∷ us → Stops lexical go c) → (f : LexFault) → by_ends x go ts c ≡ Err (lexical f) → StopsAt by_end c f.place
-  stops_end_in lexical [] c split g f e = absurd cc
-  stops_end_in lexical (t ∷ ts) c split g f e = end_stop c t ts f.place split (g t ts split f e)
-
-  pub stops_by_end : (lexical : LexFault → E) (c : Reading) → ((t : Token) (ts : List Token) → c.current.tokens ≡ t ∷ ts → Stops lexical go c) → Stops lexical by_end c
-  stops_by_end lexical c g f e = stops_end_in lexical c.current.tokens c refl g f e

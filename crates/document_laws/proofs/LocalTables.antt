@@ -19,8 +19,8 @@ use Rattle.signature_definitions.specs.declared.InputFault.TheVariants.{Text}
 use Rattle.signature_definitions.specs.declared.SigFault.{SigFault}
 use Rattle.signature_definitions.specs.SignatureText.{texted, decoded, signature_table, signature_at, named_table_at, any_table_at}
 use Rattle.document_definitions.specs.Documents.{worded}
-use Rattle.document_laws.proofs.Local.{Goes, Stops, goes_chained, goes_pure, goes_same, alone, goes_moved, Lift, goes_lifted}
-use Rattle.document_laws.proofs.LocalWords.{as_is, tested, word_with, goes_word, goes_end, stops_end}
+use Rattle.document_laws.proofs.Local.{Goes, goes_chained, goes_pure, goes_same, alone, goes_moved, Lift, goes_lifted}
+use Rattle.document_laws.proofs.LocalWords.{as_is, tested, word_with, goes_word, goes_end}
 use Rattle.document_laws.proofs.LocalLines.{goes_line}
 use Rattle.document_laws.proofs.LocalForms.{goes_number}
 
@@ -79,7 +79,7 @@ pub worded_alone : (r : Result Reading LexFault) → worded (alone r) ≡ alone 
 worded_alone (Ok d) = refl
 worded_alone (Err f) = refl
 
-module _ (move : Reading → Result Reading LexFault) (c : Reading) (g : Goes (λ d. alone (move d)) c) (s : Stops as_is (λ d. alone (move d)) c) where
+module _ (move : Reading → Result Reading LexFault) (c : Reading) (g : Goes (λ d. alone (move d)) c) where
   goes_lexed : Goes (λ d. alone (lexed (move d))) c
   goes_lexed = goes_same (λ d. lexed (alone (move d))) (λ d. alone (lexed (move d))) (λ d. lexed_alone (move d)) c (goes_lifted as_is Lex (λ r. lexed r) lexed_lift (λ d. alone (move d)) c g)
 
@@ -178,7 +178,7 @@ rows_on n d = lexed (rows_at n d) >>= λ (rows : Rows). looked_at rows.0 rows.1
 goes_counted : (n : ℕ) (c : Reading) → Goes (counted_rows_at n) c
 unfolding counted_rows_at
 goes_counted n c =
-    goes_moved Lex (λ d. lexed (end_line_at d)) (rows_on n) c (goes_lexed end_line_at c (goes_end c) (stops_end c))
+    goes_moved Lex (λ d. lexed (end_line_at d)) (rows_on n) c (goes_lexed end_line_at c (goes_end c))
     (λ d e. goes_chained (λ b. lexed (rows_at n b)) looked_at d (goes_lifted as_is Lex (λ r. lexed r) lexed_lift (rows_at n) d (goes_rows n d)) (λ rows last q. goes_checked (table_fault rows) rows last))
 
 -- what follows the word `tri`
@@ -224,7 +224,7 @@ goes_signature : (c : Reading) → Goes signature_at c
 unfolding signature_at
 goes_signature c =
     goes_chained a_word text_on c (goes_a_word c)
-    (λ w d e. goes_moved in_text (λ b. worded (end_line_at b)) (λ end. decoded end (signature_table w)) d (goes_worded end_line_at d (goes_end d) (stops_end d)) (λ end q. goes_decoded (signature_table w) end))
+    (λ w d e. goes_moved in_text (λ b. worded (end_line_at b)) (λ end. decoded end (signature_table w)) d (goes_worded end_line_at d (goes_end d)) (λ end q. goes_decoded (signature_table w) end))
 
 -- a table by its first word: true for `tri`, false for `sig`
 unfoldable pub name_test : List ℕ → Result Bool LexKind

@@ -9,7 +9,7 @@ use Rattle.text_definitions.specs.Text.{Token, word, stray}
 use Rattle.text_definitions.specs.Reading.{Reading, ◌>>=◌, column_at, fault_at, word_fault, word_at, end_line_at, end_from}
 use Rattle.document_definitions.specs.Signs.{Sign, shown, strange, line_end, line_signs, signs_of}
 use Rattle.table_definitions.proofs.ReadingLaws.{ok_parts, with_tokens, behind}
-use Rattle.document_laws.proofs.Local.{left_signs, shows, opening, GoesOn, StopsAt, Goes, Stops, alone}
+use Rattle.document_laws.proofs.Local.{left_signs, shows, opening, GoesOn, StopsAt, Goes, alone}
 
 abbrev pub as_is : LexFault → LexFault
 as_is f = f
@@ -133,9 +133,6 @@ module _ {A : Type 0} (test : List ℕ → Result A LexKind) where
           subst (λ (g : LexFault). StopsHere read (with_tokens (word column w ∷ ts) c) g.place) same
           (record { front = []; sign = shown w; after = left_signs (with_tokens ts c); split = refl; same = λ other more s x p. none_refused w k other more t s x p }, refl)
 
-  pub stops_word : (c : Reading) → Stops as_is read c
-  stops_word c f e = (stops_here c.current.tokens c f e).0
-
 -- the end of a line
 abbrev pub ending : Reading → Result (⊤ × Reading) LexFault
 ending c = alone (end_line_at c)
@@ -173,6 +170,3 @@ stops_end_here (word column w ∷ ts) c f e =
     let same : fault_at c column ExtraWord ≡ f = cc in
     subst (λ (g : LexFault). StopsHere ending (with_tokens (word column w ∷ ts) c) g.place) same
     (record { front = []; sign = shown w; after = left_signs (with_tokens ts c); split = refl; same = λ other more s x p. token_more other.current.tokens other (shown w) (ap opening s) (λ q. cc) x p }, refl)
-
-pub stops_end : (c : Reading) → Stops as_is ending c
-stops_end c f e = (stops_end_here c.current.tokens c f e).0

@@ -110,9 +110,6 @@ module _ {A : Type 0} (x : A) where
   goes_closed c = goes_moved as_is end_line_at (λ end. Ok (x, end)) c (goes_end c) (λ end e. goes_pure x end)
 
   module _ (Aim : A → List Sign → Type 0) (k : Reading) (none : k.current.tokens ≡ []) (a : Aim x (shows k)) where
-    sat_closed : Sat closed Aim
-    sat_closed = sat_same ended closed Aim is_closed (sat_mapped ending (λ u. x) Aim (sat_end (λ u. Aim x) k none a))
-
     well_closed : (c : Reading) → Well as_is closed Aim c
     well_closed c = well_same as_is ended closed Aim is_closed c (well_mapped ending (λ u. x) Aim c (well_end (λ u. Aim x) c (sat_end (λ u. Aim x) k none a)))
 

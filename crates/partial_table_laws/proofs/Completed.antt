@@ -23,7 +23,7 @@ use Rattle.partial_table_laws.specs.Laws.{PartialTablesAreCompleted}
 pub given_face : (rows : List Row) (x : Face) → is_given rows x ≡ true → x.face < length (slice_index_or rows x.tet [])
 given_face rows x h = ltb-true x.face (length (slice_index_or rows x.tet [])) h
 
-given_tet : (rows : List Row) (x : Face) → is_given rows x ≡ true → x.tet < length rows
+pub given_tet : (rows : List Row) (x : Face) → is_given rows x ≡ true → x.tet < length rows
 given_tet rows x h =
     ⊎_elim (λ (l : x.tet < length rows). l)
     (λ (out : length rows ≤ x.tet).

@@ -10,7 +10,7 @@ use Rattle.table_definitions.specs.Grammar.{IsNumber}
 use Rattle.table_definitions.proofs.Tables.{sphere}
 use Rattle.table_definitions.proofs.RelationExamples.{sphere_table}
 use Rattle.signature_definitions.specs.Spelling.{Spells, spelling_values}
-use Rattle.document_definitions.specs.Signs.{Sign, shown, line_end, signs_of, plain}
+use Rattle.document_definitions.specs.Signs.{Sign, shown, line_end, input_end, signs_of, plain}
 use Rattle.document_laws.specs.FaultLaws.{SomeTable}
 use Rattle.document_laws.proofs.Local.{plain-append}
 use Rattle.document_laws.proofs.BehindTables.{lines_front, lines_split}
@@ -18,6 +18,7 @@ use Rattle.partial_table_laws.specs.Partial.{IsPartialTable}
 use Rattle.partial_table_laws.specs.Sound.{ShowRows, IsSound, nothing, tri_word, tri_number, tri_rows, sig_word, sig_text, sig_line}
 use Rattle.partial_table_laws.specs.Laws.{SoundSignsGoOn}
 use Rattle.partial_table_laws.proofs.Completed.{completed, completes}
+use Rattle.partial_table_laws.proofs.SignsGiven.{shown_is_sound}
 use Rattle.partial_table_laws.proofs.Shown.{line_with, are_words, line_shown, ShowsFirst, rows_first, begins, written_table}
 
 -- lines of a table that show these signs, whatever stands behind them
@@ -84,7 +85,17 @@ front_shown end ss lines rest more e =
     ap plain (lines_split end lines rest) ∙ plain-append (lines_front lines) (signs_of end rest) ∙ ap (λ (xs : List Sign). xs ++ plain (signs_of end rest)) e
     ∙ append_assoc ss more (plain (signs_of end rest))
 
+-- a sign stands behind them
+some_sign : (xs : List Sign) (last : Sign) → (sign : Sign) × (more : List Sign) × (xs ++ last ∷ [] ≡ sign ∷ more)
+some_sign [] last = (last, [], refl)
+some_sign (x ∷ xs) last = (x, xs ++ last ∷ [], refl)
+
 pub sound_signs_go_on : SoundSignsGoOn
-sound_signs_go_on end ss sound =
-    let g : GoesOn ss = sound_goes_on ss sound in
-    (g.0, g.1 ++ plain (signs_of end []), ap (λ (ls : List Line). plain (signs_of end ls)) (sym (append-nil g.0)) ∙ front_shown end ss g.0 [] g.1 g.2, g.3)
+unfolding signs_of
+sound_signs_go_on end ss = (
+  λ sound. (let g : GoesOn ss = sound_goes_on ss sound in
+      let behind : (sign : Sign) × (more : List Sign) × (g.1 ++ input_end ∷ [] ≡ sign ∷ more) = some_sign g.1 input_end in
+      let there : plain (signs_of end g.0) ≡ ss ++ (g.1 ++ input_end ∷ []) = ap (λ (ls : List Line). plain (signs_of end ls)) (sym (append-nil g.0)) ∙ front_shown end ss g.0 [] g.1 g.2 in
+      (g.0, behind.0, behind.1, there ∙ ap (λ (xs : List Sign). ss ++ xs) behind.2, g.3)),
+  λ h. shown_is_sound end ss h.0 h.1 h.2 h.3 h.4,
+)

@@ -1,5 +1,5 @@
 -- The laws of partial tables, and of the first fault of a table's own text.
-use Rattle.std.specs.Prelude.{◌≡◌, ℕ, List, ◌++◌, Result, Err, ◌↔◌}
+use Rattle.std.specs.Prelude.{◌≡◌, ℕ, List, ◌∷◌, ◌++◌, Result, Err, ◌↔◌}
 use Rattle.text_definitions.specs.declared.Place.{Place}
 use Rattle.text_definitions.specs.Text.{Line, lines_of, end_of}
 use Rattle.text_definitions.specs.declared.LexFault.{LexFault}
@@ -21,9 +21,9 @@ use Rattle.partial_table_laws.specs.Sound.{IsSound, IsSoundOfTwo, IsSoundOfMany}
 abbrev pub PartialTablesAreCompleted : Type 0
 PartialTablesAreCompleted = (n : ℕ) (rows : List Row) → IsPartialTable n rows ↔ ((table : List Row) × Completes n rows table)
 
--- what is sound so far is gone on with to a table
+-- signs are sound so far exactly where lines of a table show them, and a further sign behind them
 abbrev pub SoundSignsGoOn : Type 0
-SoundSignsGoOn = (end : Place) (ss : List Sign) → IsSound ss → (lines : List Line) × (more : List Sign) × (plain (signs_of end lines) ≡ ss ++ more) × SomeTable lines
+SoundSignsGoOn = (end : Place) (ss : List Sign) → IsSound ss ↔ ((lines : List Line) × (sign : Sign) × (more : List Sign) × (plain (signs_of end lines) ≡ ss ++ sign ∷ more) × SomeTable lines)
 
 -- where an input is refused, the fault stands at a sign with which nothing goes on, and at the first such where what stands
 -- before it is sound

@@ -9,8 +9,8 @@ pub fn partial_tables_are_completed()
     ensures { PartialTablesAreCompleted }
 {}
 
-/// Signs that begin the text of a table, and glue or spell soundly so far, are gone on with to a table. So where a table's text
-/// is refused and what stands before the fault is sound, the fault stands at the first sign with which no table goes on.
+/// What is shown has the form of a table's text, and glues or spells soundly so far, exactly where some table's lines show it
+/// first. So where what stands before a fault is sound, the fault stands at the first sign with which no such input goes on.
 pub fn sound_faults_leave_first()
     ensures signs { SoundSignsGoOn }
     ensures faults { SoundFaultsLeaveFirst }
