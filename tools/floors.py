@@ -1,5 +1,6 @@
 #!/usr/bin/env python3
-"""Puts crates.txt into the order of the floors, and writes the floors into docs/ARCHITECTURE.md and docs/floors.svg.
+"""Puts crates.txt into the order of the floors, writes the floors into docs/ARCHITECTURE.md and docs/floors.svg, and the
+files that the contracts of law crates cite into docs/DEFINITIONS.md.
 
     tools/floors.py [--check]
 
@@ -13,6 +14,7 @@ import sys
 
 TOP = os.path.dirname(os.path.dirname(os.path.realpath(__file__)))
 BEGIN, END = "<!-- floors: tools/floors.py -->", "<!-- end of floors -->"
+LAWS_BEGIN, LAWS_END = "<!-- laws: tools/floors.py -->", "<!-- end of laws -->"
 PARTS = ("src", "specs", "proofs")
 # what a kind of crates may stand on, beside its own; want of memory is the one fault that definitions share with code
 BELOW = {"definitions": ("plain_facts", "no_memory"), "laws": ("plain_facts",)}
@@ -111,6 +113,24 @@ def page_text(storeys):
     return "\n".join(lines)
 
 
+def statements(name):
+    """The files of its own specs/ that a law crate's contracts cite, and those that these cite in turn."""
+    cite = rf"Rattle\.{name}\.specs\.(\w+)\."
+    found, left = [], re.findall(cite, read(f"crates/{name}/src/lib.rt"))
+    while left:
+        it = left.pop(0)
+        if it not in found + ["declared"]:
+            found.append(it)
+            left += re.findall(cite, read(f"crates/{name}/specs/{it}.antt"))
+    return found
+
+
+def laws_text(storeys):
+    lines = ["| Crate | Files |", "|---|---|"]
+    lines += [f"| `{it}` | {', '.join(statements(it))} |" for names in storeys for it in names if kind(it) == "laws" and statements(it)]
+    return "\n".join(lines)
+
+
 def picture(storeys):
     wide, high, gap = 172, 24, 6
     columns = max(len(it) for it in storeys)
@@ -135,11 +155,13 @@ def main(checking):
     for it in refused:
         print(it)
     storeys = by_floor(floors(known))
-    page = read("docs/ARCHITECTURE.md")
+    page, definitions = read("docs/ARCHITECTURE.md"), read("docs/DEFINITIONS.md")
     table = f"{BEGIN}\n{page_text(storeys)}\n{END}"
+    laws = f"{LAWS_BEGIN}\n{laws_text(storeys)}\n{LAWS_END}"
     wanted = {
         "crates.txt": list_text(known, storeys),
         "docs/ARCHITECTURE.md": re.sub(rf"{BEGIN}.*?{END}", lambda _: table, page, flags=re.S),
+        "docs/DEFINITIONS.md": re.sub(rf"{LAWS_BEGIN}.*?{LAWS_END}", lambda _: laws, definitions, flags=re.S),
         "docs/floors.svg": picture(storeys),
     }
     stale = [path for path, text in wanted.items() if read(path) != text]
