@@ -1,5 +1,5 @@
 -- No position of a relabelling's images is bad.
-use Rattle.std.proofs.Common.{◌≡◌, ℕ, ◌<◌, true, false, List, length, take, ◌∙◌, arith, ⊎_elim}
+use Rattle.std.proofs.Common.{◌≡◌, ℕ, ◌<◌, true, false, length, take, refl, ◌∙◌, arith, ⊎_elim}
 use Rattle.std.specs.Prelude.{not, nat_lt, slice_index}
 use Rattle.std.proofs.lemmas.Bool.{or_cases, lt-ltb}
 use Rattle.std.proofs.lemmas.List.{get_or-take, length-take}

@@ -1,5 +1,5 @@
 -- Each connected table has a presentation.
-use Rattle.std.proofs.Common.{◌≡◌, ℕ, zero, suc, ◌+◌, ◌*◌, ◌<◌, ◌⊎◌, inl, inr, Bool, not, List, [], ◌∷◌, ◌++◌, length, map, All, Option, Some, None, slice_index, slice_index_or, subst, sym, ap, refl, ◌∙◌, arith}
+use Rattle.std.proofs.Common.{◌≡◌, ℕ, zero, suc, ◌+◌, ◌<◌, ◌⊎◌, inl, inr, Bool, not, List, [], ◌∷◌, ◌++◌, length, map, All, Option, Some, None, slice_index, slice_index_or, subst, sym, ap, refl, ◌∙◌, arith}
 use Rattle.std.specs.Prelude.{filter_map}
 use Rattle.std.specs.List.{AllZip}
 use Rattle.std.proofs.lemmas.Bool.{cases_lt, cases_eq}
@@ -17,6 +17,7 @@ use Rattle.group_definitions.specs.declared.Letter.{Letter}
 use Rattle.group_definitions.specs.Trees.{IsTreeFace, evens, is_odd_number}
 use Rattle.group_definitions.specs.Presentations.{HoldsTreeFace, AreGenerators, IsTurning, IsRelator, letter_of, left_through, Presentation, IsPresentation}
 use Rattle.class_laws.proofs.FirstPlaces.{none_or_first}
+use Rattle.class_laws.proofs.Around.{zip_exists, some_around}
 use Rattle.group_laws.proofs.TreeLaws.{one_tree_face, none_for_zero, tree_face_of, path_of}
 use Rattle.group_laws.specs.Classes.{IsGenerator, AreGeneratorsBelow}
 use Rattle.group_laws.proofs.Firsts.{unglued_one, generator_at}
@@ -100,7 +101,7 @@ module _ (s : Skeleton) (h : IsSkeleton s) where
     -- ---- relators
 
     some_relator : (generators : List ℕ) (c : ℕ) → c < s.edges.count → (letters : List Letter) × IsRelator s generators c letters
-    some_relator generators c l = let a = some_around c l in (filter_map (λ k. letter_of s generators (face_number (left_through k))) a.0, record { corners = a.0; around = a.1; read = refl })
+    some_relator generators c l = let a = some_around s h c l in (filter_map (λ k. letter_of s generators (face_number (left_through k))) a.0, record { corners = a.0; around = a.1; read = refl })
 
     pub some_presentation : (p : Presentation) × IsPresentation s p
     some_presentation = (
