@@ -1,6 +1,5 @@
 // The command `info`: the skeleton of a table and the links of its vertices.
 ghost use Rattle.std.specs.Prelude.{◌≡◌, ◌≤◌, ◌^◌, ◌↔◌, length, IsTrue, IfOk};
-ghost use Rattle.table_definitions.specs.Places.{IsConnected};
 ghost use Rattle.skeleton_definitions.specs.Orientation.{IsOrientable};
 ghost use Rattle.skeleton_definitions.specs.Skeleton.{IsSkeleton, AreLinks};
 ghost use Rattle.document_definitions.specs.Documents.{table_document};
@@ -41,19 +40,28 @@ fn informed(
     skeleton: &Skeleton,
     links: &[Link],
     valid: &[bool],
-    connected: bool,
 ) -> Result<Outcome, NoMemory>
     requires skeleton { IsSkeleton skeleton.now }
     requires one_each { length links.now ≡ skeleton.now.vertices.count }
     requires links { AreLinks skeleton.now (length links.now) links.now }
     requires valid_each { length valid.now ≡ skeleton.now.edges.count }
     requires valid { AreValid skeleton.now skeleton.now.edges.count valid.now }
-    requires connected { IsTrue connected ↔ IsConnected skeleton.now.rows }
     ensures { IfOk result (IsInformationAnswer skeleton.now.rows) }
 {
+    let connected = skeleton.table().is_connected(alloc)?;
     let orientable = is_orientable(skeleton);
     let text = information_text(alloc, skeleton, links, valid, connected, orientable)?;
     Ok(Outcome::built(Status::Done, text))
+}
+
+// The answer to a table, by its skeleton.
+fn answer_by(alloc: Global, skeleton: &Skeleton) -> Result<Outcome, NoMemory>
+    requires { IsSkeleton skeleton.now }
+    ensures { IfOk result (IsInformationAnswer skeleton.now.rows) }
+{
+    let links = links(alloc, skeleton)?;
+    let valid = valid_edges(alloc, skeleton)?;
+    informed(alloc, skeleton, &links, &valid)
 }
 
 // The answer to a table.
@@ -61,10 +69,7 @@ fn answer(alloc: Global, table: &Table) -> Result<Outcome, NoMemory>
     ensures { IfOk result (IsInformationAnswer table.now) }
 {
     let skeleton = Skeleton::of(alloc, table)?;
-    let connected = skeleton.table().is_connected(alloc)?;
-    let links = links(alloc, &skeleton)?;
-    let valid = valid_edges(alloc, &skeleton)?;
-    informed(alloc, &skeleton, &links, &valid, connected)
+    answer_by(alloc, &skeleton)
 }
 
 /// The outcome of `info` on an input that isn't too long.
