@@ -34,16 +34,23 @@ fn too_many(alloc: Global) -> Result<Outcome, NoMemory>
     Ok(Outcome::built(Status::Refused, text))
 }
 
+/// The answer to a table, by its skeleton.
+fn answer_by(alloc: Global, skeleton: &Skeleton) -> Result<Outcome, NoMemory>
+    ensures { IfOk result (IsCoverAnswer skeleton.now.rows) }
+{
+    match Cover::of(alloc, skeleton) {
+        Ok(cover) => told(alloc, &cover),
+        Err(CoverFault::TooMany) => too_many(alloc),
+        Err(CoverFault::NoMemory) => Err(NoMemory),
+    }
+}
+
 /// The answer to a table.
 fn answer(alloc: Global, table: &Table) -> Result<Outcome, NoMemory>
     ensures { IfOk result (IsCoverAnswer table.now) }
 {
     let skeleton = Skeleton::of(alloc, table)?;
-    match Cover::of(alloc, &skeleton) {
-        Ok(cover) => told(alloc, &cover),
-        Err(CoverFault::TooMany) => too_many(alloc),
-        Err(CoverFault::NoMemory) => Err(NoMemory),
-    }
+    answer_by(alloc, &skeleton)
 }
 
 /// The outcome of `cover` on an input that isn't too long.

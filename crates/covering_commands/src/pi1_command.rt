@@ -28,17 +28,25 @@ fn told(alloc: Global, group: &Group) -> Result<Outcome, NoMemory>
     Ok(Outcome::built(Status::Done, text))
 }
 
-/// The answer to a table.
-fn answer(alloc: Global, table: &Table) -> Result<Outcome, NoMemory>
-    ensures { IfOk result (IsPresentationAnswer table.now) }
+/// The answer to a table, by its skeleton.
+fn answer_by(alloc: Global, skeleton: &Skeleton) -> Result<Outcome, NoMemory>
+    requires { IsSkeleton skeleton.now }
+    ensures { IfOk result (IsPresentationAnswer skeleton.now.rows) }
 {
-    let skeleton = Skeleton::of(alloc, table)?;
-    match Group::of(alloc, &skeleton) {
+    match Group::of(alloc, skeleton) {
         Ok(group) => told(alloc, &group),
         Err(GroupFault::NotConnected { tet }) => not_connected_outcome(alloc, 0, tet),
         Err(GroupFault::InvalidEdge { class }) => invalid_edge_outcome(alloc, class),
         Err(GroupFault::NoMemory) => Err(NoMemory),
     }
+}
+
+/// The answer to a table.
+fn answer(alloc: Global, table: &Table) -> Result<Outcome, NoMemory>
+    ensures { IfOk result (IsPresentationAnswer table.now) }
+{
+    let skeleton = Skeleton::of(alloc, table)?;
+    answer_by(alloc, &skeleton)
 }
 
 /// The outcome of `pi1` on an input that isn't too long.

@@ -1,12 +1,9 @@
--- Why there is no group.
-use Rattle.command_answers.proofs.Results.{if_ok}
-use Rattle.covering_commands.proofs.Telling.{not_connected_answer, invalid_answer}
+-- The skeleton's table is the one that was given.
+use Rattle.std.proofs.Common.{List, subst}
+use Rattle.std.specs.Prelude.{IfOk}
+use Rattle.table_definitions.specs.Table.{Row}
+use Rattle.outcome_definitions.specs.Presented.{IsPresentationAnswer}
 use Rattle.covering_commands.proofs.pi1_command.answer.Goals as goal
 
-pub returns-in-Err-NotConnected : goal.returns-in-Err-NotConnected
-returns-in-Err-NotConnected c = if_ok c.not_connected_outcome.result _ _ (λ o t. not_connected_answer c.args.table.now c.in_ok-skeleton.skeleton c.in-Err-NotConnected.field-0 c.in-Err-NotConnected.tet o
-    c.in_ok-skeleton.ensures.rows c.in_ok-skeleton.ensures.skeleton c.in-Err-NotConnected.field-0-is c.in-Err-NotConnected.ensures.fault t) c.not_connected_outcome.ensures
-
-pub returns-in-Err-InvalidEdge : goal.returns-in-Err-InvalidEdge
-returns-in-Err-InvalidEdge c = if_ok c.invalid_edge_outcome.result _ _ (λ o t. invalid_answer c.args.table.now c.in_ok-skeleton.skeleton c.in-Err-InvalidEdge.field-0 c.in-Err-InvalidEdge.class o
-    c.in_ok-skeleton.ensures.rows c.in_ok-skeleton.ensures.skeleton c.in-Err-InvalidEdge.field-0-is c.in-Err-InvalidEdge.ensures.fault t) c.invalid_edge_outcome.ensures
+pub returns : goal.returns
+returns c = subst (λ (rows : List Row). IfOk c.answer_by.result (IsPresentationAnswer rows)) c.in_ok-skeleton.ensures.rows c.answer_by.ensures
