@@ -6,8 +6,8 @@ ghost use Rattle.table_definitions.specs.Table.{IsTable};
 ghost use Rattle.table_definitions.specs.Places as places;
 ghost use Rattle.skeleton.specs.Parts.{AreBoundaryMarks, is_open_at};
 
-use crate::edges::edge_ends;
 use crate::crossings::behind;
+use crate::edges::edge_ends;
 use gluing_table::{Face, Table};
 use no_memory::NoMemory;
 use std::alloc::Global;

@@ -6,6 +6,7 @@ mod corners;
 mod crossings;
 mod degrees;
 mod edges;
+mod marks;
 mod neighbours;
 mod numbering;
 mod signs;

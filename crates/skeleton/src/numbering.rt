@@ -3,6 +3,7 @@
 ghost use Rattle.std.specs.Prelude.{◌≡◌, ◌<◌, ◌^◌, length, IfOk, ℕ};
 ghost use Rattle.table_definitions.specs.Table.{IsTable};
 ghost use Rattle.class_laws.specs.Numberings.{AreClassesOf, AreFirsts, IsOrdered};
+ghost use Rattle.class_laws.specs.declared.Kind.TheVariants.{Vertices, Edges, Directions, Faces};
 
 use crate::neighbours::neighbours;
 use class_laws::Kind;
@@ -16,6 +17,15 @@ use std::alloc::Global;
 pub struct Numbering {
     pub classes: Vec<u32>,
     pub firsts: Vec<u32>,
+}
+
+/// The classes of all that is numbered in a table.
+#[derive(Drop)]
+pub struct Classes {
+    pub vertices: Numbering,
+    pub edges: Numbering,
+    pub faces: Numbering,
+    pub directions: Numbering,
 }
 
 /// The least member of each class.
@@ -44,5 +54,25 @@ pub fn classes_of(alloc: Global, table: &Table, kind: Kind) -> Result<Numbering,
     Ok(Numbering {
         classes: numbered.classes,
         firsts,
+    })
+}
+
+/// The classes of each kind.
+pub fn all_classes(alloc: Global, table: &Table) -> Result<Classes, NoMemory>
+    requires { IsTable table.now }
+    ensures vertices { IfOk result (λ c. AreClassesOf Vertices table.now c.vertices.classes.items c.vertices.firsts.items) }
+    ensures edges { IfOk result (λ c. AreClassesOf Edges table.now c.edges.classes.items c.edges.firsts.items) }
+    ensures faces { IfOk result (λ c. AreClassesOf Faces table.now c.faces.classes.items c.faces.firsts.items) }
+    ensures directions { IfOk result (λ c. AreClassesOf Directions table.now c.directions.classes.items c.directions.firsts.items) }
+{
+    let vertices = classes_of(alloc, table, Kind::Vertices)?;
+    let edges = classes_of(alloc, table, Kind::Edges)?;
+    let faces = classes_of(alloc, table, Kind::Faces)?;
+    let directions = classes_of(alloc, table, Kind::Directions)?;
+    Ok(Classes {
+        vertices,
+        edges,
+        faces,
+        directions,
     })
 }

@@ -7,13 +7,11 @@ ghost use Rattle.table_definitions.specs.Places as places;
 ghost use Rattle.table_definitions.specs.Table.{IsTable};
 ghost use Rattle.skeleton_definitions.specs.Skeleton.{IsSkeleton, IsValidClass, IsDirection, IsFirstInvalid, IsOrientation, IsAround};
 
-use crate::boundary::{boundary_marks, is_closed};
-use crate::corners::{Corner, walks};
-use crate::degrees::degrees_of;
+use crate::boundary::is_closed;
+use crate::corners::Corner;
 use crate::edges::runs_against;
-use crate::numbering::{Numbering, classes_of};
-use crate::signs::orientation_of;
-use class_laws::Kind;
+use crate::marks::{Marks, marks_of};
+use crate::numbering::{Classes, Numbering, all_classes};
 use gluing_table::Table;
 use no_memory::NoMemory;
 use std::alloc::Global;
@@ -88,16 +86,20 @@ impl Skeleton {
         ensures skeleton { IfOk result IsSkeleton }
     {
         let table = copied(alloc, table)?;
-        let vertices = classes_of(alloc, &table, Kind::Vertices)?;
-        let edges = classes_of(alloc, &table, Kind::Edges)?;
-        let faces = classes_of(alloc, &table, Kind::Faces)?;
-        let directions = classes_of(alloc, &table, Kind::Directions)?;
-        let vertex_degrees = degrees_of(alloc, &vertices.classes, vertices.firsts.len())?;
-        let edge_degrees = degrees_of(alloc, &edges.classes, edges.firsts.len())?;
-        let boundary = boundary_marks(alloc, &table, &edges.classes, edges.firsts.len())?;
+        let Classes {
+            vertices,
+            edges,
+            faces,
+            directions,
+        } = all_classes(alloc, &table)?;
+        let Marks {
+            vertex_degrees,
+            edge_degrees,
+            boundary,
+            signs,
+            walks,
+        } = marks_of(alloc, &table, &vertices, &edges)?;
         let closed = is_closed(&table);
-        let signs = orientation_of(alloc, &table)?;
-        let walks = walks(alloc, &table, &edges.firsts, &boundary)?;
         Ok(Skeleton {
             table,
             vertices,

@@ -1,0 +1,59 @@
+//! What is kept of a table beside its classes.
+
+ghost use Rattle.std.specs.Prelude.{length, IfOk};
+ghost use Rattle.std.specs.Option.{option_map};
+ghost use Rattle.table_definitions.specs.Table.{IsTable};
+ghost use Rattle.skeleton_definitions.specs.Skeleton.{IsOrientation};
+ghost use Rattle.class_laws.specs.Numberings.{AreClassesOf};
+ghost use Rattle.class_laws.specs.declared.Kind.TheVariants.{Vertices, Edges};
+ghost use Rattle.skeleton.specs.Parts.{AreDegrees, AreBoundaryMarks, AreRounds, items_of};
+
+use crate::boundary::boundary_marks;
+use crate::corners::{Corner, walks};
+use crate::degrees::degrees_of;
+use crate::numbering::Numbering;
+use crate::signs::orientation_of;
+use gluing_table::Table;
+use no_memory::NoMemory;
+use std::alloc::Global;
+
+/// The degrees of classes, which edge classes are on the boundary, the signs of the tetrahedra, and the walks round
+/// the edge classes.
+#[derive(Drop)]
+pub struct Marks {
+    pub vertex_degrees: Vec<u32>,
+    pub edge_degrees: Vec<u32>,
+    pub boundary: Vec<bool>,
+    pub signs: Option<Vec<bool>>,
+    pub walks: Vec<Vec<Corner>>,
+}
+
+/// What is kept of a table with these vertex and edge classes.
+pub fn marks_of(
+    alloc: Global,
+    table: &Table,
+    vertices: &Numbering,
+    edges: &Numbering,
+) -> Result<Marks, NoMemory>
+    requires table { IsTable table.now }
+    requires vertices { AreClassesOf Vertices table.now vertices.now.classes.items vertices.now.firsts.items }
+    requires edges { AreClassesOf Edges table.now edges.now.classes.items edges.now.firsts.items }
+    ensures vertex_degrees { IfOk result (λ m. AreDegrees vertices.now.classes.items (length vertices.now.firsts.items) m.vertex_degrees.items) }
+    ensures edge_degrees { IfOk result (λ m. AreDegrees edges.now.classes.items (length edges.now.firsts.items) m.edge_degrees.items) }
+    ensures boundary { IfOk result (λ m. AreBoundaryMarks table.now edges.now.classes.items (length edges.now.firsts.items) m.boundary.items) }
+    ensures orientation { IfOk result (λ m. IsOrientation table.now (option_map items_of m.signs)) }
+    ensures walks { IfOk result (λ m. AreRounds table.now edges.now.firsts.items m.boundary.items (length edges.now.firsts.items) m.walks.items) }
+{
+    let vertex_degrees = degrees_of(alloc, &vertices.classes, vertices.firsts.len())?;
+    let edge_degrees = degrees_of(alloc, &edges.classes, edges.firsts.len())?;
+    let boundary = boundary_marks(alloc, table, &edges.classes, edges.firsts.len())?;
+    let signs = orientation_of(alloc, table)?;
+    let walks = walks(alloc, table, &edges.firsts, &boundary)?;
+    Ok(Marks {
+        vertex_degrees,
+        edge_degrees,
+        boundary,
+        signs,
+        walks,
+    })
+}
