@@ -8,6 +8,7 @@ use Rattle.double_description.specs.Kepts.{rays_of}
 use Rattle.double_description.specs.Unordered.{HasSurfaces}
 use Rattle.late_columns.specs.declared.entering.LateRays.{LateRays}
 use Rattle.late_columns.specs.Late.{IsUnseen, held_rows, AreSeen, HaveEntered}
+use Rattle.late_columns.specs.Fresh.{IsLone}
 use Rattle.late_columns.proofs.Held.{unseen_after}
 use Rattle.late_columns.proofs.UnitRays.{entered_surfaces}
 
@@ -54,3 +55,10 @@ seen_below columns old new n entered before now j less = ⊎_elim
     (λ earlier. seen_still columns old new j entered (before j earlier))
     (λ not_earlier. subst (λ i. slice_index_or new.seen.items i true ≡ true) {x = n} {y = j} (omega arith) now)
     (cases_lt j n)
+
+-- one column of the row more that is seen or is the lone one
+pub lone_more : (columns : ℕ) (old new : LateRays) (row : Row) (k : ℕ) (d : ℕ × ℤ) (column : ℕ) → HaveEntered columns old new → k < length row → IsLone (take k row) old.seen.items column →
+    (IsUnseen new.seen.items (get_or row k d).0 → (get_or row k d).0 ≡ column) → IsLone (take (k + 1) row) new.seen.items column
+lone_more columns old new row k d column entered within before now =
+    All-more (λ term. IsUnseen new.seen.items term.0 → term.0 ≡ column) row k d within
+    (All-weaker (λ term. IsUnseen old.seen.items term.0 → term.0 ≡ column) (λ term. IsUnseen new.seen.items term.0 → term.0 ≡ column) (λ term h unseen. h (entered.unseen term.0 unseen)) (take k row) before) now

@@ -25,6 +25,13 @@ IsLone row seen column = All (λ term. IsUnseen seen term.0 → term.0 ≡ colum
 abbrev pub IsFree : List Clash → ℕ → Type 0
 IsFree pairs column = All (λ pair. (pair.0 ≢ column) × (pair.1 ≢ column)) pairs
 
+-- an unseen column with the coefficient 1 or -1, which clashes with none
+pub record IsFreeColumn (columns : ℕ) (row : Row) (pairs : List Clash) (seen : List Bool) (fresh : Fresh) : Type 0 where
+  pub in_range : fresh.column < columns
+  pub unseen : IsUnseen seen fresh.column
+  pub one : HasOne columns row fresh.column fresh.is_turned
+  pub free : IsFree pairs fresh.column
+
 -- the only unseen column of the row, with the coefficient 1 or -1, which clashes with none
 pub record IsFreshColumn (columns : ℕ) (row : Row) (pairs : List Clash) (seen : List Bool) (fresh : Fresh) : Type 0 where
   pub in_range : fresh.column < columns

@@ -8,12 +8,12 @@ ghost use Rattle.double_description.specs.Clashes.{DecidesClashes};
 ghost use Rattle.double_description.specs.Kepts.{rays_of};
 ghost use Rattle.double_description.specs.Unordered.{HasSurfaces};
 ghost use Rattle.late_columns.specs.Late.{AreLateOfFew, AreNextLate};
-ghost use Rattle.late_columns.specs.Fresh.{IsFreshColumn};
+ghost use Rattle.late_columns.specs.Fresh.{IsFreeColumn};
 ghost use Rattle.ray_pairs.specs.Partners.{ArePartners};
 
 use crate::elimination::next_rays;
-use crate::entering::{LateRays, enter_all, enter_row, none_seen};
-use crate::fresh::{Fresh, fresh_column};
+use crate::entering::{LateRays, enter_all, enter_others, enter_row, none_seen};
+use crate::fresh::{Fresh, free_column};
 use crate::raising::raised_rays;
 use cone_core::{Ray, SparseRow, System};
 use double_description::{Kept, Permit, StepFault, sort_rays, without_supports};
@@ -43,23 +43,24 @@ fn eliminated<F: Fn(&Support, &Support) -> bool>(
     Ok(LateRays { kepts: next, seen })
 }
 
-/// One row more that has a fresh column.
+/// One row more that has a fresh column once its other columns have entered.
 fn extended<F: Fn(&Support, &Support) -> bool>(
     alloc: Global,
     permit: &Permit<F>,
     partners: &[Support],
     row: &SparseRow,
     fresh: Fresh,
-    late: LateRays,
+    mut late: LateRays,
     most: u64,
 ) -> Result<LateRays, StepFault>
     requires decides { DecidesClashes permit.now.columns permit.now.clashes.items (F.pre permit.now.test) (F.post permit.now.test) }
     requires partners { ArePartners permit.now.columns permit.now.clashes.items partners.now }
     requires in_range { IsInRange permit.now.columns row.now }
     requires late { AreLateOfFew permit.now.columns most permit.now.clashes.items late }
-    requires fresh { IsFreshColumn permit.now.columns row.now permit.now.clashes.items late.seen.items fresh }
+    requires fresh { IsFreeColumn permit.now.columns row.now permit.now.clashes.items late.seen.items fresh }
     ensures { IfOk result (AreNextLate permit.now.columns permit.now.clashes.items row.now late) }
 {
+    enter_others(alloc, permit.columns, row, fresh.column, &mut late)?;
     let LateRays { kepts, mut seen } = late;
     let next = raised_rays(alloc, permit, partners, row, fresh, kepts, most)?;
     seen[fresh.column as usize] = true;
@@ -81,7 +82,7 @@ fn next_late<F: Fn(&Support, &Support) -> bool>(
     requires late { AreLateOfFew permit.now.columns most permit.now.clashes.items late }
     ensures { IfOk result (AreNextLate permit.now.columns permit.now.clashes.items row.now late) }
 {
-    match fresh_column(alloc, permit.columns, &permit.clashes, row, &late.seen)? {
+    match free_column(alloc, permit.columns, &permit.clashes, row, &late.seen)? {
         Some(fresh) => extended(alloc, permit, partners, row, fresh, late, most),
         None => eliminated(alloc, permit, partners, row, late, most),
     }

@@ -4,6 +4,7 @@ ghost use Rattle.std.specs.Prelude.{◌≡◌, ℕ, ◌<◌, true, [], List, len
 ghost use Rattle.cone_core.specs.Sparse.{IsInRange};
 ghost use Rattle.cone_definitions.specs.Surfaces.{Clash};
 ghost use Rattle.late_columns.specs.Late.{IsUnseen, AreLate, AreSeen, HaveEntered};
+ghost use Rattle.late_columns.specs.Fresh.{IsLone};
 
 use cone_core::{Ray, SparseRow};
 use double_description::Kept;
@@ -59,6 +60,28 @@ fn enter_unseen(
     Ok(())
 }
 
+/// A column enters, unless it is seen or is this one.
+fn enter_other(
+    alloc: Global,
+    columns: u32,
+    other: u32,
+    column: u32,
+    late: &mut LateRays,
+) -> Result<(), NoMemory>
+    requires columns { length late.old.seen.items ≡ columns }
+    requires in_range { other < columns }
+    requires unseen { IsUnseen late.old.seen.items column }
+    ensures count { OnOk result (length late.new.seen.items ≡ columns) }
+    ensures entered { OnOk result (HaveEntered columns late.old late.new) }
+    ensures seen { OnOk result (IsUnseen late.new.seen.items other → other ≡ column) }
+    ensures unseen { OnOk result (IsUnseen late.new.seen.items column) }
+{
+    if other != column && !late.seen[other as usize] {
+        enter(alloc, columns, other, late)?;
+    }
+    Ok(())
+}
+
 /// All columns of a row enter.
 pub fn enter_row(
     alloc: Global,
@@ -73,6 +96,28 @@ pub fn enter_row(
 {
     for (column, _) in row.entries() {
         enter_unseen(alloc, columns, *column, late)?;
+    }
+    Ok(())
+}
+
+/// All columns of a row enter but one.
+pub fn enter_others(
+    alloc: Global,
+    columns: u32,
+    row: &SparseRow,
+    column: u32,
+    late: &mut LateRays,
+) -> Result<(), NoMemory>
+    requires columns { length late.old.seen.items ≡ columns }
+    requires in_range { IsInRange columns row.now }
+    requires unseen { IsUnseen late.old.seen.items column }
+    ensures count { OnOk result (length late.new.seen.items ≡ columns) }
+    ensures entered { OnOk result (HaveEntered columns late.old late.new) }
+    ensures lone { OnOk result (IsLone row.now late.new.seen.items column) }
+    ensures unseen { OnOk result (IsUnseen late.new.seen.items column) }
+{
+    for (other, _) in row.entries() {
+        enter_other(alloc, columns, *other, column, late)?;
     }
     Ok(())
 }

@@ -1,9 +1,9 @@
-// Rows with a fresh column: the only one that isn't seen, with the coefficient 1 or -1, and clashing with none.
+// Columns of rows that aren't seen, with the coefficient 1 or -1, and clashing with none.
 
 ghost use Rattle.std.specs.Prelude.{◌≡◌, ◌<◌, length, IsTrue, IfOk, IfSome};
 ghost use Rattle.cone_core.specs.Sparse.{IsInRange};
 ghost use Rattle.late_columns.specs.Late.{IsUnseen};
-ghost use Rattle.late_columns.specs.Fresh.{HasOne, IsLone, IsFree, IsFreshColumn};
+ghost use Rattle.late_columns.specs.Fresh.{HasOne, IsFree, IsFreeColumn};
 
 use cone_core::{MAX_ENTRY, PlusMinus, Ray, SparseRow, parts};
 use no_memory::NoMemory;
@@ -14,40 +14,6 @@ use std::alloc::Global;
 pub struct Fresh {
     pub column: u32,
     pub is_turned: bool,
-}
-
-/// The first column of a row that isn't seen.
-fn first_unseen(row: &[(u32, i32)], seen: &[bool]) -> Option<u32>
-    requires { IsInRange (length seen.now) row.now }
-    ensures { IfSome result (IsUnseen seen.now) }
-{
-    for (column, _) in row {
-        if !seen[*column as usize] {
-            return Some(*column);
-        }
-    }
-    None
-}
-
-/// Whether a column is seen, or is this one.
-fn is_seen_or(seen: &[bool], other: u32, column: u32) -> bool
-    requires { other < length seen.now }
-    ensures { IsTrue result → IsUnseen seen.now other → other ≡ column }
-{
-    other == column || seen[other as usize]
-}
-
-/// Whether no column of a row but this one isn't seen.
-fn is_lone(row: &[(u32, i32)], seen: &[bool], column: u32) -> bool
-    requires { IsInRange (length seen.now) row.now }
-    ensures { IsTrue result → IsLone row.now seen.now column }
-{
-    for (other, _) in row {
-        if !is_seen_or(seen, *other, column) {
-            return false;
-        }
-    }
-    true
 }
 
 /// Whether a column clashes with none.
@@ -81,23 +47,22 @@ fn turning(
     }
 }
 
-/// The only column of a row that isn't seen, where it clashes with none.
-fn lone_column(clashes: &[(u32, u32)], row: &[(u32, i32)], seen: &[bool]) -> Option<u32>
+/// The first column of a row that isn't seen and clashes with none.
+fn first_free(clashes: &[(u32, u32)], row: &[(u32, i32)], seen: &[bool]) -> Option<u32>
     requires { IsInRange (length seen.now) row.now }
     ensures unseen { IfSome result (IsUnseen seen.now) }
-    ensures lone { IfSome result (IsLone row.now seen.now) }
     ensures free { IfSome result (IsFree clashes.now) }
 {
-    let column = first_unseen(row, seen)?;
-    if is_lone(row, seen, column) && is_free(clashes, column) {
-        Some(column)
-    } else {
-        None
+    for (column, _) in row {
+        if !seen[*column as usize] && is_free(clashes, *column) {
+            return Some(*column);
+        }
     }
+    None
 }
 
-/// The fresh column of a row, where it has one.
-pub fn fresh_column(
+/// A column of a row that will be fresh once the others are seen, where there is one.
+pub fn free_column(
     alloc: Global,
     columns: u32,
     clashes: &[(u32, u32)],
@@ -106,9 +71,9 @@ pub fn fresh_column(
 ) -> Result<Option<Fresh>, NoMemory>
     requires columns { length seen.now ≡ columns }
     requires in_range { IsInRange columns row.now }
-    ensures { IfOk result (λ answer. IfSome answer (IsFreshColumn columns row.now clashes.now seen.now)) }
+    ensures { IfOk result (λ answer. IfSome answer (IsFreeColumn columns row.now clashes.now seen.now)) }
 {
-    if let Some(column) = lone_column(clashes, row.entries(), seen) {
+    if let Some(column) = first_free(clashes, row.entries(), seen) {
         if let Some(is_turned) = turning(alloc, columns, row, column)? {
             return Ok(Some(Fresh { column, is_turned }));
         }
