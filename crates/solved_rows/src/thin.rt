@@ -99,12 +99,58 @@ fn thin_by(
     }
 }
 
+/// Whether the row at a place became sparser in the round before this one, or in this one.
+fn is_due(rounds: &[u32], i: usize, round: u32) -> bool {
+    match rounds.get(i) {
+        Some(last) => round <= last.saturating_add(1),
+        None => true,
+    }
+}
+
+/// Notes the round in which the row at a place became sparser.
+fn note(rounds: &mut [u32], i: usize, round: u32) {
+    if i < rounds.len() {
+        rounds[i] = round;
+    }
+}
+
+/// Makes the row at a place sparser by the row at another place, if it can and one of the two changed since that was tried;
+/// tells whether it did.
+fn thin_pair(
+    alloc: Global,
+    columns: u32,
+    rows: &mut Vec<SparseRow>,
+    i: usize,
+    j: usize,
+    round: u32,
+    rounds: &mut [u32],
+) -> Result<bool, SolveFault>
+    requires place { i < length rows.old.items }
+    requires other_place { j < length rows.old.items }
+    requires apart { i ≢ j }
+    requires in_range { All (IsInRange columns) rows.old.items }
+    ensures count { OnOk result (length rows.new.items ≡ length rows.old.items) }
+    ensures same { OnOk result (HaveSameZeros rows.old.items rows.new.items) }
+    ensures in_range { OnOk result (All (IsInRange columns) rows.new.items) }
+{
+    if !is_due(rounds, i, round) && !is_due(rounds, j, round) {
+        return Ok(false);
+    }
+    let thinner = thin_by(alloc, columns, rows, i, j)?;
+    if thinner {
+        note(rounds, i, round);
+    }
+    Ok(thinner)
+}
+
 /// Makes the row at a place sparser by all others; tells whether it did.
 fn thin_row(
     alloc: Global,
     columns: u32,
     rows: &mut Vec<SparseRow>,
     i: usize,
+    round: u32,
+    rounds: &mut [u32],
 ) -> Result<bool, SolveFault>
     requires place { i < length rows.old.items }
     requires in_range { All (IsInRange columns) rows.old.items }
@@ -115,21 +161,27 @@ fn thin_row(
     let mut thinner = false;
     for j in 0..rows.len() {
         if j != i {
-            thinner |= thin_by(alloc, columns, rows, i, j)?;
+            thinner |= thin_pair(alloc, columns, rows, i, j, round, rounds)?;
         }
     }
     Ok(thinner)
 }
 
 /// Makes each row sparser once by all others; tells whether one became so.
-fn thin_once(alloc: Global, columns: u32, rows: &mut Vec<SparseRow>) -> Result<bool, SolveFault>
+fn thin_once(
+    alloc: Global,
+    columns: u32,
+    rows: &mut Vec<SparseRow>,
+    round: u32,
+    rounds: &mut [u32],
+) -> Result<bool, SolveFault>
     requires in_range { All (IsInRange columns) rows.old.items }
     ensures same { OnOk result (HaveSameZeros rows.old.items rows.new.items) }
     ensures in_range { OnOk result (All (IsInRange columns) rows.new.items) }
 {
     let mut thinner = false;
     for i in 0..rows.len() {
-        thinner |= thin_row(alloc, columns, rows, i)?;
+        thinner |= thin_row(alloc, columns, rows, i, round, rounds)?;
     }
     Ok(thinner)
 }
@@ -144,8 +196,9 @@ pub(crate) fn thin_rows(
     ensures same { OnOk result (HaveSameZeros rows.old.items rows.new.items) }
     ensures in_range { OnOk result (All (IsInRange columns) rows.new.items) }
 {
-    for _ in 0..ROUNDS {
-        if !thin_once(alloc, columns, rows)? {
+    let mut rounds = vec![in alloc; 0u32; rows.len()]?;
+    for round in 0..ROUNDS {
+        if !thin_once(alloc, columns, rows, round + 1, &mut rounds)? {
             break;
         }
     }

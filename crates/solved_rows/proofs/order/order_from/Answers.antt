@@ -8,22 +8,22 @@ use Rattle.std.proofs.lemmas.List.Sorted.{IsPermutation-refl, IsPermutation-more
 use Rattle.solved_rows.proofs.OrderLemmas.{all_taken}
 use Rattle.solved_rows.proofs.order.order_from.Goals as goal
 
-pub loop-walk-init : goal.loop-walk-init
-loop-walk-init c =
+pub loop-left-init : goal.loop-left-init
+loop-left-init c =
     let n = length c.args.rows.now in
     let left_is : c.in_ok-left.left.items ≡ range_with_len 0 n =
     rw c.in_ok-left.was at (items_from_collect c.collect.result c.collect.ensures.ran (YieldsList-from_range 0 n n refl (omega arith))) in
     subst₂ (λ a b. IsPermutation (range_with_len 0 n) (a ++ b)) (sym c.in_ok-places.ensures.items) (sym left_is) (IsPermutation-refl (range_with_len 0 n))
 
-pub loop-walk-preserved : goal.loop-walk-preserved
-loop-walk-preserved c =
+pub loop-left-preserved : goal.loop-left-preserved
+loop-left-preserved c =
     let n = length c.args.rows.now in
-    let left = c.loop-walk.left.items in
+    let left = c.loop-left.left.items in
     let position = c.next_position-position.result in
     let less : position < length left = (let e = ap length c.deref.ensures.value in omega (arith, e, c.next_position-position.ensures)) in
     subst₂ (λ a b. IsPermutation (range_with_len 0 n) (a ++ b)) (sym c.in_ok-push.ensures.items) (sym c.remove-place.ensures.items)
-    (IsPermutation-more (range_with_len 0 n) c.loop-walk.places.items left position c.remove-place.result less c.remove-place.ensures.value c.loop-walk.invariant)
+    (IsPermutation-more (range_with_len 0 n) c.loop-left.places.items left position c.remove-place.result less c.remove-place.ensures.value c.loop-left.invariant)
 
 pub returns : goal.returns
-returns c = all_taken (range_with_len 0 (length c.args.rows.now)) c.loop-walk.places.items c.loop-walk.left.items
-    (sym c.loop-walk.left.ok.0 ∙ eqb-true _ 0 (sym c.is_empty.ensures ∙ c.loop-walk-test.false)) c.loop-walk.invariant
+returns c = all_taken (range_with_len 0 (length c.args.rows.now)) c.loop-left.places.items c.loop-left.left.items
+    (sym c.loop-left.left.ok.0 ∙ eqb-true _ 0 (sym c.is_empty.ensures ∙ c.loop-left-test.false)) c.loop-left.invariant

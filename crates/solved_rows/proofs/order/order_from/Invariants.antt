@@ -4,8 +4,8 @@ use Rattle.std.specs.List.{range_with_len}
 use Rattle.std.specs.List.Sorted.{IsPermutation}
 use Rattle.solved_rows.proofs.order.order_from.Given as goal
 
-abbrev pub invariant-loop-walk : goal.invariant-loop-walk
-invariant-loop-walk l = IsPermutation (range_with_len 0 (length l.rows)) (l.places.items ++ l.left.items)
+abbrev pub invariant-loop-left : goal.invariant-loop-left
+invariant-loop-left l = IsPermutation (range_with_len 0 (length l.rows)) (l.places.items ++ l.left.items)
 
-abbrev pub decreases-loop-walk : goal.decreases-loop-walk
-decreases-loop-walk l = vec_len l.left
+abbrev pub decreases-loop-left : goal.decreases-loop-left
+decreases-loop-left l = vec_len l.left
