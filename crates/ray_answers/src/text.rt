@@ -1,6 +1,6 @@
 // Vectors as text: a line `vec` with the entries for each.
 
-ghost use Rattle.std.specs.Prelude.{◌≡◌, ◌++◌, decimal, OnOk, OnErr, IfOk};
+ghost use Rattle.std.specs.Prelude.{◌≡◌, ◌∷◌, ◌++◌, decimal, OnOk, OnErr, IfOk};
 ghost use Rattle.cone_text_definitions.specs.VectorText.{vector_text, entries_text, list_text};
 
 use cone_core::Ray;
@@ -8,10 +8,11 @@ use no_memory::NoMemory;
 use std::alloc::Global;
 use text_writing::{append, append_decimal};
 
-/// Appends the digits of an entry. Most entries are below 10, and their one digit is appended as it is.
-fn append_entry(alloc: Global, text: &mut Vec<u8>, entry: u128) -> Result<(), NoMemory>
-    ensures { OnOk result (text.new.items ≡ text.old.items ++ decimal entry) }
+/// Appends the digits of an entry after a space. Most entries are below 10, and their one digit is appended as it is.
+fn push_entry(alloc: Global, text: &mut Vec<u8>, entry: u128) -> Result<(), NoMemory>
+    ensures { OnOk result (text.new.items ≡ text.old.items ++ 32 ∷ decimal entry) }
 {
+    text.push(b' ')?;
     if entry < 10 {
         text.push(b'0' + entry as u8)?;
         Ok(())
@@ -20,16 +21,14 @@ fn append_entry(alloc: Global, text: &mut Vec<u8>, entry: u128) -> Result<(), No
     }
 }
 
-/// The entries, each after a space.
-fn entries_of(alloc: Global, x: &[u128]) -> Result<Vec<u8>, NoMemory>
-    ensures { IfOk result (λ text. text.items ≡ entries_text x.now) }
+/// Appends the entries, each after a space.
+fn push_entries(alloc: Global, text: &mut Vec<u8>, x: &[u128]) -> Result<(), NoMemory>
+    ensures { OnOk result (text.new.items ≡ text.old.items ++ entries_text x.now) }
 {
-    let mut text = Vec::with_capacity(alloc, x.len().saturating_mul(2))?;
     for entry in x {
-        append(&mut text, b" ")?;
-        append_entry(alloc, &mut text, *entry)?;
+        push_entry(alloc, text, *entry)?;
     }
-    Ok(text)
+    Ok(())
 }
 
 /// Appends the entries, each after a space. Without memory nothing is appended.
@@ -37,20 +36,19 @@ pub fn write_entries(alloc: Global, ray: &Ray, out: &mut Vec<u8>) -> Result<(), 
     ensures ok { OnOk result (out.new.items ≡ out.old.items ++ entries_text ray.now) }
     ensures err { OnErr result (out.new.items ≡ out.old.items) }
 {
-    let text = entries_of(alloc, ray.entries())?;
+    let mut text = Vec::new(alloc);
+    push_entries(alloc, &mut text, ray.entries())?;
     append(out, &text)
 }
 
-/// The line of a vector.
-fn line_of(alloc: Global, x: &[u128]) -> Result<Vec<u8>, NoMemory>
-    ensures { IfOk result (λ text. text.items ≡ vector_text x.now) }
+/// Appends the line of a vector.
+fn push_line(alloc: Global, text: &mut Vec<u8>, x: &[u128]) -> Result<(), NoMemory>
+    ensures { OnOk result (text.new.items ≡ text.old.items ++ vector_text x.now) }
 {
-    let entries = entries_of(alloc, x)?;
-    let mut text = Vec::new(alloc);
-    append(&mut text, b"vec")?;
-    append(&mut text, &entries)?;
-    append(&mut text, b"\n")?;
-    Ok(text)
+    append(text, b"vec")?;
+    push_entries(alloc, text, x)?;
+    append(text, b"\n")?;
+    Ok(())
 }
 
 /// Appends the line `vec` with the entries of a vector. Without memory nothing is appended.
@@ -58,7 +56,8 @@ pub fn write_vector(alloc: Global, x: &[u128], out: &mut Vec<u8>) -> Result<(), 
     ensures ok { OnOk result (out.new.items ≡ out.old.items ++ vector_text x.now) }
     ensures err { OnErr result (out.new.items ≡ out.old.items) }
 {
-    let text = line_of(alloc, x)?;
+    let mut text = Vec::new(alloc);
+    push_line(alloc, &mut text, x)?;
     append(out, &text)
 }
 
@@ -68,7 +67,7 @@ fn lines_of(alloc: Global, list: &[Ray]) -> Result<Vec<u8>, NoMemory>
 {
     let mut text = Vec::new(alloc);
     for ray in list {
-        write_vector(alloc, ray.entries(), &mut text)?;
+        push_line(alloc, &mut text, ray.entries())?;
     }
     Ok(text)
 }
