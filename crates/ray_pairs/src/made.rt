@@ -34,7 +34,7 @@ fn made_in_turn<F: Fn(&Support, &Support) -> bool>(
     ensures made { IfOk result (λ made. IsMadeUpTo MAX_ENTRY permit.now.clashes.items (rays_of kepts.now) signs.now (length signs.now) 0 (rays_of made.items)) }
     ensures widths { IfOk result (λ made. AreOfWidth permit.now.columns made.items) }
 {
-    let mut made = Vec::new(alloc);
+    let mut made = Vec::with_capacity(alloc, kepts.len())?;
     if !has_positive(signs) {
         return Ok(made);
     }
