@@ -6,8 +6,9 @@ ghost use Rattle.table_definitions.specs.Table.{Gluing, IsTable};
 ghost use Rattle.surface_definitions.specs.Coordinates.{three};
 ghost use Rattle.surface_definitions.specs.Crushing.{has_quad, is_removed, passed, CrushesTo};
 
-use crate::quads::{exchange, partner, quad_type};
+use crate::quads::{exchange, quad_type};
 use gluing_table::{Face, Glue, Table};
+use normal_discs::partner;
 
 /// What a chain reaches behind a tetrahedron that is taken out: it comes from `start` by `glue`, and the quads there
 /// are of this type.

@@ -4,10 +4,12 @@ ghost use Rattle.std.specs.Prelude.{◌≡◌, ◌≢◌, ◌+◌, ◌*◌, ◌<
 ghost use Rattle.table_definitions.specs.Lists.{in_place_of};
 ghost use Rattle.std.specs.List.{position_or_len};
 ghost use Rattle.table_definitions.specs.Permutation.{IsPermutationOfFour};
-ghost use Rattle.surface_definitions.specs.Coordinates.{three, partner as partner_of};
+ghost use Rattle.surface_definitions.specs.Coordinates.{three};
 ghost use Rattle.surface_definitions.specs.Crushing.{has_quad, is_removed as is_taken, exchange as exchange_of};
 
+use normal_discs::{columns_each, triangles_each};
 use perm_four::Perm4;
+use surface_definitions::Coords;
 
 /// The type 0, 1 or 2 of the quads of a tetrahedron; nothing exactly where it has none.
 pub fn quad_type(x: &[u128], tet: u32) -> Option<u8>
@@ -17,7 +19,8 @@ pub fn quad_type(x: &[u128], tet: u32) -> Option<u8>
     ensures first { IfSome result (λ k. k ≡ position_or_len (has_quad x.now tet) three) }
     ensures in_range { IfSome result (λ k. k < 3) }
 {
-    let quads = 7 * tet as usize + 4;
+    let before = columns_each(Coords::Standard) as usize * tet as usize;
+    let quads = before + triangles_each(Coords::Standard) as usize;
     if x[quads] > 0 {
         Some(0)
     } else if x[quads + 1] > 0 {
@@ -36,20 +39,6 @@ pub fn is_removed(x: &[u128], tet: u32) -> bool
 {
     quad_type(x, tet).is_some()
 }
-
-/// The vertex that quads of a type keep on the side of v.
-pub fn partner(kind: u8, v: u8) -> u8
-    requires one_of_three { kind < 3 }
-    requires a_vertex { v < 4 }
-    ensures value { result ≡ partner_of kind v }
-    ensures in_range { result < 4 }
-    ensures other { result ≢ v }
-{
-    PARTNERS[kind as usize][v as usize]
-}
-
-// For each type of quads the other vertex on the side of each.
-const PARTNERS: [[u8; 4]; 3] = [[1, 0, 3, 2], [2, 3, 0, 1], [3, 2, 1, 0]];
 
 /// Where the exchange of v and w takes a vertex.
 fn exchanged(v: u8, w: u8, u: u8) -> u8

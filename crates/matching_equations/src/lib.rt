@@ -1,15 +1,13 @@
-//! The columns of normal and octagonal surfaces, and the equations of a gluing table.
+//! The equations of normal and octagonal surfaces of a gluing table.
 #![tactic(auto)]
 
-mod coords;
 mod equation;
 mod matching;
 mod quads;
 mod table_equations;
 
-pub use coords::{column, columns, columns_each, triangles_each};
 pub use matching::matching_system;
-pub use surface_definitions::{Coords, Piece};
+pub use surface_definitions::Coords;
 pub use table_equations::equations;
 
 #[cfg(test)]

@@ -9,11 +9,11 @@ ghost use Rattle.table_definitions.specs.Table as gluings;
 ghost use Rattle.table_definitions.specs.Table.{IsTable};
 ghost use Rattle.matching_equations.specs.Matching.{glued_rows, face_rows, tet_rows};
 
-use crate::coords::columns;
-use crate::equation::{arc_columns, row_of};
+use crate::equation::row_of;
 use cone_core::System;
 use gluing_table::{Face, Glue, Table};
 use no_memory::NoMemory;
+use normal_discs::{arc_columns, columns};
 use std::alloc::Global;
 use surface_definitions::Coords;
 

@@ -8,23 +8,23 @@ ghost use Rattle.skeleton_definitions.specs.Skeleton.{IsSkeleton};
 ghost use Rattle.class_laws.specs.CornersIn.{AreCornersIn};
 ghost use Rattle.matching_equations.specs.Quads.{IsRowAppended};
 
-use crate::coords::{columns, columns_each};
-use crate::equation::{keeping, row_of};
+use crate::equation::row_of;
 use cone_core::System;
 use no_memory::NoMemory;
+use normal_discs::{columns, keeping, quad_column};
 use skeleton::{Corner, Skeleton};
 use std::alloc::Global;
 use surface_definitions::Coords;
 
 /// The column of the quad that keeps two vertices of a tetrahedron on one side.
-fn quad_column(tet: u32, vertex: u8, other: u8) -> u32
+fn quad_along(tet: u32, vertex: u8, other: u8) -> u32
     requires tet { tet ≤ 1000 }
     requires a_vertex { vertex < 4 }
     requires another { other < 4 }
     requires apart { vertex ≢ other }
     ensures { result ≡ coordinates.quad_column Coords.Quad tet (coordinates.keeping vertex other) }
 {
-    columns_each(Coords::Quad) * tet + u32::from(keeping(vertex, other))
+    quad_column(Coords::Quad, tet, keeping(vertex, other))
 }
 
 /// Of each corner, the column of the quad that keeps a and c on one side.
@@ -34,7 +34,7 @@ fn first_columns(alloc: Global, corners: &[Corner]) -> Result<Vec<u32>, NoMemory
 {
     let mut columns = Vec::with_capacity(alloc, corners.len())?;
     for corner in corners {
-        columns.push(quad_column(corner.tet, corner.a, corner.c))?;
+        columns.push(quad_along(corner.tet, corner.a, corner.c))?;
     }
     Ok(columns)
 }
@@ -46,7 +46,7 @@ fn second_columns(alloc: Global, corners: &[Corner]) -> Result<Vec<u32>, NoMemor
 {
     let mut columns = Vec::with_capacity(alloc, corners.len())?;
     for corner in corners {
-        columns.push(quad_column(corner.tet, corner.a, corner.d))?;
+        columns.push(quad_along(corner.tet, corner.a, corner.d))?;
     }
     Ok(columns)
 }

@@ -84,12 +84,3 @@ fn a_sphere_has_two_rows_in_quads(rt: HostRuntime) -> Result<(), NoMemory> {
     are_rows(&rt, &quad, &[&[(1, -1), (2, 1)], &[(1, 1), (2, -1)]]);
     Ok(())
 }
-
-#[test]
-fn pieces_have_columns(rt: HostRuntime) {
-    assert_eq!(rt; columns(Coords::Quad, 2), 6);
-    assert_eq!(rt; column(Coords::Standard, 1, Piece::Quad(2)), Some(13));
-    assert_eq!(rt; column(Coords::Octagon, 1, Piece::Oct(0)), Some(17));
-    assert_eq!(rt; column(Coords::Quad, 1, Piece::Tri(0)), None);
-    assert_eq!(rt; column(Coords::Standard, 0, Piece::Tri(4)), None);
-}

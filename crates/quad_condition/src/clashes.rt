@@ -6,23 +6,10 @@ ghost use Rattle.surface_definitions.specs.Verdict.{both_nonzero};
 ghost use Rattle.double_description.specs.Clashes.{AreClashes};
 ghost use Rattle.quad_condition.specs.Partners.{partners};
 
-use matching_equations::{Coords, columns, columns_each, triangles_each};
 use no_memory::NoMemory;
+use normal_discs::{columns, columns_each, is_octagon, is_quad_or_octagon, tet_of};
 use std::alloc::Global;
-
-/// Whether a column counts a quad or an octagon.
-fn is_quad_or_octagon(coords: Coords, column: u32) -> bool
-    ensures { result ≡ coordinates.is_quad_or_octagon coords column }
-{
-    column % columns_each(coords) >= triangles_each(coords)
-}
-
-/// Whether a column counts an octagon.
-fn is_octagon(coords: Coords, column: u32) -> bool
-    ensures { result ≡ coordinates.is_octagon coords column }
-{
-    column % columns_each(coords) >= 7
-}
+use surface_definitions::Coords;
 
 /// Whether two columns clash.
 fn do_clash(coords: Coords, first: u32, second: u32) -> bool
@@ -31,8 +18,7 @@ fn do_clash(coords: Coords, first: u32, second: u32) -> bool
     if is_octagon(coords, first) && is_octagon(coords, second) {
         return true;
     }
-    let each = columns_each(coords);
-    first / each == second / each
+    tet_of(coords, first) == tet_of(coords, second)
         && is_quad_or_octagon(coords, first)
         && is_quad_or_octagon(coords, second)
 }

@@ -2,38 +2,27 @@
 
 ghost use Rattle.std.specs.Prelude.{◌≡◌, ◌≢◌, ◌+◌, ◌*◌, ◌/◌, ◌%◌, ◌<◌, ◌≤◌, length, slice_index, IfNone, IfSome, None};
 ghost use Rattle.surface_definitions.specs.declared.Coords.TheVariants.{Quad as QuadCoords};
-ghost use Rattle.surface_definitions.specs.Coordinates.{quad_column, keeping};
+ghost use Rattle.surface_definitions.specs.Coordinates as coordinates;
 ghost use Rattle.table_definitions.specs.Table as gluings;
 ghost use Rattle.skeleton_definitions.specs.Skeleton.{IsSkeleton};
 ghost use Rattle.quad_lift.specs.Crossings.{IsCrossing};
 
 use gluing_table::Face;
+use normal_discs::{keeping, quad_column};
 use skeleton::Skeleton;
-
-// The type of quads that keeps two vertices on one side; a vertex and itself have none.
-const KEEPING: [[u8; 4]; 4] = [[3, 0, 1, 2], [0, 3, 2, 1], [1, 2, 3, 0], [2, 1, 0, 3]];
-
-/// The type of quads that keeps two vertices on one side.
-fn kept_together(v: u8, w: u8) -> u8
-    requires one { v < 4 }
-    requires other { w < 4 }
-    requires apart { v ≢ w }
-    ensures value { result ≡ keeping v w }
-    ensures in_range { result < 3 }
-{
-    KEEPING[v as usize][w as usize]
-}
+use surface_definitions::Coords;
 
 /// How many quads have an arc round v in the face.
 fn quads_round(x: &[u128], face: Face, v: u8) -> u128
+    requires few { face.tet ≤ 1000 }
     requires width { 3 * face.tet + 3 ≤ length x.now }
     requires a_face { face.face < 4 }
     requires a_vertex { v < 4 }
     requires off { v ≢ face.face }
-    ensures { result ≡ slice_index x.now (quad_column QuadCoords face.tet (keeping v face.face)) }
+    ensures { result ≡ slice_index x.now (coordinates.quad_column QuadCoords face.tet (coordinates.keeping v face.face)) }
 {
-    let kind = kept_together(v, face.face);
-    x[3 * face.tet as usize + kind as usize]
+    let kind = keeping(v, face.face);
+    x[quad_column(Coords::Quad, face.tet, kind) as usize]
 }
 
 /// A vertex and that across a face, and how many quads are met on either side: from the one to the other heights rise

@@ -4,7 +4,7 @@ ghost use Rattle.std.specs.Prelude.{◌≡◌, ◌≢◌, ◌+◌, ◌*◌, ◌<
 ghost use Rattle.text_definitions.specs.Written.{limit};
 ghost use Rattle.skeleton_definitions.specs.Skeleton.{IsSkeleton};
 ghost use Rattle.surface_definitions.specs.declared.Coords.TheVariants.{Standard, Quad as QuadCoords};
-ghost use Rattle.surface_definitions.specs.Coordinates.{columns};
+ghost use Rattle.surface_definitions.specs.Coordinates as coordinates;
 ghost use Rattle.surface_definitions.specs.Lift.{projected, IsLift};
 ghost use Rattle.vector_definitions.specs.Lifting.{IsLiftAnswer};
 ghost use Rattle.vector_laws.specs.LiftLaws.{IsSurfaceOver};
@@ -15,8 +15,10 @@ use crate::heights::heights_of;
 use crate::lows::lows_of;
 use crate::sums::four_times;
 use no_memory::NoMemory;
+use normal_discs::{columns, columns_each, place_of, quad_column, tet_of, triangles_each, type_of};
 use skeleton::Skeleton;
 use std::alloc::{AllocError, Global};
+use surface_definitions::Coords;
 use vector_definitions::LiftFault;
 
 /// An entry of the lift: a height above the least of its class, or quads.
@@ -28,13 +30,14 @@ fn entry(skeleton: &Skeleton, x: &[u128], heights: &[u128], lows: &[u128], colum
     requires in_range { column < 7 * length skeleton.now.rows }
     ensures { result ≡ lifted_entry skeleton.now x.now heights.now lows.now column }
 {
-    let tet = column / 7;
-    let place = column % 7;
-    if place < 4 {
+    let tet = tet_of(Coords::Standard, column);
+    let place = place_of(Coords::Standard, column);
+    if place < triangles_each(Coords::Standard) {
         let class = skeleton.vertex_class(tet, place as u8);
         heights[4 * tet as usize + place as usize] - lows[class as usize]
     } else {
-        x[3 * tet as usize + (place as usize - 4)]
+        let kind = type_of(Coords::Standard, column);
+        x[quad_column(Coords::Quad, tet, kind) as usize]
     }
 }
 
@@ -53,7 +56,7 @@ fn entries(
     ensures length { IfOk result (λ ys. length ys.items ≡ 7 * length skeleton.now.rows) }
     ensures entries { IfOk result (λ ys. (i : ℕ) → i < 7 * length skeleton.now.rows → slice_index ys.items i ≡ lifted_entry skeleton.now x.now heights.now lows.now i) }
 {
-    let columns = 7 * skeleton.table().len();
+    let columns = columns(Coords::Standard, skeleton.table().len());
     let mut entries = Vec::with_capacity(alloc, columns as usize)?;
     for column in 0..columns {
         entries.push(entry(skeleton, x, heights, lows, column))?;
@@ -67,7 +70,7 @@ fn entries(
 /// `Large` where four times the sum of the entries passes 2^127 - 1; else `NoLift` with the least vertex class at which
 /// there is no lift.
 pub fn lift(alloc: Global, skeleton: &Skeleton, x: &[u128]) -> Result<Vec<u128>, LiftFault>
-    requires { length x.now ≡ columns QuadCoords (length skeleton.now.rows) }
+    requires { length x.now ≡ coordinates.columns QuadCoords (length skeleton.now.rows) }
     ensures lifted { IfOk result (λ ys. IsLiftAnswer limit skeleton.now x.now (Ok ys.items)) }
     ensures surface { IfOk result (λ ys. IsSurfaceOver skeleton.now x.now ys.items) }
     ensures fault { IfErr result (λ e. e ≢ LiftFault.NoMemory → IsLiftAnswer limit skeleton.now x.now (Err e)) }
@@ -88,14 +91,16 @@ pub fn lift(alloc: Global, skeleton: &Skeleton, x: &[u128]) -> Result<Vec<u128>,
 
 /// The quads of a standard vector of so many tetrahedra.
 pub fn project(alloc: Global, tets: u32, x: &[u128]) -> Result<Vec<u128>, NoMemory>
-    requires { length x.now ≡ columns Standard tets }
+    requires { length x.now ≡ coordinates.columns Standard tets }
     ensures { IfOk result (λ quads. quads.items ≡ projected tets x.now) }
 {
-    let mut quads = Vec::with_capacity(alloc, 3 * tets as usize)?;
+    let mut quads = Vec::with_capacity(alloc, columns_each(Coords::Quad) as usize * tets as usize)?;
     for tet in 0..tets as usize {
-        quads.push(x[7 * tet + 4])?;
-        quads.push(x[7 * tet + 5])?;
-        quads.push(x[7 * tet + 6])?;
+        let first = columns_each(Coords::Standard) as usize * tet;
+        let first = first + triangles_each(Coords::Standard) as usize;
+        quads.push(x[first])?;
+        quads.push(x[first + 1])?;
+        quads.push(x[first + 2])?;
     }
     Ok(quads)
 }

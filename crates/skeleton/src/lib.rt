@@ -14,6 +14,7 @@ mod skeleton;
 
 pub use class_laws::Kind;
 pub use corners::Corner;
+pub use edges::edge_ends;
 pub use numbering::{Numbering, classes_of};
 pub use skeleton::Skeleton;
 

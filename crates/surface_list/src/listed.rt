@@ -12,8 +12,9 @@ use crate::bounds::numbers_fit;
 use cone_core::{MAX_ENTRY, Ray, System};
 use double_description::{EnumFault, Order, Permit, Picker, Rays, choice, enumerate};
 use late_columns::vertex_surfaces;
-use matching_equations::{Coords, columns_each, equations, triangles_each};
+use matching_equations::{Coords, equations};
 use no_memory::NoMemory;
+use normal_discs::{columns_each, is_quad_or_octagon};
 use quad_condition::{Masks, clash_list};
 use skeleton::Skeleton;
 use solved_rows::{SolveFault, solve};
@@ -50,7 +51,7 @@ fn enumerated(
 fn is_triangle(coords: Coords, column: u32) -> bool
     ensures { result ≡ is_triangle coords column }
 {
-    column % columns_each(coords) < triangles_each(coords)
+    !is_quad_or_octagon(coords, column)
 }
 
 /// The triangle columns of a system, tetrahedron by tetrahedron.

@@ -7,3 +7,4 @@ pub mod Tallies
 pub mod SignsFound
 pub mod ComponentsTold
 pub mod FreeTetrahedron
+pub mod FirstNonzero

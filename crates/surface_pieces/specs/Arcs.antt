@@ -1,8 +1,7 @@
 -- The arc of a piece round a vertex of a face.
-use Rattle.std.specs.Prelude.{◌≡◌, ℕ, ◌/◌, ◌<◌, not, List, map, filter, ◌==◌, nat_lt, slice_index}
+use Rattle.std.specs.Prelude.{◌≡◌, ℕ, ◌/◌, ◌<◌, List, nat_lt, slice_index}
 use Rattle.std.specs.List.{position_or_len, slice_index_or}
-use Rattle.surface_definitions.specs.Coordinates.{columns_each, oct_column, three}
-use Rattle.surface_definitions.specs.declared.Coords.TheVariants.{Octagon}
+use Rattle.surface_definitions.specs.Coordinates.{columns_each}
 use Rattle.surface_definitions.specs.declared.Coords.{Coords}
 use Rattle.surface_definitions.specs.Pieces.{SurfacePiece, Arc, arcs_round, piece_of}
 
@@ -25,7 +24,3 @@ HasNoArc coords xs p f v = (b : Arc) → IsArcOf coords xs p f v b → ⊥
 -- the first of these columns that isn't 0, or else q
 abbrev pub first_nonzero : List ℕ → List ℕ → ℕ → ℕ
 first_nonzero xs os q = slice_index_or os (position_or_len (λ c. nat_lt 0 (slice_index xs c)) os) q
-
--- the columns of the octagons of the two other types
-abbrev pub octagons_beside : ℕ → ℕ → List ℕ
-octagons_beside t k = map (oct_column Octagon t) (filter (λ j. not (j == k)) three)

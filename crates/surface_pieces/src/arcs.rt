@@ -8,18 +8,19 @@ ghost use Rattle.vector_definitions.specs.Components.{most_pieces};
 ghost use Rattle.vector_laws.specs.PieceLaws.{IsSurface, IsPieceOf};
 ghost use Rattle.surface_pieces.specs.Arcs.{IsOnlyArcOf, HasNoArc};
 
-use crate::columns::{SurfaceArc, behind, first_column, tet_of, type_of};
+use crate::columns::{SurfaceArc, behind};
 use crate::counts::Piece;
 use gluing_table::Table;
+use normal_discs::{partner, tet_of, triangle_column, type_of};
 use surface_definitions::Coords;
 
 /// Whether a type keeps a vertex on the side of vertex 0.
-fn keeps_by_zero(kind: u32, v: u8) -> bool
+fn keeps_by_zero(kind: u8, v: u8) -> bool
     requires a_type { kind < 3 }
     requires a_vertex { v < 4 }
     ensures { result ≡ pieces.keeps_by_zero kind v }
 {
-    v == 0 || v as u32 == kind + 1
+    v == 0 || partner(kind, v) == 0
 }
 
 /// The number of triangles round the vertex of an arc.
@@ -30,7 +31,7 @@ fn triangles(coords: Coords, x: &[u32], arc: SurfaceArc) -> u32
     requires width { coordinates.columns coords (arc.tet + 1) < length x.now + 1 }
     ensures { result ≡ pieces.triangles_round coords x.now arc }
 {
-    x[(first_column(coords, arc.tet) + arc.vertex as u32) as usize]
+    x[triangle_column(coords, arc.tet, arc.vertex) as usize]
 }
 
 /// The number of a place counted from the one end or from the other.
@@ -57,7 +58,7 @@ pub fn piece_of(coords: Coords, x: &[u32], arc: SurfaceArc) -> Piece
     let triangles = triangles(coords, x, arc);
     if arc.place < triangles {
         return Piece {
-            column: first_column(coords, arc.tet) + arc.vertex as u32,
+            column: triangle_column(coords, arc.tet, arc.vertex),
             number: arc.place,
         };
     }
@@ -112,7 +113,7 @@ pub fn arc_of(
         vertex,
         place: 0,
     };
-    if piece.column == first_column(coords, tet) + vertex as u32 {
+    if piece.column == triangle_column(coords, tet, vertex) {
         return Some(SurfaceArc {
             tet,
             face,

@@ -1,10 +1,11 @@
-//! The columns that have an arc round a vertex of a face.
+//! The arcs round a vertex of a face, and the column of those behind the triangles.
 
-ghost use Rattle.std.specs.Prelude.{◌≡◌, ◌≢◌, ◌+◌, ◌*◌, ◌/◌, ◌%◌, ◌<◌, ◌≤◌, length};
+ghost use Rattle.std.specs.Prelude.{◌≡◌, ◌≢◌, ◌+◌, ◌*◌, ◌%◌, ◌<◌, ◌≤◌, All, length};
 ghost use Rattle.surface_definitions.specs.Coordinates as coordinates;
 ghost use Rattle.surface_definitions.specs.Pieces as pieces;
-ghost use Rattle.surface_pieces.specs.Arcs.{first_nonzero, octagons_beside};
+ghost use Rattle.surface_pieces.specs.Arcs.{first_nonzero};
 
+use normal_discs::{keeping, octagon_arcs, quad_column};
 use std::marker::Model;
 use surface_definitions::Coords;
 
@@ -27,71 +28,18 @@ impl Model for SurfaceArc {
     ghost inverse = { λ a. record { tet = a.tet; face = a.face; vertex = a.vertex; place = a.place } };
 }
 
-// The type of quads that keeps two vertices on one side, and the two others.
-const KEEPING: [[u32; 4]; 4] = [[3, 0, 1, 2], [0, 3, 2, 1], [1, 2, 3, 0], [2, 1, 0, 3]];
-
-const OTHERS: [[u32; 2]; 3] = [[1, 2], [0, 2], [0, 1]];
-
-/// The first column of a tetrahedron.
-pub fn first_column(coords: Coords, tet: u32) -> u32
-    requires coords { coords ≢ Coords.Quad }
-    requires few { tet < 1000 }
-    ensures value { result ≡ coordinates.columns_each coords * tet }
-    ensures few { result ≤ 10 * tet }
+/// The first of these columns that isn't 0, or else another.
+#[tactic(auto, using(crate::proofs::FirstNonzero::nonzero_here, crate::proofs::FirstNonzero::zero_here))]
+fn first_nonzero_of(x: &[u32], columns: &[u32], other: u32) -> u32
+    requires { All (λ c. c < length x.now) columns.now }
+    ensures { result ≡ first_nonzero x.now columns.now other }
 {
-    if coords == Coords::Octagon {
-        10 * tet
-    } else {
-        7 * tet
+    for column in columns {
+        if x[*column as usize] > 0 {
+            return *column;
+        }
     }
-}
-
-/// The tetrahedron of a column.
-pub fn tet_of(coords: Coords, column: u32) -> u32
-    requires coords { coords ≢ Coords.Quad }
-    ensures value { result ≡ column / coordinates.columns_each coords }
-{
-    if coords == Coords::Octagon {
-        column / 10
-    } else {
-        column / 7
-    }
-}
-
-/// The type of the quads or octagons in a column.
-pub fn type_of(coords: Coords, column: u32) -> u32
-    requires coords { coords ≢ Coords.Quad }
-    requires no_triangle { 4 ≤ column % coordinates.columns_each coords }
-    ensures value { result ≡ pieces.type_in coords column }
-    ensures in_range { result < 3 }
-{
-    if coords == Coords::Octagon && column % 10 >= 7 {
-        column % 10 - 7
-    } else if coords == Coords::Octagon {
-        column % 10 - 4
-    } else {
-        column % 7 - 4
-    }
-}
-
-/// The column of the octagons behind the triangles, or of the quads where there are none.
-fn behind_octagons(x: &[u32], tet: u32, kind: u32) -> u32
-    requires a_type { kind < 3 }
-    requires few { tet < 1000 }
-    requires width { 10 * tet + 10 ≤ length x.now }
-    ensures column { result ≡ first_nonzero x.now (octagons_beside tet kind) (10 * tet + 4 + kind) }
-    ensures no_triangle { 4 ≤ result % 10 }
-    ensures in_range { result < 10 * tet + 10 }
-{
-    let first = 10 * tet;
-    let [q, r] = OTHERS[kind as usize];
-    if x[(first + 7 + q) as usize] > 0 {
-        first + 7 + q
-    } else if x[(first + 7 + r) as usize] > 0 {
-        first + 7 + r
-    } else {
-        first + 4 + kind
-    }
+    other
 }
 
 /// The column of the arcs behind the triangles.
@@ -106,10 +54,7 @@ pub fn behind(coords: Coords, x: &[u32], arc: SurfaceArc) -> u32
     ensures no_triangle { 4 ≤ result % coordinates.columns_each coords }
     ensures in_range { result < length x.now }
 {
-    let kind = KEEPING[arc.vertex as usize][arc.face as usize];
-    if coords == Coords::Octagon {
-        behind_octagons(x, arc.tet, kind)
-    } else {
-        7 * arc.tet + 4 + kind
-    }
+    let octagons = octagon_arcs(coords, arc.tet, arc.face, arc.vertex);
+    let quads = quad_column(coords, arc.tet, keeping(arc.vertex, arc.face));
+    first_nonzero_of(x, octagons.as_slice(), quads)
 }

@@ -1,3 +1,4 @@
 pub mod CappedSums
 pub mod ArcSums
 pub mod LargeSums
+pub mod ColumnsInRange

@@ -13,16 +13,14 @@ ghost use Rattle.surface_properties.specs.Counted.{counted as counted_at, counte
 
 use crate::sums::{add, sum_at};
 use gluing_table::{Face, Table};
+use normal_discs::arc_columns;
 use surface_definitions::Coords;
 
-// The type of quads that keeps two vertices on one side, and the two others.
-const KEEPING: [[u32; 4]; 4] = [[3, 0, 1, 2], [0, 3, 2, 1], [1, 2, 3, 0], [2, 1, 0, 3]];
-
-const OTHERS: [[u32; 2]; 3] = [[1, 2], [0, 2], [0, 1]];
 // The vertices of each face.
 const CORNERS: [[u8; 3]; 4] = [[1, 2, 3], [0, 2, 3], [0, 1, 3], [0, 1, 2]];
 
 /// The arcs round a vertex of a face.
+#[tactic(auto, using(crate::proofs::ColumnsInRange::arcs_inside))]
 pub fn arcs_round(coords: Coords, x: &[u128], face: Face, v: u8) -> u128
     requires coords { coords ≢ Coords.Quad }
     requires a_face { face.face < 4 }
@@ -32,23 +30,8 @@ pub fn arcs_round(coords: Coords, x: &[u128], face: Face, v: u8) -> u128
     requires width { columns coords (face.tet + 1) < length x.now + 1 }
     ensures { result ≡ capped (pieces.arcs_round coords x.now face.tet face.face v) }
 {
-    let kind = KEEPING[v as usize][face.face as usize];
-    if coords == Coords::Octagon {
-        let first = 10 * face.tet;
-        let [q, r] = OTHERS[kind as usize];
-        sum_at(
-            x,
-            &[
-                first + v as u32,
-                first + 4 + kind,
-                first + 7 + q,
-                first + 7 + r,
-            ],
-        )
-    } else {
-        let first = 7 * face.tet;
-        sum_at(x, &[first + v as u32, first + 4 + kind])
-    }
+    let columns = arc_columns(coords, face.tet, face.face, v);
+    sum_at(x, columns.as_slice())
 }
 
 /// A vertex of a face, by its number among the three.

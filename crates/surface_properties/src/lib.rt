@@ -6,7 +6,7 @@ mod points;
 mod properties;
 mod sums;
 
-pub use properties::properties_of;
+pub use properties::{is_linking, properties_of};
 pub use vector_definitions::{Properties, PropertyFault, Sum};
 
 #[cfg(test)]

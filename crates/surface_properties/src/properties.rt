@@ -12,6 +12,7 @@ use crate::arcs::{arcs, arcs_in};
 use crate::points::points;
 use crate::sums::{MAX_ENTRY, add, sum_of};
 use gluing_table::{Face, Table};
+use normal_discs::{columns_each, triangles_each};
 use skeleton::Skeleton;
 use surface_definitions::Coords;
 use vector_definitions::{Properties, PropertyFault, Sum};
@@ -23,12 +24,12 @@ fn has_others(coords: Coords, x: &[u128], column: usize) -> bool
     ensures some { IsTrue result → is_quad_or_octagon coords column ≡ true × (0 < slice_index x.now column) }
     ensures none { result ≡ false → is_quad_or_octagon coords column ≡ true → slice_index x.now column ≡ 0 }
 {
-    let each = if coords == Coords::Octagon { 10 } else { 7 };
-    column % each >= 4 && x[column] > 0
+    let place = column % columns_each(coords) as usize;
+    place >= triangles_each(coords) as usize && x[column] > 0
 }
 
 /// Whether all quads and octagons are 0.
-fn is_linking(coords: Coords, x: &[u128]) -> bool
+pub fn is_linking(coords: Coords, x: &[u128]) -> bool
     requires { coords ≢ Coords.Quad }
     ensures { result ≡ characteristic.is_linking coords x.now }
 {

@@ -16,6 +16,11 @@ overflow_add-result c =
     let b : IsBehind c.args.skeleton.now.rows _ = behind c.args.skeleton.now.rows c.table.result.now (record { tet = c.args.vertex / 4; face = c.args.face }) c.in_ok-glue.glue c.requires.skeleton.table c.table.ensures.rows c.in_ok-glue.ensures in
     omega (arith, b.in_range, b.few, ap (λ (g : Gluing). g.tet) c.glue-2.view_is, c.image-w.ensures.in_range)
 
+pub quads_round-requires-2-clause-few : goal.quads_round-requires-2-clause-few
+quads_round-requires-2-clause-few c =
+    let b : IsBehind c.args.skeleton.now.rows _ = behind c.args.skeleton.now.rows c.table.result.now (record { tet = c.args.vertex / 4; face = c.args.face }) c.in_ok-glue.glue c.requires.skeleton.table c.table.ensures.rows c.in_ok-glue.ensures in
+    omega (arith, b.in_range, b.few, ap (λ (g : Gluing). g.tet) c.glue-2.view_is, ap (λ (y : Face). y.tet) c.other_side.ensures.value)
+
 pub quads_round-requires-2-clause-width : goal.quads_round-requires-2-clause-width
 quads_round-requires-2-clause-width c =
     let b : IsBehind c.args.skeleton.now.rows _ = behind c.args.skeleton.now.rows c.table.result.now (record { tet = c.args.vertex / 4; face = c.args.face }) c.in_ok-glue.glue c.requires.skeleton.table c.table.ensures.rows c.in_ok-glue.ensures in

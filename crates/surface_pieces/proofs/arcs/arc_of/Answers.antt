@@ -8,13 +8,13 @@ use Rattle.surface_pieces.specs.Arcs.{IsOnlyArcOf}
 use Rattle.surface_pieces.proofs.ArcsOfPieces.{triangle_arc, further_arc, tet_in_range}
 use Rattle.surface_pieces.proofs.arcs.arc_of.Goals as goal
 
-pub returns-then-piece-first_column-clause-some : goal.returns-then-piece-first_column-clause-some
-returns-then-piece-first_column-clause-some c =
+pub returns-then-piece-triangle_column-clause-some : goal.returns-then-piece-triangle_column-clause-some
+returns-then-piece-triangle_column-clause-some c =
     subst (λ k. IsOnlyArcOf c.args.coords c.args.x.now c.args.piece c.args.face c.args.vertex (arc_at c.tet_of-tet.result c.args.face c.args.vertex k)) (sym number)
     (triangle_arc c.args.coords (length c.args.table.now) c.args.x.now c.requires.surface.triangles c.requires.surface.admissible c.tet_of-tet.result c.args.face c.args.vertex
     (tet_in_range c.args.table.now c.args.coords c.args.x.now c.args.piece.column c.tet_of-tet.result c.requires.surface c.requires.piece.column tet)
     c.requires.a_face c.requires.a_vertex c.requires.off c.args.piece tet c.requires.piece.number
-    (sym column ∙ c.if-piece-first_column.true ∙ ap (λ k. k + c.args.vertex) c.first_column.ensures.value))
+    (sym column ∙ c.if-piece-triangle_column.true ∙ c.triangle_column.ensures))
   where
     column : c.piece.inside.column ≡ c.args.piece.column
     column = ap (λ (p : SurfacePiece). p.column) c.piece.view_is
@@ -23,7 +23,7 @@ returns-then-piece-first_column-clause-some c =
     number = ap (λ (p : SurfacePiece). p.number) c.piece.view_is
 
     tet : c.tet_of-tet.result ≡ c.args.piece.column / columns_each c.args.coords
-    tet = c.tet_of-tet.ensures.value ∙ ap (λ k. k / columns_each c.args.coords) column
+    tet = c.tet_of-tet.ensures ∙ ap (λ k. k / columns_each c.args.coords) column
 
 pub returns-clause-some : goal.returns-clause-some
 returns-clause-some c =
@@ -39,7 +39,7 @@ returns-clause-some c =
     number = ap (λ (p : SurfacePiece). p.number) c.piece.view_is
 
     tet : c.tet_of-tet.result ≡ c.args.piece.column / columns_each c.args.coords
-    tet = c.tet_of-tet.ensures.value ∙ ap (λ k. k / columns_each c.args.coords) column
+    tet = c.tet_of-tet.ensures ∙ ap (λ k. k / columns_each c.args.coords) column
 
     below : c.tet_of-tet.result < length c.args.table.now
     below = tet_in_range c.args.table.now c.args.coords c.args.x.now c.args.piece.column c.tet_of-tet.result c.requires.surface c.requires.piece.column tet

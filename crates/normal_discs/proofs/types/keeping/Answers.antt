@@ -1,5 +1,5 @@
 use Rattle.std.proofs.Common.{◌≢◌, ℕ, zero, suc, ◌-◌, ◌<◌, bit_xor, refl, arith, lit<}
-use Rattle.matching_equations.proofs.equation.keeping.Goals as goal
+use Rattle.normal_discs.proofs.types.keeping.Goals as goal
 
 kept : (v f : ℕ) → v < 4 → f < 4 → v ≢ f → bit_xor v f - 1 < 3
 kept zero zero a b ne = absurd (ne refl)
@@ -22,4 +22,4 @@ kept (suc (suc (suc (suc v)))) f a b ne = absurd (omega arith)
 kept v (suc (suc (suc (suc f)))) a b ne = absurd (omega arith)
 
 pub returns-clause-in_range : goal.returns-clause-in_range
-returns-clause-in_range c = kept c.args.vertex c.args.face c.requires.a_vertex c.requires.a_face c.requires.apart
+returns-clause-in_range c = kept c.args.vertex c.args.other c.requires.a_vertex c.requires.another c.requires.apart

@@ -1,0 +1,14 @@
+//! The normal discs of a tetrahedron: the columns of its triangles, quads and octagons, and those that meet a face
+//! round a vertex, or an edge.
+#![tactic(auto)]
+
+mod coords;
+mod meetings;
+mod types;
+
+pub use coords::{
+    column, columns, columns_each, first_column, is_octagon, is_quad_or_octagon, octagon_column,
+    place_of, quad_column, tet_of, triangle_column, triangles_each, type_of,
+};
+pub use meetings::{arc_columns, edge_columns, octagon_arcs};
+pub use types::{keeping, other_types, partner};

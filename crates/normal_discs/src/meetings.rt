@@ -1,0 +1,72 @@
+//! The columns of the discs that meet a face round a vertex, or an edge.
+
+ghost use Rattle.std.specs.Prelude.{◌≡◌, ◌≢◌, ◌<◌, ◌≤◌};
+ghost use Rattle.surface_definitions.specs.Coordinates as coordinates;
+ghost use Rattle.surface_definitions.specs.Characteristic.{crossings};
+
+use crate::coords::{octagon_column, quad_column, triangle_column};
+use crate::types::{keeping, other_types};
+use arrayvec::ArrayVec;
+use surface_definitions::Coords;
+
+/// The columns of the octagons with an arc round a vertex in a face: two where octagons have columns, and else none.
+pub fn octagon_arcs(coords: Coords, tet: u32, face: u8, vertex: u8) -> ArrayVec<u32, 2>
+    requires tet { tet ≤ 1000 }
+    requires a_vertex { vertex < 4 }
+    requires a_face { face < 4 }
+    requires apart { vertex ≢ face }
+    ensures { result.items ≡ coordinates.octagon_arcs coords tet face vertex }
+{
+    let mut columns = ArrayVec::new();
+    if let Coords::Octagon = coords {
+        let (first, second) = other_types(keeping(vertex, face));
+        columns.push(octagon_column(tet, first));
+        columns.push(octagon_column(tet, second));
+    }
+    columns
+}
+
+/// The columns of the pieces with an arc round a vertex in a face: a triangle, a quad, and the octagons.
+pub fn arc_columns(coords: Coords, tet: u32, face: u8, vertex: u8) -> ArrayVec<u32, 4>
+    requires coords { coords ≢ Coords.Quad }
+    requires tet { tet ≤ 1000 }
+    requires a_vertex { vertex < 4 }
+    requires a_face { face < 4 }
+    requires apart { vertex ≢ face }
+    ensures { result.items ≡ coordinates.arc_columns coords tet face vertex }
+{
+    let mut columns = ArrayVec::new();
+    columns.push(triangle_column(coords, tet, vertex));
+    columns.push(quad_column(coords, tet, keeping(vertex, face)));
+    let octagons = octagon_arcs(coords, tet, face, vertex);
+    for column in octagons.as_slice() {
+        columns.push(*column);
+    }
+    columns
+}
+
+/// The columns of the pieces that meet the edge between two vertices, as often as they do so: of the octagons
+/// where they have columns each once, and that which keeps the two on one side once more.
+pub fn edge_columns(coords: Coords, tet: u32, vertex: u8, other: u8) -> ArrayVec<u32, 8>
+    requires coords { coords ≢ Coords.Quad }
+    requires tet { tet ≤ 1000 }
+    requires a_vertex { vertex < 4 }
+    requires another { other < 4 }
+    requires apart { vertex ≢ other }
+    ensures { result.items ≡ crossings coords tet vertex other }
+{
+    let kind = keeping(vertex, other);
+    let (first, second) = other_types(kind);
+    let mut columns = ArrayVec::new();
+    columns.push(triangle_column(coords, tet, vertex));
+    columns.push(triangle_column(coords, tet, other));
+    columns.push(quad_column(coords, tet, first));
+    columns.push(quad_column(coords, tet, second));
+    if let Coords::Octagon = coords {
+        columns.push(octagon_column(tet, kind));
+        columns.push(octagon_column(tet, 0));
+        columns.push(octagon_column(tet, 1));
+        columns.push(octagon_column(tet, 2));
+    }
+    columns
+}
