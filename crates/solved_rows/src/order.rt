@@ -196,7 +196,11 @@ fn cheapest(alloc: Global, rows: &[RowBlocks]) -> Result<RowOrder, NoMemory>
 }
 
 /// The rows at some places.
-fn rows_at(alloc: Global, rows: &[SparseRow], places: &[usize]) -> Result<Vec<SparseRow>, NoMemory>
+pub(crate) fn rows_at(
+    alloc: Global,
+    rows: &[SparseRow],
+    places: &[usize],
+) -> Result<Vec<SparseRow>, NoMemory>
     requires { All (λ place. place < length rows.now) places.now }
     ensures { IfOk result (λ taken. taken.items ≡ in_order rows.now places.now) }
 {
