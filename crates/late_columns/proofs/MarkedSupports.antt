@@ -1,5 +1,5 @@
 -- The support of a ray with what is left for a column: its own, and the column.
-use Rattle.std.proofs.Common.{◌≡◌, ◌≢◌, ℕ, ◌<◌, ◌≤◌, ◌||◌, ⊎_elim, Bool, false, List, length, ltb, get_or, slice_index, slice_set, length-set, get_or-set_same, get_or-set_other, subst, sym, ◌∙◌, ap, ap₂, arith}
+use Rattle.std.proofs.Common.{◌≡◌, ◌≢◌, ℕ, ◌<◌, ◌≤◌, ◌||◌, ⊎_elim, Bool, false, List, length, ltb, get_or, slice_index, slice_set, length-set, get_or-set_same, get_or-set_other, sym, ◌∙◌, ap, ap₂, arith}
 use Rattle.std.proofs.lemmas.Bool.{cases_eq}
 use Rattle.std.proofs.lemmas.List.{ext_get_or, length-map}
 use Rattle.cone_definitions.specs.Vectors.{unit}

@@ -16,7 +16,7 @@ use Rattle.double_description.proofs.SurfaceSteps.{the_step, sign_at_place, pair
 use Rattle.solved_laws.specs.Fresh.{IsUntouched, IsFresh, IsRaised, ComesFromOthers}
 use Rattle.solved_laws.proofs.Fresh.{fresh_next}
 use Rattle.late_columns.specs.Late.{IsUnseen, held_rows}
-use Rattle.late_columns.specs.Fresh.{IsFree}
+use Rattle.ray_pairs.specs.Partners.{IsFree}
 use Rattle.late_columns.specs.Raised.{IsLeft, ComesFromRaised, IsFreshStepAt, IsRaisedFrom}
 use Rattle.late_columns.proofs.Held.{held_solution, unseen_after, untouched_held}
 use Rattle.late_columns.proofs.Faces.{surface_of_face, surface_in_face, gone_in_face, column_face}

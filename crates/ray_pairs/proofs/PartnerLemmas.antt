@@ -1,7 +1,8 @@
 -- The columns that clash with one of a support, from those that clash with each column.
-use Rattle.std.proofs.Common.{◌≡◌, ℕ, ◌+◌, ◌<◌, ◌||◌, ◌⊎◌, ◌∷◌, ◌++◌, inl, inr, ⊎_elim, Bool, true, false, IsTrue, List, [], Contains, length, replicate, get_or, length-append, ltb, subst, subst₂, sym, ◌∙◌, arith}
+use Rattle.std.proofs.Common.{◌≡◌, ◌≢◌, refl, ℕ, ◌+◌, ◌<◌, ◌||◌, ◌⊎◌, ◌∷◌, ◌++◌, inl, inr, ⊎_elim, Bool, true, false, IsTrue, List, [], Contains, length, replicate, get_or, length-append, ltb, subst, subst₂, sym, ◌∙◌, arith}
 use Rattle.std.proofs.lemmas.Bool.{cases_lt, cases_eq, false≢true}
 use Rattle.std.proofs.lemmas.List.{get_or_past, get_or_push, get_or_append_left, get_or-replicate, length-map, length-replicate}
+use Rattle.std.proofs.lemmas.List.Elements.{All-contains}
 use Rattle.cone_definitions.specs.Surfaces.{Clash}
 use Rattle.cone_definitions.specs.Vectors.{unit}
 use Rattle.cone_definitions.proofs.Units.{length-unit, entry-unit_same, entry-unit_other}
@@ -9,13 +10,26 @@ use Rattle.support_bits.specs.Columns.{support_of, HasColumn, IsUnion}
 use Rattle.double_description.proofs.UnitedLemmas.{left_true, right_true}
 use Rattle.support_table.specs.Joins.{AreJoinedTo}
 use Rattle.support_table.proofs.JoinLemmas.{nonzero_from_column, column_from_nonzero}
-use Rattle.ray_pairs.specs.Partners.{IsPartnerOf, ArePartners, IsJoinedBelow}
+use Rattle.ray_pairs.specs.Partners.{IsFree, IsPartnerOf, ArePartners, IsJoinedBelow}
 
 no_column : (n column : ℕ) → ¬ HasColumn (replicate n false) column
 no_column n column h = ⊎_elim
     (λ less. false≢true (sym (get_or-replicate n column false false less) ∙ h))
     (λ past. false≢true (sym (get_or_past (replicate n false) column false (omega (arith, length-replicate n false))) ∙ h))
     (cases_lt column n)
+
+-- a column that clashes with none has no partner
+pub partner_none : (columns : ℕ) (pairs : List Clash) (column : ℕ) → IsFree pairs column → IsPartnerOf columns pairs column (replicate columns false)
+partner_none columns pairs column free = record {
+  count = length-replicate columns false;
+  each = λ other. (
+    λ has. absurd (no_column columns other has),
+    λ is. absurd (⊎_elim
+        (λ h. (All-contains (λ pair. (pair.0 ≢ column) × (pair.1 ≢ column)) pairs (other, column) free h).1 refl)
+        (λ h. (All-contains (λ pair. (pair.0 ≢ column) × (pair.1 ≢ column)) pairs (column, other) free h).0 refl)
+        is),
+  );
+}
 
 pub joined_none : (partners : List (List Bool)) (support : List Bool) (columns : ℕ) → columns ≡ length support → IsJoinedBelow 0 partners support (replicate columns false)
 joined_none partners support columns is = record {

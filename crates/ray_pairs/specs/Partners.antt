@@ -1,5 +1,6 @@
 -- For each column the columns that clash with it.
-use Rattle.std.specs.Prelude.{◌≡◌, ℕ, ◌<◌, ◌⊎◌, ◌↔◌, List, Bool, [], length, slice_index_or, Contains}
+use Rattle.std.specs.Prelude.{◌≡◌, ◌≢◌, ℕ, ◌<◌, ◌⊎◌, ◌↔◌, List, Bool, [], length, slice_index_or, Contains}
+use Rattle.std.specs.List.{All}
 use Rattle.cone_definitions.specs.Surfaces.{Clash}
 use Rattle.support_bits.specs.Columns.{HasColumn}
 
@@ -17,3 +18,7 @@ pub record ArePartners (columns : ℕ) (pairs : List Clash) (partners : List (Li
 pub record IsJoinedBelow (n : ℕ) (partners : List (List Bool)) (support joined : List Bool) : Type 0 where
   pub count : length joined ≡ length support
   pub each : (other : ℕ) → HasColumn joined other ↔ ((column : ℕ) × (column < n) × HasColumn support column × HasColumn (slice_index_or partners column []) other)
+
+-- the column clashes with none
+abbrev pub IsFree : List Clash → ℕ → Type 0
+IsFree pairs column = All (λ pair. (pair.0 ≢ column) × (pair.1 ≢ column)) pairs

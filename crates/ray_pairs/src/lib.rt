@@ -7,5 +7,5 @@ mod search;
 mod turned;
 
 pub use made::made_rays;
-pub use partners::partners_of;
+pub use partners::{is_free, partners_of};
 pub use turned::turned_signs;

@@ -1,15 +1,27 @@
 // For each column the columns that clash with it, and those that clash with one of a support.
 
-ghost use Rattle.std.specs.Prelude.{◌≡◌, ◌<◌, length, IfOk};
+ghost use Rattle.std.specs.Prelude.{◌≡◌, ◌<◌, length, IsTrue, IfOk};
 ghost use Rattle.std.specs.List.{All};
 ghost use Rattle.double_description.specs.Clashes.{AreClashes};
-ghost use Rattle.ray_pairs.specs.Partners.{IsPartnerOf, ArePartners, IsJoinedBelow};
+ghost use Rattle.ray_pairs.specs.Partners.{IsFree, IsPartnerOf, ArePartners, IsJoinedBelow};
 
 use cone_core::Ray;
 use no_memory::NoMemory;
 use std::alloc::Global;
 use support_bits::Support;
 use support_table::joined;
+
+/// Whether a column clashes with none.
+pub fn is_free(clashes: &[(u32, u32)], column: u32) -> bool
+    ensures { IsTrue result → IsFree clashes.now column }
+{
+    for (first, second) in clashes {
+        if *first == column || *second == column {
+            return false;
+        }
+    }
+    true
+}
 
 /// The columns that clash with one.
 fn partners_at(
@@ -22,6 +34,9 @@ fn partners_at(
     requires in_range { column < columns }
     ensures { IfOk result (IsPartnerOf columns clashes.now column) }
 {
+    if is_free(clashes, column) {
+        return Support::none(alloc, columns);
+    }
     let unit = Ray::unit(alloc, columns, column)?;
     let support = Support::of(alloc, unit.entries())?;
     joined(alloc, clashes, &support)
