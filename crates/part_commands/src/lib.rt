@@ -3,8 +3,6 @@
 
 mod csame_command;
 mod csig_command;
-mod laws;
 
 pub use csame_command::csame;
 pub use csig_command::csig;
-pub use laws::component_signatures_split;

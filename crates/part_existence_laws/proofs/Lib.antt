@@ -3,3 +3,4 @@ pub mod LeastExists
 pub mod Ordering
 pub mod Told
 pub mod Answers
+pub mod Splitting

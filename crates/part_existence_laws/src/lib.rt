@@ -5,6 +5,7 @@
 
 ghost use Rattle.part_existence_laws.specs.Laws.{SomeComponentSignature, SomeLeastRelabelling, SomeSameParts, RelabelledOrNot};
 ghost use Rattle.part_existence_laws.specs.Answers.{SomeComponentSignatureAnswer, SomeSamePartsAnswer};
+ghost use Rattle.part_existence_laws.specs.Splits.{ComponentSignaturesSplit};
 
 /// Each table has a component signature.
 pub fn component_signatures_exist()
@@ -26,4 +27,9 @@ pub fn told_parts_exist()
 pub fn answers_exist()
     ensures signature { SomeComponentSignatureAnswer }
     ensures same { SomeSamePartsAnswer }
+{}
+
+/// Split at its full stops, the component signature of a table is the signatures of its parts in order.
+pub fn component_signatures_split()
+    ensures { ComponentSignaturesSplit }
 {}

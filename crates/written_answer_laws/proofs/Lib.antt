@@ -5,3 +5,4 @@ pub mod Besides
 pub mod LiftEntries
 pub mod Lifts
 pub mod Tables
+pub mod Covers

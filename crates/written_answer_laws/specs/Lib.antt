@@ -2,3 +2,4 @@ pub mod Entries
 pub mod Surfaces
 pub mod Lifts
 pub mod Tables
+pub mod Covers

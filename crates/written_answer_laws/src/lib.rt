@@ -6,6 +6,7 @@ ghost use Rattle.written_answer_laws.specs.Entries.{ListedAreWithin};
 ghost use Rattle.written_answer_laws.specs.Surfaces.{SurfacesAreRead, SurfacesAreSolutions, ListedAreVerified};
 ghost use Rattle.written_answer_laws.specs.Lifts.{LiftsAreWithin, LiftsAreRead, LiftsAreVerified};
 ghost use Rattle.written_answer_laws.specs.Tables.{CrushedAreRead, DescentsAreRead};
+ghost use Rattle.written_answer_laws.specs.Covers.{CoversAreRead};
 
 /// What `surfaces` lists, behind what is written for its table, is read as the table and all its vertex surfaces: no entry of
 /// a listed vector is above the limit of its enumeration.
@@ -39,4 +40,9 @@ pub fn crushed_are_read()
 /// the standard sphere, `check` accepts them.
 pub fn descents_are_read()
     ensures { DescentsAreRead }
+{}
+
+/// What is told of a cover is read as the cover's table, so it is a document of `info`.
+pub fn covers_are_read()
+    ensures { CoversAreRead }
 {}

@@ -13,7 +13,7 @@ use Rattle.part_definitions.specs.ComponentSignature.{component_text, IsComponen
 use Rattle.part_laws.proofs.Members.{stands_at}
 use Rattle.part_laws.proofs.Texts.{HasNoStop, ArePlain}
 use Rattle.part_laws.proofs.Signatures.{ordered_plain}
-use Rattle.part_commands.specs.Laws.{between_stops, ArePartSignatures}
+use Rattle.part_existence_laws.specs.Splits.{between_stops, ArePartSignatures}
 
 no_stop : (b : ℕ) → b ≢ 46 → (b == 46) ≡ false
 no_stop b n = go (b == 46) refl
