@@ -3,7 +3,7 @@ ghost use Rattle.std.specs.Prelude.{◌≡◌, ◌≤◌, ◌^◌, ◌<◌};
 ghost use Rattle.std.specs.Option.{option_map};
 ghost use Rattle.command_definitions.specs.Requests.{most_moves, most_bulk_moves};
 ghost use Rattle.command_definitions.specs.Values as spec;
-ghost use Rattle.command_words.specs.Requests.{texts_of};
+ghost use Rattle.command_words.specs.Requests.{texts_of, request_among};
 
 use bench_io::{is_decimal_word, value_up_to};
 use command_definitions::Request;
@@ -209,50 +209,40 @@ fn addup_with(values: &Values<'_>) -> Option<Request>
     Some(Request::Addup(coords))
 }
 
+// Each command without options, with its request.
+static PLAIN: [(&str, Request); 13] = [
+    ("info", Request::Info),
+    ("lift", Request::Lift),
+    ("crush", Request::Crush),
+    ("play", Request::Play),
+    ("sig", Request::Sig),
+    ("same", Request::Same),
+    ("group", Request::Group),
+    ("check", Request::Check),
+    ("descend", Request::Descend),
+    ("cover", Request::Cover),
+    ("pi1", Request::Pi1),
+    ("csig", Request::Csig),
+    ("csame", Request::Csame),
+];
+
+// The request beside this name among others.
+fn request_among(name: &str, rows: &[(&str, Request)]) -> Option<Request>
+    ensures { result ≡ request_among name.now rows.now }
+{
+    for (word, request) in rows {
+        if name == *word {
+            return Some(*request);
+        }
+    }
+    None
+}
+
 // The request of a command without options.
 fn plain_request(name: &str) -> Option<Request>
     ensures { result ≡ spec.plain_request name.now }
 {
-    if name == "info" {
-        return Some(Request::Info);
-    }
-    if name == "lift" {
-        return Some(Request::Lift);
-    }
-    if name == "crush" {
-        return Some(Request::Crush);
-    }
-    if name == "play" {
-        return Some(Request::Play);
-    }
-    if name == "sig" {
-        return Some(Request::Sig);
-    }
-    if name == "same" {
-        return Some(Request::Same);
-    }
-    if name == "group" {
-        return Some(Request::Group);
-    }
-    if name == "check" {
-        return Some(Request::Check);
-    }
-    if name == "descend" {
-        return Some(Request::Descend);
-    }
-    if name == "cover" {
-        return Some(Request::Cover);
-    }
-    if name == "pi1" {
-        return Some(Request::Pi1);
-    }
-    if name == "csig" {
-        return Some(Request::Csig);
-    }
-    if name == "csame" {
-        return Some(Request::Csame);
-    }
-    None
+    request_among(name, &PLAIN)
 }
 
 /// The request of a command with these values, where each value is one that its option takes.
