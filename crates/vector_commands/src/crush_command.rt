@@ -2,6 +2,7 @@
 ghost use Rattle.std.specs.Prelude.{◌≡◌, ◌≤◌, ◌^◌, length, IfOk};
 ghost use Rattle.surface_definitions.specs.Coordinates.{columns};
 ghost use Rattle.surface_definitions.specs.declared.Coords.TheVariants.{Standard};
+ghost use Rattle.surface_definitions.specs.QuadEquations.{AreEquations};
 ghost use Rattle.document_definitions.specs.Documents.{vector_document};
 ghost use Rattle.outcome_definitions.specs.Outcomes.{IsReadOutcome};
 ghost use Rattle.outcome_definitions.specs.Vectors.{IsCrushAnswer};
@@ -9,6 +10,7 @@ ghost use Rattle.vector_commands.specs.Crushed.{TellsCrushed};
 
 use crate::refusals::refusal_outcome;
 use command_answers::{Outcome, fault_outcome, read_table_and_vector};
+use cone_core::System;
 use gluing_table::{Table, write_table};
 use matching_equations::{Coords, equations};
 use no_memory::NoMemory;
@@ -29,16 +31,32 @@ fn crushed(alloc: Global, table: &Table, x: &[u128]) -> Result<Outcome, NoMemory
     Ok(Outcome::built(Status::Done, text))
 }
 
+// The answer to a table and a vector, by the skeleton and the equations of the table.
+fn answer_by(
+    alloc: Global,
+    table: &Table,
+    skeleton: &Skeleton,
+    system: &System,
+    x: &[u128],
+) -> Result<Outcome, NoMemory>
+    requires rows { skeleton.now.rows ≡ table.now }
+    requires columns { system.now.columns ≡ columns Standard (length skeleton.now.rows) }
+    requires equations { AreEquations Standard skeleton.now.rows system.now.rows }
+    ensures { IfOk result (IsCrushAnswer (table.now, x.now)) }
+{
+    match check(Coords::Standard, skeleton, system, x) {
+        Ok(()) => crushed(alloc, table, x),
+        Err(fault) => refusal_outcome(alloc, 0, Refusal::Unfit { fault }),
+    }
+}
+
 // The answer to a table and a vector.
 fn answer(alloc: Global, table: &Table, x: &[u128]) -> Result<Outcome, NoMemory>
     ensures { IfOk result (IsCrushAnswer (table.now, x.now)) }
 {
     let skeleton = Skeleton::of(alloc, table)?;
     let system = equations(alloc, &skeleton, Coords::Standard)?;
-    match check(Coords::Standard, &skeleton, &system, x) {
-        Ok(()) => crushed(alloc, table, x),
-        Err(fault) => refusal_outcome(alloc, 0, Refusal::Unfit { fault }),
-    }
+    answer_by(alloc, table, &skeleton, &system, x)
 }
 
 /// The outcome of `crush` on an input that isn't too long.

@@ -8,7 +8,7 @@ ghost use Rattle.skeleton_definitions.specs.Skeleton.{IsSkeleton};
 ghost use Rattle.document_definitions.specs.Documents.{vectors_document};
 ghost use Rattle.command_answers.specs.Reads.{all_entries};
 ghost use Rattle.outcome_definitions.specs.Outcomes.{IsReadOutcome};
-ghost use Rattle.outcome_definitions.specs.Vectors.{IsDescribeAnswer};
+ghost use Rattle.outcome_definitions.specs.Vectors.{AreDescribed, IsDescribeAnswer};
 ghost use Rattle.vector_definitions.specs.Answers.{verdict_in, IsDescription};
 ghost use Rattle.vector_definitions.specs.Texts.{description_text};
 ghost use Rattle.vector_commands.specs.Telling.{TellsOne, TellsEach};
@@ -138,6 +138,59 @@ fn descriptions(
     Ok(text)
 }
 
+// The answer to vectors, by the skeleton and the equations of a table.
+fn describe_each(
+    alloc: Global,
+    skeleton: &Skeleton,
+    system: &System,
+    coords: Coords,
+    vectors: &[Vec<u128>],
+) -> Result<Outcome, NoMemory>
+    requires coords { coords ≢ Coords.Quad }
+    requires skeleton { IsSkeleton skeleton.now }
+    requires equations { AreEquations coords skeleton.now.rows system.now.rows }
+    requires columns { system.now.columns ≡ columns coords (length skeleton.now.rows) }
+    ensures { IfOk result (AreDescribed skeleton.now coords (all_entries vectors.now)) }
+{
+    match descriptions(alloc, skeleton, system, coords, vectors) {
+        Ok(text) => Ok(Outcome::built(Status::Done, text)),
+        Err(EachFault::Refused { vector, refusal }) => refusal_outcome(alloc, vector, refusal),
+        Err(EachFault::NoMemory) => Err(NoMemory),
+    }
+}
+
+// The answer to vectors, by the skeleton of a table whose edges are all valid.
+fn describe_valid(
+    alloc: Global,
+    skeleton: &Skeleton,
+    coords: Coords,
+    vectors: &[Vec<u128>],
+) -> Result<Outcome, NoMemory>
+    requires coords { coords ≢ Coords.Quad }
+    requires skeleton { IsSkeleton skeleton.now }
+    ensures { IfOk result (AreDescribed skeleton.now coords (all_entries vectors.now)) }
+{
+    let system = equations(alloc, skeleton, coords)?;
+    describe_each(alloc, skeleton, &system, coords, vectors)
+}
+
+// The answer to vectors, by the skeleton of a table.
+fn answer_by(
+    alloc: Global,
+    skeleton: &Skeleton,
+    coords: Coords,
+    vectors: &[Vec<u128>],
+) -> Result<Outcome, NoMemory>
+    requires coords { coords ≢ Coords.Quad }
+    requires skeleton { IsSkeleton skeleton.now }
+    ensures { IfOk result (IsDescribeAnswer coords (skeleton.now.rows, all_entries vectors.now)) }
+{
+    match skeleton.first_invalid() {
+        Some(class) => invalid_edge_outcome(alloc, class),
+        None => describe_valid(alloc, skeleton, coords, vectors),
+    }
+}
+
 // The answer to a table and vectors.
 fn answer(
     alloc: Global,
@@ -149,16 +202,7 @@ fn answer(
     ensures { IfOk result (IsDescribeAnswer coords (table.now, all_entries vectors.now)) }
 {
     let skeleton = Skeleton::of(alloc, table)?;
-    if let Some(class) = skeleton.first_invalid() {
-        let outcome = invalid_edge_outcome(alloc, class)?;
-        return Ok(outcome);
-    }
-    let system = equations(alloc, &skeleton, coords)?;
-    match descriptions(alloc, &skeleton, &system, coords, vectors) {
-        Ok(text) => Ok(Outcome::built(Status::Done, text)),
-        Err(EachFault::Refused { vector, refusal }) => refusal_outcome(alloc, vector, refusal),
-        Err(EachFault::NoMemory) => Err(NoMemory),
-    }
+    answer_by(alloc, &skeleton, coords, vectors)
 }
 
 /// The outcome of `describe` on an input that isn't too long, in standard or octagon coordinates.

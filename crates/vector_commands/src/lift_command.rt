@@ -3,7 +3,9 @@ ghost use Rattle.std.specs.Prelude.{◌≡◌, ◌≤◌, ◌^◌, length, IfOk}
 ghost use Rattle.cone_text_definitions.specs.VectorText.{vector_text};
 ghost use Rattle.surface_definitions.specs.Coordinates.{columns};
 ghost use Rattle.surface_definitions.specs.declared.Coords.TheVariants as coordinates;
+ghost use Rattle.surface_definitions.specs.QuadEquations.{AreEquations};
 ghost use Rattle.surface_definitions.specs.Verdict.{solution};
+ghost use Rattle.skeleton_definitions.specs.Skeleton.{IsSkeleton};
 ghost use Rattle.document_definitions.specs.Documents.{vectors_document};
 ghost use Rattle.command_answers.specs.Reads.{all_entries};
 ghost use Rattle.outcome_definitions.specs.Outcomes.{IsReadOutcome};
@@ -96,17 +98,32 @@ fn lifts(
     Ok(text)
 }
 
+// The answer to quad vectors, by the skeleton and the equations of a table.
+fn answer_by(
+    alloc: Global,
+    skeleton: &Skeleton,
+    system: &System,
+    vectors: &[Vec<u128>],
+) -> Result<Outcome, NoMemory>
+    requires skeleton { IsSkeleton skeleton.now }
+    requires columns { system.now.columns ≡ columns coordinates.Quad (length skeleton.now.rows) }
+    requires equations { AreEquations coordinates.Quad skeleton.now.rows system.now.rows }
+    ensures { IfOk result (IsLiftsAnswer (skeleton.now.rows, all_entries vectors.now)) }
+{
+    match lifts(alloc, skeleton, system, vectors) {
+        Ok(text) => Ok(Outcome::built(Status::Done, text)),
+        Err(EachFault::Refused { vector, refusal }) => refusal_outcome(alloc, vector, refusal),
+        Err(EachFault::NoMemory) => Err(NoMemory),
+    }
+}
+
 // The answer to a table and quad vectors.
 fn answer(alloc: Global, table: &Table, vectors: &[Vec<u128>]) -> Result<Outcome, NoMemory>
     ensures { IfOk result (IsLiftsAnswer (table.now, all_entries vectors.now)) }
 {
     let skeleton = Skeleton::of(alloc, table)?;
     let system = equations(alloc, &skeleton, Coords::Quad)?;
-    match lifts(alloc, &skeleton, &system, vectors) {
-        Ok(text) => Ok(Outcome::built(Status::Done, text)),
-        Err(EachFault::Refused { vector, refusal }) => refusal_outcome(alloc, vector, refusal),
-        Err(EachFault::NoMemory) => Err(NoMemory),
-    }
+    answer_by(alloc, &skeleton, &system, vectors)
 }
 
 /// The outcome of `lift` on an input that isn't too long.

@@ -1,0 +1,21 @@
+-- The lifts are told, or the first vector that is refused.
+use Rattle.std.proofs.Common.{Err, refl, subst}
+use Rattle.cone_text_definitions.specs.VectorText.{vector_text}
+use Rattle.vector_definitions.specs.Answers.{IsLifted}
+use Rattle.vector_commands.specs.Telling.{TellsEach}
+use Rattle.vector_commands.specs.declared.refusals.EachFault.{EachFault}
+use Rattle.command_answers.proofs.Results.{if_ok}
+use Rattle.command_answers.specs.Reads.{all_entries}
+use Rattle.vector_commands.proofs.LiftAnswers.{lifts_told, lift_refused}
+use Rattle.vector_commands.proofs.lift_command.answer_by.Goals as goal
+
+pub returns-in-Ok : goal.returns-in-Ok
+returns-in-Ok c =
+    lifts_told c.args.skeleton.now c.args.skeleton.now.rows c.args.system.now.rows (all_entries c.args.vectors.now) c.built.result
+    refl c.requires.skeleton c.requires.equations c.in-Ok.text.items c.in-Ok.ensures c.built.ensures
+
+pub returns-in-Err-Refused : goal.returns-in-Err-Refused
+returns-in-Err-Refused c = if_ok c.refusal_outcome.result _ _
+    (λ o h. lift_refused c.args.skeleton.now c.args.skeleton.now.rows c.args.system.now.rows (all_entries c.args.vectors.now) o
+    refl c.requires.skeleton c.requires.equations c.in-Err-Refused.vector c.in-Err-Refused.refusal (subst (λ (e : EachFault). TellsEach (IsLifted c.args.skeleton.now c.args.system.now.rows) vector_text (all_entries c.args.vectors.now) (Err e)) c.in-Err-Refused.field-0-is c.in-Err-Refused.ensures) h)
+    c.refusal_outcome.ensures
