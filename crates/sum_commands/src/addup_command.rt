@@ -1,6 +1,7 @@
 // The command `addup`: whether terms that are given add up to their vectors.
 ghost use Rattle.std.specs.Prelude.{◌≡◌, ◌≤◌, ◌^◌, length, IfOk};
 ghost use Rattle.surface_definitions.specs.Coordinates as coordinates;
+ghost use Rattle.surface_definitions.specs.QuadEquations.{AreEquations};
 ghost use Rattle.document_definitions.specs.Blocks.{blocks_document};
 ghost use Rattle.outcome_definitions.specs.Outcomes.{IsReadOutcome};
 ghost use Rattle.outcome_definitions.specs.Sums.{IsAddedUp, IsAddupAnswer};
@@ -65,6 +66,24 @@ fn check_blocks(
     Ok(())
 }
 
+// The answer to blocks, by the skeleton and the equations of a table.
+fn answer_by(
+    alloc: Global,
+    coords: Coords,
+    skeleton: &Skeleton,
+    system: &System,
+    blocks: &[Block],
+) -> Result<Outcome, NoMemory>
+    requires columns { system.now.columns ≡ coordinates.columns coords (length skeleton.now.rows) }
+    requires equations { AreEquations coords skeleton.now.rows system.now.rows }
+    ensures { IfOk result (IsAddupAnswer coords (skeleton.now.rows, all_blocks blocks.now)) }
+{
+    match check_blocks(coords, skeleton, system, blocks) {
+        Ok(()) => accepted_outcome(alloc),
+        Err(first) => refusal_outcome(alloc, first.number, first.fault),
+    }
+}
+
 // The answer to a table and blocks.
 fn answer(
     alloc: Global,
@@ -76,10 +95,7 @@ fn answer(
 {
     let skeleton = Skeleton::of(alloc, table)?;
     let system = equations(alloc, &skeleton, coords)?;
-    match check_blocks(coords, &skeleton, &system, blocks) {
-        Ok(()) => accepted_outcome(alloc),
-        Err(first) => refusal_outcome(alloc, first.number, first.fault),
-    }
+    answer_by(alloc, coords, &skeleton, &system, blocks)
 }
 
 /// The outcome of `addup` on an input that isn't too long.

@@ -1,16 +1,10 @@
--- All blocks are accepted, or the first that isn't is told.
-use Rattle.command_answers.proofs.Results.{if_ok}
+-- The skeleton's table is the one that was given.
+use Rattle.std.proofs.Common.{List, subst}
+use Rattle.std.specs.Prelude.{IfOk}
+use Rattle.table_definitions.specs.Table.{Row}
+use Rattle.outcome_definitions.specs.Sums.{IsAddupAnswer}
 use Rattle.sum_commands.specs.Blocks.{all_blocks}
-use Rattle.sum_commands.proofs.AddedUp.{all_accepted, one_refused}
 use Rattle.sum_commands.proofs.addup_command.answer.Goals as goal
 
-pub returns-in-Ok : goal.returns-in-Ok
-returns-in-Ok c = if_ok c.accepted_outcome.result _ _
-    (λ o e. all_accepted c.args.coords c.in_ok-skeleton.skeleton.rows c.in_ok-system.system.rows c.args.table.now c.in_ok-skeleton.ensures.rows c.in_ok-system.ensures.equations (all_blocks c.args.blocks.now) o c.in-Ok.ensures e)
-    c.accepted_outcome.ensures
-
 pub returns : goal.returns
-returns c = if_ok c.refusal_outcome.result _ _
-    (λ o e. one_refused c.args.coords c.in_ok-skeleton.skeleton.rows c.in_ok-system.system.rows c.args.table.now c.in_ok-skeleton.ensures.rows c.in_ok-system.ensures.equations (all_blocks c.args.blocks.now) o
-    c.in-Err.first.number c.in-Err.first.fault c.in-Err.ensures e)
-    c.refusal_outcome.ensures
+returns c = subst (λ (rows : List Row). IfOk c.answer_by.result (IsAddupAnswer c.args.coords (rows, all_blocks c.args.blocks.now))) c.in_ok-skeleton.ensures.rows c.answer_by.ensures
