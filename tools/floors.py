@@ -1,12 +1,12 @@
 #!/usr/bin/env python3
-"""Puts crates.txt into the order of the floors, writes the floors into docs/ARCHITECTURE.md and docs/floors.svg, and the
-files that the contracts of law crates cite into docs/DEFINITIONS.md.
+"""Puts crates.txt into the order of the floors, writes the floors and the crates by subject into docs/ARCHITECTURE.md and
+docs/floors.svg, and the files that the contracts of law crates cite into docs/DEFINITIONS.md.
 
     tools/floors.py [--check]
 
 A crate stands one floor above the highest crate that it names. With --check nothing is written, and the status is 1 where
 something would be. It is 1, too, where laws or definitions stand on code, where a crate's line lists one that none of its
-files names, or where it lacks one that they do.
+files names, or where it lacks one that they do, and where a crate has no subject here.
 """
 import os
 import re
@@ -18,6 +18,31 @@ LAWS_BEGIN, LAWS_END = "<!-- laws: tools/floors.py -->", "<!-- end of laws -->"
 PARTS = ("src", "specs", "proofs")
 # what a kind of crates may stand on, beside its own; want of memory is the one fault that definitions share with code
 BELOW = {"definitions": ("plain_facts", "no_memory"), "laws": ("plain_facts",)}
+# what each crate is about; its kind is told by its name
+SUBJECTS = {
+    "below all": "plain_facts no_memory",
+    "text": "text_definitions document_definitions document_laws partial_table_laws written_laws bench_io text_writing",
+    "table": "table_definitions walk_laws perm_four finite_walks gluing_table table_commands",
+    "skeleton": "skeleton_definitions class_laws skeleton_laws skeleton vertex_links",
+    "signature": "signature_definitions labelling_definitions signature_text_laws labelling_laws signature_laws"
+    " signature_codec canonical_labelling signature_census",
+    "move": "move_definitions move_laws kept_laws pachner_moves move_undo move_commands",
+    "certificate": "certificate_definitions certificate_laws making_laws making_length_laws written_certificate_laws"
+    " sphere_certificate tri_build certificate_commands making_commands",
+    "cover": "cover_definitions cover_laws double_cover covering_commands",
+    "group": "group_definitions group_laws edge_group",
+    "part": "part_definitions part_laws part_existence_laws component_signature part_commands",
+    "cone": "cone_definitions cone_text_definitions bound_laws enumeration_laws minor_laws ray_laws row_operation_laws solved_laws"
+    " support_bits support_table union_counts cone_core double_description number_bounds solved_rows ray_pairs late_columns"
+    " ray_answers enumeration_commands",
+    "surface": "surface_definitions vector_definitions coordinate_laws vector_laws equation_laws equation_bounds_laws quad_laws"
+    " quad_lift_laws octagon_laws vertex_link_laws orientation_laws crushing_laws normal_discs matching_equations quad_condition"
+    " quad_lift surface_pieces surface_properties crushing surface_list surface_answers vector_commands",
+    "sum": "sum_definitions sum_laws written_sum_laws ray_decompose sum_commands",
+    "program": "command_definitions outcome_definitions command_laws outcome_laws outcome_existence_laws answer_laws"
+    " written_answer_laws command_words command_answers workbench trinorm worked_rows",
+}
+MATRIX_BEGIN, MATRIX_END = "<!-- subjects: tools/floors.py -->", "<!-- end of subjects -->"
 COLOURS = {"definitions": "#dbe9f6", "laws": "#fde8c8", "code": "#e3f1dc", "program": "#f5d9e2"}
 
 
@@ -75,7 +100,8 @@ def may_name(name, below):
 
 
 def refusals(known):
-    told = []
+    with_subject = " ".join(SUBJECTS.values()).split()
+    told = [f"refused: {it} has no subject in tools/floors.py" for it in known if it not in with_subject]
     for name, below in known.items():
         mine = named(name)
         told += [f"refused: {name}, of the {kind(name)}, names {it}" for it in below if it in known and not may_name(name, it)]
@@ -131,6 +157,19 @@ def laws_text(storeys):
     return "\n".join(lines)
 
 
+def subjects_text(known):
+    columns = {"Definitions": [], "Laws": [], "Code": [], "Commands and program": []}
+    lines = ["| Subject | " + " | ".join(columns) + " |", "|---" * (1 + len(columns)) + "|"]
+    for subject, names in SUBJECTS.items():
+        cells = {it: [] for it in columns}
+        for name in (it for it in names.split() if it in known):
+            on_top = name.endswith("_commands") or name == "workbench" or kind(name) == "program"
+            place = {"definitions": "Definitions", "laws": "Laws"}.get(kind(name), "Commands and program" if on_top else "Code")
+            cells[place].append(f"`{name}`")
+        lines.append(f"| {subject} | " + " | ".join(", ".join(it) for it in cells.values()) + " |")
+    return "\n".join(lines)
+
+
 def picture(storeys):
     wide, high, gap = 172, 24, 6
     columns = max(len(it) for it in storeys)
@@ -158,6 +197,8 @@ def main(checking):
     page, definitions = read("docs/ARCHITECTURE.md"), read("docs/DEFINITIONS.md")
     table = f"{BEGIN}\n{page_text(storeys)}\n{END}"
     laws = f"{LAWS_BEGIN}\n{laws_text(storeys)}\n{LAWS_END}"
+    matrix = f"{MATRIX_BEGIN}\n{subjects_text(known)}\n{MATRIX_END}"
+    page = re.sub(rf"{MATRIX_BEGIN}.*?{MATRIX_END}", lambda _: matrix, page, flags=re.S)
     wanted = {
         "crates.txt": list_text(known, storeys),
         "docs/ARCHITECTURE.md": re.sub(rf"{BEGIN}.*?{END}", lambda _: table, page, flags=re.S),
