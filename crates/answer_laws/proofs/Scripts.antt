@@ -9,6 +9,7 @@ use Rattle.document_definitions.specs.Documents.{steps_document}
 use Rattle.command_definitions.specs.declared.Request.TheVariants.{Play}
 use Rattle.outcome_definitions.specs.Outcomes.{Outcome}
 use Rattle.outcome_definitions.specs.Scripts.{script_outcome, IsScriptAnswer}
+use Rattle.move_laws.proofs.Played.{played_on}
 use Rattle.outcome_laws.proofs.Scripted.{one_script}
 use Rattle.answer_laws.specs.Scripts.{MovesAreDone, MovesAreTakenBack, IsPlayed, ScriptsArePlayed}
 use Rattle.answer_laws.proofs.Asked.{means_by}
@@ -71,10 +72,6 @@ left_behind (step ∷ before) undos s (a ∷ answers) last h =
     let rest : last.played ≤ h.0.played + length before - undos = left_behind before undos h.0 answers last h.2 in omega arith
 
 -- ---- moves
-
-played_on : (rows : List Row) (moves : List Move) (table : List Row) (m : Move) (next : List Row) → PlaysAll rows moves table → Plays table m next → PlaysAll rows (moves ++ m ∷ []) next
-played_on rows [] table m next h p = (next, subst (λ (r : List Row). Plays r m next) (sym h) p, refl)
-played_on rows (k ∷ ks) table m next h p = (h.0, h.1, played_on h.0 ks table m next h.2 p)
 
 -- the session behind a move has the table to which it leads
 moved_on : (s : Session) (table : List Row) (m : Move) (next : List Row) → IsTableOf s table → Plays table m next → IsTableOf (with_move s m) next

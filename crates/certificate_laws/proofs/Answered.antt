@@ -16,12 +16,12 @@ use Rattle.certificate_definitions.specs.Answers.{CheckAnswer, IsRefusedAt, IsCh
 use Rattle.certificate_definitions.specs.declared.CheckFault.TheVariants.{Illegal, NotConnected, NotStandard}
 use Rattle.table_definitions.proofs.ListFacts.{same_list-true, same_list-refl}
 use Rattle.move_laws.proofs.Cores.{descent_core}
-use Rattle.move_laws.proofs.Played.{played_table}
+use Rattle.move_laws.proofs.Played.{played_table, all_led_table}
 use Rattle.signature_laws.proofs.Connected.{connected_or_unreached_lem}
 use Rattle.signature_laws.proofs.Walks.{signatures_exist_lem}
 use Rattle.certificate_laws.specs.Laws.{AnswersExist, StandardOrNot, DescentsExist}
 use Rattle.certificate_laws.proofs.Made.{accepted_leads, accepted_none}
-use Rattle.certificate_laws.proofs.Checked.{all_led_table, standard_connected, standard_text, text_standard}
+use Rattle.certificate_laws.proofs.Checked.{standard_connected, standard_text, text_standard}
 use Rattle.certificate_laws.proofs.Descents.{descents_lessen_lem, descent_leads}
 
 -- moves lead on, or one is refused

@@ -13,12 +13,7 @@ use Rattle.labelling_laws.proofs.Kept.{relabels_back, relabels_connected}
 use Rattle.labelling_laws.proofs.Told.{one_signature, tells_tables}
 use Rattle.certificate_laws.specs.Laws.{TextsTellStandard, AnswersAgree}
 use Rattle.certificate_laws.proofs.Sphere.{sphere_table, sphere_signature}
-use Rattle.move_laws.proofs.Played.{played_same, played_table, all_played_same}
-
--- moves that lead on lead to one table
-pub all_led_table : (rows : List Row) (moves : List Move) (last : List Row) → IsTable rows → PlaysAll rows moves last → IsTable last
-all_led_table rows [] last table e = subst (λ (t : List Row). IsTable t) e table
-all_led_table rows (m ∷ ms) last table (next, first, rest) = all_led_table next ms last (played_table rows m next first) rest
+use Rattle.move_laws.proofs.Played.{all_led_table, played_same, all_played_same}
 
 -- a move that is refused leads nowhere
 refused_not_led : (rows : List Row) (m : Move) (next : List Row) (fault : MoveFault) → play_fault rows m ≡ Some fault → Plays rows m next → ⊥

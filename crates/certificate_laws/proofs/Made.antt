@@ -14,13 +14,12 @@ use Rattle.certificate_definitions.specs.CarriedBack.{AreCarriedBack}
 use Rattle.certificate_definitions.specs.Makings.{IsMade}
 use Rattle.labelling_laws.proofs.Kept.{relabels_back}
 use Rattle.move_laws.proofs.Cores.{drawn_core, these_or, drawn_among}
-use Rattle.move_laws.proofs.Played.{makings_agree_lem, played_table}
+use Rattle.move_laws.proofs.Played.{makings_agree_lem, played_table, all_led_table}
 use Rattle.move_laws.proofs.LedOn.{legal_moves_lead_on_lem}
 use Rattle.certificate_laws.specs.Laws.{WaysLeadBack, WaysBackLead, WaysBackAgree, TablesAreMade, OneIsMade, MadeAreCertified}
 use Rattle.certificate_laws.proofs.CarriedWays.{IsWayBack, way_back_of}
 use Rattle.certificate_laws.proofs.OneWay.{IsThere, carried_leads, carried_long, IsOneWay, carried_agree}
 use Rattle.certificate_laws.proofs.Sphere.{sphere_table}
-use Rattle.certificate_laws.proofs.Checked.{all_led_table}
 
 pub ways_lead_back_lem : WaysLeadBack
 ways_lead_back_lem rows moves last table led = let w : IsWayBack rows moves last = way_back_of rows moves last table led in (w.back, w.end, w.by, w.are)

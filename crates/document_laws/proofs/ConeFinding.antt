@@ -11,7 +11,7 @@ use Rattle.document_definitions.specs.ConeGrammar.{IsCoefficientLine, AreConeRow
 use Rattle.table_definitions.proofs.ReadingLaws.{with_tokens, behind, one_number, exactly_found}
 use Rattle.table_definitions.proofs.LineLaws.{with_later, line_found, end_found, FirstWord, first_word, no_words}
 use Rattle.document_laws.proofs.SignedLaws.{signed_found}
-use Rattle.document_laws.proofs.ConeSteps.{Row, Rows, Number, after_line, after_end, after_count, after_columns, after_name}
+use Rattle.document_laws.proofs.ConeSteps.{Row, Rows, Number, row_on, after_end, after_count, after_columns, after_name}
 
 -- coefficients to the end of a line are read
 record CoefficientsFound (ts : List Token) (c : Reading) (row : List ℤ) : Type 0 where
@@ -55,7 +55,7 @@ row_found l ls row columns c h =
     record {
       left = with_tokens [] found.behind_them;
       read =
-          ap (λ (r : Result Reading LexFault). r >>= after_line columns) (line_found (with_later (l ∷ ls) c) l ls refl)
+          ap (λ (r : Result Reading LexFault). r >>= row_on columns) (line_found (with_later (l ∷ ls) c) l ls refl)
           ∙ ap (λ (k : ℕ). coefficients_at k start >>= λ (r : Row). end_line_at r.1 >>= λ (end : Reading). Ok (r.0, end)) (sym h.many)
           ∙ ap (λ (r : Result Row LexFault). r >>= λ (r : Row). end_line_at r.1 >>= λ (end : Reading). Ok (r.0, end)) found.read
           ∙ ap (λ (r : Result Reading LexFault). r >>= λ (end : Reading). Ok (row, end)) (end_found [] found.behind_them refl);

@@ -13,7 +13,7 @@ use Rattle.document_definitions.specs.ConeGrammar.{IsCoefficientLine, AreConeRow
 use Rattle.table_definitions.proofs.ReadingLaws.{ok_parts, with_tokens, behind, TakesWord, TakesNumber, number_read, exactly_read}
 use Rattle.table_definitions.proofs.LineLaws.{BeginsLine, line_begun, line_ended}
 use Rattle.document_laws.proofs.SignedLaws.{TakesSigned, signed_read}
-use Rattle.document_laws.proofs.ConeSteps.{Row, Rows, Number, after_line, after_end, after_count, after_columns, after_name}
+use Rattle.document_laws.proofs.ConeSteps.{Row, Rows, Number, row_on, after_end, after_count, after_columns, after_name}
 
 -- coefficients that were read, and what is left
 record CoefficientsRead (n : ℕ) (ts : List Token) (c : Reading) (row : List ℤ) (d : Reading) : Type 0 where
@@ -92,7 +92,7 @@ row_made columns c x row next d l cs e = record {
   at_end = ap (λ (r : Reading). r.current.tokens) e.1;
 }
 
-row_of_line : (columns : ℕ) (c x : Reading) (row : List ℤ) (d : Reading) → BeginsLine c x → after_line columns x ≡ Ok (row, d) → RowRead columns c row d
+row_of_line : (columns : ℕ) (c x : Reading) (row : List ℤ) (d : Reading) → BeginsLine c x → row_on columns x ≡ Ok (row, d) → RowRead columns c row d
 row_of_line columns c x row d l e =
     let first : (r : Row) × (coefficients_at columns x ≡ Ok r) × ((end_line_at r.1 >>= λ (end : Reading). Ok (r.0, end)) ≡ Ok (row, d)) =
     bind_ok (coefficients_at columns x) (λ (r : Row). end_line_at r.1 >>= λ (end : Reading). Ok (r.0, end)) (row, d) e in
@@ -107,7 +107,7 @@ row_of_line columns c x row d l e =
 row_read : (columns : ℕ) (c : Reading) (row : List ℤ) (d : Reading) → cone_row_at columns c ≡ Ok (row, d) → RowRead columns c row d
 unfolding cone_row_at
 row_read columns c row d e =
-    let first : (x : Reading) × (need_line_at c ≡ Ok x) × (after_line columns x ≡ Ok (row, d)) = bind_ok (need_line_at c) (after_line columns) (row, d) e in
+    let first : (x : Reading) × (need_line_at c ≡ Ok x) × (row_on columns x ≡ Ok (row, d)) = bind_ok (need_line_at c) (row_on columns) (row, d) e in
     row_of_line columns c first.0 row d (line_begun c first.0 first.1) first.2
 
 -- rows that were read

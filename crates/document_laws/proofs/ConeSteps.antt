@@ -13,8 +13,12 @@ Rows = List (List ℤ) × Reading
 abbrev pub Number : Type 0
 Number = ℕ × Reading
 
-abbrev pub after_line : ℕ → Reading → Result Row LexFault
-after_line columns x = coefficients_at columns x >>= λ (r : Row). end_line_at r.1 >>= λ (end : Reading). Ok (r.0, end)
+-- what is read of a line of a cone
+abbrev pub closed_row : List ℤ → Reading → Result Row LexFault
+closed_row r d = end_line_at d >>= λ (end : Reading). Ok (r, end)
+
+abbrev pub row_on : ℕ → Reading → Result Row LexFault
+row_on columns d = coefficients_at columns d >>= λ (r : Row). closed_row r.0 r.1
 
 abbrev pub after_end : ℕ → ℕ → Reading → Result (Cone × Reading) LexFault
 after_end columns n end = rows_of_cone_at columns n end >>= λ (rows : Rows). Ok (record { columns = columns; rows = rows.0 }, rows.1)

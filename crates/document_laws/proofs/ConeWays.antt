@@ -16,7 +16,8 @@ use Rattle.document_laws.proofs.ConeFinding.{RowsFound, rows_found}
 use Rattle.document_laws.proofs.Local.{shows, Goes, goes_chained, goes_pure, goes_moved, alone_bind}
 use Rattle.document_laws.proofs.LocalWords.{as_is, word_with, ending, ends_again, goes_end}
 use Rattle.document_laws.proofs.LocalLines.{next_line, ends_shown}
-use Rattle.document_laws.proofs.LocalForms.{number_test, signed_test, signed_word, exact_test, exact_word, exactly, goes_number, goes_coefficients, goes_closed, goes_row, goes_rows, goes_cone_rows, closed_row, row_on, cone_of, after_end, after_count, after_columns, after_name}
+use Rattle.document_laws.proofs.ConeSteps.{closed_row, row_on}
+use Rattle.document_laws.proofs.LocalForms.{number_test, signed_test, signed_word, exact_test, exact_word, exactly, goes_number, goes_coefficients, goes_closed, goes_row, goes_rows, goes_cone_rows, cone_of, after_end, after_count, after_columns, after_name}
 use Rattle.document_laws.proofs.Ways.{Sat, From, alike_each, Well, WellOpen, Free, sat_both, well_free, well_goes, well_open, well_behind, free_chained, free_pure, free_same, sat_same, well_same, well_open_same, from_sat, sat_mapped, well_mapped, well_open_mapped}
 use Rattle.document_laws.proofs.WordWays.{free_word, sat_word, well_word, sat_end, well_end, free_line, well_line, free_number, sat_number, well_number}
 

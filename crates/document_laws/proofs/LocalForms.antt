@@ -10,6 +10,7 @@ use Rattle.text_definitions.specs.Reading.{Reading, ◌>>=◌, word_at, number_u
 use Rattle.cone_text_definitions.specs.VectorText.{vector_at}
 use Rattle.cone_text_definitions.specs.ConeText.{Cone, coefficients_at, cone_row_at, cone_rows_at, rows_of_cone_at, cone_at}
 use Rattle.table_definitions.proofs.ReadingLaws.{TakesNumber, number_read}
+use Rattle.document_laws.proofs.ConeSteps.{closed_row, row_on}
 use Rattle.document_laws.proofs.Local.{Goes, goes_chained, goes_pure, goes_same, alone, goes_moved}
 use Rattle.document_laws.proofs.LocalWords.{as_is, tested, word_with, goes_word, goes_end}
 use Rattle.document_laws.proofs.LocalLines.{goes_line, by_end, by_ends, goes_by_end}
@@ -149,12 +150,6 @@ goes_coefficients zero c = goes_pure [] c
 goes_coefficients (suc n) c =
     goes_chained (signed_at 1000000) (λ z d. coefficients_at n d >>= λ (r : Row). Ok (z ∷ r.0, r.1)) c (goes_signed 1000000 c)
     (λ z d e. goes_chained (coefficients_at n) (λ r d'. Ok (z ∷ r, d')) d (goes_coefficients n d) (λ r last q. goes_pure (z ∷ r) last))
-
-abbrev pub closed_row : List ℤ → Reading → Result Row LexFault
-closed_row r d = end_line_at d >>= λ (end : Reading). Ok (r, end)
-
-abbrev pub row_on : ℕ → Reading → Result Row LexFault
-row_on columns d = coefficients_at columns d >>= λ (r : Row). closed_row r.0 r.1
 
 pub goes_closed : (r : List ℤ) (d : Reading) → Goes (closed_row r) d
 goes_closed r d = goes_moved as_is end_line_at (λ end. Ok (r, end)) d (goes_end d) (λ end e. goes_pure r end)

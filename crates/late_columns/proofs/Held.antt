@@ -7,6 +7,7 @@ use Rattle.cone_definitions.specs.Vectors.{unit}
 use Rattle.cone_definitions.specs.Rows.{Row, plus_part, minus_part, positive_coefficient, negative_coefficient, IsZeroAt, IsSolution}
 use Rattle.cone_definitions.proofs.Units.{entry-unit_other}
 use Rattle.solved_laws.specs.Fresh.{IsUntouched}
+use Rattle.solved_laws.proofs.Solutions.{all_behind}
 use Rattle.late_columns.specs.Late.{IsUnseen, held_rows}
 
 -- the row that is 0 where a column is
@@ -35,10 +36,6 @@ held_each P i (false ∷ seen) (suc j) h unseen = subst (λ n. P (at_column n)) 
 all_front : (P : Row → Type 0) (xs ys : List Row) → All P (xs ++ ys) → All P xs
 all_front P [] ys h = All-nil P
 all_front P (x ∷ xs) ys h = All-cons P x xs (All-head P x (xs ++ ys) h) (all_front P xs ys (All-tail P x (xs ++ ys) h))
-
-all_behind : (P : Row → Type 0) (xs ys : List Row) → All P (xs ++ ys) → All P ys
-all_behind P [] ys h = h
-all_behind P (x ∷ xs) ys h = all_behind P xs ys (All-tail P x (xs ++ ys) h)
 
 -- it is 0 at the vectors without the column
 column_zero : (column : ℕ) (x : List ℕ) → IsZeroAt (at_column column) x ↔ (slice_index x column ≡ 0)

@@ -18,18 +18,8 @@ use Rattle.double_description.specs.Signs.{IsBoundedSign, ComesFromPlaces, IsMad
 use Rattle.double_description.proofs.KeptLemmas.{rays_of-push}
 use Rattle.double_description.proofs.UnorderedLemmas.{place_is_one}
 use Rattle.double_description.proofs.MadeLemmas.{sign_read, comes_read}
+use Rattle.solved_laws.proofs.Fresh.{set_zero}
 use Rattle.late_columns.specs.Raised.{IsLeft, HasRoom, AppendsRaised, ComesFromRaised, IsFreshStepAt, IsRaisedFrom}
-
--- nothing set where nothing is
-pub set_zero : (x : List ℕ) (column : ℕ) → slice_index x column ≡ 0 → slice_set x column 0 ≡ x
-set_zero x column gone = same_vectors (slice_set x column 0) x (length-set x column 0) (λ j. elim (cases_eq j column) [
-  | inl e ↦ elim (cases_lt column (length x)) [
-    | inl l ↦ subst (λ i. slice_index (slice_set x column 0) i ≡ slice_index x i) (sym e) (get_or-set_same x column 0 0 l ∙ sym gone)
-    | inr l ↦ subst (λ i. slice_index (slice_set x column 0) i ≡ slice_index x i) (sym e) (let w : length (slice_set x column 0) ≤ column = omega (arith, length-set x column 0) in
-        entry_past (slice_set x column 0) (length (slice_set x column 0)) column refl w ∙ sym gone)
-  ]
-  | inr ne ↦ get_or-set_other x column j 0 0 ne
-])
 
 -- vectors without a column are the same where they are with it set
 unset : (x y : List ℕ) (column a b : ℕ) → slice_index x column ≡ 0 → slice_index y column ≡ 0 → slice_set x column a ≡ slice_set y column b → x ≡ y

@@ -1,5 +1,5 @@
 -- Moves that are played one after another lead to one table, and so do descents and the generator.
-use Rattle.std.proofs.Common.{◌≡◌, ◌≤◌, Bool, true, false, List, [], ◌∷◌, Option, Some, None, refl, sym, ap, ◌∙◌, subst, arith, inl, inr}
+use Rattle.std.proofs.Common.{◌≡◌, ◌≤◌, Bool, true, false, List, [], ◌∷◌, ◌++◌, Option, Some, None, refl, sym, ap, ◌∙◌, subst, arith, inl, inr}
 use Rattle.std.specs.Prelude.{◌⊎◌, nat_lt, if◌then◌else◌}
 use Rattle.std.specs.Option.{option_or}
 use Rattle.std.proofs.lemmas.Bool.{ltb-false}
@@ -36,6 +36,16 @@ all_played_same rows [] last last' e e' = sym e ∙ e'
 all_played_same rows (m ∷ ms) last last' (next, first, rest) (next', first', rest') =
     let same : next' ≡ next = played_same rows m next' next first' first in
     all_played_same next ms last last' rest (subst (λ (t : List Row). PlaysAll t ms last') same rest')
+
+-- moves that are played one after another lead to tables
+pub all_led_table : (rows : List Row) (moves : List Move) (last : List Row) → IsTable rows → PlaysAll rows moves last → IsTable last
+all_led_table rows [] last table e = subst (λ (t : List Row). IsTable t) e table
+all_led_table rows (m ∷ ms) last table (next, first, rest) = all_led_table next ms last (played_table rows m next first) rest
+
+-- one move more
+pub played_on : (rows : List Row) (moves : List Move) (table : List Row) (m : Move) (next : List Row) → PlaysAll rows moves table → Plays table m next → PlaysAll rows (moves ++ m ∷ []) next
+played_on rows [] table m next h p = (next, subst (λ (r : List Row). Plays r m next) (sym h) p, refl)
+played_on rows (k ∷ ks) table m next h p = (h.0, h.1, played_on h.0 ks table m next h.2 p)
 
 pub plays_agree_lem : PlaysAgree
 plays_agree_lem old [] last last' table p p' = (subst (λ (rows : List Row). IsTable rows) p table, sym p ∙ p')

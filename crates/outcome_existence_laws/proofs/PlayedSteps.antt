@@ -9,7 +9,7 @@ use Rattle.move_definitions.specs.Moves.{Move, play_fault, IsCore, Plays, PlaysA
 use Rattle.move_definitions.specs.MoveText.{Step, play, undo, redo}
 use Rattle.move_definitions.specs.Sessions.{Session, IsTableOf, begun, with_move, one_less, one_more, StepAnswer, done, illegal, undone, redone, nothing, IsStep, AreSteps}
 use Rattle.certificate_laws.proofs.Made.{accepted_leads}
-use Rattle.certificate_laws.proofs.Checked.{all_led_table}
+use Rattle.move_laws.proofs.Played.{all_led_table, played_on}
 use Rattle.outcome_definitions.specs.Outcomes.{Outcome}
 use Rattle.outcome_definitions.specs.Scripts.{script_outcome, IsScriptAnswer}
 use Rattle.outcome_existence_laws.proofs.ReadTables.{HasCore}
@@ -20,10 +20,6 @@ played_before rows [] last zero h = (rows, refl)
 played_before rows [] last (suc n) h = (rows, refl)
 played_before rows (m ∷ ms) last zero h = (rows, refl)
 played_before rows (m ∷ ms) last (suc n) h = let rest = played_before h.0 ms last n h.2 in (rest.0, (h.0, h.1, rest.1))
-
-played_on : (rows : List Row) (moves : List Move) (table : List Row) (m : Move) (next : List Row) → PlaysAll rows moves table → Plays table m next → PlaysAll rows (moves ++ m ∷ []) next
-played_on rows [] table m next h p = (next, subst (λ (r : List Row). Plays r m next) (sym h) p, refl)
-played_on rows (k ∷ ks) table m next h p = (h.0, h.1, played_on h.0 ks table m next h.2 p)
 
 -- the first table is one, and the moves that are kept lead on from it
 record IsSound (s : Session) : Type 0 where

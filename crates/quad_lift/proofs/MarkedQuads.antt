@@ -7,6 +7,7 @@ use Rattle.std.proofs.lemmas.List.{get_or-set_same, get_or-set_other, take_all}
 use Rattle.std.proofs.lemmas.List.Sums.{sum_by-append, sum_by-cons, sum_by_more}
 use Rattle.table_definitions.specs.Lists.{below}
 use Rattle.table_definitions.proofs.Bijections.{below-push}
+use Rattle.vector_laws.proofs.ThreeSums.{three_of, three_more}
 use Rattle.quad_lift.specs.Spreads.{quads_beside, marked_quads}
 
 abbrev term : List ℕ → List Bool → ℕ → ℕ
@@ -61,22 +62,9 @@ at_most xs marked i = go (slice_index_or marked i false)
     go true = omega arith
     go false = omega arith
 
-three_of : List ℕ → ℕ → ℕ
-three_of xs t = slice_index xs (3 * t) + slice_index xs (3 * t + 1) + slice_index xs (3 * t + 2)
-
 beside_is : (xs : List ℕ) (t k : ℕ) → k < 4 → quads_beside xs (4 * t + k) ≡ three_of xs t
-unfolding quads_beside three_of
+unfolding quads_beside
 beside_is xs t k l = let e : (4 * t + k) / 4 ≡ t = omega arith in ap (three_of xs) e
-
-three-more : (xs : List ℕ) (t : ℕ) → 3 * (t + 1) ≤ length xs → sum (take (3 * (t + 1)) xs) ≡ sum (take (3 * t) xs) + three_of xs t
-unfolding three_of
-three-more xs t l =
-    let e : 3 * (t + 1) ≡ (3 * t + 2) + 1 = omega arith in
-    let f : (3 * t + 1) + 1 ≡ 3 * t + 2 = omega arith in
-    let a : sum (take (3 * (t + 1)) xs) ≡ sum (take (3 * t + 2) xs) + slice_index xs (3 * t + 2) = ap (λ i. sum (take i xs)) e ∙ sum_by_more (λ n. n) xs (3 * t + 2) 0 (omega arith) in
-    let b : sum (take (3 * t + 2) xs) ≡ sum (take (3 * t + 1) xs) + slice_index xs (3 * t + 1) = ap (λ i. sum (take i xs)) (sym f) ∙ sum_by_more (λ n. n) xs (3 * t + 1) 0 (omega arith) in
-    let c : sum (take (3 * t + 1) xs) ≡ sum (take (3 * t) xs) + slice_index xs (3 * t) = sum_by_more (λ n. n) xs (3 * t) 0 (omega arith) in
-    omega arith
 
 four-more : (xs : List ℕ) (marked : List Bool) (t : ℕ) → marked_quads xs marked (4 * (t + 1)) ≤ marked_quads xs marked (4 * t) + 4 * three_of xs t
 four-more xs marked t =
@@ -110,7 +98,7 @@ few_before xs marked zero l = omega (arith, quads-zero xs marked)
 few_before xs marked (suc t) l =
     let e : suc t ≡ t + 1 = omega arith in
     subst (λ n. marked_quads xs marked (4 * n) ≤ 4 * sum (take (3 * n) xs)) (sym e)
-    (omega (arith, few_before xs marked t (omega arith), four-more xs marked t, three-more xs t (omega arith)))
+    (omega (arith, few_before xs marked t (omega arith), four-more xs marked t, three_more xs t (omega arith)))
 
 pub few_quads : (xs : List ℕ) (marked : List Bool) (n : ℕ) → length xs ≡ 3 * n → marked_quads xs marked (4 * n) ≤ 4 * sum xs
 few_quads xs marked n w =

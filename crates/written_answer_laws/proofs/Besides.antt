@@ -2,16 +2,15 @@
 use Rattle.std.proofs.Common.{◌≡◌, ℕ, zero, suc, ◌+◌, ◌*◌, ◌/◌, ◌<◌, ◌≤◌, ⊎_elim, List, [], ◌∷◌, ◌++◌, length, take, inl, inr, refl, sym, ap, ◌∙◌, subst, arith}
 use Rattle.std.specs.Prelude.{sum, sum_by, slice_index}
 use Rattle.std.proofs.lemmas.List.{take_all}
-use Rattle.std.proofs.lemmas.List.Sums.{sum_by-append, sum_by-cons, sum_by_more}
+use Rattle.std.proofs.lemmas.List.Sums.{sum_by-append, sum_by-cons}
 use Rattle.table_definitions.specs.Lists.{below}
 use Rattle.table_definitions.proofs.Bijections.{below-push}
 use Rattle.table_definitions.proofs.TableLaws.{Among}
-use Rattle.quad_laws.proofs.Rearranged.{AreApart, IsWithout, taken_out}
+use Rattle.vector_laws.proofs.DistinctLists.{AreApart}
+use Rattle.vector_laws.proofs.ThreeSums.{three_of, three_more}
+use Rattle.quad_laws.proofs.Rearranged.{IsWithout, taken_out}
 
--- the quads of tetrahedron t, and those beside vertex i
-abbrev pub three_of : List ℕ → ℕ → ℕ
-three_of xs t = slice_index xs (3 * t) + slice_index xs (3 * t + 1) + slice_index xs (3 * t + 2)
-
+-- the quads of the tetrahedron of vertex i
 abbrev pub beside : List ℕ → ℕ → ℕ
 beside xs i = three_of xs (i / 4)
 
@@ -57,21 +56,12 @@ four-more xs t =
       beside_is xs t (suc (suc (suc (4 * t)))) (omega arith),
     )
 
-three-more : (xs : List ℕ) (t : ℕ) → 3 * (t + 1) ≤ length xs → sum (take (3 * (t + 1)) xs) ≡ sum (take (3 * t) xs) + three_of xs t
-three-more xs t l =
-    let e : 3 * (t + 1) ≡ (3 * t + 2) + 1 = omega arith in
-    let f : (3 * t + 1) + 1 ≡ 3 * t + 2 = omega arith in
-    let a : sum (take (3 * (t + 1)) xs) ≡ sum (take (3 * t + 2) xs) + slice_index xs (3 * t + 2) = ap (λ i. sum (take i xs)) e ∙ sum_by_more (λ n. n) xs (3 * t + 2) 0 (omega arith) in
-    let b : sum (take (3 * t + 2) xs) ≡ sum (take (3 * t + 1) xs) + slice_index xs (3 * t + 1) = ap (λ i. sum (take i xs)) (sym f) ∙ sum_by_more (λ n. n) xs (3 * t + 1) 0 (omega arith) in
-    let c : sum (take (3 * t + 1) xs) ≡ sum (take (3 * t) xs) + slice_index xs (3 * t) = sum_by_more (λ n. n) xs (3 * t) 0 (omega arith) in
-    omega arith
-
 before : (xs : List ℕ) (t : ℕ) → 3 * t ≤ length xs → sum_by (beside xs) (below (4 * t)) ≡ 4 * sum (take (3 * t) xs)
 before xs zero l = refl
 before xs (suc t) l =
     let e : suc t ≡ t + 1 = omega arith in
     subst (λ n. sum_by (beside xs) (below (4 * n)) ≡ 4 * sum (take (3 * n) xs)) (sym e)
-    (let more : sum_by (beside xs) (below (4 * t)) ≡ 4 * sum (take (3 * t) xs) = before xs t (omega arith) in omega (arith, four-more xs t, three-more xs t (omega arith)))
+    (let more : sum_by (beside xs) (below (4 * t)) ≡ 4 * sum (take (3 * t) xs) = before xs t (omega arith) in omega (arith, four-more xs t, three_more xs t (omega arith)))
 
 pub all_beside : (xs : List ℕ) (n : ℕ) → length xs ≡ 3 * n → sum_by (beside xs) (below (4 * n)) ≡ 4 * sum xs
 all_beside xs n w =

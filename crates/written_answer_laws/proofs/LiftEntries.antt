@@ -21,13 +21,14 @@ use Rattle.vector_laws.proofs.Glued.{IsGlued, glued_is}
 use Rattle.vector_laws.proofs.Lifts.{lift_matched}
 use Rattle.vector_laws.proofs.Quads.{projected_at}
 use Rattle.vector_laws.proofs.Turns.{keeping_below}
-use Rattle.quad_laws.proofs.Rounds.{left_through}
+use Rattle.vector_laws.proofs.CornerSteps.{left_through}
 use Rattle.quad_lift_laws.proofs.DualTree.{beyond, triangles_seen, IsHung, hung}
 use Rattle.quad_lift_laws.proofs.Flags.{IsVertexClass, IsFlag, mate_by, triangle_of}
 use Rattle.quad_lift_laws.proofs.Growing.{only_one, seen_apart, seen_within}
 use Rattle.quad_lift_laws.proofs.SideLists.{member_listed}
 use Rattle.written_answer_laws.specs.Lifts.{LiftsAreWithin}
-use Rattle.written_answer_laws.proofs.Besides.{beside, three_of, one_of_three, apart_sum, all_beside}
+use Rattle.vector_laws.proofs.ThreeSums.{three_of}
+use Rattle.written_answer_laws.proofs.Besides.{beside, one_of_three, apart_sum, all_beside}
 
 -- the triangles round vertex i
 abbrev height : List ℕ → ℕ → ℕ

@@ -9,7 +9,7 @@ use Rattle.vector_definitions.specs.declared.Refusal.TheVariants.{Unfit, LargeSu
 use Rattle.vector_laws.proofs.CrushedRows.{crushed_is_table}
 use Rattle.cone_definitions.specs.Rows.{Row as EquationRow}
 use Rattle.certificate_definitions.specs.Answers.{DescentAnswer, IsDescentAnswer}
-use Rattle.certificate_laws.proofs.Checked.{all_led_table}
+use Rattle.move_laws.proofs.Played.{all_led_table}
 use Rattle.certificate_laws.proofs.Descents.{descent_leads}
 use Rattle.document_definitions.specs.Documents.{table_document, vector_document}
 use Rattle.command_definitions.specs.declared.Request.TheVariants.{Crush, Descend}

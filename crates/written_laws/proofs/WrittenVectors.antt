@@ -17,7 +17,7 @@ use Rattle.table_definitions.proofs.WrittenLines.{written_line, line_words, Begi
 abbrev pub AreEntries : List ℕ → Type 0
 AreEntries x = AllByRecursion (λ entry. entry ≤ limit) x
 
-entry_small : (entry : ℕ) → entry ≤ limit → entry < 10 ^ 64
+pub entry_small : (entry : ℕ) → entry ≤ limit → entry < 10 ^ 64
 entry_small entry l = omega arith
 
 pub entries_are_texts : (x : List ℕ) → AreEntries x → AllByRecursion IsText (map decimal x)

@@ -10,7 +10,7 @@ use Rattle.document_definitions.specs.Blocks.{Block, most_terms, IsTermLine, IsT
 use Rattle.text_definitions.proofs.Decimals.{decimal_value-decimal}
 use Rattle.table_definitions.proofs.WrittenWords.{IsText, behind_spaces, decimal_is_text}
 use Rattle.table_definitions.proofs.WrittenLines.{written_line, line_words, BeginsWith, each_line}
-use Rattle.written_laws.proofs.WrittenVectors.{AreEntries, entries_are_texts, entries_are_numbers, vector_line}
+use Rattle.written_laws.proofs.WrittenVectors.{AreEntries, entry_small, entries_are_texts, entries_are_numbers, vector_line}
 
 -- terms and blocks that can be written
 pub record FitsTerm (term : Term) : Type 0 where
@@ -22,9 +22,6 @@ pub record FitsBlock (block : Block) : Type 0 where
   pub times : block.times ≤ limit
   pub few : length block.terms ≤ most_terms
   pub terms : AllByRecursion FitsTerm block.terms
-
-small : (n : ℕ) → n ≤ limit → n < 10 ^ 64
-small n l = omega arith
 
 term_is_text : IsText (codes "term")
 term_is_text = record { bytes = refl; some = omega arith }
@@ -39,7 +36,7 @@ BeginsLine form n text rest = (line : Line) × (lines_from n (pieces (text ++ re
 term_line : (n : ℕ) (term : Term) (rest : List ℕ) → FitsTerm term
     → (line : Line) × (lines_from n (pieces (term_text term ++ rest)) ≡ line ∷ lines_from (n + 1) (pieces rest)) × IsTermLine line term
 term_line n term rest h =
-    let count : term.count < 10 ^ 64 = small term.count h.count in
+    let count : term.count < 10 ^ 64 = entry_small term.count h.count in
     let words : List (List ℕ) = decimal term.count ∷ map decimal term.vector in
     let texts : AllByRecursion IsText words = (decimal_is_text term.count count, entries_are_texts term.vector h.entries) in (
       line_of n (codes "term" ++ behind_spaces words),
@@ -57,14 +54,14 @@ times_line : (n times many : ℕ) (rest : List ℕ) → times ≤ limit → many
 times_line n times many rest t m =
     let few : many < 10 ^ 64 = omega arith in
     let words : List (List ℕ) = decimal times ∷ decimal many ∷ [] in
-    let texts : AllByRecursion IsText words = (decimal_is_text times (small times t), (decimal_is_text many few, tt)) in (
+    let texts : AllByRecursion IsText words = (decimal_is_text times (entry_small times t), (decimal_is_text many few, tt)) in (
       line_of n (codes "times" ++ behind_spaces words),
       written_line n (codes "times") words rest times_is_text texts refl,
       record {
         s = decimal times;
         t = decimal many;
         are_words = line_words n (codes "times") words times_is_text texts;
-        number = record { value = decimal_value-decimal times (small times t); up_to = t };
+        number = record { value = decimal_value-decimal times (entry_small times t); up_to = t };
         counted = record { value = decimal_value-decimal many few; up_to = m };
       },
     )

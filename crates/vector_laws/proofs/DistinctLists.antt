@@ -1,0 +1,50 @@
+-- Lists in which nothing stands twice.
+use Rattle.std.proofs.Common.{◌≡◌, ◌≢◌, ℕ, zero, suc, ◌+◌, ◌<◌, Bool, true, false, cond, List, [], ◌∷◌, ◌++◌, length, get_or, map, filter, inl, inr, ⊎_elim, refl, sym, ◌∙◌, subst, arith}
+use Rattle.std.specs.Prelude.{⊤}
+use Rattle.std.specs.List.{range_with_len}
+use Rattle.std.proofs.lemmas.List.{get_or_default}
+use Rattle.table_definitions.specs.Lists.{below}
+use Rattle.table_definitions.proofs.TableLaws.{Among}
+use Rattle.table_definitions.proofs.Listed.{contains_among, map-among, appended-among, filter-among, range-among}
+
+-- nothing stands in the list twice
+abbrev pub AreApart : {A : Type 0} → List A → Type 0
+AreApart [] = ⊤
+AreApart (x ∷ xs) = (Among x xs → ⊥) × AreApart xs
+
+-- the same by places
+pub apart_from : {A : Type 0} (d : A) (xs : List A) → ((i j : ℕ) → i < j → j < length xs → get_or xs i d ≢ get_or xs j d) → AreApart xs
+apart_from d [] once = tt
+apart_from d (x ∷ xs) once = (
+  (λ a. let c = contains_among x xs a in once 0 (suc c.0) (omega arith) (omega (arith, c.1)) (sym (get_or_default xs c.0 d x c.1 ∙ c.2))),
+  apart_from d xs (λ i j l m. once (suc i) (suc j) (omega arith) (omega arith)),
+)
+
+pub apart_append : {A : Type 0} (xs ys : List A) → AreApart xs → AreApart ys → ((x : A) → Among x xs → Among x ys → ⊥) → AreApart (xs ++ ys)
+apart_append [] ys a b off = b
+apart_append (x ∷ xs) ys a b off = (
+  (λ h. ⊎_elim (λ g. a.0 g) (λ g. off x (inl refl) g) (appended-among x xs ys h)),
+  apart_append xs ys a.1 b (λ z g h. off z (inr g) h),
+)
+
+pub map_apart : {A B : Type 0} (h : A → B) (xs : List A) → AreApart xs → ((x y : A) → Among x xs → Among y xs → h x ≡ h y → x ≡ y) → AreApart (map h xs)
+map_apart h [] apart one = tt
+map_apart {A} h (x ∷ xs) apart one = (
+  (λ a. let m = map-among h (h x) xs a in apart.0 (subst (λ (u : A). Among u xs) (sym (one x m.0 (inl refl) (inr m.1) m.2)) m.1)),
+  map_apart h xs apart.1 (λ y z a b e. one y z (inr a) (inr b) e),
+)
+
+apart_if : {A : Type 0} (b : Bool) (x : A) (xs : List A) → (Among x xs → ⊥) → AreApart xs → AreApart (cond b (x ∷ xs) xs)
+apart_if true x xs off a = (off, a)
+apart_if false x xs off a = a
+
+pub apart_filter : {A : Type 0} (p : A → Bool) (xs : List A) → AreApart xs → AreApart (filter p xs)
+apart_filter p [] a = tt
+apart_filter p (x ∷ xs) a = apart_if (p x) x (filter p xs) (λ h. a.0 (filter-among p x xs h).0) (apart_filter p xs a.1)
+
+apart_range : (a n : ℕ) → AreApart (range_with_len a n)
+apart_range a zero = tt
+apart_range a (suc n) = ((λ h. let l = (range-among a (a + 1) n h).0 in absurd (omega arith)), apart_range (a + 1) n)
+
+pub apart_below : (n : ℕ) → AreApart (below n)
+apart_below n = apart_range 0 n
