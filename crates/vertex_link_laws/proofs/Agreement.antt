@@ -1,5 +1,5 @@
 -- The Euler characteristics agree, since all their terms do.
-use Rattle.std.proofs.Common.{◌≡◌, ℕ, ◌+◌, ◌+ℤ◌, ℤ, pos, List, [], ◌∷◌, length, None, Contains, refl, sym, ap, ◌∙◌, arith}
+use Rattle.std.proofs.Common.{◌≡◌, ℕ, ◌+◌, ◌+ℤ◌, ℤ, pos, List, [], ◌∷◌, length, not, None, Contains, refl, sym, ap, ◌∙◌, arith}
 use Rattle.std.proofs.lemmas.Int.{ints}
 use Rattle.skeleton_definitions.specs.Links.{euler_of}
 use Rattle.skeleton_definitions.specs.Skeleton.{Skeleton, IsSkeleton, IsFirstInvalid}
@@ -13,6 +13,7 @@ use Rattle.quad_laws.specs.LinkLaws.{link_of}
 use Rattle.quad_lift_laws.specs.Laws.{HasLink}
 use Rattle.vertex_link_laws.specs.Laws.{HasEdgesAndTriangles, IsInvalidAt, HasOneMoreForEach}
 use Rattle.vertex_link_laws.proofs.Arcs.{arcs-link}
+use Rattle.vertex_link_laws.proofs.Boundary.{boundary_is}
 use Rattle.vertex_link_laws.proofs.Points.{extra, extra_are, points-link}
 use Rattle.vertex_link_laws.proofs.Triangles.{pieces-link}
 
@@ -31,6 +32,7 @@ module _ (s : Skeleton) (coords : Coords) (c : ℕ) (link : Link) (p : Propertie
   edges_and_triangles = record {
     arcs = are.arcs ∙ arcs-link s.rows s.vertices.classes c coords h (k.vertices).one_each ∙ sym (l.is_link).edges;
     pieces = are.pieces ∙ pieces-link (length s.rows) s.vertices.classes c coords h (k.vertices).one_each ∙ sym (l.is_link).triangles;
+    boundary = are.boundary ∙ boundary_is s.rows s.vertices.classes c coords h (k.vertices).one_each ∙ ap not (sym (l.is_link).closed);
   }
 
   pub vertices_and_more : HasOneMoreForEach s c link p

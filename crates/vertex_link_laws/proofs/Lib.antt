@@ -1,7 +1,12 @@
 pub mod Sums
 pub mod Triangles
 pub mod Arcs
+pub mod Boundary
 pub mod Weights
 pub mod Directions
 pub mod Points
 pub mod Agreement
+pub mod Pieces
+pub mod Components
+pub mod Sides
+pub mod Described

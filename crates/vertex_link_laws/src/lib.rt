@@ -2,9 +2,9 @@
 //! here have no code: their contracts are laws over the definitions.
 #![tactic(auto)]
 
-ghost use Rattle.vertex_link_laws.specs.Laws.{LinksHaveEdgesAndTriangles, LinksHaveVertices, LinkCharacteristicsAgree};
+ghost use Rattle.vertex_link_laws.specs.Laws.{LinksHaveEdgesAndTriangles, LinksHaveVertices, LinkCharacteristicsAgree, LinksAreOneComponent};
 
-/// The vertex link as a surface has an arc for each edge of the link, and a piece for each triangle.
+/// The vertex link as a surface has an arc for each edge of the link and a piece for each triangle, and meets the boundary as the link does.
 pub fn links_have_edges_and_triangles()
     ensures { LinksHaveEdgesAndTriangles }
 {}
@@ -17,4 +17,9 @@ pub fn links_have_vertices()
 /// So where no edge is invalid it has the Euler characteristic of the link.
 pub fn link_characteristics_agree()
     ensures { LinkCharacteristicsAgree }
+{}
+
+/// It is one component with two sides, orientable exactly where the link is.
+pub fn links_are_one_component()
+    ensures { LinksAreOneComponent }
 {}
