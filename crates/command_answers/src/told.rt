@@ -6,11 +6,11 @@ ghost use Rattle.text_definitions.specs.Written.{line};
 ghost use Rattle.outcome_definitions.specs.Canonical.{done};
 ghost use Rattle.outcome_definitions.specs.Sums.{accepted_outcome};
 
-use crate::Outcome;
+use crate::{Outcome, append_numbered};
 use no_memory::NoMemory;
 use outcome_definitions::Status;
 use std::alloc::Global;
-use text_writing::{append, append_decimal};
+use text_writing::append;
 
 /// A truth value as a word.
 pub fn yes_or_no(value: bool) -> &'static [u8]
@@ -38,10 +38,7 @@ pub fn append_counted(
 ) -> Result<(), NoMemory>
     ensures { OnOk result (text.new.items ≡ text.old.items ++ information.counted name.now count) }
 {
-    append(text, name)?;
-    append_decimal(alloc, text, u128::from(count))?;
-    append(text, b"\n")?;
-    Ok(())
+    append_numbered(alloc, text, name, u128::from(count))
 }
 
 /// The outcome of an answer of one line.

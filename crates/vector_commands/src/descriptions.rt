@@ -2,7 +2,6 @@
 ghost use Rattle.std.specs.Prelude.{◌≡◌, ◌≢◌, ◌<◌, ◌++◌, length, None, codes, decimal, OnOk, Ok};
 ghost use Rattle.std.specs.Fmt.{signed_decimal};
 ghost use Rattle.std.specs.List.{flat_map, slice_index_or};
-ghost use Rattle.text_definitions.specs.Written as written;
 ghost use Rattle.text_definitions.specs.Written.{limit};
 ghost use Rattle.surface_definitions.specs.Coordinates.{columns};
 ghost use Rattle.vector_definitions.specs.Properties.{first_large};
@@ -10,6 +9,7 @@ ghost use Rattle.vector_definitions.specs.Texts as texts;
 ghost use Rattle.surface_pieces.specs.Told.{no_component};
 ghost use Rattle.vector_commands.specs.Describing.{AreSmall};
 
+use command_answers::yes_or_no;
 use matching_equations::Coords;
 use no_memory::NoMemory;
 use ray_answers::write_vector;
@@ -18,12 +18,6 @@ use std::alloc::Global;
 use surface_pieces::Pieces;
 use surface_properties::{Properties, properties_of};
 use text_writing::{append, append_decimal};
-
-fn yes_or_no(answer: bool) -> &'static [u8]
-    ensures { result.now ≡ written.yes_or_no answer }
-{
-    if answer { b"yes" } else { b"no" }
-}
 
 fn sides(two_sided: bool) -> &'static [u8]
     ensures { result.now ≡ texts.sides_word two_sided }

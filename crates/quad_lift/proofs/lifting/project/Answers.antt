@@ -1,5 +1,5 @@
 -- Three quads more.
-use Rattle.std.proofs.Common.{◌≡◌, ℕ, ◌+◌, ◌*◌, ap, ◌∙◌, arith}
+use Rattle.std.proofs.Common.{◌≡◌, ◌+◌, ◌*◌, ap, ◌∙◌, arith}
 use Rattle.std.specs.Prelude.{slice_index}
 use Rattle.quad_lift.proofs.LiftParts.{project_more}
 use Rattle.quad_lift.proofs.lifting.project.Goals as goal
