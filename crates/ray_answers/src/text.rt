@@ -61,11 +61,22 @@ pub fn write_vector(alloc: Global, x: &[u128], out: &mut Vec<u8>) -> Result<(), 
     append(out, &text)
 }
 
+/// How many bytes the lines of rays have at least.
+fn least_bytes(list: &[Ray]) -> usize {
+    match list.first() {
+        Some(ray) => {
+            let line = ray.entries().len().saturating_mul(2).saturating_add(4);
+            list.len().saturating_mul(line)
+        }
+        None => 0,
+    }
+}
+
 /// The lines of all rays.
 fn lines_of(alloc: Global, list: &[Ray]) -> Result<Vec<u8>, NoMemory>
     ensures { IfOk result (λ text. text.items ≡ list_text list.now) }
 {
-    let mut text = Vec::new(alloc);
+    let mut text = Vec::with_capacity(alloc, least_bytes(list))?;
     for ray in list {
         push_line(alloc, &mut text, ray.entries())?;
     }
