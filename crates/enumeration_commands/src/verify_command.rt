@@ -1,6 +1,7 @@
 // The command `verify`: a verdict for each vector.
 ghost use Rattle.std.specs.Prelude.{◌≡◌, ◌≤◌, ◌++◌, ◌^◌, length, map, IfOk, OnOk};
 ghost use Rattle.surface_definitions.specs.Coordinates as coordinates;
+ghost use Rattle.surface_definitions.specs.QuadEquations.{AreEquations};
 ghost use Rattle.document_definitions.specs.Documents.{vectors_document, verdicts_text};
 ghost use Rattle.command_answers.specs.Reads.{all_entries};
 ghost use Rattle.surface_definitions.specs.Verdict.{verdict_text};
@@ -51,6 +52,15 @@ fn verdicts(
     Ok(text)
 }
 
+// The equations of a table.
+fn equations_of(alloc: Global, coords: Coords, table: &Table) -> Result<System, NoMemory>
+    ensures columns { IfOk result (λ s. s.columns ≡ coordinates.columns coords (length table.now)) }
+    ensures equations { IfOk result (λ s. AreEquations coords table.now s.rows) }
+{
+    let skeleton = Skeleton::of(alloc, table)?;
+    equations(alloc, &skeleton, coords)
+}
+
 // The answer to a table and vectors.
 fn answer(
     alloc: Global,
@@ -60,8 +70,7 @@ fn answer(
 ) -> Result<Outcome, NoMemory>
     ensures { IfOk result (IsVerdictsAnswer coords (table.now, all_entries vectors.now)) }
 {
-    let skeleton = Skeleton::of(alloc, table)?;
-    let system = equations(alloc, &skeleton, coords)?;
+    let system = equations_of(alloc, coords, table)?;
     let text = verdicts(alloc, coords, table, &system, vectors)?;
     Ok(Outcome::built(Status::Done, text))
 }
