@@ -1,3 +1,2 @@
 pub mod MoveLines
-pub mod DescentLines
 pub mod TellingLaws

@@ -4,15 +4,14 @@ ghost use Rattle.document_definitions.specs.Documents.{table_document};
 ghost use Rattle.text_definitions.specs.Written.{line};
 ghost use Rattle.outcome_definitions.specs.Outcomes.{IsReadOutcome};
 ghost use Rattle.outcome_definitions.specs.Certificates as certificates;
-ghost use Rattle.outcome_definitions.specs.Certificates.{moves_text, IsDescendAnswer};
+ghost use Rattle.outcome_definitions.specs.Certificates.{IsDescendAnswer};
 
 use canonical_labelling::WalkFault;
 use command_answers::{Outcome, fault_outcome, not_connected_outcome, read_table_document};
 use gluing_table::{Table, write_table};
-use move_undo::write_move;
+use move_undo::write_moves;
 use no_memory::NoMemory;
 use outcome_definitions::Status;
-use pachner_moves::Move;
 use sphere_certificate::{Descent, descend as descend_from};
 use std::alloc::Global;
 use text_writing::{append, append_decimal};
@@ -39,23 +38,14 @@ fn append_head(
     Ok(())
 }
 
-// A line for each move.
-fn append_moves(alloc: Global, out: &mut Vec<u8>, moves: &[Move]) -> Result<(), NoMemory>
-    ensures { OnOk result (out.new.items ≡ out.old.items ++ moves_text moves.now) }
-{
-    for m in moves {
-        write_move(alloc, *m, out)?;
-    }
-    Ok(())
-}
-
 // What is told of a descent.
+#[tactic(auto, unfolding(outcome_definitions::specs::Certificates::moves_text))]
 fn descent_text(alloc: Global, descent: &Descent) -> Result<Vec<u8>, NoMemory>
     ensures { IfOk result (λ text. text.items ≡ certificates.descent_text (record { reached = descent.now.reached; moves = descent.now.moves.items; table = descent.now.table })) }
 {
     let mut text = Vec::new(alloc);
     append_head(alloc, &mut text, descent.reached, descent.moves.len())?;
-    append_moves(alloc, &mut text, &descent.moves)?;
+    write_moves(alloc, &descent.moves, &mut text)?;
     write_table(alloc, &descent.table, &mut text)?;
     Ok(text)
 }

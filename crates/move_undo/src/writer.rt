@@ -1,6 +1,7 @@
 //! Moves in text.
 
 ghost use Rattle.std.specs.Prelude.{◌≡◌, ◌<◌, ◌++◌, [], ◌∷◌, length, filter, codes, IfOk, OnOk, OnErr};
+ghost use Rattle.std.specs.List.{flat_map};
 ghost use Rattle.table_definitions.specs.Permutation.{four, digits_of};
 ghost use Rattle.move_definitions.specs.MoveText.{move_text, core_words};
 ghost use Rattle.move_undo.specs.Written.{is_chosen, core_tail, head_text};
@@ -87,4 +88,14 @@ pub fn write_move(alloc: Global, m: Move, out: &mut Vec<u8>) -> Result<(), NoMem
 {
     let text = text_of(alloc, m)?;
     append(out, &text)
+}
+
+/// Appends a line for each move.
+pub fn write_moves(alloc: Global, moves: &[Move], out: &mut Vec<u8>) -> Result<(), NoMemory>
+    ensures { OnOk result (out.new.items ≡ out.old.items ++ flat_map move_text moves.now) }
+{
+    for m in moves {
+        write_move(alloc, *m, out)?;
+    }
+    Ok(())
 }
