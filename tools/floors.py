@@ -22,7 +22,7 @@ BELOW = {"definitions": ("plain_facts", "no_memory"), "laws": ("plain_facts",)}
 SUBJECTS = {
     "below all": "plain_facts no_memory",
     "text": "text_definitions document_definitions document_laws partial_table_laws written_laws bench_io text_writing",
-    "table": "table_definitions walk_laws perm_four finite_walks gluing_table table_commands",
+    "table": "table_definitions permutation_laws walk_laws perm_four finite_walks gluing_table table_commands",
     "skeleton": "skeleton_definitions class_laws skeleton_laws skeleton vertex_links",
     "signature": "signature_definitions labelling_definitions signature_text_laws labelling_laws signature_laws"
     " signature_codec canonical_labelling signature_census",

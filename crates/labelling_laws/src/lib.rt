@@ -2,6 +2,7 @@
 //! here have no code: their contracts are the laws.
 #![tactic(auto)]
 
+ghost use Rattle.labelling_definitions.specs.Census.{CensusGoesOn, OneCensus};
 ghost use Rattle.labelling_definitions.specs.Laws.{WalksAgree, RelabelsTables, RelabelsBack, RelabelsOn, RelabelsConnected, OneSignature, SignaturesTellTables, OneLeastRelabelling};
 
 /// A table has one walk from each start.
@@ -26,4 +27,14 @@ pub fn signatures_tell_tables()
 /// One relabelling is told of two tables.
 pub fn one_relabelling_is_told()
     ensures { OneLeastRelabelling }
+{}
+
+/// Where each table is added in turn, two tables get one class exactly if a relabelling carries the one to the other.
+pub fn census_goes_on()
+    ensures { CensusGoesOn }
+{}
+
+/// A list of tables has one census.
+pub fn one_census()
+    ensures { OneCensus }
 {}

@@ -3,11 +3,9 @@
 #![tactic(auto)]
 
 mod census;
-mod laws;
 
 pub use canonical_labelling::WalkFault;
 pub use census::Census;
-pub use laws::{census_goes_on, one_census};
 
 #[cfg(test)]
 mod tests;

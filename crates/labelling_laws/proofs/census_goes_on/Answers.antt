@@ -1,7 +1,7 @@
 -- Signatures tell tables.
 use Rattle.labelling_laws.proofs.Told.{tells_tables}
 use Rattle.labelling_definitions.proofs.CensusLaws.{census_goes_on}
-use Rattle.signature_census.proofs.laws.census_goes_on.Goals as goal
+use Rattle.labelling_laws.proofs.census_goes_on.Goals as goal
 
 pub returns : goal.returns
 returns c = λ tables a classes before text class now are_tables table census signature placed.
