@@ -29,7 +29,7 @@ use Rattle.outcome_definitions.specs.declared.SumRefusal.TheVariants.{Unfit, Unf
 use Rattle.outcome_definitions.specs.declared.Status.TheVariants as statuses
 use Rattle.outcome_definitions.specs.Outcomes.{Outcome}
 use Rattle.outcome_definitions.specs.Sums.{AreTold, unfit_status, sum_refusal_status, IsVerdict, IsSummed, IsDecomposed, IsDecomposeAnswer, AreFit, IsAddedUp, accepted_outcome, addup_outcome, sums_outcome, IsAddupAnswer}
-use Rattle.outcome_laws.proofs.Summed.{one_addup}
+use Rattle.outcome_laws.proofs.Summed.{verdicts_fit, one_addup}
 use Rattle.outcome_laws.proofs.Certified.{table_with_lines}
 use Rattle.equation_bounds_laws.specs.Bounds.{number_bound}
 use Rattle.equation_bounds_laws.proofs.Bounds.{not_past}
@@ -41,12 +41,6 @@ use Rattle.answer_laws.proofs.Asked.{means_by, status_of}
 module _ (coords : Coords) (rows : List Row) (equations : List EquationRow) where
   abbrev width : ℕ
   width = columns coords (length rows)
-
-  verdicts_fit : (vectors : List (List ℕ)) (passed : List (Unit {0})) → AllZip (λ x answer. IsVerdict coords rows equations x (Ok answer)) vectors passed
-      → AllByRecursion (IsFit coords rows equations) vectors
-  verdicts_fit [] passed h = tt
-  verdicts_fit (x ∷ vectors) [] h = absurd h
-  verdicts_fit (x ∷ vectors) (u ∷ passed) h = (h.0, verdicts_fit vectors passed h.1)
 
   -- ---- sums of vertex surfaces
 
@@ -74,9 +68,9 @@ module _ (coords : Coords) (rows : List Row) (equations : List EquationRow) wher
   decomposed : (most : ℕ) (vectors : List (List ℕ)) (o : Outcome) (checked : Result (List (Unit {0})) (ℕ × VectorFault)) → AreTold (IsVerdict coords rows equations) vectors checked
       → IsDecomposed most (table_enumeration coords Given most rows equations) rows vectors checked o → AreDecomposed coords most rows equations vectors o
   decomposed most vectors o (Ok passed) v (inl h) =
-      let fit = verdicts_fit vectors passed v in
+      let fit = verdicts_fit coords rows equations vectors passed v in
       inl (All-from_recursion (IsFit coords rows equations) vectors fit, inl (told_sums most h.list h.listed.surfaces vectors o h.told fit h.sums h.outcome))
-  decomposed most vectors o (Ok passed) v (inr h) = inl (All-from_recursion (IsFit coords rows equations) vectors (verdicts_fit vectors passed v), inr h)
+  decomposed most vectors o (Ok passed) v (inr h) = inl (All-from_recursion (IsFit coords rows equations) vectors (verdicts_fit coords rows equations vectors passed v), inr h)
   decomposed most vectors o (Err unfit) v h = inr (record { vector = unfit.0; fault = unfit.1; first = v; outcome = h })
 
   -- ---- true sums

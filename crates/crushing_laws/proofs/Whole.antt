@@ -1,5 +1,5 @@
 -- Where nothing is taken out, each tetrahedron keeps its number and each face its gluing.
-use Rattle.std.proofs.Common.{◌≡◌, ℕ, zero, suc, ◌<◌, ◌≤◌, Bool, true, false, not, List, [], ◌∷◌, length, Option, Some, None, inl, inr, refl, sym, ap, ◌∙◌, arith, nat_lt, ◌⊎◌}
+use Rattle.std.proofs.Common.{◌≡◌, ℕ, zero, suc, ◌<◌, ◌≤◌, Bool, true, false, List, [], ◌∷◌, length, Option, Some, None, inl, inr, refl, sym, ap, ◌∙◌, arith, nat_lt, ◌⊎◌}
 use Rattle.std.specs.Prelude.{slice_index}
 use Rattle.std.specs.List.{list_any}
 use Rattle.std.proofs.lemmas.Bool.{or_from, or_parts, ltb-false, not-true, not_from_false, false≢true}
@@ -10,7 +10,7 @@ use Rattle.table_definitions.proofs.Ranks.{rank, one_if, rank-suc, rank_fits}
 use Rattle.surface_definitions.specs.Coordinates.{quad_column, three}
 use Rattle.surface_definitions.specs.declared.Coords.TheVariants.{Standard}
 use Rattle.surface_definitions.specs.Crushing.{has_quad, is_removed, number_kept, ChainEnds, IsCrushed}
-use Rattle.vector_laws.proofs.CrushedRows.{renumbered, crushed_once}
+use Rattle.vector_laws.proofs.CrushedRows.{renumbered, crushed_once, stays}
 use Rattle.vector_laws.proofs.Glued.{face_at}
 use Rattle.vector_laws.proofs.ChainsBack.{gluing_at}
 use Rattle.crushing_laws.specs.Laws.{HasNoQuads}
@@ -42,9 +42,6 @@ all_rank p (suc n) e t l = by_last (true_or_false (p n)) (all_rank p n) t l
     by_last : (p n ≡ true) ⊎ (p n ≡ false) → (rank p n ≡ n → (t : ℕ) → t < n → p t ≡ true) → (t : ℕ) → t < suc n → p t ≡ true
     by_last (inl h) before = let one : one_if (p n) ≡ 1 = ap one_if h in below_suc (λ t. p t ≡ true) n (before (omega (arith, rank-suc p n))) h
     by_last (inr h) before = let none : one_if (p n) ≡ 0 = ap one_if h in absurd (omega (arith, rank-suc p n, rank_fits p n))
-
-abbrev stays : List ℕ → ℕ → Bool
-stays xs t = not (is_removed xs t)
 
 module _ (rows : List Row) (xs : List ℕ) (quads : HasNoQuads (length rows) xs) where
   none_removed : (t : ℕ) → t < length rows → is_removed xs t ≡ false

@@ -1,7 +1,6 @@
 -- A table and blocks of sums: the first fault of their text, and of blocks behind a table that was read.
-use Rattle.std.proofs.Common.{◌≡◌, ◌≤◌, ◌+◌, ℕ, List, [], ◌∷◌, ◌++◌, length, Result, Ok, Err, refl, sym, ap, ◌∙◌, subst, arith}
+use Rattle.std.proofs.Common.{◌≡◌, ◌+◌, ℕ, List, [], ◌∷◌, ◌++◌, Result, Ok, Err, refl, sym, ap, ◌∙◌, subst, arith}
 use Rattle.std.specs.Prelude.{⊤}
-use Rattle.std.proofs.lemmas.List.{length-append}
 use Rattle.text_definitions.specs.declared.LexFault.{LexFault}
 use Rattle.text_definitions.specs.Text.{Line, lines_of}
 use Rattle.text_definitions.specs.Reading.{Reading, ◌>>=◌, begun, start_of}
@@ -16,7 +15,7 @@ use Rattle.document_definitions.specs.TextForms.{AreTableText}
 use Rattle.document_definitions.specs.Blocks.{Block, block_at, blocks_on, blocks_from, blocks_document, AreBlockLines, AreBlocks, AreTableAndBlocks, AreTableAndBlocksText}
 use Rattle.document_laws.specs.FormLaws.{FaultsStandFirst}
 use Rattle.document_laws.specs.FaultLaws.{SomeTableAndBlocks, BlocksFaultsLeaveFirst}
-use Rattle.document_laws.proofs.Tables.{table_blocks, table_read}
+use Rattle.document_laws.proofs.Tables.{table_read}
 use Rattle.document_laws.proofs.BlockReading.{BlockRead, block_read}
 use Rattle.document_laws.proofs.BlockFinding.{BlockFound, block_found}
 use Rattle.document_laws.proofs.SumDocuments.{any_most}
@@ -32,7 +31,7 @@ use Rattle.document_laws.proofs.TextGrammar.{text_blocks}
 use Rattle.document_laws.proofs.TextEnds.{AtEnd, nothing, each_from, alike_each_from, from_nothing, well_each, each_sound, each_complete}
 use Rattle.document_laws.proofs.FirstFaults.{left_first, stands_first}
 use Rattle.document_laws.proofs.BehindTables.{first_behind}
-use Rattle.document_laws.proofs.FirstLines.{faults_ok}
+use Rattle.document_laws.proofs.FirstLines.{faults_ok, left_of}
 
 -- a block is read exactly where its text is
 text_of_block : (c : Reading) (x : Block) (d : Reading) → block_at c ≡ Ok (x, d) → block_text c ≡ Ok (tt, d)
@@ -109,13 +108,6 @@ copy_blocks (m ∷ most) c = by_lines_left c.later (copy_blocks most)
     by_lines_left (l ∷ ls) others =
         copy_bind as_is left_only left_only (block_at (begun l ls c)) (block_text (begun l ls c)) (λ (x : Block × Reading). blocks_from most x.1 >>= λ (bs : Blocks). Ok (x.0 ∷ bs.0, bs.1)) (λ (x : ⊤ × Reading). each_from block_text most x.1)
         (copy_block (begun l ls c)) (λ x. copy_then as_is left_only left_only (blocks_from most x.1) (each_from block_text most x.1) (λ (bs : Blocks). Ok (x.0 ∷ bs.0, bs.1)) (others x.1) (λ bs. refl))
-
-left_of : (bytes : List ℕ) (rows : List Row) (d : Reading) → next_table_at (start_of bytes) ≡ Ok (rows, d) → length d.later ≤ length (lines_of bytes)
-left_of bytes rows d e =
-    let t : (lines : List Line) × (lines_of bytes ≡ lines ++ d.later) × AreTableLines lines rows = table_blocks.sound (start_of bytes) rows d e in
-    let whole : length (lines_of bytes) ≡ length (t.0 ++ d.later) = ap (λ (ls : List Line). length ls) t.1 in
-    let parts : length (t.0 ++ d.later) ≡ length t.0 + length d.later = length-append t.0 d.later in
-    omega (arith, whole, parts)
 
 copy_left : (bytes : List ℕ) (rows : List Row) (d : Reading) → next_table_at (start_of bytes) ≡ Ok (rows, d) → Copies as_is left_only (blocks_from d.later d) (each_from block_text (lines_of bytes) d)
 copy_left bytes rows d e =

@@ -34,6 +34,13 @@ pub faults_ok : {X Y Z E : Type 0} (lex : LexFault → E) (view : X → Y) (r : 
 faults_ok lex view (Ok x) s g c f e = absurd cc
 faults_ok lex view (Err h) s g c f e = (let same : h ≡ lex f = cc in c f same)
 
+pub left_of : (bytes : List ℕ) (rows : List Row) (d : Reading) → next_table_at (start_of bytes) ≡ Ok (rows, d) → length d.later ≤ length (lines_of bytes)
+left_of bytes rows d e =
+    let t : (lines : List Line) × (lines_of bytes ≡ lines ++ d.later) × AreTableLines lines rows = table_blocks.sound (start_of bytes) rows d e in
+    let whole : length (lines_of bytes) ≡ length (t.0 ++ d.later) = ap (λ (ls : List Line). length ls) t.1 in
+    let parts : length (t.0 ++ d.later) ≡ length t.0 + length d.later = length-append t.0 d.later in
+    omega (arith, whole, parts)
+
 module _ {A : Type 0} (form : Reading → Result (A × Reading) LexFault) (Form : Line → A → Type 0) (reads : ReadsLine form Form) where
   abbrev Value : Line → Type 0
   Value line = (x : A) × Form line x
@@ -59,13 +66,6 @@ module _ {A : Type 0} (form : Reading → Result (A × Reading) LexFault) (Form 
 
   abbrev read : List Line → Reading → Read
   read most c = next_text c >>= λ (u : ⊤ × Reading). each_from form most u.1
-
-  left_of : (bytes : List ℕ) (rows : List Row) (d : Reading) → next_table_at (start_of bytes) ≡ Ok (rows, d) → length d.later ≤ length (lines_of bytes)
-  left_of bytes rows d e =
-      let t : (lines : List Line) × (lines_of bytes ≡ lines ++ d.later) × AreTableLines lines rows = table_blocks.sound (start_of bytes) rows d e in
-      let whole : length (lines_of bytes) ≡ length (t.0 ++ d.later) = ap (λ (ls : List Line). length ls) t.1 in
-      let parts : length (t.0 ++ d.later) ≡ length t.0 + length d.later = length-append t.0 d.later in
-      omega (arith, whole, parts)
 
   behind_faults : (bytes : List ℕ) (rows : List Row) (d : Reading) → next_table_at (start_of bytes) ≡ Ok (rows, d)
       → FaultsAs {X = List Row × List A} in_text (worded (each_line_from form d.later d) >>= λ (xs : Lines). Ok (rows, xs.0)) (each_from form (lines_of bytes) d)

@@ -2,11 +2,11 @@
 use Rattle.std.proofs.Common.{◌≡◌, ◌≢◌, ℕ, ◌+◌, ◌<◌, ◌≤◌, ◌⊎◌, inl, inr, ⊎_elim, List, [], ◌∷◌, ◌++◌, Contains, length, slice_index, slice_index_or, slice_set, length-set, get_or-set_same, get_or-set_other, subst, ap, sym, ◌∙◌, refl, arith}
 use Rattle.std.proofs.lemmas.List.Elements.{All-push, All-weaker, Contains-push, Contains-append_left}
 use Rattle.std.proofs.lemmas.List.Quantifiers.{all_pairs_push}
-use Rattle.std.proofs.lemmas.Bool.{cases_eq, cases_lt}
+use Rattle.std.proofs.lemmas.Bool.{cases_eq}
 use Rattle.cone_definitions.specs.Vectors.{ray_at}
 use Rattle.cone_definitions.specs.Surfaces.{Clash}
 use Rattle.cone_definitions.specs.Enumeration.{ComesFromPair}
-use Rattle.cone_definitions.proofs.Entries.{same_vectors, entry_past}
+use Rattle.cone_definitions.proofs.Entries.{same_vectors}
 use Rattle.cone_definitions.proofs.Surfaces.{step_gives_next_lem, none_is_kept_and_made}
 use Rattle.cone_definitions.proofs.Rays.{IsSolution-front}
 use Rattle.double_description.specs.declared.kept.Kept.{Kept}

@@ -25,14 +25,6 @@ any_each [] = tt
 any_each (x ∷ xs) = (tt, any_each xs)
 
 module _ (coords : Coords) (rows : List Row) (equations : List EquationRow) where
-  -- vectors whose verdicts are all told as accepted are fit
-  pub all_fit : (vectors : List (List ℕ)) (passed : List (Unit {0})) → AllZip (λ x a. IsVerdict coords rows equations x (Ok a)) vectors passed
-      → AllByRecursion (IsFit coords rows equations) vectors
-  all_fit [] [] h = tt
-  all_fit [] (a ∷ others) h = absurd h
-  all_fit (x ∷ xs) [] h = absurd h
-  all_fit (x ∷ xs) (a ∷ others) h = (h.0, all_fit xs others h.1)
-
   pub verdicts_told : (vectors : List (List ℕ)) → (t : Result (List (Unit {0})) (ℕ × VectorFault)) × AreTold (IsVerdict coords rows equations) vectors t
   verdicts_told vectors = told_of (IsVerdict coords rows equations) (λ x. Unit {0}) vectors (λ x u. (verdict_in coords rows equations x, refl)) (any_each vectors)
 

@@ -23,7 +23,8 @@ use Rattle.outcome_definitions.specs.Enumerations.{large_outcome}
 use Rattle.outcome_definitions.specs.Sums.{AreTold, IsVerdict, IsSummed, sums_outcome, sum_refusal_outcome, IsDecomposed, IsDecomposeAnswer}
 use Rattle.outcome_existence_laws.proofs.ToldLists.{told_of}
 use Rattle.coordinate_laws.proofs.ClashPairs.{clashes_apart}
-use Rattle.outcome_existence_laws.proofs.AddedUp.{all_fit, verdicts_told}
+use Rattle.outcome_laws.proofs.Summed.{verdicts_fit}
+use Rattle.outcome_existence_laws.proofs.AddedUp.{verdicts_told}
 
 module _ (coords : Coords) (most : ℕ) (rows : List Row) (equations : List EquationRow) where
   abbrev enumeration : Enumeration
@@ -48,7 +49,7 @@ module _ (coords : Coords) (most : ℕ) (rows : List Row) (equations : List Equa
   decomposed vectors (Ok passed) h = elim (enumeration_ends enumeration (clashes_apart coords (length rows))) [
     | inr past ↦ (large_outcome past.0 past.1, inr (past.0, past.1, past.2, refl))
     | inl l ↦
-        let t = told_of (IsSummed most l.1) (IsFit coords rows equations) vectors (summed l.1 l.2.surfaces) (all_fit coords rows equations vectors passed h) in
+        let t = told_of (IsSummed most l.1) (IsFit coords rows equations) vectors (summed l.1 l.2.surfaces) (verdicts_fit coords rows equations vectors passed h) in
         (sums_outcome rows t.0, inl (record { taken = l.0; list = l.1; listed = l.2; told = t.0; sums = t.1; outcome = refl }))
   ]
 

@@ -1,11 +1,11 @@
 -- Each table and steps have an answer to `play`.
-use Rattle.std.proofs.Common.{◌≡◌, ℕ, zero, suc, ◌+◌, ◌≤◌, inl, inr, List, [], ◌∷◌, ◌++◌, length, take, Option, Some, None, refl, sym, subst, arith}
+use Rattle.std.proofs.Common.{◌≡◌, ℕ, zero, suc, ◌+◌, ◌≤◌, inl, inr, List, [], ◌∷◌, ◌++◌, length, take, Option, Some, None, refl, arith}
 use Rattle.std.specs.List.{AllByRecursion}
 use Rattle.std.proofs.lemmas.Bool.{cases_lt}
 use Rattle.std.proofs.lemmas.List.{length-take-le, length_push}
 use Rattle.table_definitions.specs.Table.{Row, IsTable}
 use Rattle.move_definitions.specs.declared.MoveFault.{MoveFault}
-use Rattle.move_definitions.specs.Moves.{Move, play_fault, IsCore, Plays, PlaysAll}
+use Rattle.move_definitions.specs.Moves.{Move, play_fault, IsCore, PlaysAll}
 use Rattle.move_definitions.specs.MoveText.{Step, play, undo, redo}
 use Rattle.move_definitions.specs.Sessions.{Session, IsTableOf, begun, with_move, one_less, one_more, StepAnswer, done, illegal, undone, redone, nothing, IsStep, AreSteps}
 use Rattle.certificate_laws.proofs.Made.{accepted_leads}

@@ -1,6 +1,6 @@
 -- What is told of sums of surfaces is one outcome.
 use Rattle.std.proofs.Common.{◌≡◌, ◌≢◌, ℕ, suc, List, [], ◌∷◌, ◌++◌, length, inl, inr, Option, Some, None, Result, Ok, Err, refl, sym, ap, ap₂, ◌∙◌, subst, subst₂, arith}
-use Rattle.std.specs.List.{All, AllZip}
+use Rattle.std.specs.List.{All, AllZip, AllByRecursion}
 use Rattle.std.proofs.lemmas.List.Sorted.{IsPermutation-refl}
 use Rattle.text_definitions.specs.Written.{limit}
 use Rattle.cone_definitions.specs.Rows.{Row as EquationRow}
@@ -13,7 +13,7 @@ use Rattle.surface_definitions.specs.declared.Coords.{Coords}
 use Rattle.surface_definitions.specs.declared.VectorFault.{VectorFault}
 use Rattle.surface_definitions.specs.Verdict.{Verdict, solution}
 use Rattle.surface_definitions.specs.TableSurfaces.{table_enumeration}
-use Rattle.vector_definitions.specs.Answers.{verdict_in}
+use Rattle.vector_definitions.specs.Answers.{verdict_in, IsFit}
 use Rattle.sum_definitions.specs.Sums.{Term}
 use Rattle.sum_definitions.specs.Adding.{add_fault}
 use Rattle.sum_definitions.specs.declared.AddFault.{AddFault}
@@ -26,6 +26,13 @@ use Rattle.outcome_definitions.specs.Outcomes.{Outcome}
 use Rattle.outcome_definitions.specs.Enumerations.{large_outcome}
 use Rattle.outcome_definitions.specs.Sums.{IsFirstRefused, AreTold, IsVerdict, IsTermVerdict, IsAddedUp, IsSummed, AreSums, IsPastTold, IsDecomposed, IsDecomposeAnswer, IsAddupAnswer, sums_outcome, addup_outcome}
 use Rattle.surface_definitions.proofs.OneSystem.{one_equations}
+
+-- vectors whose verdicts are all told as accepted are fit
+pub verdicts_fit : (coords : Coords) (rows : List Row) (equations : List EquationRow) (vectors : List (List ℕ)) (passed : List (Unit {0}))
+    → AllZip (λ x answer. IsVerdict coords rows equations x (Ok answer)) vectors passed → AllByRecursion (IsFit coords rows equations) vectors
+verdicts_fit coords rows equations [] passed h = tt
+verdicts_fit coords rows equations (x ∷ vectors) [] h = absurd h
+verdicts_fit coords rows equations (x ∷ vectors) (u ∷ passed) h = (h.0, verdicts_fit coords rows equations vectors passed h.1)
 
 -- where what is told of each is determined, so is what is told of all
 module _ {A B E : Type 0} (IsTold : A → Result B E → Type 0) (one : (x : A) (r s : Result B E) → IsTold x r → IsTold x s → r ≡ s) where

@@ -1,5 +1,5 @@
 -- The lift from its parts, and the quads of a standard vector.
-use Rattle.std.proofs.Common.{◌≡◌, ℕ, suc, ◌+◌, ◌-◌, ◌*◌, ◌/◌, ◌%◌, ◌<◌, ◌≤◌, List, [], ◌∷◌, ◌++◌, length, map, sym, ap, ◌∙◌, subst, arith, inl, inr, append_assoc}
+use Rattle.std.proofs.Common.{◌≡◌, ℕ, suc, ◌+◌, ◌-◌, ◌*◌, ◌/◌, ◌%◌, ◌<◌, ◌≤◌, List, [], ◌∷◌, ◌++◌, length, sym, ap, ◌∙◌, subst, arith, inl, inr, append_assoc}
 use Rattle.std.specs.Prelude.{slice_index, if◌then◌else◌}
 use Rattle.std.specs.List.{flat_map}
 use Rattle.std.proofs.lemmas.List.Concat.{flat_map-append}
@@ -11,7 +11,7 @@ use Rattle.table_definitions.specs.Table.{glue}
 use Rattle.skeleton_definitions.specs.Links.{vertex_number}
 use Rattle.skeleton_definitions.specs.Skeleton.{Skeleton, IsSkeleton}
 use Rattle.surface_definitions.specs.declared.Coords.TheVariants.{Quad, Standard}
-use Rattle.surface_definitions.specs.Coordinates.{quad_column, keeping, three}
+use Rattle.surface_definitions.specs.Coordinates.{quad_column, keeping}
 use Rattle.surface_definitions.specs.Lift.{projected}
 use Rattle.vector_definitions.specs.Lifting.{HasLiftAt, IsLeastWithoutLift}
 use Rattle.vector_laws.specs.LiftLaws.{AreHeights, IsLiftOf, IsSurfaceOver}
@@ -22,6 +22,7 @@ use Rattle.vector_laws.proofs.Lowered.{IsLow, lowered_lift}
 use Rattle.quad_lift.specs.Spreads.{AreAllSpread}
 use Rattle.quad_lift.specs.Agreements.{AgreesRound, IsLeastWrong, IsLeastHeight, AreLeastHeights, lifted_entry}
 use Rattle.quad_lift.proofs.CrossingLemmas.{crossed_to, IsCrossedTo}
+use Rattle.vector_laws.proofs.Quads.{quads_of}
 
 module _ (s : Skeleton) (k : IsSkeleton s) (xs : List ℕ) (w : length xs ≡ 3 * length s.rows) (heights : List ℕ) (a : AreAllSpread s xs heights) where
   abbrev class_of : ℕ → ℕ
@@ -98,9 +99,6 @@ surface_over s k xs w ys f =
     }
 
 -- the quads of one tetrahedron more
-abbrev quads_of : List ℕ → ℕ → List ℕ
-quads_of ys t = map (λ k. slice_index ys (quad_column Standard t k)) three
-
 pub project_more : (ys : List ℕ) (t : ℕ) (before one two more : List ℕ) (a b c : ℕ) → before ≡ projected t ys → one ≡ before ++ a ∷ [] → two ≡ one ++ b ∷ [] → more ≡ two ++ c ∷ []
     → a ≡ slice_index ys (7 * t + 4) → b ≡ slice_index ys (7 * t + 5) → c ≡ slice_index ys (7 * t + 6) → more ≡ projected (t + 1) ys
 project_more ys t before one two more a b c h e f g ea eb ec =

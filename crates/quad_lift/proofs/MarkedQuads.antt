@@ -1,10 +1,10 @@
 -- The quads beside the marked vertices, added, are at most four times all quads.
 use Rattle.std.proofs.Common.{◌≡◌, ℕ, zero, suc, ◌+◌, ◌*◌, ◌/◌, ◌<◌, ◌≤◌, ◌⊎◌, Bool, true, false, List, [], ◌∷◌, ◌++◌, length, take, set, inl, inr, refl, sym, ap, ◌∙◌, subst, arith}
-use Rattle.std.specs.Prelude.{sum, sum_by, slice_index, if◌then◌else◌}
+use Rattle.std.specs.Prelude.{sum, sum_by, if◌then◌else◌}
 use Rattle.std.specs.List.{slice_index_or}
 use Rattle.std.proofs.lemmas.Bool.{cases_lt}
 use Rattle.std.proofs.lemmas.List.{get_or-set_same, get_or-set_other, take_all}
-use Rattle.std.proofs.lemmas.List.Sums.{sum_by-append, sum_by-cons, sum_by_more}
+use Rattle.std.proofs.lemmas.List.Sums.{sum_by-append, sum_by-cons}
 use Rattle.table_definitions.specs.Lists.{below}
 use Rattle.table_definitions.proofs.Bijections.{below-push}
 use Rattle.vector_laws.proofs.ThreeSums.{three_of, three_more}

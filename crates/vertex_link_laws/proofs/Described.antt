@@ -1,6 +1,7 @@
 -- What is told of the components of a vertex link: it is one, as the link is.
-use Rattle.std.proofs.Common.{◌≡◌, ℕ, ◌<◌, Bool, true, false, List, [], ◌∷◌, refl, ap, ◌∙◌, subst}
+use Rattle.std.proofs.Common.{◌≡◌, ℕ, ◌<◌, List, [], ◌∷◌, refl, ◌∙◌, subst}
 use Rattle.std.specs.List.{AllZip}
+use Rattle.std.specs.Cmp.{both_ways}
 use Rattle.table_definitions.specs.Lists.{below}
 use Rattle.skeleton_definitions.specs.Skeleton.{Skeleton, IsSkeleton}
 use Rattle.skeleton_definitions.specs.declared.Link.{Link}
@@ -12,12 +13,6 @@ use Rattle.quad_lift_laws.specs.Laws.{HasLink}
 use Rattle.vertex_link_laws.specs.Laws.{IsOneComponentOfLink}
 use Rattle.vertex_link_laws.proofs.Components.{one_component, whole_vector}
 use Rattle.vertex_link_laws.proofs.Sides.{two_sides, orientable_alike}
-
-same_truth : (a b : Bool) → (a ≡ true → b ≡ true) → (b ≡ true → a ≡ true) → a ≡ b
-same_truth true true f g = refl
-same_truth false false f g = refl
-same_truth true false f g = absurd (let t : false ≡ true = f refl in cc)
-same_truth false true f g = absurd (let t : false ≡ true = g refl in cc)
 
 -- one component is listed
 record IsSingle (P : ℕ → Component → Type 0) (listed : List Component) : Type 0 where
@@ -43,7 +38,7 @@ described s coords c link listed k h lc l are =
       alone = x.alone;
       whole = told.vector ∙ whole_vector s k c coords h lc are.classes are.count are.numbered;
       two_sided = told.two_sided.1 (two_sides s k c coords h are.classes 0);
-      orientable = same_truth x.component.orientable link.orientable
+      orientable = both_ways x.component.orientable link.orientable
           (λ t. (l.is_link).orientable.1 (alike.0 (told.orientable.0 t)))
           (λ t. told.orientable.1 (alike.1 ((l.is_link).orientable.0 t)));
     }

@@ -1,6 +1,6 @@
 -- What `decompose` answers is read again.
-use Rattle.std.proofs.Common.{◌≡◌, ℕ, ◌+◌, ◌≤◌, inl, inr, ◌↔◌, List, [], ◌∷◌, length, Result, Ok, Err, refl, sym, ap, ◌∙◌, subst, arith}
-use Rattle.std.specs.List.{All, AllZip, AllByRecursion}
+use Rattle.std.proofs.Common.{◌≡◌, ℕ, ◌+◌, ◌≤◌, inl, inr, ◌↔◌, List, length, Result, Ok, Err, refl, sym, ap, ◌∙◌, subst, arith}
+use Rattle.std.specs.List.{All, AllByRecursion}
 use Rattle.std.proofs.lemmas.List.Elements.{All-from_recursion}
 use Rattle.text_definitions.specs.Text.{pieces, lines_from}
 use Rattle.text_definitions.specs.Written.{limit}
@@ -27,6 +27,7 @@ use Rattle.written_laws.proofs.WrittenTables.{BeginsWithTable, table_lines}
 use Rattle.outcome_definitions.specs.declared.Status.TheVariants as statuses
 use Rattle.outcome_definitions.specs.Outcomes.{Outcome, IsReadOutcome}
 use Rattle.outcome_definitions.specs.Sums.{IsVerdict, IsSummed, AreTold, IsDecomposed, IsDecomposeAnswer, IsAddupAnswer, unfit_status, sums_outcome}
+use Rattle.outcome_laws.proofs.Summed.{verdicts_fit}
 use Rattle.outcome_laws.proofs.ReadPairs.{next_read}
 use Rattle.written_sum_laws.specs.Laws.{sums_text, AreToldAsSums, DecomposedAreTold, WrittenSumsAreRead, IsReadAgain, IsAcceptedUnlessLarge, DecomposedAreReadAgain}
 use Rattle.written_sum_laws.proofs.WrittenBlocks.{FitsBlock, only_blocks}
@@ -41,12 +42,6 @@ unfit_is_not_done (Length n) e = absurd cc
 unfit_is_not_done (Large i) e = absurd cc
 unfit_is_not_done (NotSolution i) e = absurd cc
 unfit_is_not_done (Clash a b) e = absurd cc
-
-all_fit : (coords : Coords) (rows : List Row) (equations : List EquationRow) (vectors : List (List ℕ)) (passed : List (Unit {0})) → AllZip (λ x answer. IsVerdict coords rows equations x (Ok answer)) vectors passed
-    → AllByRecursion (IsFit coords rows equations) vectors
-all_fit coords rows equations [] passed h = tt
-all_fit coords rows equations (x ∷ vectors) [] h = absurd h
-all_fit coords rows equations (x ∷ vectors) (u ∷ passed) h = (h.0, all_fit coords rows equations vectors passed h.1)
 
 module _ (coords : Coords) (most : ℕ) (rows : List Row) (equations : List EquationRow) (vectors : List (List ℕ)) (o : Outcome) (e : AreEquations coords rows equations) (done : o.status ≡ statuses.Done) where
   abbrev Listing : Enumeration
@@ -63,7 +58,7 @@ module _ (coords : Coords) (most : ℕ) (rows : List Row) (equations : List Equa
   told_sums fit taken list listed (Err large) sums same = (let z : statuses.Large ≡ statuses.Done = sym (ap (λ (p : Outcome). p.status) same) ∙ done in absurd cc)
 
   told : (checked : Result (List (Unit {0})) (ℕ × VectorFault)) → AreTold (IsVerdict coords rows equations) vectors checked → IsDecomposed most Listing rows vectors checked o → AreToldAsSums coords most rows vectors o.text
-  told (Ok passed) v (inl h) = told_sums (All-from_recursion (IsFit coords rows equations) vectors (all_fit coords rows equations vectors passed v)) h.taken h.list h.listed h.told h.sums h.outcome
+  told (Ok passed) v (inl h) = told_sums (All-from_recursion (IsFit coords rows equations) vectors (verdicts_fit coords rows equations vectors passed v)) h.taken h.list h.listed h.told h.sums h.outcome
   told (Ok passed) v (inr h) = (let z : statuses.Large ≡ statuses.Done = sym (ap (λ (p : Outcome). p.status) h.3) ∙ done in absurd cc)
   told (Err unfit) v h = absurd (unfit_is_not_done unfit.1 (sym (ap (λ (p : Outcome). p.status) h) ∙ done))
 
