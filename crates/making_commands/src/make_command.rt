@@ -1,27 +1,14 @@
 // The command `make`: a table that is made, and its certificate.
-ghost use Rattle.std.specs.Prelude.{◌≡◌, ◌++◌, IfOk, OnOk};
-ghost use Rattle.std.specs.List.{flat_map};
-ghost use Rattle.move_definitions.specs.MoveText.{move_text};
+ghost use Rattle.std.specs.Prelude.{◌≡◌, IfOk};
 ghost use Rattle.outcome_definitions.specs.Makings.{IsMakeAnswer, made_text};
 
 use command_answers::Outcome;
 use gluing_table::write_table;
-use move_undo::write_move;
+use move_undo::write_moves;
 use no_memory::NoMemory;
 use outcome_definitions::Status;
-use pachner_moves::Move;
 use std::alloc::Global;
 use tri_build::Made;
-
-// A line for each move.
-fn append_moves(alloc: Global, text: &mut Vec<u8>, moves: &[Move]) -> Result<(), NoMemory>
-    ensures { OnOk result (text.new.items ≡ text.old.items ++ flat_map move_text moves.now) }
-{
-    for m in moves {
-        write_move(alloc, *m, text)?;
-    }
-    Ok(())
-}
 
 // The table, and the moves of its certificate.
 fn text_of(alloc: Global, made: &Made) -> Result<Vec<u8>, NoMemory>
@@ -29,7 +16,7 @@ fn text_of(alloc: Global, made: &Made) -> Result<Vec<u8>, NoMemory>
 {
     let mut text = Vec::new(alloc);
     write_table(alloc, &made.table, &mut text)?;
-    append_moves(alloc, &mut text, &made.certificate)?;
+    write_moves(alloc, &made.certificate, &mut text)?;
     Ok(text)
 }
 

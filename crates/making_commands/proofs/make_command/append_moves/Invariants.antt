@@ -1,8 +1,0 @@
--- A line for each move so far.
-use Rattle.std.proofs.Common.{◌≡◌, ◌++◌, take}
-use Rattle.std.specs.List.{flat_map}
-use Rattle.move_definitions.specs.MoveText.{move_text}
-use Rattle.making_commands.proofs.make_command.append_moves.Given as goal
-
-abbrev pub invariant-loop-m : goal.invariant-loop-m
-invariant-loop-m l = l.text.items ≡ l.initial.text.items ++ flat_map move_text (take l.m-index l.moves)
