@@ -30,6 +30,3 @@ impl From<AllocError> for WordsFault {
         WordsFault::NoMemory
     }
 }
-
-#[cfg(test)]
-mod tests;

@@ -12,6 +12,3 @@ mod split;
 pub use matches::same_parts;
 pub use signatures::component_signature;
 pub use split::{Part, parts};
-
-#[cfg(test)]
-mod tests;

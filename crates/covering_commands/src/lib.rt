@@ -8,6 +8,3 @@ mod sheets;
 
 pub use cover_command::cover;
 pub use pi1_command::pi1;
-
-#[cfg(test)]
-mod tests;

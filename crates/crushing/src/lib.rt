@@ -6,6 +6,3 @@ mod crushed;
 mod quads;
 
 pub use crushed::crush;
-
-#[cfg(test)]
-mod tests;

@@ -8,6 +8,3 @@ mod sheets;
 
 pub use cover::Cover;
 pub use cover_definitions::CoverFault;
-
-#[cfg(test)]
-mod tests;

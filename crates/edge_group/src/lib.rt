@@ -11,6 +11,3 @@ mod turning;
 
 pub use group::Group;
 pub use group_definitions::{GroupFault, Letter};
-
-#[cfg(test)]
-mod tests;

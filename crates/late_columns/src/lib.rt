@@ -8,6 +8,3 @@ mod fresh;
 mod raising;
 
 pub use engine::vertex_surfaces;
-
-#[cfg(test)]
-mod tests;

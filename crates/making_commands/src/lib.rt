@@ -8,6 +8,3 @@ mod summaries;
 
 pub use bulk_command::bulk;
 pub use make_command::make;
-
-#[cfg(test)]
-mod tests;

@@ -13,7 +13,7 @@ use Rattle.surface_definitions.specs.declared.Coords.TheVariants.{Quad}
 use Rattle.surface_definitions.specs.Equations.{row_of}
 use Rattle.surface_definitions.specs.QuadEquations.{quad_equation, IsQuadRow}
 use Rattle.matching_equations.specs.Quads.{IsRowAppended}
-use Rattle.matching_equations.proofs.Ranges.{filter-more}
+use Rattle.coordinate_laws.proofs.Ranges.{filter-more}
 use Rattle.class_laws.proofs.EdgeCorners.{IsRound}
 
 -- the row of these corners is that of the class

@@ -9,6 +9,3 @@ mod table_equations;
 pub use matching::matching_system;
 pub use surface_definitions::Coords;
 pub use table_equations::equations;
-
-#[cfg(test)]
-mod tests;

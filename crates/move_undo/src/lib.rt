@@ -10,6 +10,3 @@ pub use faults::append_move_fault;
 pub use reader::{Step, read_move, read_step};
 pub use session::{PlayFault, Session};
 pub use writer::{write_move, write_moves};
-
-#[cfg(test)]
-mod tests;

@@ -13,7 +13,7 @@ use Rattle.quad_condition.specs.Partners.{is_clash, partners}
 use Rattle.quad_condition.specs.Bits.{IsOfEither, IsMarkedIn, HasTwo}
 use Rattle.quad_condition.specs.Marks.{is_marked, AreMarks, AreNear, AreMasks, HasNear}
 use Rattle.quad_condition.proofs.Pairs.{Pairs, IsPrefix, prefix_by, pairs_prefix, partners_before, partners_more, pairs_before, all_pairs}
-use Rattle.matching_equations.proofs.Ranges.{flat_map-more}
+use Rattle.coordinate_laws.proofs.Ranges.{flat_map-more}
 use Rattle.coordinate_laws.proofs.ClashPairs.{all_of_pairs}
 
 -- one column more

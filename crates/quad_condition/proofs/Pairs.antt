@@ -7,7 +7,7 @@ use Rattle.std.proofs.lemmas.Bool.{lt-ltb, le-ltb, and_left, and_right}
 use Rattle.std.proofs.lemmas.List.Elements.{filter-append}
 use Rattle.std.proofs.lemmas.List.Folds.{find-append}
 use Rattle.std.proofs.lemmas.List.FromFn.{filter_of_map_range_with_len_more}
-use Rattle.matching_equations.proofs.Ranges.{flat_map-more}
+use Rattle.coordinate_laws.proofs.Ranges.{flat_map-more}
 use Rattle.table_definitions.specs.Lists.{below}
 use Rattle.surface_definitions.specs.Coordinates.{columns, clash_test, clash_list}
 use Rattle.surface_definitions.specs.declared.Coords.{Coords}

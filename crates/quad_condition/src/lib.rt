@@ -10,6 +10,3 @@ pub use check::check_vector;
 pub use clashes::{clash_list, first_clash};
 pub use masks::Masks;
 pub use surface_definitions::VectorFault;
-
-#[cfg(test)]
-mod tests;

@@ -10,6 +10,3 @@ mod sums;
 
 pub use lifting::{lift, project};
 pub use vector_definitions::LiftFault;
-
-#[cfg(test)]
-mod tests;

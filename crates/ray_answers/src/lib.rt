@@ -7,6 +7,3 @@ mod text;
 
 pub use enumeration::rays;
 pub use text::{write_entries, write_list, write_vector};
-
-#[cfg(test)]
-mod tests;

@@ -11,6 +11,3 @@ mod taking;
 pub use adding::{Given, add_up};
 pub use decomposing::{Sum, Term, decompose};
 pub use sum_definitions::{AddFault, SumFault};
-
-#[cfg(test)]
-mod tests;

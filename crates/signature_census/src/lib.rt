@@ -6,6 +6,3 @@ mod census;
 
 pub use canonical_labelling::WalkFault;
 pub use census::Census;
-
-#[cfg(test)]
-mod tests;

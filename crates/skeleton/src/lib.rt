@@ -17,6 +17,3 @@ pub use corners::Corner;
 pub use edges::edge_ends;
 pub use numbering::{Numbering, classes_of};
 pub use skeleton::Skeleton;
-
-#[cfg(test)]
-mod tests;

@@ -10,6 +10,3 @@ pub use accepted::is_accepted;
 pub use checking::{CheckFault, check};
 pub use descending::{Descent, descend};
 pub use sphere::standard;
-
-#[cfg(test)]
-mod tests;

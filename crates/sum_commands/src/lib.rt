@@ -11,6 +11,3 @@ mod writing;
 pub use addup_command::addup;
 pub use blocks::{Block, TableAndBlocks, read_table_and_blocks};
 pub use decompose_command::decompose;
-
-#[cfg(test)]
-mod tests;

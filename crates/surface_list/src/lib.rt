@@ -5,6 +5,3 @@ mod bounds;
 mod listed;
 
 pub use listed::surfaces;
-
-#[cfg(test)]
-mod tests;

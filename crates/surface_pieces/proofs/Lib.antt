@@ -6,5 +6,4 @@ pub mod Freeing
 pub mod Tallies
 pub mod SignsFound
 pub mod ComponentsTold
-pub mod FreeTetrahedron
 pub mod FirstNonzero

@@ -12,6 +12,3 @@ mod vectors;
 
 pub use pieces::Pieces;
 pub use vector_definitions::PiecesFault;
-
-#[cfg(test)]
-mod tests;

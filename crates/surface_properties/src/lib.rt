@@ -8,6 +8,3 @@ mod sums;
 
 pub use properties::{is_linking, properties_of};
 pub use vector_definitions::{Properties, PropertyFault, Sum};
-
-#[cfg(test)]
-mod tests;

@@ -12,6 +12,3 @@ mod steps;
 mod way_back;
 
 pub use making::{Made, make};
-
-#[cfg(test)]
-mod tests;

@@ -10,6 +10,3 @@ mod refusals;
 pub use crush_command::crush;
 pub use describe_command::describe;
 pub use lift_command::lift;
-
-#[cfg(test)]
-mod tests;

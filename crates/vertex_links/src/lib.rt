@@ -7,6 +7,3 @@ mod tally;
 
 pub use link::links;
 pub use skeleton_definitions::{Link, LinkKind};
-
-#[cfg(test)]
-mod tests;

@@ -3,7 +3,7 @@ use crate::running::{Row, are_answered};
 use std::test::Fail;
 use workbench::Status;
 
-const ROWS: [Row; 7] = [
+const ROWS: [Row; 9] = [
     Row {
         words: &["cover"],
         input: b"sig bkaaid\n",
@@ -15,6 +15,18 @@ const ROWS: [Row; 7] = [
         input: b"sig bkaagj\n",
         status: Status::Done,
         text: b"tri 2\n0:1023 0:1023 0:1230 0:3012\n1:1023 1:1023 1:1230 1:3012\n# tet 0 over 0 sheet 0\n# tet 1 over 0 sheet 1\n# connected no\n",
+    },
+    Row {
+        words: &["cover"],
+        input: b"tri 0\n",
+        status: Status::Done,
+        text: b"tri 0\n# connected yes\n",
+    },
+    Row {
+        words: &["cover"],
+        input: b"sig bkaagjx\n",
+        status: Status::Input,
+        text: b"refused: signature trailing 6\n",
     },
     Row {
         words: &["pi1"],

@@ -1,0 +1,12 @@
+-- The skeleton has the rows of the table, which are those of one tetrahedron with no face glued.
+use Rattle.std.proofs.Common.{◌≡◌, ◌∙◌, sym, subst, List, rules}
+use Rattle.table_definitions.specs.Table.{Row, IsTable}
+use Rattle.worked_cones.proofs.FreeTetrahedron.{free, free_surface}
+use Rattle.worked_cones.proofs.surface_pieces_calls.pieces_that_meet_none_are_components.Goals as goal
+
+pub build-requires-clause-surface : goal.build-requires-clause-surface
+build-requires-clause-surface g c =
+    let made : (c.expect-skeleton.result).rows ≡ c.expect-table.result = search rules in
+    let given : c.expect-table.result ≡ free = search rules in
+    let table : IsTable free = search rules in
+    free_surface _ (made ∙ given) (subst IsTable (sym (made ∙ given)) table)

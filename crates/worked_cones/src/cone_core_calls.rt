@@ -1,0 +1,127 @@
+use bench_io::{LexFault, LexKind, Lexer, Place};
+use cone_core::{
+    CombineFault, ConeFault, MAX_ENTRY, Passed, Ray, SolutionFault, SparseRow, System, combine,
+    compare, gcd, is_solution, read_cone,
+};
+use std::cmp::Ordering;
+use std::test::Fail;
+
+#[test]
+fn divides_and_compares(rt: HostRuntime) {
+    for (a, b, divisor) in [(0, 0, 0), (MAX_ENTRY, 0, MAX_ENTRY), (12, 18, 6), (5, 7, 1)] {
+        assert_eq!(rt; gcd(a, b), divisor);
+    }
+    for (a, b, divisor) in [
+        (18446744073709551615, 18446744073709551616, 1),
+        (
+            18446744073709551616,
+            55340232221128654848,
+            18446744073709551616,
+        ),
+        (
+            110680464442257309690,
+            73786976294838206460,
+            36893488147419103230,
+        ),
+    ] {
+        assert_eq!(rt; gcd(a, b), divisor);
+    }
+    assert_eq!(rt; compare(&[1, 2], &[1, 3]), Ordering::Less);
+    assert_eq!(rt; compare(&[1, 2], &[1, 2, 0]), Ordering::Less);
+    assert_eq!(rt; compare(&[2], &[1, 9]), Ordering::Greater);
+}
+
+#[test]
+fn combines_rays(rt: HostRuntime) -> Result<(), Fail> {
+    let alloc = rt.alloc();
+    let first = Ray::unit(alloc, 3, 0)?;
+    let second = Ray::unit(alloc, 3, 1)?;
+    let third = Ray::unit(alloc, 3, 2)?;
+    let two = combine(alloc, &first, &second, 1, 2, MAX_ENTRY)?;
+    assert_eq!(rt; two.entries(), [2, 1, 0].as_slice());
+    let four = combine(alloc, &two, &third, 1, 2, 4)?;
+    assert_eq!(rt; four.copy(alloc)?.entries(), [4, 2, 1].as_slice());
+    let passed = combine(alloc, &two, &third, 1, 2, 3).err();
+    assert_eq!(rt; passed, Some(CombineFault::Passed { column: 0 }));
+    let one = Ray::unit(alloc, 2, 0)?;
+    let other = Ray::unit(alloc, 2, 1)?;
+    let steep = combine(alloc, &one, &other, 2, 1, 2)?;
+    assert_eq!(rt; steep.entries(), [1, 2].as_slice());
+    let reduced = combine(alloc, &one, &steep, 1, 1, 2)?;
+    assert_eq!(rt; reduced.entries(), [1, 1].as_slice());
+    Ok(())
+}
+
+#[test]
+fn combines_rays_past_64_bits(rt: HostRuntime) -> Result<(), Fail> {
+    let alloc = rt.alloc();
+    let one = Ray::unit(alloc, 2, 0)?;
+    let other = Ray::unit(alloc, 2, 1)?;
+    let (below, past) = (18446744073709551615, 18446744073709551616);
+    let large = combine(alloc, &one, &other, below, past, MAX_ENTRY)?;
+    assert_eq!(rt; large.entries(), [past, below].as_slice());
+    let passed = combine(alloc, &one, &other, past, below, below).err();
+    assert_eq!(rt; passed, Some(CombineFault::Passed { column: 1 }));
+    let (first, second) = (1180591620717411303423, 5902958103587056517120);
+    let steep = combine(alloc, &one, &other, second, first, MAX_ENTRY)?;
+    assert_eq!(rt; steep.entries(), [first, second].as_slice());
+    let reduced = combine(alloc, &one, &steep, 1, 1, MAX_ENTRY)?;
+    assert_eq!(rt; reduced.entries(), [1, 5].as_slice());
+    Ok(())
+}
+
+#[test]
+fn rows_are_kept(rt: HostRuntime) -> Result<(), Fail> {
+    let alloc = rt.alloc();
+    let nine = [
+        (0, 1),
+        (1, -1),
+        (2, 2),
+        (3, -3),
+        (4, 5),
+        (5, -8),
+        (6, 13),
+        (7, -21),
+        (9, 34),
+    ];
+    let mut system = System::new(alloc, 10);
+    assert_eq!(rt; system.columns(), 10);
+    assert_eq!(rt; system.len(), 0);
+    system.push_row(SparseRow::new(alloc, &[(0, 2), (1, -1)])?)?;
+    system.push_row(SparseRow::new(alloc, &nine)?)?;
+    assert_eq!(rt; system.len(), 2);
+    assert_eq!(rt; system.row(0).entries(), [(0, 2), (1, -1)].as_slice());
+    assert_eq!(rt; system.row(1).entries(), nine.as_slice());
+    Ok(())
+}
+
+#[test]
+fn reads_cones(rt: HostRuntime) -> Result<(), Fail> {
+    let alloc = rt.alloc();
+    let mut lexer = Lexer::new(b"cone 3 2\n1 -2 0\n0 0 0");
+    assert!(rt; lexer.next_line());
+    let system = read_cone(alloc, &mut lexer)?;
+    assert_eq!(rt; system.columns(), 3);
+    assert_eq!(rt; system.len(), 2);
+    assert_eq!(rt; system.row(0).entries(), [(0, 1), (1, -2)].as_slice());
+    assert_eq!(rt; system.row(1).entries().len(), 0);
+    assert_eq!(rt; is_solution(&system, &[2, 1, 5]), Ok(()));
+    assert_eq!(rt;
+        is_solution(&system, &[1, 1, 0]),
+        Err(SolutionFault::NotZero { row: 0 })
+    );
+    assert_eq!(rt;
+        is_solution(&system, &[0, MAX_ENTRY, 0]),
+        Err(SolutionFault::Passed { row: 0 })
+    );
+    let mut lexer = Lexer::new(b"cone 0 3");
+    assert!(rt; lexer.next_line());
+    assert_eq!(rt; read_cone(alloc, &mut lexer)?.len(), 3);
+    let mut lexer = Lexer::new(b"cone 1 1\n1000001");
+    assert!(rt; lexer.next_line());
+    let place = Place { line: 2, column: 1 };
+    let kind = LexKind::NumberTooWide;
+    let fault = read_cone(alloc, &mut lexer).err();
+    assert_eq!(rt; fault, Some(ConeFault::Lex(LexFault { place, kind })));
+    Ok(())
+}

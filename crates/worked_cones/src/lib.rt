@@ -1,0 +1,37 @@
+//! Worked calls of the crates on cones, rays and surfaces. There is no product code here.
+#![tactic(auto)]
+
+#[cfg(test)]
+mod cone_core_calls;
+#[cfg(test)]
+mod double_description_calls;
+#[cfg(test)]
+mod late_columns_calls;
+#[cfg(test)]
+mod matching_equations_calls;
+#[cfg(test)]
+mod number_bounds_calls;
+#[cfg(test)]
+mod quad_condition_calls;
+#[cfg(test)]
+mod quad_lift_calls;
+#[cfg(test)]
+mod ray_answers_calls;
+#[cfg(test)]
+mod ray_decompose_calls;
+#[cfg(test)]
+mod sample_cones;
+#[cfg(test)]
+mod solved_rows_calls;
+#[cfg(test)]
+mod support_bits_calls;
+#[cfg(test)]
+mod support_table_calls;
+#[cfg(test)]
+mod surface_list_calls;
+#[cfg(test)]
+mod surface_pieces_calls;
+#[cfg(test)]
+mod surface_properties_calls;
+#[cfg(test)]
+mod union_counts_calls;

@@ -1,0 +1,44 @@
+use crate::sample_cones::{SPHERE, are_rows, entries, skeleton_of};
+use matching_equations::{Coords, equations};
+use std::test::Fail;
+
+#[test]
+fn a_sphere_has_six_rows(rt: HostRuntime) -> Result<(), Fail> {
+    let skeleton = skeleton_of(rt.alloc(), SPHERE)?;
+    let standard = equations(rt.alloc(), &skeleton, Coords::Standard)?;
+    assert_eq!(rt; standard.columns(), 7);
+    are_rows(
+        &rt,
+        &standard,
+        &[
+            &[(0, -1), (1, 1)],
+            &[(5, 1), (6, -1)],
+            &[(5, -1), (6, 1)],
+            &[(0, 1), (1, -1)],
+            &[(1, 1), (2, -1), (4, -1), (6, 1)],
+            &[(0, -1), (3, 1), (4, 1), (6, -1)],
+        ],
+    );
+    Ok(())
+}
+
+#[test]
+fn octagons_stand_in_the_same_rows(rt: HostRuntime) -> Result<(), Fail> {
+    let skeleton = skeleton_of(rt.alloc(), SPHERE)?;
+    let octagon = equations(rt.alloc(), &skeleton, Coords::Octagon)?;
+    assert_eq!(rt; octagon.len(), 6);
+    assert_eq!(rt;
+        entries(&octagon, 4),
+        &[(1u32, 1), (2, -1), (4, -1), (6, 1), (7, 1), (9, -1)][..]
+    );
+    Ok(())
+}
+
+#[test]
+fn a_sphere_has_two_rows_in_quads(rt: HostRuntime) -> Result<(), Fail> {
+    let skeleton = skeleton_of(rt.alloc(), SPHERE)?;
+    let quad = equations(rt.alloc(), &skeleton, Coords::Quad)?;
+    assert_eq!(rt; quad.columns(), 3);
+    are_rows(&rt, &quad, &[&[(1, -1), (2, 1)], &[(1, 1), (2, -1)]]);
+    Ok(())
+}

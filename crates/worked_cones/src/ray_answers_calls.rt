@@ -1,0 +1,29 @@
+use bench_io::Lexer;
+use cone_core::{MAX_ENTRY, Ray, read_cone};
+use double_description::Order;
+use ray_answers::{rays, write_entries, write_list, write_vector};
+use std::test::Fail;
+
+#[test]
+fn writes_the_rays_of_a_cone(rt: HostRuntime) -> Result<(), Fail> {
+    let alloc = rt.alloc();
+    let mut lexer = Lexer::new(b"cone 3 1\n1 1 -2");
+    assert!(rt; lexer.next_line());
+    let system = read_cone(alloc, &mut lexer)?;
+    let mut out = Vec::from_slice(alloc, b"# rays 2\n")?;
+    match rays(alloc, &system, Order::Given, MAX_ENTRY) {
+        Ok(found) => write_list(alloc, &found.list, &mut out)?,
+        Err(_) => panic!(rt; "a list was expected"),
+    }
+    assert_eq!(rt;
+        out.as_slice(),
+        b"# rays 2\nvec 0 2 1\nvec 2 0 1\n".as_slice()
+    );
+    write_vector(alloc, &[0, MAX_ENTRY], &mut out)?;
+    write_vector(alloc, &[], &mut out)?;
+    write_entries(alloc, &Ray::unit(alloc, 3, 1)?, &mut out)?;
+    let line =
+        b"# rays 2\nvec 0 2 1\nvec 2 0 1\nvec 0 170141183460469231731687303715884105727\nvec\n 0 1 0";
+    assert_eq!(rt; out.as_slice(), line.as_slice());
+    Ok(())
+}

@@ -1,0 +1,55 @@
+//! The cones, and the tables of small signatures, that several calls are tried on.
+ghost use Rattle.std.specs.Prelude.{◌≤◌, ◌^◌, length};
+
+use bench_io::Lexer;
+use cone_core::{ConeFault, Ray, System, read_cone};
+use signature_codec::read_signature;
+use skeleton::Skeleton;
+use std::alloc::Global;
+use std::process::Abort;
+use std::test::Fail;
+
+/// The sphere of one tetrahedron.
+pub const SPHERE: &[u8] = b"bkaagj";
+
+/// The system of a text.
+pub fn cone(rt: &impl Abort, alloc: Global, text: &[u8]) -> Result<System, ConeFault>
+    requires { length text.now ≤ 2 ^ 31 }
+{
+    let mut lexer = Lexer::new(text);
+    assert!(rt; lexer.next_line());
+    read_cone(alloc, &mut lexer)
+}
+
+/// The skeleton of the table of a signature.
+pub fn skeleton_of(alloc: Global, signature: &[u8]) -> Result<Skeleton, Fail> {
+    let table = read_signature(alloc, signature)?;
+    Ok(Skeleton::of(alloc, &table)?)
+}
+
+/// The entries of a row, and none where there is no such row.
+pub fn entries(system: &System, i: u32) -> &[(u32, i32)] {
+    if i < system.len() {
+        system.row(i).entries()
+    } else {
+        &[]
+    }
+}
+
+/// A system has these rows.
+pub fn are_rows(rt: &impl Abort, system: &System, rows: &[&[(u32, i32)]]) {
+    assert_eq!(rt; system.len() as usize, rows.len());
+    let mut i = 0;
+    for row in rows {
+        assert_eq!(rt; entries(system, i), *row);
+        i = u32::saturating_add(i, 1);
+    }
+}
+
+/// Rays are these vectors.
+pub fn are_rays(rt: &impl Abort, rays: &[Ray], vectors: &[&[u128]]) {
+    assert_eq!(rt; rays.len(), vectors.len());
+    for (ray, vector) in rays.iter().zip(vectors) {
+        assert_eq!(rt; ray.entries(), *vector);
+    }
+}

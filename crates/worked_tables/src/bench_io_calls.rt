@@ -1,0 +1,265 @@
+ghost use Rattle.std.specs.Prelude.{◌<◌, length};
+
+use bench_io::{
+    Failed, LexFault, LexKind, Lexer, MemorySink, MemorySource, NullSink, Place, ReadEnd, StdSink,
+    StdSource, SteadySource, Words, read_all, write_all,
+};
+use std::alloc::Global;
+use std::test::Fail;
+
+const INPUT: &[u8] = b"sig bkaagj\n";
+
+const ANSWER: &[u8] = b"# surfaces 2\nvec 1 1 0 0 1 0 0\nvec 1 1 1 1 0 0 0\n";
+
+// The lexer at the first line of these bytes that has words.
+fn at_first_line(bytes: &[u8]) -> Lexer<'_>
+    requires { length bytes.now < 1000 }
+{
+    let mut lexer = Lexer::new(bytes);
+    let _is_found = lexer.next_line();
+    lexer
+}
+
+#[test]
+fn words_are_read_in_turn(rt: HostRuntime) -> Result<(), Fail> {
+    let mut lexer = at_first_line(b"# \xff\n\t tri  0012 \r\n\n \n");
+    assert_eq!(rt; lexer.word()?, b"tri".as_slice());
+    assert!(rt; !lexer.at_end());
+    assert_eq!(rt; lexer.number(12)?, 12);
+    assert!(rt; lexer.at_end());
+    Ok(())
+}
+
+#[test]
+fn signed_numbers_are_read(rt: HostRuntime) -> Result<(), Fail> {
+    let mut lexer = at_first_line(b"-7 -0 8");
+    let numbers = [
+        lexer.signed(7)?,
+        lexer.signed(0)?,
+        lexer.signed(2147483647)?,
+    ];
+    assert_eq!(rt; numbers, [-7, 0, 8]);
+    assert_eq!(rt; lexer.bad_word(), fault(1, 7, LexKind::BadWord));
+    Ok(())
+}
+
+#[test]
+fn lines_follow_each_other(rt: HostRuntime) -> Result<(), Fail> {
+    let mut lexer = at_first_line(b"tri\n\n \n ab\n#");
+    let _first = lexer.word()?;
+    lexer.end_line()?;
+    lexer.need_line()?;
+    assert_eq!(rt; lexer.word()?, b"ab".as_slice());
+    assert!(rt; !lexer.next_line());
+    assert_eq!(rt;
+        lexer.need_line().err(),
+        Some(fault(5, 2, LexKind::MissingWord))
+    );
+    Ok(())
+}
+
+fn fault(line: u32, column: u32, kind: LexKind) -> LexFault {
+    let place = Place { line, column };
+    LexFault { place, kind }
+}
+
+// What is asked of the first line of an input.
+#[derive(Clone, Copy)]
+enum Wanted {
+    Line,
+    Word,
+    Number(u128),
+    Signed(u32),
+    End,
+}
+
+// The line and the column of the fault, and its kind.
+fn fault_of(bytes: &[u8], wanted: Wanted) -> Option<(u32, u32, LexKind)> {
+    if bytes.len() > 1000 {
+        return None;
+    }
+    let mut lexer = Lexer::new(bytes);
+    let told = lexer
+        .need_line()
+        .and_then(|()| ask(&mut lexer, wanted))
+        .err()?;
+    Some((told.place.line, told.place.column, told.kind))
+}
+
+fn ask(lexer: &mut Lexer, wanted: Wanted) -> Result<(), LexFault> {
+    match wanted {
+        Wanted::Line => lexer.need_line(),
+        Wanted::Word => lexer.word().map(|_| ()),
+        Wanted::Number(max) => lexer.number(max).map(|_| ()),
+        Wanted::Signed(max) if max < 1000 => lexer.signed(max).map(|_| ()),
+        Wanted::Signed(_) => Ok(()),
+        Wanted::End => lexer.end_line(),
+    }
+}
+
+const MOST: u128 = 170141183460469231731687303715884105727;
+
+const CASES: [(&[u8], Wanted, Option<(u32, u32, LexKind)>); 26] = [
+    (b"", Wanted::Word, Some((1, 1, LexKind::MissingWord))),
+    (b" \t", Wanted::Word, Some((1, 3, LexKind::MissingWord))),
+    (
+        b"#a\n\n  ",
+        Wanted::Word,
+        Some((3, 3, LexKind::MissingWord)),
+    ),
+    (b"#\n", Wanted::Word, Some((2, 1, LexKind::MissingWord))),
+    (b"#\r", Wanted::Word, Some((1, 3, LexKind::MissingWord))),
+    (b"a \r\n", Wanted::Line, Some((2, 1, LexKind::MissingWord))),
+    (b"\xff#", Wanted::Word, Some((1, 1, LexKind::BadByte))),
+    (
+        b"\r\n  \r\r\n",
+        Wanted::Word,
+        Some((2, 3, LexKind::BadByte)),
+    ),
+    (
+        b"\n\t\x7f",
+        Wanted::Number(9),
+        Some((2, 2, LexKind::BadByte)),
+    ),
+    (b"  \x00", Wanted::End, Some((1, 3, LexKind::BadByte))),
+    (b" ab", Wanted::End, Some((1, 2, LexKind::ExtraWord))),
+    (b"a#", Wanted::Word, None),
+    (b"~!", Wanted::Word, None),
+    (b"\n 1x", Wanted::Number(9), Some((2, 2, LexKind::BadWord))),
+    (b"-1", Wanted::Number(9), Some((1, 1, LexKind::BadWord))),
+    (b"+1", Wanted::Signed(9), Some((1, 1, LexKind::BadWord))),
+    (b" -", Wanted::Signed(9), Some((1, 2, LexKind::BadWord))),
+    (b"--1", Wanted::Signed(9), Some((1, 1, LexKind::BadWord))),
+    (
+        b" -10",
+        Wanted::Signed(9),
+        Some((1, 2, LexKind::NumberTooWide)),
+    ),
+    (b"-09", Wanted::Signed(9), None),
+    (
+        b"10",
+        Wanted::Number(9),
+        Some((1, 1, LexKind::NumberTooWide)),
+    ),
+    (
+        b"0000000000000000000000000000000000000000000000009",
+        Wanted::Number(9),
+        None,
+    ),
+    (
+        b"170141183460469231731687303715884105727",
+        Wanted::Number(MOST),
+        None,
+    ),
+    (
+        b"170141183460469231731687303715884105728",
+        Wanted::Number(MOST),
+        Some((1, 1, LexKind::NumberTooWide)),
+    ),
+    (
+        b"340282366920938463463374607431768211456",
+        Wanted::Number(u128::MAX),
+        Some((1, 1, LexKind::NumberTooWide)),
+    ),
+    (
+        b"340282366920938463463374607431768211456x",
+        Wanted::Number(u128::MAX),
+        Some((1, 1, LexKind::BadWord)),
+    ),
+];
+
+#[test]
+fn each_fault_has_its_place(rt: HostRuntime) {
+    for (bytes, wanted, expected) in &CASES {
+        assert_eq!(rt; fault_of(bytes, *wanted), *expected);
+    }
+}
+
+// What is read of a source whose listed calls fail.
+fn read_of(alloc: Global, failing: &[u64], limit: u64) -> Result<Result<Vec<u8>, ReadEnd>, Fail>
+    requires { limit < 1000 }
+{
+    let mut source = MemorySource::new(INPUT.to_vec(alloc)?, failing.to_vec(alloc)?, 7);
+    Ok(read_all(alloc, &mut source, limit))
+}
+
+#[test]
+fn all_is_read(rt: HostRuntime) -> Result<(), Fail> {
+    let alloc = rt.alloc();
+    let mut steady = SteadySource::new(INPUT.to_vec(alloc)?);
+    let read = read_all(alloc, &mut steady, INPUT.len() as u64).expect(&rt, "steady");
+    assert_eq!(rt; read.as_slice(), INPUT);
+    let read = read_all(alloc, &mut StdSource::new(INPUT), 1000).expect(&rt, "standard");
+    assert_eq!(rt; read.as_slice(), INPUT);
+    let read = read_of(alloc, &[4], INPUT.len() as u64)?.expect(&rt, "late");
+    assert_eq!(rt; read.as_slice(), INPUT);
+    Ok(())
+}
+
+#[test]
+fn the_cause_of_a_failed_read_is_told(rt: HostRuntime) -> Result<(), Fail> {
+    let length = INPUT.len() as u64;
+    let long = read_of(rt.alloc(), &[], length - 1)?.err();
+    assert_eq!(rt; long, Some(ReadEnd::TooLong));
+    for call in 1..4 {
+        let failed = read_of(rt.alloc(), &[call], length)?.err();
+        assert_eq!(rt; failed, Some(ReadEnd::Failed));
+    }
+    Ok(())
+}
+
+#[test]
+fn a_prefix_is_written_before_a_failure(rt: HostRuntime) -> Result<(), Fail> {
+    let alloc = rt.alloc();
+    for failing in 1..12 {
+        let mut sink = MemorySink::new(alloc, 100, [failing].to_vec(alloc)?, 5)?;
+        let written = write_all(&mut sink, ANSWER);
+        let held = (5 * (failing as usize - 1)).min(ANSWER.len());
+        assert_eq!(rt; written.is_err(), held < ANSWER.len());
+        assert_eq!(rt; sink.bytes(), &ANSWER[..held]);
+    }
+    Ok(())
+}
+
+#[test]
+fn a_full_sink_has_a_prefix(rt: HostRuntime) -> Result<(), Fail> {
+    let mut small = MemorySink::new(rt.alloc(), 10, Vec::new(rt.alloc()), 100)?;
+    assert_eq!(rt; write_all(&mut small, ANSWER), Err(Failed));
+    assert_eq!(rt; small.bytes(), &ANSWER[..10]);
+    Ok(())
+}
+
+#[test]
+fn bytes_that_go_nowhere_are_counted(rt: HostRuntime) {
+    let mut null = NullSink::new();
+    assert_eq!(rt; write_all(&mut null, ANSWER), Ok(()));
+    assert_eq!(rt; null.taken(), ANSWER.len() as u64);
+}
+
+#[test]
+fn a_standard_sink_has_all(rt: HostRuntime) {
+    let mut held = Vec::new(rt.alloc());
+    assert_eq!(rt; write_all(&mut StdSink::new(&mut held), ANSWER), Ok(()));
+    assert_eq!(rt; held.as_slice(), ANSWER);
+}
+
+#[test]
+fn a_full_standard_sink_has_a_prefix(rt: HostRuntime) {
+    let mut ten = [0; 10];
+    assert_eq!(rt;
+        write_all(&mut StdSink::new(&mut ten[..]), ANSWER),
+        Err(Failed)
+    );
+    assert_eq!(rt; ten.as_slice(), &ANSWER[..10]);
+}
+
+#[test]
+fn words_keep_their_order(rt: HostRuntime) -> Result<(), Fail> {
+    let mut words = Words::new(rt.alloc());
+    words.push("surfaces")?;
+    words.push("")?;
+    assert_eq!(rt; words.len(), 2);
+    assert_eq!(rt; words.word(0), "surfaces");
+    assert_eq!(rt; words.word(1), "");
+    Ok(())
+}

@@ -1,0 +1,83 @@
+use crate::sample_tables::{BALL, figure_eight, reversed_row, skeleton_of, turned_row};
+use edge_group::{Group, GroupFault, Letter};
+use gluing_table::{Face, Row};
+
+fn plain(generator: u32) -> Letter {
+    Letter {
+        generator,
+        inverse: false,
+    }
+}
+
+fn turned(generator: u32) -> Letter {
+    Letter {
+        generator,
+        inverse: true,
+    }
+}
+
+#[test]
+fn the_figure_eight_complement(rt: HostRuntime) {
+    let rows = figure_eight();
+    let skeleton = skeleton_of(&rt, rt.alloc(), &rows);
+    let group = Group::of(rt.alloc(), &skeleton).expect(&rt, "a group");
+    assert_eq!(rt; group.generators(), 3);
+    assert_eq!(rt;
+        (group.face_of(1), group.face_of(2), group.face_of(3)),
+        (1, 2, 3)
+    );
+    assert_eq!(rt;
+        (group.turns(1), group.turns(2), group.turns(3)),
+        (false, false, false)
+    );
+    assert_eq!(rt; group.relators(), 2);
+    assert_eq!(rt; (group.edge_of(0), group.edge_of(1)), (0, 1));
+    assert_eq!(rt;
+        group.relator(0),
+        [plain(2), turned(1), plain(3), plain(1), turned(3)].as_slice()
+    );
+    assert_eq!(rt;
+        group.relator(1),
+        [plain(1), plain(2), turned(3), turned(2)].as_slice()
+    );
+    assert_eq!(rt; skeleton.table().len(), 2);
+    assert_eq!(rt; group.tree_face(0), None);
+    assert_eq!(rt; group.tree_face(1), Some(Face { tet: 0, face: 0 }));
+}
+
+#[test]
+fn generators_that_turn(rt: HostRuntime) {
+    let rows = [turned_row(0)];
+    let skeleton = skeleton_of(&rt, rt.alloc(), &rows);
+    let group = Group::of(rt.alloc(), &skeleton).expect(&rt, "a group");
+    assert_eq!(rt; group.generators(), 2);
+    assert_eq!(rt; (group.turns(1), group.turns(2)), (true, true));
+    assert_eq!(rt; group.relators(), 1);
+    assert_eq!(rt;
+        group.relator(0),
+        [plain(2), turned(1), turned(2), plain(1), plain(1), plain(2)].as_slice()
+    );
+}
+
+#[test]
+fn a_table_without_tetrahedra(rt: HostRuntime) {
+    let rows: Vec<Row> = Vec::new(rt.alloc());
+    let skeleton = skeleton_of(&rt, rt.alloc(), &rows);
+    let group = Group::of(rt.alloc(), &skeleton).expect(&rt, "a group");
+    assert_eq!(rt; group.generators(), 0);
+    assert_eq!(rt; group.relators(), 0);
+}
+
+#[test]
+fn a_table_that_is_not_connected(rt: HostRuntime) {
+    let skeleton = skeleton_of(&rt, rt.alloc(), &[BALL, BALL]);
+    let fault = Group::of(rt.alloc(), &skeleton).err();
+    assert_eq!(rt; fault, Some(GroupFault::NotConnected { tet: 1 }));
+}
+
+#[test]
+fn an_edge_that_meets_its_reverse(rt: HostRuntime) {
+    let skeleton = skeleton_of(&rt, rt.alloc(), &[reversed_row()]);
+    let fault = Group::of(rt.alloc(), &skeleton).err();
+    assert_eq!(rt; fault, Some(GroupFault::InvalidEdge { class: 3 }));
+}

@@ -1,0 +1,47 @@
+//! Walks through small tables. The expected texts were found by trying all relabellings.
+
+use canonical_labelling::{Start, WalkFault, walk};
+use gluing_table::Table;
+use perm_four::Perm4;
+use signature_codec::{read_signature, spell};
+use std::alloc::Global;
+use std::test::Fail;
+
+/// The text of the table that a walk leads to, and nothing where the word isn't a permutation.
+fn walked(alloc: Global, text: &[u8], tet: u32, word: &[u8]) -> Result<Vec<u8>, Fail> {
+    let table = read_signature(alloc, text)?;
+    let mut walked = Vec::new(alloc);
+    if let Some(perm) = Perm4::from_word(word) {
+        if tet < table.len() {
+            let walk = walk(alloc, &table, Start { tet, perm })?;
+            walked = spell(alloc, &walk.table)?;
+        }
+    }
+    Ok(walked)
+}
+
+#[test]
+fn a_walk_leads_to_the_one_table(rt: HostRuntime) -> Result<(), Fail> {
+    let walks: [(&[u8], u32, &[u8], &[u8]); 6] = [
+        (b"bkaagn", 0, b"0123", b"bkaagn"),
+        (b"bkaagn", 0, b"2031", b"bkaaok"),
+        (b"cPcbbbiht", 0, b"2031", b"cPcbbbxpt"),
+        (b"cPcbbbiht", 1, b"3210", b"cPcbbblmh"),
+        (b"duGacb", 1, b"2031", b"dbbccf"),
+        (b"duGacb", 2, b"3210", b"dfGacg"),
+    ];
+    for (text, tet, word, spelled) in walks {
+        assert_eq!(rt; walked(rt.alloc(), text, tet, word)?.as_slice(), spelled);
+    }
+    Ok(())
+}
+
+#[test]
+fn two_loose_tetrahedra_are_not_walked(rt: HostRuntime) {
+    let rows = [[None, None, None, None], [None, None, None, None]];
+    let table = Table::from_rows(rt.alloc(), &rows).expect(&rt, "a table");
+    let perm = Perm4::of_index(0).expect(&rt, "the identity");
+    assert_eq!(rt; table.len(), 2);
+    let fault = walk(rt.alloc(), &table, Start { tet: 0, perm }).err();
+    assert_eq!(rt; fault, Some(WalkFault::NotConnected { tet: 1 }));
+}

@@ -1,0 +1,43 @@
+//! Worked calls of the crates on texts and tables. There is no product code here.
+#![tactic(auto)]
+
+#[cfg(test)]
+mod bench_io_calls;
+#[cfg(test)]
+mod canonical_labelling_calls;
+#[cfg(test)]
+mod command_words_calls;
+#[cfg(test)]
+mod component_signature_calls;
+#[cfg(test)]
+mod crushing_calls;
+#[cfg(test)]
+mod double_cover_calls;
+#[cfg(test)]
+mod edge_group_calls;
+#[cfg(test)]
+mod finite_walks_calls;
+#[cfg(test)]
+mod gluing_table_calls;
+#[cfg(test)]
+mod labelling_walk_calls;
+#[cfg(test)]
+mod move_undo_calls;
+#[cfg(test)]
+mod pachner_moves_calls;
+#[cfg(test)]
+mod perm_four_calls;
+#[cfg(test)]
+mod sample_tables;
+#[cfg(test)]
+mod signature_census_calls;
+#[cfg(test)]
+mod signature_codec_calls;
+#[cfg(test)]
+mod skeleton_calls;
+#[cfg(test)]
+mod sphere_certificate_calls;
+#[cfg(test)]
+mod tri_build_calls;
+#[cfg(test)]
+mod vertex_links_calls;

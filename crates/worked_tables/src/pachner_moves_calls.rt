@@ -1,0 +1,116 @@
+use crate::sample_tables::{BALL, by, move_at, sphere_row, table_of};
+use gluing_table::{Row, Table};
+use pachner_moves::{Move, MoveFault, apply, inverse_move, legal, take_back};
+use std::process::Abort;
+
+fn four() -> [Row; 4] {
+    [
+        [
+            by(1, b"0123"),
+            by(2, b"1023"),
+            by(3, b"1203"),
+            by(1, b"0123"),
+        ],
+        [
+            by(0, b"0123"),
+            by(2, b"0123"),
+            by(3, b"0213"),
+            by(0, b"0123"),
+        ],
+        [
+            by(0, b"1023"),
+            by(1, b"0123"),
+            by(3, b"0123"),
+            by(3, b"1203"),
+        ],
+        [
+            by(0, b"2013"),
+            by(1, b"0213"),
+            by(2, b"0123"),
+            by(2, b"2013"),
+        ],
+    ]
+}
+
+/// The first fault of a move at tetrahedron 0.
+fn refusal(rt: &impl Abort, table: &Table, mask: u8) -> Option<MoveFault> {
+    legal(table, move_at(rt, 0, mask)).err()
+}
+
+#[test]
+fn worked_moves_are_told_apart(rt: HostRuntime) {
+    let free = table_of(&rt, rt.alloc(), &[BALL]);
+    let sphere = table_of(&rt, rt.alloc(), &[sphere_row(0)]);
+    let four = table_of(&rt, rt.alloc(), &four());
+    let boundary = MoveFault::Boundary { label: 3 };
+    assert_eq!(rt; refusal(&rt, &free, 14), Some(boundary));
+    let repeated = MoveFault::Repeated { label: 3 };
+    assert_eq!(rt; refusal(&rt, &sphere, 14), Some(repeated));
+    assert_eq!(rt; refusal(&rt, &sphere, 15), None);
+    let not_matched = MoveFault::NotMatched {
+        first: 1,
+        second: 3,
+    };
+    assert_eq!(rt; refusal(&rt, &four, 1), Some(not_matched));
+    assert_eq!(rt; refusal(&rt, &four, 8), None);
+}
+
+#[test]
+fn refused_moves_leave_the_table(rt: HostRuntime) {
+    let mut table = table_of(&rt, rt.alloc(), &four());
+    let four = table_of(&rt, rt.alloc(), &four());
+    let fault = apply(&mut table, move_at(&rt, 4, 15)).err();
+    assert_eq!(rt; fault, Some(MoveFault::NoSuchTet));
+    let not_matched = MoveFault::NotMatched {
+        first: 1,
+        second: 3,
+    };
+    let fault = apply(&mut table, move_at(&rt, 0, 1)).err();
+    assert_eq!(rt; fault, Some(not_matched));
+    assert!(rt; table.equals(&four));
+    let loose = vec![in rt.alloc(); BALL; 998].expect(&rt, "memory");
+    let mut table = table_of(&rt, rt.alloc(), &loose);
+    let fault = apply(&mut table, move_at(&rt, 0, 15)).err();
+    assert_eq!(rt; fault, Some(MoveFault::TooMany));
+    assert_eq!(rt; table.rows(), loose.as_slice());
+}
+
+#[test]
+fn a_sphere_is_parted_and_joined(rt: HostRuntime) {
+    let four = table_of(&rt, rt.alloc(), &four());
+    let mut table = table_of(&rt, rt.alloc(), &[sphere_row(0)]);
+    let parted = apply(&mut table, move_at(&rt, 0, 15)).expect(&rt, "a legal move");
+    assert!(rt; table.equals(&four));
+    assert_eq!(rt; inverse_move(&parted), move_at(&rt, 0, 8));
+    let joined = apply(&mut table, move_at(&rt, 0, 8)).expect(&rt, "a legal move");
+    let other = [[
+        by(0, b"3120"),
+        by(0, b"1230"),
+        by(0, b"3012"),
+        by(0, b"3120"),
+    ]];
+    let other = table_of(&rt, rt.alloc(), &other);
+    assert!(rt; table.equals(&other));
+    assert_eq!(rt; inverse_move(&joined), move_at(&rt, 0, 15));
+}
+
+/// Plays a move and takes it back; answers whether it was legal.
+fn is_taken_back(table: &mut Table, m: Move) -> bool {
+    match apply(table, m) {
+        Ok(undo) => {
+            take_back(table, &undo);
+            true
+        }
+        Err(_) => false,
+    }
+}
+
+#[test]
+fn moves_are_taken_back(rt: HostRuntime) {
+    let mut table = table_of(&rt, rt.alloc(), &four());
+    let four = table_of(&rt, rt.alloc(), &four());
+    assert!(rt; is_taken_back(&mut table, move_at(&rt, 0, 8)));
+    assert!(rt; table.equals(&four));
+    assert!(rt; is_taken_back(&mut table, move_at(&rt, 3, 15)));
+    assert!(rt; table.equals(&four));
+}

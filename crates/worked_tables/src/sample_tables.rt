@@ -1,0 +1,85 @@
+//! The tables and moves that several calls are tried on.
+use gluing_table::{Glue, Row, Table, write_table};
+use no_memory::NoMemory;
+use pachner_moves::{Core, Move};
+use perm_four::Perm4;
+use skeleton::Skeleton;
+use std::alloc::Global;
+use std::process::Abort;
+
+/// The gluing to a tetrahedron by the permutation of a word.
+pub fn by(tet: u32, word: &[u8]) -> Option<Glue> {
+    match Perm4::from_word(word) {
+        Some(perm) => Some(Glue { tet, perm }),
+        None => None,
+    }
+}
+
+/// The row of a tetrahedron with no face glued.
+pub const BALL: Row = [None, None, None, None];
+
+/// A row of the sphere of one tetrahedron, whose gluings lead to this one.
+pub fn sphere_row(tet: u32) -> Row {
+    [
+        by(tet, b"1023"),
+        by(tet, b"1023"),
+        by(tet, b"1230"),
+        by(tet, b"3012"),
+    ]
+}
+
+/// A row of the Gieseking manifold, which isn't orientable; its gluings lead to this tetrahedron.
+pub fn turned_row(tet: u32) -> Row {
+    [
+        by(tet, b"1203"),
+        by(tet, b"2013"),
+        by(tet, b"0231"),
+        by(tet, b"0312"),
+    ]
+}
+
+/// The row of one tetrahedron with an edge that meets its reverse.
+pub fn reversed_row() -> Row {
+    [by(0, b"1032"), by(0, b"1032"), None, None]
+}
+
+/// The complement of the figure eight knot.
+pub fn figure_eight() -> [Row; 2] {
+    [
+        [
+            by(1, b"0123"),
+            by(1, b"1203"),
+            by(1, b"1032"),
+            by(1, b"3021"),
+        ],
+        [
+            by(0, b"0123"),
+            by(0, b"1320"),
+            by(0, b"2013"),
+            by(0, b"1032"),
+        ],
+    ]
+}
+
+/// The table of these rows.
+pub fn table_of(rt: &impl Abort, alloc: Global, rows: &[Row]) -> Table {
+    Table::from_rows(alloc, rows).expect(rt, "a table")
+}
+
+/// The skeleton of the table of these rows.
+pub fn skeleton_of(rt: &impl Abort, alloc: Global, rows: &[Row]) -> Skeleton {
+    Skeleton::of(alloc, &table_of(rt, alloc, rows)).expect(rt, "memory")
+}
+
+/// A table as it is written.
+pub fn text_of(alloc: Global, table: &Table) -> Result<Vec<u8>, NoMemory> {
+    let mut text = Vec::new(alloc);
+    write_table(alloc, table, &mut text)?;
+    Ok(text)
+}
+
+/// The move at a tetrahedron whose core's vertices are the bits of a mask.
+pub fn move_at(rt: &impl Abort, tet: u32, mask: u8) -> Move {
+    let core = Core::new(mask).expect(rt, "a core");
+    Move { tet, core }
+}

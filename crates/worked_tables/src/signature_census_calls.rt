@@ -1,0 +1,39 @@
+use crate::sample_tables::BALL;
+use gluing_table::Table;
+use signature_census::{Census, WalkFault};
+use signature_codec::read_signature;
+use std::test::Fail;
+
+#[test]
+fn classes_are_numbered_as_they_are_met(rt: HostRuntime) -> Result<(), Fail> {
+    let mut census = Census::new(rt.alloc());
+    let worked: [(&[u8], u32); 5] = [
+        (b"bkaagn", 0),
+        (b"bkaagb", 1),
+        (b"bkaagj", 0),
+        (b"a", 2),
+        (b"bkaagb", 1),
+    ];
+    for (text, class) in worked {
+        let table = read_signature(rt.alloc(), text)?;
+        assert!(rt; census.len() <= 3);
+        assert_eq!(rt; census.add(&table)?, class);
+    }
+    assert_eq!(rt; census.len(), 3);
+    assert_eq!(rt; census.signature_of(0), b"bkaagj".as_slice());
+    assert_eq!(rt; census.signature_of(1), b"bkaagb".as_slice());
+    assert_eq!(rt; census.signature_of(2), b"a".as_slice());
+    Ok(())
+}
+
+#[test]
+fn loose_tables_are_refused(rt: HostRuntime) -> Result<(), Fail> {
+    let mut census = Census::new(rt.alloc());
+    let loose = Table::from_rows(rt.alloc(), &[BALL, BALL])?;
+    assert_eq!(rt;
+        census.add(&loose).err(),
+        Some(WalkFault::NotConnected { tet: 1 })
+    );
+    assert_eq!(rt; census.len(), 0);
+    Ok(())
+}

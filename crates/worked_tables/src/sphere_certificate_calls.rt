@@ -1,0 +1,68 @@
+use crate::sample_tables::move_at;
+use pachner_moves::{MoveFault, apply};
+use signature_codec::read_signature;
+use sphere_certificate::{CheckFault, check, descend, standard};
+use std::test::Fail;
+
+#[test]
+fn the_sphere_is_certified_without_moves(rt: HostRuntime) -> Result<(), Fail> {
+    let alloc = rt.alloc();
+    let sphere = standard(alloc)?;
+    assert!(rt; sphere.equals(&read_signature(alloc, b"bkaagj")?));
+    assert!(rt; check(alloc, &sphere, &[]).is_ok());
+    Ok(())
+}
+
+#[test]
+fn moves_are_refused_by_their_step(rt: HostRuntime) -> Result<(), Fail> {
+    let alloc = rt.alloc();
+    let sphere = standard(alloc)?;
+    let moves = [move_at(&rt, 0, 15), move_at(&rt, 0, 8), move_at(&rt, 0, 14)];
+    assert!(rt; check(alloc, &sphere, &moves[..2]).is_ok());
+    match check(alloc, &sphere, &moves) {
+        Err(CheckFault::Illegal { step, fault }) => {
+            assert_eq!(rt; step, 3);
+            assert_eq!(rt; fault, MoveFault::Repeated { label: 3 });
+        }
+        _ => assert!(rt; false, "not refused"),
+    }
+    Ok(())
+}
+
+#[test]
+fn other_tables_have_another_signature(rt: HostRuntime) -> Result<(), Fail> {
+    let alloc = rt.alloc();
+    let table = read_signature(alloc, b"bkaagb")?;
+    match check(alloc, &table, &[]) {
+        Err(CheckFault::NotStandard { signature }) => {
+            assert_eq!(rt; signature.as_slice(), b"bkaagb".as_slice());
+        }
+        _ => assert!(rt; false, "not refused"),
+    }
+    Ok(())
+}
+
+#[test]
+fn a_parted_sphere_is_reached(rt: HostRuntime) -> Result<(), Fail> {
+    let alloc = rt.alloc();
+    let mut table = standard(alloc)?;
+    let parting = move_at(&rt, 0, 15);
+    let joining = move_at(&rt, 0, 8);
+    assert!(rt; apply(&mut table, parting).is_ok());
+    let descent = descend(alloc, &table)?;
+    assert!(rt; descent.reached);
+    assert_eq!(rt; descent.moves.as_slice(), [joining].as_slice());
+    assert_eq!(rt; descent.table.len(), 1);
+    Ok(())
+}
+
+#[test]
+fn descents_end_at_other_tables(rt: HostRuntime) -> Result<(), Fail> {
+    let alloc = rt.alloc();
+    let table = read_signature(alloc, b"bkaagb")?;
+    let descent = descend(alloc, &table)?;
+    assert!(rt; !descent.reached);
+    assert!(rt; descent.moves.is_empty());
+    assert!(rt; descent.table.equals(&table));
+    Ok(())
+}
