@@ -1,10 +1,22 @@
 // Products, quotients and common divisors, by arithmetic of 64 bits where the numbers fit in it.
 
-ghost use Rattle.std.specs.Prelude.{◌≡◌, ◌*◌, ◌/◌, ◌<◌, ◌≤◌, ◌^◌, IfSome, IfNone};
+ghost use Rattle.std.specs.Prelude.{◌≡◌, ◌+◌, ◌*◌, ◌/◌, ◌<◌, ◌≤◌, ◌^◌, IfSome, IfNone};
 ghost use Rattle.std.specs.Int.{IsGcd};
 
 /// The greatest number of 64 bits, 2^64 - 1.
 pub(crate) const MAX_SMALL: u128 = 18446744073709551615;
+
+/// The greatest number of 32 bits, 2^32 - 1.
+pub(crate) const MAX_LEAST: u128 = 4294967295;
+
+/// The sum of two products of numbers of 32 bits, which always fits.
+pub(crate) fn sum_of_products(a: u32, x: u32, b: u32, y: u32) -> u128
+    ensures { result ≡ a * x + b * y }
+{
+    let first = u64::from(a) * u64::from(x);
+    let second = u64::from(b) * u64::from(y);
+    u128::from(first) + u128::from(second)
+}
 
 /// The product, where it fits in 128 bits.
 pub(crate) fn product(a: u128, b: u128) -> Option<u128>
