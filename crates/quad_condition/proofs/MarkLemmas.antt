@@ -1,9 +1,10 @@
 -- Masks of columns, and the clashing pairs that they find.
-use Rattle.std.proofs.Common.{◌≡◌, ◌≢◌, ℕ, zero, suc, ◌+◌, ◌-◌, ◌*◌, ◌/◌, ◌%◌, ◌<◌, ◌≤◌, Bool, true, false, cond, List, [], ◌∷◌, ◌++◌, length, get_or, Vec, ⊎_elim, sym, ◌∙◌, ap, refl, subst, ◌⊎◌, inl, inr, arith}
+use Rattle.std.proofs.Common.{◌≡◌, ◌≢◌, ℕ, zero, suc, ◌+◌, ◌-◌, ◌*◌, ◌/◌, ◌%◌, ◌<◌, ◌≤◌, Bool, true, false, cond, List, [], ◌∷◌, ◌++◌, length, get_or, Vec, ⊎_elim, sym, ◌∙◌, ap, refl, subst, subst₂, ◌⊎◌, inl, inr, arith}
 use Rattle.std.specs.Prelude.{◌==◌, ◌&&◌, not, nat_lt, nat_le, IsTrue, ◌↔◌}
-use Rattle.std.specs.List.{All, flat_map}
+use Rattle.std.specs.List.{All}
 use Rattle.std.specs.declared.alloc.Global.{Global}
-use Rattle.std.proofs.lemmas.Bool.{eqb-true, eq-eqb, ltb-true, lt-ltb, le-ltb, leb-true, le-leb, and_parts, and_from, and_left, or_left, or_right, cases_eq, cases_order, false≢true, false_from_ne_true, or_cases}
+use Rattle.std.proofs.lemmas.List.{length_push, get_or_push, get_or_append_left}
+use Rattle.std.proofs.lemmas.Bool.{cases_lt, eqb-true, eq-eqb, ltb-true, lt-ltb, le-ltb, leb-true, le-leb, and_parts, and_from, and_left, or_left, or_right, cases_eq, cases_order, false≢true, false_from_ne_true, or_cases}
 use Rattle.support_bits.specs.Words.{bit_of, AreWordsOf}
 use Rattle.surface_definitions.specs.Coordinates.{columns, columns_each, triangles_each, is_octagon, is_quad_or_octagon, clash_test, clash_list}
 use Rattle.surface_definitions.specs.declared.Coords.{Coords}
@@ -250,3 +251,30 @@ pub are_clashes : (coords : Coords) (n : ℕ) → AreClashes (columns coords n) 
 are_clashes coords n =
     all_of_pairs (λ pair. (pair.0 < columns coords n) × (pair.1 < columns coords n) × (pair.0 ≢ pair.1)) coords n
     (λ c e less within clashes. let low : c < columns coords n = omega arith in let apart : c ≢ e = λ same. omega arith in (low, within, apart))
+
+-- the places of a tetrahedron behind its triangles
+pub some_quads : (coords : Coords) → triangles_each coords + 1 ≤ columns_each coords
+some_quads Standard = omega arith
+some_quads Quad = omega arith
+some_quads Octagon = omega arith
+
+pub few_places : (coords : Coords) → columns_each coords ≤ 10
+few_places Standard = omega arith
+few_places Quad = omega arith
+few_places Octagon = omega arith
+
+-- the mask of one distance more
+pub marks_more : (coords : Coords) (n least distance : ℕ) (near new : List (Vec ℕ Global)) (mask : Vec ℕ Global) → new ≡ near ++ mask ∷ [] → least ≡ triangles_each coords → length near + 1 ≡ distance → AreMarks coords n least distance mask.items
+    → ((k : ℕ) (d : Vec ℕ Global) → k < length near → AreMarks coords n (triangles_each coords) (k + 1) (get_or near k d).items)
+    → (k : ℕ) (d : Vec ℕ Global) → k < length new → AreMarks coords n (triangles_each coords) (k + 1) (get_or new k d).items
+marks_more coords n least distance near new mask is first so_far last old k d l =
+    let size = ap length is ∙ length_push near mask in
+    let read = ap (λ (xs : List (Vec ℕ Global)). get_or xs k d) is in
+    ⊎_elim
+    (λ before. subst (λ (v : Vec ℕ Global). AreMarks coords n (triangles_each coords) (k + 1) v.items) (sym (read ∙ get_or_append_left near (mask ∷ []) d k before)) (old k d before))
+    (λ after.
+    let at : length near ≡ k = omega (arith, size, after, l) in
+    let ahead : distance ≡ k + 1 = omega (arith, at, so_far) in
+    subst (λ (v : Vec ℕ Global). AreMarks coords n (triangles_each coords) (k + 1) v.items) (sym (read ∙ get_or_push near mask d k at))
+    (subst₂ (λ first ahead. AreMarks coords n first ahead mask.items) first ahead last))
+    (cases_lt k (length near))

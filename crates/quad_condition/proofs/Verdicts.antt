@@ -1,5 +1,5 @@
 -- The verdict, by what the calls on a system of rows answer.
-use Rattle.std.proofs.Common.{◌≡◌, ◌≢◌, ℕ, ◌<◌, ℤ, List, length, Option, sym}
+use Rattle.std.proofs.Common.{◌≡◌, ◌≢◌, ℕ, ℤ, List, length, Option, sym}
 use Rattle.std.specs.List.{All, find}
 use Rattle.std.specs.Prelude.{Err}
 use Rattle.surface_definitions.specs.Verdict.{both_nonzero, clash_verdict, verdict}
