@@ -3,7 +3,6 @@ use Rattle.std.specs.Prelude.{Result, Ok}
 use Rattle.std.proofs.lemmas.Result.{err_from_is_err_and}
 use Rattle.table_definitions.specs.Table.{Row}
 use Rattle.signature_definitions.specs.declared.SigFault.{SigFault}
-use Rattle.signature_definitions.specs.SignatureText as signatures
 use Rattle.signature_text_laws.specs.Faults.{Fails}
 use Rattle.signature_codec.specs.Shown.{parts_shown, slots_shown}
 use Rattle.signature_text_laws.specs.Slots.{slot_rows}

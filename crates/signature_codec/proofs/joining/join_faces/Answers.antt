@@ -2,7 +2,6 @@ use Rattle.std.proofs.Common.{◌≡◌, ◌+◌, ◌*◌, ◌-◌, suc, arith, 
 use Rattle.std.specs.Prelude.{Result}
 use Rattle.std.proofs.lemmas.Result.{err_from_is_err_and}
 use Rattle.signature_definitions.specs.declared.SigFault.{SigFault}
-use Rattle.signature_definitions.specs.SignatureText as signatures
 use Rattle.signature_text_laws.specs.Faults.{Fails}
 use Rattle.signature_text_laws.specs.Slots.{Slots}
 use Rattle.signature_text_laws.proofs.SlotLaws.{slot_faces-more, slot_faces-end, slot_faces-wrong}

@@ -1,7 +1,6 @@
 use Rattle.std.proofs.Common.{◌≡◌, ◌+◌, ◌-◌, ◌*◌, suc, arith, sym, ◌∙◌, subst, ap, List, ℕ, Result}
 use Rattle.std.proofs.lemmas.Result.{err_from_is_err_and}
 use Rattle.signature_definitions.specs.declared.SigFault.{SigFault}
-use Rattle.signature_definitions.specs.SignatureText as signatures
 use Rattle.signature_text_laws.specs.Faults.{Fails}
 use Rattle.signature_text_laws.proofs.ReadLaws.{fails_fronted, numbers_in-unread, numbers_in-great, numbers_in-more, numbers_in-end, fronted}
 use Rattle.signature_codec.proofs.numbers.numbers_in.Goals as goal
