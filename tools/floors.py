@@ -22,24 +22,23 @@ PROGRAMS = ("trinorm", "worked_rows", "worked_tables", "worked_cones")
 # what each crate is about; its kind is told by its name
 SUBJECTS = {
     "below all": "plain_facts no_memory",
-    "text": "text_definitions document_definitions document_laws partial_table_laws written_laws bench_io text_writing",
+    "text": "text_definitions document_definitions document_laws partial_table_laws written_laws text_io",
     "table": "table_definitions permutation_laws walk_laws perm_four finite_walks gluing_table table_commands",
     "skeleton": "skeleton_definitions class_laws skeleton_laws skeleton vertex_links",
-    "signature": "signature_definitions labelling_definitions signature_text_laws labelling_laws signature_laws"
-    " signature_codec canonical_labelling signature_census",
+    "signature": "signature_definitions signature_text_laws labelling_laws signature_laws signature_codec canonical_labelling signature_census",
     "move": "move_definitions move_laws kept_laws pachner_moves move_undo move_commands",
-    "certificate": "certificate_definitions certificate_laws making_laws making_length_laws written_certificate_laws"
-    " sphere_certificate tri_build certificate_commands making_commands",
+    "certificate": "certificate_definitions certificate_laws making_laws making_length_laws sphere_certificate"
+    " tri_build certificate_commands making_commands",
     "cover": "cover_definitions cover_laws double_cover covering_commands",
     "group": "group_definitions group_laws edge_group",
     "part": "part_definitions part_laws part_existence_laws component_signature part_commands",
-    "cone": "cone_definitions cone_text_definitions bound_laws enumeration_laws minor_laws ray_laws row_operation_laws solved_laws"
-    " support_bits support_table union_counts cone_core double_description number_bounds solved_rows ray_pairs late_columns"
+    "cone": "cone_definitions cone_text_definitions cone_laws minor_laws ray_laws row_operation_laws solved_laws"
+    " support_bits support_table cone_core double_description number_bounds solved_rows ray_pairs late_columns"
     " ray_answers enumeration_commands",
-    "surface": "surface_definitions vector_definitions coordinate_laws vector_laws equation_laws equation_bounds_laws quad_laws"
+    "surface": "surface_definitions vector_definitions coordinate_laws surface_laws equation_laws equation_bounds_laws quad_laws"
     " quad_lift_laws octagon_laws vertex_link_laws orientation_laws crushing_laws normal_discs matching_equations quad_condition"
     " quad_lift surface_pieces surface_properties crushing surface_list surface_answers vector_commands",
-    "sum": "sum_definitions sum_laws written_sum_laws ray_decompose sum_commands",
+    "sum": "sum_definitions sum_laws ray_decompose sum_commands",
     "program": "command_definitions outcome_definitions command_laws outcome_laws outcome_existence_laws answer_laws"
     " written_answer_laws command_words command_answers workbench trinorm worked_rows worked_tables worked_cones",
 }

@@ -2,8 +2,8 @@
 use Rattle.std.proofs.Common.{◌≡◌, ◌⊎◌, ℕ, List, slice_index, inl, inr, refl, sym, ◌∙◌, ap, arith}
 use Rattle.table_definitions.specs.Table.{Row}
 use Rattle.table_definitions.specs.Relabelling.{Relabelling, IsRelabelled}
-use Rattle.labelling_definitions.specs.Labellings.{Relabels}
-use Rattle.labelling_definitions.specs.Census.{table_in}
+use Rattle.signature_definitions.specs.Labellings.{Relabels}
+use Rattle.signature_definitions.specs.Census.{table_in}
 use Rattle.document_definitions.specs.Documents.{two_tables_document, tables_document}
 use Rattle.command_definitions.specs.declared.Request.TheVariants.{Same, Group}
 use Rattle.outcome_definitions.specs.declared.Status.TheVariants.{Done, Refused}

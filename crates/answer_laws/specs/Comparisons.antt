@@ -4,8 +4,8 @@ use Rattle.table_definitions.specs.Table.{Row}
 use Rattle.table_definitions.specs.Places.{IsConnected}
 use Rattle.table_definitions.specs.Relabelling.{Relabelling, IsRelabelled}
 use Rattle.signature_definitions.specs.Spelling.{IsSignature}
-use Rattle.labelling_definitions.specs.Labellings.{Relabels}
-use Rattle.labelling_definitions.specs.Census.{table_in, signature_in, AreRelabelled}
+use Rattle.signature_definitions.specs.Labellings.{Relabels}
+use Rattle.signature_definitions.specs.Census.{table_in, signature_in, AreRelabelled}
 use Rattle.part_definitions.specs.Parts.{Part, AreParts}
 use Rattle.part_definitions.specs.SameParts.{part_at}
 use Rattle.document_definitions.specs.Documents.{two_tables_document, tables_document}

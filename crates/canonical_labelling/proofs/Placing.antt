@@ -8,7 +8,7 @@ use Rattle.gluing_table.specs.Positions.{is_bad_at, IsFirstBad}
 use Rattle.table_definitions.proofs.Bijections.{there}
 use Rattle.std.specs.List.{slice_set}
 use Rattle.plain_facts.proofs.Truths.{by_bool}
-use Rattle.labelling_definitions.specs.Labellings.{Start}
+use Rattle.signature_definitions.specs.Labellings.{Start}
 use Rattle.labelling_laws.specs.Orders.{start_at, IsWholeOrder}
 use Rattle.labelling_laws.proofs.Marking.{start_is}
 

@@ -14,7 +14,7 @@ use no_memory::NoMemory;
 use outcome_definitions::Status;
 use sphere_certificate::{Descent, descend as descend_from};
 use std::alloc::Global;
-use text_writing::{append, append_decimal};
+use text_io::{append, append_decimal};
 
 // Whether the standard sphere was reached.
 fn descent_word(reached: bool) -> &'static [u8]

@@ -4,7 +4,7 @@ ghost use Rattle.document_definitions.specs.Documents.{moves_document};
 ghost use Rattle.text_definitions.specs.Reading.{Reads};
 
 use crate::moves::read_moves;
-use bench_io::Lexer;
+use text_io::Lexer;
 use command_answers::read_table;
 use gluing_table::Table;
 use pachner_moves::Move;

@@ -11,7 +11,7 @@ use outcome_definitions::Status;
 use pachner_moves::MoveFault;
 use sphere_certificate::CheckFault;
 use std::alloc::Global;
-use text_writing::{append, append_decimal};
+use text_io::{append, append_decimal};
 
 // The move that is refused first, and why.
 #[tactic(auto, unfolding(outcome_definitions::specs::Certificates::check_line))]

@@ -5,7 +5,7 @@ ghost use Rattle.document_definitions.specs.Documents.{each_line_from};
 ghost use Rattle.text_definitions.specs.Reading.{ReadsFrom};
 ghost use Rattle.table_definitions.specs.TableText.{lexed};
 
-use bench_io::Lexer;
+use text_io::Lexer;
 use gluing_table::TextFault;
 use move_undo::read_move;
 use pachner_moves::Move;

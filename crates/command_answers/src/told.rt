@@ -10,7 +10,7 @@ use crate::{Outcome, append_numbered};
 use no_memory::NoMemory;
 use outcome_definitions::Status;
 use std::alloc::Global;
-use text_writing::append;
+use text_io::append;
 
 /// A truth value as a word.
 pub fn yes_or_no(value: bool) -> &'static [u8]

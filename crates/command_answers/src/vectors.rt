@@ -7,7 +7,7 @@ ghost use Rattle.text_definitions.specs.Reading.{ReadsFrom, numbers_at};
 ghost use Rattle.table_definitions.specs.TableText.{lexed};
 ghost use Rattle.command_answers.specs.Reads.{entries_of};
 
-use bench_io::Lexer;
+use text_io::Lexer;
 use gluing_table::TextFault;
 use std::alloc::Global;
 

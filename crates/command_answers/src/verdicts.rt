@@ -6,7 +6,7 @@ ghost use Rattle.surface_definitions.specs.Verdict.{verdict_text};
 use no_memory::NoMemory;
 use std::alloc::Global;
 use surface_definitions::VectorFault;
-use text_writing::{append, append_decimal};
+use text_io::{append, append_decimal};
 
 /// A line of a word and a number.
 pub fn append_numbered(

@@ -15,7 +15,7 @@ ghost use Rattle.command_words.specs.Texts.{AreTexts, has_dashes, ends_option, i
 use crate::WordsFault;
 use crate::program::program;
 use crate::values::{Values, request_with};
-use bench_io::Words;
+use text_io::Words;
 use clap::error::ErrorKind;
 use clap::{ArgMatches, Error};
 use command_definitions::Request;

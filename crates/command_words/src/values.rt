@@ -5,7 +5,7 @@ ghost use Rattle.command_definitions.specs.Requests.{most_moves, most_bulk_moves
 ghost use Rattle.command_definitions.specs.Values as spec;
 ghost use Rattle.command_words.specs.Requests.{texts_of, request_among};
 
-use bench_io::{is_decimal_word, value_up_to};
+use text_io::{is_decimal_word, value_up_to};
 use command_definitions::Request;
 use cone_definitions::Order;
 use surface_definitions::Coords;

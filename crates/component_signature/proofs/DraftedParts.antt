@@ -2,7 +2,7 @@
 use Rattle.std.proofs.Common.{◌≡◌, List, length, subst, sym, refl}
 use Rattle.table_definitions.specs.Table.{Row, IsTable}
 use Rattle.table_definitions.specs.Relabelling.{Relabelling, IsRelabelling}
-use Rattle.labelling_definitions.specs.Labellings.{Relabels}
+use Rattle.signature_definitions.specs.Labellings.{Relabels}
 use Rattle.part_definitions.specs.Parts.{Part, AreParts}
 use Rattle.part_definitions.specs.SameParts.{IsSameParts}
 use Rattle.part_laws.specs.Ordered.{texts_of, numbers_of, AreInOrder}

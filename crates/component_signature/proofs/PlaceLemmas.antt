@@ -6,7 +6,7 @@ use Rattle.plain_facts.proofs.Members.{contains_at}
 use Rattle.table_definitions.specs.Table.{Row, IsTable}
 use Rattle.table_definitions.specs.Relabelling.{Relabelling, stand_in}
 use Rattle.table_definitions.proofs.Carried.{length-images, image_in_range, permutation_apart}
-use Rattle.labelling_definitions.specs.Labellings.{IsLeastRelabelling}
+use Rattle.signature_definitions.specs.Labellings.{IsLeastRelabelling}
 use Rattle.part_definitions.specs.Parts.{Part, IsPart}
 use Rattle.part_definitions.specs.SameParts.{GoesBy}
 use Rattle.part_laws.proofs.Members.{part_at, no_part, member_below, length-part, part_is_table, one_part}

@@ -3,7 +3,7 @@
 ghost use Rattle.std.specs.Prelude.{◌≡◌, ◌<◌, ◌+◌, ◌^◌, ◌↔◌, ℕ, length, slice_index, All, IsTrue, IfOk, OnOk, IfSome, IfNone};
 ghost use Rattle.table_definitions.specs.Places.{IsConnected};
 ghost use Rattle.table_definitions.specs.Relabelling.{IsRelabelling, IsRelabelled};
-ghost use Rattle.labelling_definitions.specs.Labellings.{IsLeastRelabelling, Relabels};
+ghost use Rattle.signature_definitions.specs.Labellings.{IsLeastRelabelling, Relabels};
 ghost use Rattle.part_definitions.specs.SameParts.{IsSameParts};
 ghost use Rattle.component_signature.specs.Entries.{entries_of};
 ghost use Rattle.part_laws.specs.Ordered.{texts_of, numbers_of};

@@ -9,7 +9,7 @@ use crate::order::{Signed, in_order};
 use gluing_table::Table;
 use no_memory::NoMemory;
 use std::alloc::Global;
-use text_writing::append;
+use text_io::append;
 
 /// The signatures with a full stop between each two; `a` where there is none.
 fn joined(alloc: Global, signed: &[Signed]) -> Result<Vec<u8>, NoMemory>

@@ -7,7 +7,7 @@ ghost use Rattle.cone_text_definitions.specs.ConeText.{cone_at};
 
 use crate::row::{MAX_COEFFICIENT, SparseRow};
 use crate::system::System;
-use bench_io::{LexFault, Lexer};
+use text_io::{LexFault, Lexer};
 use no_memory::NoMemory;
 use smallvec::SmallVec;
 use std::alloc::{AllocFailed, Global};

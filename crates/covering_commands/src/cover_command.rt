@@ -13,7 +13,7 @@ use no_memory::NoMemory;
 use outcome_definitions::Status;
 use skeleton::Skeleton;
 use std::alloc::Global;
-use text_writing::append;
+use text_io::append;
 
 /// The cover as the answer.
 fn told(alloc: Global, cover: &Cover) -> Result<Outcome, NoMemory>

@@ -10,7 +10,7 @@ use command_answers::{append_counted, yes_or_no};
 use edge_group::{Group, Letter};
 use no_memory::NoMemory;
 use std::alloc::Global;
-use text_writing::{append, append_decimal};
+use text_io::{append, append_decimal};
 
 fn sign(inverse: bool) -> &'static [u8]
     ensures { result.now ≡ presented.sign_text inverse }

@@ -10,7 +10,7 @@ use double_cover::Cover;
 use gluing_table::write_table;
 use no_memory::NoMemory;
 use std::alloc::Global;
-use text_writing::{append, append_decimal};
+use text_io::{append, append_decimal};
 
 /// The line of a tetrahedron of the cover.
 fn append_sheet(alloc: Global, text: &mut Vec<u8>, cover: &Cover, tet: u32) -> Result<(), NoMemory>

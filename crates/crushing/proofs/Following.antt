@@ -7,8 +7,8 @@ use Rattle.table_definitions.specs.Permutation.{image, compose}
 use Rattle.std.proofs.lemmas.Bool.{false≢true}
 use Rattle.table_definitions.specs.Table.{Gluing, Row, Face, glue, IsTable}
 use Rattle.surface_definitions.specs.Crushing.{has_quad, is_removed, partner_in, exchange, passed, ChainEnds, CrushesTo}
-use Rattle.vector_laws.specs.CrushingLaws.{IsKeptFace}
-use Rattle.vector_laws.proofs.Chains.{HasChain, has_chain, one_end}
+use Rattle.surface_laws.specs.CrushingLaws.{IsKeptFace}
+use Rattle.surface_laws.proofs.Chains.{HasChain, has_chain, one_end}
 
 -- how many further tetrahedra that are taken out a chain passes, counted up to fuel
 pub ahead : ℕ → List Row → List ℕ → Face → Option Gluing → ℕ

@@ -13,7 +13,7 @@ use Rattle.surface_definitions.specs.Verdict.{solution}
 use Rattle.vector_definitions.specs.Answers.{IsFit, IsCrushedAlong}
 use Rattle.vector_definitions.specs.declared.Refusal.{Refusal}
 use Rattle.vector_definitions.specs.declared.Refusal.TheVariants.{Unfit, LargeSum, TooManyPieces, LargeLift, NoLift}
-use Rattle.vector_laws.proofs.LinkingLemmas.{linking}
+use Rattle.surface_laws.proofs.LinkingLemmas.{linking}
 use Rattle.crushing_laws.specs.Laws.{HasNoQuads, CrushedToItself, NothingElseIsCrushed, LinkingCrushesNothing, FitAreCrushedToItself}
 use Rattle.crushing_laws.proofs.Whole.{stays_whole, nothing_else, whole_without_quads}
 

@@ -10,9 +10,9 @@ use Rattle.table_definitions.proofs.Ranks.{rank, one_if, rank-suc, rank_fits}
 use Rattle.surface_definitions.specs.Coordinates.{quad_column, three}
 use Rattle.surface_definitions.specs.declared.Coords.TheVariants.{Standard}
 use Rattle.surface_definitions.specs.Crushing.{has_quad, is_removed, number_kept, ChainEnds, IsCrushed}
-use Rattle.vector_laws.proofs.CrushedRows.{renumbered, crushed_once, stays}
-use Rattle.vector_laws.proofs.Glued.{face_at}
-use Rattle.vector_laws.proofs.ChainsBack.{gluing_at}
+use Rattle.surface_laws.proofs.CrushedRows.{renumbered, crushed_once, stays}
+use Rattle.surface_laws.proofs.Glued.{face_at}
+use Rattle.surface_laws.proofs.ChainsBack.{gluing_at}
 use Rattle.crushing_laws.specs.Laws.{HasNoQuads}
 
 -- a test of three numbers

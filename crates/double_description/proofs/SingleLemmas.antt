@@ -10,10 +10,10 @@ use Rattle.cone_definitions.proofs.OneRay.{same_ray}
 use Rattle.cone_definitions.proofs.Unions.{ray_primitive}
 use Rattle.cone_definitions.proofs.Entries.{zero_or_nonzero, nonzero_before}
 use Rattle.support_bits.specs.Columns.{support_of}
-use Rattle.bound_laws.specs.Unions.{is_in_union, union_size}
-use Rattle.bound_laws.proofs.Counts.{count_cons}
-use Rattle.union_counts.specs.Counts.{columns_in_either}
-use Rattle.union_counts.proofs.BitCounts.{columns_of_vectors}
+use Rattle.cone_laws.specs.Unions.{is_in_union, union_size}
+use Rattle.cone_laws.proofs.Counts.{count_cons}
+use Rattle.support_table.specs.Counts.{columns_in_either}
+use Rattle.support_table.proofs.BitCounts.{columns_of_vectors}
 use Rattle.double_description.specs.Unions.{HasSingle, IsSingle, MakeSinglesPairs}
 use Rattle.double_description.specs.Unordered.{HasSurfaces}
 use Rattle.double_description.proofs.UnorderedLemmas.{one_place}

@@ -4,12 +4,12 @@ use Rattle.cone_definitions.specs.Rows.{Row}
 use Rattle.cone_definitions.specs.Surfaces.{Clash, IsSurfaceList}
 use Rattle.cone_definitions.specs.Vectors.{ray_at}
 use Rattle.support_bits.specs.Columns.{support_of}
-use Rattle.bound_laws.specs.Unions.{union_size}
-use Rattle.bound_laws.proofs.Places.{places_bound}
+use Rattle.cone_laws.specs.Unions.{union_size}
+use Rattle.cone_laws.proofs.Places.{places_bound}
 use Rattle.double_description.specs.Signs.{IsFacePair}
 use Rattle.double_description.specs.Unions.{HaveSmallUnions}
-use Rattle.union_counts.specs.Counts.{columns_in_either}
-use Rattle.union_counts.proofs.BitCounts.{columns_of_vectors}
+use Rattle.support_table.specs.Counts.{columns_in_either}
+use Rattle.support_table.proofs.BitCounts.{columns_of_vectors}
 
 pub small_unions : (columns : ℕ) (rows : List Row) (pairs : List Clash) (rays : List (List ℕ)) → IsSurfaceList columns rows pairs rays → HaveSmallUnions columns (length rows + 2) pairs rays
 small_unions columns rows pairs rays h i j i_in j_in face = places_bound columns rows pairs rays h i j i_in j_in face.no_clash face.no_third

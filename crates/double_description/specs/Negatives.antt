@@ -1,7 +1,7 @@
 -- The negative rays of a step, and which of them can't make a pair with a positive ray.
 use Rattle.std.specs.Prelude.{ℕ, ◌<◌, ◌≤◌, ◌⊎◌, List, Bool, [], length, slice_index_or}
 use Rattle.support_bits.specs.Columns.{Meets}
-use Rattle.union_counts.specs.Counts.{columns_in_either}
+use Rattle.support_table.specs.Counts.{columns_in_either}
 use Rattle.double_description.specs.declared.negatives.Negatives.{Negatives}
 use Rattle.double_description.specs.declared.signs.Sign.{Sign}
 use Rattle.double_description.specs.Signs.{AreNegativePlaces}

@@ -2,8 +2,8 @@
 use Rattle.std.specs.Prelude.{◌≡◌, ◌≢◌, ℕ, ◌<◌, ◌≤◌, ◌⊎◌, List, Bool, length, slice_index}
 use Rattle.cone_definitions.specs.Surfaces.{Clash, IsAdmissibleUnion}
 use Rattle.cone_definitions.specs.Vectors.{ray_at}
-use Rattle.bound_laws.specs.Unions.{union_size}
-use Rattle.union_counts.specs.Counts.{columns_in_either}
+use Rattle.cone_laws.specs.Unions.{union_size}
+use Rattle.support_table.specs.Counts.{columns_in_either}
 use Rattle.double_description.specs.Signs.{IsFacePair}
 
 -- no pair of places has more than so many columns in its union

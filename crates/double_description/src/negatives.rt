@@ -11,8 +11,7 @@ use crate::signs::{Sign, is_negative};
 use no_memory::NoMemory;
 use std::alloc::Global;
 use support_bits::{Support, have_common};
-use support_table::SupportTable;
-use union_counts::union_count;
+use support_table::{SupportTable, union_count};
 
 /// The places of the negative rays, ascending, with their supports.
 #[derive(Drop)]

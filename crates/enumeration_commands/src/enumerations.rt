@@ -10,7 +10,7 @@ use no_memory::NoMemory;
 use outcome_definitions::Status;
 use ray_answers::write_list;
 use std::alloc::Global;
-use text_writing::{append, append_decimal};
+use text_io::{append, append_decimal};
 
 /// The number of vectors, and a line for each.
 pub fn list_outcome(alloc: Global, name: &[u8], list: &[Ray]) -> Result<Outcome, NoMemory>

@@ -7,7 +7,7 @@ ghost use Rattle.outcome_definitions.specs.Enumerations.{IsEnumerationAnswer, ra
 ghost use Rattle.enumeration_commands.specs.Cones.{GivesConeDocument};
 
 use crate::enumerations::list_outcome;
-use bench_io::Lexer;
+use text_io::Lexer;
 use command_answers::{Outcome, end_document, fault_outcome};
 use cone_core::{ConeFault, MAX_ENTRY, System, read_cone};
 use double_description::{EnumFault, Order};

@@ -3,7 +3,7 @@
 ghost use Rattle.std.specs.Prelude.{◌≡◌, ◌^◌, nat_lt, IsTrue, Some, None, if◌then◌else◌};
 ghost use Rattle.text_definitions.specs.Text.{is_decimal, digits_value};
 
-use bench_io::value_up_to;
+use text_io::value_up_to;
 
 /// The number that digits stand for, where it is below 2^32.
 pub fn number_of_digits(digits: &[u8]) -> Option<u32>

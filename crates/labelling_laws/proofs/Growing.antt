@@ -7,7 +7,7 @@ use Rattle.std.proofs.lemmas.List.Folds.{list_any_at}
 use Rattle.plain_facts.proofs.Truths.{by_bool, if_true, if_false}
 use Rattle.table_definitions.specs.Permutation.{IsPermutationOfFour}
 use Rattle.table_definitions.specs.Table.{Gluing, Row, glue}
-use Rattle.labelling_definitions.specs.Labellings.{Start}
+use Rattle.signature_definitions.specs.Labellings.{Start}
 use Rattle.labelling_laws.specs.Orders.{start_at, is_met, start_behind, face_from, follow, follow_face, take_face, order_after}
 
 -- a tetrahedron is met where it stands in the order

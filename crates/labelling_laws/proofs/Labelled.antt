@@ -6,7 +6,7 @@ use Rattle.plain_facts.proofs.Truths.{by_bool, if_true, if_false}
 use Rattle.table_definitions.specs.Permutation.{IsPermutationOfFour, identity}
 use Rattle.table_definitions.specs.Table.{Gluing, Row, IsTable, glue}
 use Rattle.table_definitions.specs.Relabelling.{Relabelling, stand_in}
-use Rattle.labelling_definitions.specs.Labellings.{Start, IsWalked}
+use Rattle.signature_definitions.specs.Labellings.{Start, IsWalked}
 use Rattle.table_definitions.proofs.Carried.{carried_is_table}
 use Rattle.signature_text_laws.specs.Slots.{face_at}
 use Rattle.signature_text_laws.specs.Walks.{Walking, with_type, walk_begun}

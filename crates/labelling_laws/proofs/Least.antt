@@ -13,7 +13,7 @@ use Rattle.signature_definitions.specs.WalkOrder.{is_ordered_at, first_unordered
 use Rattle.signature_definitions.specs.Spelling.{Spells, IsSignature, spelling}
 use Rattle.table_definitions.proofs.Permutations.{words_at, index_below}
 use Rattle.table_definitions.proofs.Carried.{comes_from, perm_permutes}
-use Rattle.labelling_definitions.specs.Labellings.{Start, IsWalked}
+use Rattle.signature_definitions.specs.Labellings.{Start, IsWalked}
 use Rattle.labelling_laws.specs.Starts.{start_at, IsTextFrom, IsLesserFrom, IsLeastText}
 use Rattle.labelling_laws.specs.Between.{made}
 use Rattle.labelling_laws.proofs.Standing.{made_relabelling}

@@ -7,7 +7,7 @@ use Rattle.std.proofs.lemmas.List.{length-set, get_or_past, get_or_default}
 use Rattle.std.proofs.lemmas.List.Folds.{list_any-append}
 use Rattle.plain_facts.proofs.Truths.{by_bool}
 use Rattle.table_definitions.specs.Table.{Gluing, Row}
-use Rattle.labelling_definitions.specs.Labellings.{Start}
+use Rattle.signature_definitions.specs.Labellings.{Start}
 use Rattle.table_definitions.proofs.Marked.{mark_same, mark_other, or-false as or_false}
 use Rattle.labelling_laws.specs.Orders.{start_at, is_met, start_behind, follow, IsWalking, AreMet}
 use Rattle.labelling_laws.proofs.Growing.{met_from}

@@ -11,7 +11,7 @@ use Rattle.table_definitions.specs.Table.{Gluing, Row, IsTable}
 use Rattle.table_definitions.specs.Relabelling.{Relabelling, IsRelabelling, IsRelabelled, Carries, stand_in}
 use Rattle.table_definitions.proofs.Permutations.{words_permute, index-words, index_below, words_at, inverse_permutes, inverse-inverse, compose-identity, identity-compose}
 use Rattle.table_definitions.proofs.Carried.{image_in_range, length-images, perm_permutes, comes_from}
-use Rattle.labelling_definitions.specs.Labellings.{IsWalked, Relabels, is_stand_in_before, IsLeastRelabelling}
+use Rattle.signature_definitions.specs.Labellings.{IsWalked, Relabels, is_stand_in_before, IsLeastRelabelling}
 use Rattle.labelling_laws.specs.Starts.{start_at, start_back_at, IsNoMatch, IsFirstMatch}
 use Rattle.labelling_laws.specs.Between.{inverted, after, between, images_between, perms_between}
 use Rattle.labelling_laws.proofs.Back.{inverted_stands, inverted_relabelling, carries_back, after_stands, after_relabelling, carries_on}

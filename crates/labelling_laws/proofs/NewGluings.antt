@@ -4,7 +4,7 @@ use Rattle.std.specs.Prelude.{option_map, slice_index}
 use Rattle.table_definitions.specs.Permutation.{IsPermutationOfFour, identity, inverse, compose}
 use Rattle.table_definitions.specs.Table.{Gluing, Row, IsTable, glue}
 use Rattle.table_definitions.specs.Relabelling.{Relabelling, IsRelabelling, Carries, stand_in, face_under, gluing_under}
-use Rattle.labelling_definitions.specs.Labellings.{Start}
+use Rattle.signature_definitions.specs.Labellings.{Start}
 use Rattle.table_definitions.proofs.Permutations.{preimage_below, image-preimage, inverse_permutes, inverse-inverse, inverse-of-compose, compose_permutes, compose-inverse}
 use Rattle.table_definitions.proofs.Carried.{comes_from}
 use Rattle.signature_text_laws.specs.Slots.{face_at}

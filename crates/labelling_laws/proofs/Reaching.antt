@@ -10,7 +10,7 @@ use Rattle.plain_facts.proofs.Truths.{by_bool}
 use Rattle.table_definitions.specs.Permutation.{IsPermutationOfFour, image}
 use Rattle.table_definitions.specs.Table.{Gluing, Row, Face, glue, IsTable}
 use Rattle.table_definitions.specs.Places.{Place, IsConnected, whole, along}
-use Rattle.labelling_definitions.specs.Labellings.{Start}
+use Rattle.signature_definitions.specs.Labellings.{Start}
 use Rattle.table_definitions.proofs.Permutations.{image_below, preimage-image}
 use Rattle.table_definitions.proofs.Bijections.{IsDistinct-from_before}
 use Rattle.table_definitions.proofs.TableLaws.{glued_face}

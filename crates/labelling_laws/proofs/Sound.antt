@@ -5,7 +5,7 @@ use Rattle.std.proofs.lemmas.Bool.{cases_lt}
 use Rattle.std.proofs.lemmas.List.{get_or_append_left, get_or_push, length-append}
 use Rattle.table_definitions.specs.Permutation.{IsPermutationOfFour, inverse}
 use Rattle.table_definitions.specs.Table.{Gluing, Row, IsTable}
-use Rattle.labelling_definitions.specs.Labellings.{Start}
+use Rattle.signature_definitions.specs.Labellings.{Start}
 use Rattle.table_definitions.proofs.Permutations.{compose_permutes, inverse_permutes}
 use Rattle.labelling_laws.specs.Orders.{start_at, is_met, start_behind, face_from, take_face, order_after}
 use Rattle.labelling_laws.proofs.Growing.{met_from, Adds, take_cases}

@@ -14,7 +14,7 @@ use Rattle.signature_text_laws.proofs.SlotLaws.{ok_same}
 use Rattle.signature_text_laws.proofs.SpelledTables.{spelled_read}
 use Rattle.table_definitions.proofs.Permutations.{index_apart}
 use Rattle.table_definitions.proofs.Carried.{perm_permutes}
-use Rattle.labelling_definitions.specs.Labellings.{Relabels, is_stand_in_before, IsLeastRelabelling}
+use Rattle.signature_definitions.specs.Labellings.{Relabels, is_stand_in_before, IsLeastRelabelling}
 use Rattle.labelling_laws.proofs.Standing.{same_relabelling}
 use Rattle.labelling_laws.proofs.Kept.{relabels_back, relabels_on}
 use Rattle.labelling_laws.proofs.Agreeing.{one_behind}

@@ -4,7 +4,7 @@ use Rattle.std.specs.List.{list_any, slice_index_or}
 use Rattle.table_definitions.specs.Permutation.{preimage, inverse, compose}
 use Rattle.table_definitions.specs.Table.{Gluing, Row, Face, glue}
 use Rattle.table_definitions.specs.Relabelling.{Relabelling, stand_in}
-use Rattle.labelling_definitions.specs.Labellings.{Start}
+use Rattle.signature_definitions.specs.Labellings.{Start}
 
 -- what stands at a place in the order: the tetrahedron with this new number, and where its vertices go
 abbrev pub start_at : List Start → ℕ → Start

@@ -2,8 +2,8 @@
 //! here have no code: their contracts are the laws.
 #![tactic(auto)]
 
-ghost use Rattle.labelling_definitions.specs.Census.{CensusGoesOn, OneCensus};
-ghost use Rattle.labelling_definitions.specs.Laws.{WalksAgree, RelabelsTables, RelabelsBack, RelabelsOn, RelabelsConnected, OneSignature, SignaturesTellTables, OneLeastRelabelling};
+ghost use Rattle.signature_definitions.specs.Census.{CensusGoesOn, OneCensus};
+ghost use Rattle.signature_definitions.specs.LabellingLaws.{WalksAgree, RelabelsTables, RelabelsBack, RelabelsOn, RelabelsConnected, OneSignature, SignaturesTellTables, OneLeastRelabelling};
 
 /// A table has one walk from each start.
 pub fn walks_agree()

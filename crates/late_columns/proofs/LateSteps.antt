@@ -10,8 +10,8 @@ use Rattle.cone_definitions.proofs.Rays.{IsSolution-front, IsSolution-last, IsSo
 use Rattle.cone_definitions.proofs.Unions.{third_ray}
 use Rattle.row_operation_laws.specs.Solutions.{HaveSameSolutions}
 use Rattle.row_operation_laws.proofs.Sums.{turned_zero}
-use Rattle.bound_laws.specs.Laws.{HasNoThird}
-use Rattle.bound_laws.proofs.Bound.{union_bound}
+use Rattle.cone_laws.specs.Laws.{HasNoThird}
+use Rattle.cone_laws.proofs.Bound.{union_bound}
 use Rattle.double_description.specs.Clashes.{AreClashes}
 use Rattle.double_description.specs.Kepts.{rays_of, AreOfWidth}
 use Rattle.double_description.specs.Steps.{step_of}

@@ -5,7 +5,7 @@ ghost use Rattle.text_definitions.specs.Reading.{Reads};
 ghost use Rattle.move_commands.specs.Scripts.{steps_of};
 
 use crate::steps::read_steps;
-use bench_io::Lexer;
+use text_io::Lexer;
 use command_answers::read_table;
 use gluing_table::Table;
 use move_undo::Step;

@@ -10,7 +10,7 @@ use move_undo::{PlayFault, Session, Step, append_move_fault};
 use no_memory::NoMemory;
 use pachner_moves::{Move, MoveFault};
 use std::alloc::Global;
-use text_writing::append;
+use text_io::append;
 
 fn append_word(out: &mut Vec<u8>, word: &[u8]) -> Result<(), NoMemory>
     ensures { OnOk result (out.new.items ≡ out.old.items ++ word.now) }

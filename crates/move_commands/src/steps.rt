@@ -6,7 +6,7 @@ ghost use Rattle.text_definitions.specs.Reading.{ReadsFrom};
 ghost use Rattle.table_definitions.specs.TableText.{lexed};
 ghost use Rattle.move_commands.specs.Scripts.{steps_of};
 
-use bench_io::Lexer;
+use text_io::Lexer;
 use gluing_table::TextFault;
 use move_undo::{Step, read_step};
 use std::alloc::Global;

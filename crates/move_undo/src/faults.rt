@@ -6,7 +6,7 @@ ghost use Rattle.move_definitions.specs.Sessions.{move_fault_text};
 use no_memory::NoMemory;
 use pachner_moves::MoveFault;
 use std::alloc::Global;
-use text_writing::{append, append_decimal};
+use text_io::{append, append_decimal};
 
 // Two labels.
 fn append_labels(alloc: Global, out: &mut Vec<u8>, first: u8, second: u8) -> Result<(), NoMemory>

@@ -7,7 +7,7 @@ ghost use Rattle.text_definitions.specs.Reading.{Gives};
 ghost use Rattle.move_definitions.specs.MoveText as text;
 ghost use Rattle.move_undo.specs.Steps.{kind_value, step_value};
 
-use bench_io::{LexFault, Lexer};
+use text_io::{LexFault, Lexer};
 use pachner_moves::{Core, Move};
 
 /// A line of a script.

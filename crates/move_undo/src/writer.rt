@@ -9,7 +9,7 @@ ghost use Rattle.move_undo.specs.Written.{is_chosen, core_tail, head_text};
 use no_memory::NoMemory;
 use pachner_moves::{Core, Move};
 use std::alloc::Global;
-use text_writing::{append, append_decimal};
+use text_io::{append, append_decimal};
 
 // Appends the digit of a vertex, if it is one of the core or is none as is asked.
 fn append_vertex(out: &mut Vec<u8>, core: Core, inside: bool, v: u8) -> Result<(), NoMemory>

@@ -12,11 +12,11 @@ use Rattle.surface_definitions.specs.Coordinates.{columns, tri_column, quad_colu
 use Rattle.surface_definitions.specs.declared.Coords.TheVariants.{Standard, Quad, Octagon}
 use Rattle.surface_definitions.specs.Equations.{Holds, glued_pairs, matching}
 use Rattle.surface_definitions.specs.QuadEquations.{AreEquations}
-use Rattle.vector_laws.proofs.Counting.{sum_by-map}
-use Rattle.vector_laws.proofs.Glued.{IsGlued, glued_is}
-use Rattle.vector_laws.proofs.Matched.{pair_glued}
-use Rattle.vector_laws.proofs.Solved.{rows_zero, solved, other_is}
-use Rattle.vector_laws.proofs.Turns.{keeping_below}
+use Rattle.surface_laws.proofs.Counting.{sum_by-map}
+use Rattle.surface_laws.proofs.Glued.{IsGlued, glued_is}
+use Rattle.surface_laws.proofs.Matched.{pair_glued}
+use Rattle.surface_laws.proofs.Solved.{rows_zero, solved, other_is}
+use Rattle.surface_laws.proofs.Turns.{keeping_below}
 use Rattle.quad_laws.specs.SolutionLaws.{IsStandardSolution}
 use Rattle.quad_laws.proofs.QuadRows.{quads_solve}
 use Rattle.octagon_laws.specs.QuadOctagons.{quads_and_octagons, other_types, HasQuadsForOctagons, SolvesQuadEquations}

@@ -8,11 +8,11 @@ use Rattle.surface_definitions.specs.declared.Coords.TheVariants.{Standard, Octa
 use Rattle.surface_definitions.specs.Equations.{glued_pairs}
 use Rattle.surface_definitions.specs.Lift.{projected}
 use Rattle.table_definitions.specs.Permutation.{others}
-use Rattle.vector_laws.specs.LiftLaws.{IsLiftOf}
-use Rattle.vector_laws.proofs.LiftLemmas.{lift_solves, lift_projects}
-use Rattle.vector_laws.proofs.Matched.{pair_glued}
-use Rattle.vector_laws.proofs.Quads.{projected_at}
-use Rattle.vector_laws.proofs.Solved.{solved, other_is}
+use Rattle.surface_laws.specs.LiftLaws.{IsLiftOf}
+use Rattle.surface_laws.proofs.LiftLemmas.{lift_solves, lift_projects}
+use Rattle.surface_laws.proofs.Matched.{pair_glued}
+use Rattle.surface_laws.proofs.Quads.{projected_at}
+use Rattle.surface_laws.proofs.Solved.{solved, other_is}
 use Rattle.quad_laws.specs.LinkLaws.{links_sum}
 use Rattle.quad_laws.specs.SolutionLaws.{IsStandardSolution, with_links, IsLiftWithLinks, HasOneLiftWithLinks}
 use Rattle.quad_laws.proofs.LiftsAndLinks.{one_lift_with_links}

@@ -9,8 +9,8 @@ use Rattle.surface_definitions.specs.Coordinates.{clash_list, tri_column}
 use Rattle.surface_definitions.specs.declared.Coords.TheVariants.{Standard, Quad, Octagon}
 use Rattle.surface_definitions.specs.Lift.{projected}
 use Rattle.surface_definitions.specs.QuadEquations.{AreEquations}
-use Rattle.vector_laws.specs.LiftLaws.{IsLiftOf}
-use Rattle.vector_laws.proofs.Lifts.{one_lift}
+use Rattle.surface_laws.specs.LiftLaws.{IsLiftOf}
+use Rattle.surface_laws.proofs.Lifts.{one_lift}
 use Rattle.quad_laws.proofs.Lifted.{lifted_are_quads}
 use Rattle.quad_lift_laws.specs.Laws.{HasSphereAndDiscLinks}
 use Rattle.quad_lift_laws.proofs.Correspondence.{correspond}

@@ -8,8 +8,8 @@ use Rattle.table_definitions.proofs.TableLaws.{Among}
 use Rattle.surface_definitions.specs.Coordinates.{tri_column, quad_column, oct_column, three}
 use Rattle.surface_definitions.specs.declared.Coords.TheVariants.{Standard, Octagon}
 use Rattle.surface_definitions.specs.Lift.{projected}
-use Rattle.vector_laws.proofs.Counting.{sum_by_same}
-use Rattle.vector_laws.proofs.Quads.{projected_at, length-projected}
+use Rattle.surface_laws.proofs.Counting.{sum_by_same}
+use Rattle.surface_laws.proofs.Quads.{projected_at, length-projected}
 use Rattle.quad_laws.proofs.LinkSums.{by_column}
 use Rattle.octagon_laws.specs.QuadOctagons.{quad_entry, octagon_entry, quads_and_octagons, other_types, quads_at, quads_for_octagons, HasQuadsForOctagons}
 use Rattle.octagon_laws.proofs.Blocks.{block-at, length-blocks}

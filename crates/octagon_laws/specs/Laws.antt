@@ -8,8 +8,8 @@ use Rattle.surface_definitions.specs.Coordinates.{columns, clash_list, tri_colum
 use Rattle.surface_definitions.specs.declared.Coords.TheVariants.{Quad, Octagon}
 use Rattle.surface_definitions.specs.Equations.{matching_rows}
 use Rattle.surface_definitions.specs.QuadEquations.{AreEquations}
-use Rattle.vector_laws.specs.LiftLaws.{IsLiftOf}
-use Rattle.vector_laws.specs.PieceLaws.{IsSurface}
+use Rattle.surface_laws.specs.LiftLaws.{IsLiftOf}
+use Rattle.surface_laws.specs.PieceLaws.{IsSurface}
 use Rattle.quad_laws.specs.LinkLaws.{links_sum}
 use Rattle.quad_laws.specs.SolutionLaws.{IsStandardSolution}
 use Rattle.quad_lift_laws.specs.Laws.{HasSphereAndDiscLinks}

@@ -8,8 +8,8 @@ use Rattle.table_definitions.specs.Table.{Row}
 use Rattle.skeleton_definitions.specs.Orientation.{IsOrientable}
 use Rattle.surface_definitions.specs.declared.Coords.{Coords}
 use Rattle.vector_definitions.specs.Components.{Component, IsComponent, AreListedComponents}
-use Rattle.vector_laws.specs.PieceLaws.{IsSurface}
-use Rattle.vector_laws.proofs.FitSurfaces.{surface_is}
+use Rattle.surface_laws.specs.PieceLaws.{IsSurface}
+use Rattle.surface_laws.proofs.FitSurfaces.{surface_is}
 use Rattle.orientation_laws.specs.Laws.{DescribedAlike}
 use Rattle.orientation_laws.proofs.Turned.{one_answer_to_both}
 

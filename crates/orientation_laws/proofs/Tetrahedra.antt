@@ -7,12 +7,12 @@ use Rattle.surface_definitions.specs.Coordinates.{columns_each, tri_column, quad
 use Rattle.surface_definitions.specs.declared.Coords.{Coords}
 use Rattle.surface_definitions.specs.declared.Coords.TheVariants.{Standard, Quad, Octagon}
 use Rattle.surface_definitions.specs.Pieces.{SurfacePiece, Arc, pieces_of, piece_number, piece_of, further_column, further_piece, triangles_round, is_triangle_arc, keeps_by_zero, type_in, Meets}
-use Rattle.vector_laws.specs.MatchingLaws.{HasTriangles}
-use Rattle.vector_laws.specs.PieceLaws.{IsSurface, IsPieceOf, face_of_arc}
-use Rattle.vector_laws.proofs.ArcPieces.{arc_piece}
-use Rattle.vector_laws.proofs.Glued.{IsGlued, glued_is}
-use Rattle.vector_laws.proofs.PieceNumbers.{no_piece, IsFound, piece_found}
-use Rattle.vector_laws.proofs.Turns.{keeping_below}
+use Rattle.surface_laws.specs.MatchingLaws.{HasTriangles}
+use Rattle.surface_laws.specs.PieceLaws.{IsSurface, IsPieceOf, face_of_arc}
+use Rattle.surface_laws.proofs.ArcPieces.{arc_piece}
+use Rattle.surface_laws.proofs.Glued.{IsGlued, glued_is}
+use Rattle.surface_laws.proofs.PieceNumbers.{no_piece, IsFound, piece_found}
+use Rattle.surface_laws.proofs.Turns.{keeping_below}
 
 -- what holds of a list's items and of what stands past them holds at each place
 at_place : (P : ℕ → Type 0) (os : List ℕ) (k q : ℕ) → P q → AllByRecursion P os → P (slice_index_or os k q)

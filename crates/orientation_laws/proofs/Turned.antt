@@ -6,8 +6,8 @@ use Rattle.table_definitions.specs.Table.{Gluing, Row}
 use Rattle.skeleton_definitions.specs.Orientation.{sign_of, AreSigns}
 use Rattle.surface_definitions.specs.Pieces.{Arc, arc_across, piece_of, piece_number, Meets, keeps_sides, HasSigns}
 use Rattle.surface_definitions.specs.declared.Coords.{Coords}
-use Rattle.vector_laws.specs.PieceLaws.{IsSurface, face_of_arc, MeetsBack}
-use Rattle.vector_laws.proofs.MeetingArcs.{meets_back}
+use Rattle.surface_laws.specs.PieceLaws.{IsSurface, face_of_arc, MeetsBack}
+use Rattle.surface_laws.proofs.MeetingArcs.{meets_back}
 use Rattle.table_definitions.specs.Table.{way_back}
 use Rattle.orientation_laws.specs.Laws.{SidesTellOrientation, OneAnswerToBoth}
 use Rattle.orientation_laws.proofs.Tetrahedra.{tet_of, arc_tet}

@@ -10,7 +10,7 @@ use Rattle.surface_definitions.specs.declared.Coords.{Coords}
 use Rattle.surface_definitions.specs.declared.Coords.TheVariants.{Quad}
 use Rattle.vector_definitions.specs.Answers.{Description, IsDescription}
 use Rattle.vector_definitions.specs.Components.{Component, IsComponent}
-use Rattle.vector_laws.specs.PieceLaws.{IsSurface}
+use Rattle.surface_laws.specs.PieceLaws.{IsSurface}
 
 -- there a component of a surface is two-sided exactly where it is orientable
 abbrev pub SidesTellOrientation : Type 0

@@ -5,8 +5,8 @@ use Rattle.table_definitions.specs.Table.{Gluing, Row}
 use Rattle.table_definitions.specs.Places.{IsConnected, IsLeastUnreached}
 use Rattle.table_definitions.specs.Relabelling.{Relabelling, IsRelabelled, stand_in}
 use Rattle.signature_definitions.specs.Spelling.{IsSignature}
-use Rattle.labelling_definitions.specs.Labellings.{IsLeastRelabelling}
-use Rattle.labelling_definitions.specs.Census.{table_in, signature_in, IsCensus}
+use Rattle.signature_definitions.specs.Labellings.{IsLeastRelabelling}
+use Rattle.signature_definitions.specs.Census.{table_in, signature_in, IsCensus}
 use Rattle.text_definitions.specs.Written.{line}
 use Rattle.outcome_definitions.specs.declared.Status.TheVariants.{Done, Refused}
 use Rattle.outcome_definitions.specs.Outcomes.{Outcome}

@@ -10,12 +10,12 @@ use Rattle.surface_definitions.specs.declared.Coords.{Coords}
 use Rattle.surface_definitions.specs.declared.VectorFault.{VectorFault}
 use Rattle.surface_definitions.specs.TableSurfaces.{table_enumeration}
 use Rattle.vector_definitions.specs.Answers.{IsFit}
-use Rattle.vector_laws.proofs.FitSurfaces.{fit_accepted}
+use Rattle.surface_laws.proofs.FitSurfaces.{fit_accepted}
 use Rattle.sum_laws.specs.Laws.{Answer, sum, large, IsAnswer}
 use Rattle.sum_laws.proofs.Runs.{some_answer}
 use Rattle.sum_laws.proofs.Surfaces.{surfaces_are_rays_lem}
 use Rattle.document_definitions.specs.Blocks.{Block}
-use Rattle.enumeration_laws.proofs.Ended.{enumeration_ends}
+use Rattle.cone_laws.proofs.Ended.{enumeration_ends}
 use Rattle.skeleton_laws.proofs.Equated.{some_equations}
 use Rattle.outcome_definitions.specs.declared.SumRefusal.TheVariants.{Unfit}
 use Rattle.outcome_definitions.specs.Outcomes.{Outcome}

@@ -7,8 +7,8 @@ use Rattle.std.proofs.lemmas.List.Elements.{All-from_recursion}
 use Rattle.cone_definitions.proofs.Below.{all_or_one, all_or_first}
 use Rattle.table_definitions.specs.Table.{Row, IsTable}
 use Rattle.table_definitions.specs.Places.{IsConnected, IsLeastUnreached}
-use Rattle.labelling_definitions.specs.Census.{table_in, signature_in, IsCensus, IsPlaced}
-use Rattle.labelling_definitions.proofs.CensusLaws.{census_goes_on, empty_census}
+use Rattle.signature_definitions.specs.Census.{table_in, signature_in, IsCensus, IsPlaced}
+use Rattle.signature_definitions.proofs.CensusLaws.{census_goes_on, empty_census}
 use Rattle.labelling_laws.proofs.Told.{tells_tables}
 use Rattle.signature_laws.proofs.Connected.{connected_or_unreached_lem}
 use Rattle.signature_laws.proofs.Walks.{signatures_exist_lem}

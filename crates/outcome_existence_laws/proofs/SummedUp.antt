@@ -11,7 +11,7 @@ use Rattle.table_definitions.specs.Table.{Row, IsTable}
 use Rattle.surface_definitions.specs.declared.Coords.TheVariants.{Standard}
 use Rattle.surface_definitions.specs.TableSurfaces.{table_enumeration}
 use Rattle.certificate_laws.proofs.Made.{tables_are_made_lem, made_are_certified_lem, made_table}
-use Rattle.enumeration_laws.proofs.Ended.{enumeration_ends}
+use Rattle.cone_laws.proofs.Ended.{enumeration_ends}
 use Rattle.skeleton_laws.proofs.Equated.{some_equations}
 use Rattle.outcome_definitions.specs.Outcomes.{Outcome}
 use Rattle.outcome_definitions.specs.Enumerations.{large_outcome}

@@ -23,10 +23,10 @@ use Rattle.vector_definitions.specs.Components.{Component, IsPiecesAnswer}
 use Rattle.vector_definitions.specs.Lifting.{IsLiftAnswer}
 use Rattle.vector_definitions.specs.Answers.{verdict_in, IsFit, Description, IsDescription, IsLifted, IsCrushedAlong}
 use Rattle.vector_definitions.specs.Texts.{invalid_edge_line}
-use Rattle.vector_laws.proofs.CrushedRows.{crushed_rows, crushed_are}
-use Rattle.vector_laws.proofs.FitSurfaces.{fit_accepted, surface_is}
-use Rattle.vector_laws.proofs.Spreading.{lift_answer}
-use Rattle.vector_laws.proofs.PiecesAnswered.{pieces_answer}
+use Rattle.surface_laws.proofs.CrushedRows.{crushed_rows, crushed_are}
+use Rattle.surface_laws.proofs.FitSurfaces.{fit_accepted, surface_is}
+use Rattle.surface_laws.proofs.Spreading.{lift_answer}
+use Rattle.surface_laws.proofs.PiecesAnswered.{pieces_answer}
 use Rattle.skeleton_laws.proofs.Equated.{some_equations}
 use Rattle.skeleton_laws.proofs.Skeletons.{some_skeleton, some_first_invalid}
 use Rattle.outcome_definitions.specs.declared.Status.TheVariants.{Refused}

@@ -5,8 +5,8 @@ use Rattle.table_definitions.specs.Table.{Row, IsTable}
 use Rattle.table_definitions.specs.Places.{IsConnected}
 use Rattle.table_definitions.specs.Relabelling.{Relabelling}
 use Rattle.table_definitions.proofs.ChainLaws.{one_unreached, connected_or_not}
-use Rattle.labelling_definitions.specs.Census.{table_in}
-use Rattle.labelling_definitions.proofs.OneCensus.{one_census}
+use Rattle.signature_definitions.specs.Census.{table_in}
+use Rattle.signature_definitions.proofs.OneCensus.{one_census}
 use Rattle.labelling_laws.proofs.Told.{one_signature, one_least}
 use Rattle.outcome_definitions.specs.Outcomes.{Outcome}
 use Rattle.outcome_definitions.specs.Canonical.{done, not_connected_outcome, IsNotConnected, IsSignatureAnswer, relabelling_text, IsCompared, IsSameAnswer, census_text, IsGrouped, IsFirstNotConnected, IsGroupAnswer}

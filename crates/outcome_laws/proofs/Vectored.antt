@@ -7,7 +7,7 @@ use Rattle.surface_definitions.specs.declared.Coords.{Coords}
 use Rattle.surface_definitions.specs.declared.Coords.TheVariants.{Standard, Quad}
 use Rattle.vector_definitions.specs.Answers.{IsDescription, IsLifted, IsCrushedAlong, AreTold}
 use Rattle.vector_definitions.proofs.Told.{one_description_each}
-use Rattle.vector_laws.proofs.ToldLemmas.{lifted_each, crushed_along_once}
+use Rattle.surface_laws.proofs.ToldLemmas.{lifted_each, crushed_along_once}
 use Rattle.outcome_definitions.specs.Outcomes.{Outcome}
 use Rattle.outcome_definitions.specs.Vectors.{IsCrushAnswer, crush_outcome, IsLiftsAnswer, lift_outcome, AreDescribed, describe_outcome, IsInvalidTold, IsDescribeAnswer}
 use Rattle.surface_definitions.proofs.OneSystem.{one_equations}

@@ -14,7 +14,7 @@ use Rattle.table_definitions.proofs.ListLaws.{not_before_itself}
 use Rattle.signature_definitions.specs.Spelling.{spelling, Spells}
 use Rattle.signature_text_laws.proofs.SlotLaws.{ok_same}
 use Rattle.signature_text_laws.proofs.SpelledTables.{spelled_read}
-use Rattle.labelling_definitions.specs.Labellings.{Start, IsWalked, Relabels, is_stand_in_before, IsLeastRelabelling}
+use Rattle.signature_definitions.specs.Labellings.{Start, IsWalked, Relabels, is_stand_in_before, IsLeastRelabelling}
 use Rattle.labelling_laws.specs.Between.{between}
 use Rattle.labelling_laws.specs.Starts.{start_at, start_back_at, IsNoMatch}
 use Rattle.labelling_laws.proofs.Agreeing.{one_walk}

@@ -5,7 +5,7 @@ use Rattle.std.proofs.lemmas.List.FromFn.{length-map-range_with_len}
 use Rattle.plain_facts.proofs.Members.{contains_at}
 use Rattle.table_definitions.specs.Table.{Gluing, Row, IsTable}
 use Rattle.table_definitions.specs.Relabelling.{Relabelling, IsRelabelled}
-use Rattle.labelling_definitions.specs.Labellings.{IsLeastRelabelling}
+use Rattle.signature_definitions.specs.Labellings.{IsLeastRelabelling}
 use Rattle.labelling_laws.specs.Between.{made}
 use Rattle.labelling_laws.proofs.Standing.{made_stands}
 use Rattle.part_definitions.specs.Parts.{Part, AreParts}

@@ -8,7 +8,7 @@ use Rattle.table_definitions.specs.Permutation.{IsPermutationOfFour}
 use Rattle.table_definitions.specs.Table.{Gluing}
 use Rattle.table_definitions.specs.Relabelling.{Relabelling, IsRelabelling, stand_in}
 use Rattle.table_definitions.proofs.Carried.{image_in_range, images_apart, perm_permutes}
-use Rattle.labelling_definitions.specs.Labellings.{IsLeastRelabelling}
+use Rattle.signature_definitions.specs.Labellings.{IsLeastRelabelling}
 use Rattle.labelling_laws.specs.Between.{made}
 use Rattle.labelling_laws.proofs.Standing.{made_relabelling}
 use Rattle.part_definitions.specs.Parts.{Part}

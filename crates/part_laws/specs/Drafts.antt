@@ -2,7 +2,7 @@
 use Rattle.std.specs.Prelude.{◌≡◌, ℕ, ◌<◌, List, length, slice_index}
 use Rattle.table_definitions.specs.Table.{Row, IsTable}
 use Rattle.table_definitions.specs.Relabelling.{Relabelling}
-use Rattle.labelling_definitions.specs.Labellings.{IsLeastRelabelling}
+use Rattle.signature_definitions.specs.Labellings.{IsLeastRelabelling}
 use Rattle.part_definitions.specs.Parts.{Part, AreParts}
 use Rattle.part_definitions.specs.SameParts.{part_at, GoesBy}
 use Rattle.part_laws.specs.Ordered.{Entry, texts_of, AreInOrder}

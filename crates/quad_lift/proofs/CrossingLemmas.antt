@@ -12,10 +12,10 @@ use Rattle.skeleton_definitions.specs.Skeleton.{Skeleton, IsSkeleton}
 use Rattle.class_laws.specs.Crossings.{crossed_vertex, vertex_at}
 use Rattle.surface_definitions.specs.declared.Coords.TheVariants.{Quad}
 use Rattle.surface_definitions.specs.Coordinates.{quad_column, keeping}
-use Rattle.vector_laws.specs.LiftLaws.{AreHeights}
-use Rattle.vector_laws.proofs.Glued.{IsGlued, glued_is, face_at}
-use Rattle.vector_laws.proofs.Vertices.{one_vertex, number-vertex, across_is, class_across}
-use Rattle.vector_laws.proofs.Turns.{keeping_below}
+use Rattle.surface_laws.specs.LiftLaws.{AreHeights}
+use Rattle.surface_laws.proofs.Glued.{IsGlued, glued_is, face_at}
+use Rattle.surface_laws.proofs.Vertices.{one_vertex, number-vertex, across_is, class_across}
+use Rattle.surface_laws.proofs.Turns.{keeping_below}
 use Rattle.quad_lift.specs.Crossings.{IsCrossing}
 use Rattle.quad_lift.specs.Spreads.{quads_beside}
 

@@ -14,15 +14,15 @@ use Rattle.surface_definitions.specs.declared.Coords.TheVariants.{Quad, Standard
 use Rattle.surface_definitions.specs.Coordinates.{quad_column, keeping}
 use Rattle.surface_definitions.specs.Lift.{projected}
 use Rattle.vector_definitions.specs.Lifting.{HasLiftAt, IsLeastWithoutLift}
-use Rattle.vector_laws.specs.LiftLaws.{AreHeights, IsLiftOf, IsSurfaceOver}
-use Rattle.vector_laws.proofs.Glued.{IsGlued, glued_is}
-use Rattle.vector_laws.proofs.Heights.{heights_give, lift_gives, entry_of, vector_is, entry_low, entry_high}
-use Rattle.vector_laws.proofs.LiftLemmas.{lift_solves, lift_projects, quads_admissible}
-use Rattle.vector_laws.proofs.Lowered.{IsLow, lowered_lift}
+use Rattle.surface_laws.specs.LiftLaws.{AreHeights, IsLiftOf, IsSurfaceOver}
+use Rattle.surface_laws.proofs.Glued.{IsGlued, glued_is}
+use Rattle.surface_laws.proofs.Heights.{heights_give, lift_gives, entry_of, vector_is, entry_low, entry_high}
+use Rattle.surface_laws.proofs.LiftLemmas.{lift_solves, lift_projects, quads_admissible}
+use Rattle.surface_laws.proofs.Lowered.{IsLow, lowered_lift}
 use Rattle.quad_lift.specs.Spreads.{AreAllSpread}
 use Rattle.quad_lift.specs.Agreements.{AgreesRound, IsLeastWrong, IsLeastHeight, AreLeastHeights, lifted_entry}
 use Rattle.quad_lift.proofs.CrossingLemmas.{crossed_to, IsCrossedTo}
-use Rattle.vector_laws.proofs.Quads.{quads_of}
+use Rattle.surface_laws.proofs.Quads.{quads_of}
 
 module _ (s : Skeleton) (k : IsSkeleton s) (xs : List ℕ) (w : length xs ≡ 3 * length s.rows) (heights : List ℕ) (a : AreAllSpread s xs heights) where
   abbrev class_of : ℕ → ℕ

@@ -7,7 +7,7 @@ use Rattle.std.proofs.lemmas.List.{get_or-set_same, get_or-set_other, take_all}
 use Rattle.std.proofs.lemmas.List.Sums.{sum_by-append, sum_by-cons}
 use Rattle.table_definitions.specs.Lists.{below}
 use Rattle.table_definitions.proofs.Bijections.{below-push}
-use Rattle.vector_laws.proofs.ThreeSums.{three_of, three_more}
+use Rattle.surface_laws.proofs.ThreeSums.{three_of, three_more}
 use Rattle.quad_lift.specs.Spreads.{quads_beside, marked_quads}
 
 abbrev term : List ℕ → List Bool → ℕ → ℕ

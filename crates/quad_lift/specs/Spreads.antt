@@ -7,7 +7,7 @@ use Rattle.skeleton_definitions.specs.Skeleton.{Skeleton}
 use Rattle.class_laws.specs.Neighbours.{row_at}
 use Rattle.class_laws.specs.Crossings.{crossed_vertex}
 use Rattle.walk_laws.specs.Search.{IsMarked}
-use Rattle.vector_laws.specs.LiftLaws.{AreHeights}
+use Rattle.surface_laws.specs.LiftLaws.{AreHeights}
 
 -- the vertices across the faces at vertex i
 unfoldable pub vertices_round : List Row → ℕ → List ℕ

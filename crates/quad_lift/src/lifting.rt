@@ -7,7 +7,7 @@ ghost use Rattle.surface_definitions.specs.declared.Coords.TheVariants.{Standard
 ghost use Rattle.surface_definitions.specs.Coordinates as coordinates;
 ghost use Rattle.surface_definitions.specs.Lift.{projected, IsLift};
 ghost use Rattle.vector_definitions.specs.Lifting.{IsLiftAnswer};
-ghost use Rattle.vector_laws.specs.LiftLaws.{IsSurfaceOver};
+ghost use Rattle.surface_laws.specs.LiftLaws.{IsSurfaceOver};
 ghost use Rattle.quad_lift.specs.Agreements.{AreLeastHeights, lifted_entry};
 
 use crate::checks::least_wrong;

@@ -6,7 +6,7 @@ ghost use Rattle.cone_text_definitions.specs.VectorText.{vector_text, entries_te
 use cone_core::Ray;
 use no_memory::NoMemory;
 use std::alloc::Global;
-use text_writing::{append, append_decimal};
+use text_io::{append, append_decimal};
 
 /// Appends the digits of an entry after a space. Most entries are below 10, and their one digit is appended as it is.
 fn push_entry(alloc: Global, text: &mut Vec<u8>, entry: u128) -> Result<(), NoMemory>

@@ -8,7 +8,7 @@ use Rattle.std.proofs.lemmas.Bool.{cases_lt, false≢true, cond-true, cond-false
 use Rattle.std.proofs.lemmas.List.{get_or_default, get_or-map, length-map, map-append}
 use Rattle.std.proofs.lemmas.List.Folds.{list_any_at, Any-from_list_any}
 use Rattle.std.proofs.lemmas.List.Sums.{position_or_len_is, fails_before_first, passes_at_first}
-use Rattle.labelling_definitions.specs.Census.{signature_in, IsKnown, IsFresh, IsPlaced}
+use Rattle.signature_definitions.specs.Census.{signature_in, IsKnown, IsFresh, IsPlaced}
 use Rattle.signature_census.specs.Texts.{texts_of}
 
 -- whether two texts have the same bytes

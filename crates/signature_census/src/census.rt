@@ -3,7 +3,7 @@
 ghost use Rattle.std.specs.Prelude.{◌≡◌, ◌≢◌, ◌<◌, ◌+◌, ◌^◌, ℕ, List, [], length, IfOk, IfErr, OnOk, OnErr};
 ghost use Rattle.table_definitions.specs.Places.{IsConnected, IsLeastUnreached};
 ghost use Rattle.signature_definitions.specs.Spelling.{IsSignature};
-ghost use Rattle.labelling_definitions.specs.Census.{signature_in, IsPlaced};
+ghost use Rattle.signature_definitions.specs.Census.{signature_in, IsPlaced};
 ghost use Rattle.signature_census.specs.Texts.{texts_of};
 
 use canonical_labelling::{WalkFault, signature};

@@ -4,7 +4,7 @@ ghost use Rattle.text_definitions.specs.Reading.{ReadsFrom};
 ghost use Rattle.signature_definitions.specs.SignatureText.{signature_at, any_table_at};
 
 use crate::{InputFault, read_signature};
-use bench_io::Lexer;
+use text_io::Lexer;
 use gluing_table::{Table, TextFault, read_rows};
 use std::alloc::Global;
 

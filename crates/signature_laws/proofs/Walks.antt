@@ -11,7 +11,7 @@ use Rattle.table_definitions.specs.Table.{Gluing, Row, IsTable}
 use Rattle.table_definitions.specs.Places.{IsConnected}
 use Rattle.table_definitions.specs.Relabelling.{Relabelling, IsRelabelling, Carries}
 use Rattle.signature_definitions.specs.Spelling.{spelling, IsSignature}
-use Rattle.labelling_definitions.specs.Labellings.{Start}
+use Rattle.signature_definitions.specs.Labellings.{Start}
 use Rattle.table_definitions.proofs.Permutations.{words_permute}
 use Rattle.table_definitions.specs.Moved.{moved_row}
 use Rattle.table_definitions.proofs.Moves.{carries_from}

@@ -9,7 +9,7 @@ use outcome_definitions::{Status, SumRefusal};
 use ray_decompose::AddFault;
 use std::alloc::Global;
 use surface_definitions::VectorFault;
-use text_writing::{append, append_decimal};
+use text_io::{append, append_decimal};
 
 // The term of this number is refused by the check.
 fn append_term(

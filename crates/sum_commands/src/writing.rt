@@ -10,7 +10,7 @@ use no_memory::NoMemory;
 use ray_answers::{write_entries, write_vector};
 use ray_decompose::{Sum, Term};
 use std::alloc::Global;
-use text_writing::{append, append_decimal};
+use text_io::{append, append_decimal};
 
 // A line `times S T`.
 fn append_times(alloc: Global, out: &mut Vec<u8>, times: u128, count: usize) -> Result<(), NoMemory>

@@ -8,7 +8,7 @@ use no_memory::NoMemory;
 use outcome_definitions::Status;
 use ray_answers::write_entries;
 use std::alloc::Global;
-use text_writing::{append, append_decimal};
+use text_io::{append, append_decimal};
 
 // A ray or a pair of rays.
 fn append_kind(alloc: Global, text: &mut Vec<u8>, kind: &LargeKind) -> Result<(), NoMemory>

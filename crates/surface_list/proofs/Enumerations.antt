@@ -19,7 +19,7 @@ use Rattle.double_description.specs.declared.engine.EnumFault.TheVariants.{Large
 use Rattle.double_description.specs.Turns.{AreTaken}
 use Rattle.double_description.specs.Enumerated.{IsEnumerated, IsRefused}
 use Rattle.ray_answers.specs.Answers.{AreRefused}
-use Rattle.enumeration_laws.proofs.Taken.{some_rows_taken}
+use Rattle.cone_laws.proofs.Taken.{some_rows_taken}
 use Rattle.equation_bounds_laws.specs.Bounds.{number_bound}
 use Rattle.equation_bounds_laws.proofs.Bounds.{are_listed as table_listed}
 use Rattle.surface_list.specs.Surfaces.{AreTableSurfaces}

@@ -9,14 +9,14 @@ use Rattle.surface_definitions.specs.Coordinates.{columns_each, tri_column, quad
 use Rattle.surface_definitions.specs.declared.Coords.{Coords}
 use Rattle.surface_definitions.specs.declared.Coords.TheVariants.{Standard, Quad, Octagon}
 use Rattle.surface_definitions.specs.Pieces.{SurfacePiece, Arc, arcs_round, type_in, keeps_by_zero, further_piece, piece_of}
-use Rattle.vector_laws.specs.MatchingLaws.{HasTriangles}
-use Rattle.vector_laws.proofs.MeetingArcs.{arc_at}
-use Rattle.vector_laws.proofs.Turns.{keeping_below}
-use Rattle.vector_laws.proofs.FurtherArcs.{first_nonzero, one_further, further_one}
-use Rattle.vector_laws.proofs.PieceNumbers.{piece_at}
+use Rattle.surface_laws.specs.MatchingLaws.{HasTriangles}
+use Rattle.surface_laws.proofs.MeetingArcs.{arc_at}
+use Rattle.surface_laws.proofs.Turns.{keeping_below}
+use Rattle.surface_laws.proofs.FurtherArcs.{first_nonzero, one_further, further_one}
+use Rattle.surface_laws.proofs.PieceNumbers.{piece_at}
 use Rattle.table_definitions.specs.Table.{Row}
 use Rattle.surface_definitions.specs.Coordinates.{columns}
-use Rattle.vector_laws.specs.PieceLaws.{IsSurface}
+use Rattle.surface_laws.specs.PieceLaws.{IsSurface}
 use Rattle.surface_pieces.specs.Arcs.{IsArcOf, IsOnlyArcOf}
 
 -- what is so of all the columns is so of the first nonzero one

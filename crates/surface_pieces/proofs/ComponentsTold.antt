@@ -12,11 +12,11 @@ use Rattle.table_definitions.proofs.TableLaws.{Among}
 use Rattle.surface_definitions.specs.declared.Coords.{Coords}
 use Rattle.surface_definitions.specs.Pieces.{piece_of, pieces_of, piece_number, AreComponents}
 use Rattle.vector_definitions.specs.Components.{Component, IsComponent, AreListedComponents}
-use Rattle.vector_laws.specs.PieceLaws.{IsSurface, AreMeetingPieces, JoinComponents}
-use Rattle.vector_laws.proofs.ComponentSurfaces.{piece_there}
+use Rattle.surface_laws.specs.PieceLaws.{IsSurface, AreMeetingPieces, JoinComponents}
+use Rattle.surface_laws.proofs.ComponentSurfaces.{piece_there}
 use Rattle.table_definitions.proofs.Listed.{below-among}
-use Rattle.vector_laws.proofs.MeetingPieces.{join_components}
-use Rattle.vector_laws.proofs.PieceNumbers.{no_piece, IsFound, piece_found, number-piece}
+use Rattle.surface_laws.proofs.MeetingPieces.{join_components}
+use Rattle.surface_laws.proofs.PieceNumbers.{no_piece, IsFound, piece_found, number-piece}
 use Rattle.surface_pieces.specs.declared.steps.Joining.TheVariants.{Pieces, Sides, Orientation}
 use Rattle.surface_pieces.specs.Joinings.{LeadsTo, ArePieceRows, AreSigned}
 use Rattle.surface_pieces.specs.Vectors.{AreVectors}

@@ -3,7 +3,7 @@ use Rattle.std.proofs.Common.{◌≡◌, ℕ, ◌+◌, List, [], ◌∷◌, ◌+
 use Rattle.std.proofs.lemmas.List.{map-append, append_assoc, append-nil}
 use Rattle.table_definitions.specs.Lists.{below}
 use Rattle.table_definitions.proofs.ListFacts.{below_next}
-use Rattle.vector_laws.proofs.PieceNumbers.{piece_at, of_column}
+use Rattle.surface_laws.proofs.PieceNumbers.{piece_at, of_column}
 
 pub piece_next : (c n : ℕ) → map (piece_at c) (below (n + 1)) ≡ map (piece_at c) (below n) ++ piece_at c n ∷ []
 piece_next c n = ap (map (piece_at c)) (below_next n) ∙ map-append (piece_at c) (below n) (n ∷ [])

@@ -8,13 +8,13 @@ use Rattle.surface_definitions.specs.Coordinates.{columns, columns_each}
 use Rattle.surface_definitions.specs.declared.Coords.{Coords}
 use Rattle.surface_definitions.specs.declared.Coords.TheVariants.{Standard, Quad, Octagon}
 use Rattle.surface_definitions.specs.Pieces.{SurfacePiece, Arc, arc_across, piece_of, piece_number, looks_positive, keeps_sides, Meets}
-use Rattle.vector_laws.specs.MatchingLaws.{HasTriangles}
-use Rattle.vector_laws.specs.PieceLaws.{IsSurface, face_of_arc, MeetsBack, IsPieceOf, turned_if}
-use Rattle.vector_laws.proofs.Glued.{IsGlued, glued_is}
-use Rattle.vector_laws.proofs.MeetingArcs.{meets_back}
-use Rattle.vector_laws.proofs.ComponentSurfaces.{piece_there}
-use Rattle.vector_laws.proofs.PieceNumbers.{piece_found}
-use Rattle.vector_laws.proofs.Offsets.{piece_numbers}
+use Rattle.surface_laws.specs.MatchingLaws.{HasTriangles}
+use Rattle.surface_laws.specs.PieceLaws.{IsSurface, face_of_arc, MeetsBack, IsPieceOf, turned_if}
+use Rattle.surface_laws.proofs.Glued.{IsGlued, glued_is}
+use Rattle.surface_laws.proofs.MeetingArcs.{meets_back}
+use Rattle.surface_laws.proofs.ComponentSurfaces.{piece_there}
+use Rattle.surface_laws.proofs.PieceNumbers.{piece_found}
+use Rattle.surface_laws.proofs.Offsets.{piece_numbers}
 use Rattle.surface_pieces.specs.declared.steps.Joining.{Joining}
 use Rattle.surface_pieces.specs.declared.steps.Joining.TheVariants.{Pieces, Sides, Orientation}
 use Rattle.surface_pieces.specs.Joinings.{stays_at, number_with, LeadsAt}

@@ -9,9 +9,9 @@ use Rattle.table_definitions.specs.Table.{Row}
 use Rattle.table_definitions.proofs.TableLaws.{Among}
 use Rattle.surface_definitions.specs.declared.Coords.{Coords}
 use Rattle.surface_definitions.specs.Pieces.{SurfacePiece, pieces_of}
-use Rattle.vector_laws.specs.PieceLaws.{IsSurface, IsPieceOf}
+use Rattle.surface_laws.specs.PieceLaws.{IsSurface, IsPieceOf}
 use Rattle.table_definitions.proofs.Listed.{among_contains, flat_map-among, map-among, below-among}
-use Rattle.vector_laws.proofs.PieceNumbers.{piece_at, no_piece, of_column}
+use Rattle.surface_laws.proofs.PieceNumbers.{piece_at, no_piece, of_column}
 use Rattle.walk_laws.specs.Joined.{present}
 use Rattle.walk_laws.proofs.Rows.{present_contains}
 use Rattle.surface_pieces.specs.declared.steps.Joining.{Joining}

@@ -9,9 +9,9 @@ use Rattle.table_definitions.specs.Classes.{IsNumbering}
 use Rattle.table_definitions.specs.Table.{Gluing, Row, way_back}
 use Rattle.surface_definitions.specs.declared.Coords.{Coords}
 use Rattle.surface_definitions.specs.Pieces.{Arc, arc_across, piece_of, pieces_of, piece_number, Meets, AreComponents, HasSigns}
-use Rattle.vector_laws.specs.PieceLaws.{IsSurface, face_of_arc, turned_if}
-use Rattle.vector_laws.proofs.PieceNumbers.{no_piece, number-piece}
-use Rattle.vector_laws.proofs.SignedSteps.{SignedStep, IsFreePiece, arc_found, sides_back, orientation_back, steps_below, steps_back, free_by_signs, signs_by_free}
+use Rattle.surface_laws.specs.PieceLaws.{IsSurface, face_of_arc, turned_if}
+use Rattle.surface_laws.proofs.PieceNumbers.{no_piece, number-piece}
+use Rattle.surface_laws.proofs.SignedSteps.{SignedStep, IsFreePiece, arc_found, sides_back, orientation_back, steps_below, steps_back, free_by_signs, signs_by_free}
 use Rattle.surface_pieces.specs.declared.steps.Joining.{Joining}
 use Rattle.surface_pieces.specs.declared.steps.Joining.TheVariants.{Pieces, Sides, Orientation}
 use Rattle.surface_pieces.specs.Joinings.{number_with, stays_at, LeadsTo, AreSignedRows, IsFree}

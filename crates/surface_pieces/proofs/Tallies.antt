@@ -10,7 +10,7 @@ use Rattle.vector_definitions.specs.Held.{all_entries}
 use Rattle.table_definitions.specs.Lists.{below}
 use Rattle.table_definitions.proofs.ListFacts.{sum_below_next}
 use Rattle.surface_definitions.specs.Pieces.{SurfacePiece, pieces_of, is_counted, component_vector}
-use Rattle.vector_laws.proofs.PieceNumbers.{no_piece}
+use Rattle.surface_laws.proofs.PieceNumbers.{no_piece}
 use Rattle.surface_pieces.specs.Vectors.{AreVectors}
 
 abbrev one_if : Bool → ℕ

@@ -5,7 +5,7 @@ use Rattle.table_definitions.specs.Table.{Gluing, Row}
 use Rattle.surface_definitions.specs.Coordinates.{columns}
 use Rattle.surface_definitions.specs.declared.Coords.{Coords}
 use Rattle.surface_definitions.specs.Pieces.{SurfacePiece, Arc, arc_across, piece_of, Meets}
-use Rattle.vector_laws.specs.PieceLaws.{IsPieceOf}
+use Rattle.surface_laws.specs.PieceLaws.{IsPieceOf}
 
 -- an arc round a vertex of a face of a tetrahedron of the vector
 pub record IsInside (coords : Coords) (xs : List ℕ) (a : Arc) : Type 0 where

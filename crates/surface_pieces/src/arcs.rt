@@ -5,7 +5,7 @@ ghost use Rattle.surface_definitions.specs.Coordinates as coordinates;
 ghost use Rattle.surface_definitions.specs.Pieces as pieces;
 ghost use Rattle.table_definitions.specs.Table as gluings;
 ghost use Rattle.vector_definitions.specs.Components.{most_pieces};
-ghost use Rattle.vector_laws.specs.PieceLaws.{IsSurface, IsPieceOf};
+ghost use Rattle.surface_laws.specs.PieceLaws.{IsSurface, IsPieceOf};
 ghost use Rattle.surface_pieces.specs.Arcs.{IsOnlyArcOf, HasNoArc};
 
 use crate::columns::{SurfaceArc, behind};

@@ -4,7 +4,7 @@ ghost use Rattle.std.specs.Prelude.{◌≡◌, ◌≢◌, ◌<◌, ◌≤◌, le
 ghost use Rattle.std.specs.List.{slice_index_or};
 ghost use Rattle.text_definitions.specs.Written.{limit};
 ghost use Rattle.vector_definitions.specs.Components.{most_pieces, AreListedComponents, IsPiecesAnswer};
-ghost use Rattle.vector_laws.specs.PieceLaws.{IsSurface};
+ghost use Rattle.surface_laws.specs.PieceLaws.{IsSurface};
 ghost use Rattle.surface_pieces.specs.Told.{no_component};
 
 use crate::counts::{all_pieces, entries_of, starts_of, total};

@@ -4,7 +4,7 @@ ghost use Rattle.std.specs.Prelude.{◌≡◌, ◌≢◌, ◌+◌, ◌*◌, ◌<
 ghost use Rattle.std.specs.List.{slice_index_or};
 ghost use Rattle.surface_definitions.specs.Pieces as pieces;
 ghost use Rattle.vector_definitions.specs.Components.{most_pieces};
-ghost use Rattle.vector_laws.specs.PieceLaws.{IsSurface};
+ghost use Rattle.surface_laws.specs.PieceLaws.{IsSurface};
 ghost use Rattle.surface_pieces.specs.Starts.{AreStarts};
 ghost use Rattle.surface_pieces.specs.Joinings.{IsFree, AreSigned};
 

@@ -4,7 +4,7 @@ ghost use Rattle.std.specs.Prelude.{◌≡◌, ◌≢◌, ◌+◌, ◌*◌, ◌<
 ghost use Rattle.table_definitions.specs.Permutation.{IsPermutationOfFour};
 ghost use Rattle.surface_definitions.specs.Pieces as pieces;
 ghost use Rattle.vector_definitions.specs.Components.{most_pieces};
-ghost use Rattle.vector_laws.specs.PieceLaws.{IsSurface, IsPieceOf, turned_if};
+ghost use Rattle.surface_laws.specs.PieceLaws.{IsSurface, IsPieceOf, turned_if};
 ghost use Rattle.surface_pieces.specs.Starts.{AreStarts};
 ghost use Rattle.surface_pieces.specs.Joinings.{LeadsAt, number_with};
 ghost use Rattle.surface_pieces.specs.Meetings.{IsMeetingAt, HasNoMeeting};

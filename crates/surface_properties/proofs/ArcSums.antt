@@ -8,7 +8,7 @@ use Rattle.table_definitions.specs.Table.{Row, glue, faces}
 use Rattle.skeleton_definitions.specs.Links.{is_first_side}
 use Rattle.surface_definitions.specs.declared.Coords.{Coords}
 use Rattle.surface_definitions.specs.Characteristic.{arcs, arcs_in}
-use Rattle.vector_laws.proofs.Counting.{sum_by_same, sum_by-map, sum_by-flat_map}
+use Rattle.surface_laws.proofs.Counting.{sum_by_same, sum_by-map, sum_by-flat_map}
 use Rattle.surface_properties.specs.Counted.{counted, counted_in}
 
 pub three_others : (r : ℕ → ℕ) (f : ℕ) → f < 4 → sum_by r (others f) ≡ r (slice_index (others f) 0) + r (slice_index (others f) 1) + r (slice_index (others f) 2)

@@ -8,8 +8,8 @@ use Rattle.surface_definitions.specs.Coordinates.{columns, arc_columns}
 use Rattle.surface_definitions.specs.Characteristic.{crossings}
 use Rattle.surface_definitions.specs.declared.Coords.{Coords}
 use Rattle.surface_definitions.specs.declared.Coords.TheVariants.{Standard, Quad, Octagon}
-use Rattle.vector_laws.specs.MatchingLaws.{HasTriangles}
-use Rattle.vector_laws.proofs.Solved.{arcs_in_range}
+use Rattle.surface_laws.specs.MatchingLaws.{HasTriangles}
+use Rattle.surface_laws.proofs.Solved.{arcs_in_range}
 
 triangles_of : (coords : Coords) → coords ≢ Quad → HasTriangles coords
 triangles_of Standard ne = tt

@@ -7,8 +7,8 @@ use Rattle.plain_facts.proofs.Numbers.{last_or_before}
 use Rattle.table_definitions.specs.Table.{Row, IsTable}
 use Rattle.table_definitions.specs.Places.{IsConnected, IsLeastUnreached}
 use Rattle.signature_definitions.specs.Spelling.{IsSignature}
-use Rattle.labelling_definitions.specs.Census.{table_in, IsCensus, IsPlaced}
-use Rattle.labelling_definitions.proofs.CensusLaws.{census_goes_on}
+use Rattle.signature_definitions.specs.Census.{table_in, IsCensus, IsPlaced}
+use Rattle.signature_definitions.proofs.CensusLaws.{census_goes_on}
 use Rattle.labelling_laws.proofs.Told.{tells_tables}
 use Rattle.canonical_labelling.specs.declared.walks.WalkFault.TheVariants as faults
 use Rattle.table_commands.specs.declared.groups.NotConnected.{NotConnected}

@@ -7,7 +7,7 @@ use Rattle.std.proofs.lemmas.List.Sorted.{length_permutation}
 use Rattle.table_definitions.specs.Lists.{below}
 use Rattle.table_definitions.specs.Table.{Row}
 use Rattle.table_definitions.specs.Relabelling.{Relabelling, stand_in}
-use Rattle.labelling_definitions.specs.Labellings.{IsLeastRelabelling}
+use Rattle.signature_definitions.specs.Labellings.{IsLeastRelabelling}
 use Rattle.outcome_definitions.specs.Canonical.{image_line}
 
 pub image_same : (by : Relabelling) (tet image : ℕ) (perm : List ℕ) → image ≡ slice_index by.images tet → perm ≡ slice_index_or by.perms tet []

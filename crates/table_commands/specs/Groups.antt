@@ -5,7 +5,7 @@ use Rattle.table_definitions.specs.Table.{Row, IsTable}
 use Rattle.table_definitions.specs.Places.{IsConnected, IsLeastUnreached}
 use Rattle.signature_definitions.specs.declared.InputFault.{InputFault}
 use Rattle.signature_definitions.specs.declared.InputFault.TheVariants.{NoMemory}
-use Rattle.labelling_definitions.specs.Census.{table_in, IsCensus}
+use Rattle.signature_definitions.specs.Census.{table_in, IsCensus}
 use Rattle.table_commands.specs.declared.groups.NotConnected.{NotConnected}
 use Rattle.table_commands.specs.declared.groups.Groups.{Groups}
 

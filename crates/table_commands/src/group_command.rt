@@ -1,7 +1,7 @@
 // The command `group`: the classes of tables.
 ghost use Rattle.std.specs.Prelude.{◌≡◌, ◌≤◌, ◌++◌, ◌^◌, List, length, slice_index, IfOk, OnOk};
 ghost use Rattle.table_definitions.specs.Table.{Row};
-ghost use Rattle.labelling_definitions.specs.Census.{signature_in};
+ghost use Rattle.signature_definitions.specs.Census.{signature_in};
 ghost use Rattle.document_definitions.specs.Documents.{tables_document};
 ghost use Rattle.outcome_definitions.specs.Outcomes.{IsReadOutcome};
 ghost use Rattle.outcome_definitions.specs.Information.{classes_text};
@@ -15,7 +15,7 @@ use no_memory::NoMemory;
 use outcome_definitions::Status;
 use signature_census::Census;
 use std::alloc::Global;
-use text_writing::{append, append_decimal};
+use text_io::{append, append_decimal};
 
 // The class of a table.
 fn append_class(alloc: Global, text: &mut Vec<u8>, table: usize, class: u32) -> Result<(), NoMemory>

@@ -5,7 +5,7 @@ ghost use Rattle.signature_definitions.specs.SignatureText.{any_table_at};
 ghost use Rattle.document_definitions.specs.Documents.{tables_from, tables_document};
 ghost use Rattle.table_commands.specs.Groups.{AreGrouped, GivesOneMore, GivesGroups, GivesGroupsDocument};
 
-use bench_io::Lexer;
+use text_io::Lexer;
 use canonical_labelling::WalkFault;
 use gluing_table::Table;
 use no_memory::NoMemory;

@@ -9,7 +9,7 @@ use command_answers::{append_counted, append_told, yes_or_no};
 use no_memory::NoMemory;
 use skeleton::Skeleton;
 use std::alloc::Global;
-use text_writing::{append, append_decimal, append_signed};
+use text_io::{append, append_decimal, append_signed};
 use vertex_links::{Link, LinkKind};
 
 fn place_word(in_boundary: bool) -> &'static [u8]

@@ -1,7 +1,7 @@
 // The command `same`: the least relabelling that carries the one table to the other.
 ghost use Rattle.std.specs.Prelude.{◌≡◌, ◌≤◌, ◌++◌, ◌^◌, length, IfOk, OnOk};
 ghost use Rattle.table_definitions.specs.Relabelling.{stand_in};
-ghost use Rattle.labelling_definitions.specs.Labellings.{IsLeastRelabelling};
+ghost use Rattle.signature_definitions.specs.Labellings.{IsLeastRelabelling};
 ghost use Rattle.document_definitions.specs.Documents.{two_tables_document};
 ghost use Rattle.outcome_definitions.specs.Outcomes.{IsReadOutcome};
 ghost use Rattle.outcome_definitions.specs.Information.{classes_text};
@@ -15,7 +15,7 @@ use no_memory::NoMemory;
 use outcome_definitions::Status;
 use perm_four::Perm4;
 use std::alloc::Global;
-use text_writing::{append, append_decimal};
+use text_io::{append, append_decimal};
 
 // The line of a tetrahedron: its number, its number in the second table, and where its vertices go.
 fn append_image(

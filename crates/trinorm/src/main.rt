@@ -1,7 +1,7 @@
 //! The program: its words, its standard input and output, and its exit status.
 #![tactic(auto)]
 
-use bench_io::{StdSink, StdSource, Words};
+use text_io::{StdSink, StdSource, Words};
 use std::process::ExitCode;
 use std::{env, io};
 use workbench::{exit_code, run};

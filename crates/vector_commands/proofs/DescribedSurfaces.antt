@@ -16,9 +16,9 @@ use Rattle.vector_definitions.specs.Components.{Component, IsComponent, AreListe
 use Rattle.vector_definitions.specs.Properties.{first_large, large_sum}
 use Rattle.vector_definitions.specs.declared.Sum.{Sum}
 use Rattle.vector_definitions.specs.declared.Sum.TheVariants.{Points, Arcs, PointsAndPieces}
-use Rattle.vector_laws.specs.CharacteristicLaws.{ComponentSumsAre}
-use Rattle.vector_laws.proofs.ComponentSums.{component_sums}
-use Rattle.vector_laws.proofs.ComponentCounts.{component_width}
+use Rattle.surface_laws.specs.CharacteristicLaws.{ComponentSumsAre}
+use Rattle.surface_laws.proofs.ComponentSums.{component_sums}
+use Rattle.surface_laws.proofs.ComponentCounts.{component_width}
 use Rattle.surface_properties.proofs.LargeSums.{none_large}
 use Rattle.surface_pieces.specs.Told.{no_component}
 use Rattle.vector_commands.specs.Describing.{AreSmall}

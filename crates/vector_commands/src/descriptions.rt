@@ -17,7 +17,7 @@ use skeleton::Skeleton;
 use std::alloc::Global;
 use surface_pieces::Pieces;
 use surface_properties::{Properties, properties_of};
-use text_writing::{append, append_decimal};
+use text_io::{append, append_decimal};
 
 fn sides(two_sided: bool) -> &'static [u8]
     ensures { result.now ≡ texts.sides_word two_sided }

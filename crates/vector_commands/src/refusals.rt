@@ -10,7 +10,7 @@ use no_memory::NoMemory;
 use outcome_definitions::Status;
 use std::alloc::Global;
 use surface_definitions::VectorFault;
-use text_writing::{append, append_decimal};
+use text_io::{append, append_decimal};
 use vector_definitions::{Refusal, Sum};
 
 /// Why nothing is told of a vector.

@@ -8,7 +8,7 @@ use Rattle.surface_definitions.specs.Characteristic.{euler}
 use Rattle.surface_definitions.specs.declared.Coords.{Coords}
 use Rattle.vector_definitions.specs.Properties.{AreProperties}
 use Rattle.vector_definitions.specs.declared.Properties.{Properties}
-use Rattle.vector_laws.specs.MatchingLaws.{HasTriangles}
+use Rattle.surface_laws.specs.MatchingLaws.{HasTriangles}
 use Rattle.quad_laws.specs.LinkLaws.{link_of}
 use Rattle.quad_lift_laws.specs.Laws.{HasLink}
 use Rattle.vertex_link_laws.specs.Laws.{HasEdgesAndTriangles, IsInvalidAt, HasOneMoreForEach}

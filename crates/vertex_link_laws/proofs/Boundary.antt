@@ -14,12 +14,12 @@ use Rattle.table_definitions.proofs.TableLaws.{Among, Among-map, Among-below}
 use Rattle.skeleton_definitions.specs.Links.{vertex_number, sides, is_closed_link}
 use Rattle.surface_definitions.specs.Characteristic.{arcs_in, meets_boundary}
 use Rattle.surface_definitions.specs.declared.Coords.{Coords}
-use Rattle.vector_laws.specs.CharacteristicLaws.{HasBoundaryArc}
-use Rattle.vector_laws.specs.MatchingLaws.{HasTriangles}
-use Rattle.vector_laws.proofs.Glued.{face_at}
-use Rattle.vector_laws.proofs.LinkingLemmas.{all_test, boundary}
-use Rattle.vector_laws.proofs.Solved.{other_is}
-use Rattle.vector_laws.proofs.Vertices.{number-vertex}
+use Rattle.surface_laws.specs.CharacteristicLaws.{HasBoundaryArc}
+use Rattle.surface_laws.specs.MatchingLaws.{HasTriangles}
+use Rattle.surface_laws.proofs.Glued.{face_at}
+use Rattle.surface_laws.proofs.LinkingLemmas.{all_test, boundary}
+use Rattle.surface_laws.proofs.Solved.{other_is}
+use Rattle.surface_laws.proofs.Vertices.{number-vertex}
 use Rattle.quad_laws.specs.LinkLaws.{vertex_link}
 use Rattle.quad_laws.proofs.VertexLinks.{member}
 use Rattle.vertex_link_laws.proofs.Triangles.{arcs_in-link}

@@ -14,12 +14,12 @@ use Rattle.skeleton_definitions.specs.Links.{vertex_number}
 use Rattle.skeleton_definitions.specs.Skeleton.{Skeleton, IsSkeleton}
 use Rattle.surface_definitions.specs.Pieces.{SurfacePiece, Arc, pieces_of, piece_number, piece_of, ArcsLead, SamePiece, AreComponents, component_vector}
 use Rattle.surface_definitions.specs.declared.Coords.{Coords}
-use Rattle.vector_laws.specs.MatchingLaws.{HasTriangles}
-use Rattle.vector_laws.proofs.ComponentCounts.{component_width, components_add_up}
-use Rattle.vector_laws.proofs.Glued.{IsGlued, glued_is, face_at}
-use Rattle.vector_laws.proofs.PieceChains.{leads_further}
-use Rattle.vector_laws.proofs.PieceNumbers.{no_piece, IsFound, piece_found}
-use Rattle.vector_laws.proofs.Vertices.{one_vertex, vertex_is, number-vertex, IsCrossed, crossed_is, class_across}
+use Rattle.surface_laws.specs.MatchingLaws.{HasTriangles}
+use Rattle.surface_laws.proofs.ComponentCounts.{component_width, components_add_up}
+use Rattle.surface_laws.proofs.Glued.{IsGlued, glued_is, face_at}
+use Rattle.surface_laws.proofs.PieceChains.{leads_further}
+use Rattle.surface_laws.proofs.PieceNumbers.{no_piece, IsFound, piece_found}
+use Rattle.surface_laws.proofs.Vertices.{one_vertex, vertex_is, number-vertex, IsCrossed, crossed_is, class_across}
 use Rattle.quad_laws.specs.LinkLaws.{link_of}
 use Rattle.vertex_link_laws.proofs.Pieces.{triangle, IsMember, IsTriangle, IsLinkArc, triangle_there, piece_is, piece_of_arc, piece_across, arc_is, arc_in, arc_there}
 

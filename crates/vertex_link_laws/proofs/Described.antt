@@ -7,7 +7,7 @@ use Rattle.skeleton_definitions.specs.Skeleton.{Skeleton, IsSkeleton}
 use Rattle.skeleton_definitions.specs.declared.Link.{Link}
 use Rattle.surface_definitions.specs.declared.Coords.{Coords}
 use Rattle.vector_definitions.specs.Components.{Component, IsComponent, AreListedComponents}
-use Rattle.vector_laws.specs.MatchingLaws.{HasTriangles}
+use Rattle.surface_laws.specs.MatchingLaws.{HasTriangles}
 use Rattle.quad_laws.specs.LinkLaws.{link_of}
 use Rattle.quad_lift_laws.specs.Laws.{HasLink}
 use Rattle.vertex_link_laws.specs.Laws.{IsOneComponentOfLink}

@@ -16,11 +16,11 @@ use Rattle.surface_definitions.specs.Coordinates.{columns, columns_each, tri_col
 use Rattle.surface_definitions.specs.Pieces.{SurfacePiece, Arc, pieces_of, piece_number, piece_of, arcs_round, arc_across, is_triangle_arc, triangles_round, looks_positive, keeps_by_zero, type_in, further_column, further_piece, Meets, keeps_sides}
 use Rattle.surface_definitions.specs.declared.Coords.{Coords}
 use Rattle.surface_definitions.specs.declared.Coords.TheVariants.{Standard, Quad, Octagon}
-use Rattle.vector_laws.specs.MatchingLaws.{HasTriangles}
-use Rattle.vector_laws.specs.PieceLaws.{IsSurface, IsPieceOf, MeetsBack, face_of_arc}
-use Rattle.vector_laws.proofs.Glued.{IsGlued, glued_is}
-use Rattle.vector_laws.proofs.MeetingArcs.{meets_back}
-use Rattle.vector_laws.proofs.PieceNumbers.{piece_at, no_piece, of_column, IsFound, piece_found}
+use Rattle.surface_laws.specs.MatchingLaws.{HasTriangles}
+use Rattle.surface_laws.specs.PieceLaws.{IsSurface, IsPieceOf, MeetsBack, face_of_arc}
+use Rattle.surface_laws.proofs.Glued.{IsGlued, glued_is}
+use Rattle.surface_laws.proofs.MeetingArcs.{meets_back}
+use Rattle.surface_laws.proofs.PieceNumbers.{piece_at, no_piece, of_column, IsFound, piece_found}
 use Rattle.quad_laws.specs.LinkLaws.{link_of}
 use Rattle.quad_laws.proofs.LinkSums.{by_column}
 use Rattle.quad_laws.proofs.VertexLinks.{member, length-link, triangle-link, others-link, link_surface}

@@ -15,9 +15,9 @@ use Rattle.skeleton_definitions.specs.Links.{directed, SameDirected, vertex_numb
 use Rattle.skeleton_definitions.specs.Skeleton.{Skeleton, IsSkeleton}
 use Rattle.surface_definitions.specs.Characteristic.{points, weight}
 use Rattle.surface_definitions.specs.declared.Coords.{Coords}
-use Rattle.vector_laws.specs.MatchingLaws.{HasTriangles}
-use Rattle.vector_laws.proofs.Sums.{sum_by_plus}
-use Rattle.vector_laws.proofs.Counting.{sum_by_same, sum_swap, one_term}
+use Rattle.surface_laws.specs.MatchingLaws.{HasTriangles}
+use Rattle.surface_laws.proofs.Sums.{sum_by_plus}
+use Rattle.surface_laws.proofs.Counting.{sum_by_same, sum_swap, one_term}
 use Rattle.quad_laws.specs.LinkLaws.{link_of}
 use Rattle.quad_laws.proofs.InnerEdges.{two, start_below, start_class}
 use Rattle.quad_laws.proofs.VertexLinks.{member}

@@ -15,11 +15,11 @@ use Rattle.surface_definitions.specs.Coordinates.{columns_each, tri_column}
 use Rattle.surface_definitions.specs.Pieces.{SurfacePiece, Arc, pieces_of, piece_number, piece_of, arc_across, Meets, AreComponents, IsTwoSided, IsOrientableComponent, keeps_sides}
 use Rattle.surface_definitions.specs.declared.Coords.{Coords}
 use Rattle.surface_definitions.specs.declared.Coords.TheVariants.{Standard, Quad, Octagon}
-use Rattle.vector_laws.specs.MatchingLaws.{HasTriangles}
-use Rattle.vector_laws.specs.PieceLaws.{face_of_arc}
-use Rattle.vector_laws.proofs.Glued.{IsGlued, glued_is, face_at}
-use Rattle.vector_laws.proofs.PieceNumbers.{no_piece, IsFound, piece_found}
-use Rattle.vector_laws.proofs.Vertices.{class_across}
+use Rattle.surface_laws.specs.MatchingLaws.{HasTriangles}
+use Rattle.surface_laws.specs.PieceLaws.{face_of_arc}
+use Rattle.surface_laws.proofs.Glued.{IsGlued, glued_is, face_at}
+use Rattle.surface_laws.proofs.PieceNumbers.{no_piece, IsFound, piece_found}
+use Rattle.surface_laws.proofs.Vertices.{class_across}
 use Rattle.quad_laws.specs.LinkLaws.{link_of}
 use Rattle.vertex_link_laws.proofs.Components.{in_first}
 use Rattle.vertex_link_laws.proofs.Pieces.{triangle, IsMember, IsLinkArc, triangle_there, arc_is, arc_in, arc_there, piece_of_arc, piece_across, sides_kept}

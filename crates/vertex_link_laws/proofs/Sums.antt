@@ -8,8 +8,8 @@ use Rattle.std.proofs.lemmas.List.FromFn.{length-range_with_len, get_or-range_wi
 use Rattle.table_definitions.specs.Lists.{below}
 use Rattle.table_definitions.proofs.Listed.{below-among}
 use Rattle.table_definitions.proofs.ListFacts.{sum_below_next}
-use Rattle.vector_laws.proofs.Counting.{sum_by_same, one_term, below_sum}
-use Rattle.vector_laws.proofs.Sums.{sum_by_plus}
+use Rattle.surface_laws.proofs.Counting.{sum_by_same, one_term, below_sum}
+use Rattle.surface_laws.proofs.Sums.{sum_by_plus}
 
 abbrev pub bit : Bool → ℕ
 bit b = cond b 1 0

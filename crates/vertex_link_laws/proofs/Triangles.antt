@@ -10,9 +10,9 @@ use Rattle.surface_definitions.specs.Characteristic.{arcs_in}
 use Rattle.surface_definitions.specs.Pieces.{arcs_round}
 use Rattle.surface_definitions.specs.declared.Coords.{Coords}
 use Rattle.surface_definitions.specs.declared.Coords.TheVariants.{Standard, Quad, Octagon}
-use Rattle.vector_laws.specs.MatchingLaws.{HasTriangles}
-use Rattle.vector_laws.proofs.Counting.{sum_by_same, sum_by-none, over_places, below_sum}
-use Rattle.vector_laws.proofs.Solved.{other_is}
+use Rattle.surface_laws.specs.MatchingLaws.{HasTriangles}
+use Rattle.surface_laws.proofs.Counting.{sum_by_same, sum_by-none, over_places, below_sum}
+use Rattle.surface_laws.proofs.Solved.{other_is}
 use Rattle.quad_laws.specs.LinkLaws.{vertex_link}
 use Rattle.quad_laws.proofs.BareArcs.{IsBare, arcs_alone}
 use Rattle.quad_laws.proofs.VertexLinks.{member, length-link, triangle-link, others-link}

@@ -8,7 +8,7 @@ use Rattle.surface_definitions.specs.Coordinates.{tri_column, quad_column, oct_c
 use Rattle.surface_definitions.specs.Characteristic.{crossings, weight}
 use Rattle.surface_definitions.specs.declared.Coords.{Coords}
 use Rattle.surface_definitions.specs.declared.Coords.TheVariants.{Standard, Quad, Octagon}
-use Rattle.vector_laws.specs.MatchingLaws.{HasTriangles}
+use Rattle.surface_laws.specs.MatchingLaws.{HasTriangles}
 use Rattle.quad_laws.specs.LinkLaws.{vertex_link}
 use Rattle.quad_laws.proofs.BareArcs.{IsBare}
 use Rattle.quad_laws.proofs.VertexLinks.{member, triangle-link}

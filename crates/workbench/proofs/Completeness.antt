@@ -1,7 +1,7 @@
 -- What a run answers to a document of `surfaces` or `rays`, whatever its status.
 use Rattle.std.proofs.Common.{◌≡◌, ◌≤◌, ℕ, List, length, Option, Some, None, Ok, inl, inr, refl, ◌∙◌, ap, subst}
 use Rattle.std.specs.Prelude.{◌⊎◌, IfSome, codes}
-use Rattle.bench_io.specs.Causes.{Grows}
+use Rattle.text_io.specs.Causes.{Grows}
 use Rattle.cone_text_definitions.specs.ConeText.{Cone as ConeText}
 use Rattle.cone_definitions.specs.declared.Order.{Order}
 use Rattle.table_definitions.specs.Table.{Row}

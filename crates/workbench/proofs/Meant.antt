@@ -1,7 +1,7 @@
 -- What the outcome of words and of an input means, or that the run was cut short.
 use Rattle.std.proofs.Common.{◌≡◌, ◌≤◌, ◌↔◌, ℕ, false, List, [], length, Option, Some, None, Result, Ok, inl, inr, sym, ◌∙◌, ap, subst}
 use Rattle.std.specs.Prelude.{◌⊎◌, IfSome, All}
-use Rattle.bench_io.specs.Causes.{Grows}
+use Rattle.text_io.specs.Causes.{Grows}
 use Rattle.signature_definitions.specs.declared.InputFault.{InputFault}
 use Rattle.cone_definitions.specs.Rows.{Row as EquationRow}
 use Rattle.table_definitions.specs.Table.{Row}

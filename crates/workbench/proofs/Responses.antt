@@ -2,7 +2,7 @@
 use Rattle.std.proofs.Common.{◌≡◌, ℕ, ◌≤◌, ◌<◌, ◌-◌, ◌^◌, Bool, true, false, inl, inr, List, ◌++◌, length, Option, Some, None, Result, Ok, Err, sym, ◌∙◌, ap, subst, true≢false, append-nil, arith}
 use Rattle.std.specs.Prelude.{IfSome}
 use Rattle.std.proofs.lemmas.Bool.{cases_order}
-use Rattle.bench_io.specs.Causes.{Takes, IsEnded}
+use Rattle.text_io.specs.Causes.{Takes, IsEnded}
 use Rattle.std.specs.Bool.{MatchBool}
 use Rattle.command_definitions.specs.declared.Request.{Request}
 use Rattle.command_definitions.specs.Requests.{reads_input}

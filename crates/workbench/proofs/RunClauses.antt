@@ -1,7 +1,7 @@
 -- What was delivered is the outcome of the words and of the input, or a prefix of what was due.
 use Rattle.std.proofs.Common.{◌≡◌, ℕ, inl, inr, List, Option, Some, None, sym, ◌∙◌, ap, subst}
 use Rattle.std.specs.Prelude.{IfSome}
-use Rattle.bench_io.specs.Causes.{Grows}
+use Rattle.text_io.specs.Causes.{Grows}
 use Rattle.command_definitions.specs.declared.Request.{Request}
 use Rattle.command_definitions.specs.Words.{accepted_request}
 use Rattle.outcome_definitions.specs.declared.Status.{Status}

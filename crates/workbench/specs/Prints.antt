@@ -1,6 +1,6 @@
 -- What a run that is done has printed, command by command.
 use Rattle.std.specs.Prelude.{◌≡◌, ◌⊎◌, ◌≤◌, ℕ, List, [], map, length, Option, Result, Ok, IfSome, codes}
-use Rattle.bench_io.specs.Causes.{Grows}
+use Rattle.text_io.specs.Causes.{Grows}
 use Rattle.signature_definitions.specs.declared.InputFault.{InputFault}
 use Rattle.table_definitions.specs.Table.{Row}
 use Rattle.cone_definitions.specs.Rows.{Row as EquationRow}

@@ -1,6 +1,6 @@
 -- What a run answers, over what is read and what is written.
 use Rattle.std.specs.Prelude.{◌≡◌, ℕ, ◌-◌, ◌^◌, ◌<◌, ◌≤◌, ◌+◌, true, false, List, [], length, take, Option, Some, None, ◌⊎◌, ⊤, IfSome}
-use Rattle.bench_io.specs.Causes.{Grows, Rose, IsEnded}
+use Rattle.text_io.specs.Causes.{Grows, Rose, IsEnded}
 use Rattle.outcome_definitions.specs.declared.Status.{Status}
 use Rattle.outcome_definitions.specs.declared.Status.TheVariants.{Done, Usage, Input, Refused, Large, ReadFault, WriteFault, NoMemory}
 use Rattle.command_definitions.specs.declared.Request.{Request}

@@ -1,6 +1,6 @@
 // The one call that does all that the program does.
 ghost use Rattle.std.specs.Prelude.{◌≡◌, ◌↔◌, ◌⊎◌, ◌-◌, ◌^◌, ◌<◌, ◌≤◌, ℕ, true, false, List, [], None, Some, Ok, length, IfOk, IfSome, OnErr, All};
-ghost use Rattle.bench_io.specs.Causes.{Grows, Rose, IsEnded};
+ghost use Rattle.text_io.specs.Causes.{Grows, Rose, IsEnded};
 ghost use Rattle.outcome_definitions.specs.Lines.{read_line, usage_line};
 ghost use Rattle.text_definitions.specs.Written.{limit};
 ghost use Rattle.cone_text_definitions.specs.ConeText.{Cone as ConeText};
@@ -27,7 +27,7 @@ ghost use Rattle.answer_laws.specs.Scripts.{IsPlayed};
 ghost use Rattle.workbench.specs.Prints.{PrintsSurfaces, PrintsRays, PrintsVerdicts, ListsSurfaces, IsCutShort, Writes, WritesOf, AnswersSurfaces, AnswersRays};
 ghost use Rattle.workbench.specs.Runs.{Answers, IsAnswered, IsCalm, IsWithin, IsResponse, IsWithoutMemory, IsCutOff, IsDue, IsDelivered};
 
-use bench_io::{ReadEnd, Sink, Source, Words, read_all, write_all};
+use text_io::{ReadEnd, Sink, Source, Words, read_all, write_all};
 use certificate_commands::{check, descend};
 use command_answers::Outcome;
 use command_words::{Request, WordsFault, read_words};

@@ -5,7 +5,7 @@ ghost use Rattle.outcome_definitions.specs.Answers.{IsOutcome};
 ghost use Rattle.workbench.specs.Runs.{IsAnswered};
 
 use crate::dispatch::run;
-use bench_io::{NullSink, SteadySource, Words};
+use text_io::{NullSink, SteadySource, Words};
 use outcome_definitions::Status;
 use std::alloc::Global;
 

@@ -8,7 +8,7 @@ use Rattle.table_definitions.specs.Table.{Row, IsTable}
 use Rattle.surface_definitions.specs.Coordinates.{clash_list}
 use Rattle.surface_definitions.specs.Equations.{glued_pairs, matching_equations, matching_rows}
 use Rattle.surface_definitions.specs.declared.Coords.TheVariants.{Standard}
-use Rattle.vector_laws.specs.PieceLaws.{IsSurface}
+use Rattle.surface_laws.specs.PieceLaws.{IsSurface}
 
 abbrev pub free : List Row
 free = (None ∷ None ∷ None ∷ None ∷ []) ∷ []

@@ -1,4 +1,4 @@
-use bench_io::{LexFault, LexKind, Lexer, Place};
+use text_io::{LexFault, LexKind, Lexer, Place};
 use cone_core::{
     CombineFault, ConeFault, MAX_ENTRY, Passed, Ray, SolutionFault, SparseRow, System, combine,
     compare, gcd, is_solution, read_cone,

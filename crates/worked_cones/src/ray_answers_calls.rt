@@ -1,4 +1,4 @@
-use bench_io::Lexer;
+use text_io::Lexer;
 use cone_core::{MAX_ENTRY, Ray, read_cone};
 use double_description::Order;
 use ray_answers::{rays, write_entries, write_list, write_vector};

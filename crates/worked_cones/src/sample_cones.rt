@@ -1,7 +1,7 @@
 //! The cones, and the tables of small signatures, that several calls are tried on.
 ghost use Rattle.std.specs.Prelude.{◌≤◌, ◌^◌, length};
 
-use bench_io::Lexer;
+use text_io::Lexer;
 use cone_core::{ConeFault, Ray, System, read_cone};
 use signature_codec::read_signature;
 use skeleton::Skeleton;

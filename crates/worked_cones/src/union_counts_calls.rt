@@ -1,6 +1,6 @@
 use no_memory::NoMemory;
 use support_bits::Support;
-use union_counts::union_count;
+use support_table::union_count;
 
 #[test]
 fn counts_each_column_once(rt: HostRuntime) -> Result<(), NoMemory> {

@@ -1,7 +1,7 @@
 // A run over memory.
 ghost use Rattle.std.specs.Prelude.{◌<◌};
 
-use bench_io::{MemorySink, MemorySource, Words};
+use text_io::{MemorySink, MemorySource, Words};
 use std::alloc::Global;
 use std::process::Abort;
 use std::test::Fail;

@@ -1,6 +1,6 @@
 ghost use Rattle.std.specs.Prelude.{◌<◌, length};
 
-use bench_io::{
+use text_io::{
     Failed, LexFault, LexKind, Lexer, MemorySink, MemorySource, NullSink, Place, ReadEnd, StdSink,
     StdSource, SteadySource, Words, read_all, write_all,
 };

@@ -1,4 +1,4 @@
-use bench_io::Words;
+use text_io::Words;
 use command_words::{Coords, Order, Request, WordsFault, read_words};
 use std::alloc::Global;
 

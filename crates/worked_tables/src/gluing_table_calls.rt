@@ -1,7 +1,7 @@
 ghost use Rattle.std.specs.Prelude.{◌≡◌, length};
 
 use crate::sample_tables::{BALL, by, sphere_row, table_of, text_of};
-use bench_io::Lexer;
+use text_io::Lexer;
 use gluing_table::{
     Face, Glue, Probe, Relabelling, RelabellingFault, Table, TableFault, TextFault, read_rows,
 };

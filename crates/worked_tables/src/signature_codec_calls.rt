@@ -1,5 +1,5 @@
 use crate::sample_tables::text_of;
-use bench_io::Lexer;
+use text_io::Lexer;
 use gluing_table::{Glue, Table};
 use perm_four::Perm4;
 use signature_codec::{SigFault, SpellFault, read_any, read_signature, spell};

@@ -6,3 +6,10 @@ pub mod LiftEntries
 pub mod Lifts
 pub mod Tables
 pub mod Covers
+pub mod WrittenMoves
+pub mod Accepted
+pub mod WrittenBlocks
+pub mod SmallNumbers
+pub mod TermVerdicts
+pub mod AddedUp
+pub mod ReadAgain

@@ -16,18 +16,18 @@ use Rattle.surface_definitions.specs.Coordinates.{columns, tri_column, quad_colu
 use Rattle.surface_definitions.specs.declared.Coords.TheVariants.{Standard, Quad}
 use Rattle.surface_definitions.specs.Equations.{matching, Holds}
 use Rattle.surface_definitions.specs.Lift.{IsLiftAt}
-use Rattle.vector_laws.specs.LiftLaws.{IsLiftOf}
-use Rattle.vector_laws.proofs.Glued.{IsGlued, glued_is}
-use Rattle.vector_laws.proofs.Lifts.{lift_matched}
-use Rattle.vector_laws.proofs.Quads.{projected_at}
-use Rattle.vector_laws.proofs.Turns.{keeping_below}
-use Rattle.vector_laws.proofs.CornerSteps.{left_through}
+use Rattle.surface_laws.specs.LiftLaws.{IsLiftOf}
+use Rattle.surface_laws.proofs.Glued.{IsGlued, glued_is}
+use Rattle.surface_laws.proofs.Lifts.{lift_matched}
+use Rattle.surface_laws.proofs.Quads.{projected_at}
+use Rattle.surface_laws.proofs.Turns.{keeping_below}
+use Rattle.surface_laws.proofs.CornerSteps.{left_through}
 use Rattle.quad_lift_laws.proofs.DualTree.{beyond, triangles_seen, IsHung, hung}
 use Rattle.quad_lift_laws.proofs.Flags.{IsVertexClass, IsFlag, mate_by, triangle_of}
 use Rattle.quad_lift_laws.proofs.Growing.{only_one, seen_apart, seen_within}
 use Rattle.quad_lift_laws.proofs.SideLists.{member_listed}
 use Rattle.written_answer_laws.specs.Lifts.{LiftsAreWithin}
-use Rattle.vector_laws.proofs.ThreeSums.{three_of}
+use Rattle.surface_laws.proofs.ThreeSums.{three_of}
 use Rattle.written_answer_laws.proofs.Besides.{beside, one_of_three, apart_sum, all_beside}
 
 -- the triangles round vertex i

@@ -18,9 +18,9 @@ use Rattle.vector_definitions.specs.Answers.{IsLifted, AreTold}
 use Rattle.vector_definitions.specs.Texts.{lifts_text}
 use Rattle.vector_definitions.specs.declared.Refusal.{Refusal}
 use Rattle.vector_definitions.specs.declared.Refusal.TheVariants.{Unfit, LargeSum, TooManyPieces, LargeLift, NoLift}
-use Rattle.vector_laws.specs.LiftLaws.{IsLiftOf}
-use Rattle.vector_laws.specs.PieceLaws.{IsSurface}
-use Rattle.vector_laws.proofs.LiftLemmas.{lift_solves, lift_projects, quads_admissible}
+use Rattle.surface_laws.specs.LiftLaws.{IsLiftOf}
+use Rattle.surface_laws.specs.PieceLaws.{IsSurface}
+use Rattle.surface_laws.proofs.LiftLemmas.{lift_solves, lift_projects, quads_admissible}
 use Rattle.surface_definitions.specs.Equations.{matching_rows}
 use Rattle.document_definitions.specs.Documents.{vectors_document}
 use Rattle.document_laws.proofs.Documents.{vectors_document_read}

@@ -6,7 +6,7 @@ use Rattle.surface_definitions.specs.declared.VectorFault.TheVariants as faults
 use Rattle.vector_definitions.specs.Answers.{IsCrushedAlong}
 use Rattle.vector_definitions.specs.declared.Refusal.{Refusal}
 use Rattle.vector_definitions.specs.declared.Refusal.TheVariants.{Unfit, LargeSum, TooManyPieces, LargeLift, NoLift}
-use Rattle.vector_laws.proofs.CrushedRows.{crushed_is_table}
+use Rattle.surface_laws.proofs.CrushedRows.{crushed_is_table}
 use Rattle.cone_definitions.specs.Rows.{Row as EquationRow}
 use Rattle.certificate_definitions.specs.Answers.{DescentAnswer, IsDescentAnswer}
 use Rattle.move_laws.proofs.Played.{all_led_table}
@@ -20,8 +20,8 @@ use Rattle.outcome_definitions.specs.Certificates.{descend_outcome, IsDescendAns
 use Rattle.outcome_laws.proofs.Certified.{table_alone}
 use Rattle.outcome_laws.proofs.ReadPairs.{table_with_vector}
 use Rattle.written_laws.proofs.WrittenDocuments.{written_table_read}
-use Rattle.written_certificate_laws.proofs.WrittenMoves.{written_moves_read}
-use Rattle.written_certificate_laws.proofs.Accepted.{reached_accepted}
+use Rattle.written_answer_laws.proofs.WrittenMoves.{written_moves_read}
+use Rattle.written_answer_laws.proofs.Accepted.{reached_accepted}
 use Rattle.answer_laws.proofs.Asked.{answer_to, answer_to_value}
 use Rattle.crushing_laws.proofs.Linking.{nothing_else_is_crushed}
 use Rattle.written_answer_laws.specs.Tables.{IsReadAsCrushed, CrushedAreRead, IsDescentRead, DescentsAreRead}

@@ -7,8 +7,8 @@ use Rattle.skeleton_definitions.specs.Skeleton.{Skeleton, IsSkeleton}
 use Rattle.surface_definitions.specs.Coordinates.{columns}
 use Rattle.surface_definitions.specs.declared.Coords.TheVariants.{Standard, Quad}
 use Rattle.surface_definitions.specs.Equations.{matching_rows}
-use Rattle.vector_laws.specs.LiftLaws.{IsLiftOf}
-use Rattle.vector_laws.specs.PieceLaws.{IsSurface}
+use Rattle.surface_laws.specs.LiftLaws.{IsLiftOf}
+use Rattle.surface_laws.specs.PieceLaws.{IsSurface}
 use Rattle.document_definitions.specs.Documents.{vectors_document}
 use Rattle.command_definitions.specs.declared.Request.TheVariants.{Lift, Verify}
 use Rattle.outcome_definitions.specs.declared.Status.TheVariants.{Done}

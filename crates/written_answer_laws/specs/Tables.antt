@@ -12,7 +12,7 @@ use Rattle.outcome_definitions.specs.Canonical.{done}
 use Rattle.outcome_definitions.specs.Certificates.{descent_text}
 use Rattle.answer_laws.specs.Asked.{IsOutcomeTo}
 use Rattle.crushing_laws.specs.Laws.{HasNoQuads}
-use Rattle.written_certificate_laws.specs.Laws.{moves_behind, IsAccepted}
+use Rattle.written_answer_laws.specs.Certificates.{moves_behind, IsAccepted}
 
 -- the text is read as the crushed table, which is the table itself where the vector has no quads
 pub record IsReadAsCrushed (rows : List Row) (xs text : List ℕ) : Type 0 where

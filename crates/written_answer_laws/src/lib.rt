@@ -7,6 +7,8 @@ ghost use Rattle.written_answer_laws.specs.Surfaces.{SurfacesAreRead, SurfacesAr
 ghost use Rattle.written_answer_laws.specs.Lifts.{LiftsAreWithin, LiftsAreRead, LiftsAreVerified};
 ghost use Rattle.written_answer_laws.specs.Tables.{CrushedAreRead, DescentsAreRead};
 ghost use Rattle.written_answer_laws.specs.Covers.{CoversAreRead};
+ghost use Rattle.written_answer_laws.specs.Certificates.{WrittenMovesAreRead, AcceptedAreCertificates, CertificatesAreAccepted, ReachedDescentsAreAccepted, MadeTablesAreAccepted};
+ghost use Rattle.written_answer_laws.specs.Sums.{DecomposedAreTold, WrittenSumsAreRead, SumsAreAcceptedUnlessLarge, WholeSumsAreAccepted, DecomposedAreReadAgain};
 
 /// What `surfaces` lists, behind what is written for its table, is read as the table and all its vertex surfaces: no entry of
 /// a listed vector is above the limit of its enumeration.
@@ -45,4 +47,40 @@ pub fn descents_are_read()
 /// What is told of a cover is read as the cover's table, so it is a document of `info`.
 pub fn covers_are_read()
     ensures { CoversAreRead }
+{}
+
+/// What is written for a table and moves that lead from it is read as them.
+pub fn certificates_are_read()
+    ensures { WrittenMovesAreRead }
+{}
+
+/// Moves are accepted exactly where they are a certificate.
+pub fn accepted_are_certificates()
+    ensures { AcceptedAreCertificates }
+{}
+
+/// What is written for a certificate is accepted, and so are the moves of a descent that reached the
+/// standard sphere, and those of a table that was made.
+pub fn certificates_are_accepted()
+    ensures certificates { CertificatesAreAccepted }
+    ensures descents { ReachedDescentsAreAccepted }
+    ensures makings { MadeTablesAreAccepted }
+{}
+
+/// What `decompose` answers where nothing is refused is its table, with the sums of its vectors behind it.
+pub fn decomposed_are_told()
+    ensures { DecomposedAreTold }
+{}
+
+/// The text of a table and of such sums is read as them.
+pub fn sums_are_read()
+    ensures { WrittenSumsAreRead }
+{}
+
+/// `addup` accepts them, unless a part of an equation passes the limit at a term, and then tells the first such; where
+/// no vector had to be multiplied up, it accepts them. This holds of each answer of `decompose`.
+pub fn sums_are_accepted()
+    ensures unless_large { SumsAreAcceptedUnlessLarge }
+    ensures whole { WholeSumsAreAccepted }
+    ensures decomposed { DecomposedAreReadAgain }
 {}

@@ -1,6 +1,6 @@
 -- Signatures tell tables.
 use Rattle.labelling_laws.proofs.Told.{tells_tables}
-use Rattle.labelling_definitions.proofs.CensusLaws.{census_goes_on}
+use Rattle.signature_definitions.proofs.CensusLaws.{census_goes_on}
 use Rattle.labelling_laws.proofs.census_goes_on.Goals as goal
 
 pub returns : goal.returns

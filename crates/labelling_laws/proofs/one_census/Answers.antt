@@ -1,6 +1,6 @@
 -- A table has one signature.
 use Rattle.labelling_laws.proofs.Told.{one_signature}
-use Rattle.labelling_definitions.proofs.OneCensus.{one_census}
+use Rattle.signature_definitions.proofs.OneCensus.{one_census}
 use Rattle.labelling_laws.proofs.one_census.Goals as goal
 
 pub returns : goal.returns

@@ -1,6 +1,6 @@
 use Rattle.std.proofs.Common.{◌<◌, arith, ap, ◌∙◌, refl}
 use Rattle.std.proofs.lemmas.List.{length-set}
-use Rattle.labelling_definitions.specs.Labellings.{Start}
+use Rattle.signature_definitions.specs.Labellings.{Start}
 use Rattle.canonical_labelling.proofs.Placing.{item_below, placed_more}
 use Rattle.canonical_labelling.proofs.labels.images_of.Goals as goal
 

@@ -1,5 +1,5 @@
 use Rattle.std.proofs.Common.{subst, arith}
-use Rattle.labelling_definitions.specs.Labellings.{Start, IsWalked}
+use Rattle.signature_definitions.specs.Labellings.{Start, IsWalked}
 use Rattle.labelling_laws.specs.Starts.{start_back_at}
 use Rattle.labelling_laws.proofs.Agreeing.{one_walk}
 use Rattle.canonical_labelling.proofs.matches.matching.Goals as goal

@@ -1,6 +1,6 @@
 use Rattle.std.proofs.Common.{◌*◌, ◌<◌, ℕ, length, sym, ap, ◌∙◌, subst}
 use Rattle.table_definitions.proofs.Carried.{length-images}
-use Rattle.labelling_definitions.specs.Labellings.{Start, IsWalked, IsLeastRelabelling}
+use Rattle.signature_definitions.specs.Labellings.{Start, IsWalked, IsLeastRelabelling}
 use Rattle.labelling_laws.specs.Between.{between}
 use Rattle.labelling_laws.specs.Starts.{IsNoMatch, IsFirstMatch}
 use Rattle.labelling_laws.proofs.Matching.{no_relabelling, first_match_is_least, from_none, from_some}

@@ -1,5 +1,5 @@
 use Rattle.std.proofs.Common.{◌<◌, ◌/◌, length, arith, ap, ◌∙◌, sym, ℕ, subst}
-use Rattle.labelling_definitions.specs.Labellings.{Start}
+use Rattle.signature_definitions.specs.Labellings.{Start}
 use Rattle.table_definitions.specs.Table.{Face}
 use Rattle.labelling_laws.proofs.Marking.{met_below, follow_marks, start_is}
 use Rattle.canonical_labelling.proofs.order.take_face.Goals as goal

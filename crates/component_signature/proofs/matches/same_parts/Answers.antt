@@ -2,7 +2,7 @@
 use Rattle.std.proofs.Common.{◌≡◌, List, length, ap, subst, subst₂, sym, ◌∙◌}
 use Rattle.std.specs.Prelude.{IsTrue}
 use Rattle.table_definitions.specs.Relabelling.{Relabelling, IsRelabelling}
-use Rattle.labelling_definitions.specs.Labellings.{Relabels}
+use Rattle.signature_definitions.specs.Labellings.{Relabels}
 use Rattle.part_definitions.specs.SameParts.{IsSameParts}
 use Rattle.component_signature.specs.declared.order.Signed.{Signed}
 use Rattle.component_signature.specs.Entries.{entries_of}

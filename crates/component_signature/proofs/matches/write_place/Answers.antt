@@ -3,7 +3,7 @@ use Rattle.std.proofs.Common.{◌≡◌, ◌<◌, ◌≤◌, ℕ, All, Contains,
 use Rattle.plain_facts.proofs.Members.{Ascends}
 use Rattle.table_definitions.specs.Places.{IsConnected}
 use Rattle.table_definitions.specs.Relabelling.{IsRelabelled, stand_in}
-use Rattle.labelling_definitions.specs.Labellings.{IsLeastRelabelling}
+use Rattle.signature_definitions.specs.Labellings.{IsLeastRelabelling}
 use Rattle.part_definitions.specs.Parts.{Part, IsPart}
 use Rattle.part_definitions.specs.SameParts.{GoesBy}
 use Rattle.component_signature.specs.Entries.{entries_of}

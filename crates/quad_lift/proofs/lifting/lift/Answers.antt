@@ -1,6 +1,6 @@
 -- Where the heights agree they are a lift, and the least class at which they do not has none.
 use Rattle.std.proofs.Common.{◌∙◌, subst, arith}
-use Rattle.vector_laws.specs.LiftLaws.{IsLiftOf}
+use Rattle.surface_laws.specs.LiftLaws.{IsLiftOf}
 use Rattle.quad_lift.specs.Agreements.{IsLeastWrong, AreLeastHeights, lifted_entry}
 use Rattle.quad_lift.proofs.LiftParts.{least_without, lift_is, surface_over}
 use Rattle.quad_lift.proofs.lifting.lift.Goals as goal

@@ -5,10 +5,10 @@ use Rattle.std.proofs.lemmas.Iterator.{items_from_collect, YieldsList-from_range
 use Rattle.std.proofs.lemmas.Bool.{eqb-true}
 use Rattle.std.proofs.lemmas.List.Sorted.{IsPermutation-refl, IsPermutation-more}
 use Rattle.double_description.specs.Orders.{AreRowsOf}
-use Rattle.enumeration_laws.proofs.LeftRows.{left_none, left_more, all_taken}
+use Rattle.cone_laws.proofs.LeftRows.{left_none, left_more, all_taken}
 use Rattle.double_description.proofs.TurnLemmas.{left_rows}
 use Rattle.cone_definitions.specs.Orders.{IsNamed, AreLeft, AreNamed}
-use Rattle.enumeration_laws.proofs.Taken.{named_more}
+use Rattle.cone_laws.proofs.Taken.{named_more}
 use Rattle.ray_answers.proofs.RowOrderLemmas.{turn_of}
 use Rattle.ray_answers.proofs.row_order.rows_in_order.Goals as goal
 

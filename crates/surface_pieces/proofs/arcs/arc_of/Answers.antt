@@ -3,7 +3,7 @@ use Rattle.std.proofs.Common.{◌≡◌, ℕ, ◌+◌, ◌-◌, ◌/◌, ◌<◌
 use Rattle.std.specs.Prelude.{slice_index, if◌then◌else◌}
 use Rattle.surface_definitions.specs.Coordinates.{columns_each, tri_column}
 use Rattle.surface_definitions.specs.Pieces.{SurfacePiece, further_column, keeps_by_zero, type_in}
-use Rattle.vector_laws.proofs.MeetingArcs.{arc_at}
+use Rattle.surface_laws.proofs.MeetingArcs.{arc_at}
 use Rattle.surface_pieces.specs.Arcs.{IsOnlyArcOf}
 use Rattle.surface_pieces.proofs.ArcsOfPieces.{triangle_arc, further_arc, tet_in_range}
 use Rattle.surface_pieces.proofs.arcs.arc_of.Goals as goal

@@ -1,7 +1,7 @@
 -- One column more.
 use Rattle.std.proofs.Common.{◌++◌, List, sym, ap, ◌∙◌}
 use Rattle.surface_definitions.specs.Pieces.{SurfacePiece}
-use Rattle.vector_laws.proofs.PieceNumbers.{of_column}
+use Rattle.surface_laws.proofs.PieceNumbers.{of_column}
 use Rattle.surface_pieces.proofs.Counted.{column_next}
 use Rattle.surface_pieces.proofs.counts.all_pieces.Goals as goal
 

@@ -2,7 +2,7 @@
 use Rattle.std.proofs.Common.{List, [], ◌∷◌, ◌++◌, map, sym, ap, ◌∙◌, append_assoc}
 use Rattle.table_definitions.specs.Lists.{below}
 use Rattle.surface_definitions.specs.Pieces.{SurfacePiece}
-use Rattle.vector_laws.proofs.PieceNumbers.{piece_at}
+use Rattle.surface_laws.proofs.PieceNumbers.{piece_at}
 use Rattle.surface_pieces.proofs.Counted.{piece_next}
 use Rattle.surface_pieces.proofs.counts.append_column.Goals as goal
 

@@ -1,7 +1,7 @@
 -- The pieces so far.
 use Rattle.std.proofs.Common.{◌≡◌, ◌++◌, map}
 use Rattle.table_definitions.specs.Lists.{below}
-use Rattle.vector_laws.proofs.PieceNumbers.{piece_at}
+use Rattle.surface_laws.proofs.PieceNumbers.{piece_at}
 use Rattle.surface_pieces.proofs.counts.append_column.Given as goal
 
 abbrev pub invariant-loop-number : goal.invariant-loop-number

@@ -2,7 +2,7 @@
 use Rattle.std.proofs.Common.{◌+◌, sym, ap, ◌∙◌}
 use Rattle.std.specs.Prelude.{slice_index}
 use Rattle.surface_definitions.specs.Pieces.{SurfacePiece}
-use Rattle.vector_laws.proofs.Offsets.{piece_numbers}
+use Rattle.surface_laws.proofs.Offsets.{piece_numbers}
 use Rattle.surface_pieces.proofs.counts.number_of.Goals as goal
 
 pub returns : goal.returns

@@ -4,7 +4,7 @@ use Rattle.vector_definitions.specs.Held.{all_entries}
 use Rattle.walk_laws.specs.Joined.{IsJoined, HasNeighboursBelow, IsSymmetric, neighbours_of}
 use Rattle.table_definitions.specs.Classes.{IsNumbering}
 use Rattle.surface_definitions.specs.Pieces.{SurfacePiece}
-use Rattle.vector_laws.proofs.Offsets.{piece_numbers}
+use Rattle.surface_laws.proofs.Offsets.{piece_numbers}
 use Rattle.surface_pieces.specs.Vectors.{AreVectors}
 use Rattle.surface_pieces.proofs.ComponentsTold.{joins, components_of, told}
 use Rattle.surface_pieces.proofs.pieces.built.Goals as goal

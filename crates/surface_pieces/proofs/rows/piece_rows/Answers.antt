@@ -3,7 +3,7 @@ use Rattle.std.proofs.Common.{◌≡◌, ℕ, List, length, Option, ap, ◌∙�
 use Rattle.std.specs.List.{slice_index_or}
 use Rattle.std.proofs.lemmas.List.{length_push}
 use Rattle.surface_definitions.specs.Pieces.{SurfacePiece, pieces_of}
-use Rattle.vector_laws.proofs.PieceNumbers.{no_piece}
+use Rattle.surface_laws.proofs.PieceNumbers.{no_piece}
 use Rattle.surface_pieces.specs.Joinings.{IsRow}
 use Rattle.surface_pieces.specs.declared.steps.Joining.TheVariants.{Pieces}
 use Rattle.surface_pieces.proofs.RowsOfPieces.{item_is, item_piece, rows_push}

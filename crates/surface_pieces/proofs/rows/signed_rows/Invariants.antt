@@ -2,7 +2,7 @@
 use Rattle.std.proofs.Common.{◌≡◌, ℕ, ◌<◌, ◌/◌, ◌%◌, [], length}
 use Rattle.std.specs.List.{slice_index_or}
 use Rattle.surface_definitions.specs.Pieces.{pieces_of}
-use Rattle.vector_laws.proofs.PieceNumbers.{no_piece}
+use Rattle.surface_laws.proofs.PieceNumbers.{no_piece}
 use Rattle.surface_pieces.specs.Joinings.{IsRow}
 use Rattle.surface_pieces.proofs.rows.signed_rows.Given as goal
 

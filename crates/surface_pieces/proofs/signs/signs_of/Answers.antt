@@ -4,7 +4,7 @@ use Rattle.walk_laws.specs.Joined.{IsJoined, HasNeighboursBelow, IsSymmetric, ne
 use Rattle.table_definitions.specs.Classes.{IsNumbering}
 use Rattle.surface_definitions.specs.Pieces.{pieces_of, HasSigns}
 use Rattle.surface_pieces.specs.Joinings.{stays_at, IsFree}
-use Rattle.vector_laws.proofs.Offsets.{piece_numbers}
+use Rattle.surface_laws.proofs.Offsets.{piece_numbers}
 use Rattle.surface_pieces.proofs.SignsFound.{signed_below, signed_back, free_is}
 use Rattle.surface_pieces.proofs.signs.signs_of.Goals as goal
 

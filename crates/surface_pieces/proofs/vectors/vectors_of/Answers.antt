@@ -4,8 +4,8 @@ use Rattle.std.specs.List.{slice_index_or}
 use Rattle.std.specs.Vec.{with_items}
 use Rattle.std.proofs.lemmas.List.{with_items_is}
 use Rattle.surface_definitions.specs.Pieces.{SurfacePiece, pieces_of}
-use Rattle.vector_laws.specs.PieceLaws.{IsPieceOf}
-use Rattle.vector_laws.proofs.PieceNumbers.{no_piece}
+use Rattle.surface_laws.specs.PieceLaws.{IsPieceOf}
+use Rattle.surface_laws.proofs.PieceNumbers.{no_piece}
 use Rattle.surface_pieces.proofs.RowsOfPieces.{item_is, item_piece}
 use Rattle.surface_pieces.proofs.Tallies.{IsTally, tally, tally_low, tallies_start, tallies_next, tallies_end, held}
 use Rattle.surface_pieces.proofs.vectors.vectors_of.Goals as goal

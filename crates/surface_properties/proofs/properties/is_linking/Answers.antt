@@ -4,7 +4,7 @@ use Rattle.std.specs.Prelude.{slice_index}
 use Rattle.std.proofs.lemmas.Bool.{false_from_ne_true}
 use Rattle.surface_definitions.specs.Coordinates.{is_quad_or_octagon}
 use Rattle.surface_definitions.specs.Characteristic.{is_linking}
-use Rattle.vector_laws.proofs.LinkingLemmas.{linking}
+use Rattle.surface_laws.proofs.LinkingLemmas.{linking}
 use Rattle.surface_properties.proofs.properties.is_linking.Goals as goal
 
 pub loop-column-preserved : goal.loop-column-preserved

@@ -4,9 +4,9 @@ use Rattle.std.proofs.lemmas.Bool.{false_from_ne_true}
 use Rattle.table_definitions.specs.Table.{glue}
 use Rattle.table_definitions.specs.Places.{face_of}
 use Rattle.surface_definitions.specs.Characteristic.{arcs_in, meets_boundary}
-use Rattle.vector_laws.specs.CharacteristicLaws.{HasBoundaryArc}
-use Rattle.vector_laws.proofs.Chains.{number, face_of-number}
-use Rattle.vector_laws.proofs.LinkingLemmas.{boundary}
+use Rattle.surface_laws.specs.CharacteristicLaws.{HasBoundaryArc}
+use Rattle.surface_laws.proofs.Chains.{number, face_of-number}
+use Rattle.surface_laws.proofs.LinkingLemmas.{boundary}
 use Rattle.surface_properties.proofs.properties.meets_boundary.Goals as goal
 
 pub loop-place-preserved : goal.loop-place-preserved

@@ -1,6 +1,6 @@
 -- One more line.
 use Rattle.std.proofs.Common.{ap}
-use Rattle.labelling_definitions.specs.Census.{signature_in}
+use Rattle.signature_definitions.specs.Census.{signature_in}
 use Rattle.outcome_definitions.specs.Canonical.{class_signature_line}
 use Rattle.outcome_definitions.proofs.ClassTexts.{lines_begin, lines_more}
 use Rattle.table_commands.proofs.group_command.append_signatures.Goals as goal

@@ -1,6 +1,6 @@
 -- The lines so far.
 use Rattle.std.proofs.Common.{◌≡◌, ◌++◌}
-use Rattle.labelling_definitions.specs.Census.{signature_in}
+use Rattle.signature_definitions.specs.Census.{signature_in}
 use Rattle.outcome_definitions.specs.Information.{classes_text}
 use Rattle.outcome_definitions.specs.Canonical.{class_signature_line}
 use Rattle.table_commands.proofs.group_command.append_signatures.Given as goal

@@ -1,6 +1,6 @@
 -- No sum of a component is large.
 use Rattle.vector_commands.proofs.DescribedSurfaces.{small_components}
-use Rattle.vector_laws.proofs.FitSurfaces.{surface_is}
+use Rattle.surface_laws.proofs.FitSurfaces.{surface_is}
 use Rattle.vector_commands.proofs.describe_command.append_described.Goals as goal
 
 pub append_description-requires-clause-small : goal.append_description-requires-clause-small

@@ -1,5 +1,5 @@
 -- A vector that is fit is a surface.
-use Rattle.vector_laws.proofs.FitSurfaces.{surface_is}
+use Rattle.surface_laws.proofs.FitSurfaces.{surface_is}
 use Rattle.vector_commands.proofs.describe_command.describe_fit.Goals as goal
 
 pub build-requires-clause-surface : goal.build-requires-clause-surface

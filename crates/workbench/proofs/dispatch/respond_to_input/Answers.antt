@@ -1,6 +1,6 @@
 -- All of the source was taken.
 use Rattle.std.proofs.Common.{ℕ, List, inr, subst}
-use Rattle.bench_io.specs.declared.transfer.ReadEnd.TheVariants.{Failed}
+use Rattle.text_io.specs.declared.transfer.ReadEnd.TheVariants.{Failed}
 use Rattle.outcome_definitions.specs.Answers.{IsAnswerTo}
 use Rattle.command_answers.proofs.Results.{if_ok}
 use Rattle.workbench.proofs.Responses.{no_error, calm_of, read_well}

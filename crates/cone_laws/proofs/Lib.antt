@@ -1,0 +1,16 @@
+pub mod Counts
+pub mod Mixed
+pub mod Frees
+pub mod Spanned
+pub mod Shifted
+pub mod Bound
+pub mod Pairs
+pub mod Meeting
+pub mod Places
+pub mod Worked
+pub mod Cut
+pub mod DistinctLemmas
+pub mod PrefersLemmas
+pub mod LeftRows
+pub mod Taken
+pub mod Ended

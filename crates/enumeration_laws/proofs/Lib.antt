@@ -1,5 +1,0 @@
-pub mod DistinctLemmas
-pub mod PrefersLemmas
-pub mod LeftRows
-pub mod Taken
-pub mod Ended

@@ -1,6 +1,0 @@
--- The lemma is the law.
-use Rattle.enumeration_laws.proofs.Ended.{enumeration_ends}
-use Rattle.enumeration_laws.proofs.enumerations_end.Goals as goal
-
-pub returns : goal.returns
-returns c = enumeration_ends

@@ -1,2 +1,0 @@
-pub mod CensusLaws
-pub mod OneCensus

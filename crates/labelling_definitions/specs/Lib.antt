@@ -1,3 +1,0 @@
-pub mod Labellings
-pub mod Laws
-pub mod Census

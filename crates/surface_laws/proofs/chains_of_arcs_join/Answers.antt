@@ -1,0 +1,6 @@
+-- Chains are joined, and read backwards across the gluings that lead back.
+use Rattle.surface_laws.proofs.PieceChains.{chains_of_arcs}
+use Rattle.surface_laws.proofs.chains_of_arcs_join.Goals as goal
+
+pub returns : goal.returns
+returns c = λ rows coords xs s. chains_of_arcs rows coords xs s

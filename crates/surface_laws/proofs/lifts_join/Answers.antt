@@ -1,0 +1,6 @@
+-- Each vertex has its height in the lift at its own class.
+use Rattle.surface_laws.proofs.Heights.{lifts_join as all_join}
+use Rattle.surface_laws.proofs.lifts_join.Goals as goal
+
+pub returns : goal.returns
+returns c = λ s xs k w each. all_join s k xs w each

@@ -1,0 +1,6 @@
+-- What is told of each vector is determined, and so is the first that is refused.
+use Rattle.surface_laws.proofs.ToldLemmas.{lifted_each}
+use Rattle.surface_laws.proofs.lifts_of_vectors_are_determined.Goals as goal
+
+pub returns : goal.returns
+returns c = lifted_each

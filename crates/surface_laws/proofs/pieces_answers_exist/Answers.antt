@@ -1,0 +1,6 @@
+-- The components exist, and their signs exist or don't.
+use Rattle.surface_laws.proofs.PiecesAnswered.{pieces_answer}
+use Rattle.surface_laws.proofs.pieces_answers_exist.Goals as goal
+
+pub returns : goal.returns
+returns c = pieces_answer

@@ -1,0 +1,112 @@
+-- Laws of pieces, of the arcs in which they meet, and of components.
+use Rattle.std.specs.Prelude.{◌≡◌, ℕ, ◌+◌, ◌<◌, ◌↔◌, List, length, take, Contains, Result, sum_by, sum, slice_index, ◌-◌, Bool, if◌then◌else◌}
+use Rattle.std.specs.List.{slice_index_or}
+use Rattle.cone_definitions.specs.Rows.{IsSolution}
+use Rattle.cone_definitions.specs.Surfaces.{IsAdmissible}
+use Rattle.table_definitions.specs.Lists.{below}
+use Rattle.table_definitions.specs.Table.{Gluing, Row, Face, way_back, IsTable}
+use Rattle.surface_definitions.specs.Coordinates.{columns, clash_list}
+use Rattle.surface_definitions.specs.declared.Coords.{Coords}
+use Rattle.surface_definitions.specs.Equations.{matching_rows}
+use Rattle.surface_definitions.specs.Pieces.{SurfacePiece, pieces_of, piece_number, Arc, arc_across, piece_of, Meets, SamePiece, AreComponents, component_vector}
+use Rattle.vector_definitions.specs.Components.{Component, IsPiecesAnswer}
+use Rattle.vector_definitions.specs.declared.PiecesFault.{PiecesFault}
+use Rattle.walk_laws.specs.Joined.{IsJoined, IsSymmetric, HasNeighboursBelow}
+use Rattle.surface_laws.specs.MatchingLaws.{HasTriangles}
+
+-- an admissible solution of the equations of a table, in coordinates with triangles
+pub record IsSurface (rows : List Row) (coords : Coords) (xs : List ℕ) : Type 0 where
+  pub table : IsTable rows
+  pub triangles : HasTriangles coords
+  pub solves : IsSolution (columns coords (length rows)) (matching_rows coords rows) xs
+  pub admissible : IsAdmissible (clash_list coords (length rows)) xs
+
+-- the face in which an arc stands
+abbrev pub face_of_arc : Arc → Face
+face_of_arc a = record { tet = a.tet; face = a.face }
+
+-- the arc across a gluing meets the first one, across the gluing that leads back
+pub record MeetsBack (rows : List Row) (coords : Coords) (xs : List ℕ) (a : Arc) (g : Gluing) : Type 0 where
+  pub meets : Meets rows coords xs (arc_across g a) (way_back (face_of_arc a) g)
+  pub same : arc_across (way_back (face_of_arc a) g) (arc_across g a) ≡ a
+
+abbrev pub ArcsMeetBack : Type 0
+ArcsMeetBack = (rows : List Row) (coords : Coords) (xs : List ℕ) (a : Arc) (g : Gluing) → IsSurface rows coords xs → Meets rows coords xs a g → MeetsBack rows coords xs a g
+
+-- sign 0 or 1, or the other
+abbrev pub turned_if : Bool → ℕ → ℕ
+turned_if b k = if b then k else 1 - k
+
+-- the vectors of the components add up to the vector, column by column
+abbrev pub ComponentsAddUp : Type 0
+ComponentsAddUp =
+    (rows : List Row) (coords : Coords) (xs components : List ℕ) (count : ℕ) → AreComponents rows coords xs components count
+    → (c : ℕ) → sum_by (λ i. slice_index (component_vector xs components i) c) (below count) ≡ slice_index xs c
+
+-- and each is an admissible solution too
+abbrev pub ComponentsAreSurfaces : Type 0
+ComponentsAreSurfaces =
+    (rows : List Row) (coords : Coords) (xs components : List ℕ) (count i : ℕ) → IsSurface rows coords xs → AreComponents rows coords xs components count
+    → IsSurface rows coords (component_vector xs components i)
+
+-- pieces are numbered column by column: a column's pieces stand behind those of the columns before it
+pub record ArePieceNumbers (xs : List ℕ) : Type 0 where
+  pub count : length (pieces_of xs) ≡ sum xs
+  pub there : (c j : ℕ) (d : SurfacePiece) → c < length xs → j < slice_index xs c → slice_index_or (pieces_of xs) (sum (take c xs) + j) d ≡ record { column = c; number = j }
+  pub number : (c j : ℕ) → c < length xs → j < slice_index xs c → piece_number xs (record { column = c; number = j }) ≡ sum (take c xs) + j
+
+abbrev pub PiecesAreNumbered : Type 0
+PiecesAreNumbered = (xs : List ℕ) → ArePieceNumbers xs
+
+-- the piece of an arc is one of the vector's
+pub record IsPieceOf (xs : List ℕ) (p : SurfacePiece) : Type 0 where
+  pub column : p.column < length xs
+  pub number : p.number < slice_index xs p.column
+
+abbrev pub ArcsArePieces : Type 0
+ArcsArePieces = (rows : List Row) (coords : Coords) (xs : List ℕ) (a : Arc) (g : Gluing) → IsSurface rows coords xs → Meets rows coords xs a g → IsPieceOf xs (piece_of coords xs a)
+
+-- to be in one component is an equivalence
+pub record ChainsOfArcs (rows : List Row) (coords : Coords) (xs : List ℕ) : Type 0 where
+  pub itself : (i : ℕ) → SamePiece rows coords xs i i
+  pub further : (i j k : ℕ) → SamePiece rows coords xs i j → SamePiece rows coords xs j k → SamePiece rows coords xs i k
+  pub back : (i j : ℕ) → SamePiece rows coords xs i j → SamePiece rows coords xs j i
+
+abbrev pub ChainsOfArcsJoin : Type 0
+ChainsOfArcsJoin = (rows : List Row) (coords : Coords) (xs : List ℕ) → IsSurface rows coords xs → ChainsOfArcs rows coords xs
+
+-- an arc of piece i meets one of piece j
+pub record PiecesMeet (rows : List Row) (coords : Coords) (xs : List ℕ) (i j : ℕ) : Type 0 where
+  pub arc : Arc
+  pub gluing : Gluing
+  pub meets : Meets rows coords xs arc gluing
+  pub one : piece_number xs (piece_of coords xs arc) ≡ i
+  pub other : piece_number xs (piece_of coords xs (arc_across gluing arc)) ≡ j
+
+-- the neighbours of each piece are those that it meets
+abbrev pub AreMeetingPieces : List Row → Coords → List ℕ → (ℕ → List ℕ) → Type 0
+AreMeetingPieces rows coords xs neighbours = (i j : ℕ) → Contains (neighbours i) j ↔ PiecesMeet rows coords xs i j
+
+-- so they are numbers of pieces, each is a neighbour of its neighbours, and they join what is one component
+pub record JoinComponents (rows : List Row) (coords : Coords) (xs : List ℕ) (neighbours : ℕ → List ℕ) : Type 0 where
+  pub below : HasNeighboursBelow (length (pieces_of xs)) neighbours
+  pub symmetric : IsSymmetric neighbours
+  pub joined : (i j : ℕ) → i < length (pieces_of xs) → j < length (pieces_of xs) → IsJoined neighbours i j ↔ SamePiece rows coords xs i j
+
+abbrev pub MeetingPiecesJoin : Type 0
+MeetingPiecesJoin =
+    (rows : List Row) (coords : Coords) (xs : List ℕ) (neighbours : ℕ → List ℕ) → IsSurface rows coords xs → AreMeetingPieces rows coords xs neighbours
+    → JoinComponents rows coords xs neighbours
+
+-- the pieces of a surface have components
+pub record HasComponents (rows : List Row) (coords : Coords) (xs : List ℕ) : Type 0 where
+  pub components : List ℕ
+  pub count : ℕ
+  pub are : AreComponents rows coords xs components count
+
+abbrev pub ComponentsExist : Type 0
+ComponentsExist = (rows : List Row) (coords : Coords) (xs : List ℕ) → IsSurface rows coords xs → HasComponents rows coords xs
+
+-- so something is told of the pieces of each surface
+abbrev pub PiecesAnswersExist : Type 0
+PiecesAnswersExist = (rows : List Row) (coords : Coords) (xs : List ℕ) → IsSurface rows coords xs → (a : Result (List Component) PiecesFault) × IsPiecesAnswer rows coords xs a

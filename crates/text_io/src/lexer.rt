@@ -1,0 +1,189 @@
+// One cursor over the bytes of an input.
+ghost use Rattle.std.specs.Prelude.{◌≡◌, ◌↔◌, ◌^◌, ◌<◌, ◌≤◌, [], length, IsTrue, Ok};
+ghost use Rattle.std.specs.Bool.{OnTrue, OnFalse};
+ghost use Rattle.text_definitions.specs.declared.LexKind.TheVariants.{BadWord};
+ghost use Rattle.text_definitions.specs.Reading.{Gives, Moves, start_of, need_line_at, word_at, number_at, signed_at, end_line_at, word_fault, fault_at, number_up_to};
+ghost use Rattle.text_definitions.specs.Text.{decimal_value};
+
+use crate::decimals::{is_decimal_word, value_up_to};
+use crate::front::{Front, front_of};
+use crate::lines::{FoundLine, end_place, first_line};
+use std::marker::Model;
+use text_definitions::{LexFault, LexKind, Place};
+
+/// One cursor over the bytes of an input. Contracts see what is left to read: the current line with the words that
+/// were not taken, the lines after it, the place past the last byte, and where the word begins that was taken last.
+/// After a fault nothing is said of its place.
+#[derive(Drop)]
+pub struct Lexer<'a> {
+    // the current line: its number, and what is left of it, without its end, with the column where that begins
+    number: u32,
+    line: &'a [u8],
+    column: u32,
+    // what follows the current line's end
+    later: &'a [u8],
+    // the place past the last byte of the input
+    end: Place,
+    // where the word begins that was taken last
+    taken: Place,
+}
+
+impl<'a> Model for Lexer<'a> {
+    ghost use Rattle.text_definitions.specs.Reading.{Reading};
+
+    ghost Value = { Reading };
+
+    ghost use Rattle.text_io.specs.Lexer.{left_to_read, Fits};
+
+    ghost view = { left_to_read };
+
+    ghost invariant = { Fits };
+}
+
+impl<'a> Lexer<'a> {
+    /// All of the input is left, and no line is begun.
+    pub fn new(bytes: &'a [u8]) -> Lexer<'a>
+        requires { length bytes.now ≤ 2 ^ 31 }
+        ensures { result ≡ start_of bytes.now }
+    {
+        Lexer {
+            number: 0,
+            line: &[],
+            column: 1,
+            later: bytes,
+            end: end_place(bytes),
+            taken: Place { line: 0, column: 0 },
+        }
+    }
+
+    /// Moves to the next line that is neither blank nor a comment. Where there is none, nothing moves.
+    #[tactic(auto, unfolding(text_definitions::specs::Reading::need_line_at))]
+    pub fn next_line(&mut self) -> bool
+        ensures found { OnTrue result (need_line_at self.old ≡ Ok self.new) }
+        ensures none { OnFalse result ((self.old.later ≡ []) × (self.new ≡ self.old)) }
+    {
+        let Some(found) = first_line(self.later, self.number) else {
+            return false;
+        };
+        let FoundLine {
+            number,
+            line,
+            later,
+        } = found;
+        self.number = number;
+        self.line = line;
+        self.column = 1;
+        self.later = later;
+        true
+    }
+
+    /// Moves to the next line that is neither blank nor a comment.
+    #[tactic(auto, unfolding(text_definitions::specs::Reading::need_line_at))]
+    pub fn need_line(&mut self) -> Result<(), LexFault>
+        ensures { Moves result self.new (need_line_at self.old) }
+    {
+        if self.next_line() {
+            return Ok(());
+        }
+        Err(LexFault {
+            place: self.end,
+            kind: LexKind::MissingWord,
+        })
+    }
+
+    /// The next word of the line, as a part of the input.
+    pub fn word(&mut self) -> Result<&'a [u8], LexFault>
+        ensures { Gives (λ w. w.now) result self.new (word_at self.old) }
+    {
+        let (column, front) = front_of(self.line, self.column);
+        match front {
+            Front::End => Err(self.fault(column, LexKind::MissingWord)),
+            Front::Stray => Err(self.fault(column, LexKind::BadByte)),
+            Front::Word(word, behind) => {
+                self.line = behind;
+                self.column = column + word.len() as u32;
+                self.taken = Place {
+                    line: self.number,
+                    column,
+                };
+                Ok(word)
+            }
+        }
+    }
+
+    /// The next word of the line, as a decimal up to `max`.
+    #[tactic(auto, unfolding(text_definitions::specs::Reading::number_at))]
+    pub fn number(&mut self, max: u128) -> Result<u128, LexFault>
+        ensures { Gives (λ n. n) result self.new (number_at max self.old) }
+    {
+        let word = self.word()?;
+        self.value_of(word, max)
+    }
+
+    /// The next word of the line, as a decimal up to `max` in magnitude, with one `-` in front or none.
+    #[tactic(auto, unfolding(text_definitions::specs::Reading::signed_at))]
+    pub fn signed(&mut self, max: u32) -> Result<i32, LexFault>
+        requires { max < 2 ^ 31 }
+        ensures { Gives (λ n. n) result self.new (signed_at max self.old) }
+    {
+        let word = self.word()?;
+        if let [b'-', digits @ ..] = word {
+            let value = self.value_of(digits, u128::from(max))?;
+            return Ok(-(value as i32));
+        }
+        let value = self.value_of(word, u128::from(max))?;
+        Ok(value as i32)
+    }
+
+    /// The end of the line.
+    pub fn end_line(&mut self) -> Result<(), LexFault>
+        ensures { Moves result self.new (end_line_at self.old) }
+    {
+        let (column, front) = front_of(self.line, self.column);
+        match front {
+            Front::End => Ok(()),
+            Front::Stray => Err(self.fault(column, LexKind::BadByte)),
+            Front::Word(..) => Err(self.fault(column, LexKind::ExtraWord)),
+        }
+    }
+
+    /// Whether only spaces and tabs remain on the line.
+    pub fn at_end(&self) -> bool
+        ensures { IsTrue result ↔ (self.now.current.tokens ≡ []) }
+    {
+        let (_, front) = front_of(self.line, self.column);
+        matches!(&front, Front::End)
+    }
+
+    /// The word that was taken last hasn't the form that is wanted.
+    pub fn bad_word(&self) -> LexFault
+        ensures { result ≡ word_fault self.now BadWord }
+    {
+        LexFault {
+            place: self.taken,
+            kind: LexKind::BadWord,
+        }
+    }
+
+    // A fault in a column of the current line.
+    fn fault(&self, column: u32, kind: LexKind) -> LexFault
+        ensures { result ≡ fault_at self.now column kind }
+    {
+        let line = self.number;
+        let place = Place { line, column };
+        LexFault { place, kind }
+    }
+
+    // The number up to max that digits of the word taken last stand for.
+    fn value_of(&self, digits: &[u8], max: u128) -> Result<u128, LexFault>
+        ensures { Gives (λ n. n) result self.now (number_up_to max (decimal_value digits.now) self.now) }
+    {
+        if !is_decimal_word(digits) {
+            return Err(self.bad_word());
+        }
+        value_up_to(digits, max).ok_or(LexFault {
+            place: self.taken,
+            kind: LexKind::NumberTooWide,
+        })
+    }
+}

@@ -1,0 +1,30 @@
+//! Where bytes come from and go to, the lexer of the text formats, and text that is built piece by piece.
+#![tactic(auto)]
+
+mod decimals;
+mod faults;
+mod front;
+mod lexer;
+mod lines;
+mod memory;
+mod null;
+mod sink;
+mod source;
+mod standard;
+mod transfer;
+mod words;
+mod writing;
+
+pub use decimals::{is_decimal_word, value_up_to};
+pub use faults::Failed;
+pub use lexer::Lexer;
+pub use memory::{MemorySink, MemorySource, SteadySource};
+pub use no_memory::NoMemory;
+pub use null::NullSink;
+pub use sink::Sink;
+pub use source::Source;
+pub use standard::{StdSink, StdSource};
+pub use text_definitions::{LexFault, LexKind, Place};
+pub use transfer::{ReadEnd, read_all, write_all};
+pub use words::Words;
+pub use writing::{append, append_decimal, append_signed};

@@ -1,0 +1,96 @@
+// Reading all of a source, and writing all of a list of bytes.
+ghost use Rattle.std.specs.Prelude.{◌≡◌, ◌↔◌, ◌+◌, ◌-◌, ◌^◌, ◌<◌, ◌≤◌, ℕ, List, [], length, take, IfOk, IfSome, OnOk, OnErr, IsOk, IsErr, IsErrOf, Err};
+ghost use Rattle.text_io.specs.Causes.{Takes, Grows, IsEnded};
+
+use crate::{Failed, Sink, Source};
+use std::alloc::{AllocError, Global};
+
+/// Why not all bytes of a source were read.
+#[derive(Clone, Copy, Debug, PartialEq, Eq)]
+pub enum ReadEnd {
+    /// The source failed.
+    Failed,
+    /// It gave more bytes than the limit.
+    TooLong,
+    /// Memory ran out, before the first read.
+    NoMemory,
+}
+
+impl From<Failed> for ReadEnd {
+    ghost use Rattle.text_io.specs.declared.transfer.ReadEnd.TheVariants.{Failed as failed_end};
+
+    ghost from_gives = { λ _ e. e ≡ failed_end };
+
+    fn from(_: Failed) -> Self {
+        ReadEnd::Failed
+    }
+}
+
+impl From<AllocError> for ReadEnd {
+    ghost use Rattle.text_io.specs.declared.transfer.ReadEnd.TheVariants.{NoMemory as no_memory};
+
+    ghost from_gives = { λ _ e. e ≡ no_memory };
+
+    fn from(_: AllocError) -> Self {
+        ReadEnd::NoMemory
+    }
+}
+
+/// How many bytes to ask for at once, where there is room for so many.
+fn read_length(room: usize) -> usize
+    requires { 0 < room }
+    ensures some { 0 < result }
+    ensures within { result ≤ room }
+{
+    room.min(65536)
+}
+
+/// All bytes that are left in a source, where they are at most `limit`. Its memory is taken before the first read.
+pub fn read_all<S: Source>(alloc: Global, source: &mut S, limit: u64) -> Result<Vec<u8>, ReadEnd>
+    requires { limit < 2 ^ 63 }
+
+    ensures all { IfOk result (λ bytes. Takes (S.left source.old) (S.left source.new) bytes.items) }
+    ensures end { OnOk result (IsEnded (S.left source.new)) }
+    ensures within { IfOk result (λ bytes. length bytes.items ≤ limit) }
+
+    // At most limit + 1 bytes are taken, and more than limit exactly where it answers so.
+    ensures too_long { IsErrOf result ReadEnd.TooLong → IfSome (S.left source.old) (λ bytes. limit < length bytes) }
+    ensures taken { (taken : List ℕ) × Takes (S.left source.old) (S.left source.new) taken
+        × (length taken ≤ limit + 1) × (IsErrOf result ReadEnd.TooLong ↔ (limit < length taken)) }
+
+    // It fails exactly where the source's count rose.
+    ensures failed { S.faults source.old < 2 ^ 64 - 1 → (IsErrOf result ReadEnd.Failed ↔ (S.faults source.old < S.faults source.new)) }
+    ensures later { S.faults source.old ≤ S.faults source.new }
+    ensures no_memory { IsErrOf result ReadEnd.NoMemory → source.new ≡ source.old }
+{
+    let most = limit as usize + 1;
+    // room alone, so that a short input touches little of it
+    let mut bytes = Vec::with_capacity(alloc, most)?;
+    while bytes.len() < most {
+        let len = bytes.len();
+        bytes.resize(len + read_length(most - len), 0)?;
+        let count = source.read(&mut bytes[len..])?;
+        bytes.truncate(len + count);
+        if count == 0 {
+            return Ok(bytes);
+        }
+    }
+    Err(ReadEnd::TooLong)
+}
+
+/// Appends all of the bytes to a sink. Without any it calls nothing.
+pub fn write_all<K: Sink>(sink: &mut K, bytes: &[u8]) -> Result<(), Failed>
+    ensures all { OnOk result (Grows (K.held sink.old) (K.held sink.new) bytes.now) }
+    ensures prefix { OnErr result ((n : ℕ) × (n < length bytes.now) × Grows (K.held sink.old) (K.held sink.new) (take n bytes.now)) }
+
+    // It fails exactly where the sink's count rose.
+    ensures failed { K.faults sink.old < 2 ^ 64 - 1 → (IsErr result ↔ (K.faults sink.old < K.faults sink.new)) }
+    ensures later { K.faults sink.old ≤ K.faults sink.new }
+    ensures none { bytes.now ≡ [] → IsOk result × (sink.new ≡ sink.old) }
+{
+    let mut written = 0;
+    while written < bytes.len() {
+        written += sink.write(&bytes[written..])?;
+    }
+    Ok(())
+}

@@ -1,2 +1,0 @@
-pub mod WrittenMoves
-pub mod Accepted
