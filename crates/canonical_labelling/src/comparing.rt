@@ -4,7 +4,7 @@ ghost use Rattle.std.specs.Prelude.{◌≡◌, ◌<◌, ◌≤◌, ◌+◌, ◌-
 ghost use Rattle.std.specs.List.{slice_index_or};
 ghost use Rattle.table_definitions.specs.Lists.{is_list_before};
 ghost use Rattle.table_definitions.specs.Permutation.{IsPermutationOfFour};
-ghost use Rattle.table_definitions.specs.Table.{IsTable};
+ghost use Rattle.table_definitions.specs.Table.{max_tets, IsTable};
 ghost use Rattle.signature_definitions.specs.Spelling as spellings;
 ghost use Rattle.signature_definitions.specs.Spelling.{character, packed};
 ghost use Rattle.signature_text_laws.specs.Texts.{destinations_text, indices_text};
@@ -235,7 +235,7 @@ fn told_by_types(
 /// The walk that has met its start alone.
 fn trying_begun(alloc: Global, count: u32, start: Start) -> Result<Trying, AllocError>
     requires in_range { start.tet < count }
-    requires few { count ≤ 1000 }
+    requires few { count ≤ max_tets }
     ensures order { IfOk result (λ t. t.walking.order.items ≡ start ∷ []) }
     ensures size { IfOk result (λ t. length t.numbers.items ≡ count) }
     ensures trying { IfOk result (λ t. IsTrying 0 (tried_shown t)) }

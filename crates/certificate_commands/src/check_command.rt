@@ -1,5 +1,6 @@
 // The command `check`: whether moves certify a table as a triangulated 3-sphere.
 ghost use Rattle.std.specs.Prelude.{◌<◌, ◌≤◌, ◌-◌, ◌^◌, length, IfOk};
+ghost use Rattle.text_definitions.specs.Text.{max_text};
 ghost use Rattle.document_definitions.specs.Documents.{moves_document};
 ghost use Rattle.outcome_definitions.specs.Outcomes.{IsReadOutcome};
 ghost use Rattle.outcome_definitions.specs.Certificates.{IsCheckAnswer};
@@ -26,7 +27,7 @@ fn answer(alloc: Global, table: &Table, moves: &[Move]) -> Result<Outcome, NoMem
 
 /// The outcome of `check` on an input that isn't too long.
 pub fn check(alloc: Global, bytes: &[u8]) -> Result<Outcome, NoMemory>
-    requires { length bytes.now ≤ 2 ^ 31 }
+    requires { length bytes.now ≤ max_text }
     ensures answer { IfOk result (IsReadOutcome (moves_document bytes.now) IsCheckAnswer) }
 {
     match read_table_and_moves(alloc, bytes) {

@@ -1,5 +1,6 @@
 // The command `descend`: the moves of a table's descent, and the table at which it ends.
-ghost use Rattle.std.specs.Prelude.{◌≡◌, ◌≤◌, ◌^◌, ◌++◌, length, decimal, Ok, IfOk, OnOk};
+ghost use Rattle.std.specs.Prelude.{◌≡◌, ◌≤◌, ◌++◌, length, decimal, Ok, IfOk, OnOk};
+ghost use Rattle.text_definitions.specs.Text.{max_text};
 ghost use Rattle.document_definitions.specs.Documents.{table_document};
 ghost use Rattle.text_definitions.specs.Written.{line};
 ghost use Rattle.outcome_definitions.specs.Outcomes.{IsReadOutcome};
@@ -71,7 +72,7 @@ fn answer(alloc: Global, table: &Table) -> Result<Outcome, NoMemory>
 
 /// The outcome of `descend` on an input that isn't too long.
 pub fn descend(alloc: Global, bytes: &[u8]) -> Result<Outcome, NoMemory>
-    requires { length bytes.now ≤ 2 ^ 31 }
+    requires { length bytes.now ≤ max_text }
     ensures answer { IfOk result (IsReadOutcome (table_document bytes.now) IsDescendAnswer) }
 {
     match read_table_document(alloc, bytes) {

@@ -1,5 +1,6 @@
 // The documents of the commands.
-ghost use Rattle.std.specs.Prelude.{◌≡◌, ◌≤◌, ◌^◌, length};
+ghost use Rattle.std.specs.Prelude.{◌≡◌, ◌≤◌, length};
+ghost use Rattle.text_definitions.specs.Text.{max_text};
 ghost use Rattle.text_definitions.specs.Reading.{Moves, Reads, ReadsFrom};
 ghost use Rattle.document_definitions.specs.Documents.{next_table_at, no_line_at, table_document, two_tables_document, vector_document, vectors_document};
 ghost use Rattle.command_answers.specs.Reads.{entries_of};
@@ -53,7 +54,7 @@ pub fn read_table(alloc: Global, lexer: &mut Lexer<'_>) -> Result<Table, InputFa
 /// The document of one table.
 #[tactic(auto, unfolding(document_definitions::specs::Documents::table_document))]
 pub fn read_table_document(alloc: Global, bytes: &[u8]) -> Result<Table, InputFault>
-    requires { length bytes.now ≤ 2 ^ 31 }
+    requires { length bytes.now ≤ max_text }
     ensures { Reads InputFault.NoMemory (λ table. table) result (table_document bytes.now) }
 {
     let mut lexer = Lexer::new(bytes);
@@ -65,7 +66,7 @@ pub fn read_table_document(alloc: Global, bytes: &[u8]) -> Result<Table, InputFa
 /// The document of two tables.
 #[tactic(auto, unfolding(document_definitions::specs::Documents::two_tables_document))]
 pub fn read_two_tables(alloc: Global, bytes: &[u8]) -> Result<TwoTables, InputFault>
-    requires { length bytes.now ≤ 2 ^ 31 }
+    requires { length bytes.now ≤ max_text }
     ensures { Reads InputFault.NoMemory (λ d. (d.first, d.second)) result (two_tables_document bytes.now) }
 {
     let mut lexer = Lexer::new(bytes);
@@ -78,7 +79,7 @@ pub fn read_two_tables(alloc: Global, bytes: &[u8]) -> Result<TwoTables, InputFa
 /// The document of a table and vectors.
 #[tactic(auto, unfolding(document_definitions::specs::Documents::table_and_lines))]
 pub fn read_table_and_vectors(alloc: Global, bytes: &[u8]) -> Result<TableAndVectors, InputFault>
-    requires { length bytes.now ≤ 2 ^ 31 }
+    requires { length bytes.now ≤ max_text }
     ensures { Reads InputFault.NoMemory (λ d. (d.table, entries_of d.vectors)) result (vectors_document bytes.now) }
 {
     let mut lexer = Lexer::new(bytes);
@@ -90,7 +91,7 @@ pub fn read_table_and_vectors(alloc: Global, bytes: &[u8]) -> Result<TableAndVec
 /// The document of a table and one vector.
 #[tactic(auto, unfolding(document_definitions::specs::Documents::vector_document))]
 pub fn read_table_and_vector(alloc: Global, bytes: &[u8]) -> Result<TableAndVector, InputFault>
-    requires { length bytes.now ≤ 2 ^ 31 }
+    requires { length bytes.now ≤ max_text }
     ensures { Reads InputFault.NoMemory (λ d. (d.table, d.vector.items)) result (vector_document bytes.now) }
 {
     let mut lexer = Lexer::new(bytes);

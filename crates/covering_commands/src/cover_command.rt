@@ -1,6 +1,7 @@
 //! The command `cover`: the orientable double cover of a table.
 
-ghost use Rattle.std.specs.Prelude.{◌≡◌, ◌≤◌, ◌^◌, length, IfOk};
+ghost use Rattle.std.specs.Prelude.{◌≡◌, ◌≤◌, length, IfOk};
+ghost use Rattle.text_definitions.specs.Text.{max_text};
 ghost use Rattle.document_definitions.specs.Documents.{table_document};
 ghost use Rattle.outcome_definitions.specs.Outcomes.{IsReadOutcome};
 ghost use Rattle.outcome_definitions.specs.Covers.{IsCoverTold, IsCoverAnswer, large_cover_outcome};
@@ -55,7 +56,7 @@ fn answer(alloc: Global, table: &Table) -> Result<Outcome, NoMemory>
 
 /// The outcome of `cover` on an input that isn't too long.
 pub fn cover(alloc: Global, bytes: &[u8]) -> Result<Outcome, NoMemory>
-    requires { length bytes.now ≤ 2 ^ 31 }
+    requires { length bytes.now ≤ max_text }
     ensures { IfOk result (IsReadOutcome (table_document bytes.now) IsCoverAnswer) }
 {
     match read_table_document(alloc, bytes) {

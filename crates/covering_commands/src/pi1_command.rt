@@ -1,6 +1,7 @@
 //! The command `pi1`: the generators and relators of a table.
 
-ghost use Rattle.std.specs.Prelude.{◌≡◌, ◌≤◌, ◌^◌, length, IfOk};
+ghost use Rattle.std.specs.Prelude.{◌≡◌, ◌≤◌, length, IfOk};
+ghost use Rattle.text_definitions.specs.Text.{max_text};
 ghost use Rattle.skeleton_definitions.specs.Skeleton.{IsSkeleton};
 ghost use Rattle.group_definitions.specs.Groups.{IsGroup};
 ghost use Rattle.document_definitions.specs.Documents.{table_document};
@@ -51,7 +52,7 @@ fn answer(alloc: Global, table: &Table) -> Result<Outcome, NoMemory>
 
 /// The outcome of `pi1` on an input that isn't too long.
 pub fn pi1(alloc: Global, bytes: &[u8]) -> Result<Outcome, NoMemory>
-    requires { length bytes.now ≤ 2 ^ 31 }
+    requires { length bytes.now ≤ max_text }
     ensures { IfOk result (IsReadOutcome (table_document bytes.now) IsPresentationAnswer) }
 {
     match read_table_document(alloc, bytes) {

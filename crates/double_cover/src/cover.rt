@@ -2,7 +2,7 @@
 
 ghost use Rattle.std.specs.Prelude.{◌≡◌, ◌≢◌, ◌*◌, ◌<◌, ◌≤◌, length, Some, None, IfOk, IfErr, OnOk, IfSome};
 ghost use Rattle.std.specs.Option.{option_copied, option_map};
-ghost use Rattle.table_definitions.specs.Table.{IsTable};
+ghost use Rattle.table_definitions.specs.Table.{max_tets, IsTable};
 ghost use Rattle.table_definitions.specs.Relabelling.{Carries};
 ghost use Rattle.skeleton_definitions.specs.Orientation.{AreSigns};
 ghost use Rattle.skeleton.specs.Parts.{items_of};
@@ -38,7 +38,7 @@ impl Model for Cover {
 
     ghost view = { λ c. c.base };
 
-    ghost invariant = { λ c. (2 * length c.base ≤ 1000) × IsTable c.base × (c.table ≡ definition.cover c.base) × IsOrientation c.base (option_map items_of c.signs) };
+    ghost invariant = { λ c. (2 * length c.base ≤ max_tets) × IsTable c.base × (c.table ≡ definition.cover c.base) × IsOrientation c.base (option_map items_of c.signs) };
 }
 
 /// The same signs once more.

@@ -1,6 +1,7 @@
 //! Relabellings of the cover that keep all vertices.
 
 ghost use Rattle.std.specs.Prelude.{◌≡◌, ◌*◌, ◌<◌, ◌≤◌, ◌^◌, length, map, replicate, IfOk};
+ghost use Rattle.table_definitions.specs.Table.{max_tets};
 ghost use Rattle.table_definitions.specs.Lists.{below};
 ghost use Rattle.table_definitions.specs.Permutation.{identity};
 ghost use Rattle.table_definitions.specs.Relabelling.{IsRelabelling};
@@ -14,7 +15,7 @@ use std::alloc::{AllocError, Global};
 
 /// Where each tetrahedron goes by the exchange.
 pub fn exchanged(alloc: Global, tets: u32) -> Result<Vec<u32>, AllocError>
-    requires { tets ≤ 1000 }
+    requires { tets ≤ max_tets }
     ensures { IfOk result (λ images. images.items ≡ map (λ u. definition.above tets (definition.over tets u) (definition.other_sheet (definition.sheet tets u))) (below (2 * tets))) }
 {
     let mut images = Vec::with_capacity(alloc, 2 * tets as usize)?;
@@ -42,7 +43,7 @@ fn copy_of(tets: u32, signs: &[bool], tet: u32) -> u8
 
 /// Where each tetrahedron goes by the split.
 pub fn parted(alloc: Global, tets: u32, signs: &[bool]) -> Result<Vec<u32>, AllocError>
-    requires few { tets ≤ 1000 }
+    requires few { tets ≤ max_tets }
     requires one_each { length signs.now ≡ tets }
     ensures { IfOk result (λ images. images.items ≡ map (λ u. definition.above tets (definition.over tets u) (definition.copy_of tets signs.now u)) (below (2 * tets))) }
 {

@@ -2,7 +2,7 @@
 
 ghost use Rattle.std.specs.Prelude.{◌≡◌, ◌*◌, ◌<◌, ◌≤◌, length, option_map, IfOk};
 ghost use Rattle.table_definitions.specs.Table as gluings;
-ghost use Rattle.table_definitions.specs.Table.{IsTable};
+ghost use Rattle.table_definitions.specs.Table.{max_tets, IsTable};
 ghost use Rattle.cover_definitions.specs.Cover as definition;
 
 use crate::sheets::{above, other_sheet, over, sheet};
@@ -25,7 +25,7 @@ fn sheet_behind(glue: Glue, sheet: u8) -> u8
 
 /// The gluing of the cover over a gluing that leaves a tetrahedron on a sheet.
 fn lifted(tets: u32, sheet: u8, glue: Glue) -> Glue
-    requires few { tets ≤ 1000 }
+    requires few { tets ≤ max_tets }
     requires two { sheet ≤ 1 }
     requires in_range { glue.tet < tets }
     ensures { result ≡ definition.lifted tets sheet glue }
@@ -84,7 +84,7 @@ fn cover_rows(alloc: Global, table: &Table) -> Result<Vec<Row>, AllocError>
 /// The cover of a table whose cover is small enough.
 pub fn cover_table(alloc: Global, table: &Table) -> Result<Table, NoMemory>
     requires table { IsTable table.now }
-    requires few { 2 * length table.now ≤ 1000 }
+    requires few { 2 * length table.now ≤ max_tets }
     ensures { IfOk result (λ cover. cover ≡ definition.cover table.now) }
 {
     let rows = cover_rows(alloc, table)?;

@@ -1,6 +1,7 @@
 //! Sheets of the cover.
 
 ghost use Rattle.std.specs.Prelude.{◌≡◌, ◌+◌, ◌*◌, ◌<◌, ◌≤◌};
+ghost use Rattle.table_definitions.specs.Table.{max_tets};
 ghost use Rattle.cover_definitions.specs.Cover as definition;
 
 /// The tetrahedron below one of the cover of so many tetrahedra.
@@ -20,7 +21,7 @@ pub fn sheet(tets: u32, tet: u32) -> u8
 
 /// The tetrahedron of the cover that lies over this one on a sheet.
 pub fn above(tets: u32, tet: u32, sheet: u8) -> u32
-    requires few { tets ≤ 1000 }
+    requires few { tets ≤ max_tets }
     requires in_range { tet < tets }
     ensures { result ≡ definition.above tets tet sheet }
 {

@@ -1,5 +1,6 @@
 // The command `rays`: all primitive extreme rays of a cone.
-ghost use Rattle.std.specs.Prelude.{◌≡◌, ◌≢◌, ◌≤◌, ◌^◌, length, codes, IfOk};
+ghost use Rattle.std.specs.Prelude.{◌≡◌, ◌≢◌, ◌≤◌, length, codes, IfOk};
+ghost use Rattle.text_definitions.specs.Text.{max_text};
 ghost use Rattle.cone_definitions.specs.Listings.{without_pairs};
 ghost use Rattle.document_definitions.specs.Documents.{worded, cone_document};
 ghost use Rattle.outcome_definitions.specs.Outcomes.{IsReadOutcome};
@@ -20,7 +21,7 @@ use surface_answers::large_outcome;
 // The document of a cone.
 #[tactic(auto, unfolding(document_definitions::specs::Documents::cone_document))]
 fn read_cone_document(alloc: Global, bytes: &[u8]) -> Result<System, ConeFault>
-    requires { length bytes.now ≤ 2 ^ 31 }
+    requires { length bytes.now ≤ max_text }
     ensures { GivesConeDocument result (cone_document bytes.now) }
 {
     let mut lexer = Lexer::new(bytes);
@@ -46,7 +47,7 @@ fn answer(alloc: Global, system: &System, order: Order, limit: u128) -> Result<O
 
 /// The outcome of `rays` on an input that isn't too long.
 pub fn rays(alloc: Global, order: Order, limit: u128, bytes: &[u8]) -> Result<Outcome, NoMemory>
-    requires size { length bytes.now ≤ 2 ^ 31 }
+    requires size { length bytes.now ≤ max_text }
     requires named { order ≢ Order.Free }
     requires some_limit { 1 ≤ limit }
     requires most_limit { limit ≤ MAX_ENTRY }

@@ -1,5 +1,6 @@
 // The command `surfaces`: all vertex surfaces of a table.
-ghost use Rattle.std.specs.Prelude.{◌≡◌, ◌≢◌, ◌≤◌, ◌^◌, length, IfOk};
+ghost use Rattle.std.specs.Prelude.{◌≡◌, ◌≢◌, ◌≤◌, length, IfOk};
+ghost use Rattle.text_definitions.specs.Text.{max_text};
 ghost use Rattle.document_definitions.specs.Documents.{table_document};
 ghost use Rattle.outcome_definitions.specs.Outcomes.{IsReadOutcome};
 ghost use Rattle.outcome_definitions.specs.Enumerations.{IsSurfacesAnswer};
@@ -60,7 +61,7 @@ pub fn surfaces(
     limit: u128,
     bytes: &[u8],
 ) -> Result<Outcome, NoMemory>
-    requires size { length bytes.now ≤ 2 ^ 31 }
+    requires size { length bytes.now ≤ max_text }
     requires named { order ≢ Order.Free }
     requires some_limit { 1 ≤ limit }
     requires most_limit { limit ≤ MAX_ENTRY }

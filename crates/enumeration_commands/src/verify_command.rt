@@ -1,5 +1,6 @@
 // The command `verify`: a verdict for each vector.
-ghost use Rattle.std.specs.Prelude.{◌≡◌, ◌≤◌, ◌++◌, ◌^◌, length, map, IfOk, OnOk};
+ghost use Rattle.std.specs.Prelude.{◌≡◌, ◌≤◌, ◌++◌, length, map, IfOk, OnOk};
+ghost use Rattle.text_definitions.specs.Text.{max_text};
 ghost use Rattle.surface_definitions.specs.Coordinates as coordinates;
 ghost use Rattle.surface_definitions.specs.QuadEquations.{AreEquations};
 ghost use Rattle.document_definitions.specs.Documents.{vectors_document, verdicts_text};
@@ -77,7 +78,7 @@ fn answer(
 
 /// The outcome of `verify` on an input that isn't too long.
 pub fn verify(alloc: Global, coords: Coords, bytes: &[u8]) -> Result<Outcome, NoMemory>
-    requires { length bytes.now ≤ 2 ^ 31 }
+    requires { length bytes.now ≤ max_text }
     ensures { IfOk result (IsReadOutcome (vectors_document bytes.now) (IsVerdictsAnswer coords)) }
 {
     match read_table_and_vectors(alloc, bytes) {

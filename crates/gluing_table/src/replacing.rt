@@ -4,7 +4,7 @@ ghost use Rattle.std.specs.Prelude.{◌≡◌, false, ◌==◌, ◌+◌, ◌<◌
 ghost use Rattle.std.specs.List.Sorted.{IsStrictlyIncreasing};
 ghost use Rattle.table_definitions.specs.Lists.{has, first_some, closed_up};
 ghost use Rattle.table_definitions.specs.Table as gluings;
-ghost use Rattle.table_definitions.specs.Table.{IsTable};
+ghost use Rattle.table_definitions.specs.Table.{max_tets, IsTable};
 ghost use Rattle.table_definitions.specs.Replacing as exchange;
 ghost use Rattle.table_definitions.specs.Replacing.{replaced, replaced_length};
 ghost use Rattle.table_definitions.specs.Replaceable.{CanReplace, numbers_of, gone_before, row_back};
@@ -183,12 +183,12 @@ fn new_row(rows: &[Row], removed: &[u32], fresh: &[(u32, Row)], number: u32) -> 
 /// Writes the rows of the new table where none are yet and there is room for all.
 pub fn write_replaced(new: &mut Vec<Row>, rows: &[Row], removed: &[u32], fresh: &[(u32, Row)])
     requires empty { new.old.items ≡ [] }
-    requires room { 1000 ≤ vec_capacity new.old }
+    requires room { max_tets ≤ vec_capacity new.old }
     requires table { IsTable rows.now }
     requires can { CanReplace rows.now (record { removed = removed.now; fresh = fresh.now }) }
     ensures rows { new.new.items ≡ replaced rows.now (record { removed = removed.now; fresh = fresh.now }) }
     ensures is_table { IsTable new.new.items }
-    ensures room { 1000 ≤ vec_capacity new.new }
+    ensures room { max_tets ≤ vec_capacity new.new }
 {
     let length = rows.len() - removed.len() + fresh.len();
     for number in 0..length as u32 {

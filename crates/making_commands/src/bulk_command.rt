@@ -1,5 +1,6 @@
 // The command `bulk`: a table is made, its certificate is checked, and its surfaces are summed up.
 ghost use Rattle.std.specs.Prelude.{◌≡◌, ◌-◌, ◌<◌, ◌≤◌, ◌^◌, length, IfOk};
+ghost use Rattle.command_definitions.specs.Requests.{most_moves};
 ghost use Rattle.move_definitions.specs.Certificates.{IsCertificate};
 ghost use Rattle.outcome_definitions.specs.Makings.{IsSummary, IsBulkAnswer};
 
@@ -41,7 +42,7 @@ fn summed_up(alloc: Global, numbers: Numbers, skeleton: &Skeleton) -> Result<Out
 /// The outcome of `bulk`: a table is made by up to so many moves from a seed, its certificate is accepted, and its vertex
 /// surfaces in standard coordinates are summed up; or a number passes the limit while they are listed.
 pub fn bulk(alloc: Global, seed: u64, moves: u32) -> Result<Outcome, NoMemory>
-    requires { moves ≤ 1000 }
+    requires { moves ≤ most_moves }
     ensures { IfOk result (IsBulkAnswer seed moves) }
 {
     let made = tri_build::make(alloc, seed, moves)?;

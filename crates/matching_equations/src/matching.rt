@@ -6,7 +6,7 @@ ghost use Rattle.surface_definitions.specs.Equations.{matching, matching_rows};
 ghost use Rattle.surface_definitions.specs.Equations as equations;
 ghost use Rattle.table_definitions.specs.Permutation.{IsPermutationOfFour};
 ghost use Rattle.table_definitions.specs.Table as gluings;
-ghost use Rattle.table_definitions.specs.Table.{IsTable};
+ghost use Rattle.table_definitions.specs.Table.{max_tets, IsTable};
 ghost use Rattle.matching_equations.specs.Matching.{glued_rows, face_rows, tet_rows};
 
 use crate::equation::row_of;
@@ -27,8 +27,8 @@ fn push_equation(
     system: &mut System,
 ) -> Result<(), NoMemory>
     requires coords { coords ≢ Coords.Quad }
-    requires tet { face.tet < 1000 }
-    requires other_tet { glue.tet < 1000 }
+    requires tet { face.tet < max_tets }
+    requires other_tet { glue.tet < max_tets }
     requires a_face { face.face < 4 }
     requires a_vertex { vertex < 4 }
     requires apart { vertex ≢ face.face }
@@ -56,8 +56,8 @@ fn push_glued(
     system: &mut System,
 ) -> Result<(), NoMemory>
     requires coords { coords ≢ Coords.Quad }
-    requires tet { face.tet < 1000 }
-    requires other_tet { glue.tet < 1000 }
+    requires tet { face.tet < max_tets }
+    requires other_tet { glue.tet < max_tets }
     requires a_face { face.face < 4 }
     requires permutes { IsPermutationOfFour glue.perm }
     requires room { length system.old.rows + 4 < 2 ^ 32 }

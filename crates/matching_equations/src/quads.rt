@@ -1,6 +1,7 @@
 //! The equations in quad coordinates.
 
 ghost use Rattle.std.specs.Prelude.{◌≡◌, ◌≢◌, ◌+◌, ◌*◌, ◌<◌, ◌≤◌, ◌^◌, [], ◌∷◌, ◌++◌, length, IfOk, OnOk};
+ghost use Rattle.table_definitions.specs.Table.{max_tets};
 ghost use Rattle.surface_definitions.specs.Coordinates as coordinates;
 ghost use Rattle.surface_definitions.specs.Equations as equations;
 ghost use Rattle.surface_definitions.specs.QuadEquations.{AreQuadRows, quad_equation};
@@ -18,7 +19,7 @@ use surface_definitions::Coords;
 
 /// The column of the quad that keeps two vertices of a tetrahedron on one side.
 fn quad_along(tet: u32, vertex: u8, other: u8) -> u32
-    requires tet { tet ≤ 1000 }
+    requires tet { tet ≤ max_tets }
     requires a_vertex { vertex < 4 }
     requires another { other < 4 }
     requires apart { vertex ≢ other }
@@ -29,7 +30,7 @@ fn quad_along(tet: u32, vertex: u8, other: u8) -> u32
 
 /// Of each corner, the column of the quad that keeps a and c on one side.
 fn first_columns(alloc: Global, corners: &[Corner]) -> Result<Vec<u32>, NoMemory>
-    requires { AreCornersIn 1000 corners.now }
+    requires { AreCornersIn max_tets corners.now }
     ensures { IfOk result (λ columns. columns.items ≡ (quad_equation corners.now).left) }
 {
     let mut columns = Vec::with_capacity(alloc, corners.len())?;
@@ -41,7 +42,7 @@ fn first_columns(alloc: Global, corners: &[Corner]) -> Result<Vec<u32>, NoMemory
 
 /// Of each corner, the column of the quad that keeps a and d on one side.
 fn second_columns(alloc: Global, corners: &[Corner]) -> Result<Vec<u32>, NoMemory>
-    requires { AreCornersIn 1000 corners.now }
+    requires { AreCornersIn max_tets corners.now }
     ensures { IfOk result (λ columns. columns.items ≡ (quad_equation corners.now).right) }
 {
     let mut columns = Vec::with_capacity(alloc, corners.len())?;
@@ -53,7 +54,7 @@ fn second_columns(alloc: Global, corners: &[Corner]) -> Result<Vec<u32>, NoMemor
 
 /// Appends the row of the corners round an edge.
 fn push_round(alloc: Global, corners: &[Corner], system: &mut System) -> Result<(), NoMemory>
-    requires corners { AreCornersIn 1000 corners.now }
+    requires corners { AreCornersIn max_tets corners.now }
     requires few { length corners.now ≤ 1000000 }
     requires room { length system.old.rows + 1 < 2 ^ 32 }
     ensures columns { OnOk result (system.new.columns ≡ system.old.columns) }

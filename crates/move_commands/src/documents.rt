@@ -1,5 +1,6 @@
 // The document of a table and steps.
-ghost use Rattle.std.specs.Prelude.{◌≤◌, ◌^◌, length};
+ghost use Rattle.std.specs.Prelude.{◌≤◌, length};
+ghost use Rattle.text_definitions.specs.Text.{max_text};
 ghost use Rattle.document_definitions.specs.Documents.{steps_document};
 ghost use Rattle.text_definitions.specs.Reading.{Reads};
 ghost use Rattle.move_commands.specs.Scripts.{steps_of};
@@ -22,7 +23,7 @@ pub struct TableAndSteps {
 /// The document of a table and steps.
 #[tactic(auto, unfolding(document_definitions::specs::Documents::table_and_lines))]
 pub fn read_table_and_steps(alloc: Global, bytes: &[u8]) -> Result<TableAndSteps, InputFault>
-    requires { length bytes.now ≤ 2 ^ 31 }
+    requires { length bytes.now ≤ max_text }
     ensures { Reads InputFault.NoMemory (λ d. (d.table, steps_of d.steps)) result (steps_document bytes.now) }
 {
     let mut lexer = Lexer::new(bytes);

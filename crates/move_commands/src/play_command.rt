@@ -1,5 +1,6 @@
 // The command `play`: a line for each step of a script, and the table then.
-ghost use Rattle.std.specs.Prelude.{◌≡◌, ◌≤◌, ◌^◌, length, IfOk};
+ghost use Rattle.std.specs.Prelude.{◌≡◌, ◌≤◌, length, IfOk};
+ghost use Rattle.text_definitions.specs.Text.{max_text};
 ghost use Rattle.document_definitions.specs.Documents.{steps_document};
 ghost use Rattle.outcome_definitions.specs.Outcomes.{IsReadOutcome};
 ghost use Rattle.outcome_definitions.specs.Scripts.{IsScriptAnswer};
@@ -26,7 +27,7 @@ fn answer(alloc: Global, table: Table, steps: &[Step]) -> Result<Outcome, NoMemo
 
 /// The outcome of `play` on an input that isn't too long.
 pub fn play(alloc: Global, bytes: &[u8]) -> Result<Outcome, NoMemory>
-    requires { length bytes.now ≤ 2 ^ 31 }
+    requires { length bytes.now ≤ max_text }
     ensures { IfOk result (IsReadOutcome (steps_document bytes.now) IsScriptAnswer) }
 {
     match read_table_and_steps(alloc, bytes) {

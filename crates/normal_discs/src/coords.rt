@@ -1,6 +1,7 @@
 //! Which pieces have columns, and which.
 
 ghost use Rattle.std.specs.Prelude.{◌≡◌, ◌≢◌, ◌+◌, ◌*◌, ◌/◌, ◌%◌, ◌<◌, ◌≤◌, nat_lt, IfSome, if◌then◌else◌};
+ghost use Rattle.table_definitions.specs.Table.{max_tets};
 ghost use Rattle.surface_definitions.specs.Coordinates as coordinates;
 ghost use Rattle.surface_definitions.specs.Pieces.{type_in};
 
@@ -36,7 +37,7 @@ pub fn triangles_each(coords: Coords) -> u32
 
 /// The columns of so many tetrahedra.
 pub fn columns(coords: Coords, tets: u32) -> u32
-    requires { tets ≤ 1000 }
+    requires { tets ≤ max_tets }
     ensures value { result ≡ coordinates.columns coords tets }
     ensures few { result ≤ 10000 }
 {
@@ -77,7 +78,7 @@ fn local_column(coords: Coords, piece: Piece) -> Option<u32>
 
 /// The column of a piece of a tetrahedron; nothing exactly where the coordinates have no such piece.
 pub fn column(coords: Coords, tet: u32, piece: Piece) -> Option<u32>
-    requires { tet ≤ 1000 }
+    requires { tet ≤ max_tets }
     ensures value { result ≡ coordinates.column_of coords tet piece }
     ensures in_range { IfSome result (λ column. column < coordinates.columns coords (tet + 1)) }
 {
@@ -87,7 +88,7 @@ pub fn column(coords: Coords, tet: u32, piece: Piece) -> Option<u32>
 
 /// The first column of a tetrahedron.
 pub fn first_column(coords: Coords, tet: u32) -> u32
-    requires { tet ≤ 1000 }
+    requires { tet ≤ max_tets }
     ensures value { result ≡ coordinates.columns_each coords * tet }
     ensures few { result ≤ 10000 }
 {
@@ -110,7 +111,7 @@ pub fn place_of(coords: Coords, column: u32) -> u32
 
 /// The column of the triangles round a vertex.
 pub fn triangle_column(coords: Coords, tet: u32, vertex: u8) -> u32
-    requires tet { tet ≤ 1000 }
+    requires tet { tet ≤ max_tets }
     requires a_vertex { vertex < 4 }
     ensures { result ≡ coordinates.tri_column coords tet vertex }
 {
@@ -119,7 +120,7 @@ pub fn triangle_column(coords: Coords, tet: u32, vertex: u8) -> u32
 
 /// The column of the quads of a type.
 pub fn quad_column(coords: Coords, tet: u32, kind: u8) -> u32
-    requires tet { tet ≤ 1000 }
+    requires tet { tet ≤ max_tets }
     requires a_type { kind < 3 }
     ensures { result ≡ coordinates.quad_column coords tet kind }
 {
@@ -128,7 +129,7 @@ pub fn quad_column(coords: Coords, tet: u32, kind: u8) -> u32
 
 /// The column of the octagons of a type.
 pub fn octagon_column(tet: u32, kind: u8) -> u32
-    requires tet { tet ≤ 1000 }
+    requires tet { tet ≤ max_tets }
     requires a_type { kind < 3 }
     ensures { result ≡ coordinates.oct_column Coords.Octagon tet kind }
 {

@@ -1,6 +1,7 @@
 //! The columns of the discs that meet a face round a vertex, or an edge.
 
 ghost use Rattle.std.specs.Prelude.{◌≡◌, ◌≢◌, ◌<◌, ◌≤◌};
+ghost use Rattle.table_definitions.specs.Table.{max_tets};
 ghost use Rattle.surface_definitions.specs.Coordinates as coordinates;
 ghost use Rattle.surface_definitions.specs.Characteristic.{crossings};
 
@@ -11,7 +12,7 @@ use surface_definitions::Coords;
 
 /// The columns of the octagons with an arc round a vertex in a face: two where octagons have columns, and else none.
 pub fn octagon_arcs(coords: Coords, tet: u32, face: u8, vertex: u8) -> ArrayVec<u32, 2>
-    requires tet { tet ≤ 1000 }
+    requires tet { tet ≤ max_tets }
     requires a_vertex { vertex < 4 }
     requires a_face { face < 4 }
     requires apart { vertex ≢ face }
@@ -29,7 +30,7 @@ pub fn octagon_arcs(coords: Coords, tet: u32, face: u8, vertex: u8) -> ArrayVec<
 /// The columns of the pieces with an arc round a vertex in a face: a triangle, a quad, and the octagons.
 pub fn arc_columns(coords: Coords, tet: u32, face: u8, vertex: u8) -> ArrayVec<u32, 4>
     requires coords { coords ≢ Coords.Quad }
-    requires tet { tet ≤ 1000 }
+    requires tet { tet ≤ max_tets }
     requires a_vertex { vertex < 4 }
     requires a_face { face < 4 }
     requires apart { vertex ≢ face }
@@ -49,7 +50,7 @@ pub fn arc_columns(coords: Coords, tet: u32, face: u8, vertex: u8) -> ArrayVec<u
 /// where they have columns each once, and that which keeps the two on one side once more.
 pub fn edge_columns(coords: Coords, tet: u32, vertex: u8, other: u8) -> ArrayVec<u32, 8>
     requires coords { coords ≢ Coords.Quad }
-    requires tet { tet ≤ 1000 }
+    requires tet { tet ≤ max_tets }
     requires a_vertex { vertex < 4 }
     requires another { other < 4 }
     requires apart { vertex ≢ other }

@@ -3,7 +3,7 @@
 ghost use Rattle.std.specs.Prelude.{◌≡◌, ◌≢◌, ◌<◌, ◌≤◌, length, filter, find, not, ◌==◌, map, IfSome, All};
 ghost use Rattle.table_definitions.specs.Lists.{below, closed_up, in_place_of};
 ghost use Rattle.table_definitions.specs.Permutation.{IsPermutationOfFour, image, preimage, identity};
-ghost use Rattle.table_definitions.specs.Table.{IsTable};
+ghost use Rattle.table_definitions.specs.Table.{max_tets, IsTable};
 ghost use Rattle.table_definitions.specs.Relabelling.{gluing_under};
 ghost use Rattle.move_definitions.specs.Moves as moves;
 ghost use Rattle.pachner_moves.specs.Facets.{IsFacet, IsOldFacet, AreOldFacets};
@@ -34,7 +34,7 @@ pub fn other_labels(label: u8) -> [u8; 4]
 /// The number of tetrahedra that a move keeps.
 pub fn kept(table: &Table, m: &Move) -> u32
     ensures value { result ≡ moves.kept table.now m.now }
-    ensures few { result ≤ 1000 }
+    ensures few { result ≤ max_tets }
     ensures is_table { IsTable table.now }
 {
     (table.rows().len() as u32).saturating_sub(5 - m.core.size() as u32)

@@ -2,7 +2,7 @@
 
 ghost use Rattle.std.specs.Prelude.{◌≡◌, ◌≢◌, ◌<◌, ◌≤◌, ◌+◌, ◌-◌, [], length, None, map, All, IfOk, IfErr, OnOk, OnErr};
 ghost use Rattle.std.specs.List.{range_with_len, slice_index_or};
-ghost use Rattle.table_definitions.specs.Table.{IsTable};
+ghost use Rattle.table_definitions.specs.Table.{max_tets, IsTable};
 ghost use Rattle.move_definitions.specs.Moves as moves;
 ghost use Rattle.move_definitions.specs.Moves.{Plays, IsCore};
 ghost use Rattle.move_definitions.specs.Undos as undos;
@@ -194,7 +194,7 @@ pub fn inverse_move(undo: &Undo) -> Move
 
 /// The numbers of the tetrahedra that a move put in.
 fn put_numbers(undo: &Undo) -> ArrayVec<u32, 4>
-    requires few { undo.now.tets ≤ 1000 }
+    requires few { undo.now.tets ≤ max_tets }
     ensures { result.items ≡ (undos.back_exchange undo.now).removed }
 {
     let mut numbers = ArrayVec::new();

@@ -1,6 +1,7 @@
 //! The command `csame`: the relabelling that is told of two tables, part by part.
 
-ghost use Rattle.std.specs.Prelude.{◌≡◌, ◌≤◌, ◌^◌, length, IfOk};
+ghost use Rattle.std.specs.Prelude.{◌≡◌, ◌≤◌, length, IfOk};
+ghost use Rattle.text_definitions.specs.Text.{max_text};
 ghost use Rattle.document_definitions.specs.Documents.{two_tables_document};
 ghost use Rattle.outcome_definitions.specs.Outcomes.{IsReadOutcome};
 ghost use Rattle.outcome_definitions.specs.Parts.{IsSamePartsAnswer};
@@ -24,7 +25,7 @@ fn answer(alloc: Global, first: &Table, second: &Table) -> Result<Outcome, NoMem
 
 /// The outcome of `csame` on an input that isn't too long.
 pub fn csame(alloc: Global, bytes: &[u8]) -> Result<Outcome, NoMemory>
-    requires { length bytes.now ≤ 2 ^ 31 }
+    requires { length bytes.now ≤ max_text }
     ensures answer { IfOk result (IsReadOutcome (two_tables_document bytes.now) IsSamePartsAnswer) }
 {
     match read_two_tables(alloc, bytes) {

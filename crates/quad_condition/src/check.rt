@@ -1,6 +1,7 @@
 //! Whether a vector is an admissible solution.
 
 ghost use Rattle.std.specs.Prelude.{◌≡◌, ◌↔◌, ◌≤◌, length, IsOk};
+ghost use Rattle.table_definitions.specs.Table.{max_tets};
 ghost use Rattle.surface_definitions.specs.Coordinates as coordinates;
 ghost use Rattle.surface_definitions.specs.Verdict.{verdict};
 ghost use Rattle.surface_definitions.specs.Laws.{IsAccepted};
@@ -28,7 +29,7 @@ pub fn check_vector(
     system: &System,
     x: &[u128],
 ) -> Result<(), VectorFault>
-    requires tets { tets ≤ 1000 }
+    requires tets { tets ≤ max_tets }
     requires columns { system.now.columns ≡ coordinates.columns coords tets }
     ensures verdict { result ≡ verdict MAX_ENTRY system.now.columns system.now.rows (coordinates.clash_list coords tets) x.now }
     ensures accepts { IsOk result ↔ IsAccepted MAX_ENTRY system.now.columns system.now.rows (coordinates.clash_list coords tets) x.now }

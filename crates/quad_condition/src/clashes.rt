@@ -1,6 +1,7 @@
 //! Which columns clash.
 
 ghost use Rattle.std.specs.Prelude.{◌≡◌, ℕ, ◌+◌, ◌<◌, ◌≤◌, ◌++◌, false, find, length, OnOk, IfOk, option_map};
+ghost use Rattle.table_definitions.specs.Table.{max_tets};
 ghost use Rattle.surface_definitions.specs.Coordinates as coordinates;
 ghost use Rattle.surface_definitions.specs.Verdict.{both_nonzero};
 ghost use Rattle.double_description.specs.Clashes.{AreClashes};
@@ -26,7 +27,7 @@ fn do_clash(coords: Coords, first: u32, second: u32) -> bool
 /// The end of the columns that a column may clash with: of its tetrahedron for a triangle or a quad, and of all for
 /// an octagon.
 fn partners_end(coords: Coords, tets: u32, first: u32) -> u32
-    requires tets { tets ≤ 1000 }
+    requires tets { tets ≤ max_tets }
     requires in_range { first < coordinates.columns coords tets }
     ensures above { first + 1 ≤ result }
     ensures within { result ≤ coordinates.columns coords tets }
@@ -47,7 +48,7 @@ fn push_partners(
     first: u32,
     clashes: &mut Vec<(u32, u32)>,
 ) -> Result<(), NoMemory>
-    requires tets { tets ≤ 1000 }
+    requires tets { tets ≤ max_tets }
     requires in_range { first < coordinates.columns coords tets }
     ensures { OnOk result (clashes.new.items ≡ clashes.old.items ++ partners coords tets first) }
 {
@@ -61,7 +62,7 @@ fn push_partners(
 
 /// All clashing pairs of columns, the lesser column first, ascending.
 pub fn clash_list(alloc: Global, coords: Coords, tets: u32) -> Result<Vec<(u32, u32)>, NoMemory>
-    requires { tets ≤ 1000 }
+    requires { tets ≤ max_tets }
     ensures pairs { IfOk result (λ clashes. clashes.items ≡ coordinates.clash_list coords tets) }
     ensures apart { IfOk result (λ clashes. AreClashes (coordinates.columns coords tets) clashes.items) }
 {
@@ -74,7 +75,7 @@ pub fn clash_list(alloc: Global, coords: Coords, tets: u32) -> Result<Vec<(u32, 
 
 /// The least later column that isn't 0 and clashes with a column that isn't 0.
 fn first_partner(coords: Coords, tets: u32, x: &[u128], first: u32) -> Option<u32>
-    requires tets { tets ≤ 1000 }
+    requires tets { tets ≤ max_tets }
     requires width { length x.now ≡ coordinates.columns coords tets }
     requires in_range { first < length x.now }
     ensures { option_map (λ second. (first, second)) result ≡ find (both_nonzero x.now) (partners coords tets first) }
@@ -93,7 +94,7 @@ fn first_partner(coords: Coords, tets: u32, x: &[u128], first: u32) -> Option<u3
 /// The least clashing pair that is nonzero in both places. Only the first octagon that isn't 0 is compared with the
 /// octagons of other tetrahedra: where it has no partner, there is no later octagon.
 pub fn first_clash(coords: Coords, tets: u32, x: &[u128]) -> Option<(u32, u32)>
-    requires tets { tets ≤ 1000 }
+    requires tets { tets ≤ max_tets }
     requires width { length x.now ≡ coordinates.columns coords tets }
     ensures { result ≡ find (both_nonzero x.now) (coordinates.clash_list coords tets) }
 {

@@ -2,6 +2,7 @@
 
 ghost use Rattle.std.specs.Prelude.{◌≡◌, ℕ, ◌+◌, ◌<◌, ◌≤◌, ◌↔◌, Vec, length, IsTrue, IfOk, slice_index_or};
 ghost use Rattle.std.specs.declared.alloc.Global.{Global};
+ghost use Rattle.table_definitions.specs.Table.{max_tets};
 ghost use Rattle.surface_definitions.specs.Coordinates as coordinates;
 ghost use Rattle.double_description.specs.Clashes.{IsClashFree};
 ghost use Rattle.quad_condition.specs.Marks as marks;
@@ -55,7 +56,7 @@ fn mask(
     least: u32,
     distance: u32,
 ) -> Result<Vec<u64>, NoMemory>
-    requires tets { tets ≤ 1000 }
+    requires tets { tets ≤ max_tets }
     requires distance { distance ≤ 10 }
     ensures { IfOk result (λ words. AreMarks coords tets least distance words.items) }
 {
@@ -71,7 +72,7 @@ fn mask(
 
 /// The masks of the distances within a tetrahedron, from 1 on.
 fn near_masks(alloc: Global, coords: Coords, tets: u32) -> Result<Vec<Vec<u64>>, NoMemory>
-    requires { tets ≤ 1000 }
+    requires { tets ≤ max_tets }
     ensures { IfOk result (λ near. AreNear coords tets near.items) }
 {
     let least = triangles_each(coords);
@@ -100,7 +101,7 @@ fn has_near(near: &[Vec<u64>], a: &[u64], b: &[u64]) -> bool
 impl Masks {
     /// The masks of the columns of so many tetrahedra.
     pub fn new(alloc: Global, coords: Coords, tets: u32) -> Result<Masks, NoMemory>
-        requires { tets ≤ 1000 }
+        requires { tets ≤ max_tets }
         ensures { IfOk result (λ masks. masks ≡ record { coords = coords; tets = tets }) }
     {
         let near = near_masks(alloc, coords, tets)?;

@@ -1,6 +1,7 @@
 //! The vertex across a face, and the quads on both sides.
 
 ghost use Rattle.std.specs.Prelude.{◌≡◌, ◌≢◌, ◌+◌, ◌*◌, ◌/◌, ◌%◌, ◌<◌, ◌≤◌, length, slice_index, IfNone, IfSome, None};
+ghost use Rattle.table_definitions.specs.Table.{max_tets};
 ghost use Rattle.surface_definitions.specs.declared.Coords.TheVariants.{Quad as QuadCoords};
 ghost use Rattle.surface_definitions.specs.Coordinates as coordinates;
 ghost use Rattle.table_definitions.specs.Table as gluings;
@@ -14,7 +15,7 @@ use surface_definitions::Coords;
 
 /// How many quads have an arc round v in the face.
 fn quads_round(x: &[u128], face: Face, v: u8) -> u128
-    requires few { face.tet ≤ 1000 }
+    requires few { face.tet ≤ max_tets }
     requires width { 3 * face.tet + 3 ≤ length x.now }
     requires a_face { face.face < 4 }
     requires a_vertex { v < 4 }

@@ -1,6 +1,7 @@
 //! The count of tetrahedra, with which a text begins.
 
 ghost use Rattle.std.specs.Prelude.{◌≡◌, ◌<◌, ◌≤◌, length, IfOk};
+ghost use Rattle.table_definitions.specs.Table.{max_tets};
 ghost use Rattle.signature_definitions.specs.SignatureText as signatures;
 ghost use Rattle.signature_definitions.specs.Spelling as spellings;
 ghost use Rattle.signature_text_laws.specs.Faults.{Reads};
@@ -40,7 +41,7 @@ fn wide_head(text: &[u8], width_read: u32) -> Result<Head, SigFault>
     requires in_text { 2 ≤ length text.now }
     requires narrow { width_read < 3 }
     ensures reads { Reads head_shown result (signatures.wide_head text.now width_read) }
-    ensures few { IfOk result (λ h. h.count ≤ 1000) }
+    ensures few { IfOk result (λ h. h.count ≤ max_tets) }
     ensures narrow { IfOk result (λ h. h.width ≤ 2) }
     ensures in_text { IfOk result (λ h. h.next ≤ length text.now) }
 {
@@ -61,7 +62,7 @@ fn wide_head(text: &[u8], width_read: u32) -> Result<Head, SigFault>
 /// The head of a text that begins with `-`.
 fn long_head(text: &[u8]) -> Result<Head, SigFault>
     ensures reads { Reads head_shown result (signatures.long_head text.now) }
-    ensures few { IfOk result (λ h. h.count ≤ 1000) }
+    ensures few { IfOk result (λ h. h.count ≤ max_tets) }
     ensures narrow { IfOk result (λ h. h.width ≤ 2) }
     ensures in_text { IfOk result (λ h. h.next ≤ length text.now) }
 {
@@ -79,7 +80,7 @@ fn long_head(text: &[u8]) -> Result<Head, SigFault>
 #[tactic(auto, unfolding(signature_definitions::specs::SignatureText::head_of))]
 pub fn head_of(text: &[u8]) -> Result<Head, SigFault>
     ensures reads { Reads head_shown result (signatures.head_of text.now) }
-    ensures few { IfOk result (λ h. h.count ≤ 1000) }
+    ensures few { IfOk result (λ h. h.count ≤ max_tets) }
     ensures narrow { IfOk result (λ h. h.width ≤ 2) }
     ensures in_text { IfOk result (λ h. h.next ≤ length text.now) }
 {

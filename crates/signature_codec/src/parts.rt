@@ -1,6 +1,7 @@
 //! What is read of a text before its faces are joined.
 
 ghost use Rattle.std.specs.Prelude.{◌≡◌, ◌<◌, ◌≤◌, length, IfOk};
+ghost use Rattle.table_definitions.specs.Table.{max_tets};
 ghost use Rattle.table_definitions.specs.Lists.{times_in};
 ghost use Rattle.signature_text_laws.specs.Faults.{Reads};
 ghost use Rattle.signature_codec.specs.Shown.{head_shown, types_shown, parts_shown};
@@ -33,9 +34,9 @@ fn twos_of(types: &[u8]) -> usize
 pub fn read_parts(alloc: Global, text: &[u8], head: Head, types: Types) -> Result<Parts, SigFault>
     requires in_text { types.next ≤ length text.now }
     requires narrow { head.width ≤ 2 }
-    requires few { head.count ≤ 1000 }
+    requires few { head.count ≤ max_tets }
     requires few_types { length types.read.items ≤ 4000 }
-    requires few_ones { types.ones ≤ 1000 }
+    requires few_ones { types.ones ≤ max_tets }
     ensures reads { Reads parts_shown result (parts_of text.now (head_shown head) (types_shown types) types.next) }
     ensures count { IfOk result (λ p. p.count ≡ head.count) }
 {

@@ -1,6 +1,7 @@
 //! The types of faces: boundary, glued to a tetrahedron not yet seen, glued to one already seen.
 
 ghost use Rattle.std.specs.Prelude.{◌≡◌, ◌<◌, ◌≤◌, ◌*◌, ◌-◌, ◌+◌, [], length, IfOk, OnOk};
+ghost use Rattle.table_definitions.specs.Table.{max_tets};
 ghost use Rattle.signature_definitions.specs.SignatureText as signatures;
 ghost use Rattle.signature_text_laws.specs.Faults.{Reads, Leaves};
 ghost use Rattle.signature_codec.specs.Shown.{types_shown, read_behind};
@@ -36,10 +37,10 @@ fn is_wrong_type(count: u32, kind: u8, left: u32, ones: u32) -> bool
 
 /// Takes one of the three types of a character.
 fn take_type(types: &mut Types, count: u32, kind: u8) -> Result<(), SigFault>
-    requires few { count ≤ 1000 }
-    requires few_ones { types.old.ones ≤ 1000 }
+    requires few { count ≤ max_tets }
+    requires few_ones { types.old.ones ≤ max_tets }
     ensures reads { Leaves (types_shown types.new) result (signatures.type_at count types.old.next kind (types_shown types.old)) }
-    ensures few_ones { OnOk result (types.new.ones ≤ 1000) }
+    ensures few_ones { OnOk result (types.new.ones ≤ max_tets) }
     ensures same_place { types.new.next ≡ types.old.next }
     ensures less { OnOk result (types.new.left ≤ types.old.left - 1) }
     ensures counts { OnOk result (length types.new.read.items + types.new.left ≤ length types.old.read.items + types.old.left) }
@@ -63,11 +64,11 @@ fn take_type(types: &mut Types, count: u32, kind: u8) -> Result<(), SigFault>
 
 /// Takes the types of a character.
 fn take_character(types: &mut Types, count: u32, value: u8) -> Result<(), SigFault>
-    requires few { count ≤ 1000 }
-    requires few_ones { types.old.ones ≤ 1000 }
+    requires few { count ≤ max_tets }
+    requires few_ones { types.old.ones ≤ max_tets }
     requires a_value { value < 64 }
     ensures reads { Leaves (types_shown types.new) result (signatures.character_types count types.old.next value (types_shown types.old)) }
-    ensures few_ones { OnOk result (types.new.ones ≤ 1000) }
+    ensures few_ones { OnOk result (types.new.ones ≤ max_tets) }
     ensures same_place { types.new.next ≡ types.old.next }
     ensures less { OnOk result (types.new.left ≤ types.old.left - 1) }
     ensures counts { OnOk result (length types.new.read.items + types.new.left ≤ length types.old.read.items + types.old.left) }
@@ -80,12 +81,12 @@ fn take_character(types: &mut Types, count: u32, value: u8) -> Result<(), SigFau
 
 /// The types of a text.
 pub fn read_types(alloc: Global, text: &[u8], head: Head) -> Result<Types, SigFault>
-    requires few { head.count ≤ 1000 }
+    requires few { head.count ≤ max_tets }
     requires in_text { head.next ≤ length text.now }
     ensures reads { Reads read_behind result (signatures.types_from (4 * head.count) text.now head.count head.next (types_begun head.count)) }
     ensures in_text { IfOk result (λ t. t.next ≤ length text.now) }
     ensures few_types { IfOk result (λ t. length t.read.items ≤ 4000) }
-    ensures few_ones { IfOk result (λ t. t.ones ≤ 1000) }
+    ensures few_ones { IfOk result (λ t. t.ones ≤ max_tets) }
 {
     let mut types = Types {
         read: Vec::new(alloc),

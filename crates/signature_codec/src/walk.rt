@@ -4,7 +4,7 @@ ghost use Rattle.std.specs.Prelude.{◌≡◌, ◌<◌, ◌≤◌, ◌*◌, leng
 ghost use Rattle.table_definitions.specs.Lists.{same_list};
 ghost use Rattle.table_definitions.specs.Permutation.{identity};
 ghost use Rattle.table_definitions.specs.Table as gluings;
-ghost use Rattle.table_definitions.specs.Table.{IsTable};
+ghost use Rattle.table_definitions.specs.Table.{max_tets, IsTable};
 ghost use Rattle.signature_text_laws.specs.Walks as walks;
 ghost use Rattle.signature_codec.specs.Shown.{walk_shown, Takes, IsWholeWalk, StopsAt};
 
@@ -30,7 +30,7 @@ fn is_identity(perm: Perm4) -> bool
 /// Takes a face that is glued, if it is in order.
 fn take_glued(walk: &mut Walk, face: Face, glue: Glue) -> Result<(), SpellFault>
     requires a_face { face.face < 4 }
-    requires few { walk.old.seen ≤ 1000 }
+    requires few { walk.old.seen ≤ max_tets }
     ensures takes { Takes (walk_shown walk.new) face result (walks.take_glued face glue (walk_shown walk.old)) }
 {
     if glue.other_side(face).is_before(face) {
@@ -56,7 +56,7 @@ fn take_glued(walk: &mut Walk, face: Face, glue: Glue) -> Result<(), SpellFault>
 fn take_face(walk: &mut Walk, table: &Table, face: Face) -> Result<(), SpellFault>
     requires a_face { face.face < 4 }
     requires in_range { face.tet < length table.now }
-    requires few { walk.old.seen ≤ 1000 }
+    requires few { walk.old.seen ≤ max_tets }
     ensures takes { Takes (walk_shown walk.new) face result (walks.take_face table.now face (walk_shown walk.old)) }
 {
     if face.tet >= walk.seen {

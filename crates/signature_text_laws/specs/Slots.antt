@@ -4,7 +4,7 @@ use Rattle.std.specs.List.{slice_index_or}
 use Rattle.text_definitions.specs.Reading.{◌>>=◌}
 use Rattle.table_definitions.specs.Lists.{below, times_in}
 use Rattle.table_definitions.specs.Permutation.{four, identity, words}
-use Rattle.table_definitions.specs.Table.{Gluing, Row, Face, other_side, way_back, same_face, face_number}
+use Rattle.table_definitions.specs.Table.{max_tets, Gluing, Row, Face, other_side, way_back, same_face, face_number}
 use Rattle.signature_definitions.specs.declared.SigFault.{SigFault}
 use Rattle.signature_definitions.specs.declared.SigFault.TheVariants as sig_faults
 use Rattle.signature_definitions.specs.SignatureText as signatures
@@ -78,7 +78,7 @@ slot_rows n met = map (slot_row met) (below n)
 -- there is a place for each face, a destination and a gluing for each type 2, and a tetrahedron for each type 1
 pub record IsSlots (n : ℕ) (s : Slots) : Type 0 where
   pub size : length s.met ≡ 4 * n
-  pub few : n ≤ 1000
+  pub few : n ≤ max_tets
   pub small : All (λ t. t < 3) s.parts.types
   pub destinations : length s.parts.destinations ≡ times_in s.parts.types 2
   pub gluings : length s.parts.gluings ≡ times_in s.parts.types 2

@@ -2,7 +2,7 @@
 
 ghost use Rattle.std.specs.Prelude.{◌≡◌, ◌*◌, ◌<◌, ◌≤◌, length, IfSome, ℕ};
 ghost use Rattle.table_definitions.specs.Table as gluings;
-ghost use Rattle.table_definitions.specs.Table.{IsTable, Gluing};
+ghost use Rattle.table_definitions.specs.Table.{max_tets, IsTable, Gluing};
 ghost use Rattle.class_laws.specs.Crossings.{crossed_vertex, crossed_face};
 
 use gluing_table::{Face, Glue, Table};
@@ -14,7 +14,7 @@ pub fn behind(table: &Table, face: Face) -> Option<Glue>
     requires a_face { face.face < 4 }
     ensures value { result ≡ gluings.glue table.now face }
     ensures in_range { IfSome result (λ g. g.tet < length table.now) }
-    ensures few { length table.now ≤ 1000 }
+    ensures few { length table.now ≤ max_tets }
 {
     table.glue(face)
 }

@@ -4,7 +4,7 @@ ghost use Rattle.std.specs.Prelude.{◌≡◌, ◌+◌, ◌*◌, ◌<◌, ◌≤
 ghost use Rattle.std.specs.Option.{option_copied};
 ghost use Rattle.table_definitions.specs.Classes as numbers;
 ghost use Rattle.table_definitions.specs.Places as places;
-ghost use Rattle.table_definitions.specs.Table.{IsTable};
+ghost use Rattle.table_definitions.specs.Table.{max_tets, IsTable};
 ghost use Rattle.skeleton_definitions.specs.Skeleton.{IsSkeleton, IsValidClass, IsDirection, IsFirstInvalid, IsOrientation, IsAround};
 
 use crate::boundary::is_closed;
@@ -189,7 +189,7 @@ impl Skeleton {
         requires an_edge { edge < 6 }
         ensures class { result ≡ slice_index self.now.edges.classes (6 * tet + edge) }
         ensures below { result < self.now.edges.count }
-        ensures few { length self.now.rows ≤ 1000 }
+        ensures few { length self.now.rows ≤ max_tets }
     {
         self.edges.classes[6 * tet as usize + edge as usize]
     }

@@ -1,5 +1,6 @@
 // The command `addup`: whether terms that are given add up to their vectors.
-ghost use Rattle.std.specs.Prelude.{◌≡◌, ◌≤◌, ◌^◌, length, IfOk};
+ghost use Rattle.std.specs.Prelude.{◌≡◌, ◌≤◌, length, IfOk};
+ghost use Rattle.text_definitions.specs.Text.{max_text};
 ghost use Rattle.surface_definitions.specs.Coordinates as coordinates;
 ghost use Rattle.surface_definitions.specs.QuadEquations.{AreEquations};
 ghost use Rattle.document_definitions.specs.Blocks.{blocks_document};
@@ -100,7 +101,7 @@ fn answer(
 
 /// The outcome of `addup` on an input that isn't too long.
 pub fn addup(alloc: Global, coords: Coords, bytes: &[u8]) -> Result<Outcome, NoMemory>
-    requires { length bytes.now ≤ 2 ^ 31 }
+    requires { length bytes.now ≤ max_text }
     ensures answer { IfOk result (IsReadOutcome (blocks_document bytes.now) (IsAddupAnswer coords)) }
 {
     match read_table_and_blocks(alloc, bytes) {

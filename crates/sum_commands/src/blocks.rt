@@ -1,5 +1,6 @@
 // The document of a table and blocks of sums.
-ghost use Rattle.std.specs.Prelude.{◌≤◌, ◌^◌, length};
+ghost use Rattle.std.specs.Prelude.{◌≤◌, length};
+ghost use Rattle.text_definitions.specs.Text.{max_text};
 ghost use Rattle.text_definitions.specs.Reading.{Reads, ReadsFrom};
 ghost use Rattle.table_definitions.specs.TableText.{lexed};
 ghost use Rattle.document_definitions.specs.Blocks.{blocks_document, blocks_from, block_at, term_at, terms_at, times_at};
@@ -111,7 +112,7 @@ fn read_blocks(alloc: Global, lexer: &mut Lexer<'_>) -> Result<Vec<Block>, TextF
 /// The document of a table and blocks.
 #[tactic(auto, unfolding(document_definitions::specs::Blocks::blocks_document))]
 pub fn read_table_and_blocks(alloc: Global, bytes: &[u8]) -> Result<TableAndBlocks, InputFault>
-    requires { length bytes.now ≤ 2 ^ 31 }
+    requires { length bytes.now ≤ max_text }
     ensures { Reads InputFault.NoMemory (λ d. (d.table, blocks_of d.blocks)) result (blocks_document bytes.now) }
 {
     let mut lexer = Lexer::new(bytes);

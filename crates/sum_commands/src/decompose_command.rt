@@ -1,6 +1,7 @@
 // The command `decompose`: vectors as sums of the vertex surfaces of their table.
-ghost use Rattle.std.specs.Prelude.{◌≡◌, ℕ, ◌≤◌, ◌^◌, length, IfOk, slice_index};
+ghost use Rattle.std.specs.Prelude.{◌≡◌, ℕ, ◌≤◌, length, IfOk, slice_index};
 ghost use Rattle.std.specs.List.{All};
+ghost use Rattle.text_definitions.specs.Text.{max_text};
 ghost use Rattle.cone_core.specs.declared.numbers.TheConstants.{MAX_ENTRY};
 ghost use Rattle.surface_definitions.specs.Coordinates.{columns};
 ghost use Rattle.surface_definitions.specs.QuadEquations.{AreEquations};
@@ -195,7 +196,7 @@ pub fn decompose(
     limit: u128,
     bytes: &[u8],
 ) -> Result<Outcome, NoMemory>
-    requires size { length bytes.now ≤ 2 ^ 31 }
+    requires size { length bytes.now ≤ max_text }
     requires some_limit { 1 ≤ limit }
     requires most_limit { limit ≤ MAX_ENTRY }
     ensures answer { IfOk result (IsReadOutcome (vectors_document bytes.now) (IsDecomposeAnswer coords limit)) }

@@ -1,6 +1,7 @@
 //! All admissible vertex surfaces, by elimination of the equations.
 
 ghost use Rattle.std.specs.Prelude.{◌≡◌, ◌≢◌, ◌≤◌, IfOk, IfErr, IfSome};
+ghost use Rattle.table_definitions.specs.Table.{max_tets};
 ghost use Rattle.surface_definitions.specs.Coordinates as coordinates;
 ghost use Rattle.cone_definitions.specs.Surfaces.{IsSurfaceList};
 ghost use Rattle.cone_definitions.specs.Listings.{IsListed};
@@ -30,7 +31,7 @@ fn enumerated(
     order: Order,
     limit: u128,
 ) -> Result<Rays, EnumFault>
-    requires tets { tets ≤ 1000 }
+    requires tets { tets ≤ max_tets }
     requires columns { system.now.columns ≡ coordinates.columns coords tets }
     requires named { order ≢ Order.Free }
     requires some_limit { 1 ≤ limit }
@@ -72,7 +73,7 @@ fn found_late(
     tets: u32,
     system: &System,
 ) -> Result<Option<Vec<Ray>>, NoMemory>
-    requires tets { tets ≤ 1000 }
+    requires tets { tets ≤ max_tets }
     requires columns { system.now.columns ≡ coordinates.columns coords tets }
     ensures { IfOk result (λ answer. IfSome answer (λ list. IsSurfaceList system.now.columns system.now.rows (coordinates.clash_list coords tets) list.items)) }
 {
@@ -92,7 +93,7 @@ fn found(
     tets: u32,
     system: &System,
 ) -> Result<Option<Vec<Ray>>, NoMemory>
-    requires tets { tets ≤ 1000 }
+    requires tets { tets ≤ max_tets }
     requires columns { system.now.columns ≡ coordinates.columns coords tets }
     ensures { IfOk result (λ answer. IfSome answer (λ list. IsSurfaceList system.now.columns system.now.rows (coordinates.clash_list coords tets) list.items)) }
 {

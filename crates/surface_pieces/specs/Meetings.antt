@@ -1,7 +1,7 @@
 -- Where an arc of a piece meets another.
 use Rattle.std.specs.Prelude.{◌≡◌, ◌≢◌, ℕ, ◌+◌, ◌/◌, ◌%◌, ◌<◌, Bool, List, length}
 use Rattle.table_definitions.specs.Permutation.{is_odd}
-use Rattle.table_definitions.specs.Table.{Gluing, Row}
+use Rattle.table_definitions.specs.Table.{max_tets, Gluing, Row}
 use Rattle.surface_definitions.specs.Coordinates.{columns}
 use Rattle.surface_definitions.specs.declared.Coords.{Coords}
 use Rattle.surface_definitions.specs.Pieces.{SurfacePiece, Arc, arc_across, piece_of, Meets}
@@ -12,7 +12,7 @@ pub record IsInside (coords : Coords) (xs : List ℕ) (a : Arc) : Type 0 where
   pub a_face : a.face < 4
   pub a_vertex : a.vertex < 4
   pub off : a.vertex ≢ a.face
-  pub few : a.tet < 1000
+  pub few : a.tet < max_tets
   pub width : columns coords (a.tet + 1) < length xs + 1
 
 -- an arc of piece p round the vertex of the face that the slot names, and the arc that it meets

@@ -1,6 +1,7 @@
 //! The piece of an arc, and the arc of a piece.
 
 ghost use Rattle.std.specs.Prelude.{◌≡◌, ◌≢◌, ◌+◌, ◌-◌, ◌*◌, ◌<◌, ◌≤◌, length, sum, IfSome, IfNone, if◌then◌else◌};
+ghost use Rattle.table_definitions.specs.Table.{max_tets};
 ghost use Rattle.surface_definitions.specs.Coordinates as coordinates;
 ghost use Rattle.surface_definitions.specs.Pieces as pieces;
 ghost use Rattle.table_definitions.specs.Table as gluings;
@@ -27,7 +28,7 @@ fn keeps_by_zero(kind: u8, v: u8) -> bool
 fn triangles(coords: Coords, x: &[u32], arc: SurfaceArc) -> u32
     requires coords { coords ≢ Coords.Quad }
     requires a_vertex { arc.vertex < 4 }
-    requires few { arc.tet < 1000 }
+    requires few { arc.tet < max_tets }
     requires width { coordinates.columns coords (arc.tet + 1) < length x.now + 1 }
     ensures { result ≡ pieces.triangles_round coords x.now arc }
 {
@@ -51,7 +52,7 @@ pub fn piece_of(coords: Coords, x: &[u32], arc: SurfaceArc) -> Piece
     requires a_face { arc.face < 4 }
     requires a_vertex { arc.vertex < 4 }
     requires off { arc.vertex ≢ arc.face }
-    requires few { arc.tet < 1000 }
+    requires few { arc.tet < max_tets }
     requires width { coordinates.columns coords (arc.tet + 1) < length x.now + 1 }
     ensures { result ≡ pieces.piece_of coords x.now arc }
 {
@@ -76,7 +77,7 @@ pub fn looks_positive(coords: Coords, x: &[u32], arc: SurfaceArc) -> bool
     requires a_face { arc.face < 4 }
     requires a_vertex { arc.vertex < 4 }
     requires off { arc.vertex ≢ arc.face }
-    requires few { arc.tet < 1000 }
+    requires few { arc.tet < max_tets }
     requires width { coordinates.columns coords (arc.tet + 1) < length x.now + 1 }
     ensures { result ≡ pieces.looks_positive coords x.now arc }
 {

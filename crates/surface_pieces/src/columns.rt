@@ -1,6 +1,7 @@
 //! The arcs round a vertex of a face, and the column of those behind the triangles.
 
 ghost use Rattle.std.specs.Prelude.{◌≡◌, ◌≢◌, ◌+◌, ◌*◌, ◌%◌, ◌<◌, ◌≤◌, All, length};
+ghost use Rattle.table_definitions.specs.Table.{max_tets};
 ghost use Rattle.surface_definitions.specs.Coordinates as coordinates;
 ghost use Rattle.surface_definitions.specs.Pieces as pieces;
 ghost use Rattle.surface_pieces.specs.Arcs.{first_nonzero};
@@ -48,7 +49,7 @@ pub fn behind(coords: Coords, x: &[u32], arc: SurfaceArc) -> u32
     requires a_face { arc.face < 4 }
     requires a_vertex { arc.vertex < 4 }
     requires off { arc.vertex ≢ arc.face }
-    requires few { arc.tet < 1000 }
+    requires few { arc.tet < max_tets }
     requires width { coordinates.columns coords (arc.tet + 1) < length x.now + 1 }
     ensures column { result ≡ pieces.further_column coords x.now arc }
     ensures no_triangle { 4 ≤ result % coordinates.columns_each coords }

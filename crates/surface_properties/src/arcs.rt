@@ -4,7 +4,7 @@ ghost use Rattle.std.specs.Prelude.{◌≡◌, ◌≢◌, ◌+◌, ◌*◌, ◌<
 ghost use Rattle.table_definitions.specs.Permutation.{others};
 ghost use Rattle.table_definitions.specs.Table as gluings;
 ghost use Rattle.skeleton_definitions.specs.Links.{is_first_side as is_first};
-ghost use Rattle.table_definitions.specs.Table.{IsTable};
+ghost use Rattle.table_definitions.specs.Table.{max_tets, IsTable};
 ghost use Rattle.surface_definitions.specs.Coordinates.{columns};
 ghost use Rattle.surface_definitions.specs.Pieces as pieces;
 ghost use Rattle.surface_definitions.specs.Characteristic as characteristic;
@@ -26,7 +26,7 @@ pub fn arcs_round(coords: Coords, x: &[u128], face: Face, v: u8) -> u128
     requires a_face { face.face < 4 }
     requires a_vertex { v < 4 }
     requires off { v ≢ face.face }
-    requires few { face.tet < 1000 }
+    requires few { face.tet < max_tets }
     requires width { columns coords (face.tet + 1) < length x.now + 1 }
     ensures { result ≡ capped (pieces.arcs_round coords x.now face.tet face.face v) }
 {
@@ -49,7 +49,7 @@ fn corner(face: u8, number: usize) -> u8
 pub fn arcs_in(coords: Coords, x: &[u128], face: Face) -> u128
     requires coords { coords ≢ Coords.Quad }
     requires a_face { face.face < 4 }
-    requires few { face.tet < 1000 }
+    requires few { face.tet < max_tets }
     requires width { columns coords (face.tet + 1) < length x.now + 1 }
     ensures { result ≡ capped (characteristic.arcs_in coords x.now face) }
 {

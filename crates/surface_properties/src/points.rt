@@ -1,6 +1,7 @@
 //! The points in which a surface meets the edges.
 
 ghost use Rattle.std.specs.Prelude.{◌≡◌, ◌≢◌, ◌+◌, ◌*◌, ◌<◌, length, sum_by, slice_index};
+ghost use Rattle.table_definitions.specs.Table.{max_tets};
 ghost use Rattle.table_definitions.specs.Places.{ends};
 ghost use Rattle.surface_definitions.specs.Coordinates.{columns};
 ghost use Rattle.surface_definitions.specs.Characteristic as characteristic;
@@ -17,7 +18,7 @@ use surface_definitions::Coords;
 pub fn weight(coords: Coords, x: &[u128], tet: u32, edge: u8) -> u128
     requires coords { coords ≢ Coords.Quad }
     requires an_edge { edge < 6 }
-    requires few { tet < 1000 }
+    requires few { tet < max_tets }
     requires width { columns coords (tet + 1) < length x.now + 1 }
     ensures { result ≡ capped (sum_by (slice_index x.now) (characteristic.crossings coords tet (slice_index (ends edge) 0) (slice_index (ends edge) 1))) }
 {

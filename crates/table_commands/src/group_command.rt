@@ -1,5 +1,6 @@
 // The command `group`: the classes of tables.
-ghost use Rattle.std.specs.Prelude.{◌≡◌, ◌≤◌, ◌++◌, ◌^◌, List, length, slice_index, IfOk, OnOk};
+ghost use Rattle.std.specs.Prelude.{◌≡◌, ◌≤◌, ◌++◌, List, length, slice_index, IfOk, OnOk};
+ghost use Rattle.text_definitions.specs.Text.{max_text};
 ghost use Rattle.table_definitions.specs.Table.{Row};
 ghost use Rattle.signature_definitions.specs.Census.{signature_in};
 ghost use Rattle.document_definitions.specs.Documents.{tables_document};
@@ -96,7 +97,7 @@ fn answer(alloc: Global, groups: &Groups) -> Result<Outcome, NoMemory>
 
 /// The outcome of `group` on an input that isn't too long.
 pub fn group(alloc: Global, bytes: &[u8]) -> Result<Outcome, NoMemory>
-    requires { length bytes.now ≤ 2 ^ 31 }
+    requires { length bytes.now ≤ max_text }
     ensures { IfOk result (IsReadOutcome (tables_document bytes.now) IsGroupAnswer) }
 {
     match read_groups_document(alloc, bytes) {

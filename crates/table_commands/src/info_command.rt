@@ -1,5 +1,6 @@
 // The command `info`: the skeleton of a table and the links of its vertices.
-ghost use Rattle.std.specs.Prelude.{◌≡◌, ◌≤◌, ◌^◌, ◌↔◌, length, IsTrue, IfOk};
+ghost use Rattle.std.specs.Prelude.{◌≡◌, ◌≤◌, ◌↔◌, length, IsTrue, IfOk};
+ghost use Rattle.text_definitions.specs.Text.{max_text};
 ghost use Rattle.skeleton_definitions.specs.Orientation.{IsOrientable};
 ghost use Rattle.skeleton_definitions.specs.Skeleton.{IsSkeleton, AreLinks};
 ghost use Rattle.document_definitions.specs.Documents.{table_document};
@@ -74,7 +75,7 @@ fn answer(alloc: Global, table: &Table) -> Result<Outcome, NoMemory>
 
 /// The outcome of `info` on an input that isn't too long.
 pub fn info(alloc: Global, bytes: &[u8]) -> Result<Outcome, NoMemory>
-    requires { length bytes.now ≤ 2 ^ 31 }
+    requires { length bytes.now ≤ max_text }
     ensures { IfOk result (IsReadOutcome (table_document bytes.now) IsInformationAnswer) }
 {
     match read_table_document(alloc, bytes) {

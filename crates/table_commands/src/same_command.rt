@@ -1,5 +1,6 @@
 // The command `same`: the least relabelling that carries the one table to the other.
-ghost use Rattle.std.specs.Prelude.{◌≡◌, ◌≤◌, ◌++◌, ◌^◌, length, IfOk, OnOk};
+ghost use Rattle.std.specs.Prelude.{◌≡◌, ◌≤◌, ◌++◌, length, IfOk, OnOk};
+ghost use Rattle.text_definitions.specs.Text.{max_text};
 ghost use Rattle.table_definitions.specs.Relabelling.{stand_in};
 ghost use Rattle.signature_definitions.specs.Labellings.{IsLeastRelabelling};
 ghost use Rattle.document_definitions.specs.Documents.{two_tables_document};
@@ -87,7 +88,7 @@ fn answer(alloc: Global, first: &Table, second: &Table) -> Result<Outcome, NoMem
 
 /// The outcome of `same` on an input that isn't too long.
 pub fn same(alloc: Global, bytes: &[u8]) -> Result<Outcome, NoMemory>
-    requires { length bytes.now ≤ 2 ^ 31 }
+    requires { length bytes.now ≤ max_text }
     ensures { IfOk result (IsReadOutcome (two_tables_document bytes.now) IsSameAnswer) }
 {
     match read_two_tables(alloc, bytes) {

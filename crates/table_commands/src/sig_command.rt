@@ -1,5 +1,6 @@
 // The command `sig`: the signature of a table.
-ghost use Rattle.std.specs.Prelude.{◌≤◌, ◌^◌, length, IfOk};
+ghost use Rattle.std.specs.Prelude.{◌≤◌, length, IfOk};
+ghost use Rattle.text_definitions.specs.Text.{max_text};
 ghost use Rattle.document_definitions.specs.Documents.{table_document};
 ghost use Rattle.outcome_definitions.specs.Outcomes.{IsReadOutcome};
 ghost use Rattle.outcome_definitions.specs.Canonical.{IsSignatureAnswer};
@@ -25,7 +26,7 @@ fn answer(alloc: Global, table: &Table) -> Result<Outcome, NoMemory>
 
 /// The outcome of `sig` on an input that isn't too long.
 pub fn sig(alloc: Global, bytes: &[u8]) -> Result<Outcome, NoMemory>
-    requires { length bytes.now ≤ 2 ^ 31 }
+    requires { length bytes.now ≤ max_text }
     ensures { IfOk result (IsReadOutcome (table_document bytes.now) IsSignatureAnswer) }
 {
     match read_table_document(alloc, bytes) {

@@ -1,6 +1,6 @@
 -- What a lexer's fields stand for.
-use Rattle.std.specs.Prelude.{◌+◌, ◌≤◌, ◌^◌, length}
-use Rattle.text_definitions.specs.Text.{tokens_from, lines_from, pieces}
+use Rattle.std.specs.Prelude.{◌+◌, ◌≤◌, length}
+use Rattle.text_definitions.specs.Text.{max_text, tokens_from, lines_from, pieces}
 use Rattle.text_definitions.specs.Reading.{Reading}
 use Rattle.text_io.specs.declared.lexer.Lexer.TheInside.{Inside}
 
@@ -15,5 +15,5 @@ left_to_read a = record {
 
 -- no number of a line or column passes its type
 pub record Fits (a : Inside) : Type 0 where
-  pub lines : a.number + length a.later.now ≤ 2 ^ 31
-  pub columns : a.column + length a.line.now ≤ 2 ^ 31 + 1
+  pub lines : a.number + length a.later.now ≤ max_text
+  pub columns : a.column + length a.line.now ≤ max_text + 1

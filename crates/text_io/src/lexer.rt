@@ -3,7 +3,7 @@ ghost use Rattle.std.specs.Prelude.{◌≡◌, ◌↔◌, ◌^◌, ◌<◌, ◌�
 ghost use Rattle.std.specs.Bool.{OnTrue, OnFalse};
 ghost use Rattle.text_definitions.specs.declared.LexKind.TheVariants.{BadWord};
 ghost use Rattle.text_definitions.specs.Reading.{Gives, Moves, start_of, need_line_at, word_at, number_at, signed_at, end_line_at, word_fault, fault_at, number_up_to};
-ghost use Rattle.text_definitions.specs.Text.{decimal_value};
+ghost use Rattle.text_definitions.specs.Text.{max_text, decimal_value};
 
 use crate::decimals::{is_decimal_word, value_up_to};
 use crate::front::{Front, front_of};
@@ -43,7 +43,7 @@ impl<'a> Model for Lexer<'a> {
 impl<'a> Lexer<'a> {
     /// All of the input is left, and no line is begun.
     pub fn new(bytes: &'a [u8]) -> Lexer<'a>
-        requires { length bytes.now ≤ 2 ^ 31 }
+        requires { length bytes.now ≤ max_text }
         ensures { result ≡ start_of bytes.now }
     {
         Lexer {

@@ -1,7 +1,7 @@
 // The lines of an input, found one at a time, and its end.
-ghost use Rattle.std.specs.Prelude.{◌≡◌, ◌+◌, ◌<◌, ◌≤◌, ◌^◌, [], length, not, count_by, MatchOption};
+ghost use Rattle.std.specs.Prelude.{◌≡◌, ◌+◌, ◌<◌, ◌≤◌, [], length, not, count_by, MatchOption};
 ghost use Rattle.std.specs.List.{before_first, after_first, position_or_len, suffix_len};
-ghost use Rattle.text_definitions.specs.Text.{is_skipped, without_cr, is_line_feed, end_of, pieces, lines_from};
+ghost use Rattle.text_definitions.specs.Text.{max_text, is_skipped, without_cr, is_line_feed, end_of, pieces, lines_from};
 ghost use Rattle.text_io.specs.Lines.{IsFirstLine};
 
 use crate::front::without_blanks;
@@ -17,7 +17,7 @@ pub struct FoundLine<'a> {
 
 /// The first line in the bytes that is neither blank nor a comment, where a line of this number stands before them.
 pub fn first_line(bytes: &[u8], number: u32) -> Option<FoundLine<'_>>
-    requires { number + length bytes.now ≤ 2 ^ 31 }
+    requires { number + length bytes.now ≤ max_text }
     ensures { MatchOption result (lines_from (number + 1) (pieces bytes.now) ≡ []) (IsFirstLine number bytes.now) }
 {
     let mut later = bytes;
@@ -82,7 +82,7 @@ fn skips(line: &[u8]) -> bool
 
 /// The place past the last byte.
 pub fn end_place(bytes: &[u8]) -> Place
-    requires { length bytes.now ≤ 2 ^ 31 }
+    requires { length bytes.now ≤ max_text }
     ensures { result ≡ end_of bytes.now }
 {
     Place {

@@ -1,6 +1,7 @@
 //! What stands for a tetrahedron of the table before a step, once the move back is played.
 
 ghost use Rattle.std.specs.Prelude.{◌≡◌, ◌<◌, ◌≤◌, ◌==◌, length, map, not, filter, slice_index, All};
+ghost use Rattle.table_definitions.specs.Table.{max_tets};
 ghost use Rattle.table_definitions.specs.Lists.{below};
 ghost use Rattle.table_definitions.specs.Permutation.{preimage};
 ghost use Rattle.tri_build.specs.Standing.{CanStand, CanStandAt, number_without, put_in, kept_stands, facet_stands, stands_at};
@@ -68,7 +69,7 @@ fn vertex_back(labels: &[u8; 5], missing: u8, label: u8) -> u8
 fn facet_stands(back: &Back, f: Facet) -> Glue
     requires can { CanStand back.now f }
     requires labels { All (λ l. l < 5) back.now.labels }
-    requires few { back.now.kept ≤ 1000 }
+    requires few { back.now.kept ≤ max_tets }
     ensures { result ≡ facet_stands back.now f }
 {
     let [a, b, c, d] = f.labels;
@@ -90,7 +91,7 @@ fn facet_stands(back: &Back, f: Facet) -> Glue
 pub fn stands_at(step: &Step, back: &Back, on: &Relabelling, tet: u32) -> Glue
     requires can { CanStandAt step.now back.now on.now tet }
     requires labels { All (λ l. l < 5) back.now.labels }
-    requires few { back.now.kept ≤ 1000 }
+    requires few { back.now.kept ≤ max_tets }
     ensures { result ≡ stands_at step.now back.now on.now tet }
 {
     match facet_of(&step.facets, tet) {

@@ -1,7 +1,7 @@
 //! The way back from a table that was made: for each step its inverse, carried to the table to which the later ones led.
 
 ghost use Rattle.std.specs.Prelude.{◌≡◌, ◌∷◌, ◌++◌, ◌<◌, ◌≤◌, ◌^◌, List, [], length, All, IfOk, OnOk};
-ghost use Rattle.table_definitions.specs.Table.{Row};
+ghost use Rattle.table_definitions.specs.Table.{max_tets, Row};
 ghost use Rattle.table_definitions.specs.Permutation.{identity};
 ghost use Rattle.table_definitions.specs.Relabelling as labels;
 ghost use Rattle.table_definitions.specs.Relabelling.{IsRelabelling};
@@ -22,7 +22,7 @@ use std::alloc::Global;
 
 /// The relabelling with these images and permutations, where there is one.
 fn relabelling_of(alloc: Global, images: &[u32], perms: &[Perm4]) -> Result<Relabelling, NoMemory>
-    requires few { length images.now ≤ 1000 }
+    requires few { length images.now ≤ max_tets }
     requires bijection { IsRelabelling (length images.now) (record { images = images.now; perms = perms.now }) }
     ensures { IfOk result (λ by. by ≡ record { images = images.now; perms = perms.now }) }
 {
@@ -41,9 +41,9 @@ fn carried_back(
     on: &Relabelling,
 ) -> Result<Relabelling, NoMemory>
     requires some { (by : labels.Relabelling) × StandsFor step.now back.now on.now by }
-    requires few { step.now.tets ≤ 1000 }
+    requires few { step.now.tets ≤ max_tets }
     requires labels { All (λ l. l < 5) back.now.labels }
-    requires kept { back.now.kept ≤ 1000 }
+    requires kept { back.now.kept ≤ max_tets }
     ensures { IfOk result (λ r. (by : labels.Relabelling) → StandsFor step.now back.now on.now by → r ≡ by) }
 {
     let mut images = Vec::new(alloc);
@@ -61,7 +61,7 @@ fn back_of(step: &Step, now: &Table, on: &Relabelling) -> Back
     requires { CanGoBack step.now now.now on.now }
     ensures back { IsBack step.now now.now on.now result }
     ensures labels { All (λ l. l < 5) result.labels }
-    ensures few { result.kept ≤ 1000 }
+    ensures few { result.kept ≤ max_tets }
 {
     let played = move_under(on, step.inverse());
     match legal(now, played) {
@@ -105,7 +105,7 @@ impl WayBack {
 
 /// The relabelling by which each of so many tetrahedra stays.
 fn staying(alloc: Global, count: u32) -> Result<Relabelling, NoMemory>
-    requires { count ≤ 1000 }
+    requires { count ≤ max_tets }
     ensures { IfOk result (λ by. by ≡ ways.staying count) }
 {
     let mut images = Vec::new(alloc);

@@ -1,5 +1,6 @@
 // The command `crush`: the table crushed along a normal surface.
-ghost use Rattle.std.specs.Prelude.{◌≡◌, ◌≤◌, ◌^◌, length, IfOk};
+ghost use Rattle.std.specs.Prelude.{◌≡◌, ◌≤◌, length, IfOk};
+ghost use Rattle.text_definitions.specs.Text.{max_text};
 ghost use Rattle.surface_definitions.specs.Coordinates.{columns};
 ghost use Rattle.surface_definitions.specs.declared.Coords.TheVariants.{Standard};
 ghost use Rattle.surface_definitions.specs.QuadEquations.{AreEquations};
@@ -61,7 +62,7 @@ fn answer(alloc: Global, table: &Table, x: &[u128]) -> Result<Outcome, NoMemory>
 
 /// The outcome of `crush` on an input that isn't too long.
 pub fn crush(alloc: Global, bytes: &[u8]) -> Result<Outcome, NoMemory>
-    requires { length bytes.now ≤ 2 ^ 31 }
+    requires { length bytes.now ≤ max_text }
     ensures { IfOk result (IsReadOutcome (vector_document bytes.now) IsCrushAnswer) }
 {
     match read_table_and_vector(alloc, bytes) {

@@ -1,5 +1,6 @@
 // The command `describe`: what is counted of each vector, and its components.
-ghost use Rattle.std.specs.Prelude.{◌≡◌, ◌≢◌, ◌≤◌, ◌^◌, ◌++◌, length, IfOk, codes, decimal};
+ghost use Rattle.std.specs.Prelude.{◌≡◌, ◌≢◌, ◌≤◌, ◌++◌, length, IfOk, codes, decimal};
+ghost use Rattle.text_definitions.specs.Text.{max_text};
 ghost use Rattle.surface_definitions.specs.Coordinates.{columns};
 ghost use Rattle.surface_definitions.specs.QuadEquations.{AreEquations};
 ghost use Rattle.surface_definitions.specs.Verdict.{solution};
@@ -208,7 +209,7 @@ fn answer(
 /// The outcome of `describe` on an input that isn't too long, in standard or octagon coordinates.
 pub fn describe(alloc: Global, coords: Coords, bytes: &[u8]) -> Result<Outcome, NoMemory>
     requires coords { coords ≢ Coords.Quad }
-    requires few { length bytes.now ≤ 2 ^ 31 }
+    requires few { length bytes.now ≤ max_text }
     ensures { IfOk result (IsReadOutcome (vectors_document bytes.now) (IsDescribeAnswer coords)) }
 {
     match read_table_and_vectors(alloc, bytes) {

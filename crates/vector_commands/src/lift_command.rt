@@ -1,5 +1,6 @@
 // The command `lift`: the lift of each quad vector to standard coordinates.
-ghost use Rattle.std.specs.Prelude.{◌≡◌, ◌≤◌, ◌^◌, length, IfOk};
+ghost use Rattle.std.specs.Prelude.{◌≡◌, ◌≤◌, length, IfOk};
+ghost use Rattle.text_definitions.specs.Text.{max_text};
 ghost use Rattle.cone_text_definitions.specs.VectorText.{vector_text};
 ghost use Rattle.surface_definitions.specs.Coordinates.{columns};
 ghost use Rattle.surface_definitions.specs.declared.Coords.TheVariants as coordinates;
@@ -128,7 +129,7 @@ fn answer(alloc: Global, table: &Table, vectors: &[Vec<u128>]) -> Result<Outcome
 
 /// The outcome of `lift` on an input that isn't too long.
 pub fn lift(alloc: Global, bytes: &[u8]) -> Result<Outcome, NoMemory>
-    requires { length bytes.now ≤ 2 ^ 31 }
+    requires { length bytes.now ≤ max_text }
     ensures { IfOk result (IsReadOutcome (vectors_document bytes.now) IsLiftsAnswer) }
 {
     match read_table_and_vectors(alloc, bytes) {
