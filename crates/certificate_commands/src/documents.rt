@@ -5,12 +5,12 @@ ghost use Rattle.document_definitions.specs.Documents.{moves_document};
 ghost use Rattle.text_definitions.specs.Reading.{Reads};
 
 use crate::moves::read_moves;
-use text_io::Lexer;
 use command_answers::read_table;
 use gluing_table::Table;
 use pachner_moves::Move;
 use signature_codec::InputFault;
 use std::alloc::Global;
+use text_io::Lexer;
 
 /// A table, and moves.
 #[derive(Drop)]

@@ -5,11 +5,11 @@ ghost use Rattle.document_definitions.specs.Documents.{each_line_from};
 ghost use Rattle.text_definitions.specs.Reading.{ReadsFrom};
 ghost use Rattle.table_definitions.specs.TableText.{lexed};
 
-use text_io::Lexer;
 use gluing_table::TextFault;
 use move_undo::read_move;
 use pachner_moves::Move;
 use std::alloc::Global;
+use text_io::Lexer;
 
 /// The moves of all lines that are left.
 pub fn read_moves(alloc: Global, lexer: &mut Lexer<'_>) -> Result<Vec<Move>, TextFault>

@@ -6,10 +6,10 @@ ghost use Rattle.document_definitions.specs.Documents.{next_table_at, no_line_at
 ghost use Rattle.command_answers.specs.Reads.{entries_of};
 
 use crate::vectors::{read_vector, read_vectors};
-use text_io::{LexFault, Lexer};
 use gluing_table::Table;
 use signature_codec::{InputFault, read_any};
 use std::alloc::Global;
+use text_io::{LexFault, Lexer};
 
 /// Two tables.
 #[derive(Drop)]

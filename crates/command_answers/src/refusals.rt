@@ -6,12 +6,12 @@ ghost use Rattle.vector_definitions.specs.Texts.{invalid_edge_line};
 ghost use Rattle.command_answers.specs.Refusals.{IsFaultOutcome};
 
 use crate::outcome::Outcome;
-use text_io::{LexFault, LexKind, append, append_decimal};
 use gluing_table::{TableFault, TextFault};
 use no_memory::NoMemory;
 use outcome_definitions::Status;
 use signature_codec::{InputFault, SigFault};
 use std::alloc::Global;
+use text_io::{LexFault, LexKind, append, append_decimal};
 
 fn kind_word(kind: LexKind) -> &'static [u8]
     ensures { result.now ≡ lines.kind_text kind }

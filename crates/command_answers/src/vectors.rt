@@ -7,9 +7,9 @@ ghost use Rattle.text_definitions.specs.Reading.{ReadsFrom, numbers_at};
 ghost use Rattle.table_definitions.specs.TableText.{lexed};
 ghost use Rattle.command_answers.specs.Reads.{entries_of};
 
-use text_io::Lexer;
 use gluing_table::TextFault;
 use std::alloc::Global;
+use text_io::Lexer;
 
 /// The greatest number that a document may name.
 pub const LIMIT: u128 = 170141183460469231731687303715884105727;

@@ -15,11 +15,11 @@ ghost use Rattle.command_words.specs.Texts.{AreTexts, has_dashes, ends_option, i
 use crate::WordsFault;
 use crate::program::program;
 use crate::values::{Values, request_with};
-use text_io::Words;
 use clap::error::ErrorKind;
 use clap::{ArgMatches, Error};
 use command_definitions::Request;
 use std::alloc::{AllocError, Global};
+use text_io::Words;
 
 // What was found for each option.
 fn values_found<'a>(matches: &ArgMatches<'a>) -> Values<'a>

@@ -7,10 +7,10 @@ ghost use Rattle.cone_text_definitions.specs.ConeText.{cone_at};
 
 use crate::row::{MAX_COEFFICIENT, SparseRow};
 use crate::system::System;
-use text_io::{LexFault, Lexer};
 use no_memory::NoMemory;
 use smallvec::SmallVec;
 use std::alloc::{AllocFailed, Global};
+use text_io::{LexFault, Lexer};
 
 /// The most columns and the most rows of a cone in text.
 const MAX_COUNT: u128 = 10000;

@@ -8,7 +8,6 @@ ghost use Rattle.outcome_definitions.specs.Enumerations.{IsEnumerationAnswer, ra
 ghost use Rattle.enumeration_commands.specs.Cones.{GivesConeDocument};
 
 use crate::enumerations::list_outcome;
-use text_io::Lexer;
 use command_answers::{Outcome, end_document, fault_outcome};
 use cone_core::{ConeFault, MAX_ENTRY, System, read_cone};
 use double_description::{EnumFault, Order};
@@ -17,6 +16,7 @@ use no_memory::NoMemory;
 use signature_codec::InputFault;
 use std::alloc::Global;
 use surface_answers::large_outcome;
+use text_io::Lexer;
 
 // The document of a cone.
 #[tactic(auto, unfolding(document_definitions::specs::Documents::cone_document))]

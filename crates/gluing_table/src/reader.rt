@@ -7,9 +7,9 @@ ghost use Rattle.table_definitions.specs.TableText.{lexed, gluing_of, gluing_ent
 
 use crate::digits::number_of_digits;
 use crate::{Glue, MAX_TETS, Row, Table, TableFault, TextFault};
-use text_io::{LexFault, LexKind, Lexer, is_decimal_word};
 use perm_four::Perm4;
 use std::alloc::Global;
+use text_io::{LexFault, LexKind, Lexer, is_decimal_word};
 
 /// The position of the first colon, or the length.
 fn colon_in(word: &[u8]) -> usize

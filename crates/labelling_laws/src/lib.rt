@@ -1,4 +1,4 @@
-//! Laws of walks from a start, relabellings and signatures. The statements stand in `labelling_definitions`; the functions
+//! Laws of walks from a start, relabellings and signatures. The statements stand in `signature_definitions`; the functions
 //! here have no code: their contracts are the laws.
 #![tactic(auto)]
 

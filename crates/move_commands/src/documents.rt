@@ -6,12 +6,12 @@ ghost use Rattle.text_definitions.specs.Reading.{Reads};
 ghost use Rattle.move_commands.specs.Scripts.{steps_of};
 
 use crate::steps::read_steps;
-use text_io::Lexer;
 use command_answers::read_table;
 use gluing_table::Table;
 use move_undo::Step;
 use signature_codec::InputFault;
 use std::alloc::Global;
+use text_io::Lexer;
 
 /// A table, and steps.
 #[derive(Drop)]

@@ -6,10 +6,10 @@ ghost use Rattle.text_definitions.specs.Reading.{ReadsFrom};
 ghost use Rattle.table_definitions.specs.TableText.{lexed};
 ghost use Rattle.move_commands.specs.Scripts.{steps_of};
 
-use text_io::Lexer;
 use gluing_table::TextFault;
 use move_undo::{Step, read_step};
 use std::alloc::Global;
+use text_io::Lexer;
 
 /// The steps of all lines that are left.
 pub fn read_steps(alloc: Global, lexer: &mut Lexer<'_>) -> Result<Vec<Step>, TextFault>

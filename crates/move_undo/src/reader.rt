@@ -7,8 +7,8 @@ ghost use Rattle.text_definitions.specs.Reading.{Gives};
 ghost use Rattle.move_definitions.specs.MoveText as text;
 ghost use Rattle.move_undo.specs.Steps.{kind_value, step_value};
 
-use text_io::{LexFault, Lexer};
 use pachner_moves::{Core, Move};
+use text_io::{LexFault, Lexer};
 
 /// A line of a script.
 #[derive(Clone, Copy, Debug, PartialEq, Eq)]

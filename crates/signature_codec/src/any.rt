@@ -4,9 +4,9 @@ ghost use Rattle.text_definitions.specs.Reading.{ReadsFrom};
 ghost use Rattle.signature_definitions.specs.SignatureText.{signature_at, any_table_at};
 
 use crate::{InputFault, read_signature};
-use text_io::Lexer;
 use gluing_table::{Table, TextFault, read_rows};
 use std::alloc::Global;
+use text_io::Lexer;
 
 /// The table that follows the word `sig`: a signature, alone on the rest of the line.
 #[tactic(auto, unfolding(signature_definitions::specs::SignatureText::signature_at))]

@@ -6,13 +6,13 @@ ghost use Rattle.signature_definitions.specs.SignatureText.{any_table_at};
 ghost use Rattle.document_definitions.specs.Documents.{tables_from, tables_document};
 ghost use Rattle.table_commands.specs.Groups.{AreGrouped, GivesOneMore, GivesGroups, GivesGroupsDocument};
 
-use text_io::Lexer;
 use canonical_labelling::WalkFault;
 use gluing_table::Table;
 use no_memory::NoMemory;
 use signature_census::Census;
 use signature_codec::{InputFault, read_any};
 use std::alloc::Global;
+use text_io::Lexer;
 
 /// A table, counted from 0, and its least tetrahedron that no chain joins to the first.
 #[derive(Clone, Copy, Debug, PartialEq, Eq)]

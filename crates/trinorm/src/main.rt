@@ -1,9 +1,9 @@
 //! The program: its words, its standard input and output, and its exit status.
 #![tactic(auto)]
 
-use text_io::{StdSink, StdSource, Words};
 use std::process::ExitCode;
 use std::{env, io};
+use text_io::{StdSink, StdSource, Words};
 use workbench::{exit_code, run};
 
 /// The exit status where memory ran out before the run.

@@ -27,7 +27,6 @@ ghost use Rattle.answer_laws.specs.Scripts.{IsPlayed};
 ghost use Rattle.workbench.specs.Prints.{PrintsSurfaces, PrintsRays, PrintsVerdicts, ListsSurfaces, IsCutShort, Writes, WritesOf, AnswersSurfaces, AnswersRays};
 ghost use Rattle.workbench.specs.Runs.{Answers, IsAnswered, IsCalm, IsWithin, IsResponse, IsWithoutMemory, IsCutOff, IsDue, IsDelivered};
 
-use text_io::{ReadEnd, Sink, Source, Words, read_all, write_all};
 use certificate_commands::{check, descend};
 use command_answers::Outcome;
 use command_words::{Request, WordsFault, read_words};
@@ -41,6 +40,7 @@ use part_commands::{csame, csig};
 use std::alloc::Global;
 use sum_commands::{addup, decompose};
 use table_commands::{group, info, same, sig};
+use text_io::{ReadEnd, Sink, Source, Words, read_all, write_all};
 use vector_commands::{crush, describe, lift};
 
 /// An input has at most so many bytes.

@@ -5,9 +5,9 @@ ghost use Rattle.outcome_definitions.specs.Answers.{IsOutcome};
 ghost use Rattle.workbench.specs.Runs.{IsAnswered};
 
 use crate::dispatch::run;
-use text_io::{NullSink, SteadySource, Words};
 use outcome_definitions::Status;
 use std::alloc::Global;
+use text_io::{NullSink, SteadySource, Words};
 
 /// A run over bytes that are at hand and a sink that takes all: it ends with the status of their outcome, or without memory,
 /// and neither with a read fault nor with a write fault.

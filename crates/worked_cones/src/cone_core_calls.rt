@@ -1,10 +1,10 @@
-use text_io::{LexFault, LexKind, Lexer, Place};
 use cone_core::{
     CombineFault, ConeFault, MAX_ENTRY, Passed, Ray, SolutionFault, SparseRow, System, combine,
     compare, gcd, is_solution, read_cone,
 };
 use std::cmp::Ordering;
 use std::test::Fail;
+use text_io::{LexFault, LexKind, Lexer, Place};
 
 #[test]
 fn divides_and_compares(rt: HostRuntime) {

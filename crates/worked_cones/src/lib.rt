@@ -33,5 +33,3 @@ mod surface_list_calls;
 mod surface_pieces_calls;
 #[cfg(test)]
 mod surface_properties_calls;
-#[cfg(test)]
-mod union_counts_calls;

@@ -1,8 +1,8 @@
-use text_io::Lexer;
 use cone_core::{MAX_ENTRY, Ray, read_cone};
 use double_description::Order;
 use ray_answers::{rays, write_entries, write_list, write_vector};
 use std::test::Fail;
+use text_io::Lexer;
 
 #[test]
 fn writes_the_rays_of_a_cone(rt: HostRuntime) -> Result<(), Fail> {

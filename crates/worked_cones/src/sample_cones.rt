@@ -1,13 +1,13 @@
 //! The cones, and the tables of small signatures, that several calls are tried on.
 ghost use Rattle.std.specs.Prelude.{◌≤◌, ◌^◌, length};
 
-use text_io::Lexer;
 use cone_core::{ConeFault, Ray, System, read_cone};
 use signature_codec::read_signature;
 use skeleton::Skeleton;
 use std::alloc::Global;
 use std::process::Abort;
 use std::test::Fail;
+use text_io::Lexer;
 
 /// The sphere of one tetrahedron.
 pub const SPHERE: &[u8] = b"bkaagj";

@@ -1,6 +1,6 @@
 // Calls that take memory and have no test in a crate of their own: each gives its ordinary answer.
-use text_io::{Words, append, append_decimal, append_signed};
 use no_memory::NoMemory;
+use text_io::{Words, append, append_decimal, append_signed};
 use workbench::{Status, run_steadily};
 
 #[test]

@@ -1,10 +1,10 @@
 // A run over memory.
 ghost use Rattle.std.specs.Prelude.{◌<◌};
 
-use text_io::{MemorySink, MemorySource, Words};
 use std::alloc::Global;
 use std::process::Abort;
 use std::test::Fail;
+use text_io::{MemorySink, MemorySource, Words};
 use workbench::{Status, run};
 
 /// Words and an input, with the status and the text that are wanted.

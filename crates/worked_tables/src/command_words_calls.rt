@@ -1,6 +1,6 @@
-use text_io::Words;
 use command_words::{Coords, Order, Request, WordsFault, read_words};
 use std::alloc::Global;
+use text_io::Words;
 
 fn asked(alloc: Global, line: &[&str]) -> Result<Request, WordsFault> {
     let mut words = Words::new(alloc);

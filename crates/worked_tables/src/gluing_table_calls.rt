@@ -1,12 +1,12 @@
 ghost use Rattle.std.specs.Prelude.{◌≡◌, length};
 
 use crate::sample_tables::{BALL, by, sphere_row, table_of, text_of};
-use text_io::Lexer;
 use gluing_table::{
     Face, Glue, Probe, Relabelling, RelabellingFault, Table, TableFault, TextFault, read_rows,
 };
 use perm_four::Perm4;
 use std::alloc::Global;
+use text_io::Lexer;
 
 #[test]
 fn a_sphere_is_a_table(rt: HostRuntime) {

@@ -2,8 +2,6 @@
 #![tactic(auto)]
 
 #[cfg(test)]
-mod bench_io_calls;
-#[cfg(test)]
 mod canonical_labelling_calls;
 #[cfg(test)]
 mod command_words_calls;
@@ -37,6 +35,8 @@ mod signature_codec_calls;
 mod skeleton_calls;
 #[cfg(test)]
 mod sphere_certificate_calls;
+#[cfg(test)]
+mod text_io_calls;
 #[cfg(test)]
 mod tri_build_calls;
 #[cfg(test)]

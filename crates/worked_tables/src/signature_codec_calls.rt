@@ -1,10 +1,10 @@
 use crate::sample_tables::text_of;
-use text_io::Lexer;
 use gluing_table::{Glue, Table};
 use perm_four::Perm4;
 use signature_codec::{SigFault, SpellFault, read_any, read_signature, spell};
 use std::alloc::Global;
 use std::test::Fail;
+use text_io::Lexer;
 
 fn table_text(alloc: Global, text: &[u8]) -> Result<Vec<u8>, Fail> {
     let table = read_signature(alloc, text)?;
