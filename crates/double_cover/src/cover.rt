@@ -2,7 +2,7 @@
 
 ghost use Rattle.std.specs.Prelude.{◌≡◌, ◌≢◌, ◌*◌, ◌<◌, ◌≤◌, length, Some, None, IfOk, IfErr, OnOk, IfSome};
 ghost use Rattle.std.specs.Option.{option_copied, option_map};
-ghost use Rattle.table_definitions.specs.Table.{max_tets, IsTable};
+ghost use Rattle.table_definitions.specs.Table.{IsTable};
 ghost use Rattle.table_definitions.specs.Relabelling.{Carries};
 ghost use Rattle.skeleton_definitions.specs.Orientation.{AreSigns};
 ghost use Rattle.skeleton.specs.Parts.{items_of};
@@ -29,7 +29,7 @@ pub struct Cover {
 impl Model for Cover {
     ghost use Rattle.std.specs.Prelude.{◌≡◌, ◌*◌, ◌≤◌, List, length};
     ghost use Rattle.std.specs.Option.{option_map};
-    ghost use Rattle.table_definitions.specs.Table.{Row, IsTable};
+    ghost use Rattle.table_definitions.specs.Table.{max_tets, Row, IsTable};
     ghost use Rattle.skeleton_definitions.specs.Skeleton.{IsOrientation};
     ghost use Rattle.cover_definitions.specs.Cover as definition;
     ghost use Rattle.skeleton.specs.Parts.{items_of};
