@@ -9,19 +9,7 @@ use Rattle.table_definitions.proofs.TableLaws.{Among}
 use Rattle.move_definitions.specs.Moves.{Facet}
 use Rattle.table_definitions.specs.Replaceable.{gone_before}
 use Rattle.table_definitions.proofs.Ranks.{rank, one_if, stays, rank-suc, count_whole, of_rank, gone_before-suc}
-
-pub Among_from_has : (ns : List ℕ) (n : ℕ) → has ns n ≡ true → Among n ns
-Among_from_has [] n h = absurd (false≢true h)
-Among_from_has (m ∷ ns) n h = pick (or_cases (m == n) (has ns n) h) (λ t. Among_from_has ns n t)
-  where
-    pick : ((m == n) ≡ true) ⊎ (has ns n ≡ true) → (has ns n ≡ true → Among n ns) → Among n (m ∷ ns)
-    pick (inl e) later = inl (sym (eqb-true m n e))
-    pick (inr t) later = inr (later t)
-
-pub has_from_Among : (ns : List ℕ) (n : ℕ) → Among n ns → has ns n ≡ true
-has_from_Among [] n h = absurd h
-has_from_Among (m ∷ ns) n (inl e) = let t : (m == n) ≡ true = eq-eqb m n (sym e) in ap (λ b. b || has ns n) t
-has_from_Among (m ∷ ns) n (inr h) = let t : has ns n ≡ true = has_from_Among ns n h in grind arith
+use Rattle.table_definitions.proofs.Listed.{among_has}
 
 abbrev pub tet_of : Facet → ℕ
 tet_of f = f.tet
@@ -129,7 +117,7 @@ tets_distinct F (l ∷ ls) d a = by_head (F l) refl (tets_distinct F ls (and_par
         by_test true h =
             let o : IsOf F ls f.tet = facet_with F ls f.tet h in
             let same : o.label ≡ l = a o.label l o.facet f (inr o.among) (inl refl) o.is i o.tet in
-            let there : has ls l ≡ true = subst (λ k. has ls k ≡ true) same (has_from_Among ls o.label o.among) in
+            let there : has ls l ≡ true = subst (λ k. has ls k ≡ true) same (among_has ls o.label o.among) in
             let new : not (has ls l) ≡ true = (and_parts (not (has ls l)) (is_distinct ls) d).0 in
             absurd (let q : not (has ls l) ≡ false = ap not there in false≢true (sym q ∙ new))
 
