@@ -3,10 +3,10 @@ use Rattle.std.proofs.Common.{◌≡◌, ℕ, zero, suc, ◌<◌, ◌≤◌, Boo
 use Rattle.std.specs.Prelude.{slice_index}
 use Rattle.std.specs.List.{list_any}
 use Rattle.std.proofs.lemmas.Bool.{or_from, or_parts, ltb-false, not-true, not_from_false, false≢true}
-use Rattle.plain_facts.proofs.Truths.{true_or_false}
+use Rattle.plain_facts.proofs.Truths.{true_or_false, one_if}
 use Rattle.plain_facts.proofs.Numbers.{below_suc}
 use Rattle.table_definitions.specs.Table.{Gluing, Row, Face, glue, IsTable}
-use Rattle.table_definitions.proofs.Ranks.{rank, one_if, rank-suc, rank_fits}
+use Rattle.table_definitions.proofs.Ranks.{rank, rank-suc, rank_fits, rank_all}
 use Rattle.surface_definitions.specs.Coordinates.{quad_column, three}
 use Rattle.surface_definitions.specs.declared.Coords.TheVariants.{Standard}
 use Rattle.surface_definitions.specs.Crushing.{has_quad, is_removed, number_kept, ChainEnds, IsCrushed}
@@ -28,13 +28,6 @@ each_of_three p h =
     below_suc (λ k. p k ≡ false) 2 (below_suc (λ k. p k ≡ false) 1 (below_suc (λ k. p k ≡ false) 0 (λ j l. absurd (omega arith)) first.0) second.0) third.0
 
 -- all numbers pass exactly where as many pass
-rank_all : (p : ℕ → Bool) (n : ℕ) → ((t : ℕ) → t < n → p t ≡ true) → rank p n ≡ n
-rank_all p zero h = refl
-rank_all p (suc n) h =
-    let before : rank p n ≡ n = rank_all p n (λ t l. h t (omega arith)) in
-    let one : one_if (p n) ≡ 1 = ap one_if (h n (omega arith)) in
-    omega (arith, rank-suc p n)
-
 all_rank : (p : ℕ → Bool) (n : ℕ) → rank p n ≡ n → (t : ℕ) → t < n → p t ≡ true
 all_rank p zero e t l = absurd (omega arith)
 all_rank p (suc n) e t l = by_last (true_or_false (p n)) (all_rank p n) t l

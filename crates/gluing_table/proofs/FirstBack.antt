@@ -15,7 +15,7 @@ use Rattle.table_definitions.proofs.ListFacts.{first_some-append, first_some-map
 use Rattle.table_definitions.specs.Replaceable.{numbers_of, fresh_numbers, row_back}
 use Rattle.table_definitions.proofs.FreshRows.{gives_back}
 use Rattle.gluing_table.proofs.Opened.{has-none, number_at, length-numbers_of}
-use Rattle.table_definitions.proofs.Ranks.{Ascends}
+use Rattle.plain_facts.proofs.Members.{Ascends}
 
 abbrev pub Numbered : Type 0
 Numbered = ℕ × Row

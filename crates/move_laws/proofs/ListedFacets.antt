@@ -8,8 +8,9 @@ use Rattle.table_definitions.specs.Lists.{has, closed_up}
 use Rattle.table_definitions.proofs.TableLaws.{Among}
 use Rattle.move_definitions.specs.Moves.{Facet}
 use Rattle.table_definitions.specs.Replaceable.{gone_before}
-use Rattle.table_definitions.proofs.Ranks.{rank, one_if, stays, rank-suc, count_whole, of_rank, gone_before-suc}
+use Rattle.table_definitions.proofs.Ranks.{rank, stays, rank-suc, count_whole, of_rank, gone_before-suc}
 use Rattle.table_definitions.proofs.Listed.{among_has}
+use Rattle.plain_facts.proofs.Truths.{one_if}
 
 abbrev pub tet_of : Facet → ℕ
 tet_of f = f.tet

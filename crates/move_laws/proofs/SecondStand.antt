@@ -5,6 +5,7 @@ use Rattle.std.specs.List.{list_all}
 use Rattle.std.proofs.lemmas.List.Sums.{sum_by-cons}
 use Rattle.std.proofs.lemmas.Bool.{eq-eqb, le-ltb, cases_lt}
 use Rattle.plain_facts.proofs.Numbers.{given_apart}
+use Rattle.plain_facts.proofs.Truths.{one_if}
 use Rattle.table_definitions.specs.Lists.{below, has, same_list, in_place_of, closed_up}
 use Rattle.table_definitions.specs.Permutation.{IsPermutationOfFour, is_permutation, image, preimage, identity, compose}
 use Rattle.table_definitions.specs.Table.{Gluing, Row, Face, glue, other_side, way_back, IsTable}
@@ -14,7 +15,6 @@ use Rattle.move_definitions.proofs.StandIns.{facet_stand_in-new, facet_stand_in-
 use Rattle.table_definitions.proofs.ListFacts.{list_all-below, same_list-true}
 use Rattle.table_definitions.proofs.Permutations.{image_below, preimage-image, image-inverse, identity_permutes}
 use Rattle.table_definitions.specs.Replaceable.{gone_before}
-use Rattle.table_definitions.proofs.Ranks.{one_if}
 use Rattle.table_definitions.proofs.InPlace.{in_place-same}
 use Rattle.move_laws.proofs.ListedFacets.{same_some}
 use Rattle.move_laws.proofs.Labels.{AreLabels, ascending, new_labels, on_labels, label_tests, HasLabel, label_at, HasVertex, vertex_at, length-labels, image-map}

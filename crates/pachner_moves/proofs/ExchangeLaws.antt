@@ -16,7 +16,7 @@ use Rattle.table_definitions.proofs.Permutations.{identity_permutes, image-ident
 use Rattle.table_definitions.proofs.InPlace.{in_place-same}
 use Rattle.table_definitions.proofs.Faces.{there_and_back}
 use Rattle.table_definitions.specs.Replaceable.{fresh_numbers, fresh_glue, IsFreed, CanReplace}
-use Rattle.table_definitions.proofs.Ranks.{rank, stays, closed_up-rank, at_rank}
+use Rattle.table_definitions.proofs.Ranks.{rank, stays, closed_up-rank, at_rank, rank_all}
 use Rattle.table_definitions.proofs.Carried.{not_from, same_from, same_to}
 use Rattle.move_definitions.specs.Moves.{Move, Facet, vertex_of, opposite, kept, new_length, new_facet, label_by_label, stand_in_at, moved_gluing}
 use Rattle.move_definitions.specs.Undos.{taken_numbers}
@@ -24,7 +24,7 @@ use Rattle.pachner_moves.specs.Facets.{IsOldFacet, stands_for, fresh_gluing, put
 use Rattle.pachner_moves.proofs.LabelLaws.{by_permutes, by_back, vertex_by}
 use Rattle.pachner_moves.proofs.FacetLaws.{new_is_facet, core_few}
 use Rattle.pachner_moves.proofs.LegalLaws.{IsLegal, same_facet, label_in}
-use Rattle.pachner_moves.proofs.NumberLaws.{range-up, range-within, picked-up, picked-within, rank-all}
+use Rattle.pachner_moves.proofs.NumberLaws.{range-up, range-within, picked-up, picked-within}
 use Rattle.pachner_moves.proofs.ListedLaws.{tets, tet_of_old, taken-has}
 use Rattle.pachner_moves.proofs.StandLaws.{side_under, way_under, under_permutes, closes, closed-apart, StandsKept, StandsPut, stands, vertex_small, stand_put, put_permutes, put_face}
 use Rattle.pachner_moves.proofs.PutLaws.{put-numbers, put-length, is-put, put-is, not-put, glue-inner, glue-outer, LeadsIn, LeadsOut, leads}
@@ -38,7 +38,7 @@ number-kept rows m t legal l free =
     let u : ℕ = closed_up (tets rows m) t in
     let up = AllPairs-from_increasing (taken_numbers rows m) (picked-up (has (tets rows m)) (length rows)) in
     let place : closed_up (taken_numbers rows m) t ≡ rank (stays (fresh_numbers (exchange rows m))) u =
-    closed_up-rank (taken_numbers rows m) t up ∙ r ∙ sym (rank-all (stays (fresh_numbers (exchange rows m))) u (λ v q. ap not (not-put rows m v (omega arith)))) in
+    closed_up-rank (taken_numbers rows m) t up ∙ r ∙ sym (rank_all (stays (fresh_numbers (exchange rows m))) u (λ v q. ap not (not-put rows m v (omega arith)))) in
     let n = put-length rows m legal in
     ap (λ i. get_or (free_numbers rows (exchange rows m)) i 0) place
     ∙ (at_rank (stays (fresh_numbers (exchange rows m))) (replaced_length rows (exchange rows m)) u (omega arith) (ap not (not-put rows m u (omega arith)))).is

@@ -1,6 +1,6 @@
 -- Numbers that pass a test, and how many of them come before each. Numbers that are taken out, and what closes up over them.
 use Rattle.std.proofs.Common.{◌≡◌, ℕ, zero, suc, ◌+◌, ◌<◌, ◌≤◌, Bool, true, false, cond, List, [], ◌∷◌, ◌++◌, length, get_or, refl, sym, ap, ◌∙◌, arith, inl, inr}
-use Rattle.std.specs.Prelude.{◌⊎◌, ◌==◌, ◌||◌, nat_lt, not, filter, count_by, AllPairs, ◌≢◌}
+use Rattle.std.specs.Prelude.{◌⊎◌, ◌==◌, ◌||◌, nat_lt, not, filter, count_by, ◌≢◌}
 use Rattle.std.specs.List.{position_or_len}
 use Rattle.std.proofs.Math.ListN.{get_or-append}
 use Rattle.std.proofs.Math.Seq.{get_or-append_seam}
@@ -10,6 +10,8 @@ use Rattle.std.proofs.lemmas.Bool.{eqb-true, eq-eqb, lt-ltb, le-ltb, cases_lt, n
 use Rattle.table_definitions.specs.Lists.{below, has, closed_up}
 use Rattle.table_definitions.specs.Replaceable.{gone_before}
 use Rattle.table_definitions.proofs.Bijections.{below-push}
+use Rattle.plain_facts.proofs.Truths.{one_if}
+use Rattle.plain_facts.proofs.Members.{Ascends}
 
 -- the numbers below n that pass, and how many
 abbrev pub picked : (ℕ → Bool) → ℕ → List ℕ
@@ -17,9 +19,6 @@ picked p n = filter p (below n)
 
 abbrev pub rank : (ℕ → Bool) → ℕ → ℕ
 rank p n = count_by p (below n)
-
-abbrev pub one_if : Bool → ℕ
-one_if b = cond b 1 0
 
 abbrev only_if : Bool → ℕ → List ℕ
 only_if b n = cond b (n ∷ []) []
@@ -44,6 +43,14 @@ rank_fits p (suc n) = omega (arith, rank_fits p n, rank-suc p n, at_most (p n))
     at_most : (b : Bool) → one_if b ≤ 1
     at_most true = omega arith
     at_most false = omega arith
+
+-- where each number passes its rank is itself
+pub rank_all : (p : ℕ → Bool) (n : ℕ) → ((t : ℕ) → t < n → p t ≡ true) → rank p n ≡ n
+rank_all p zero all = refl
+rank_all p (suc n) all =
+    let before : rank p n ≡ n = rank_all p n (λ t l. all t (omega arith)) in
+    let one : one_if (p n) ≡ 1 = ap one_if (all n (omega arith)) in
+    omega (arith, rank-suc p n)
 
 -- a number that passes stands at its rank
 pub record StandsAt (p : ℕ → Bool) (n t : ℕ) : Type 0 where
@@ -119,10 +126,6 @@ gone_before-suc (x ∷ xs) t =
     let c : count_by (λ u. u == t) (x ∷ xs) ≡ one_if (x == t) + count_by (λ u. u == t) xs = sum_by-cons (λ u. one_if (u == t)) x xs in
     let d : one_if (nat_lt x (suc t)) ≡ one_if (nat_lt x t) + one_if (x == t) = grind arith in
     omega (arith, gone_before-suc xs t)
-
--- each of the numbers is below all later ones
-abbrev pub Ascends : List ℕ → Type 0
-Ascends xs = AllPairs (λ x y. x < y) xs
 
 count_none : (p : ℕ → Bool) (xs : List ℕ) → ((k : ℕ) → k < length xs → p (get_or xs k 0) ≡ false) → count_by p xs ≡ 0
 count_none p [] none = refl

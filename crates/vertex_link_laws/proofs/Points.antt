@@ -24,8 +24,9 @@ use Rattle.quad_laws.proofs.VertexLinks.{member}
 use Rattle.quad_lift_laws.proofs.Ends.{direction_number, directed_is, place_is, IsAtClass, joined_class, two_at_class}
 use Rattle.vertex_link_laws.specs.Laws.{AreInvalidEdgesAt}
 use Rattle.vertex_link_laws.proofs.Directions.{tail, head, edge_of, edge_of_below, same_either_way, either_way, IsLeastOf, least_of}
-use Rattle.vertex_link_laws.proofs.Sums.{bit, one_bounded, two_terms, ascending_below}
+use Rattle.vertex_link_laws.proofs.Sums.{one_bounded, two_terms, ascending_below}
 use Rattle.vertex_link_laws.proofs.Weights.{low, high, ends_below, weight-link}
+use Rattle.plain_facts.proofs.Truths.{one_if}
 
 ends_apart : (e : ℕ) → e < 6 → low e ≢ high e
 ends_apart e l = eqb-false (low e) (high e) (not-true (low e == high e) (list_all-below (λ x. not (low x == high x)) 6 refl e l))
@@ -36,11 +37,11 @@ two_ends e l = same_list-true (ends e) (low e ∷ high e ∷ []) (list_all-below
 edge_is : (i : ℕ) → edge i ≡ two (i / 6) (low (i % 6)) (high (i % 6))
 edge_is i = let l : i % 6 < 6 = omega arith in ap (λ (vs : List ℕ). let p : Place = record { tet = i / 6; vertices = vs } in p) (two_ends (i % 6) l)
 
-none_of : (b : Bool) (m : ℕ) → b ≡ false → bit b * m ≡ 0
-none_of b m e = ap (λ x. bit x * m) e ∙ omega arith
+none_of : (b : Bool) (m : ℕ) → b ≡ false → one_if b * m ≡ 0
+none_of b m e = ap (λ x. one_if x * m) e ∙ omega arith
 
-one_of : (b : Bool) (m : ℕ) → b ≡ true → bit b * m ≡ m
-one_of b m e = ap (λ x. bit x * m) e ∙ omega arith
+one_of : (b : Bool) (m : ℕ) → b ≡ true → one_if b * m ≡ m
+one_of b m e = ap (λ x. one_if x * m) e ∙ omega arith
 
 module _ (s : Skeleton) (k : IsSkeleton s) (c : ℕ) (directions : List ℕ) (count : ℕ) (numbered : IsNumbering (12 * length s.rows) (SameDirected s.rows) directions count) where
   abbrev n : ℕ
@@ -54,7 +55,7 @@ module _ (s : Skeleton) (k : IsSkeleton s) (c : ℕ) (directions : List ℕ) (co
 
   -- whether directed edge i is a vertex of the link, as a number
   is_vertex : ℕ → ℕ
-  is_vertex i = bit (is_least directions i && (class_of (vertex_number (i / 12) (tail i)) == c))
+  is_vertex i = one_if (is_least directions i && (class_of (vertex_number (i / 12) (tail i)) == c))
 
   -- joined directed edges begin at one vertex class
   one_tail : (i t a b : ℕ) → a < 4 → IsJoined s.rows (two t a b) (directed i) → class_of (vertex_number (i / 12) (tail i)) ≡ class_of (vertex_number t a)
@@ -84,7 +85,7 @@ module _ (s : Skeleton) (k : IsSkeleton s) (c : ℕ) (directions : List ℕ) (co
     first_counted =
         let i : ℕ = vertex_of t a b in
         let same : least directions (slice_index directions (vertex_of t a b)) ≡ vertex_of t a b = ap (least directions) first.same_class in
-        (λ j. bit (eq-eqb (least directions (slice_index directions i)) i same j && (one_tail i t a b la first_joined j == c)))
+        (λ j. one_if (eq-eqb (least directions (slice_index directions i)) i same j && (one_tail i t a b la first_joined j == c)))
 
     -- a least directed edge that is joined to it is it
     told : (i : ℕ) → i < 12 * n → is_least directions i ≡ true → IsJoined s.rows (directed i) (two t a b) → i ≡ vertex_of t a b
@@ -163,7 +164,7 @@ module _ (s : Skeleton) (k : IsSkeleton s) (c : ℕ) (directions : List ℕ) (co
 
     -- a directed edge counts for the class where it is one of its edge
     term : ℕ → ℕ
-    term i = bit (edge_class i == e) * is_vertex i
+    term i = one_if (edge_class i == e) * is_vertex i
 
     same_class : (i : ℕ) → i < 12 * n → SameEdge s.rows (edge_of i) j → edge_class i ≡ e
     same_class i l h = ((k.edges).together (edge_of i) j (edge_of_below i n l) lj).1 h ∙ cj
@@ -192,15 +193,15 @@ module _ (s : Skeleton) (k : IsSkeleton s) (c : ℕ) (directions : List ℕ) (co
           | inr w ↦ too (told t b a lt lb la back i l h w)
         ]
 
-        by_least : edge_class i ≡ e → (x : Bool) → is_least directions i ≡ x → bit (is_least directions i && (class_of (vertex_number (i / 12) (tail i)) == c)) ≡ 0
+        by_least : edge_class i ≡ e → (x : Bool) → is_least directions i ≡ x → one_if (is_least directions i && (class_of (vertex_number (i / 12) (tail i)) == c)) ≡ 0
         by_least q true h = absurd (not_least q h)
-        by_least q false h = ap (λ x. bit (x && (class_of (vertex_number (i / 12) (tail i)) == c))) h
+        by_least q false h = ap (λ x. one_if (x && (class_of (vertex_number (i / 12) (tail i)) == c))) h
 
         nothing : (m z : ℕ) → z ≡ 0 → m * z ≡ 0
         nothing m z h = ap (λ x. m * x) h ∙ omega arith
 
-        by_class : (edge_class i ≡ e) ⊎ (edge_class i ≢ e) → bit (edge_class i == e) * is_vertex i ≡ 0
-        by_class (inl q) = nothing (bit (edge_class i == e)) (is_vertex i) (by_least q (is_least directions i) refl)
+        by_class : (edge_class i ≡ e) ⊎ (edge_class i ≢ e) → one_if (edge_class i == e) * is_vertex i ≡ 0
+        by_class (inl q) = nothing (one_if (edge_class i == e)) (is_vertex i) (by_least q (is_least directions i) refl)
         by_class (inr ne) = none_of (edge_class i == e) (is_vertex i) (ne_eqb (edge_class i) e ne)
 
     -- as numbers of directed edges
@@ -232,7 +233,7 @@ module _ (s : Skeleton) (k : IsSkeleton s) (c : ℕ) (directions : List ℕ) (co
         let both : false ≡ true = sym h ∙ eq-eqb (slice_index directions there) (slice_index directions back_there) same in
         cc
 
-    counted : at_vertex t a + at_vertex t b ≡ sum_by term (below (12 * n)) + bit (is_extra e)
+    counted : at_vertex t a + at_vertex t b ≡ sum_by term (below (12 * n)) + one_if (is_extra e)
     unfolding is_extra
     counted = by_test (is_reversed e) refl
       where
@@ -242,31 +243,31 @@ module _ (s : Skeleton) (k : IsSkeleton s) (c : ℕ) (directions : List ℕ) (co
         once_more : (x y z w : ℕ) → z ≡ x → y ≡ x → w ≡ x → x + y ≡ z + w
         once_more x y z w f g h = omega arith
 
-        by_test : (q : Bool) → is_reversed e ≡ q → at_vertex t a + at_vertex t b ≡ sum_by term (below (12 * n)) + bit (is_reversed e && (class_of (first_vertex e) == c))
+        by_test : (q : Bool) → is_reversed e ≡ q → at_vertex t a + at_vertex t b ≡ sum_by term (below (12 * n)) + one_if (is_reversed e && (class_of (first_vertex e) == c))
         by_test false h =
-            nothing_more (at_vertex t a) (at_vertex t b) (sum_by term (below (12 * n))) (bit (is_reversed e && (class_of (first_vertex e) == c)))
+            nothing_more (at_vertex t a) (at_vertex t b) (sum_by term (below (12 * n))) (one_if (is_reversed e && (class_of (first_vertex e) == c)))
             (two_terms term one other (12 * n) one_below other_below (are_two h) nowhere_else ∙ (λ i. at_one i + at_other i))
-            (ap (λ x. bit (x && (class_of (first_vertex e) == c))) h)
+            (ap (λ x. one_if (x && (class_of (first_vertex e) == c))) h)
         by_test true h =
             let same : one ≡ other = one_for_both h in
-            once_more (at_vertex t a) (at_vertex t b) (sum_by term (below (12 * n))) (bit (is_reversed e && (class_of (first_vertex e) == c)))
+            once_more (at_vertex t a) (at_vertex t b) (sum_by term (below (12 * n))) (one_if (is_reversed e && (class_of (first_vertex e) == c)))
             (one_bounded term one (12 * n) one_below (λ i l off. nowhere_else i l off (λ q. off (q ∙ sym same))) ∙ at_one)
             (sym at_other ∙ ap term (sym same) ∙ at_one)
-            (ap (λ x. bit (x && (class_of (first_vertex e) == c))) h)
+            (ap (λ x. one_if (x && (class_of (first_vertex e) == c))) h)
 
   -- each directed edge counts for the class of its edge
-  counts_once : (i : ℕ) → i < 12 * n → is_vertex i ≡ sum_by (λ e. bit (edge_class i == e) * is_vertex i) (below s.edges.count)
+  counts_once : (i : ℕ) → i < 12 * n → is_vertex i ≡ sum_by (λ e. one_if (edge_class i == e) * is_vertex i) (below s.edges.count)
   counts_once i l =
       let small : edge_class i < s.edges.count = (k.edges).in_range (edge_of i) (edge_of_below i n l) in
-      sym (one_term (λ e. bit (edge_class i == e) * is_vertex i) (edge_class i) s.edges.count (λ e off. none_of (edge_class i == e) (is_vertex i) (ne_eqb (edge_class i) e (λ q. off (sym q)))) small
+      sym (one_term (λ e. one_if (edge_class i == e) * is_vertex i) (edge_class i) s.edges.count (λ e off. none_of (edge_class i == e) (is_vertex i) (ne_eqb (edge_class i) e (λ q. off (sym q)))) small
       ∙ one_of (edge_class i == edge_class i) (is_vertex i) (eq-eqb (edge_class i) (edge_class i) refl))
 
-  vertices-sum : link_vertices s.vertices.classes directions c ≡ sum_by (λ e. sum_by (λ i. bit (edge_class i == e) * is_vertex i) (below (12 * n))) (below s.edges.count)
+  vertices-sum : link_vertices s.vertices.classes directions c ≡ sum_by (λ e. sum_by (λ i. one_if (edge_class i == e) * is_vertex i) (below (12 * n))) (below s.edges.count)
   unfolding is_vertex
   vertices-sum =
       ap (λ m. sum_by is_vertex (below m)) numbered.one_each
-      ∙ sum_by_same is_vertex (λ i. sum_by (λ e. bit (edge_class i == e) * is_vertex i) (below s.edges.count)) (below (12 * n)) (λ i a. counts_once i (below-among i (12 * n) a))
-      ∙ sum_swap (λ i e. bit (edge_class i == e) * is_vertex i) (below (12 * n)) (below s.edges.count)
+      ∙ sum_by_same is_vertex (λ i. sum_by (λ e. one_if (edge_class i == e) * is_vertex i) (below s.edges.count)) (below (12 * n)) (λ i a. counts_once i (below-among i (12 * n) a))
+      ∙ sum_swap (λ i e. one_if (edge_class i == e) * is_vertex i) (below (12 * n)) (below s.edges.count)
 
   -- the edge classes that are counted once more
   pub extra : List ℕ
@@ -289,8 +290,8 @@ module _ (s : Skeleton) (k : IsSkeleton s) (c : ℕ) (directions : List ℕ) (co
   pub points-link : (coords : Coords) → HasTriangles coords → points coords (link_of s coords c) s.edges.classes s.edges.count ≡ link_vertices s.vertices.classes directions c + length extra
   unfolding term extra
   points-link coords h =
-      sum_by_same (λ e. weight coords (link_of s coords c) (least s.edges.classes e)) (λ e. sum_by (λ i. bit (edge_class i == e) * is_vertex i) (below (12 * n)) + bit (is_extra e)) (below s.edges.count)
+      sum_by_same (λ e. weight coords (link_of s coords c) (least s.edges.classes e)) (λ e. sum_by (λ i. one_if (edge_class i == e) * is_vertex i) (below (12 * n)) + one_if (is_extra e)) (below s.edges.count)
       (λ e m. let le : e < s.edges.count = below-among e s.edges.count m in
       weight-link n s.vertices.classes c coords h (least s.edges.classes e) (lj e le) ∙ counted e le)
-      ∙ sum_by_plus (λ e. sum_by (λ i. bit (edge_class i == e) * is_vertex i) (below (12 * n))) (λ e. bit (is_extra e)) (λ e. sum_by (λ i. bit (edge_class i == e) * is_vertex i) (below (12 * n)) + bit (is_extra e)) (λ e. refl) (below s.edges.count)
+      ∙ sum_by_plus (λ e. sum_by (λ i. one_if (edge_class i == e) * is_vertex i) (below (12 * n))) (λ e. one_if (is_extra e)) (λ e. sum_by (λ i. one_if (edge_class i == e) * is_vertex i) (below (12 * n)) + one_if (is_extra e)) (λ e. refl) (below s.edges.count)
       ∙ (λ i. sym vertices-sum i + sym (length-filter is_extra (below s.edges.count)) i)
