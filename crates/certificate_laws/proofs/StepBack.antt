@@ -14,9 +14,9 @@ use Rattle.certificate_definitions.specs.CarriedBack.{IsCarriedBack, move_back}
 use Rattle.labelling_laws.specs.Between.{after}
 use Rattle.labelling_laws.proofs.Back.{after_stands, after_relabelling, carries_on}
 use Rattle.table_definitions.proofs.Permutations.{compose-identity}
+use Rattle.table_definitions.proofs.Faces.{gluing_to}
 use Rattle.move_laws.proofs.Labels.{AreLabels, ascending, new_labels, HasLabel, label_at, HasVertex, vertex_at, length-labels, image-map}
 use Rattle.move_laws.proofs.Legal.{IsFacet, facet_is, HasNoFault, no_fault, old_facet}
-use Rattle.move_laws.proofs.Covered.{gluing_to}
 use Rattle.move_laws.proofs.Matched.{same_four, image-composed, length-composed}
 use Rattle.move_laws.proofs.Renamed.{renamed, renamed_back, back-renamed, renamed-old, renamed_below}
 use Rattle.move_laws.proofs.InverseFacets.{inverse_of}

@@ -7,12 +7,11 @@ use Rattle.plain_facts.proofs.Truths.{true_or_false, one_if}
 use Rattle.plain_facts.proofs.Numbers.{below_suc}
 use Rattle.table_definitions.specs.Table.{Gluing, Row, Face, glue, IsTable}
 use Rattle.table_definitions.proofs.Ranks.{rank, rank-suc, rank_fits, rank_all}
+use Rattle.table_definitions.proofs.Faces.{face_at, gluing_to}
 use Rattle.surface_definitions.specs.Coordinates.{quad_column, three}
 use Rattle.surface_definitions.specs.declared.Coords.TheVariants.{Standard}
 use Rattle.surface_definitions.specs.Crushing.{has_quad, is_removed, number_kept, ChainEnds, IsCrushed}
 use Rattle.surface_laws.proofs.CrushedRows.{renumbered, crushed_once, stays}
-use Rattle.surface_laws.proofs.Glued.{face_at}
-use Rattle.surface_laws.proofs.ChainsBack.{gluing_at}
 use Rattle.crushing_laws.specs.Laws.{HasNoQuads}
 
 -- a test of three numbers
@@ -49,7 +48,7 @@ module _ (rows : List Row) (xs : List ℕ) (quads : HasNoQuads (length rows) xs)
     same_gluing x zero None end e h = sym (ap (renumbered xs) h)
     same_gluing x zero (Some g) end e h =
         let within : g.tet < length rows = table.in_range x g e in
-        sym (ap (renumbered xs) h.1 ∙ ap (λ t. Some (gluing_at t g.perm)) (same_number g.tet (omega arith)))
+        sym (ap (renumbered xs) h.1 ∙ ap (λ t. Some (gluing_to t g.perm)) (same_number g.tet (omega arith)))
     same_gluing x (suc n) None end e h = absurd h
     same_gluing x (suc n) (Some g) end e h = absurd (false≢true (sym (none_removed g.tet (table.in_range x g e)) ∙ h.0))
 

@@ -8,18 +8,13 @@ use Rattle.table_definitions.specs.Table.{Gluing, Row, Face, IsTable}
 use Rattle.table_definitions.specs.Relabelling.{face_under}
 use Rattle.table_definitions.proofs.Permutations.{image-identity}
 use Rattle.table_definitions.proofs.InPlace.{in_place-same}
+use Rattle.table_definitions.proofs.Faces.{face_at}
 use Rattle.move_definitions.specs.Moves.{Move, IsCore, Facet, opposite, facet, old_labels, new_length, new_facet, label_by_label, facet_stand_in, kept_stand_in, stand_in_of, stand_in_at, kept}
 use Rattle.move_definitions.proofs.CoreTests.{core_size}
 use Rattle.move_definitions.proofs.StandIns.{facet_stand_in-new}
 use Rattle.move_laws.proofs.Labels.{ascending, new_labels, HasLabel, label_at, HasVertex, vertex_at, length-labels, image-map}
 use Rattle.move_laws.proofs.ListedFacets.{not_found, is_found, comes_from, stays-count}
 use Rattle.move_laws.proofs.Legal.{IsFacet, facet_is, HasNoFault, old_facet, old_label, facets_apart, gone, gone_distinct, length-gone, gone_below}
-
-abbrev pub face_at : ℕ → ℕ → Face
-face_at t v = record { tet = t; face = v }
-
-abbrev pub gluing_to : ℕ → List ℕ → Gluing
-gluing_to t p = record { tet = t; perm = p }
 
 -- what stands for a kept tetrahedron, and for an old facet
 

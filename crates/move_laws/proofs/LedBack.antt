@@ -11,12 +11,13 @@ use Rattle.move_definitions.specs.Moves.{Move, Facet, opposite, facet, kept, fac
 use Rattle.move_definitions.specs.Laws.{InversesHaveCores, InversesLeadBackUpToLabels}
 use Rattle.table_definitions.proofs.ListFacts.{list_all-below}
 use Rattle.table_definitions.proofs.Permutations.{image_below, preimage_below, image-preimage, preimage-image, image-inverse, inverse_permutes, compose_permutes, image-compose, same_images, carried_twice}
+use Rattle.table_definitions.proofs.Faces.{face_at, gluing_to}
 use Rattle.move_definitions.proofs.CoreTests.{core_size}
 use Rattle.move_definitions.proofs.StandIns.{facet_stand_in-old}
 use Rattle.move_laws.proofs.ListedFacets.{same_some}
 use Rattle.move_laws.proofs.Labels.{AreLabels, ascending, new_labels, HasLabel, label_at, HasVertex, vertex_at, length-labels, image-map}
 use Rattle.move_laws.proofs.Legal.{IsFacet, facet_is, HasNoFault, no_fault, old_facet}
-use Rattle.move_laws.proofs.Covered.{gluing_to, face_at, StandsForOld, IsInner, covered, stand_in-old}
+use Rattle.move_laws.proofs.Covered.{StandsForOld, IsInner, covered, stand_in-old}
 use Rattle.move_laws.proofs.Matched.{AreGlued, old_glued, label_across}
 use Rattle.move_laws.proofs.Renamed.{renamed, renamed_back, back-renamed, renamed-old, renamed-new, renamed_below, renamed-place, new_as_old_labels, across, inverse_core}
 use Rattle.move_laws.proofs.InverseFacets.{inverse_of, new_as_old, IsPlayed, played, facet-inverse, inverse_legal}

@@ -12,7 +12,7 @@ use Rattle.table_definitions.specs.Permutation.{four, IsPermutationOfFour}
 use Rattle.table_definitions.specs.Replacing.{leads_to}
 use Rattle.table_definitions.specs.Table.{Gluing, Row, Face, glue, other_side, way_back, faces, same_face, IsTable}
 use Rattle.table_definitions.proofs.Permutations.{image_below, inverse_permutes}
-use Rattle.table_definitions.proofs.Faces.{same_face-true, same_face-itself, there_and_back, back_again}
+use Rattle.table_definitions.proofs.Faces.{same_face-true, same_face-itself, there_and_back, back_again, face_at}
 use Rattle.table_definitions.proofs.TableLaws.{Among-faces, glued_tet, glued_face}
 use Rattle.table_definitions.proofs.Carried.{IsGood, not_from}
 use Rattle.table_definitions.proofs.FreshRows.{first_some-finds, first_some-only}
@@ -66,9 +66,6 @@ module _ (n : ℕ) (rows table : List Row) (c : Completes n rows table) where
   })
 
 -- the table that completes first entries
-abbrev mk : ℕ → ℕ → Face
-mk t f = record { tet = t; face = f }
-
 module _ (rows : List Row) where
   abbrev pub gives_back : Face → Face → Option Gluing
   gives_back y x = option_and_then (leads_to y x) (glue rows x)
@@ -80,7 +77,7 @@ module _ (rows : List Row) where
   entry y = if is_given rows y then glue rows y else back_at y
 
   abbrev pub row_of : ℕ → Row
-  row_of t = map (λ f. entry (mk t f)) four
+  row_of t = map (λ f. entry (face_at t f)) four
 
   abbrev pub completed : ℕ → List Row
   completed n = map row_of (below n)
@@ -105,7 +102,7 @@ module _ (rows : List Row) where
   length-completed n = length-map-range_with_len row_of 0 n
 
   pub glue-completed : (n : ℕ) (x : Face) → x.tet < n → x.face < 4 → glue (completed n) x ≡ entry x
-  glue-completed n x lt lf = ap (λ (row : Row). get_or row x.face None) (completed_row n x.tet lt) ∙ of_four (λ f. entry (mk x.tet f)) x.face lf
+  glue-completed n x lt lf = ap (λ (row : Row). get_or row x.face None) (completed_row n x.tet lt) ∙ of_four (λ f. entry (face_at x.tet f)) x.face lf
 
   -- a face that is given leads to this one
   record LeadsTo (y : Face) (v : Gluing) : Type 0 where

@@ -8,12 +8,13 @@ use Rattle.table_definitions.specs.Classes.{IsNumbering}
 use Rattle.table_definitions.specs.Places.{Place, across, vertex, SameVertex}
 use Rattle.table_definitions.proofs.ChainLaws.{kept_along}
 use Rattle.table_definitions.proofs.PermutationLaws.{image_below, images_apart}
+use Rattle.table_definitions.proofs.Faces.{face_at}
 use Rattle.skeleton_definitions.specs.Links.{vertex_number}
 use Rattle.surface_definitions.specs.Coordinates.{tri_column, quad_column, keeping}
 use Rattle.surface_definitions.specs.declared.Coords.TheVariants.{Standard}
 use Rattle.surface_definitions.specs.Equations.{Holds, matching}
 use Rattle.surface_definitions.specs.Lift.{projected, IsLiftAt, IsLift}
-use Rattle.surface_laws.proofs.Glued.{IsGlued, glued_is, face_at}
+use Rattle.surface_laws.proofs.Glued.{IsGlued, glued_is}
 use Rattle.surface_laws.proofs.Turns.{keeping_below}
 use Rattle.surface_laws.proofs.Matched.{matched}
 use Rattle.surface_laws.proofs.Quads.{projected_at}

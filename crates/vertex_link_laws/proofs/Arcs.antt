@@ -7,12 +7,12 @@ use Rattle.table_definitions.specs.Permutation.{four, others}
 use Rattle.table_definitions.specs.Table.{Row, Face, glue, faces}
 use Rattle.table_definitions.proofs.Listed.{below-among}
 use Rattle.table_definitions.proofs.TableLaws.{four-among}
+use Rattle.table_definitions.proofs.Faces.{face_at}
 use Rattle.skeleton_definitions.specs.Links.{vertex_number, is_first_side, link_edges}
 use Rattle.surface_definitions.specs.Characteristic.{arcs_in, arcs}
 use Rattle.surface_definitions.specs.declared.Coords.{Coords}
 use Rattle.surface_laws.specs.MatchingLaws.{HasTriangles}
 use Rattle.surface_laws.proofs.Counting.{sum_by_same, sum_by-map, sum_by-flat_map}
-use Rattle.surface_laws.proofs.Glued.{face_at}
 use Rattle.equation_laws.proofs.FaceSums.{sum_by-faces}
 use Rattle.quad_laws.specs.LinkLaws.{vertex_link}
 use Rattle.quad_laws.proofs.VertexLinks.{member}
