@@ -11,11 +11,11 @@ use Rattle.table_definitions.proofs.PermutationLaws.{is_odd-compose}
 use Rattle.table_definitions.proofs.Permutations.{compose_permutes}
 use Rattle.table_definitions.proofs.Computed.{computed}
 use Rattle.table_definitions.proofs.ListFacts.{list_all-below}
-use Rattle.skeleton_definitions.specs.Corners.{Corner, corner_behind, step, first_corner, corner_of, GoesRound, IsWalk}
+use Rattle.skeleton_definitions.specs.Corners.{Corner, corner_behind, step, first_corner, corner_of, GoesRound, IsWalk, left_through}
 use Rattle.skeleton_definitions.specs.Skeleton.{Skeleton, IsSkeleton}
 use Rattle.group_definitions.specs.Trees.{is_odd_number}
 use Rattle.group_definitions.specs.declared.Letter.{Letter}
-use Rattle.group_definitions.specs.Presentations.{letter_of, left_through, IsRelator, Presentation, IsPresentation}
+use Rattle.group_definitions.specs.Presentations.{letter_of, IsRelator, Presentation, IsPresentation}
 use Rattle.group_laws.specs.Laws.{turns}
 use Rattle.group_laws.proofs.Parity.{differs, differs_self, differs_false, differs_middle, odd_more, sign, turn}
 use Rattle.group_laws.proofs.Letters.{TurnsAs, letter_turns, zip_at}

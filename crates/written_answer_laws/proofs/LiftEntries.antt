@@ -9,7 +9,7 @@ use Rattle.table_definitions.specs.Permutation.{image}
 use Rattle.table_definitions.specs.Table.{Gluing, glue}
 use Rattle.table_definitions.proofs.TableLaws.{Among, Among-below}
 use Rattle.table_definitions.proofs.PermutationLaws.{image_below, images_apart}
-use Rattle.skeleton_definitions.specs.Corners.{Corner}
+use Rattle.skeleton_definitions.specs.Corners.{Corner, left_through}
 use Rattle.skeleton_definitions.specs.Links.{vertex_number}
 use Rattle.skeleton_definitions.specs.Skeleton.{Skeleton, IsSkeleton}
 use Rattle.surface_definitions.specs.Coordinates.{columns, tri_column, quad_column, keeping}
@@ -21,7 +21,6 @@ use Rattle.surface_laws.proofs.Glued.{IsGlued, glued_is}
 use Rattle.surface_laws.proofs.Lifts.{lift_matched}
 use Rattle.surface_laws.proofs.Quads.{projected_at}
 use Rattle.surface_laws.proofs.Turns.{keeping_below}
-use Rattle.surface_laws.proofs.CornerSteps.{left_through}
 use Rattle.quad_lift_laws.proofs.DualTree.{beyond, triangles_seen, IsHung, hung}
 use Rattle.quad_lift_laws.proofs.Flags.{IsVertexClass, IsFlag, mate_by, triangle_of}
 use Rattle.quad_lift_laws.proofs.Growing.{only_one, seen_apart, seen_within}
