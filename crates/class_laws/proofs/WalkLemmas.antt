@@ -20,10 +20,11 @@ use Rattle.walk_laws.proofs.Steps.{after_before}
 use Rattle.walk_laws.proofs.ChainLemmas.{going_on_has_cycle}
 use Rattle.class_laws.specs.Crossings.{pair}
 use Rattle.class_laws.specs.Rounds.{word_at, corner_by, corner_at, next_corner, word_behind, starts, start_of, IsRound, IsRoundUnless}
-use Rattle.class_laws.proofs.Cases.{are_ends, ends-edge_number}
+use Rattle.class_laws.proofs.Cases.{ends-edge_number}
 use Rattle.class_laws.proofs.CrossingLemmas.{across-glued, edge_is}
 use Rattle.class_laws.proofs.Marks.{any_more}
 use Rattle.class_laws.proofs.RoundLemmas.{turns, word_of, word_permutes, index_of_word, behind_permutes, behind_images, step_corner, next_corner-is, within}
+use Rattle.class_laws.proofs.EdgeTies.{edge_pair}
 
 -- different numbers are different corners
 pub corner_apart : (k l : ℕ) → k ≢ l → corner_at k ≢ corner_at l
@@ -189,7 +190,7 @@ start_edge i =
     let l : i % 6 < 6 = omega arith in
     let s = starts_are (i % 6) l in
     (λ k. pair (p.0 k) (image (p.1 k) 0) (image (p.1 k) 1)) ∙ (λ k. pair (i / 6) (slice_index (s k) 0) (slice_index (s k) 1))
-    ∙ sym (edge_is i (slice_index (ends (i % 6)) 0) (slice_index (ends (i % 6)) 1) (are_ends (i % 6) l).two)
+    ∙ sym (edge_pair i)
 
 pub start_below : (i n : ℕ) → i < 6 * n → start_of i < 24 * n
 start_below i n h =

@@ -10,8 +10,9 @@ use Rattle.table_definitions.specs.Table.{Row}
 use Rattle.table_definitions.proofs.ChainLaws.{joined_turned}
 use Rattle.table_definitions.proofs.ClassLaws.{least_is_least}
 use Rattle.skeleton_definitions.specs.Links.{directed}
-use Rattle.quad_laws.proofs.InnerEdges.{two, HasEdge, has_edge, edge_at, tet_at, rest_at}
+use Rattle.quad_laws.proofs.InnerEdges.{HasEdge, has_edge, edge_at, tet_at, rest_at}
 use Rattle.quad_lift_laws.proofs.Ends.{head_below}
+use Rattle.class_laws.specs.Crossings.{pair}
 
 -- the tetrahedron, tail and head of directed edge i
 abbrev pub tail : ℕ → ℕ
@@ -50,12 +51,12 @@ one_of_two i = by_ends h.ends_are
     by_ends (inl e) = inl (at (tail i ∷ head i ∷ []) e)
     by_ends (inr e) = inr (at (head i ∷ tail i ∷ []) e)
 
-module _ (rows : List Row) (i j t a b : ℕ) (is : edge j ≡ two t a b) where
+module _ (rows : List Row) (i j t a b : ℕ) (is : edge j ≡ pair t a b) where
   -- joined to the edge in one direction or the other
   abbrev EitherWay : Type 0
-  EitherWay = IsJoined rows (directed i) (two t a b) ⊎ IsJoined rows (directed i) (two t b a)
+  EitherWay = IsJoined rows (directed i) (pair t a b) ⊎ IsJoined rows (directed i) (pair t b a)
 
-  is_turned : turned (edge j) ≡ two t b a
+  is_turned : turned (edge j) ≡ pair t b a
   is_turned = ap turned is
 
   pub same_either_way : EitherWay → SameEdge rows (edge_of i) j
@@ -64,8 +65,8 @@ module _ (rows : List Row) (i j t a b : ℕ) (is : edge j ≡ two t a b) where
       go : (edge (edge_of i) ≡ directed i) ⊎ (edge (edge_of i) ≡ turned (directed i)) → EitherWay → SameEdge rows (edge_of i) j
       go (inl e) (inl w) = inl (subst₂ (IsJoined rows) (sym e) (sym is) w)
       go (inl e) (inr w) = inr (subst₂ (IsJoined rows) (sym e) (sym is_turned) w)
-      go (inr e) (inl w) = inr (subst₂ (IsJoined rows) (sym e) (sym is_turned) (joined_turned rows (directed i) (two t a b) w))
-      go (inr e) (inr w) = inl (subst₂ (IsJoined rows) (sym e) (sym is) (joined_turned rows (directed i) (two t b a) w))
+      go (inr e) (inl w) = inr (subst₂ (IsJoined rows) (sym e) (sym is_turned) (joined_turned rows (directed i) (pair t a b) w))
+      go (inr e) (inr w) = inl (subst₂ (IsJoined rows) (sym e) (sym is) (joined_turned rows (directed i) (pair t b a) w))
 
   pub either_way : SameEdge rows (edge_of i) j → EitherWay
   either_way h = go (one_of_two i) h
@@ -73,8 +74,8 @@ module _ (rows : List Row) (i j t a b : ℕ) (is : edge j ≡ two t a b) where
       go : (edge (edge_of i) ≡ directed i) ⊎ (edge (edge_of i) ≡ turned (directed i)) → SameEdge rows (edge_of i) j → EitherWay
       go (inl e) (inl w) = inl (subst₂ (IsJoined rows) e is w)
       go (inl e) (inr w) = inr (subst₂ (IsJoined rows) e is_turned w)
-      go (inr e) (inl w) = inr (joined_turned rows (turned (directed i)) (two t a b) (subst₂ (IsJoined rows) e is w))
-      go (inr e) (inr w) = inl (joined_turned rows (turned (directed i)) (two t b a) (subst₂ (IsJoined rows) e is_turned w))
+      go (inr e) (inl w) = inr (joined_turned rows (turned (directed i)) (pair t a b) (subst₂ (IsJoined rows) e is w))
+      go (inr e) (inr w) = inl (joined_turned rows (turned (directed i)) (pair t b a) (subst₂ (IsJoined rows) e is_turned w))
 
 -- the least member of the class of thing i
 pub record IsLeastOf (n : ℕ) (Same : ℕ → ℕ → Type 0) (classes : List ℕ) (i m : ℕ) : Type 0 where
