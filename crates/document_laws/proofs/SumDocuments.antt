@@ -67,15 +67,15 @@ blocks_from_read (m ∷ most) c blocks d few e = by_lines c.later refl (λ next 
     by_lines (l ∷ ls) split again e = read_on most ls l c blocks d split again e
 
 -- blocks to the end of the input are read
-abbrev IsRead : List Line → Reading → List Block → Type 0
-IsRead most c blocks = (d : Reading) × (blocks_from most c ≡ Ok (blocks, d))
+abbrev AreBlocksRead : List Line → Reading → List Block → Type 0
+AreBlocksRead most c blocks = (d : Reading) × (blocks_from most c ≡ Ok (blocks, d))
 
-found_none : (most : List Line) (c : Reading) → c.later ≡ [] → IsRead most c []
+found_none : (most : List Line) (c : Reading) → c.later ≡ [] → AreBlocksRead most c []
 unfolding blocks_from
 found_none [] c none = (c, refl)
 found_none (m ∷ most) c none = (c, ap (λ (ls : List Line). blocks_on ls c (λ x. blocks_from most x)) none)
 
-found_on : (m : Line) (most ls : List Line) (l : Line) (c next : Reading) (block : Block) (bs : List Block) → c.later ≡ l ∷ ls → block_at (begun l ls c) ≡ Ok (block, next) → IsRead most next bs → IsRead (m ∷ most) c (block ∷ bs)
+found_on : (m : Line) (most ls : List Line) (l : Line) (c next : Reading) (block : Block) (bs : List Block) → c.later ≡ l ∷ ls → block_at (begun l ls c) ≡ Ok (block, next) → AreBlocksRead most next bs → AreBlocksRead (m ∷ most) c (block ∷ bs)
 unfolding blocks_from
 found_on m most ls l c next block bs split e more = (
   more.0,
@@ -89,7 +89,7 @@ begins : (front : List Line) (block : Block) → AreBlockLines front block → (
 begins [] block h = absurd h
 begins (l ∷ ls) block h = (l, ls, refl)
 
-blocks_from_found : (most : List Line) (c : Reading) (blocks : List Block) → length c.later ≤ length most → AreTo c blocks → IsRead most c blocks
+blocks_from_found : (most : List Line) (c : Reading) (blocks : List Block) → length c.later ≤ length most → AreTo c blocks → AreBlocksRead most c blocks
 blocks_from_found most c [] few h = found_none most c h
 blocks_from_found [] c (block ∷ bs) few h =
     let b : (l : Line) × (ls : List Line) × (h.0 ≡ l ∷ ls) = begins h.0 block h.3 in
@@ -118,7 +118,7 @@ blocks_document_at c = next_table_at c >>= after_table
 pub blocks_document_found : (c : Reading) (rows : List Row) (blocks : List Block) → AreTableAndBlocks c.later rows blocks → blocks_document_at c ≡ Ok (rows, blocks)
 blocks_document_found c rows blocks h =
     let table : (d : Reading) × (next_table_at c ≡ Ok (rows, d)) × (d.later ≡ h.1) = table_blocks.complete c rows h.0 h.1 h.2 h.3 in
-    let found : IsRead table.0.later table.0 blocks = blocks_from_found table.0.later table.0 blocks (omega arith) (subst (λ (ls : List Line). AreBlocks ls blocks) (sym table.2) h.4) in
+    let found : AreBlocksRead table.0.later table.0 blocks = blocks_from_found table.0.later table.0 blocks (omega arith) (subst (λ (ls : List Line). AreBlocks ls blocks) (sym table.2) h.4) in
     ap (λ (r : Result Table InputFault). r >>= after_table) table.1
     ∙ ap (λ (r : Result Many InputFault). r >>= λ (bs : Many). Ok (rows, bs.0)) (worded_with (blocks_from table.0.later table.0) (blocks, found.0) found.1)
 

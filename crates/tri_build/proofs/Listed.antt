@@ -1,5 +1,5 @@
 -- Moves by tetrahedron and then by core, one tetrahedron after another.
-use Rattle.std.proofs.Common.{◌≡◌, ◌≢◌, ℕ, suc, ◌+◌, Bool, List, [], ◌∷◌, ◌++◌, length, map, refl, sym, ap, ◌∙◌, arith, append_assoc, append-nil}
+use Rattle.std.proofs.Common.{◌≡◌, ◌≢◌, ℕ, ◌+◌, Bool, List, [], ◌∷◌, ◌++◌, length, map, refl, sym, ap, ◌∙◌, arith, append_assoc, append-nil}
 use Rattle.std.specs.Prelude.{filter}
 use Rattle.std.specs.List.{flat_map}
 use Rattle.std.proofs.lemmas.List.{map-append}
@@ -13,6 +13,7 @@ use Rattle.table_definitions.proofs.Bijections.{below-push}
 use Rattle.move_definitions.specs.Moves.{Move}
 use Rattle.move_definitions.specs.Certificates.{moves_with, is_accepted, two_three_moves, three_two_moves, one_four_moves, or_these, candidates}
 use Rattle.tri_build.specs.Candidates.{moves_at}
+use Rattle.plain_facts.proofs.Numbers.{one_on}
 
 abbrev move_of : ℕ × List ℕ → Move
 move_of p = record { tet = p.0; core = p.1 }
@@ -23,9 +24,6 @@ pairs_at cores t = map (λ core. (t, core)) cores
 moves_of_pairs : (t : ℕ) (cores : List (List ℕ)) → map move_of (pairs_at cores t) ≡ moves_at t cores
 moves_of_pairs t [] = refl
 moves_of_pairs t (c ∷ cs) = ap (λ (ms : List Move). move_of (t, c) ∷ ms) (moves_of_pairs t cs)
-
-one_on : (n : ℕ) → suc n ≡ n + 1
-one_on n = omega arith
 
 pub moves_more : (cores : List (List ℕ)) (n : ℕ) → moves_with cores (n + 1) ≡ moves_with cores n ++ moves_at n cores
 moves_more cores n =
