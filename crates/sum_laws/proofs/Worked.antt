@@ -2,9 +2,8 @@
 use Rattle.std.proofs.Common.{◌≡◌, ◌≢◌, ℕ, zero, suc, ◌*◌, ◌<◌, ◌≤◌, List, [], ◌∷◌, slice_index, slice_index_or, AllPairs, refl, arith, lit<}
 use Rattle.std.proofs.Math.Nat.{one-dvd}
 use Rattle.cone_definitions.specs.Vectors.{IsInside, IsBefore}
-use Rattle.cone_definitions.specs.Rows.{Row, IsZeroAt, IsSolution}
 use Rattle.cone_definitions.specs.WorkedRow.{worked_row, worked_surfaces, y_surface, x_surface, one_each}
-use Rattle.cone_definitions.proofs.Worked.{worked_list}
+use Rattle.cone_definitions.proofs.Worked.{worked_list, one_each_solution}
 use Rattle.sum_laws.proofs.Surfaces.{surfaces_are_rays_lem}
 use Rattle.sum_definitions.specs.Sums.{HasRays, State, first_state, IsLeastInside, IsLeastFraction, IsTurn}
 use Rattle.sum_definitions.specs.Adding.{add_fault}
@@ -201,15 +200,8 @@ whole = record { turns = 2; rest = link_taken.rest; led = (torus_taken, (first_s
 
 -- ---- given terms
 
-ones_solution : IsSolution 3 (worked_row ∷ []) one_each
-ones_solution = record { width = refl; zero = zero_at }
-  where
-    zero_at : (k : ℕ) (d : Row) → k < 1 → IsZeroAt (slice_index_or (worked_row ∷ []) k d) one_each
-    zero_at zero d l = refl
-    zero_at (suc k) d l = absurd (omega arith)
-
 rays : HasRays 3 (worked_row ∷ []) worked_surfaces one_each
-rays = surfaces_are_rays_lem 3 (worked_row ∷ []) [] worked_surfaces one_each worked_list ones_solution (λ k d l. absurd (omega arith))
+rays = surfaces_are_rays_lem 3 (worked_row ∷ []) [] worked_surfaces one_each worked_list one_each_solution (λ k d l. absurd (omega arith))
 
 pub worked_sums_lem : WorkedSums
 worked_sums_lem = record { rays = rays; halves = halves; too_large = too_large; whole = whole; nothing = nothing }
