@@ -3,7 +3,7 @@ use Rattle.std.proofs.Common.{◌≡◌, ◌≢◌, ◌⊎◌, inl, inr, ℕ, ze
 use Rattle.std.specs.Prelude.{◌==◌, ◌&&◌, ◌||◌, not, nat_lt, filter, option_map, is_none, slice_index}
 use Rattle.std.specs.Bool.{MatchBool}
 use Rattle.std.specs.List.{slice_index_or, list_any}
-use Rattle.std.proofs.lemmas.Bool.{eq-eqb, ne_eqb, cases_lt, ltb-true, false≢true}
+use Rattle.std.proofs.lemmas.Bool.{eq-eqb, ne_eqb, cases_lt, ltb-true, false≢true, or_right}
 use Rattle.table_definitions.specs.Lists.{below, has, same_list}
 use Rattle.table_definitions.specs.Permutation.{four, image, index, words, IsPermutationOfFour}
 use Rattle.table_definitions.specs.Table.{Gluing, Row, glue, IsTable}
@@ -123,12 +123,8 @@ any_below : (p : ℕ → Bool) (n j : ℕ) → j < n → p j ≡ true → list_a
 any_below p zero j l h = absurd (omega arith)
 any_below p (suc n) j l h = let s : suc n ≡ n + 1 = omega arith in ap (λ m. list_any p (below m)) s ∙ any_more p n ∙ elim (cases_lt j n) [
   | inl less ↦ rw (any_below p n j less h) refl
-  | inr more ↦ let e : j ≡ n = omega arith in either (list_any p (below n)) (p n) (ap p (sym e) ∙ h)
+  | inr more ↦ let e : j ≡ n = omega arith in or_right (list_any p (below n)) (p n) (ap p (sym e) ∙ h)
 ]
-  where
-    either : (a b : Bool) → b ≡ true → (a || b) ≡ true
-    either true b h = refl
-    either false b h = h
 
 -- an edge by a pair of vertices
 pair_either : (t a b : ℕ) → a < 4 → b < 4 → a ≢ b → (pair t a b ≡ edge (6 * t + edge_number a b)) ⊎ (pair t a b ≡ turned (edge (6 * t + edge_number a b)))
