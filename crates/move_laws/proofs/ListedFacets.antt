@@ -1,14 +1,14 @@
 -- What is found in a list of what a function gives of the numbers in a list.
-use Rattle.std.proofs.Common.{◌≡◌, ℕ, zero, suc, ◌+◌, ◌<◌, Bool, true, false, cond, List, [], ◌∷◌, length, map, get_or, Option, Some, None, refl, sym, ap, ◌∙◌, subst, arith, inl, inr}
+use Rattle.std.proofs.Common.{◌≡◌, ℕ, suc, ◌+◌, ◌<◌, Bool, true, false, cond, List, [], ◌∷◌, length, map, get_or, Option, Some, None, refl, sym, ap, ◌∙◌, subst, arith, inl, inr}
 use Rattle.std.specs.Prelude.{◌⊎◌, ◌==◌, ◌||◌, ◌&&◌, nat_lt, not, find, filter_map, count_by}
 use Rattle.std.specs.List.{cons_option}
 use Rattle.std.proofs.lemmas.List.Sums.{sum_by-cons}
-use Rattle.std.proofs.lemmas.Bool.{eqb-true, eq-eqb, and_parts, or_cases, false≢true, le-ltb, lt-ltb}
+use Rattle.std.proofs.lemmas.Bool.{eqb-true, eq-eqb, and_parts, or_cases, false≢true, lt-ltb}
 use Rattle.table_definitions.specs.Lists.{has, closed_up}
 use Rattle.table_definitions.proofs.TableLaws.{Among}
 use Rattle.move_definitions.specs.Moves.{Facet}
 use Rattle.table_definitions.specs.Replaceable.{gone_before}
-use Rattle.table_definitions.proofs.Ranks.{rank, stays, rank-suc, count_whole, of_rank, gone_before-suc}
+use Rattle.table_definitions.proofs.Ranks.{rank, stays, count_whole, of_rank, stays_and_once}
 use Rattle.table_definitions.proofs.Listed.{among_has}
 use Rattle.plain_facts.proofs.Truths.{one_if}
 
@@ -158,23 +158,7 @@ times_one (x ∷ xs) t d =
     by_test false e new before = rw e (omega arith)
 
 pub stays_and_gone : (gone : List ℕ) (t : ℕ) → is_distinct gone ≡ true → rank (stays gone) t + gone_before gone t ≡ t
-stays_and_gone gone zero d =
-    let none : gone_before gone 0 ≡ 0 = none_before gone in
-    let z : rank (stays gone) 0 ≡ 0 = refl in
-    omega arith
-  where
-    none_before : (xs : List ℕ) → gone_before xs 0 ≡ 0
-    none_before [] = refl
-    none_before (x ∷ xs) =
-        let a : gone_before (x ∷ xs) 0 ≡ one_if (nat_lt x 0) + gone_before xs 0 = sum_by-cons (λ u. one_if (nat_lt u 0)) x xs in
-        let b : one_if (nat_lt x 0) ≡ 0 = ap one_if (le-ltb x 0 (omega arith)) in
-        omega (arith, none_before xs)
-stays_and_gone gone (suc t) d =
-    omega (arith, stays_and_gone gone t d, rank-suc (stays gone) t, gone_before-suc gone t, times_one gone t d, one_of (has gone t))
-  where
-    one_of : (b : Bool) → one_if (not b) + one_if b ≡ 1
-    one_of true = omega arith
-    one_of false = omega arith
+stays_and_gone gone t d = stays_and_once gone t (λ u. times_one gone u d)
 
 pub closed_up-rank : (gone : List ℕ) (t : ℕ) → is_distinct gone ≡ true → closed_up gone t ≡ rank (stays gone) t
 closed_up-rank gone t d = omega (arith, stays_and_gone gone t d)

@@ -155,18 +155,25 @@ times_one (x ∷ xs) t up =
         rw e (omega arith)
     by_test false e before = rw e (omega arith)
 
+-- each number stands among them once or never
+abbrev pub AreOnce : List ℕ → Type 0
+AreOnce xs = (t : ℕ) → count_by (λ u. u == t) xs ≡ one_if (has xs t)
+
 -- what stays below t and what is taken out below t are all numbers below t
-pub stays_and_gone : (gone : List ℕ) (t : ℕ) → Ascends gone → rank (stays gone) t + gone_before gone t ≡ t
-stays_and_gone gone zero up =
+pub stays_and_once : (gone : List ℕ) (t : ℕ) → AreOnce gone → rank (stays gone) t + gone_before gone t ≡ t
+stays_and_once gone zero once =
     let none : gone_before gone 0 ≡ 0 = count_none (λ u. nat_lt u 0) gone (λ k l. le-ltb (get_or gone k 0) 0 (omega arith)) in
     let z : rank (stays gone) 0 ≡ 0 = refl in
     omega arith
-stays_and_gone gone (suc t) up =
-    omega (arith, stays_and_gone gone t up, rank-suc (stays gone) t, gone_before-suc gone t, times_one gone t up, one_of (has gone t))
+stays_and_once gone (suc t) once =
+    omega (arith, stays_and_once gone t once, rank-suc (stays gone) t, gone_before-suc gone t, once t, one_of (has gone t))
   where
     one_of : (b : Bool) → one_if (not b) + one_if b ≡ 1
     one_of true = omega arith
     one_of false = omega arith
+
+pub stays_and_gone : (gone : List ℕ) (t : ℕ) → Ascends gone → rank (stays gone) t + gone_before gone t ≡ t
+stays_and_gone gone t up = stays_and_once gone t (λ u. times_one gone u up)
 
 pub closed_up-rank : (gone : List ℕ) (t : ℕ) → Ascends gone → closed_up gone t ≡ rank (stays gone) t
 closed_up-rank gone t up = omega (arith, stays_and_gone gone t up)
