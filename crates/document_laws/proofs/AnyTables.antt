@@ -14,6 +14,7 @@ use Rattle.document_definitions.specs.Grammar.{AreTables}
 use Rattle.table_definitions.proofs.ReadingLaws.{ok_parts}
 use Rattle.table_definitions.proofs.LineLaws.{line_found}
 use Rattle.document_laws.proofs.Tables.{worded_with, table_blocks}
+use Rattle.plain_facts.proofs.Lists.{no_items}
 
 abbrev Table : Type 0
 Table = List Row × Reading
@@ -61,11 +62,8 @@ none_read c tables d none e = let parts : ([] ≡ tables) × (c ≡ d) = ok_part
 
 tables_from_read : (most : List Line) (c : Reading) (tables : List (List Row)) (d : Reading) → length c.later ≤ length most → tables_from most c ≡ Ok (tables, d) → AreTo c tables
 unfolding tables_from
-tables_from_read [] c tables d few e = none_read c tables d (no_lines c.later few) e
-  where
-    no_lines : (ls : List Line) → length ls ≤ 0 → ls ≡ []
-    no_lines [] h = refl
-    no_lines (l ∷ ls) h = absurd (omega arith)
+tables_from_read [] c tables d few e = none_read c tables d (no_items c.later few) e
+
 tables_from_read (m ∷ most) c tables d few e = by_lines c.later refl (λ next ts last less f. tables_from_read most next ts last (omega arith) f) e
   where
     by_lines : (ls : List Line) → c.later ≡ ls → ((next : Reading) (ts : List (List Row)) (last : Reading) → length next.later + 1 ≤ length c.later → tables_from most next ≡ Ok (ts, last) → AreTo next ts)

@@ -15,6 +15,7 @@ use Rattle.table_definitions.proofs.ReadingLaws.{ok_parts}
 use Rattle.document_laws.proofs.Tables.{worded_ok, worded_with, table_blocks}
 use Rattle.document_laws.proofs.BlockReading.{BlockRead, block_read}
 use Rattle.document_laws.proofs.BlockFinding.{BlockFound, block_found}
+use Rattle.plain_facts.proofs.Lists.{no_items}
 
 abbrev One : Type 0
 One = Block × Reading
@@ -54,11 +55,8 @@ none_read c blocks d none e = let parts : ([] ≡ blocks) × (c ≡ d) = ok_part
 
 blocks_from_read : (most : List Line) (c : Reading) (blocks : List Block) (d : Reading) → length c.later ≤ length most → blocks_from most c ≡ Ok (blocks, d) → AreTo c blocks
 unfolding blocks_from
-blocks_from_read [] c blocks d few e = none_read c blocks d (no_lines c.later few) e
-  where
-    no_lines : (ls : List Line) → length ls ≤ 0 → ls ≡ []
-    no_lines [] h = refl
-    no_lines (l ∷ ls) h = absurd (omega arith)
+blocks_from_read [] c blocks d few e = none_read c blocks d (no_items c.later few) e
+
 blocks_from_read (m ∷ most) c blocks d few e = by_lines c.later refl (λ next bs last less f. blocks_from_read most next bs last (omega arith) f) e
   where
     by_lines : (ls : List Line) → c.later ≡ ls → ((next : Reading) (bs : List Block) (last : Reading) → length next.later + 1 ≤ length c.later → blocks_from most next ≡ Ok (bs, last) → AreTo next bs)

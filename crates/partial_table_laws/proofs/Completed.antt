@@ -1,6 +1,6 @@
 -- First entries of rows that glue soundly so far are those of a table: the faces to which they lead lead back, and all others
 -- are left free.
-use Rattle.std.proofs.Common.{◌≡◌, ℕ, zero, suc, ◌<◌, ◌≤◌, Bool, true, false, List, [], length, map, get_or, Option, Some, None, refl, sym, ap, ◌∙◌, subst, arith, ⊎_elim}
+use Rattle.std.proofs.Common.{◌≡◌, ℕ, ◌<◌, ◌≤◌, Bool, true, false, List, [], length, map, get_or, Option, Some, None, refl, sym, ap, ◌∙◌, subst, arith, ⊎_elim}
 use Rattle.std.specs.Prelude.{not, option_and_then, IsTrue, All, if◌then◌else◌}
 use Rattle.std.specs.List.{slice_index_or}
 use Rattle.std.proofs.lemmas.Bool.{ltb-true, lt-ltb, cases_lt}
@@ -16,6 +16,7 @@ use Rattle.table_definitions.proofs.Faces.{same_face-true, same_face-itself, the
 use Rattle.table_definitions.proofs.TableLaws.{Among-faces, glued_tet, glued_face}
 use Rattle.table_definitions.proofs.Carried.{IsGood, not_from}
 use Rattle.table_definitions.proofs.FreshRows.{first_some-finds, first_some-only}
+use Rattle.table_definitions.proofs.Kept.{of_four}
 use Rattle.partial_table_laws.specs.Partial.{is_given, IsPartialTable, Completes}
 use Rattle.partial_table_laws.specs.Laws.{PartialTablesAreCompleted}
 
@@ -87,13 +88,6 @@ module _ (rows : List Row) where
 
   entry_back : (y : Face) → is_given rows y ≡ false → entry y ≡ back_at y
   entry_back y h = ap (λ b. if◌then◌else◌ {A = Option Gluing} b (glue rows y) (back_at y)) h
-
-  of_four : (f : ℕ → Option Gluing) (k : ℕ) → k < 4 → get_or (map f four) k None ≡ f k
-  of_four f zero l = refl
-  of_four f (suc zero) l = refl
-  of_four f (suc (suc zero)) l = refl
-  of_four f (suc (suc (suc zero))) l = refl
-  of_four f (suc (suc (suc (suc k)))) l = absurd (omega arith)
 
   pub completed_row : (n t : ℕ) → t < n → get_or (completed n) t [] ≡ row_of t
   completed_row n t l = get_or-map-range_with_len row_of 0 n t t [] l (omega arith)

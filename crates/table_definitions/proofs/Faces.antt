@@ -36,6 +36,9 @@ pub back_again : (x : Face) (g : Gluing) → IsPermutationOfFour g.perm → way_
 back_again x g h = ap (gluing_to g.tet) (inverse-inverse g.perm h)
 
 -- a face by its number
+pub number-face_of : (k : ℕ) → face_number (face_of k) ≡ k
+number-face_of k = omega arith
+
 pub face_of-number : (x : Face) → x.face < 4 → face_of (face_number x) ≡ x
 face_of-number x l =
     let d : (4 * x.tet + x.face) / 4 ≡ x.tet = omega arith in

@@ -52,19 +52,20 @@ length-fresh_row rows r can u h =
     let at : fresh_row r u ≡ (get_or r.fresh i nothing).1 = get_or-map (λ (x : Numbered). x.1) r.fresh i nothing [] l in
     ap length at ∙ All-get_or (λ (x : Numbered). length x.1 ≡ 4) r.fresh i nothing l can.four_faces
 
+-- an empty row has no gluing
+pub nothing_in : (k : ℕ) → (let none : Row = [] in slice_index_or none k None) ≡ None
+nothing_in zero = refl
+nothing_in (suc k) = refl
+
 -- a fresh gluing is that of a face of a fresh row
 pub fresh_tet : (r : Replacement) (x : Face) (g : Gluing) → fresh_glue r x ≡ Some g → has (fresh_numbers r) x.tet ≡ true
 fresh_tet r x g e = by_test (has (fresh_numbers r) x.tet) refl
   where
-    nothing : (k : ℕ) → (let none : Row = [] in slice_index_or none k None) ≡ None
-    nothing zero = refl
-    nothing (suc k) = refl
-
     by_test : (b : Bool) → has (fresh_numbers r) x.tet ≡ b → has (fresh_numbers r) x.tet ≡ true
     by_test true h = h
     by_test false h =
         let row : fresh_row r x.tet ≡ [] = no_row r.fresh x.tet h in
-        let n : fresh_glue r x ≡ None = ap (λ (w : Row). get_or w x.face None) row ∙ nothing x.face in
+        let n : fresh_glue r x ≡ None = ap (λ (w : Row). get_or w x.face None) row ∙ nothing_in x.face in
         absurd cc
 
 pub fresh_face : (rows : List Row) (r : Replacement) → CanReplace rows r → (x : Face) (g : Gluing) → fresh_glue r x ≡ Some g → x.face < 4

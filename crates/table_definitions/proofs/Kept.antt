@@ -96,7 +96,7 @@ kept_row_at rows r u l h = row_at rows r u l ∙ ap (λ b. cond b (fresh_row r u
 pub glue-fresh : (rows : List Row) (r : Replacement) (x : Face) → x.tet < replaced_length rows r → has (fresh_numbers r) x.tet ≡ true → glue (replaced rows r) x ≡ fresh_glue r x
 glue-fresh rows r x l h = ap (λ (row : Row). get_or row x.face None) (fresh_row_at rows r x.tet l h)
 
-of_four : (f : ℕ → Option Gluing) (k : ℕ) → k < 4 → get_or (map f four) k None ≡ f k
+pub of_four : (f : ℕ → Option Gluing) (k : ℕ) → k < 4 → get_or (map f four) k None ≡ f k
 of_four f zero l = refl
 of_four f (suc zero) l = refl
 of_four f (suc (suc zero)) l = refl
