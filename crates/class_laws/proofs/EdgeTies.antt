@@ -17,6 +17,19 @@ part i = omega arith
 pub edge_pair : (i : ℕ) → edge i ≡ pair (i / 6) (low (i % 6)) (high (i % 6))
 edge_pair i = edge_is i (low (i % 6)) (high (i % 6)) (are_ends (i % 6) (part i)).two
 
+-- an edge by its ends
+pub edge_by_ends : (t a b c d : ℕ) → edge_number a b < 6 → ends (edge_number a b) ≡ c ∷ d ∷ [] → edge (6 * t + edge_number a b) ≡ pair t c d
+edge_by_ends t a b c d small e =
+    let x : (6 * t + edge_number a b) / 6 ≡ t = omega arith in
+    let r : (6 * t + edge_number a b) % 6 ≡ edge_number a b = omega arith in
+    edge_is (6 * t + edge_number a b) c d (ap ends r ∙ e) ∙ (λ k. pair (x k) c d)
+
+-- two different vertices are their edge, in one of its directions
+pub pair_either : (t a b : ℕ) → a < 4 → b < 4 → a ≢ b → (pair t a b ≡ edge (6 * t + edge_number a b)) ⊎ (pair t a b ≡ turned (edge (6 * t + edge_number a b)))
+pair_either t a b l m ne =
+    let n = ends-edge_number a b l m ne in
+    elim n.1 [ inl e ↦ inl (sym (edge_by_ends t a b a b n.0 e)) | inr e ↦ inr (ap turned (sym (edge_by_ends t a b b a n.0 e))) ]
+
 -- a place is edge i, in one of its directions
 abbrev Either : ℕ → Place → Type 0
 Either i p = (p ≡ edge i) ⊎ (p ≡ turned (edge i))
@@ -65,19 +78,9 @@ module _ (rows : List Row) (table : IsTable rows) where
       record {
         next = ap (λ (o : Option Place). option_map edge_at o) e;
         turned_number = ap (λ k. 6 * t + k) (edge_number-turned a b l m);
-        either = by_ends n.1;
+        either = pair_either t a b l m ne;
         inside = inside;
       }
-    where
-      place : (c d : ℕ) → edge_number a b < 6 → ends (edge_number a b) ≡ c ∷ d ∷ [] → edge (6 * t + edge_number a b) ≡ pair t c d
-      place c d small e =
-          let x : (6 * t + edge_number a b) / 6 ≡ t = omega arith in
-          let r : (6 * t + edge_number a b) % 6 ≡ edge_number a b = omega arith in
-          edge_is (6 * t + edge_number a b) c d (ap ends r ∙ e) ∙ (λ k. pair (x k) c d)
-
-      by_ends : (ends (edge_number a b) ≡ a ∷ b ∷ []) ⊎ (ends (edge_number a b) ≡ b ∷ a ∷ []) → Either (6 * t + edge_number a b) (pair t a b)
-      by_ends (inl e) = inl (sym (place a b (ends-edge_number a b l m ne).0 e))
-      by_ends (inr e) = inr (ap turned (sym (place b a (ends-edge_number a b l m ne).0 e)))
 
   lands : (i f : ℕ) (q : Place) → across rows (edge i) f ≡ Some q → Lands i f q
   lands i f q e =

@@ -21,10 +21,10 @@ use Rattle.walk_laws.proofs.ChainLemmas.{going_on_has_cycle}
 use Rattle.class_laws.specs.Crossings.{pair}
 use Rattle.class_laws.specs.Rounds.{word_at, corner_by, corner_at, next_corner, word_behind, starts, start_of, IsRound, IsRoundUnless}
 use Rattle.class_laws.proofs.Cases.{ends-edge_number}
-use Rattle.class_laws.proofs.CrossingLemmas.{across-glued, edge_is}
+use Rattle.class_laws.proofs.CrossingLemmas.{across-glued}
 use Rattle.class_laws.proofs.Marks.{any_more}
 use Rattle.class_laws.proofs.RoundLemmas.{turns, word_of, word_permutes, index_of_word, behind_permutes, behind_images, step_corner, next_corner-is, within}
-use Rattle.class_laws.proofs.EdgeTies.{edge_pair}
+use Rattle.class_laws.proofs.EdgeTies.{edge_pair, pair_either}
 
 -- different numbers are different corners
 pub corner_apart : (k l : ℕ) → k ≢ l → corner_at k ≢ corner_at l
@@ -125,20 +125,6 @@ any_below p (suc n) j l h = let s : suc n ≡ n + 1 = omega arith in ap (λ m. l
   | inl less ↦ rw (any_below p n j less h) refl
   | inr more ↦ let e : j ≡ n = omega arith in or_right (list_any p (below n)) (p n) (ap p (sym e) ∙ h)
 ]
-
--- an edge by a pair of vertices
-pair_either : (t a b : ℕ) → a < 4 → b < 4 → a ≢ b → (pair t a b ≡ edge (6 * t + edge_number a b)) ⊎ (pair t a b ≡ turned (edge (6 * t + edge_number a b)))
-pair_either t a b l m ne = by_ends (ends-edge_number a b l m ne).1
-  where
-    place : (c d : ℕ) → edge_number a b < 6 → ends (edge_number a b) ≡ c ∷ d ∷ [] → edge (6 * t + edge_number a b) ≡ pair t c d
-    place c d small e =
-        let x : (6 * t + edge_number a b) / 6 ≡ t = omega arith in
-        let r : (6 * t + edge_number a b) % 6 ≡ edge_number a b = omega arith in
-        edge_is (6 * t + edge_number a b) c d (ap ends r ∙ e) ∙ (λ k. pair (x k) c d)
-
-    by_ends : (ends (edge_number a b) ≡ a ∷ b ∷ []) ⊎ (ends (edge_number a b) ≡ b ∷ a ∷ []) → (pair t a b ≡ edge (6 * t + edge_number a b)) ⊎ (pair t a b ≡ turned (edge (6 * t + edge_number a b)))
-    by_ends (inl e) = inl (sym (place a b (ends-edge_number a b l m ne).0 e))
-    by_ends (inr e) = inr (ap turned (sym (place b a (ends-edge_number a b l m ne).0 e)))
 
 -- where the walk starts
 abbrev rest_of : ℕ → List ℕ

@@ -1,18 +1,19 @@
 -- The directions of an edge: each directed edge of its class is joined to one of the two, or the other.
-use Rattle.std.proofs.Common.{◌≡◌, ℕ, ◌*◌, ◌/◌, ◌%◌, ◌<◌, ◌≤◌, List, [], ◌∷◌, length, ◌⊎◌, inl, inr, sym, ap, ◌∙◌, subst₂, arith}
+use Rattle.std.proofs.Common.{◌≡◌, ℕ, ◌*◌, ◌/◌, ◌%◌, ◌<◌, ◌≤◌, List, [], ◌∷◌, length, ◌⊎◌, inl, inr, sym, ap, subst₂, arith}
 use Rattle.std.specs.Prelude.{◌==◌, slice_index}
 use Rattle.std.proofs.lemmas.Bool.{eqb-true}
 use Rattle.std.proofs.lemmas.List.Sums.{passes_at_first}
 use Rattle.table_definitions.specs.Classes.{IsNumbering, least}
 use Rattle.table_definitions.specs.Permutation.{others}
-use Rattle.table_definitions.specs.Places.{Place, edge, ends, edge_number, turned, IsJoined, SameEdge}
+use Rattle.table_definitions.specs.Places.{edge, ends, edge_number, turned, IsJoined, SameEdge}
 use Rattle.table_definitions.specs.Table.{Row}
 use Rattle.table_definitions.proofs.ChainLaws.{joined_turned}
 use Rattle.table_definitions.proofs.ClassLaws.{least_is_least}
 use Rattle.skeleton_definitions.specs.Links.{directed}
-use Rattle.quad_laws.proofs.InnerEdges.{HasEdge, has_edge, edge_at, tet_at, rest_at}
+use Rattle.quad_laws.proofs.InnerEdges.{HasEdge, has_edge, edge_at}
 use Rattle.quad_lift_laws.proofs.Ends.{head_below}
 use Rattle.class_laws.specs.Crossings.{pair}
+use Rattle.class_laws.proofs.EdgeTies.{edge_by_ends}
 
 -- the tetrahedron, tail and head of directed edge i
 abbrev pub tail : ℕ → ℕ
@@ -44,12 +45,9 @@ one_of_two i = by_ends h.ends_are
     h : HasEdge (tail i) (head i)
     h = has_edge_of i
 
-    at : (vs : List ℕ) → ends (edge_number (tail i) (head i)) ≡ vs → edge (edge_of i) ≡ record { tet = i / 12; vertices = vs }
-    at vs e = (λ k. record { tet = tet_at (i / 12) (edge_number (tail i) (head i)) h.small k; vertices = ends (rest_at (i / 12) (edge_number (tail i) (head i)) h.small k) }) ∙ ap (λ (vs : List ℕ). let p : Place = record { tet = i / 12; vertices = vs } in p) e
-
     by_ends : (ends (edge_number (tail i) (head i)) ≡ tail i ∷ head i ∷ []) ⊎ (ends (edge_number (tail i) (head i)) ≡ head i ∷ tail i ∷ []) → (edge (edge_of i) ≡ directed i) ⊎ (edge (edge_of i) ≡ turned (directed i))
-    by_ends (inl e) = inl (at (tail i ∷ head i ∷ []) e)
-    by_ends (inr e) = inr (at (head i ∷ tail i ∷ []) e)
+    by_ends (inl e) = inl (edge_by_ends (i / 12) (tail i) (head i) (tail i) (head i) h.small e)
+    by_ends (inr e) = inr (edge_by_ends (i / 12) (tail i) (head i) (head i) (tail i) h.small e)
 
 module _ (rows : List Row) (i j t a b : ℕ) (is : edge j ≡ pair t a b) where
   -- joined to the edge in one direction or the other

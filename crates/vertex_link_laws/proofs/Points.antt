@@ -20,7 +20,7 @@ use Rattle.surface_laws.proofs.Counting.{sum_by_same, sum_swap, one_term}
 use Rattle.quad_laws.specs.LinkLaws.{link_of}
 use Rattle.quad_laws.proofs.InnerEdges.{start_below, start_class}
 use Rattle.quad_laws.proofs.VertexLinks.{member}
-use Rattle.quad_lift_laws.proofs.Ends.{direction_number, directed_is, place_is, IsAtClass, joined_class, two_at_class}
+use Rattle.quad_lift_laws.proofs.Ends.{direction_number, direction_below, IsAtClass, joined_class, two_at_class}
 use Rattle.vertex_link_laws.specs.Laws.{AreInvalidEdgesAt}
 use Rattle.vertex_link_laws.proofs.Directions.{tail, head, edge_of, edge_of_below, same_either_way, either_way, IsLeastOf, least_of}
 use Rattle.vertex_link_laws.proofs.Sums.{one_bounded, two_terms, ascending_below}
@@ -28,6 +28,7 @@ use Rattle.vertex_link_laws.proofs.Weights.{weight-link}
 use Rattle.plain_facts.proofs.Truths.{one_if}
 use Rattle.class_laws.proofs.Cases.{low, high, are_ends}
 use Rattle.class_laws.proofs.EdgeTies.{edge_pair}
+use Rattle.class_laws.proofs.DirectionTies.{pair_is}
 use Rattle.class_laws.specs.Crossings.{pair}
 
 none_of : (b : Bool) (m : ℕ) → b ≡ false → one_if b * m ≡ 0
@@ -57,20 +58,16 @@ module _ (s : Skeleton) (k : IsSkeleton s) (c : ℕ) (directions : List ℕ) (co
       let h : IsAtClass s k (class_of (vertex_number t a)) (pair t a b) = record { v = a; w = b; is = refl; below_four = la; chosen = refl } in
       (two_at_class s k d (i / 12) (tail i) (head i) (joined_class s k d (pair t a b) (directed i) j h)).1
 
-  -- the number of a directed edge
-  number_below : (t a b : ℕ) → t < n → a < 4 → b < 4 → a ≢ b → direction_number t a b < 12 * n
-  number_below t a b lt la lb ne = let p = (place_is a b la lb ne).small in omega arith
-
   -- the vertex of the link that a directed edge belongs to
   abbrev vertex_of : ℕ → ℕ → ℕ → ℕ
   vertex_of t a b = least directions (slice_index directions (direction_number t a b))
 
   module _ (t a b : ℕ) (lt : t < n) (la : a < 4) (lb : b < 4) (ne : a ≢ b) where
     first : IsLeastOf (12 * n) (SameDirected s.rows) directions (direction_number t a b) (vertex_of t a b)
-    first = least_of (12 * n) (SameDirected s.rows) directions count numbered (direction_number t a b) (number_below t a b lt la lb ne)
+    first = least_of (12 * n) (SameDirected s.rows) directions count numbered (direction_number t a b) (direction_below n t a b lt la lb ne)
 
     first_joined : IsJoined s.rows (pair t a b) (directed (vertex_of t a b))
-    first_joined = subst (λ p. IsJoined s.rows p (directed (vertex_of t a b))) (directed_is t a b la lb ne) first.same
+    first_joined = subst (λ p. IsJoined s.rows p (directed (vertex_of t a b))) (pair_is t a b la lb ne) first.same
 
     -- it is counted where the tail is of the class
     first_counted : is_vertex (vertex_of t a b) ≡ at_vertex t a
@@ -85,7 +82,7 @@ module _ (s : Skeleton) (k : IsSkeleton s) (c : ℕ) (directions : List ℕ) (co
     told i l e j =
         let d : ℕ = direction_number t a b in
         let same : slice_index directions i ≡ slice_index directions (direction_number t a b) =
-        (numbered.together i d l (number_below t a b lt la lb ne)).1 (subst (IsJoined s.rows (directed i)) (sym (directed_is t a b la lb ne)) j) in
+        (numbered.together i d l (direction_below n t a b lt la lb ne)).1 (subst (IsJoined s.rows (directed i)) (sym (pair_is t a b la lb ne)) j) in
         sym (eqb-true (least directions (slice_index directions i)) i e) ∙ ap (least directions) same
 
   -- the class of the edge of directed edge i
@@ -207,9 +204,9 @@ module _ (s : Skeleton) (k : IsSkeleton s) (c : ℕ) (directions : List ℕ) (co
     invalid_edge : (is_reversed e ≡ true) ↔ IsInvalidEdge s.rows (least s.edges.classes e)
     unfolding is_reversed
     invalid_edge =
-        let together = numbered.together there back_there (number_below t a b lt la lb ne) (number_below t b a lt lb la back) in
-        let to : directed there ≡ edge j = directed_is t a b la lb ne ∙ sym (edge_pair j) in
-        let from : directed back_there ≡ turned (edge j) = directed_is t b a lb la back ∙ sym (ap turned (edge_pair j)) in (
+        let together = numbered.together there back_there (direction_below n t a b lt la lb ne) (direction_below n t b a lt lb la back) in
+        let to : directed there ≡ edge j = pair_is t a b la lb ne ∙ sym (edge_pair j) in
+        let from : directed back_there ≡ turned (edge j) = pair_is t b a lb la back ∙ sym (ap turned (edge_pair j)) in (
           (λ h. subst₂ (IsJoined s.rows) to from (together.0 (eqb-true (slice_index directions there) (slice_index directions back_there) h))),
           (λ i. eq-eqb (slice_index directions there) (slice_index directions back_there) (together.1 (subst₂ (IsJoined s.rows) (sym to) (sym from) i))),
         )
