@@ -1,7 +1,7 @@
 -- The outcome of words that are accepted is the answer to what they ask for.
 use Rattle.std.proofs.Common.{◌≡◌, ◌≤◌, ℕ, List, length, Bool, true, false, Option, Result, Ok, refl, ap, subst, arith, nat_lt}
 use Rattle.std.specs.Prelude.{◌<◌, ◌&&◌}
-use Rattle.std.proofs.lemmas.Bool.{ltb-true}
+use Rattle.std.proofs.lemmas.Bool.{ltb-true, false_from_ne_true}
 use Rattle.std.specs.Bool.{MatchBool}
 use Rattle.signature_definitions.specs.declared.InputFault.{InputFault}
 use Rattle.command_definitions.specs.declared.Request.{Request}
@@ -16,15 +16,11 @@ within true A o e h = absurd (let z : true ≡ false = e in cc)
 within false A o e h = h
 
 pub not_long : (r : Request) (bytes : List ℕ) → length bytes ≤ most_bytes → is_too_long r bytes ≡ false
-not_long r bytes l = and_false (reads_input r) (cases_false (nat_lt most_bytes (length bytes)) (λ long. let more : most_bytes < length bytes = ltb-true most_bytes (length bytes) long in omega arith))
+not_long r bytes l = and_false (reads_input r) (false_from_ne_true (nat_lt most_bytes (length bytes)) (λ long. let more : most_bytes < length bytes = ltb-true most_bytes (length bytes) long in omega arith))
   where
     and_false : (b : Bool) {c : Bool} → c ≡ false → (b && c) ≡ false
     and_false true e = e
     and_false false e = refl
-
-    cases_false : (b : Bool) → (b ≡ true → ⊥) → b ≡ false
-    cases_false true f = absurd (f refl)
-    cases_false false f = refl
 
 pub answer_to : (r : Request) (words : List (List ℕ)) (bytes : List ℕ) (o : Outcome) → IsOutcomeTo r words bytes o → IsAnswerTo r bytes o
 answer_to r words bytes o h =

@@ -3,16 +3,14 @@ use Rattle.std.proofs.Common.{◌≡◌, ℕ, zero, suc, ◌<◌, true, List, []
 use Rattle.std.specs.Prelude.{◌%◌}
 use Rattle.table_definitions.specs.Permutation.{four, IsPermutationOfFour, words}
 use Rattle.std.specs.List.{slice_index_or}
-use Rattle.table_definitions.specs.Table.{Row, IsTable}
+use Rattle.table_definitions.specs.Table.{IsTable}
 use Rattle.table_definitions.specs.Relabelling.{Relabelling, IsRelabelling}
 use Rattle.table_definitions.proofs.Tests.{Carries-passed, table_from}
 use Rattle.table_definitions.proofs.RelationExamples.{sphere_table, four_tets_table}
-use Rattle.table_definitions.proofs.Tables.{sphere, four_tets, row, by}
-use Rattle.move_definitions.specs.Moves.{IsMoved}
+use Rattle.table_definitions.proofs.Tables.{sphere, four_tets}
 use Rattle.move_definitions.specs.declared.MoveFault.TheVariants.{Repeated}
 use Rattle.move_definitions.specs.Certificates.{IsStandard, drawn, candidates, next_state, draw}
-use Rattle.move_definitions.proofs.MoveTests.{IsMoved-passed}
-use Rattle.move_definitions.proofs.RelationExamples.{at, moved_by_14}
+use Rattle.move_definitions.proofs.RelationExamples.{at, one_tet, moved_by_14, moved_by_41 as led_by_41}
 use Rattle.certificate_definitions.specs.CarriedBack.{Correspond, IsCarriedBack, staying, AreCarriedBack}
 use Rattle.certificate_definitions.specs.Makings.{IsMade}
 use Rattle.certificate_definitions.specs.Answers.{IsChecked, IsDescended}
@@ -21,17 +19,9 @@ use Rattle.certificate_definitions.proofs.Computed.{computed}
 use Rattle.certificate_definitions.proofs.CarriedTests.{Correspond-passed, IsCarriedBack-passed}
 use Rattle.certificate_definitions.proofs.MadeExamples.{three_tets, three_tets_table, four_again, four_again_table, sphere_again, moved_by_23, moved_by_41}
 
--- 41 0 3 on the table of four
-abbrev pub one_tet : List Row
-one_tet = row (by 0 21) (by 0 9) (by 0 18) (by 0 21) ∷ []
-
 pub one_tet_table : IsTable one_tet
 unfolding computed
 one_tet_table = table_from one_tet refl refl refl
-
-led_by_41 : IsMoved four_tets (at 0 (3 ∷ [])) one_tet
-unfolding computed
-led_by_41 = IsMoved-passed four_tets (at 0 (3 ∷ [])) one_tet (record { core = refl; legal = refl; length_is = refl; fours = refl; inner = refl; outer = refl })
 
 -- relabellings of one tetrahedron
 abbrev turn : ℕ → Relabelling

@@ -1,30 +1,22 @@
 -- The making with the seed 9 and five moves, which has two moves 3-2 one after another, computed.
-use Rattle.std.proofs.Common.{ℕ, List, [], ◌∷◌, refl, arith, inl}
-use Rattle.std.specs.List.{slice_index_or}
+use Rattle.std.proofs.Common.{List, [], ◌∷◌, refl, arith, inl}
 use Rattle.std.proofs.lemmas.List.Sums.{AllPass-from_list_all}
-use Rattle.table_definitions.specs.Permutation.{is_permutation, words}
+use Rattle.table_definitions.specs.Permutation.{is_permutation, four}
 use Rattle.table_definitions.specs.Table.{Row, IsTable}
 use Rattle.table_definitions.specs.Relabelling.{Relabelling, IsRelabelling}
-use Rattle.table_definitions.proofs.Tables.{row, by}
+use Rattle.table_definitions.proofs.Tables.{row, by, sphere, four_tets}
 use Rattle.table_definitions.proofs.Tests.{table_from}
+use Rattle.table_definitions.proofs.RelationExamples.{sphere_table, four_tets_table}
 use Rattle.move_definitions.specs.Moves.{IsMoved}
 use Rattle.move_definitions.proofs.MoveTests.{IsMoved-passed}
-use Rattle.move_definitions.proofs.RelationExamples.{at}
+use Rattle.move_definitions.proofs.RelationExamples.{at, moved_by_14}
 use Rattle.certificate_definitions.specs.CarriedBack.{IsCarriedBack, staying, AreCarriedBack}
 use Rattle.certificate_definitions.specs.Makings.{IsMade}
 use Rattle.certificate_definitions.proofs.Computed.{computed}
 use Rattle.certificate_definitions.proofs.CarriedTests.{Correspond-passed, IsCarriedBack-passed}
-
-abbrev pub word : ℕ → List ℕ
-word i = slice_index_or words i []
+use Rattle.certificate_definitions.proofs.MadeExamples.{word, sphere_again, sphere_by, sphere_relabels}
 
 -- the tables that are made
-abbrev pub made_0 : List Row
-made_0 = row (by 0 6) (by 0 6) (by 0 9) (by 0 18) ∷ []
-
-abbrev pub made_1 : List Row
-made_1 = row (by 1 0) (by 2 6) (by 3 8) (by 1 0) ∷ row (by 0 0) (by 2 0) (by 3 2) (by 0 0) ∷ row (by 0 6) (by 1 0) (by 3 0) (by 3 8) ∷ row (by 0 12) (by 1 2) (by 2 0) (by 2 12) ∷ []
-
 abbrev made_2 : List Row
 made_2 = row (by 1 21) (by 1 21) (by 1 21) (by 2 0) ∷ row (by 2 0) (by 0 21) (by 0 21) (by 0 21) ∷ row (by 1 0) (by 2 22) (by 2 17) (by 0 0) ∷ []
 
@@ -62,21 +54,7 @@ now_1 = row (by 1 16) (by 1 16) (by 2 13) (by 3 12) ∷ row (by 2 0) (by 3 6) (b
 abbrev by_1 : Relabelling
 by_1 = record { images = 0 ∷ 1 ∷ 3 ∷ 2 ∷ []; perms = word 11 ∷ word 20 ∷ word 18 ∷ word 18 ∷ [] }
 
-abbrev now_0 : List Row
-now_0 = row (by 0 21) (by 0 22) (by 0 17) (by 0 21) ∷ []
-
-abbrev by_0 : Relabelling
-by_0 = record { images = 0 ∷ []; perms = word 19 ∷ [] }
-
 -- are tables
-pub made_table_0 : IsTable made_0
-unfolding computed
-made_table_0 = table_from made_0 refl refl refl
-
-pub made_table_1 : IsTable made_1
-unfolding computed
-made_table_1 = table_from made_1 refl refl refl
-
 made_table_2 : IsTable made_2
 unfolding computed
 made_table_2 = table_from made_2 refl refl refl
@@ -110,13 +88,9 @@ unfolding computed
 now_table_1 = table_from now_1 refl refl refl
 
 -- to which the moves lead, there and back
-pub made_by_0 : IsMoved made_0 (at 0 (0 ∷ 1 ∷ 2 ∷ 3 ∷ [])) made_1
+made_by_1 : IsMoved four_tets (at 1 (0 ∷ 3 ∷ [])) made_2
 unfolding computed
-made_by_0 = IsMoved-passed made_0 (at 0 (0 ∷ 1 ∷ 2 ∷ 3 ∷ [])) made_1 (record { core = refl; legal = refl; length_is = refl; fours = refl; inner = refl; outer = refl })
-
-made_by_1 : IsMoved made_1 (at 1 (0 ∷ 3 ∷ [])) made_2
-unfolding computed
-made_by_1 = IsMoved-passed made_1 (at 1 (0 ∷ 3 ∷ [])) made_2 (record { core = refl; legal = refl; length_is = refl; fours = refl; inner = refl; outer = refl })
+made_by_1 = IsMoved-passed four_tets (at 1 (0 ∷ 3 ∷ [])) made_2 (record { core = refl; legal = refl; length_is = refl; fours = refl; inner = refl; outer = refl })
 
 made_by_2 : IsMoved made_2 (at 0 (1 ∷ 2 ∷ [])) made_3
 unfolding computed
@@ -146,9 +120,9 @@ led_back_1 : IsMoved now_2 (at 2 (1 ∷ 2 ∷ 3 ∷ [])) now_1
 unfolding computed
 led_back_1 = IsMoved-passed now_2 (at 2 (1 ∷ 2 ∷ 3 ∷ [])) now_1 (record { core = refl; legal = refl; length_is = refl; fours = refl; inner = refl; outer = refl })
 
-led_back_0 : IsMoved now_1 (at 0 (0 ∷ [])) now_0
+led_back_0 : IsMoved now_1 (at 0 (0 ∷ [])) sphere_again
 unfolding computed
-led_back_0 = IsMoved-passed now_1 (at 0 (0 ∷ [])) now_0 (record { core = refl; legal = refl; length_is = refl; fours = refl; inner = refl; outer = refl })
+led_back_0 = IsMoved-passed now_1 (at 0 (0 ∷ [])) sphere_again (record { core = refl; legal = refl; length_is = refl; fours = refl; inner = refl; outer = refl })
 
 -- by relabellings
 relabels_4 : IsRelabelling 3 by_4
@@ -195,21 +169,13 @@ relabels_1 = record {
   permutes = λ k d l. AllPass-from_list_all is_permutation by_1.perms refl k d l;
 }
 
-carried_1 : IsCarriedBack made_1 (at 1 (0 ∷ 3 ∷ [])) now_2 (at 2 (1 ∷ 2 ∷ 3 ∷ [])) by_2 by_1
+carried_1 : IsCarriedBack four_tets (at 1 (0 ∷ 3 ∷ [])) now_2 (at 2 (1 ∷ 2 ∷ 3 ∷ [])) by_2 by_1
 unfolding computed
-carried_1 = IsCarriedBack-passed made_1 (at 1 (0 ∷ 3 ∷ [])) now_2 (at 2 (1 ∷ 2 ∷ 3 ∷ [])) by_2 by_1 (4 ∷ 3 ∷ 2 ∷ 1 ∷ 0 ∷ []) (Correspond-passed made_1 (at 1 (0 ∷ 3 ∷ [])) now_2 (at 2 (1 ∷ 2 ∷ 3 ∷ [])) by_2 (4 ∷ 3 ∷ 2 ∷ 1 ∷ 0 ∷ []) refl refl) relabels_1 refl refl
+carried_1 = IsCarriedBack-passed four_tets (at 1 (0 ∷ 3 ∷ [])) now_2 (at 2 (1 ∷ 2 ∷ 3 ∷ [])) by_2 by_1 (4 ∷ 3 ∷ 2 ∷ 1 ∷ 0 ∷ []) (Correspond-passed four_tets (at 1 (0 ∷ 3 ∷ [])) now_2 (at 2 (1 ∷ 2 ∷ 3 ∷ [])) by_2 (4 ∷ 3 ∷ 2 ∷ 1 ∷ 0 ∷ []) refl refl) relabels_1 refl refl
 
-relabels_0 : IsRelabelling 1 by_0
+carried_0 : IsCarriedBack sphere (at 0 four) now_1 (at 0 (0 ∷ [])) by_1 sphere_by
 unfolding computed
-relabels_0 = record {
-  images = record { moves = []; below = tt; is = refl };
-  perms = refl;
-  permutes = λ k d l. AllPass-from_list_all is_permutation by_0.perms refl k d l;
-}
-
-carried_0 : IsCarriedBack made_0 (at 0 (0 ∷ 1 ∷ 2 ∷ 3 ∷ [])) now_1 (at 0 (0 ∷ [])) by_1 by_0
-unfolding computed
-carried_0 = IsCarriedBack-passed made_0 (at 0 (0 ∷ 1 ∷ 2 ∷ 3 ∷ [])) now_1 (at 0 (0 ∷ [])) by_1 by_0 (4 ∷ 1 ∷ 3 ∷ 2 ∷ 0 ∷ []) (Correspond-passed made_0 (at 0 (0 ∷ 1 ∷ 2 ∷ 3 ∷ [])) now_1 (at 0 (0 ∷ [])) by_1 (4 ∷ 1 ∷ 3 ∷ 2 ∷ 0 ∷ []) refl refl) relabels_0 refl refl
+carried_0 = IsCarriedBack-passed sphere (at 0 four) now_1 (at 0 (0 ∷ [])) by_1 sphere_by (4 ∷ 1 ∷ 3 ∷ 2 ∷ 0 ∷ []) (Correspond-passed sphere (at 0 four) now_1 (at 0 (0 ∷ [])) by_1 (4 ∷ 1 ∷ 3 ∷ 2 ∷ 0 ∷ []) refl refl) sphere_relabels refl refl
 
 -- so it is a making
 way_5 : AreCarriedBack made_5 [] made_5 [] made_5 (staying 2)
@@ -227,14 +193,14 @@ way_2 : AreCarriedBack made_2 ((at 0 (1 ∷ 2 ∷ [])) ∷ (at 0 (0 ∷ 1 ∷ 3 
 unfolding computed
 way_2 = (made_3, record { table = made_table_2; moved = made_by_2; accepted = refl }, ((at 0 (1 ∷ 2 ∷ 3 ∷ [])) ∷ (at 0 (2 ∷ 3 ∷ [])) ∷ [], now_3, by_3, way_3, refl, record { table = now_table_3; moved = led_back_2; accepted = refl }, carried_2))
 
-way_1 : AreCarriedBack made_1 ((at 1 (0 ∷ 3 ∷ [])) ∷ (at 0 (1 ∷ 2 ∷ [])) ∷ (at 0 (0 ∷ 1 ∷ 3 ∷ [])) ∷ (at 1 (2 ∷ 3 ∷ [])) ∷ []) made_5 ((at 0 (1 ∷ 2 ∷ 3 ∷ [])) ∷ (at 0 (2 ∷ 3 ∷ [])) ∷ (at 0 (0 ∷ 1 ∷ 2 ∷ [])) ∷ (at 2 (1 ∷ 2 ∷ 3 ∷ [])) ∷ []) now_1 by_1
+way_1 : AreCarriedBack four_tets ((at 1 (0 ∷ 3 ∷ [])) ∷ (at 0 (1 ∷ 2 ∷ [])) ∷ (at 0 (0 ∷ 1 ∷ 3 ∷ [])) ∷ (at 1 (2 ∷ 3 ∷ [])) ∷ []) made_5 ((at 0 (1 ∷ 2 ∷ 3 ∷ [])) ∷ (at 0 (2 ∷ 3 ∷ [])) ∷ (at 0 (0 ∷ 1 ∷ 2 ∷ [])) ∷ (at 2 (1 ∷ 2 ∷ 3 ∷ [])) ∷ []) now_1 by_1
 unfolding computed
-way_1 = (made_2, record { table = made_table_1; moved = made_by_1; accepted = refl }, ((at 0 (1 ∷ 2 ∷ 3 ∷ [])) ∷ (at 0 (2 ∷ 3 ∷ [])) ∷ (at 0 (0 ∷ 1 ∷ 2 ∷ [])) ∷ [], now_2, by_2, way_2, refl, record { table = now_table_2; moved = led_back_1; accepted = refl }, carried_1))
+way_1 = (made_2, record { table = four_tets_table; moved = made_by_1; accepted = refl }, ((at 0 (1 ∷ 2 ∷ 3 ∷ [])) ∷ (at 0 (2 ∷ 3 ∷ [])) ∷ (at 0 (0 ∷ 1 ∷ 2 ∷ [])) ∷ [], now_2, by_2, way_2, refl, record { table = now_table_2; moved = led_back_1; accepted = refl }, carried_1))
 
-way_0 : AreCarriedBack made_0 ((at 0 (0 ∷ 1 ∷ 2 ∷ 3 ∷ [])) ∷ (at 1 (0 ∷ 3 ∷ [])) ∷ (at 0 (1 ∷ 2 ∷ [])) ∷ (at 0 (0 ∷ 1 ∷ 3 ∷ [])) ∷ (at 1 (2 ∷ 3 ∷ [])) ∷ []) made_5 ((at 0 (1 ∷ 2 ∷ 3 ∷ [])) ∷ (at 0 (2 ∷ 3 ∷ [])) ∷ (at 0 (0 ∷ 1 ∷ 2 ∷ [])) ∷ (at 2 (1 ∷ 2 ∷ 3 ∷ [])) ∷ (at 0 (0 ∷ [])) ∷ []) now_0 by_0
+way_0 : AreCarriedBack sphere ((at 0 four) ∷ (at 1 (0 ∷ 3 ∷ [])) ∷ (at 0 (1 ∷ 2 ∷ [])) ∷ (at 0 (0 ∷ 1 ∷ 3 ∷ [])) ∷ (at 1 (2 ∷ 3 ∷ [])) ∷ []) made_5 ((at 0 (1 ∷ 2 ∷ 3 ∷ [])) ∷ (at 0 (2 ∷ 3 ∷ [])) ∷ (at 0 (0 ∷ 1 ∷ 2 ∷ [])) ∷ (at 2 (1 ∷ 2 ∷ 3 ∷ [])) ∷ (at 0 (0 ∷ [])) ∷ []) sphere_again sphere_by
 unfolding computed
-way_0 = (made_1, record { table = made_table_0; moved = made_by_0; accepted = refl }, ((at 0 (1 ∷ 2 ∷ 3 ∷ [])) ∷ (at 0 (2 ∷ 3 ∷ [])) ∷ (at 0 (0 ∷ 1 ∷ 2 ∷ [])) ∷ (at 2 (1 ∷ 2 ∷ 3 ∷ [])) ∷ [], now_1, by_1, way_1, refl, record { table = now_table_1; moved = led_back_0; accepted = refl }, carried_0))
+way_0 = (four_tets, record { table = sphere_table; moved = moved_by_14; accepted = refl }, ((at 0 (1 ∷ 2 ∷ 3 ∷ [])) ∷ (at 0 (2 ∷ 3 ∷ [])) ∷ (at 0 (0 ∷ 1 ∷ 2 ∷ [])) ∷ (at 2 (1 ∷ 2 ∷ 3 ∷ [])) ∷ [], now_1, by_1, way_1, refl, record { table = now_table_1; moved = led_back_0; accepted = refl }, carried_0))
 
 pub making : IsMade 9 5 made_5 ((at 0 (1 ∷ 2 ∷ 3 ∷ [])) ∷ (at 0 (2 ∷ 3 ∷ [])) ∷ (at 0 (0 ∷ 1 ∷ 2 ∷ [])) ∷ (at 2 (1 ∷ 2 ∷ 3 ∷ [])) ∷ (at 0 (0 ∷ [])) ∷ [])
 unfolding computed
-making = ((at 0 (0 ∷ 1 ∷ 2 ∷ 3 ∷ [])) ∷ (at 1 (0 ∷ 3 ∷ [])) ∷ (at 0 (1 ∷ 2 ∷ [])) ∷ (at 0 (0 ∷ 1 ∷ 3 ∷ [])) ∷ (at 1 (2 ∷ 3 ∷ [])) ∷ [], (4, refl, refl, (made_1, record { table = made_table_0; moved = made_by_0; accepted = refl }, (3, refl, refl, (made_2, record { table = made_table_1; moved = made_by_1; accepted = refl }, (2, refl, refl, (made_3, record { table = made_table_2; moved = made_by_2; accepted = refl }, (1, refl, refl, (made_4, record { table = made_table_3; moved = made_by_3; accepted = refl }, (0, refl, refl, (made_5, record { table = made_table_4; moved = made_by_4; accepted = refl }, (refl, inl refl))))))))))), (now_0, by_0, way_0))
+making = ((at 0 four) ∷ (at 1 (0 ∷ 3 ∷ [])) ∷ (at 0 (1 ∷ 2 ∷ [])) ∷ (at 0 (0 ∷ 1 ∷ 3 ∷ [])) ∷ (at 1 (2 ∷ 3 ∷ [])) ∷ [], (4, refl, refl, (four_tets, record { table = sphere_table; moved = moved_by_14; accepted = refl }, (3, refl, refl, (made_2, record { table = four_tets_table; moved = made_by_1; accepted = refl }, (2, refl, refl, (made_3, record { table = made_table_2; moved = made_by_2; accepted = refl }, (1, refl, refl, (made_4, record { table = made_table_3; moved = made_by_3; accepted = refl }, (0, refl, refl, (made_5, record { table = made_table_4; moved = made_by_4; accepted = refl }, (refl, inl refl))))))))))), (sphere_again, sphere_by, way_0))

@@ -55,7 +55,7 @@ unfolding computed
 moved_by_41 = IsMoved-passed four_again (at 3 (2 ∷ [])) sphere_again (record { core = refl; legal = refl; length_is = refl; fours = refl; inner = refl; outer = refl })
 
 -- the tetrahedra 0 to 3 of the table of four stand as 3, 1, 0 and 2, and the one of the sphere as itself
-abbrev word : ℕ → List ℕ
+abbrev pub word : ℕ → List ℕ
 word i = slice_index_or words i []
 
 abbrev pub four_by : Relabelling
@@ -79,7 +79,7 @@ four_relabels = record {
   permutes = four_each IsPermutationOfFour refl refl refl refl;
 }
 
-sphere_relabels : IsRelabelling 1 sphere_by
+pub sphere_relabels : IsRelabelling 1 sphere_by
 unfolding computed
 sphere_relabels = record { images = record { moves = []; below = tt; is = refl }; perms = refl; permutes = λ k d l. one_each k d l }
   where

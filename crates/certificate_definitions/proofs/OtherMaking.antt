@@ -1,28 +1,29 @@
 -- The making with the seed 6 and four moves, which has moves 2-3, 3-2 and 2-3, computed.
 use Rattle.std.proofs.Common.{List, [], ◌∷◌, refl, arith, inl}
 use Rattle.std.proofs.lemmas.List.Sums.{AllPass-from_list_all}
-use Rattle.table_definitions.specs.Permutation.{is_permutation}
+use Rattle.table_definitions.specs.Permutation.{is_permutation, four}
 use Rattle.table_definitions.specs.Table.{Row, IsTable}
 use Rattle.table_definitions.specs.Relabelling.{Relabelling, IsRelabelling}
-use Rattle.table_definitions.proofs.Tables.{row, by}
+use Rattle.table_definitions.proofs.Tables.{row, by, sphere, four_tets}
 use Rattle.table_definitions.proofs.Tests.{table_from}
+use Rattle.table_definitions.proofs.RelationExamples.{sphere_table, four_tets_table}
 use Rattle.move_definitions.specs.Moves.{IsMoved}
 use Rattle.move_definitions.proofs.MoveTests.{IsMoved-passed}
-use Rattle.move_definitions.proofs.RelationExamples.{at}
+use Rattle.move_definitions.proofs.RelationExamples.{at, moved_by_14}
 use Rattle.certificate_definitions.specs.CarriedBack.{IsCarriedBack, staying, AreCarriedBack}
 use Rattle.certificate_definitions.specs.Makings.{IsMade}
 use Rattle.certificate_definitions.proofs.Computed.{computed}
 use Rattle.certificate_definitions.proofs.CarriedTests.{Correspond-passed, IsCarriedBack-passed}
-use Rattle.certificate_definitions.proofs.LongMaking.{word, made_0, made_1, made_table_0, made_table_1, made_by_0}
+use Rattle.certificate_definitions.proofs.MadeExamples.{word}
 
-abbrev made_2 : List Row
-made_2 = row (by 2 16) (by 2 16) (by 1 8) (by 4 4) ∷ row (by 0 12) (by 3 3) (by 3 3) (by 4 6) ∷ row (by 3 0) (by 4 6) (by 0 16) (by 0 16) ∷ row (by 2 0) (by 4 0) (by 1 4) (by 1 4) ∷ row (by 2 6) (by 3 0) (by 0 3) (by 1 6) ∷ []
+abbrev other_2 : List Row
+other_2 = row (by 2 16) (by 2 16) (by 1 8) (by 4 4) ∷ row (by 0 12) (by 3 3) (by 3 3) (by 4 6) ∷ row (by 3 0) (by 4 6) (by 0 16) (by 0 16) ∷ row (by 2 0) (by 4 0) (by 1 4) (by 1 4) ∷ row (by 2 6) (by 3 0) (by 0 3) (by 1 6) ∷ []
 
-abbrev made_3 : List Row
-made_3 = row (by 2 6) (by 3 0) (by 1 8) (by 2 6) ∷ row (by 0 12) (by 2 8) (by 3 6) (by 3 14) ∷ row (by 3 0) (by 0 6) (by 1 12) (by 0 6) ∷ row (by 2 0) (by 0 0) (by 1 6) (by 1 14) ∷ []
+abbrev other_3 : List Row
+other_3 = row (by 2 6) (by 3 0) (by 1 8) (by 2 6) ∷ row (by 0 12) (by 2 8) (by 3 6) (by 3 14) ∷ row (by 3 0) (by 0 6) (by 1 12) (by 0 6) ∷ row (by 2 0) (by 0 0) (by 1 6) (by 1 14) ∷ []
 
-abbrev made_4 : List Row
-made_4 = row (by 1 0) (by 2 5) (by 2 5) (by 4 6) ∷ row (by 0 0) (by 3 5) (by 3 5) (by 4 7) ∷ row (by 3 0) (by 4 6) (by 0 5) (by 0 5) ∷ row (by 2 0) (by 4 0) (by 1 5) (by 1 5) ∷ row (by 2 6) (by 3 0) (by 1 7) (by 0 6) ∷ []
+abbrev other_4 : List Row
+other_4 = row (by 1 0) (by 2 5) (by 2 5) (by 4 6) ∷ row (by 0 0) (by 3 5) (by 3 5) (by 4 7) ∷ row (by 3 0) (by 4 6) (by 0 5) (by 0 5) ∷ row (by 2 0) (by 4 0) (by 1 5) (by 1 5) ∷ row (by 2 6) (by 3 0) (by 1 7) (by 0 6) ∷ []
 
 -- those on the way back
 abbrev now_3 : List Row
@@ -49,17 +50,17 @@ now_0 = row (by 0 9) (by 0 18) (by 0 1) (by 0 1) ∷ []
 abbrev by_0 : Relabelling
 by_0 = record { images = 0 ∷ []; perms = word 23 ∷ [] }
 
-made_table_2 : IsTable made_2
+other_table_2 : IsTable other_2
 unfolding computed
-made_table_2 = table_from made_2 refl refl refl
+other_table_2 = table_from other_2 refl refl refl
 
-made_table_3 : IsTable made_3
+other_table_3 : IsTable other_3
 unfolding computed
-made_table_3 = table_from made_3 refl refl refl
+other_table_3 = table_from other_3 refl refl refl
 
-made_table_4 : IsTable made_4
+other_table_4 : IsTable other_4
 unfolding computed
-made_table_4 = table_from made_4 refl refl refl
+other_table_4 = table_from other_4 refl refl refl
 
 now_table_3 : IsTable now_3
 unfolding computed
@@ -73,21 +74,21 @@ now_table_1 : IsTable now_1
 unfolding computed
 now_table_1 = table_from now_1 refl refl refl
 
-made_by_1 : IsMoved made_1 (at 2 (0 ∷ 2 ∷ 3 ∷ [])) made_2
+other_by_1 : IsMoved four_tets (at 2 (0 ∷ 2 ∷ 3 ∷ [])) other_2
 unfolding computed
-made_by_1 = IsMoved-passed made_1 (at 2 (0 ∷ 2 ∷ 3 ∷ [])) made_2 (record { core = refl; legal = refl; length_is = refl; fours = refl; inner = refl; outer = refl })
+other_by_1 = IsMoved-passed four_tets (at 2 (0 ∷ 2 ∷ 3 ∷ [])) other_2 (record { core = refl; legal = refl; length_is = refl; fours = refl; inner = refl; outer = refl })
 
-made_by_2 : IsMoved made_2 (at 4 (2 ∷ 3 ∷ [])) made_3
+other_by_2 : IsMoved other_2 (at 4 (2 ∷ 3 ∷ [])) other_3
 unfolding computed
-made_by_2 = IsMoved-passed made_2 (at 4 (2 ∷ 3 ∷ [])) made_3 (record { core = refl; legal = refl; length_is = refl; fours = refl; inner = refl; outer = refl })
+other_by_2 = IsMoved-passed other_2 (at 4 (2 ∷ 3 ∷ [])) other_3 (record { core = refl; legal = refl; length_is = refl; fours = refl; inner = refl; outer = refl })
 
-made_by_3 : IsMoved made_3 (at 0 (0 ∷ 1 ∷ 3 ∷ [])) made_4
+other_by_3 : IsMoved other_3 (at 0 (0 ∷ 1 ∷ 3 ∷ [])) other_4
 unfolding computed
-made_by_3 = IsMoved-passed made_3 (at 0 (0 ∷ 1 ∷ 3 ∷ [])) made_4 (record { core = refl; legal = refl; length_is = refl; fours = refl; inner = refl; outer = refl })
+other_by_3 = IsMoved-passed other_3 (at 0 (0 ∷ 1 ∷ 3 ∷ [])) other_4 (record { core = refl; legal = refl; length_is = refl; fours = refl; inner = refl; outer = refl })
 
-led_back_3 : IsMoved made_4 (at 2 (2 ∷ 3 ∷ [])) now_3
+led_back_3 : IsMoved other_4 (at 2 (2 ∷ 3 ∷ [])) now_3
 unfolding computed
-led_back_3 = IsMoved-passed made_4 (at 2 (2 ∷ 3 ∷ [])) now_3 (record { core = refl; legal = refl; length_is = refl; fours = refl; inner = refl; outer = refl })
+led_back_3 = IsMoved-passed other_4 (at 2 (2 ∷ 3 ∷ [])) now_3 (record { core = refl; legal = refl; length_is = refl; fours = refl; inner = refl; outer = refl })
 
 led_back_2 : IsMoved now_3 (at 0 (1 ∷ 2 ∷ 3 ∷ [])) now_2
 unfolding computed
@@ -110,9 +111,9 @@ relabels_3 = record {
   permutes = λ k d l. AllPass-from_list_all is_permutation by_3.perms refl k d l;
 }
 
-carried_3 : IsCarriedBack made_3 (at 0 (0 ∷ 1 ∷ 3 ∷ [])) made_4 (at 2 (2 ∷ 3 ∷ [])) (staying 5) by_3
+carried_3 : IsCarriedBack other_3 (at 0 (0 ∷ 1 ∷ 3 ∷ [])) other_4 (at 2 (2 ∷ 3 ∷ [])) (staying 5) by_3
 unfolding computed
-carried_3 = IsCarriedBack-passed made_3 (at 0 (0 ∷ 1 ∷ 3 ∷ [])) made_4 (at 2 (2 ∷ 3 ∷ [])) (staying 5) by_3 (4 ∷ 2 ∷ 3 ∷ 0 ∷ 1 ∷ []) (Correspond-passed made_3 (at 0 (0 ∷ 1 ∷ 3 ∷ [])) made_4 (at 2 (2 ∷ 3 ∷ [])) (staying 5) (4 ∷ 2 ∷ 3 ∷ 0 ∷ 1 ∷ []) refl refl) relabels_3 refl refl
+carried_3 = IsCarriedBack-passed other_3 (at 0 (0 ∷ 1 ∷ 3 ∷ [])) other_4 (at 2 (2 ∷ 3 ∷ [])) (staying 5) by_3 (4 ∷ 2 ∷ 3 ∷ 0 ∷ 1 ∷ []) (Correspond-passed other_3 (at 0 (0 ∷ 1 ∷ 3 ∷ [])) other_4 (at 2 (2 ∷ 3 ∷ [])) (staying 5) (4 ∷ 2 ∷ 3 ∷ 0 ∷ 1 ∷ []) refl refl) relabels_3 refl refl
 
 relabels_2 : IsRelabelling 5 by_2
 unfolding computed
@@ -122,9 +123,9 @@ relabels_2 = record {
   permutes = λ k d l. AllPass-from_list_all is_permutation by_2.perms refl k d l;
 }
 
-carried_2 : IsCarriedBack made_2 (at 4 (2 ∷ 3 ∷ [])) now_3 (at 0 (1 ∷ 2 ∷ 3 ∷ [])) by_3 by_2
+carried_2 : IsCarriedBack other_2 (at 4 (2 ∷ 3 ∷ [])) now_3 (at 0 (1 ∷ 2 ∷ 3 ∷ [])) by_3 by_2
 unfolding computed
-carried_2 = IsCarriedBack-passed made_2 (at 4 (2 ∷ 3 ∷ [])) now_3 (at 0 (1 ∷ 2 ∷ 3 ∷ [])) by_3 by_2 (4 ∷ 3 ∷ 0 ∷ 1 ∷ 2 ∷ []) (Correspond-passed made_2 (at 4 (2 ∷ 3 ∷ [])) now_3 (at 0 (1 ∷ 2 ∷ 3 ∷ [])) by_3 (4 ∷ 3 ∷ 0 ∷ 1 ∷ 2 ∷ []) refl refl) relabels_2 refl refl
+carried_2 = IsCarriedBack-passed other_2 (at 4 (2 ∷ 3 ∷ [])) now_3 (at 0 (1 ∷ 2 ∷ 3 ∷ [])) by_3 by_2 (4 ∷ 3 ∷ 0 ∷ 1 ∷ 2 ∷ []) (Correspond-passed other_2 (at 4 (2 ∷ 3 ∷ [])) now_3 (at 0 (1 ∷ 2 ∷ 3 ∷ [])) by_3 (4 ∷ 3 ∷ 0 ∷ 1 ∷ 2 ∷ []) refl refl) relabels_2 refl refl
 
 relabels_1 : IsRelabelling 4 by_1
 unfolding computed
@@ -134,9 +135,9 @@ relabels_1 = record {
   permutes = λ k d l. AllPass-from_list_all is_permutation by_1.perms refl k d l;
 }
 
-carried_1 : IsCarriedBack made_1 (at 2 (0 ∷ 2 ∷ 3 ∷ [])) now_2 (at 2 (2 ∷ 3 ∷ [])) by_2 by_1
+carried_1 : IsCarriedBack four_tets (at 2 (0 ∷ 2 ∷ 3 ∷ [])) now_2 (at 2 (2 ∷ 3 ∷ [])) by_2 by_1
 unfolding computed
-carried_1 = IsCarriedBack-passed made_1 (at 2 (0 ∷ 2 ∷ 3 ∷ [])) now_2 (at 2 (2 ∷ 3 ∷ [])) by_2 by_1 (4 ∷ 2 ∷ 3 ∷ 1 ∷ 0 ∷ []) (Correspond-passed made_1 (at 2 (0 ∷ 2 ∷ 3 ∷ [])) now_2 (at 2 (2 ∷ 3 ∷ [])) by_2 (4 ∷ 2 ∷ 3 ∷ 1 ∷ 0 ∷ []) refl refl) relabels_1 refl refl
+carried_1 = IsCarriedBack-passed four_tets (at 2 (0 ∷ 2 ∷ 3 ∷ [])) now_2 (at 2 (2 ∷ 3 ∷ [])) by_2 by_1 (4 ∷ 2 ∷ 3 ∷ 1 ∷ 0 ∷ []) (Correspond-passed four_tets (at 2 (0 ∷ 2 ∷ 3 ∷ [])) now_2 (at 2 (2 ∷ 3 ∷ [])) by_2 (4 ∷ 2 ∷ 3 ∷ 1 ∷ 0 ∷ []) refl refl) relabels_1 refl refl
 
 relabels_0 : IsRelabelling 1 by_0
 unfolding computed
@@ -146,30 +147,30 @@ relabels_0 = record {
   permutes = λ k d l. AllPass-from_list_all is_permutation by_0.perms refl k d l;
 }
 
-carried_0 : IsCarriedBack made_0 (at 0 (0 ∷ 1 ∷ 2 ∷ 3 ∷ [])) now_1 (at 1 (2 ∷ [])) by_1 by_0
+carried_0 : IsCarriedBack sphere (at 0 four) now_1 (at 1 (2 ∷ [])) by_1 by_0
 unfolding computed
-carried_0 = IsCarriedBack-passed made_0 (at 0 (0 ∷ 1 ∷ 2 ∷ 3 ∷ [])) now_1 (at 1 (2 ∷ [])) by_1 by_0 (4 ∷ 3 ∷ 2 ∷ 1 ∷ 0 ∷ []) (Correspond-passed made_0 (at 0 (0 ∷ 1 ∷ 2 ∷ 3 ∷ [])) now_1 (at 1 (2 ∷ [])) by_1 (4 ∷ 3 ∷ 2 ∷ 1 ∷ 0 ∷ []) refl refl) relabels_0 refl refl
+carried_0 = IsCarriedBack-passed sphere (at 0 four) now_1 (at 1 (2 ∷ [])) by_1 by_0 (4 ∷ 3 ∷ 2 ∷ 1 ∷ 0 ∷ []) (Correspond-passed sphere (at 0 four) now_1 (at 1 (2 ∷ [])) by_1 (4 ∷ 3 ∷ 2 ∷ 1 ∷ 0 ∷ []) refl refl) relabels_0 refl refl
 
 -- so it is a making
-way_4 : AreCarriedBack made_4 [] made_4 [] made_4 (staying 5)
+way_4 : AreCarriedBack other_4 [] other_4 [] other_4 (staying 5)
 way_4 = (refl, refl, refl, refl)
 
-way_3 : AreCarriedBack made_3 ((at 0 (0 ∷ 1 ∷ 3 ∷ [])) ∷ []) made_4 ((at 2 (2 ∷ 3 ∷ [])) ∷ []) now_3 by_3
+way_3 : AreCarriedBack other_3 ((at 0 (0 ∷ 1 ∷ 3 ∷ [])) ∷ []) other_4 ((at 2 (2 ∷ 3 ∷ [])) ∷ []) now_3 by_3
 unfolding computed
-way_3 = (made_4, record { table = made_table_3; moved = made_by_3; accepted = refl }, ([], made_4, (staying 5), way_4, refl, record { table = made_table_4; moved = led_back_3; accepted = refl }, carried_3))
+way_3 = (other_4, record { table = other_table_3; moved = other_by_3; accepted = refl }, ([], other_4, (staying 5), way_4, refl, record { table = other_table_4; moved = led_back_3; accepted = refl }, carried_3))
 
-way_2 : AreCarriedBack made_2 ((at 4 (2 ∷ 3 ∷ [])) ∷ (at 0 (0 ∷ 1 ∷ 3 ∷ [])) ∷ []) made_4 ((at 2 (2 ∷ 3 ∷ [])) ∷ (at 0 (1 ∷ 2 ∷ 3 ∷ [])) ∷ []) now_2 by_2
+way_2 : AreCarriedBack other_2 ((at 4 (2 ∷ 3 ∷ [])) ∷ (at 0 (0 ∷ 1 ∷ 3 ∷ [])) ∷ []) other_4 ((at 2 (2 ∷ 3 ∷ [])) ∷ (at 0 (1 ∷ 2 ∷ 3 ∷ [])) ∷ []) now_2 by_2
 unfolding computed
-way_2 = (made_3, record { table = made_table_2; moved = made_by_2; accepted = refl }, ((at 2 (2 ∷ 3 ∷ [])) ∷ [], now_3, by_3, way_3, refl, record { table = now_table_3; moved = led_back_2; accepted = refl }, carried_2))
+way_2 = (other_3, record { table = other_table_2; moved = other_by_2; accepted = refl }, ((at 2 (2 ∷ 3 ∷ [])) ∷ [], now_3, by_3, way_3, refl, record { table = now_table_3; moved = led_back_2; accepted = refl }, carried_2))
 
-way_1 : AreCarriedBack made_1 ((at 2 (0 ∷ 2 ∷ 3 ∷ [])) ∷ (at 4 (2 ∷ 3 ∷ [])) ∷ (at 0 (0 ∷ 1 ∷ 3 ∷ [])) ∷ []) made_4 ((at 2 (2 ∷ 3 ∷ [])) ∷ (at 0 (1 ∷ 2 ∷ 3 ∷ [])) ∷ (at 2 (2 ∷ 3 ∷ [])) ∷ []) now_1 by_1
+way_1 : AreCarriedBack four_tets ((at 2 (0 ∷ 2 ∷ 3 ∷ [])) ∷ (at 4 (2 ∷ 3 ∷ [])) ∷ (at 0 (0 ∷ 1 ∷ 3 ∷ [])) ∷ []) other_4 ((at 2 (2 ∷ 3 ∷ [])) ∷ (at 0 (1 ∷ 2 ∷ 3 ∷ [])) ∷ (at 2 (2 ∷ 3 ∷ [])) ∷ []) now_1 by_1
 unfolding computed
-way_1 = (made_2, record { table = made_table_1; moved = made_by_1; accepted = refl }, ((at 2 (2 ∷ 3 ∷ [])) ∷ (at 0 (1 ∷ 2 ∷ 3 ∷ [])) ∷ [], now_2, by_2, way_2, refl, record { table = now_table_2; moved = led_back_1; accepted = refl }, carried_1))
+way_1 = (other_2, record { table = four_tets_table; moved = other_by_1; accepted = refl }, ((at 2 (2 ∷ 3 ∷ [])) ∷ (at 0 (1 ∷ 2 ∷ 3 ∷ [])) ∷ [], now_2, by_2, way_2, refl, record { table = now_table_2; moved = led_back_1; accepted = refl }, carried_1))
 
-way_0 : AreCarriedBack made_0 ((at 0 (0 ∷ 1 ∷ 2 ∷ 3 ∷ [])) ∷ (at 2 (0 ∷ 2 ∷ 3 ∷ [])) ∷ (at 4 (2 ∷ 3 ∷ [])) ∷ (at 0 (0 ∷ 1 ∷ 3 ∷ [])) ∷ []) made_4 ((at 2 (2 ∷ 3 ∷ [])) ∷ (at 0 (1 ∷ 2 ∷ 3 ∷ [])) ∷ (at 2 (2 ∷ 3 ∷ [])) ∷ (at 1 (2 ∷ [])) ∷ []) now_0 by_0
+way_0 : AreCarriedBack sphere ((at 0 four) ∷ (at 2 (0 ∷ 2 ∷ 3 ∷ [])) ∷ (at 4 (2 ∷ 3 ∷ [])) ∷ (at 0 (0 ∷ 1 ∷ 3 ∷ [])) ∷ []) other_4 ((at 2 (2 ∷ 3 ∷ [])) ∷ (at 0 (1 ∷ 2 ∷ 3 ∷ [])) ∷ (at 2 (2 ∷ 3 ∷ [])) ∷ (at 1 (2 ∷ [])) ∷ []) now_0 by_0
 unfolding computed
-way_0 = (made_1, record { table = made_table_0; moved = made_by_0; accepted = refl }, ((at 2 (2 ∷ 3 ∷ [])) ∷ (at 0 (1 ∷ 2 ∷ 3 ∷ [])) ∷ (at 2 (2 ∷ 3 ∷ [])) ∷ [], now_1, by_1, way_1, refl, record { table = now_table_1; moved = led_back_0; accepted = refl }, carried_0))
+way_0 = (four_tets, record { table = sphere_table; moved = moved_by_14; accepted = refl }, ((at 2 (2 ∷ 3 ∷ [])) ∷ (at 0 (1 ∷ 2 ∷ 3 ∷ [])) ∷ (at 2 (2 ∷ 3 ∷ [])) ∷ [], now_1, by_1, way_1, refl, record { table = now_table_1; moved = led_back_0; accepted = refl }, carried_0))
 
-pub making : IsMade 6 4 made_4 ((at 2 (2 ∷ 3 ∷ [])) ∷ (at 0 (1 ∷ 2 ∷ 3 ∷ [])) ∷ (at 2 (2 ∷ 3 ∷ [])) ∷ (at 1 (2 ∷ [])) ∷ [])
+pub making : IsMade 6 4 other_4 ((at 2 (2 ∷ 3 ∷ [])) ∷ (at 0 (1 ∷ 2 ∷ 3 ∷ [])) ∷ (at 2 (2 ∷ 3 ∷ [])) ∷ (at 1 (2 ∷ [])) ∷ [])
 unfolding computed
-making = ((at 0 (0 ∷ 1 ∷ 2 ∷ 3 ∷ [])) ∷ (at 2 (0 ∷ 2 ∷ 3 ∷ [])) ∷ (at 4 (2 ∷ 3 ∷ [])) ∷ (at 0 (0 ∷ 1 ∷ 3 ∷ [])) ∷ [], (3, refl, refl, (made_1, record { table = made_table_0; moved = made_by_0; accepted = refl }, (2, refl, refl, (made_2, record { table = made_table_1; moved = made_by_1; accepted = refl }, (1, refl, refl, (made_3, record { table = made_table_2; moved = made_by_2; accepted = refl }, (0, refl, refl, (made_4, record { table = made_table_3; moved = made_by_3; accepted = refl }, (refl, inl refl))))))))), (now_0, by_0, way_0))
+making = ((at 0 four) ∷ (at 2 (0 ∷ 2 ∷ 3 ∷ [])) ∷ (at 4 (2 ∷ 3 ∷ [])) ∷ (at 0 (0 ∷ 1 ∷ 3 ∷ [])) ∷ [], (3, refl, refl, (four_tets, record { table = sphere_table; moved = moved_by_14; accepted = refl }, (2, refl, refl, (other_2, record { table = four_tets_table; moved = other_by_1; accepted = refl }, (1, refl, refl, (other_3, record { table = other_table_2; moved = other_by_2; accepted = refl }, (0, refl, refl, (other_4, record { table = other_table_3; moved = other_by_3; accepted = refl }, (refl, inl refl))))))))), (now_0, by_0, way_0))

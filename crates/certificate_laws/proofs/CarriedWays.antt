@@ -11,9 +11,9 @@ use Rattle.table_definitions.specs.Permutation.{IsPermutationOfFour, inverse, co
 use Rattle.table_definitions.specs.Table.{max_tets, Gluing, Row, Face, glue, IsTable}
 use Rattle.table_definitions.specs.Relabelling.{Relabelling, IsRelabelling, Carries, stand_in, face_under, gluing_under}
 use Rattle.table_definitions.proofs.Permutations.{identity_permutes, inverse-identity, image-identity, identity-compose, compose-identity}
+use Rattle.table_definitions.proofs.Faces.{face_at, gluing_to}
 use Rattle.move_definitions.specs.Moves.{Move, new_length, Plays, PlaysAll}
 use Rattle.certificate_definitions.specs.CarriedBack.{staying, move_back, AreCarriedBack}
-use Rattle.move_laws.proofs.Covered.{face_at, gluing_to}
 use Rattle.move_laws.proofs.InverseFacets.{played}
 use Rattle.certificate_laws.proofs.BackLabels.{IsSteppedOn}
 use Rattle.certificate_laws.proofs.StepBack.{IsLedBack, led_back_by, no_limit}

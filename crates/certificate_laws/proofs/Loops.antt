@@ -8,6 +8,7 @@ use Rattle.move_definitions.specs.Certificates.{IsStandard, descent_move, candid
 use Rattle.certificate_definitions.specs.CarriedBack.{move_back, AreCarriedBack}
 use Rattle.certificate_definitions.specs.SoFar.{Descends, Stage, Makes}
 use Rattle.certificate_laws.specs.LoopLaws.{ChecksGoOn, ChecksRefuse, DescentsGoOn, DescentsAreDone, MakingsGoOn, MakingsAreDone, WaysBackGoOn}
+use Rattle.plain_facts.proofs.Numbers.{one_on}
 
 -- lists, cut at a place
 take_next : (ms : List Move) (k : ℕ) (m : Move) → k < length ms → m ≡ get_or ms k m → take (suc k) ms ≡ take k ms ++ m ∷ []
@@ -24,9 +25,6 @@ cut_next : (ms : List Move) (k : ℕ) (m : Move) → k < length ms → m ≡ get
 cut_next [] k m l e = absurd (omega arith)
 cut_next (x ∷ ms) zero m l e = ap (λ (y : Move). y ∷ ms) (sym e)
 cut_next (x ∷ ms) (suc k) m l e = ap (λ (ys : List Move). x ∷ ys) (cut_next ms k m (omega arith) e)
-
-one_on : (k : ℕ) → suc k ≡ k + 1
-one_on k = omega arith
 
 take_more : (ms : List Move) (k : ℕ) (m : Move) → k < length ms → m ≡ get_or ms k m → take (k + 1) ms ≡ take k ms ++ m ∷ []
 take_more ms k m l e = ap (λ i. take i ms) (sym (one_on k)) ∙ take_next ms k m l e

@@ -9,16 +9,17 @@ use Rattle.table_definitions.specs.Relabelling.{face_under, gluing_under}
 use Rattle.table_definitions.specs.Places.{Place, whole, across, SameComponent, IsConnected}
 use Rattle.table_definitions.proofs.TableLaws.{glued_tet, glued_face}
 use Rattle.table_definitions.proofs.ChainLaws.{kept_along, joined_refl, joined_trans, Crossed, crossed, gluing_joins, joins_back, one_unreached, connected_or_not}
-use Rattle.move_definitions.specs.Moves.{Move, IsCore, Facet, own_facet, opposite, facet, new_facet, kept, old_labels, facet_stand_in, stand_in_at, moved_gluing, IsMoved}
+use Rattle.move_definitions.specs.Moves.{Move, IsCore, Facet, own_facet, opposite, facet, new_facet, kept, old_labels, facet_stand_in, stand_in_at, moved_gluing, IsMoved, facet_gluing}
 use Rattle.certificate_definitions.specs.Answers.{Descended}
 use Rattle.signature_laws.proofs.Connected.{connected_or_unreached_lem}
 use Rattle.table_definitions.proofs.Permutations.{image_below}
+use Rattle.table_definitions.proofs.Faces.{face_at}
 use Rattle.move_definitions.proofs.CoreTests.{core_size}
 use Rattle.move_definitions.proofs.StandIns.{facet_stand_in-new}
 use Rattle.move_laws.proofs.Labels.{HasLabel, label_at}
 use Rattle.move_laws.proofs.ListedFacets.{same_some, has_tet}
 use Rattle.move_laws.proofs.Legal.{IsFacet, facet_is, facet-four, HasNoFault, no_fault, old_facet, old_label, gone, OldFacet, gone_facet}
-use Rattle.move_laws.proofs.Covered.{face_at, stand_in-kept, stand_in-old, facet_gluing}
+use Rattle.move_laws.proofs.Covered.{stand_in-kept, stand_in-old}
 use Rattle.move_laws.proofs.Matched.{AreGlued, old_glued}
 use Rattle.move_laws.proofs.SecondStand.{other_stands}
 use Rattle.move_laws.proofs.Shapes.{shape}

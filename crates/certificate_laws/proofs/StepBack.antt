@@ -1,6 +1,6 @@
 -- The inverse of a step, carried to a table to which a relabelling carries the one behind the step.
 use Rattle.std.proofs.Common.{◌≡◌, ℕ, ◌+◌, ◌-◌, ◌<◌, ◌≤◌, Bool, false, List, length, map, Some, None, sym, ap, ◌∙◌, subst, arith}
-use Rattle.std.specs.Prelude.{◌≢◌, nat_lt, slice_index, if◌then◌else◌}
+use Rattle.std.specs.Prelude.{nat_lt, slice_index, if◌then◌else◌}
 use Rattle.std.specs.Option.{option_or}
 use Rattle.std.proofs.lemmas.Bool.{le-ltb}
 use Rattle.std.proofs.lemmas.List.{length-map}
@@ -14,11 +14,11 @@ use Rattle.certificate_definitions.specs.CarriedBack.{IsCarriedBack, move_back}
 use Rattle.labelling_laws.specs.Between.{after}
 use Rattle.labelling_laws.proofs.Back.{after_stands, after_relabelling, carries_on}
 use Rattle.table_definitions.proofs.Permutations.{compose-identity}
+use Rattle.table_definitions.proofs.Faces.{gluing_to}
 use Rattle.move_laws.proofs.Labels.{AreLabels, ascending, new_labels, HasLabel, label_at, HasVertex, vertex_at, length-labels, image-map}
 use Rattle.move_laws.proofs.Legal.{IsFacet, facet_is, HasNoFault, no_fault, old_facet}
-use Rattle.move_laws.proofs.Covered.{gluing_to}
 use Rattle.move_laws.proofs.Matched.{same_four, image-composed, length-composed}
-use Rattle.move_laws.proofs.Renamed.{renamed, renamed_back, back-renamed, renamed-old, renamed_below}
+use Rattle.move_laws.proofs.Renamed.{renamed, renamed-old, renamed_below, renamed_apart}
 use Rattle.move_laws.proofs.InverseFacets.{inverse_of}
 use Rattle.move_laws.proofs.Placed.{moved_perm, place, facet_place, place-kept, place-old, relabelling, stand_in-placed, is_relabelling, led_back, carries_back, closed_up_small}
 use Rattle.move_laws.proofs.SecondStand.{kept-inverse}
@@ -87,12 +87,6 @@ moved_named p hp s i a f small low ha names' =
     long : length (moved_perm s i a) ≡ 4
     long = length-map a (λ l. preimage (ascending (i - s)) (renamed s l)) ∙ length-labels i a ha
 
-    apart : (x : ℕ) → x < 5 → x ≢ i → renamed s x ≢ j
-    apart x lx n z =
-        let back : renamed_back s (renamed s x) ≡ x = back-renamed s x small lx in
-        let here : renamed_back s (renamed s i) ≡ i = back-renamed s i small ha.missing in
-        n (sym back ∙ ap (renamed_back s) (z ∙ sym (renamed-old s i low)) ∙ here)
-
     fi : f i ≡ named p j
     fi = names' i high ∙ ap (named p) (renamed-old s i low)
 
@@ -100,7 +94,7 @@ moved_named p hp s i a f small low ha names' =
     at v l =
         let hl : HasLabel i a v = label_at i a ha v l in
         let x : ℕ = renamed s (image a v) in
-        let hx : HasVertex (ascending j) x = vertex_at j (ascending j) (new_labels j j_small) x (renamed_below s (image a v) small hl.small) (apart (image a v) hl.small hl.present) in
+        let hx : HasVertex (ascending j) x = vertex_at j (ascending j) (new_labels j j_small) x (renamed_below s (image a v) small hl.small) (renamed_apart s i (image a v) small low high hl.small hl.present) in
         image-composed (named_perm p j) (moved_perm s i a) v (rw long l)
         ∙ ap (image (named_perm p j)) (image-map (λ l. preimage (ascending j) (renamed s l)) a v (rw (length-labels i a ha) l))
         ∙ image-map (λ l. preimage (ascending (named p j)) (named p l)) (ascending j) (preimage (ascending j) x) (rw (length-labels j (ascending j) (new_labels j j_small)) hx.small)

@@ -26,19 +26,32 @@ edge_number-turned a b l m = eqb-true (edge_number b a) (edge_number a b) (pairs
 pub edge_number-ends : (e : ℕ) → e < 6 → edge_number (slice_index (ends e) 0) (slice_index (ends e) 1) ≡ e
 edge_number-ends e l = eqb-true (edge_number (slice_index (ends e) 0) (slice_index (ends e) 1)) e (list_all-below (λ x. edge_number (slice_index (ends x) 0) (slice_index (ends x) 1) == x) 6 refl e l)
 
+-- the lesser end of an edge, and the greater
+abbrev pub low : ℕ → ℕ
+low e = slice_index (ends e) 0
+
+abbrev pub high : ℕ → ℕ
+high e = slice_index (ends e) 1
+
 -- the ends, ascending
 pub record AreEnds (e : ℕ) : Type 0 where
-  pub two : ends e ≡ slice_index (ends e) 0 ∷ slice_index (ends e) 1 ∷ []
-  pub ascending : slice_index (ends e) 0 < slice_index (ends e) 1
-  pub in_range : slice_index (ends e) 1 < 4
+  pub two : ends e ≡ low e ∷ high e ∷ []
+  pub ascending : low e < high e
+  pub lower : low e < 4
+  pub higher : high e < 4
+  pub apart : low e ≢ high e
 
 pub are_ends : (e : ℕ) → e < 6 → AreEnds e
-are_ends e l = record {
-  two = same_list-true (ends e) (slice_index (ends e) 0 ∷ slice_index (ends e) 1 ∷ [])
-      (list_all-below (λ x. same_list (ends x) (slice_index (ends x) 0 ∷ slice_index (ends x) 1 ∷ [])) 6 refl e l);
-  ascending = ltb-true (slice_index (ends e) 0) (slice_index (ends e) 1) (list_all-below (λ x. nat_lt (slice_index (ends x) 0) (slice_index (ends x) 1)) 6 refl e l);
-  in_range = ltb-true (slice_index (ends e) 1) 4 (list_all-below (λ x. nat_lt (slice_index (ends x) 1) 4) 6 refl e l);
-}
+are_ends e l =
+    let ascends : low e < high e = ltb-true (low e) (high e) (list_all-below (λ x. nat_lt (low x) (high x)) 6 refl e l) in
+    let small : high e < 4 = ltb-true (high e) 4 (list_all-below (λ x. nat_lt (high x) 4) 6 refl e l) in
+    record {
+      two = same_list-true (ends e) (low e ∷ high e ∷ []) (list_all-below (λ x. same_list (ends x) (low x ∷ high x ∷ [])) 6 refl e l);
+      ascending = ascends;
+      lower = omega arith;
+      higher = small;
+      apart = λ z. omega arith;
+    }
 
 or_cases : (a b c : Bool) → (a || (b || c)) ≡ true → (a ≡ true) ⊎ ((b ≡ true) ⊎ (c ≡ true))
 or_cases true b c h = inl refl

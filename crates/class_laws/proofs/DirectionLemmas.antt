@@ -1,53 +1,36 @@
 -- Which edges run against others, by the classes of directed edges.
-use Rattle.std.proofs.Common.{◌≡◌, ◌≢◌, ◌↔◌, ℕ, ◌*◌, ◌/◌, ◌%◌, ◌<◌, Bool, true, false, List, length, refl, sym, ap, ◌∙◌, arith, subst, subst₂}
+use Rattle.std.proofs.Common.{◌≡◌, ◌↔◌, ℕ, ◌*◌, ◌/◌, ◌%◌, ◌<◌, Bool, true, false, List, length, refl, sym, ap, ◌∙◌, arith, subst, subst₂}
 use Rattle.std.specs.Prelude.{slice_index, IsTrue}
 use Rattle.std.proofs.lemmas.Bool.{eqb-true, eq-eqb}
 use Rattle.table_definitions.specs.Table.{Row}
 use Rattle.table_definitions.specs.Classes.{IsNumbering, least}
 use Rattle.skeleton_definitions.specs.Skeleton.{Skeleton, IsDirection}
-use Rattle.table_definitions.specs.Places.{edge, ends, turned, IsJoined, RunsAgainst}
+use Rattle.table_definitions.specs.Places.{edge, turned, IsJoined, RunsAgainst}
 use Rattle.skeleton_definitions.specs.Links.{directed, SameDirected}
 use Rattle.class_laws.specs.Crossings.{pair_number}
 use Rattle.class_laws.specs.Directions.{forward, backward, runs_against}
-use Rattle.class_laws.proofs.Cases.{are_ends, pair_number-parts}
+use Rattle.class_laws.proofs.Cases.{are_ends, pair_number-parts, low, high, AreEnds}
 use Rattle.class_laws.proofs.DirectionTies.{pair_is}
 use Rattle.class_laws.proofs.EdgeTies.{edge_pair}
 
-abbrev low : ℕ → ℕ
-low i = slice_index (ends (i % 6)) 0
-
-abbrev high : ℕ → ℕ
-high i = slice_index (ends (i % 6)) 1
-
--- the ends of an edge are different vertices
-record AreApart (i : ℕ) : Type 0 where
-  lower : low i < 4
-  higher : high i < 4
-  apart : low i ≢ high i
-
-are_apart : (i : ℕ) → AreApart i
-are_apart i =
-    let l : i % 6 < 6 = omega arith in
-    let e = are_ends (i % 6) l in
-    let lh : high i < 4 = e.in_range in
-    let up : low i < high i = e.ascending in
-    record { lower = omega arith; higher = lh; apart = λ z. omega arith }
+ends_of : (i : ℕ) → AreEnds (i % 6)
+ends_of i = are_ends (i % 6) (omega arith)
 
 pub directed_forward : (i : ℕ) → directed (forward i) ≡ edge i
 unfolding forward
-directed_forward i = let a = are_apart i in pair_is (i / 6) (low i) (high i) a.lower a.higher a.apart ∙ sym (edge_pair i)
+directed_forward i = let a = ends_of i in pair_is (i / 6) (low (i % 6)) (high (i % 6)) a.lower a.higher a.apart ∙ sym (edge_pair i)
 
 pub directed_backward : (i : ℕ) → directed (backward i) ≡ turned (edge i)
 unfolding backward
-directed_backward i = let a = are_apart i in pair_is (i / 6) (high i) (low i) a.higher a.lower (λ e. a.apart (sym e)) ∙ ap turned (sym (edge_pair i))
+directed_backward i = let a = ends_of i in pair_is (i / 6) (high (i % 6)) (low (i % 6)) a.higher a.lower (λ e. a.apart (sym e)) ∙ ap turned (sym (edge_pair i))
 
 pub forward_below : (i n : ℕ) → i < 6 * n → forward i < 12 * n
 unfolding forward
-forward_below i n l = let a = are_apart i in let p : pair_number (low i) (high i) < 12 = (pair_number-parts (low i) (high i) a.lower a.higher a.apart).0 in let t : i / 6 < n = omega arith in omega arith
+forward_below i n l = let a = ends_of i in let p : pair_number (low (i % 6)) (high (i % 6)) < 12 = (pair_number-parts (low (i % 6)) (high (i % 6)) a.lower a.higher a.apart).0 in let t : i / 6 < n = omega arith in omega arith
 
 pub backward_below : (i n : ℕ) → i < 6 * n → backward i < 12 * n
 unfolding backward
-backward_below i n l = let a = are_apart i in let p : pair_number (high i) (low i) < 12 = (pair_number-parts (high i) (low i) a.higher a.lower (λ e. a.apart (sym e))).0 in
+backward_below i n l = let a = ends_of i in let p : pair_number (high (i % 6)) (low (i % 6)) < 12 = (pair_number-parts (high (i % 6)) (low (i % 6)) a.higher a.lower (λ e. a.apart (sym e))).0 in
     let t : i / 6 < n = omega arith in omega arith
 
 pub runs_against-is : (rows : List Row) (directions : List ℕ) (count : ℕ) → IsNumbering (12 * length rows) (SameDirected rows) directions count

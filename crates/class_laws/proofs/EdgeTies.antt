@@ -1,6 +1,6 @@
 -- Edges by numbers, in either direction.
 use Rattle.std.proofs.Common.{◌≡◌, ◌≢◌, ◌↔◌, ◌⊎◌, inl, inr, ℕ, ◌+◌, ◌*◌, ◌/◌, ◌%◌, ◌<◌, Bool, true, false, List, [], ◌∷◌, length, Option, Some, None, refl, sym, ap, ◌∙◌, arith, subst}
-use Rattle.std.specs.Prelude.{◌==◌, ◌||◌, option_map, option_and_then, slice_index, if◌then◌else◌}
+use Rattle.std.specs.Prelude.{◌==◌, ◌||◌, option_map, option_and_then, if◌then◌else◌}
 use Rattle.table_definitions.specs.Permutation.{image}
 use Rattle.table_definitions.specs.Table.{Gluing, Row, glue, IsTable}
 use Rattle.table_definitions.specs.Places.{Place, IsPlace, across, along, carried, turned, edge, ends, edge_number, SameEdge}
@@ -8,20 +8,27 @@ use Rattle.table_definitions.proofs.PermutationLaws.{image_below, images_apart}
 use Rattle.table_definitions.proofs.ChainLaws.{steps_across, step_back, face_crossed}
 use Rattle.class_laws.specs.Crossings.{edge_at, crossed_edge, pair}
 use Rattle.class_laws.specs.Neighbours.{led, IsLed, IsReversible}
-use Rattle.class_laws.proofs.Cases.{are_ends, edge_number-turned, edge_number-ends, ends-edge_number}
+use Rattle.class_laws.proofs.Cases.{are_ends, edge_number-turned, edge_number-ends, ends-edge_number, low, high}
 use Rattle.class_laws.proofs.CrossingLemmas.{edge_is}
-
-abbrev low : ℕ → ℕ
-low i = slice_index (ends (i % 6)) 0
-
-abbrev high : ℕ → ℕ
-high i = slice_index (ends (i % 6)) 1
 
 part : (i : ℕ) → i % 6 < 6
 part i = omega arith
 
-pub edge_pair : (i : ℕ) → edge i ≡ pair (i / 6) (low i) (high i)
-edge_pair i = edge_is i (low i) (high i) (are_ends (i % 6) (part i)).two
+pub edge_pair : (i : ℕ) → edge i ≡ pair (i / 6) (low (i % 6)) (high (i % 6))
+edge_pair i = edge_is i (low (i % 6)) (high (i % 6)) (are_ends (i % 6) (part i)).two
+
+-- an edge by its ends
+pub edge_by_ends : (t a b c d : ℕ) → edge_number a b < 6 → ends (edge_number a b) ≡ c ∷ d ∷ [] → edge (6 * t + edge_number a b) ≡ pair t c d
+edge_by_ends t a b c d small e =
+    let x : (6 * t + edge_number a b) / 6 ≡ t = omega arith in
+    let r : (6 * t + edge_number a b) % 6 ≡ edge_number a b = omega arith in
+    edge_is (6 * t + edge_number a b) c d (ap ends r ∙ e) ∙ (λ k. pair (x k) c d)
+
+-- two different vertices are their edge, in one of its directions
+pub pair_either : (t a b : ℕ) → a < 4 → b < 4 → a ≢ b → (pair t a b ≡ edge (6 * t + edge_number a b)) ⊎ (pair t a b ≡ turned (edge (6 * t + edge_number a b)))
+pair_either t a b l m ne =
+    let n = ends-edge_number a b l m ne in
+    elim n.1 [ inl e ↦ inl (sym (edge_by_ends t a b a b n.0 e)) | inr e ↦ inr (ap turned (sym (edge_by_ends t a b b a n.0 e))) ]
 
 -- a place is edge i, in one of its directions
 abbrev Either : ℕ → Place → Type 0
@@ -52,7 +59,7 @@ pair_turned rows t a b f =
     by_cases false (Some g) = refl
 
 edge_turned : (rows : List Row) (i f : ℕ) → across rows (turned (edge i)) f ≡ option_map turned (across rows (edge i) f)
-edge_turned rows i f = subst (λ (p : Place). across rows (turned p) f ≡ option_map turned (across rows p f)) (sym (edge_pair i)) (pair_turned rows (i / 6) (low i) (high i) f)
+edge_turned rows i f = subst (λ (p : Place). across rows (turned p) f ≡ option_map turned (across rows p f)) (sym (edge_pair i)) (pair_turned rows (i / 6) (low (i % 6)) (high (i % 6)) f)
 
 module _ (rows : List Row) (table : IsTable rows) where
   -- where a step from edge i leads
@@ -71,19 +78,9 @@ module _ (rows : List Row) (table : IsTable rows) where
       record {
         next = ap (λ (o : Option Place). option_map edge_at o) e;
         turned_number = ap (λ k. 6 * t + k) (edge_number-turned a b l m);
-        either = by_ends n.1;
+        either = pair_either t a b l m ne;
         inside = inside;
       }
-    where
-      place : (c d : ℕ) → edge_number a b < 6 → ends (edge_number a b) ≡ c ∷ d ∷ [] → edge (6 * t + edge_number a b) ≡ pair t c d
-      place c d small e =
-          let x : (6 * t + edge_number a b) / 6 ≡ t = omega arith in
-          let r : (6 * t + edge_number a b) % 6 ≡ edge_number a b = omega arith in
-          edge_is (6 * t + edge_number a b) c d (ap ends r ∙ e) ∙ (λ k. pair (x k) c d)
-
-      by_ends : (ends (edge_number a b) ≡ a ∷ b ∷ []) ⊎ (ends (edge_number a b) ≡ b ∷ a ∷ []) → Either (6 * t + edge_number a b) (pair t a b)
-      by_ends (inl e) = inl (sym (place a b (ends-edge_number a b l m ne).0 e))
-      by_ends (inr e) = inr (ap turned (sym (place b a (ends-edge_number a b l m ne).0 e)))
 
   lands : (i f : ℕ) (q : Place) → across rows (edge i) f ≡ Some q → Lands i f q
   lands i f q e =
@@ -91,14 +88,10 @@ module _ (rows : List Row) (table : IsTable rows) where
       let p = s.gluing.perm in
       let h = table.permutes _ s.gluing s.glued in
       let k = are_ends (i % 6) (part i) in
-      let lh : high i < 4 = k.in_range in
-      let up : low i < high i = k.ascending in
-      let ll : low i < 4 = omega arith in
-      let apart : low i ≢ high i = λ z. omega arith in
-      let there : q ≡ pair s.gluing.tet (image p (low i)) (image p (high i)) = s.lands ∙ ap (carried s.gluing) (edge_pair i) in
+      let there : q ≡ pair s.gluing.tet (image p (low (i % 6))) (image p (high (i % 6))) = s.lands ∙ ap (carried s.gluing) (edge_pair i) in
       subst (Lands i f) (sym there)
-      (lands_at i f s.gluing.tet (image p (low i)) (image p (high i)) (image_below p (low i) h ll) (image_below p (high i) h lh)
-      (images_apart p (low i) (high i) h ll lh apart) (table.in_range _ s.gluing s.glued) (e ∙ ap (λ (r : Place). Some r) there))
+      (lands_at i f s.gluing.tet (image p (low (i % 6))) (image p (high (i % 6))) (image_below p (low (i % 6)) h k.lower) (image_below p (high (i % 6)) h k.higher)
+      (images_apart p (low (i % 6)) (high (i % 6)) h k.lower k.higher k.apart) (table.in_range _ s.gluing s.glued) (e ∙ ap (λ (r : Place). Some r) there))
 
   turned_some : (o : Option Place) (q : Place) → option_map turned o ≡ Some q → (r : Place) × (o ≡ Some r) × (turned r ≡ q)
   turned_some None q e = absurd cc
@@ -153,13 +146,10 @@ module _ (rows : List Row) (table : IsTable rows) where
       number_of = ap edge_at (edge_pair i) ∙ ap (λ k. 6 * (i / 6) + k) (edge_number-ends (i % 6) (part i)) ∙ omega arith
   either_number i p (inr e) = ap edge_at e ∙ ap (λ (r : Place). edge_at (turned r)) (edge_pair i) ∙ ap (λ k. 6 * (i / 6) + k) number_of ∙ omega arith
     where
-      number_of : edge_number (high i) (low i) ≡ i % 6
+      number_of : edge_number (high (i % 6)) (low (i % 6)) ≡ i % 6
       number_of =
           let k = are_ends (i % 6) (part i) in
-          let lh : high i < 4 = k.in_range in
-          let up : low i < high i = k.ascending in
-          let ll : low i < 4 = omega arith in
-          edge_number-turned (low i) (high i) ll lh ∙ edge_number-ends (i % 6) (part i)
+          edge_number-turned (low (i % 6)) (high (i % 6)) k.lower k.higher ∙ edge_number-ends (i % 6) (part i)
 
   led_by : (fs : List ℕ) (i : ℕ) (p q : Place) → Either i p → along rows p fs ≡ Some q → led (crossed_edge rows) i fs ≡ Some (edge_at q)
   led_by [] i p q x e = ap Some (sym (either_number i p x) ∙ ap edge_at (let s : p ≡ q = cc in s))
@@ -186,10 +176,7 @@ module _ (rows : List Row) (table : IsTable rows) where
   is_place : (i : ℕ) → IsPlace (edge i)
   is_place i =
       let k = are_ends (i % 6) (part i) in
-      let lh : high i < 4 = k.in_range in
-      let up : low i < high i = k.ascending in
-      let ll : low i < 4 = omega arith in
-      subst IsPlace (sym (edge_pair i)) (ll, (lh, tt))
+      subst IsPlace (sym (edge_pair i)) (k.lower, (k.higher, tt))
 
   pub edges_reversible : IsReversible (6 * length rows) (crossed_edge rows)
   edges_reversible i f j l m e =

@@ -5,13 +5,13 @@ use Rattle.std.specs.List.{slice_index_or}
 use Rattle.table_definitions.specs.Lists.{same_list}
 use Rattle.table_definitions.specs.Permutation.{image, compose, inverse, index, is_permutation, words, preimage, IsPermutationOfFour}
 use Rattle.table_definitions.specs.Table.{Gluing, Face, Row, glue, way_back, IsTable}
-use Rattle.skeleton_definitions.specs.Corners.{step, corner_behind}
+use Rattle.skeleton_definitions.specs.Corners.{step, corner_behind, Corner}
 use Rattle.table_definitions.proofs.Permutations.{by_pairs, compose_permutes, index_below, words_at, image-compose, index-words, words_permute}
 use Rattle.table_definitions.proofs.TableLaws.{glued_tet}
 use Rattle.table_definitions.proofs.ListFacts.{same_list-true}
 use Rattle.walk_laws.specs.Walks.{IsInjectiveBelow, IsUndoneBy, step_of}
 use Rattle.walk_laws.proofs.Steps.{undone_is_injective}
-use Rattle.class_laws.specs.Rounds.{word_at, corner_by, corner_at, swap, word_behind, next_corner}
+use Rattle.class_laws.specs.Rounds.{word_at, corner_by, corner_at, swap, word_behind, next_corner, corner_word}
 
 -- the corner of a number, and what is next, with what the code reads
 pub corner_at-is : (k : ℕ) (p : List ℕ) → p ≡ word_at k → corner_by (k / 24) p ≡ corner_at k
@@ -35,7 +35,7 @@ next_corner-by rows k g p q x y ep h ex eq ey =
     ∙ sym (next_corner-is rows k g (subst (λ (w : List ℕ). glue rows (record { tet = k / 24; face = image w 2 }) ≡ Some g) ep h))
 
 -- the words behind gluings
-swap_permutes : IsPermutationOfFour swap
+pub swap_permutes : IsPermutationOfFour swap
 unfolding is_permutation
 swap_permutes = refl
 
@@ -45,6 +45,14 @@ word_permutes k = words_permute (k % 24) (omega arith)
 pub behind_permutes : (g p : List ℕ) → IsPermutationOfFour g → IsPermutationOfFour p → IsPermutationOfFour (word_behind g p)
 unfolding word_behind
 behind_permutes g p hg hp = compose_permutes (compose g p) swap (compose_permutes g p hg hp) swap_permutes
+
+-- the corner behind a gluing has four vertices, as the corner has
+corner_word-behind : (k : Corner) (g : Gluing) → corner_word (corner_behind k g) ≡ word_behind g.perm (corner_word k)
+unfolding word_behind compose
+corner_word-behind k g = refl
+
+pub corner_behind_permutes : (k : Corner) (g : Gluing) → IsPermutationOfFour g.perm → IsPermutationOfFour (corner_word k) → IsPermutationOfFour (corner_word (corner_behind k g))
+corner_behind_permutes k g hg hk = subst IsPermutationOfFour (sym (corner_word-behind k g)) (behind_permutes g.perm (corner_word k) hg hk)
 
 pub behind_images : (g p : List ℕ) → IsPermutationOfFour g → IsPermutationOfFour p
     → (image (word_behind g p) 0 ≡ image g (image p 0)) × (image (word_behind g p) 1 ≡ image g (image p 1)) × (image (word_behind g p) 2 ≡ image g (image p 3)) × (image (word_behind g p) 3 ≡ image g (image p 2))

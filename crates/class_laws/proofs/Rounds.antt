@@ -7,24 +7,40 @@ use Rattle.table_definitions.specs.Permutation.{image, IsPermutationOfFour}
 use Rattle.table_definitions.specs.Table.{Gluing, Row, glue, IsTable}
 use Rattle.table_definitions.proofs.PermutationLaws.{image_below, image-of_inverse, images_apart}
 use Rattle.class_laws.specs.CornersIn.{IsCornerIn}
-use Rattle.skeleton_definitions.specs.Corners.{Corner, corner_behind, step, steps, Reaches, GoesRound, IsWalk, AreCorners}
+use Rattle.skeleton_definitions.specs.Corners.{Corner, left_through, came_through, corner_behind, step, steps, Reaches, GoesRound, IsWalk, AreCorners}
 
--- the corner before, by what leads back
-abbrev pub undone : Corner → Option Gluing → Corner
-undone l None = l
-undone l (Some h) = record { tet = h.tet; a = image h.perm l.a; b = image h.perm l.b; c = image h.perm l.d; d = image h.perm l.c }
+-- the corner behind a gluing, and the corner itself where there is none
+abbrev pub behind_by : Corner → Option Gluing → Corner
+behind_by k None = k
+behind_by k (Some g) = corner_behind k g
+
+-- the next corner, and the corner before
+abbrev pub next : List Row → Corner → Corner
+next rows k = behind_by k (glue rows (left_through k))
 
 abbrev pub before : List Row → Corner → Corner
-before rows l = undone l (glue rows (record { tet = l.tet; face = l.d }))
+before rows k = behind_by k (glue rows (came_through k))
+
+-- what the first of several steps leads to
+pub first_step : (rows : List Row) (n : ℕ) (l : Corner) (o : Option Corner) → option_and_then (λ m. steps rows n m) o ≡ Some l → (m : Corner) × (o ≡ Some m) × (steps rows n m ≡ Some l)
+first_step rows n l None e = absurd cc
+first_step rows n l (Some m) e = (m, refl, e)
+
+-- one step more
+pub steps_more : (rows : List Row) (n : ℕ) (k l m : Corner) → steps rows n k ≡ Some l → step rows l ≡ Some m → steps rows (suc n) k ≡ Some m
+steps_more rows zero k l m e s = let same : k ≡ l = cc in ap (λ c. option_and_then (λ d. Some d) (step rows c)) same ∙ ap (option_and_then (λ d. Some d)) s
+steps_more rows (suc n) k l m e s =
+    let f = first_step rows n l (step rows k) e in
+    ap (option_and_then (λ d. steps rows (suc n) d)) f.1 ∙ steps_more rows n f.0 l m f.2 s
 
 pub record IsStep (rows : List Row) (k l : Corner) : Type 0 where
   pub four : IsCornerIn (length rows) l
   pub back : k ≡ before rows l
 
-behind_is : (rows : List Row) → IsTable rows → (k l : Corner) → IsCornerIn (length rows) k → (g : Gluing) → glue rows (record { tet = k.tet; face = k.c }) ≡ Some g → corner_behind k g ≡ l → IsStep rows k l
+behind_is : (rows : List Row) → IsTable rows → (k l : Corner) → IsCornerIn (length rows) k → (g : Gluing) → glue rows (left_through k) ≡ Some g → corner_behind k g ≡ l → IsStep rows k l
 behind_is rows table k l four g e is = subst (IsStep rows k) is (record {
   four = record {
-    tet = table.in_range (record { tet = k.tet; face = k.c }) g e;
+    tet = table.in_range (left_through k) g e;
     a = image_below g.perm k.a p four.a;
     b = image_below g.perm k.b p four.b;
     c = image_below g.perm k.d p four.d;
@@ -38,18 +54,18 @@ behind_is rows table k l four g e is = subst (IsStep rows k) is (record {
     b = sym (image-of_inverse g.perm k.b p four.b) i;
     c = sym (image-of_inverse g.perm k.c p four.c) i;
     d = sym (image-of_inverse g.perm k.d p four.d) i;
-  }) ∙ ap (undone (corner_behind k g)) (sym (table.leads_back (record { tet = k.tet; face = k.c }) g e));
+  }) ∙ ap (behind_by (corner_behind k g)) (sym (table.leads_back (left_through k) g e));
 })
   where
     p : IsPermutationOfFour g.perm
-    p = table.permutes (record { tet = k.tet; face = k.c }) g e
+    p = table.permutes (left_through k) g e
 
-step_is : (rows : List Row) → IsTable rows → (k l : Corner) → IsCornerIn (length rows) k → (o : Option Gluing) → glue rows (record { tet = k.tet; face = k.c }) ≡ o → option_map (corner_behind k) o ≡ Some l → IsStep rows k l
+step_is : (rows : List Row) → IsTable rows → (k l : Corner) → IsCornerIn (length rows) k → (o : Option Gluing) → glue rows (left_through k) ≡ o → option_map (corner_behind k) o ≡ Some l → IsStep rows k l
 step_is rows table k l four None e h = absurd cc
 step_is rows table k l four (Some g) e h = behind_is rows table k l four g e (cc)
 
 pub is_step : (rows : List Row) → IsTable rows → (k l : Corner) → IsCornerIn (length rows) k → step rows k ≡ Some l → IsStep rows k l
-is_step rows table k l four h = step_is rows table k l four (glue rows (record { tet = k.tet; face = k.c })) refl h
+is_step rows table k l four h = step_is rows table k l four (glue rows (left_through k)) refl h
 
 -- the corners of a round, by their places
 module _ (rows : List Row) (first : Corner) where
@@ -81,21 +97,11 @@ module _ (rows : List Row) (first : Corner) where
       let two : IsStep rows (get_or (k ∷ ks) j first) (get_or (k ∷ ks) (suc j) first) = is_step rows table _ _ (four_at table k ks h four j (omega arith)) (next_at k ks h j (omega arith)) in
       once_at table k ks e h four i j (omega arith) (omega arith) (one.back ∙ ap (before rows) same ∙ sym two.back)
 
-  -- steps, one more at the end
-  steps_by : (n : ℕ) (l m : Corner) (o : Option Corner) → ((c : Corner) → steps rows n c ≡ Some l → steps rows (suc n) c ≡ Some m) → option_and_then (λ c. steps rows n c) o ≡ Some l
-      → option_and_then (λ c. steps rows (suc n) c) o ≡ Some m
-  steps_by n l m None more e = absurd cc
-  steps_by n l m (Some c) more e = more c e
-
-  steps_more : (n : ℕ) (k l m : Corner) → steps rows n k ≡ Some l → step rows l ≡ Some m → steps rows (suc n) k ≡ Some m
-  steps_more zero k l m e f = let same : k ≡ l = cc in ap (λ c. option_and_then (λ x. steps rows zero x) (step rows c)) same ∙ ap (λ o. option_and_then (λ x. steps rows zero x) o) f
-  steps_more (suc n) k l m e f = steps_by n l m (step rows k) (λ c g. steps_more n c l m g f) e
-
   reached_at : (k : Corner) (ks : List Corner) → k ≡ first → GoesRound rows first k ks → (i : ℕ) → i ≤ length ks → Reaches rows first (get_or (k ∷ ks) i first)
   reached_at k ks e h zero l = (0, ap (λ c. Some c) (sym e))
   reached_at k ks e h (suc i) l =
       let r : Reaches rows first (get_or (k ∷ ks) i first) = reached_at k ks e h i (omega arith) in
-      (suc r.0, steps_more r.0 first (get_or (k ∷ ks) i first) (get_or (k ∷ ks) (suc i) first) r.1 (next_at k ks h i (omega arith)))
+      (suc r.0, steps_more rows r.0 first (get_or (k ∷ ks) i first) (get_or (k ∷ ks) (suc i) first) r.1 (next_at k ks h i (omega arith)))
 
   -- a step from a corner of the round leads to one of the round
   closed : (k : Corner) (ks : List Corner) → k ≡ first → GoesRound rows first k ks → (i : ℕ) → i ≤ length ks → (m : Corner) → step rows (get_or (k ∷ ks) i first) ≡ Some m

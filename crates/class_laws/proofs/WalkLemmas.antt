@@ -3,7 +3,7 @@ use Rattle.std.proofs.Common.{◌≡◌, ◌≢◌, ◌⊎◌, inl, inr, ℕ, ze
 use Rattle.std.specs.Prelude.{◌==◌, ◌&&◌, ◌||◌, not, nat_lt, filter, option_map, is_none, slice_index}
 use Rattle.std.specs.Bool.{MatchBool}
 use Rattle.std.specs.List.{slice_index_or, list_any}
-use Rattle.std.proofs.lemmas.Bool.{eq-eqb, ne_eqb, cases_lt, ltb-true, false≢true}
+use Rattle.std.proofs.lemmas.Bool.{eq-eqb, ne_eqb, cases_lt, ltb-true, false≢true, or_right}
 use Rattle.table_definitions.specs.Lists.{below, has, same_list}
 use Rattle.table_definitions.specs.Permutation.{four, image, index, words, IsPermutationOfFour}
 use Rattle.table_definitions.specs.Table.{Gluing, Row, glue, IsTable}
@@ -20,10 +20,11 @@ use Rattle.walk_laws.proofs.Steps.{after_before}
 use Rattle.walk_laws.proofs.ChainLemmas.{going_on_has_cycle}
 use Rattle.class_laws.specs.Crossings.{pair}
 use Rattle.class_laws.specs.Rounds.{word_at, corner_by, corner_at, next_corner, word_behind, starts, start_of, IsRound, IsRoundUnless}
-use Rattle.class_laws.proofs.Cases.{are_ends, ends-edge_number}
-use Rattle.class_laws.proofs.CrossingLemmas.{across-glued, edge_is}
+use Rattle.class_laws.proofs.Cases.{ends-edge_number}
+use Rattle.class_laws.proofs.CrossingLemmas.{across-glued}
 use Rattle.class_laws.proofs.Marks.{any_more}
 use Rattle.class_laws.proofs.RoundLemmas.{turns, word_of, word_permutes, index_of_word, behind_permutes, behind_images, step_corner, next_corner-is, within}
+use Rattle.class_laws.proofs.EdgeTies.{edge_pair, pair_either}
 
 -- different numbers are different corners
 pub corner_apart : (k l : ℕ) → k ≢ l → corner_at k ≢ corner_at l
@@ -122,26 +123,8 @@ any_below : (p : ℕ → Bool) (n j : ℕ) → j < n → p j ≡ true → list_a
 any_below p zero j l h = absurd (omega arith)
 any_below p (suc n) j l h = let s : suc n ≡ n + 1 = omega arith in ap (λ m. list_any p (below m)) s ∙ any_more p n ∙ elim (cases_lt j n) [
   | inl less ↦ rw (any_below p n j less h) refl
-  | inr more ↦ let e : j ≡ n = omega arith in either (list_any p (below n)) (p n) (ap p (sym e) ∙ h)
+  | inr more ↦ let e : j ≡ n = omega arith in or_right (list_any p (below n)) (p n) (ap p (sym e) ∙ h)
 ]
-  where
-    either : (a b : Bool) → b ≡ true → (a || b) ≡ true
-    either true b h = refl
-    either false b h = h
-
--- an edge by a pair of vertices
-pair_either : (t a b : ℕ) → a < 4 → b < 4 → a ≢ b → (pair t a b ≡ edge (6 * t + edge_number a b)) ⊎ (pair t a b ≡ turned (edge (6 * t + edge_number a b)))
-pair_either t a b l m ne = by_ends (ends-edge_number a b l m ne).1
-  where
-    place : (c d : ℕ) → edge_number a b < 6 → ends (edge_number a b) ≡ c ∷ d ∷ [] → edge (6 * t + edge_number a b) ≡ pair t c d
-    place c d small e =
-        let x : (6 * t + edge_number a b) / 6 ≡ t = omega arith in
-        let r : (6 * t + edge_number a b) % 6 ≡ edge_number a b = omega arith in
-        edge_is (6 * t + edge_number a b) c d (ap ends r ∙ e) ∙ (λ k. pair (x k) c d)
-
-    by_ends : (ends (edge_number a b) ≡ a ∷ b ∷ []) ⊎ (ends (edge_number a b) ≡ b ∷ a ∷ []) → (pair t a b ≡ edge (6 * t + edge_number a b)) ⊎ (pair t a b ≡ turned (edge (6 * t + edge_number a b)))
-    by_ends (inl e) = inl (sym (place a b (ends-edge_number a b l m ne).0 e))
-    by_ends (inr e) = inr (ap turned (sym (place b a (ends-edge_number a b l m ne).0 e)))
 
 -- where the walk starts
 abbrev rest_of : ℕ → List ℕ
@@ -189,7 +172,7 @@ start_edge i =
     let l : i % 6 < 6 = omega arith in
     let s = starts_are (i % 6) l in
     (λ k. pair (p.0 k) (image (p.1 k) 0) (image (p.1 k) 1)) ∙ (λ k. pair (i / 6) (slice_index (s k) 0) (slice_index (s k) 1))
-    ∙ sym (edge_is i (slice_index (ends (i % 6)) 0) (slice_index (ends (i % 6)) 1) (are_ends (i % 6) l).two)
+    ∙ sym (edge_pair i)
 
 pub start_below : (i n : ℕ) → i < 6 * n → start_of i < 24 * n
 start_below i n h =

@@ -17,6 +17,10 @@ corner_by t p = record { tet = t; a = image p 0; b = image p 1; c = image p 2; d
 unfoldable pub corner_at : ℕ → Corner
 corner_at k = corner_by (k / 24) (word_at k)
 
+-- the four vertices of a corner
+abbrev pub corner_word : Corner → List ℕ
+corner_word k = k.a ∷ k.b ∷ k.c ∷ k.d ∷ []
+
 -- the exchange of the last two
 abbrev pub swap : List ℕ
 swap = 0 ∷ 1 ∷ 3 ∷ 2 ∷ []

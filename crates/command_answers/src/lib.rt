@@ -13,7 +13,7 @@ pub use document::{
     read_table_and_vectors, read_table_document, read_two_tables,
 };
 pub use outcome::Outcome;
-pub use refusals::{fault_outcome, invalid_edge_outcome, not_connected_outcome};
+pub use refusals::{fault_outcome, invalid_edge_outcome, not_connected_outcome, refused_vector};
 pub use told::{accepted_outcome, append_counted, append_told, line_outcome, yes_or_no};
 pub use vectors::{LIMIT, read_numbers, read_vector};
 pub use verdicts::{append_checked, append_numbered};

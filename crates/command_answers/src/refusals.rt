@@ -1,5 +1,5 @@
 // The one line of each refusal.
-ghost use Rattle.std.specs.Prelude.{◌≡◌, ◌≢◌, codes, decimal, IfOk, OnOk};
+ghost use Rattle.std.specs.Prelude.{◌≡◌, ◌≢◌, ◌++◌, codes, decimal, IfOk, OnOk};
 ghost use Rattle.outcome_definitions.specs.Lines as lines;
 ghost use Rattle.outcome_definitions.specs.Canonical as canonical;
 ghost use Rattle.vector_definitions.specs.Texts.{invalid_edge_line};
@@ -166,6 +166,17 @@ pub fn invalid_edge_outcome(alloc: Global, class: u32) -> Result<Outcome, NoMemo
     append_decimal(alloc, &mut text, u128::from(class))?;
     append(&mut text, b"\n")?;
     Ok(Outcome::built(Status::Refused, text))
+}
+
+/// The line where the vector of this number, which counts from 0, is refused, up to why.
+pub fn refused_vector(alloc: Global, vector: usize) -> Result<Vec<u8>, NoMemory>
+    ensures { IfOk result (λ text. text.items ≡ codes "refused: vector " ++ decimal vector ++ codes " ") }
+{
+    let mut text = Vec::new(alloc);
+    append(&mut text, b"refused: vector ")?;
+    append_decimal(alloc, &mut text, vector as u128)?;
+    append(&mut text, b" ")?;
+    Ok(text)
 }
 
 /// The outcome of an input's fault.

@@ -1,9 +1,10 @@
 -- Each row that an order names is determined by the rows before it.
-use Rattle.std.proofs.Common.{◌≡◌, ◌≢◌, ℕ, zero, suc, ◌+◌, ◌≤◌, ◌↔◌, inl, inr, Bool, List, [], ◌∷◌, ◌++◌, length, take, get_or, add-one, subst, sym, ap₂, refl, ◌∙◌, arith}
+use Rattle.std.proofs.Common.{◌≡◌, ◌≢◌, ℕ, zero, suc, ◌+◌, ◌≤◌, inl, inr, Bool, List, [], ◌∷◌, ◌++◌, length, take, get_or, add-one, subst, sym, ap₂, refl, ◌∙◌, arith}
 use Rattle.std.specs.List.{IsFirstBest}
 use Rattle.std.proofs.lemmas.Bool.{false≢true, cases_order}
 use Rattle.std.proofs.lemmas.List.{take_all, take_more}
 use Rattle.plain_facts.proofs.Members.{same_numbers}
+use Rattle.plain_facts.proofs.Lists.{take_none}
 use Rattle.cone_definitions.specs.Systems.{Cone}
 use Rattle.cone_definitions.specs.declared.Order.{Order}
 use Rattle.cone_definitions.specs.declared.Order.TheVariants.{Given, Short, Zeros, Free}
@@ -33,10 +34,7 @@ turn_one order system taken n m some s t =
 agree : (order : Order) (system : Cone) (xs ys : List ℕ) → order ≢ Free → AreNamed order system xs → AreNamed order system ys →
     (k : ℕ) → k ≤ length xs → k ≤ length ys → take k xs ≡ take k ys
 agree order system xs ys some hx hy zero lx ly = take_none xs ∙ sym (take_none ys)
-  where
-    take_none : (zs : List ℕ) → take zero zs ≡ []
-    take_none [] = refl
-    take_none (z ∷ zs) = refl
+
 agree order system xs ys some hx hy (suc k) lx ly =
     let e = agree order system xs ys some hx hy k (omega arith) (omega arith) in
     let number = turn_one order system (take k xs) (get_or xs k 0) (get_or ys k 0) some (hx k (omega arith)) (subst (λ (t : List ℕ). IsNamedTurn order system t (get_or ys k 0)) (sym e) (hy k (omega arith))) in

@@ -7,8 +7,8 @@ use Rattle.cone_definitions.specs.Surfaces.{Clash, IsAdmissibleUnion, IsSurfaceL
 use Rattle.cone_definitions.specs.Elimination.{Step}
 use Rattle.cone_definitions.proofs.Below.{all_or_one}
 use Rattle.cone_definitions.proofs.Decided.{inside_union_or_not}
-use Rattle.cone_definitions.proofs.FromList.{place_of}
 use Rattle.cone_definitions.proofs.Unions.{ray_primitive, third_ray}
+use Rattle.cone_definitions.proofs.Unordered.{without_order, place_of}
 use Rattle.cone_laws.specs.Unions.{union_size, HasThirdPlace}
 use Rattle.cone_laws.specs.Laws.{HasNoThird}
 use Rattle.cone_laws.specs.Meeting.{meeting_count}
@@ -29,7 +29,7 @@ module _ (columns : ℕ) (rows : List Row) (pairs : List Clash) (rays : List (Li
 
   no_third_from_places : ((k : ℕ) → k < length rays → IsFirstOrSecond k) → HasNoThird columns rows (ray_at rays i) (ray_at rays j)
   unfolding step
-  no_third_from_places none v hv inside = let k = place_of step rays h v (third_ray step (ray_at rays i) (ray_at rays j) v clear inside hv) in
+  no_third_from_places none v hv inside = let k = place_of step rays (without_order step.columns step.before step.pairs rays h) v (third_ray step (ray_at rays i) (ray_at rays j) v clear inside hv) in
       elim (none k.0 k.1 (subst (λ y. IsInsideUnion y (ray_at rays i) (ray_at rays j)) (sym k.2) inside)) [
         | inl e ↦ inl (sym k.2 ∙ ap (ray_at rays) e)
         | inr e ↦ inr (sym k.2 ∙ ap (ray_at rays) e)

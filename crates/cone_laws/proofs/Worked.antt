@@ -2,9 +2,9 @@
 use Rattle.std.proofs.Common.{◌≡◌, ℕ, zero, suc, ◌+◌, ◌<◌, ◌≤◌, ◌⊎◌, inl, inr, [], ◌∷◌, refl, arith, lit<}
 use Rattle.cone_definitions.specs.Vectors.{IsInsideUnion, ray_at}
 use Rattle.cone_definitions.specs.Elimination.{step_at}
-use Rattle.cone_definitions.specs.WorkedRow.{worked_surfaces}
-use Rattle.cone_definitions.proofs.FromList.{pair_from_places}
+use Rattle.cone_definitions.specs.WorkedRow.{worked_surfaces, worked_row}
 use Rattle.cone_definitions.proofs.Worked.{worked_list}
+use Rattle.cone_definitions.proofs.Unordered.{without_order, pair_from_places}
 use Rattle.cone_laws.specs.Unions.{union_size}
 use Rattle.cone_laws.specs.WorkedUnion.{three_columns, WorkedPair, first_of_four, second_of_four, WorkedNoPair, six_columns, WorkedMeeting}
 use Rattle.cone_laws.proofs.Meeting.{meeting_pair_bound}
@@ -18,7 +18,7 @@ two_places (suc (suc k)) l inside = absurd (omega arith)
 
 pub worked_pair : WorkedPair
 worked_pair = (
-  pair_from_places (step_at 3 three_columns [] 1) worked_surfaces worked_list 1 0 (lit< tt) (lit< tt) (lit< tt) (lit< tt) (λ k d h. absurd (omega arith)) two_places,
+  pair_from_places (step_at 3 three_columns [] 1) worked_surfaces (without_order 3 (worked_row ∷ []) [] worked_surfaces worked_list) 1 0 (lit< tt) (lit< tt) (lit< tt) (lit< tt) (λ k d h. absurd (omega arith)) two_places,
   refl,
 )
 

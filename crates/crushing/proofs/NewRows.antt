@@ -6,9 +6,10 @@ use Rattle.std.proofs.Math.Seq.{get_or-append_seam}
 use Rattle.std.proofs.lemmas.List.{length-append, get_or_default}
 use Rattle.std.proofs.lemmas.Bool.{cases_lt, not-true, false≢true}
 use Rattle.table_definitions.specs.Table.{Gluing, Row}
-use Rattle.table_definitions.proofs.Ranks.{rank, rank-suc, rank_fits, one_if, StandsAt, at_rank, of_rank}
+use Rattle.table_definitions.proofs.Ranks.{rank, rank-suc, rank_fits, StandsAt, at_rank, of_rank}
 use Rattle.surface_definitions.specs.Crushing.{is_removed, number_kept, CrushesTo, IsCrushed}
 use Rattle.crushing.specs.Rows.{renumbered, IsCrushedRow, AreCrushedBefore, AreNewNumbers}
+use Rattle.plain_facts.proofs.Truths.{one_if}
 
 abbrev stays : List ℕ → ℕ → Bool
 stays xs t = not (is_removed xs t)

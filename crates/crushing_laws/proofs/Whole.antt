@@ -3,16 +3,15 @@ use Rattle.std.proofs.Common.{◌≡◌, ℕ, zero, suc, ◌<◌, ◌≤◌, Boo
 use Rattle.std.specs.Prelude.{slice_index}
 use Rattle.std.specs.List.{list_any}
 use Rattle.std.proofs.lemmas.Bool.{or_from, or_parts, ltb-false, not-true, not_from_false, false≢true}
-use Rattle.plain_facts.proofs.Truths.{true_or_false}
+use Rattle.plain_facts.proofs.Truths.{true_or_false, one_if}
 use Rattle.plain_facts.proofs.Numbers.{below_suc}
 use Rattle.table_definitions.specs.Table.{Gluing, Row, Face, glue, IsTable}
-use Rattle.table_definitions.proofs.Ranks.{rank, one_if, rank-suc, rank_fits}
+use Rattle.table_definitions.proofs.Ranks.{rank, rank-suc, rank_fits, rank_all}
+use Rattle.table_definitions.proofs.Faces.{face_at, gluing_to}
 use Rattle.surface_definitions.specs.Coordinates.{quad_column, three}
 use Rattle.surface_definitions.specs.declared.Coords.TheVariants.{Standard}
 use Rattle.surface_definitions.specs.Crushing.{has_quad, is_removed, number_kept, ChainEnds, IsCrushed}
 use Rattle.surface_laws.proofs.CrushedRows.{renumbered, crushed_once, stays}
-use Rattle.surface_laws.proofs.Glued.{face_at}
-use Rattle.surface_laws.proofs.ChainsBack.{gluing_at}
 use Rattle.crushing_laws.specs.Laws.{HasNoQuads}
 
 -- a test of three numbers
@@ -28,13 +27,6 @@ each_of_three p h =
     below_suc (λ k. p k ≡ false) 2 (below_suc (λ k. p k ≡ false) 1 (below_suc (λ k. p k ≡ false) 0 (λ j l. absurd (omega arith)) first.0) second.0) third.0
 
 -- all numbers pass exactly where as many pass
-rank_all : (p : ℕ → Bool) (n : ℕ) → ((t : ℕ) → t < n → p t ≡ true) → rank p n ≡ n
-rank_all p zero h = refl
-rank_all p (suc n) h =
-    let before : rank p n ≡ n = rank_all p n (λ t l. h t (omega arith)) in
-    let one : one_if (p n) ≡ 1 = ap one_if (h n (omega arith)) in
-    omega (arith, rank-suc p n)
-
 all_rank : (p : ℕ → Bool) (n : ℕ) → rank p n ≡ n → (t : ℕ) → t < n → p t ≡ true
 all_rank p zero e t l = absurd (omega arith)
 all_rank p (suc n) e t l = by_last (true_or_false (p n)) (all_rank p n) t l
@@ -56,7 +48,7 @@ module _ (rows : List Row) (xs : List ℕ) (quads : HasNoQuads (length rows) xs)
     same_gluing x zero None end e h = sym (ap (renumbered xs) h)
     same_gluing x zero (Some g) end e h =
         let within : g.tet < length rows = table.in_range x g e in
-        sym (ap (renumbered xs) h.1 ∙ ap (λ t. Some (gluing_at t g.perm)) (same_number g.tet (omega arith)))
+        sym (ap (renumbered xs) h.1 ∙ ap (λ t. Some (gluing_to t g.perm)) (same_number g.tet (omega arith)))
     same_gluing x (suc n) None end e h = absurd h
     same_gluing x (suc n) (Some g) end e h = absurd (false≢true (sym (none_removed g.tet (table.in_range x g e)) ∙ h.0))
 

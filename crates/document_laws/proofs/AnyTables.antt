@@ -14,12 +14,8 @@ use Rattle.document_definitions.specs.Grammar.{AreTables}
 use Rattle.table_definitions.proofs.ReadingLaws.{ok_parts}
 use Rattle.table_definitions.proofs.LineLaws.{line_found}
 use Rattle.document_laws.proofs.Tables.{worded_with, table_blocks}
-
-abbrev Table : Type 0
-Table = List Row × Reading
-
-abbrev Tables : Type 0
-Tables = List (List Row) × Reading
+use Rattle.document_laws.proofs.Given.{Table, Tables}
+use Rattle.plain_facts.proofs.Lists.{no_items}
 
 -- a table of the line that is begun is one of the next lines
 pub next_of_begun : (c : Reading) (l : Line) (ls : List Line) → c.later ≡ l ∷ ls → next_table_at c ≡ any_table_at (begun l ls c)
@@ -61,11 +57,8 @@ none_read c tables d none e = let parts : ([] ≡ tables) × (c ≡ d) = ok_part
 
 tables_from_read : (most : List Line) (c : Reading) (tables : List (List Row)) (d : Reading) → length c.later ≤ length most → tables_from most c ≡ Ok (tables, d) → AreTo c tables
 unfolding tables_from
-tables_from_read [] c tables d few e = none_read c tables d (no_lines c.later few) e
-  where
-    no_lines : (ls : List Line) → length ls ≤ 0 → ls ≡ []
-    no_lines [] h = refl
-    no_lines (l ∷ ls) h = absurd (omega arith)
+tables_from_read [] c tables d few e = none_read c tables d (no_items c.later few) e
+
 tables_from_read (m ∷ most) c tables d few e = by_lines c.later refl (λ next ts last less f. tables_from_read most next ts last (omega arith) f) e
   where
     by_lines : (ls : List Line) → c.later ≡ ls → ((next : Reading) (ts : List (List Row)) (last : Reading) → length next.later + 1 ≤ length c.later → tables_from most next ≡ Ok (ts, last) → AreTo next ts)
@@ -74,15 +67,15 @@ tables_from_read (m ∷ most) c tables d few e = by_lines c.later refl (λ next 
     by_lines (l ∷ ls) split again e = read_on most ls l c tables d split again e
 
 -- tables to the end of the input are read
-abbrev IsRead : List Line → Reading → List (List Row) → Type 0
-IsRead most c tables = (d : Reading) × (tables_from most c ≡ Ok (tables, d))
+abbrev AreTablesRead : List Line → Reading → List (List Row) → Type 0
+AreTablesRead most c tables = (d : Reading) × (tables_from most c ≡ Ok (tables, d))
 
-found_none : (most : List Line) (c : Reading) → c.later ≡ [] → IsRead most c []
+found_none : (most : List Line) (c : Reading) → c.later ≡ [] → AreTablesRead most c []
 unfolding tables_from
 found_none [] c none = (c, refl)
 found_none (m ∷ most) c none = (c, ap (λ (ls : List Line). tables_on ls c (λ x. tables_from most x)) none)
 
-found_on : (m : Line) (most ls : List Line) (l : Line) (c next : Reading) (rows : List Row) (ts : List (List Row)) → c.later ≡ l ∷ ls → next_table_at c ≡ Ok (rows, next) → IsRead most next ts → IsRead (m ∷ most) c (rows ∷ ts)
+found_on : (m : Line) (most ls : List Line) (l : Line) (c next : Reading) (rows : List Row) (ts : List (List Row)) → c.later ≡ l ∷ ls → next_table_at c ≡ Ok (rows, next) → AreTablesRead most next ts → AreTablesRead (m ∷ most) c (rows ∷ ts)
 unfolding tables_from
 found_on m most ls l c next rows ts split e more = (
   more.0,
@@ -91,12 +84,12 @@ found_on m most ls l c next rows ts split e more = (
       ∙ ap (λ (r : Result Tables InputFault). r >>= λ (us : Tables). Ok (rows ∷ us.0, us.1)) more.1,
 )
 
-found_next : (m : Line) (most front back : List Line) (c next : Reading) (rows : List Row) (ts : List (List Row)) → AreTableLines front rows → c.later ≡ front ++ back → next_table_at c ≡ Ok (rows, next) → IsRead most next ts → IsRead (m ∷ most) c (rows ∷ ts)
+found_next : (m : Line) (most front back : List Line) (c next : Reading) (rows : List Row) (ts : List (List Row)) → AreTableLines front rows → c.later ≡ front ++ back → next_table_at c ≡ Ok (rows, next) → AreTablesRead most next ts → AreTablesRead (m ∷ most) c (rows ∷ ts)
 found_next m most [] back c next rows ts (inl h) split e more = absurd h
 found_next m most [] back c next rows ts (inr h) split e more = absurd h
 found_next m most (l ∷ front) back c next rows ts h split e more = found_on m most (front ++ back) l c next rows ts split e more
 
-tables_from_found : (most : List Line) (c : Reading) (tables : List (List Row)) → length c.later ≤ length most → AreTo c tables → IsRead most c tables
+tables_from_found : (most : List Line) (c : Reading) (tables : List (List Row)) → length c.later ≤ length most → AreTo c tables → AreTablesRead most c tables
 tables_from_found most c [] few h = found_none most c h
 tables_from_found [] c (rows ∷ ts) few h =
     let some : length h.1 + 1 ≤ length (h.0 ++ h.1) = not_none h.0 h.1 rows h.3 in
@@ -119,5 +112,5 @@ tables_read bytes tables = (
       let same : (first.0).0 ≡ tables = cc in
       subst (λ (ts : List (List Row)). AreTables (lines_of bytes) ts) same (tables_from_read (lines_of bytes) (start_of bytes) (first.0).0 (first.0).1 (omega arith) first.1)
       ),
-  λ h. (let found : IsRead (lines_of bytes) (start_of bytes) tables = tables_from_found (lines_of bytes) (start_of bytes) tables (omega arith) h in ap (λ (r : Result Tables InputFault). r >>= λ (ts : Tables). Ok ts.0) found.1),
+  λ h. (let found : AreTablesRead (lines_of bytes) (start_of bytes) tables = tables_from_found (lines_of bytes) (start_of bytes) tables (omega arith) h in ap (λ (r : Result Tables InputFault). r >>= λ (ts : Tables). Ok ts.0) found.1),
 )

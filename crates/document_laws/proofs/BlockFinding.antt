@@ -13,9 +13,7 @@ use Rattle.table_definitions.proofs.ReadingLaws.{with_tokens, behind, one_number
 use Rattle.table_definitions.proofs.LineLaws.{line_found, end_found, FirstWord, first_word, no_words}
 use Rattle.surface_definitions.proofs.VectorLaws.{vector_found}
 use Rattle.document_laws.proofs.BlockReading.{after_count, after_term, on_term_line, after_end, after_many, after_number, after_times, on_times_line, after_vector}
-
-abbrev Numbers : Type 0
-Numbers = List ℕ × Reading
+use Rattle.document_laws.proofs.Given.{Numbers, Terms}
 
 -- a line of a term is read
 record TermFound (c : Reading) (term : Term) (rest : List Line) : Type 0 where
@@ -51,9 +49,6 @@ record TermsFound (n : ℕ) (c : Reading) (terms : List Term) (rest : List Line)
   left : Reading
   read : terms_at n c ≡ Ok (terms, left)
   later : left.later ≡ rest
-
-abbrev Terms : Type 0
-Terms = List Term × Reading
 
 terms_more : (n : ℕ) (c : Reading) (term : Term) (ls : List Line) (terms : List Term) (rest : List Line) (one : TermFound c term ls) → TermsFound n one.left terms rest → TermsFound (suc n) c (term ∷ terms) rest
 unfolding terms_at

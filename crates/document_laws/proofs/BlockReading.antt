@@ -14,15 +14,10 @@ use Rattle.document_definitions.specs.Blocks.{Block, most_terms, term_at, terms_
 use Rattle.table_definitions.proofs.ReadingLaws.{ok_parts, with_tokens, behind, TakesWord, TakesNumber, TakesNumbers, number_read, numbers_read, exactly_read}
 use Rattle.table_definitions.proofs.LineLaws.{BeginsLine, line_begun, line_ended}
 use Rattle.surface_definitions.proofs.VectorLaws.{VectorRead, vector_read}
+use Rattle.document_laws.proofs.Given.{Terms, Numbers, Whole}
 
 abbrev One : Type 0
 One = Term × Reading
-
-abbrev Terms : Type 0
-Terms = List Term × Reading
-
-abbrev Numbers : Type 0
-Numbers = List ℕ × Reading
 
 -- the readers behind the line that is begun, behind its first word, and behind the count
 abbrev pub after_count : ℕ × Reading → Result One LexFault
@@ -194,9 +189,6 @@ pub record BlockRead (c : Reading) (block : Block) (d : Reading) : Type 0 where
   pub lines : List Line
   pub split : c.later ≡ lines ++ d.later
   pub is_block : AreBlockLines (c.current ∷ lines) block
-
-abbrev Whole : Type 0
-Whole = Block × Reading
 
 abbrev pub after_vector : Numbers → Result Whole LexFault
 after_vector v = times_at v.1 >>= λ (s : Times). Ok (record { vector = v.0; times = (s.0).0; terms = (s.0).1 }, s.1)

@@ -18,9 +18,7 @@ use Rattle.document_laws.proofs.WordWays.{free_word, sat_word, well_word, sat_en
 use Rattle.document_laws.proofs.VectorWays.{well_numbers_in, well_vector}
 use Rattle.document_laws.proofs.TextReaders.{Read, left_only, shown_only, Copies, copy_bind, copy_then, copy_same, copy_alone}
 use Rattle.document_laws.proofs.TextWays.{SatBehind, in_next_line, behind_both}
-
-abbrev Numbers : Type 0
-Numbers = List ℕ × Reading
+use Rattle.document_laws.proofs.Given.{Numbers, Terms}
 
 -- the text of a block, whatever it says
 abbrev named : List ℕ → Reading → Read
@@ -79,9 +77,6 @@ copy_term_words c =
 copy_term : (c : Reading) → Copies as_is left_only (term_at c) (term_line c)
 unfolding term_at
 copy_term c = copy_bind as_is shown_only left_only (need_line_at c) (next_line c) on_term_line (λ (u : ⊤ × Reading). term_words u.1) (copy_alone (need_line_at c)) copy_term_words
-
-abbrev Terms : Type 0
-Terms = List Term × Reading
 
 copy_terms : (n : ℕ) (c : Reading) → Copies as_is left_only (terms_at n c) (terms_text n c)
 unfolding terms_at terms_text

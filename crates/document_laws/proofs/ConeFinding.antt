@@ -11,7 +11,8 @@ use Rattle.document_definitions.specs.ConeGrammar.{IsCoefficientLine, AreConeRow
 use Rattle.table_definitions.proofs.ReadingLaws.{with_tokens, behind, one_number, exactly_found}
 use Rattle.table_definitions.proofs.LineLaws.{with_later, line_found, end_found, FirstWord, first_word, no_words}
 use Rattle.document_laws.proofs.SignedLaws.{signed_found}
-use Rattle.document_laws.proofs.ConeSteps.{Row, Rows, Number, row_on, after_end, after_count, after_columns, after_name}
+use Rattle.document_laws.proofs.ConeSteps.{Number, row_on, after_end, after_count, after_columns, after_name}
+use Rattle.document_laws.proofs.Given.{Row, Rows}
 
 -- coefficients to the end of a line are read
 record CoefficientsFound (ts : List Token) (c : Reading) (row : List ℤ) : Type 0 where

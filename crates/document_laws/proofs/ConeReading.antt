@@ -13,7 +13,8 @@ use Rattle.document_definitions.specs.ConeGrammar.{IsCoefficientLine, AreConeRow
 use Rattle.table_definitions.proofs.ReadingLaws.{ok_parts, with_tokens, behind, TakesWord, TakesNumber, number_read, exactly_read}
 use Rattle.table_definitions.proofs.LineLaws.{BeginsLine, line_begun, line_ended}
 use Rattle.document_laws.proofs.SignedLaws.{TakesSigned, signed_read}
-use Rattle.document_laws.proofs.ConeSteps.{Row, Rows, Number, row_on, after_end, after_count, after_columns, after_name}
+use Rattle.document_laws.proofs.ConeSteps.{Number, row_on, after_end, after_count, after_columns, after_name}
+use Rattle.document_laws.proofs.Given.{Row, Rows}
 
 -- coefficients that were read, and what is left
 record CoefficientsRead (n : ℕ) (ts : List Token) (c : Reading) (row : List ℤ) (d : Reading) : Type 0 where

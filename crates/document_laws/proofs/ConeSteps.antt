@@ -3,12 +3,7 @@ use Rattle.std.proofs.Common.{ℕ, ℤ, List, Result, Ok}
 use Rattle.text_definitions.specs.declared.LexFault.{LexFault}
 use Rattle.text_definitions.specs.Reading.{Reading, ◌>>=◌, end_line_at, number_at}
 use Rattle.cone_text_definitions.specs.ConeText.{Cone, coefficients_at, rows_of_cone_at}
-
-abbrev pub Row : Type 0
-Row = List ℤ × Reading
-
-abbrev pub Rows : Type 0
-Rows = List (List ℤ) × Reading
+use Rattle.document_laws.proofs.Given.{Row, Rows}
 
 abbrev pub Number : Type 0
 Number = ℕ × Reading

@@ -20,6 +20,7 @@ use Rattle.document_laws.proofs.ConeSteps.{closed_row, row_on}
 use Rattle.document_laws.proofs.LocalForms.{number_test, signed_test, signed_word, exact_test, exact_word, exactly, goes_number, goes_coefficients, goes_closed, goes_row, goes_rows, goes_cone_rows, cone_of, after_end, after_count, after_columns, after_name}
 use Rattle.document_laws.proofs.Ways.{Sat, From, alike_each, Well, WellOpen, Free, sat_both, well_free, well_goes, well_open, well_behind, free_chained, free_pure, free_same, sat_same, well_same, well_open_same, from_sat, sat_mapped, well_mapped, well_open_mapped}
 use Rattle.document_laws.proofs.WordWays.{free_word, sat_word, well_word, sat_end, well_end, free_line, well_line, free_number, sat_number, well_number}
+use Rattle.document_laws.proofs.Given.{Row, Rows}
 
 abbrev naught : List ℕ
 naught = codes "0"
@@ -55,9 +56,6 @@ well_named : (Aim : ⊤ → List Sign → Type 0) (c k : Reading) → Aim tt (sh
 well_named Aim c k a = well_same as_is (word_with named) (exactly (codes "cone")) Aim (exact_word (codes "cone")) c (well_word named Aim c (sat_word named (codes "cone") tt cone_named Aim k a))
 
 -- coefficients
-abbrev Row : Type 0
-Row = List ℤ × Reading
-
 abbrev more_coefficients : ℕ → ℤ → Reading → Result Row LexFault
 more_coefficients n z c = coefficients_at n c >>= λ (r : Row). Ok (z ∷ r.0, r.1)
 
@@ -122,9 +120,6 @@ module _ (Aim : List ℤ → List Sign → Type 0) (k : Reading) (none : k.curre
       (λ u d e. well_row_on columns d))
 
 -- so many rows of zeros
-abbrev Rows : Type 0
-Rows = List (List ℤ) × Reading
-
 abbrev pub last_signs : List Sign
 last_signs = line_end ∷ input_end ∷ []
 

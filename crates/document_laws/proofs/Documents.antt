@@ -19,9 +19,7 @@ use Rattle.table_definitions.proofs.LineLaws.{BeginsLine, line_begun, line_found
 use Rattle.surface_definitions.proofs.VectorLaws.{VectorRead, vector_read, vector_found}
 use Rattle.document_laws.proofs.Blocks.{ReadsBlocks, ReadsLine, document_sound, document_complete, closed_complete, both, both_blocks, lines_read, lines_found}
 use Rattle.document_laws.proofs.Tables.{worded_ok, worded_with, worded_end, table_blocks}
-
-abbrev Table : Type 0
-Table = List Row × Reading
+use Rattle.document_laws.proofs.Given.{Table}
 
 abbrev pub end_at : Reading → Result Reading InputFault
 end_at c = worded (no_line_at c)

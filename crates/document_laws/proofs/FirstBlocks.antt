@@ -32,6 +32,7 @@ use Rattle.document_laws.proofs.TextEnds.{AtEnd, nothing, each_from, alike_each_
 use Rattle.document_laws.proofs.FirstFaults.{left_first, stands_first}
 use Rattle.document_laws.proofs.BehindTables.{first_behind}
 use Rattle.document_laws.proofs.FirstLines.{faults_ok, left_of}
+use Rattle.document_laws.proofs.Given.{Blocks}
 
 -- a block is read exactly where its text is
 text_of_block : (c : Reading) (x : Block) (d : Reading) → block_at c ≡ Ok (x, d) → block_text c ≡ Ok (tt, d)
@@ -93,9 +94,6 @@ well_read : (most : List Line) (c : Reading) → WellOpen as_is (read most) AtEn
 well_read most c =
     well_open as_is next_text (λ u. each_from block_text most) AtEnd (λ u. alike_each_from block_text goes_block most) c (goes_next_text c)
     (well_next_text (λ u ss. From (each_from block_text most) AtEnd ss) nothing refl (from_nothing block_text goes_block most) c) (λ u d e. well_each block_text goes_block well_block most d)
-
-abbrev Blocks : Type 0
-Blocks = List Block × Reading
 
 copy_blocks : (most : List Line) (c : Reading) → Copies as_is left_only (blocks_from most c) (each_from block_text most c)
 unfolding blocks_from each_from

@@ -25,6 +25,7 @@ use Rattle.document_laws.proofs.TextWays.{SatBehind, behind_both, goes_text, goe
 use Rattle.document_laws.proofs.TextGrammar.{text_taken, text_given, text_blocks}
 use Rattle.document_laws.proofs.TextEnds.{first_fault, closed_from, closing, Any, closing_none, none_closing, alike_closing, well_closing, alike_chained, AtEnd, nothing, each_from, well_each, each_sound, each_complete}
 use Rattle.document_laws.proofs.FirstFaults.{stands_first}
+use Rattle.document_laws.proofs.Given.{Tables}
 
 -- no further line
 abbrev ended : {X : Type 0} → X → List Token → Reading → Result X InputFault
@@ -119,9 +120,6 @@ two_tables_faults_stand_first bytes f e =
 -- the text of any number of tables
 abbrev pub many_texts : List Line → Reading → Read
 many_texts most c = each_from text_at most c
-
-abbrev Tables : Type 0
-Tables = List (List Row) × Reading
 
 pub copy_tables : (most : List Line) (c : Reading) → Copies in_text left_only (tables_from most c) (many_texts most c)
 unfolding tables_from each_from

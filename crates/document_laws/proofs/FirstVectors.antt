@@ -37,9 +37,7 @@ use Rattle.document_laws.proofs.BehindTables.{first_behind}
 use Rattle.document_laws.proofs.HaveText.{one_line}
 use Rattle.document_laws.proofs.FirstTables.{closing_faults, from_closing}
 use Rattle.document_laws.proofs.FirstLines.{lines_faults_stand_first, lines_faults_leave_first}
-
-abbrev Vector : Type 0
-Vector = List ℕ × Reading
+use Rattle.document_laws.proofs.Given.{Numbers}
 
 well_vector_line : (Aim : List ℕ → List Sign → Type 0) (k : Reading) → k.current.tokens ≡ [] → ((xs : List ℕ) → Aim xs (shows k)) → (c : Reading) → Well as_is vector_at Aim c
 well_vector_line Aim k none a c = well_vector k none Aim a c
@@ -52,7 +50,7 @@ vectors_faults_leave_first bytes rows d f table e = lines_faults_leave_first vec
 
 -- one vector, and nothing more
 abbrev last_vector : Reading → Read
-last_vector c = vector_at c >>= λ (v : Vector). closing v.1
+last_vector c = vector_at c >>= λ (v : Numbers). closing v.1
 
 abbrev vector_line : Reading → Read
 vector_line c = next_line c >>= λ (u : ⊤ × Reading). last_vector u.1
@@ -91,7 +89,7 @@ sat_last =
       start = empty_vector;
       value = tt;
       next = v.0;
-      reads = ap (λ (r : Result Vector LexFault). r >>= λ (x : Vector). closing x.1) v.1 ∙ closing_none v.0 (v.2 ∙ empty_later);
+      reads = ap (λ (r : Result Numbers LexFault). r >>= λ (x : Numbers). closing x.1) v.1 ∙ closing_none v.0 (v.2 ∙ empty_later);
       aim = tt;
     }
 
@@ -113,7 +111,7 @@ Given reader c = (y : ⊤ × Reading) × (reader c ≡ Ok y)
 last_given : (c : Reading) → c.later ≡ [] → IsVectorText c.current → Given last_vector c
 last_given c none (xs, h) =
     let v : (d : Reading) × (vector_at c ≡ Ok (xs, d)) × (d.later ≡ c.later) = reads_vectors.complete c xs h in
-    ((tt, v.0), ap (λ (r : Result Vector LexFault). r >>= λ (x : Vector). closing x.1) v.1 ∙ closing_none v.0 (v.2 ∙ none))
+    ((tt, v.0), ap (λ (r : Result Numbers LexFault). r >>= λ (x : Numbers). closing x.1) v.1 ∙ closing_none v.0 (v.2 ∙ none))
 
 -- the one line of a vector
 abbrev OneVector : List Line → Type 0
@@ -132,7 +130,7 @@ complete c h =
 
 last_taken : (b : Reading) (u : ⊤) (next : Reading) → last_vector b ≡ Ok (u, next) → (b.later ≡ []) × IsVectorText b.current
 last_taken b u next e =
-    let p : (v : Vector) × (vector_at b ≡ Ok v) × (closing v.1 ≡ Ok (u, next)) = bind_ok (vector_at b) (λ (v : Vector). closing v.1) (u, next) e in
+    let p : (v : Numbers) × (vector_at b ≡ Ok v) × (closing v.1 ≡ Ok (u, next)) = bind_ok (vector_at b) (λ (v : Numbers). closing v.1) (u, next) e in
     let s : IsVectorLine b.current (p.0).0 × ((p.0).1.later ≡ b.later) = reads_vectors.sound b (p.0).0 (p.0).1 p.1 in
     (sym s.1 ∙ (none_closing (p.0).1 u next p.2).0, ((p.0).0, s.0))
 
@@ -156,7 +154,7 @@ sound o u next e a =
     (t.0, v.0, t.1 ∙ ap (λ (ls : List Line). t.0 ++ ls) v.1, t.2, v.2)
 
 abbrev line_on : List Row → Reading → Result (List Row × List ℕ) InputFault
-line_on rows line = worded (vector_at line) >>= λ (v : Vector). end_at v.1 >>= λ (last : Reading). Ok (rows, v.0)
+line_on rows line = worded (vector_at line) >>= λ (v : Numbers). end_at v.1 >>= λ (last : Reading). Ok (rows, v.0)
 
 abbrev vector_on : List Row → Reading → Result (List Row × List ℕ) InputFault
 vector_on rows d = worded (need_line_at d) >>= λ (line : Reading). line_on rows line
@@ -165,8 +163,8 @@ behind_faults : (rows : List Row) (d : Reading) → FaultsAs in_text (vector_on 
 behind_faults rows d =
     faults_bind in_text shown_only (worded (need_line_at d)) (next_line d) (λ (line : Reading). line_on rows line) (λ (u : ⊤ × Reading). last_vector u.1)
     (copy_worded shown_only (need_line_at d) (next_line d) (copy_alone (need_line_at d)))
-    (λ line q. faults_bind in_text (λ (v : Vector). v) (worded (vector_at line)) (vector_at line) (λ (v : Vector). end_at v.1 >>= λ (last : Reading). Ok (rows, v.0)) (λ (v : Vector). closing v.1)
-    (copy_worded (λ (v : Vector). v) (vector_at line) (vector_at line) (copy_same (vector_at line))) (λ v s. closing_faults (rows, v.0) v.1))
+    (λ line q. faults_bind in_text (λ (v : Numbers). v) (worded (vector_at line)) (vector_at line) (λ (v : Numbers). end_at v.1 >>= λ (last : Reading). Ok (rows, v.0)) (λ (v : Numbers). closing v.1)
+    (copy_worded (λ (v : Numbers). v) (vector_at line) (vector_at line) (copy_same (vector_at line))) (λ v s. closing_faults (rows, v.0) v.1))
 
 pub vector_faults_stand_first : FaultsStandFirst vector_document AreTableAndVectorText
 unfolding vector_document

@@ -24,9 +24,7 @@ use Rattle.document_laws.proofs.TextWays.{goes_text}
 use Rattle.document_laws.proofs.FirstFaults.{left_first}
 use Rattle.document_laws.proofs.FirstTables.{closing_faults, one_text, one_complete, one_sound, well_one, one_faults, many_texts, copy_tables, next_table, well_line_text, many_sound}
 use Rattle.document_laws.proofs.BehindTables.{first_line, first_behind}
-
-abbrev Table : Type 0
-Table = List Row × Reading
+use Rattle.document_laws.proofs.Given.{Table, Tables}
 
 -- nothing may stand behind a table
 abbrev NoLine : List Line → Type 0
@@ -82,9 +80,6 @@ two_tables_faults_leave_first bytes rows other d last f table second e =
     ∙ sym (ap (λ (r : Result Table InputFault). r >>= λ (t : Table). second_on t.0 t.1) table) ∙ e)))
 
 -- tables one after another
-abbrev Tables : Type 0
-Tables = List (List Row) × Reading
-
 put_more : (n : ℕ) (table rest : List Line) (rows : List Row) → AreTableLines table rows → SomeTablesAndText n rest → SomeTablesAndText (suc n) (table ++ rest)
 put_more n table rest rows t h = (table, rest, refl, (rows, t), h)
 

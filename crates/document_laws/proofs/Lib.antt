@@ -1,3 +1,4 @@
+pub mod Given
 pub mod LineLaws
 pub mod SignedLaws
 pub mod ConeSteps

@@ -14,6 +14,7 @@ use Rattle.document_laws.proofs.ConeSteps.{closed_row, row_on}
 use Rattle.document_laws.proofs.Local.{Goes, goes_chained, goes_pure, goes_same, alone, goes_moved}
 use Rattle.document_laws.proofs.LocalWords.{as_is, tested, word_with, goes_word, goes_end}
 use Rattle.document_laws.proofs.LocalLines.{goes_line, by_end, by_ends, goes_by_end}
+use Rattle.document_laws.proofs.Given.{Numbers, Row, Rows}
 
 -- a number up to max, of which f is made
 unfoldable pub number_test : {A : Type 0} → (ℕ → A) → ℕ → Option ℕ → Result A LexKind
@@ -88,9 +89,6 @@ pub goes_exactly : (wanted : List ℕ) (c : Reading) → Goes (exactly wanted) c
 goes_exactly wanted c = goes_same (word_with (exact_test wanted)) (exactly wanted) (exact_word wanted) c (goes_word (exact_test wanted) c)
 
 -- numbers to the end of a line
-abbrev pub Numbers : Type 0
-Numbers = List ℕ × Reading
-
 abbrev pub others_with : ℕ → ℕ → Reading → Result Numbers LexFault
 others_with max n c = numbers_at max c >>= λ (xs : Numbers). Ok (n ∷ xs.0, xs.1)
 
@@ -138,12 +136,6 @@ unfolding vector_at
 goes_vector c = goes_moved as_is (exactly_at (codes "vec")) (numbers_at limit) c (goes_exactly (codes "vec") c) (λ d e. goes_numbers limit d)
 
 -- coefficients, rows and cones
-abbrev pub Row : Type 0
-Row = List ℤ × Reading
-
-abbrev pub Rows : Type 0
-Rows = List (List ℤ) × Reading
-
 pub goes_coefficients : (n : ℕ) (c : Reading) → Goes (coefficients_at n) c
 unfolding coefficients_at
 goes_coefficients zero c = goes_pure [] c

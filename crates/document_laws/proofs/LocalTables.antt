@@ -23,6 +23,7 @@ use Rattle.document_laws.proofs.Local.{Goes, goes_chained, goes_pure, goes_same,
 use Rattle.document_laws.proofs.LocalWords.{as_is, tested, word_with, goes_word, goes_end}
 use Rattle.document_laws.proofs.LocalLines.{goes_line}
 use Rattle.document_laws.proofs.LocalForms.{goes_number}
+use Rattle.document_laws.proofs.Given.{Entry}
 
 -- the kinds of fault
 abbrev pub in_text : LexFault → InputFault
@@ -93,9 +94,6 @@ gluing_test (Some g) = if nat_lt g.tet (2 ^ 32) then Ok (Some g) else Err Number
 
 unfoldable pub entry_test : List ℕ → Result (Option Gluing) LexKind
 entry_test w = if same_list w (codes "-") then Ok None else gluing_test (gluing_of w)
-
-abbrev pub Entry : Type 0
-Entry = Option Gluing × Reading
 
 gluing_tested : (o : Option Gluing) (c : Reading) → tested (gluing_test o) c ≡ gluing_entry o c
 unfolding gluing_test

@@ -16,6 +16,7 @@ use Rattle.document_laws.proofs.LocalLines.{ends_shown}
 use Rattle.document_laws.proofs.LocalForms.{goes_number}
 use Rattle.document_laws.proofs.Ways.{Sat, From, Alike, alike_goes, Well, Free, sat_both, well_free, free_chained, free_pure, free_same, sat_same, well_same, from_sat, sat_mapped, well_mapped}
 use Rattle.document_laws.proofs.WordWays.{free_word, sat_word, well_word, sat_end, well_end, free_number, sat_number, well_number}
+use Rattle.document_laws.proofs.Given.{Numbers}
 
 -- vertices
 spelled_test : Option (List ℕ) → Result (List ℕ) LexKind
@@ -60,9 +61,6 @@ unfolding spelled_test
 edge_passes = refl
 
 -- cores
-abbrev Core : Type 0
-Core = List ℕ × Reading
-
 abbrev face_core : List ℕ → List ℕ
 face_core f = others (slice_index f 0)
 
@@ -121,7 +119,7 @@ abbrev move_of : ℕ → List ℕ → Move
 move_of t core = record { tet = t; core = core }
 
 abbrev core_on : MoveKind → ℕ → Reading → Moved
-core_on kind t c = core_at kind c >>= λ (core : Core). closed (move_of t core.0) core.1
+core_on kind t c = core_at kind c >>= λ (core : Numbers). closed (move_of t core.0) core.1
 
 abbrev kind_on : MoveKind → Reading → Moved
 kind_on kind c = kind_at (Some kind) c

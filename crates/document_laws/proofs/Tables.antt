@@ -25,6 +25,7 @@ use Rattle.table_definitions.proofs.LineLaws.{BeginsLine, line_begun, line_found
 use Rattle.signature_text_laws.proofs.ReadTables.{read_spelled}
 use Rattle.signature_text_laws.proofs.SpelledTables.{spelled_read}
 use Rattle.document_laws.proofs.Blocks.{ReadsBlocks, ReadsEnd}
+use Rattle.document_laws.proofs.Given.{Table}
 use Rattle.signature_text_laws.proofs.AnyTables.{texted_ok, decoded_ok}
 
 pub texted_with : {A : Type 0} (r : Result A TextFault) (x : A) → r ≡ Ok x → texted r ≡ Ok x
@@ -47,9 +48,6 @@ pub record TableLines (c : Reading) (rows : List Row) (d : Reading) : Type 0 whe
   pub at_end : d.current.tokens ≡ []
 
 -- the word `tri`, and then as in the one form
-abbrev Table : Type 0
-Table = List Row × Reading
-
 tri_of_parts : (c x : Reading) (w : List ℕ) (next : Reading) (t : Table) → need_line_at c ≡ Ok x → word_at x ≡ Ok (w, next) → same_word w (codes "tri") ≡ true → table_at next ≡ Ok t → tri_table_at c ≡ Ok t
 unfolding tri_table_at exactly_at
 tri_of_parts c x w next t e1 e2 e3 e4 =

@@ -22,6 +22,7 @@ use Rattle.document_laws.proofs.Local.{alone}
 use Rattle.document_laws.proofs.LocalWords.{as_is, word_with, ending}
 use Rattle.document_laws.proofs.LocalLines.{next_line}
 use Rattle.document_laws.proofs.LocalTables.{in_text, entry_test, entry_word, first, second, third, fourth, entries, Rows, looked_at, rows_on, if_few, any_text, any_word, text_on, name_test, by_name, a_name, table_named}
+use Rattle.document_laws.proofs.Given.{Entry}
 
 abbrev pub Read : Type 0
 Read = Result (⊤ × Reading) LexFault
@@ -123,9 +124,6 @@ pub copy_worded : {X Y : Type 0} (view : X → Y) (r : Result X LexFault) (s : R
 copy_worded view r s c = copy_texted view (lexed r) s (copy_lexed view r s c)
 
 -- rows
-abbrev Entry : Type 0
-Entry = Option Gluing × Reading
-
 abbrev one_entry : Entry → Entry
 one_entry e = e
 

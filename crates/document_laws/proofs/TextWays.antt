@@ -1,5 +1,5 @@
 -- The text of a table: what stands before a fault can be gone on with to the text of one.
-use Rattle.std.proofs.Common.{◌≡◌, ℕ, zero, suc, Bool, true, false, List, [], ◌∷◌, None, Result, Ok, refl, ap, ◌∙◌}
+use Rattle.std.proofs.Common.{◌≡◌, ℕ, zero, suc, Bool, true, false, List, [], None, Result, Ok, refl, ap, ◌∙◌}
 use Rattle.std.specs.Prelude.{⊤, codes}
 use Rattle.text_definitions.specs.declared.LexKind.{LexKind}
 use Rattle.text_definitions.specs.declared.LexFault.{LexFault}
@@ -12,7 +12,7 @@ use Rattle.document_laws.proofs.LocalWords.{as_is, word_with, ending, goes_word,
 use Rattle.document_laws.proofs.LocalLines.{next_line, goes_line}
 use Rattle.document_laws.proofs.LocalForms.{goes_number}
 use Rattle.document_laws.proofs.LocalTables.{entry_test, any_text, name_test}
-use Rattle.document_laws.proofs.Ways.{Sat, From, Alike, alike_goes, again_from, Well, WellOpen, sat_both, well_free, well_goes, well_open, well_behind, from_sat}
+use Rattle.document_laws.proofs.Ways.{Sat, From, Alike, alike_goes, again_from, Well, WellOpen, sat_both, well_free, well_goes, well_open, well_behind, from_sat, line_before}
 use Rattle.document_laws.proofs.WordWays.{free_word, sat_word, well_word, sat_end, well_end, free_line, well_line, free_number, sat_number, well_number}
 use Rattle.document_laws.proofs.TextReaders.{Read, words_at, row_text, row_line, rows_text, counted_text, tri_text, sig_text, text_named, text_at, next_text}
 use Rattle.document_laws.proofs.TextGrammar.{tri_passes}
@@ -83,17 +83,14 @@ pub record SatBehind (read : Reading → Read) (Aim : ⊤ → List Sign → Type
   pub none : sat.start.current.tokens ≡ []
 
 -- the line of a reading is begun behind an empty line
-before : Reading → Reading
-before k = record k { current = record { number = 0; tokens = []; end = 0 }; later = k.current ∷ k.later }
-
 pub in_next_line : (read : Reading → Read) (Aim : ⊤ → List Sign → Type 0) → Sat read Aim → SatBehind (λ c. next_line c >>= λ (u : ⊤ × Reading). read u.1) Aim
-unfolding before
+unfolding line_before
 in_next_line read Aim s = record {
   sat = record {
-    start = before s.start;
+    start = line_before s.start;
     value = s.value;
     next = s.next;
-    reads = ap (λ (r : Result Reading LexFault). alone r >>= λ (u : ⊤ × Reading). read u.1) (line_found (before s.start) s.start.current s.start.later refl) ∙ s.reads;
+    reads = ap (λ (r : Result Reading LexFault). alone r >>= λ (u : ⊤ × Reading). read u.1) (line_found (line_before s.start) s.start.current s.start.later refl) ∙ s.reads;
     aim = s.aim;
   };
   none = refl;

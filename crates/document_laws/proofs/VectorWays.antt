@@ -13,9 +13,10 @@ use Rattle.table_definitions.proofs.ReadingLaws.{with_tokens}
 use Rattle.document_laws.proofs.Local.{shows, StopsAt, Goes, goes_chained, goes_pure, alone_bind}
 use Rattle.document_laws.proofs.LocalWords.{as_is, word_with}
 use Rattle.document_laws.proofs.LocalLines.{by_end, by_ends, end_stop}
-use Rattle.document_laws.proofs.LocalForms.{exact_test, exact_word, exactly, goes_numbers, Numbers, others_with, one_more, numbers_stepped, tokens_after}
+use Rattle.document_laws.proofs.LocalForms.{exact_test, exact_word, exactly, goes_numbers, others_with, one_more, numbers_stepped, tokens_after}
 use Rattle.document_laws.proofs.Ways.{From, alike_each, Way, Well, well_free, well_mapped, free_same, well_same}
 use Rattle.document_laws.proofs.WordWays.{free_word, sat_word, well_word, free_number, well_number}
+use Rattle.document_laws.proofs.Given.{Numbers}
 
 -- no number is read at the end of a line
 no_number : (c : Reading) → c.current.tokens ≡ [] → (y : Numbers) → one_more limit c ≢ Ok y

@@ -52,7 +52,7 @@ abbrev pub Free : {A E : Type 0} → (Reading → Result (A × Reading) E) → R
 Free {A} read c = (x : A) (d : Reading) → read c ≡ Ok (x, d) → FreeOn read c x d
 
 -- what is left of a reading behind some signs, with other signs in place of what is left
-line_before : Reading → Reading
+unfoldable pub line_before : Reading → Reading
 line_before k = record k { current = record { number = 0; tokens = []; end = 0 }; later = k.current ∷ k.later }
 
 line_before_shows : (k : Reading) → shows (line_before k) ≡ line_end ∷ shows k

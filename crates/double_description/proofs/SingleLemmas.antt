@@ -15,8 +15,8 @@ use Rattle.cone_laws.proofs.Counts.{count_cons}
 use Rattle.support_table.specs.Counts.{columns_in_either}
 use Rattle.support_table.proofs.BitCounts.{columns_of_vectors}
 use Rattle.double_description.specs.Unions.{HasSingle, IsSingle, MakeSinglesPairs}
-use Rattle.double_description.specs.Unordered.{HasSurfaces}
-use Rattle.double_description.proofs.UnorderedLemmas.{one_place}
+use Rattle.cone_definitions.specs.Unordered.{HasSurfaces}
+use Rattle.cone_definitions.proofs.Unordered.{one_place}
 
 -- a ray inside the union of one of a single column and another is one of them
 no_third_beside_single : (columns : ℕ) (rows : List Row) (u w v : List ℕ) → IsPrimitiveExtreme columns rows u → IsPrimitiveExtreme columns rows w → IsPrimitiveExtreme columns rows v →

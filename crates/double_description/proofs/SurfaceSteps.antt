@@ -12,9 +12,9 @@ use Rattle.cone_definitions.proofs.Unions.{pair_union}
 use Rattle.double_description.specs.declared.signs.Sign.{Sign}
 use Rattle.double_description.specs.declared.signs.Sign.TheVariants.{Zero, Positive, Negative}
 use Rattle.double_description.specs.Steps.{step_of}
-use Rattle.double_description.specs.Unordered.{HasSurfaces}
+use Rattle.cone_definitions.specs.Unordered.{HasSurfaces}
 use Rattle.double_description.specs.Signs.{IsSignAt, AreSigns, IsSignedPair, ComesFromPlaces, ComesFromZero, GivesFrom, IsStepAt, IsNextFrom}
-use Rattle.double_description.proofs.UnorderedLemmas.{place_of, pair_third_place}
+use Rattle.cone_definitions.proofs.Unordered.{place_of, pair_third_place}
 use Rattle.double_description.proofs.MadeLemmas.{sign_read, reduced_read, comes_read}
 
 -- a sign at which the row is zero, positive or negative

@@ -1,6 +1,6 @@
 -- The support of a combination is the union of the two supports.
 use Rattle.std.proofs.Common.{◌≡◌, ℕ, ◌*◌, ◌/◌, ◌≤◌, ◌||◌, ⊎_elim, Bool, true, false, IsTrue, List, length, ltb, get_or, slice_index, sym, ◌∙◌, ap, ap₂, refl, arith}
-use Rattle.std.proofs.lemmas.Bool.{cases_eq, lt-ltb, true≢false}
+use Rattle.std.proofs.lemmas.Bool.{cases_eq, lt-ltb, true≢false, or_parts}
 use Rattle.std.proofs.lemmas.List.{ext_get_or, length-map}
 use Rattle.cone_definitions.specs.Vectors.{IsNonzero, IsInside, IsInsideUnion}
 use Rattle.cone_definitions.proofs.Entries.{entry-multiple}
@@ -68,10 +68,6 @@ module _ (limit at_u at_w : ℕ) (u w x : List ℕ) (some_u : 1 ≤ at_u) (some_
       ∙ either_positive (slice_index u j) (slice_index w j) (slice_index x j) (λ gone. u_inside j (gone_there j gone)) (λ gone. w_inside j (gone_there j gone)) (x_inside j)
       ∙ sym (get_or-support_of x j))
 
-none_of : (a b : Bool) → (a || b) ≡ false → (a ≡ false) × (b ≡ false)
-none_of true b none = absurd (true≢false none)
-none_of false b none = (refl, none)
-
 gone_where : (x : List ℕ) (s : List Bool) (column : ℕ) → s ≡ support_of x → get_or s column false ≡ false → slice_index x column ≡ 0
 gone_where x s column is none = ⊎_elim (λ gone. gone)
     (λ some. absurd (true≢false (sym (lt-ltb 0 (slice_index x column) (omega (arith, some))) ∙ sym (get_or-support_of x column) ∙ ap (λ t. get_or t column false) (sym is) ∙ none)))
@@ -80,7 +76,7 @@ gone_where x s column is none = ⊎_elim (λ gone. gone)
 -- outside the union of their supports two vectors are 0
 pub outside_union : (u w : List ℕ) (a b union : List Bool) → a ≡ support_of u → b ≡ support_of w → IsUnion a b union → AreInside union u w
 outside_union u w a b union a_is b_is is column none =
-    let parts = none_of (get_or a column false) (get_or b column false) (sym (is.each column) ∙ none) in
+    let parts = or_parts (get_or a column false) (get_or b column false) (sym (is.each column) ∙ none) in
     (gone_where u a column a_is parts.0, gone_where w b column b_is parts.1)
 
 pub union_width : (u w : List ℕ) (a b union : List Bool) → a ≡ support_of u → IsUnion a b union → length union ≡ length u

@@ -7,6 +7,7 @@ use Rattle.table_definitions.specs.Table.{Gluing, Row, Face, IsTable, glue, othe
 use Rattle.table_definitions.specs.Places.{IsConnected}
 use Rattle.table_definitions.proofs.TableLaws.{glued_tet, glued_face}
 use Rattle.table_definitions.proofs.PermutationLaws.{image-of_inverse}
+use Rattle.table_definitions.proofs.Faces.{face_at}
 use Rattle.group_definitions.specs.Trees.{IsDistance, LeadsCloser}
 use Rattle.group_definitions.specs.Groups.{IsTreeFaceAt}
 use Rattle.group_laws.proofs.TreeLaws.{tree_face_of}
@@ -42,32 +43,29 @@ module _ (rows : List Row) (table : IsTable rows) where
 
   -- ---- one face of a tetrahedron more
 
-  abbrev at : ℕ → ℕ → Face
-  at t f = record { tet = t; face = f }
-
-  not_after : (t f : ℕ) (least closer : Option Face) (x : Face) → IsLeastCloser rows t f least → IsCloserFace rows (at t f) closer → IsNotAfter least x → IsNotAfter closer x
-      → (i : ℕ) (y : Face) → i < f + 1 → IsCloser rows (at t i) y → is_face_before y x ≡ false
+  not_after : (t f : ℕ) (least closer : Option Face) (x : Face) → IsLeastCloser rows t f least → IsCloserFace rows (face_at t f) closer → IsNotAfter least x → IsNotAfter closer x
+      → (i : ℕ) (y : Face) → i < f + 1 → IsCloser rows (face_at t i) y → is_face_before y x ≡ false
   not_after t f least closer x h k a b i y l c = elim (cases_lt i f) [
     | inl less ↦ earlier less least h a
-    | inr more ↦ let same : i ≡ f = omega arith in here closer k b (subst (λ j. IsCloser rows (at t j) y) same c)
+    | inr more ↦ let same : i ≡ f = omega arith in here closer k b (subst (λ j. IsCloser rows (face_at t j) y) same c)
   ]
     where
       earlier : i < f → (o : Option Face) → IsLeastCloser rows t f o → IsNotAfter o x → is_face_before y x ≡ false
       earlier less None h a = absurd (h i y less c)
       earlier less (Some z) h a = not_before_on y z x (h.1 i y less c) a
 
-      here : (o : Option Face) → IsCloserFace rows (at t f) o → IsNotAfter o x → IsCloser rows (at t f) y → is_face_before y x ≡ false
+      here : (o : Option Face) → IsCloserFace rows (face_at t f) o → IsNotAfter o x → IsCloser rows (face_at t f) y → is_face_before y x ≡ false
       here None k b d = absurd (k y d)
-      here (Some z) k b d = subst (λ (w : Face). is_face_before w x ≡ false) (one_closer (at t f) z y k d) b
+      here (Some z) k b d = subst (λ (w : Face). is_face_before w x ≡ false) (one_closer (face_at t f) z y k d) b
 
-  leads_from : (t f : ℕ) (least closer : Option Face) (x : Face) → IsLeastCloser rows t f least → IsCloserFace rows (at t f) closer → (least ≡ Some x) ⊎ (closer ≡ Some x) → LeadsCloser rows t x
+  leads_from : (t f : ℕ) (least closer : Option Face) (x : Face) → IsLeastCloser rows t f least → IsCloserFace rows (face_at t f) closer → (least ≡ Some x) ⊎ (closer ≡ Some x) → LeadsCloser rows t x
   leads_from t f least closer x h k (inl e) = (subst (IsLeastCloser rows t f) e h).0
-  leads_from t f least closer x h k (inr e) = (subst (IsCloserFace rows (at t f)) e k).leads
+  leads_from t f least closer x h k (inr e) = (subst (IsCloserFace rows (face_at t f)) e k).leads
 
-  pub least_more : (t f : ℕ) (least closer next : Option Face) → IsLeastCloser rows t f least → IsCloserFace rows (at t f) closer → IsLeastOf least closer next → IsLeastCloser rows t (f + 1) next
+  pub least_more : (t f : ℕ) (least closer next : Option Face) → IsLeastCloser rows t f least → IsCloserFace rows (face_at t f) closer → IsLeastOf least closer next → IsLeastCloser rows t (f + 1) next
   least_more t f least closer None h k m = λ i y l c. elim (cases_lt i f) [
     | inl less ↦ (subst (IsLeastCloser rows t f) m.0 h) i y less c
-    | inr more ↦ let same : i ≡ f = omega arith in (subst (IsCloserFace rows (at t f)) m.1 k) y (subst (λ j. IsCloser rows (at t j) y) same c)
+    | inr more ↦ let same : i ≡ f = omega arith in (subst (IsCloserFace rows (face_at t f)) m.1 k) y (subst (λ j. IsCloser rows (face_at t j) y) same c)
   ]
   least_more t f least closer (Some x) h k m = (leads_from t f least closer x h k m.0, not_after t f least closer x h k m.1 m.2)
 
@@ -76,7 +74,7 @@ module _ (rows : List Row) (table : IsTable rows) where
   record Behind (t : ℕ) (x : Face) : Type 0 where
     face : ℕ
     small : face < 4
-    closer : IsCloser rows (at t face) x
+    closer : IsCloser rows (face_at t face) x
 
   behind : (t : ℕ) (x : Face) → LeadsCloser rows t x → Behind t x
   behind t x h = record {
@@ -84,7 +82,7 @@ module _ (rows : List Row) (table : IsTable rows) where
     small = glued_face rows (other_side x h.gluing) (way_back x h.gluing) table.four_faces (table.leads_back x h.gluing h.glued);
     closer = record {
       gluing = way_back x h.gluing;
-      glued = subst (λ u. glue rows (at u (image h.gluing.perm x.face)) ≡ Some (way_back x h.gluing)) h.to (table.leads_back x h.gluing h.glued);
+      glued = subst (λ u. glue rows (face_at u (image h.gluing.perm x.face)) ≡ Some (way_back x h.gluing)) h.to (table.leads_back x h.gluing h.glued);
       other = λ i. record { tet = x.tet; face = image-of_inverse h.gluing.perm x.face (table.permutes x h.gluing h.glued) (glued_face rows x h.gluing table.four_faces h.glued) i };
       leads = h;
     };

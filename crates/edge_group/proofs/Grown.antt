@@ -9,6 +9,7 @@ use Rattle.plain_facts.proofs.Members.{contains_one, contains_nil}
 use Rattle.plain_facts.proofs.Options.{none_or_some}
 use Rattle.table_definitions.specs.Table.{Gluing, Row, Face, IsTable, glue}
 use Rattle.table_definitions.proofs.TableLaws.{glued_face}
+use Rattle.table_definitions.proofs.Faces.{face_at}
 use Rattle.edge_group.specs.Searches.{mark_of, unmarked, IsGrown, HasGrown, IsFace, IsFaceBelow, IsFaceOf, IsFaceOfSome}
 
 -- a mark that would stay is no mark
@@ -128,17 +129,14 @@ module _ (rows : List Row) where
   }
 
   -- ---- the faces of one tetrahedron
-  abbrev at : ℕ → ℕ → Face
-  at t f = record { tet = t; face = f }
-
-  pub faces_more : (t f d : ℕ) (old mid new : List (Option ℕ)) (pending next last : List ℕ) → HasGrown rows (IsFaceBelow t f) d old mid pending next → HasGrown rows (IsFace (at t f)) d mid new next last → HasGrown rows (IsFaceBelow t (f + 1)) d old new pending last
-  faces_more t f d old mid new pending next last a b = has_grown_on (IsFaceBelow t f) (IsFace (at t f)) (IsFaceBelow t (f + 1)) d old mid new pending next last into back a b
+  pub faces_more : (t f d : ℕ) (old mid new : List (Option ℕ)) (pending next last : List ℕ) → HasGrown rows (IsFaceBelow t f) d old mid pending next → HasGrown rows (IsFace (face_at t f)) d mid new next last → HasGrown rows (IsFaceBelow t (f + 1)) d old new pending last
+  faces_more t f d old mid new pending next last a b = has_grown_on (IsFaceBelow t f) (IsFace (face_at t f)) (IsFaceBelow t (f + 1)) d old mid new pending next last into back a b
     where
-      into : (x : Face) → IsFaceBelow t f x ⊎ IsFace (at t f) x → IsFaceBelow t (f + 1) x
+      into : (x : Face) → IsFaceBelow t f x ⊎ IsFace (face_at t f) x → IsFaceBelow t (f + 1) x
       into x (inl h) = (h.0, let l : x.face < f = h.1 in omega arith)
       into x (inr e) = (ap (λ (y : Face). y.tet) e, let l : x.face ≡ f = ap (λ (y : Face). y.face) e in omega arith)
 
-      back : (x : Face) (g : Gluing) → glue rows x ≡ Some g → IsFaceBelow t (f + 1) x → IsFaceBelow t f x ⊎ IsFace (at t f) x
+      back : (x : Face) (g : Gluing) → glue rows x ≡ Some g → IsFaceBelow t (f + 1) x → IsFaceBelow t f x ⊎ IsFace (face_at t f) x
       back x g e h = elim (cases_lt x.face f) [
         | inl less ↦ inl (h.0, less)
         | inr more ↦ let l : x.face < f + 1 = h.1 in let same : x.face ≡ f = omega arith in inr (λ i. record { tet = h.0 i; face = same i })

@@ -3,9 +3,10 @@
 ghost use Rattle.std.specs.Prelude.{◌≡◌, ◌<◌, ◌^◌, length, map, filter_map, All, IfOk};
 ghost use Rattle.std.specs.List.{AllPairs, AllZip};
 ghost use Rattle.skeleton_definitions.specs.Corners as definition;
+ghost use Rattle.skeleton_definitions.specs.Corners.{left_through};
 ghost use Rattle.skeleton_definitions.specs.Skeleton.{IsSkeleton};
 ghost use Rattle.table_definitions.specs.Table.{face_number};
-ghost use Rattle.group_definitions.specs.Presentations.{AreGenerators, IsRelator, letter_of, left_through};
+ghost use Rattle.group_definitions.specs.Presentations.{AreGenerators, IsRelator, letter_of};
 ghost use Rattle.group_laws.specs.Classes.{AreLeastFaces, generator_number, LeavesInRange};
 ghost use Rattle.edge_group.specs.Kept.{letters_of};
 

@@ -14,8 +14,9 @@ use Rattle.table_definitions.specs.Replacing.{Replacement, leads_to, fresh_row, 
 use Rattle.table_definitions.proofs.ListFacts.{first_some-append, first_some-map, first_some-below, first_some-none_below}
 use Rattle.table_definitions.specs.Replaceable.{numbers_of, fresh_numbers, row_back}
 use Rattle.table_definitions.proofs.FreshRows.{gives_back}
+use Rattle.table_definitions.proofs.Faces.{face_at}
 use Rattle.gluing_table.proofs.Opened.{has-none, number_at, length-numbers_of}
-use Rattle.table_definitions.proofs.Ranks.{Ascends}
+use Rattle.plain_facts.proofs.Members.{Ascends}
 
 abbrev pub Numbered : Type 0
 Numbered = ℕ × Row
@@ -100,21 +101,18 @@ first_some-same f g (x ∷ xs) same =
 
 pub back_by_rows : (r : Replacement) (y : Face) → Ascends (fresh_numbers r) → first_some (row_back y) r.fresh ≡ back_to_fresh r y
 back_by_rows r y up =
-    first_some-same (row_back y) (λ (x : Numbered). first_some (gives_back r y) (map (face_of x.0) four)) r.fresh row_is
-    ∙ sym (first_some-flat_map (gives_back r y) (λ (x : Numbered). map (face_of x.0) four) r.fresh)
+    first_some-same (row_back y) (λ (x : Numbered). first_some (gives_back r y) (map (face_at x.0) four)) r.fresh row_is
+    ∙ sym (first_some-flat_map (gives_back r y) (λ (x : Numbered). map (face_at x.0) four) r.fresh)
   where
-    face_of : ℕ → ℕ → Face
-    face_of t f = record { tet = t; face = f }
-
-    row_is : (k : ℕ) (d : Numbered) → k < length r.fresh → row_back y (get_or r.fresh k d) ≡ first_some (gives_back r y) (map (face_of (get_or r.fresh k d).0) four)
+    row_is : (k : ℕ) (d : Numbered) → k < length r.fresh → row_back y (get_or r.fresh k d) ≡ first_some (gives_back r y) (map (face_at (get_or r.fresh k d).0) four)
     row_is k d l =
         let row : Numbered = get_or r.fresh k d in
         let is : row ≡ get_or r.fresh k row = sym (row_any r.fresh k row row l (itself r.fresh k d l)) ∙ refl in
         let at : position_or_len (λ (x : Numbered). x.0 == row.0) r.fresh ≡ k = position_at r.fresh k row row.0 l is refl
         (λ j m e. (let less : get_or (fresh_numbers r) j 0 < get_or (fresh_numbers r) k 0 = up j k 0 m (rw length-numbers_of l) in let here = number_at r.fresh k row l is in absurd (omega arith))) in
         let rows : fresh_row r row.0 ≡ row.1 = row_at r.fresh k row row.0 l is at in
-        ap (λ (w : Row). first_some (λ f. option_and_then (leads_to y (face_of row.0 f)) (slice_index_or w f None)) four) (sym rows)
-        ∙ sym (first_some-map (gives_back r y) (face_of row.0) four)
+        ap (λ (w : Row). first_some (λ f. option_and_then (leads_to y (face_at row.0 f)) (slice_index_or w f None)) four) (sym rows)
+        ∙ sym (first_some-map (gives_back r y) (face_at row.0) four)
       where
         itself : (xs : List Numbered) (k : ℕ) (d : Numbered) → k < length xs → get_or xs k d ≡ get_or xs k (get_or xs k d)
         itself [] k d l = absurd (omega arith)

@@ -11,6 +11,7 @@ use Rattle.std.proofs.lemmas.List.FromFn.{length-map-range_with_len}
 use Rattle.table_definitions.proofs.Bijections.{below-push}
 use Rattle.table_definitions.proofs.Ranks.{rank, rank-suc, stays, opened_up, closed_up-rank, at_rank}
 use Rattle.table_definitions.proofs.Kept.{IsKeptAs, kept_at, kept_by, as_many, fewer_removed, removed_up, fresh_up}
+use Rattle.table_definitions.proofs.Faces.{face_at}
 use Rattle.gluing_table.proofs.FirstBack.{back_by_rows}
 
 -- no fewer pass below a greater number
@@ -71,26 +72,23 @@ glued_on rows r y o g new e stays is same =
 
 -- the same, by what the calls give
 
-abbrev face_of : ℕ → ℕ → Face
-face_of t f = record { tet = t; face = f }
-
 pub closed_fits : (rows : List Row) (r : Replacement) → IsTable rows → CanReplace rows r → (x : Face) (g : Gluing) (tet closed : ℕ) → Some g ≡ glue rows x → tet ≡ g.tet → closed ≡ closed_up r.removed tet
     → closed + length r.fresh < 2 ^ 32
 closed_fits rows r table can x g tet closed e same is = let l = table.in_range x g (sym e) in omega (arith, few_fresh rows r can, table.few)
 
-pub glued_back_by : (rows : List Row) (r : Replacement) → CanReplace rows r → (y : Face) (t f tet : ℕ) (g : Gluing) (back : Option Gluing) → Some g ≡ glue rows (face_of t f) → tet ≡ g.tet → f ≡ y.face
-    → true ≡ has r.removed tet → back ≡ first_some (row_back y) r.fresh → back ≡ kept_gluing rows r y (glue rows (face_of t y.face))
+pub glued_back_by : (rows : List Row) (r : Replacement) → CanReplace rows r → (y : Face) (t f tet : ℕ) (g : Gluing) (back : Option Gluing) → Some g ≡ glue rows (face_at t f) → tet ≡ g.tet → f ≡ y.face
+    → true ≡ has r.removed tet → back ≡ first_some (row_back y) r.fresh → back ≡ kept_gluing rows r y (glue rows (face_at t y.face))
 glued_back_by rows r can y t f tet g back e same face gone is =
-    glued_back rows r can y (glue rows (face_of t y.face)) g back (e ∙ ap (λ k. glue rows (face_of t k)) face) (gone ∙ ap (has r.removed) same) is
+    glued_back rows r can y (glue rows (face_at t y.face)) g back (e ∙ ap (λ k. glue rows (face_at t k)) face) (gone ∙ ap (has r.removed) same) is
 
-pub glued_on_by : (rows : List Row) (r : Replacement) → IsTable rows → CanReplace rows r → (y : Face) (t f tet closed u : ℕ) (p : List ℕ) (g : Gluing) → Some g ≡ glue rows (face_of t f) → tet ≡ g.tet → p ≡ g.perm → f ≡ y.face
+pub glued_on_by : (rows : List Row) (r : Replacement) → IsTable rows → CanReplace rows r → (y : Face) (t f tet closed u : ℕ) (p : List ℕ) (g : Gluing) → Some g ≡ glue rows (face_at t f) → tet ≡ g.tet → p ≡ g.perm → f ≡ y.face
     → false ≡ has r.removed tet → closed ≡ closed_up r.removed tet → has (fresh_numbers r) u ≡ false → u ≡ closed + gone_before (fresh_numbers r) u
-    → Some (record { tet = u; perm = p }) ≡ kept_gluing rows r y (glue rows (face_of t y.face))
+    → Some (record { tet = u; perm = p }) ≡ kept_gluing rows r y (glue rows (face_at t y.face))
 glued_on_by rows r table can y t f tet closed u p g e same perm face stays is free value =
     let st : has r.removed g.tet ≡ false = sym (stays ∙ ap (has r.removed) same) in
-    let lt : g.tet < length rows = table.in_range (face_of t f) g (sym e) in
+    let lt : g.tet < length rows = table.in_range (face_at t f) g (sym e) in
     let number : u ≡ number_of_kept rows r g.tet = number_opened rows r can g.tet closed u lt st (is ∙ ap (closed_up r.removed) same) free value in
-    glued_on rows r y (glue rows (face_of t y.face)) g (record { tet = u; perm = p }) (e ∙ ap (λ k. glue rows (face_of t k)) face) (sym st) number perm
+    glued_on rows r y (glue rows (face_at t y.face)) g (record { tet = u; perm = p }) (e ∙ ap (λ k. glue rows (face_at t k)) face) (sym st) number perm
 
 -- a row of the new table
 

@@ -5,7 +5,7 @@ use Rattle.table_definitions.specs.Lists.{has}
 use Rattle.table_definitions.specs.Table.{Gluing, Row, Face, glue, face_number}
 use Rattle.table_definitions.specs.Classes.{least, is_least, degree}
 use Rattle.table_definitions.specs.Places.{face_of}
-use Rattle.skeleton_definitions.specs.Corners.{Corner, inner_edges}
+use Rattle.skeleton_definitions.specs.Corners.{Corner, inner_edges, left_through}
 use Rattle.skeleton_definitions.specs.Skeleton.{Skeleton, IsAround}
 use Rattle.group_definitions.specs.declared.Letter.{Letter}
 use Rattle.group_definitions.specs.Trees.{IsTreeFace, IsTreePath, evens, is_odd_number}
@@ -24,10 +24,6 @@ abbrev pub letter_of : Skeleton → List ℕ → ℕ → Option Letter
 letter_of s generators i =
     if has generators (slice_index s.faces.classes i)
     then Some (record { generator = position_or_len (λ c. c == slice_index s.faces.classes i) generators + 1; inverse = not (is_least s.faces.classes i) }) else None
-
--- the face through which the walk leaves a corner
-abbrev pub left_through : Corner → Face
-left_through k = record { tet = k.tet; face = k.c }
 
 -- the letters of the faces through which the walk round an edge class goes
 pub record IsRelator (s : Skeleton) (generators : List ℕ) (c : ℕ) (letters : List Letter) : Type 0 where

@@ -11,11 +11,11 @@ use Rattle.table_definitions.specs.Table.{Gluing, Face, glue, face_number}
 use Rattle.table_definitions.specs.Classes.{least, degree}
 use Rattle.table_definitions.specs.Places.{face_of, IsConnected, is_boundary_edge}
 use Rattle.table_definitions.proofs.TableLaws.{glued_tet}
-use Rattle.skeleton_definitions.specs.Corners.{inner_edges}
+use Rattle.skeleton_definitions.specs.Corners.{inner_edges, left_through}
 use Rattle.skeleton_definitions.specs.Skeleton.{Skeleton, IsSkeleton}
 use Rattle.group_definitions.specs.declared.Letter.{Letter}
 use Rattle.group_definitions.specs.Trees.{IsTreeFace, evens, is_odd_number}
-use Rattle.group_definitions.specs.Presentations.{HoldsTreeFace, AreGenerators, IsTurning, IsRelator, letter_of, left_through, Presentation, IsPresentation}
+use Rattle.group_definitions.specs.Presentations.{HoldsTreeFace, AreGenerators, IsTurning, IsRelator, letter_of, Presentation, IsPresentation}
 use Rattle.class_laws.proofs.FirstPlaces.{none_or_first}
 use Rattle.class_laws.proofs.Around.{zip_exists, some_around}
 use Rattle.group_laws.proofs.TreeLaws.{one_tree_face, none_for_zero, tree_face_of, path_of}

@@ -10,7 +10,7 @@ use Rattle.table_definitions.specs.Classes.{IsNumbering, least, degree}
 use Rattle.table_definitions.specs.Places.{face_of, SameFace}
 use Rattle.table_definitions.proofs.TableLaws.{glued_tet, glued_face}
 use Rattle.table_definitions.proofs.Carried.{same_to}
-use Rattle.table_definitions.proofs.Faces.{face_of-number}
+use Rattle.table_definitions.proofs.Faces.{face_of-number, number-face_of}
 use Rattle.class_laws.proofs.FirstPlaces.{first_place}
 
 -- ---- counts
@@ -85,13 +85,10 @@ module _ (rows : List Row) (table : IsTable rows) (classes : List ℕ) (count : 
         let itself : same_face (other_side x g) x ≡ true = same_to (other_side x g).tet x.tet (other_side x g).face x.face (ap (λ (z : Face). z.tet) faces) (ap (λ (z : Face). z.face) faces) in
         let never : not (same_face (other_side x g) x) ≡ true = table.apart x g e in cc
 
-    number_back : (k : ℕ) → face_number (face_of k) ≡ k
-    number_back k = omega arith
-
     no_third : (k : ℕ) → k < length classes → k ≢ face_number x → k ≢ face_number (other_side x g) → slice_index classes k ≢ class_of x
     no_third k l a b same = elim (same_class k (subst (λ n. k < n) h.one_each l) same) [
-      | inl i ↦ a (sym (number_back k) ∙ ap face_number i)
-      | inr i ↦ b (sym (number_back k) ∙ ap face_number i)
+      | inl i ↦ a (sym (number-face_of k) ∙ ap face_number i)
+      | inr i ↦ b (sym (number-face_of k) ∙ ap face_number i)
     ]
 
     pub degree_two : degree classes (class_of x) ≡ 2

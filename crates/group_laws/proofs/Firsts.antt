@@ -5,6 +5,7 @@ use Rattle.std.proofs.lemmas.Bool.{cases_lt}
 use Rattle.table_definitions.specs.Table.{Gluing, Face, glue, face_number}
 use Rattle.table_definitions.specs.Classes.{least, degree}
 use Rattle.table_definitions.specs.Places.{face_of}
+use Rattle.table_definitions.proofs.Faces.{number-face_of}
 use Rattle.skeleton_definitions.specs.Skeleton.{Skeleton, IsSkeleton}
 use Rattle.class_laws.specs.Numberings.{IsOrdered, AreFirstsUpTo}
 use Rattle.class_laws.proofs.FirstPlaces.{FirstPlace, first_place}
@@ -20,9 +21,6 @@ module _ (s : Skeleton) (h : IsSkeleton s) where
   -- the least member of a class
   pub least_at : (c : ℕ) → c < s.faces.count → FirstPlace s.faces.classes c
   least_at c l = let some = h.faces.none_empty c l in first_place s.faces.classes some.0 c (subst (λ k. some.0 < k) (sym h.faces.one_each) some.1) some.2
-
-  number_back : (k : ℕ) → face_number (face_of k) ≡ k
-  number_back k = omega arith
 
   pub least_faces : (i : ℕ) (firsts : List ℕ) → i ≡ 4 * length s.rows → AreFirstsUpTo i s.faces.classes firsts → AreLeastFaces s firsts
   least_faces i firsts e a = record {
@@ -53,7 +51,7 @@ module _ (s : Skeleton) (h : IsSkeleton s) where
     first = least s.faces.classes c
 
     class_of_first : slice_index s.faces.classes (face_number (face_of first)) ≡ c
-    class_of_first = ap (slice_index s.faces.classes) (number_back first) ∙ (least_at c l).is
+    class_of_first = ap (slice_index s.faces.classes) (number-face_of first) ∙ (least_at c l).is
 
     pub glued_two : (g : Gluing) → glue s.rows (face_of first) ≡ Some g → degree s.faces.classes c ≡ 2
     unfolding class_of

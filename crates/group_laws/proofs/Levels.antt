@@ -3,10 +3,11 @@ use Rattle.std.proofs.Common.{◌≡◌, ℕ, zero, suc, ◌+◌, ◌<◌, ◌�
 use Rattle.std.proofs.lemmas.Bool.{cases_lt, cases_eq}
 use Rattle.std.proofs.lemmas.List.{length_push}
 use Rattle.class_laws.proofs.FirstPlaces.{none_or_first}
-use Rattle.table_definitions.specs.Table.{Gluing, Row, Face, IsTable, glue}
+use Rattle.table_definitions.specs.Table.{Gluing, Row, IsTable, glue}
 use Rattle.table_definitions.specs.Places.{Place, whole, across, along}
 use Rattle.table_definitions.proofs.TableLaws.{glued_tet, glued_face}
 use Rattle.table_definitions.proofs.ChainLaws.{along-append, kept_along, crossed}
+use Rattle.table_definitions.proofs.Faces.{face_at}
 use Rattle.group_definitions.specs.Trees.{LeadsTo, IsDistance}
 
 -- ---- levels
@@ -17,9 +18,6 @@ pub record Level (rows : List Row) (k t : ℕ) : Type 0 where
   pub long : length crossed ≡ k
   pub led : LeadsTo rows crossed t
 
-abbrev pub mk : ℕ → ℕ → Face
-mk t f = record { tet = t; face = f }
-
 module _ (rows : List Row) where
   pub level_start : Level rows 0 0
   level_start = record { crossed = []; long = refl; led = refl }
@@ -27,7 +25,7 @@ module _ (rows : List Row) where
   whole_is : (p : Place) (t : ℕ) → p.vertices ≡ [] → p.tet ≡ t → p ≡ whole t
   whole_is p t v e = λ i. record { tet = e i; vertices = v i }
 
-  pub level_more : (k t f : ℕ) (g : Gluing) → Level rows k t → glue rows (mk t f) ≡ Some g → Level rows (suc k) g.tet
+  pub level_more : (k t f : ℕ) (g : Gluing) → Level rows k t → glue rows (face_at t f) ≡ Some g → Level rows (suc k) g.tet
   level_more k t f g h e = record {
     crossed = h.crossed ++ f ∷ [];
     long = let l : length (h.crossed ++ f ∷ []) ≡ length h.crossed + 1 = length_push h.crossed f in let m : length h.crossed ≡ k = h.long in omega arith;
@@ -53,7 +51,7 @@ module _ (rows : List Row) where
     pub face : ℕ
     pub gluing : Gluing
     pub level : Level rows k from
-    pub glued : glue rows (mk from face) ≡ Some gluing
+    pub glued : glue rows (face_at from face) ≡ Some gluing
     pub to : gluing.tet ≡ t
 
   bare : (fs : List ℕ) (p : Place) → along rows (whole 0) fs ≡ Some p → p.vertices ≡ []
@@ -101,29 +99,29 @@ module _ (rows : List Row) where
     face : ℕ
     gluing : Gluing
     level : Level rows k u
-    glued : glue rows (mk u face) ≡ Some gluing
+    glued : glue rows (face_at u face) ≡ Some gluing
     to : gluing.tet ≡ t
 
-  leads_or_not : (u f t : ℕ) → ((g : Gluing) × (glue rows (mk u f) ≡ Some g) × (g.tet ≡ t)) ⊎ ((g : Gluing) → glue rows (mk u f) ≡ Some g → g.tet ≡ t → ⊥)
-  leads_or_not u f t = by_glue (glue rows (mk u f)) refl
+  leads_or_not : (u f t : ℕ) → ((g : Gluing) × (glue rows (face_at u f) ≡ Some g) × (g.tet ≡ t)) ⊎ ((g : Gluing) → glue rows (face_at u f) ≡ Some g → g.tet ≡ t → ⊥)
+  leads_or_not u f t = by_glue (glue rows (face_at u f)) refl
     where
-      by_glue : (o : Option Gluing) → glue rows (mk u f) ≡ o → ((g : Gluing) × (glue rows (mk u f) ≡ Some g) × (g.tet ≡ t)) ⊎ ((g : Gluing) → glue rows (mk u f) ≡ Some g → g.tet ≡ t → ⊥)
+      by_glue : (o : Option Gluing) → glue rows (face_at u f) ≡ o → ((g : Gluing) × (glue rows (face_at u f) ≡ Some g) × (g.tet ≡ t)) ⊎ ((g : Gluing) → glue rows (face_at u f) ≡ Some g → g.tet ≡ t → ⊥)
       by_glue None e = inr (λ g d _. let z : None ≡ Some g = sym e ∙ d in absurd cc)
       by_glue (Some g) e = elim (cases_eq g.tet t) [
         | inl same ↦ inl (g, e, same)
         | inr other ↦ inr (λ h d same. let z : Some g ≡ Some h = sym e ∙ d in let w : g ≡ h = cc in other (ap (λ (b : Gluing). b.tet) w ∙ same))
       ]
 
-  pub leads_to_or_not : (u f t : ℕ) → ((g : Gluing) × (glue rows (mk u f) ≡ Some g) × (g.tet ≡ t)) ⊎ (((g : Gluing) × (glue rows (mk u f) ≡ Some g) × (g.tet ≡ t)) → ⊥)
+  pub leads_to_or_not : (u f t : ℕ) → ((g : Gluing) × (glue rows (face_at u f) ≡ Some g) × (g.tet ≡ t)) ⊎ (((g : Gluing) × (glue rows (face_at u f) ≡ Some g) × (g.tet ≡ t)) → ⊥)
   leads_to_or_not u f t = elim (leads_or_not u f t) [ inl h ↦ inl h | inr never ↦ inr (λ h. never h.0 h.1 h.2) ]
 
   -- whether a face leads on from a level
   module _ (table : IsTable rows) where
     through : (k u t : ℕ) → Level rows k u ⊎ (Level rows k u → ⊥) → Through k u t ⊎ (Through k u t → ⊥)
     through k u t (inr never) = inr (λ h. never h.level)
-    through k u t (inl level) = elim (none_or_first (λ f. (g : Gluing) × (glue rows (mk u f) ≡ Some g) × (g.tet ≡ t)) (λ f. leads_to_or_not u f t) 4) [
+    through k u t (inl level) = elim (none_or_first (λ f. (g : Gluing) × (glue rows (face_at u f) ≡ Some g) × (g.tet ≡ t)) (λ f. leads_to_or_not u f t) 4) [
       | inr one ↦ let h = one.2 in inl (record { face = one.0; gluing = h.0; level = level; glued = h.1; to = h.2 })
-      | inl none ↦ inr (λ h. none h.face (glued_face rows (mk u h.face) h.gluing table.four_faces h.glued) (h.gluing, h.glued, h.to))
+      | inl none ↦ inr (λ h. none h.face (glued_face rows (face_at u h.face) h.gluing table.four_faces h.glued) (h.gluing, h.glued, h.to))
     ]
 
     pub decide_level : (k t : ℕ) → Level rows k t ⊎ (Level rows k t → ⊥)
@@ -133,7 +131,7 @@ module _ (rows : List Row) where
     ]
     decide_level (suc k) t = elim (none_or_first (λ u. Through k u t) (λ u. through k u t (decide_level k u)) (length rows)) [
       | inr one ↦ let f = one.2 in inl (subst (Level rows (suc k)) f.to (level_more k one.0 f.face f.gluing f.level f.glued))
-      | inl none ↦ inr (λ h. let s = level_last k t h in none s.from (glued_tet rows (mk s.from s.face) s.gluing s.glued) (record { face = s.face; gluing = s.gluing; level = s.level; glued = s.glued; to = s.to }))
+      | inl none ↦ inr (λ h. let s = level_last k t h in none s.from (glued_tet rows (face_at s.from s.face) s.gluing s.glued) (record { face = s.face; gluing = s.gluing; level = s.level; glued = s.glued; to = s.to }))
     ]
 
     -- ---- distances

@@ -5,11 +5,11 @@ use Rattle.plain_facts.proofs.Members.{same_numbers}
 use Rattle.table_definitions.specs.Table.{Gluing, Row, face_number}
 use Rattle.table_definitions.specs.Classes.{least}
 use Rattle.table_definitions.specs.Places.{face_of, is_boundary_edge}
-use Rattle.skeleton_definitions.specs.Corners.{Corner, first_corner, GoesRound, IsWalk}
+use Rattle.skeleton_definitions.specs.Corners.{Corner, first_corner, GoesRound, IsWalk, left_through}
 use Rattle.skeleton_definitions.specs.Skeleton.{Skeleton}
 use Rattle.group_definitions.specs.Trees.{IsTreePath, evens, is_odd_number}
 use Rattle.group_definitions.specs.declared.Letter.{Letter}
-use Rattle.group_definitions.specs.Presentations.{letter_of, left_through, IsRelator, IsTurning, Presentation, IsPresentation}
+use Rattle.group_definitions.specs.Presentations.{letter_of, IsRelator, IsTurning, Presentation, IsPresentation}
 use Rattle.group_laws.proofs.TreeLaws.{one_path}
 
 -- ---- one walk

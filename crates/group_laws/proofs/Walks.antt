@@ -11,43 +11,32 @@ use Rattle.table_definitions.proofs.PermutationLaws.{is_odd-compose}
 use Rattle.table_definitions.proofs.Permutations.{compose_permutes}
 use Rattle.table_definitions.proofs.Computed.{computed}
 use Rattle.table_definitions.proofs.ListFacts.{list_all-below}
-use Rattle.skeleton_definitions.specs.Corners.{Corner, corner_behind, step, first_corner, corner_of, GoesRound, IsWalk}
+use Rattle.skeleton_definitions.specs.Corners.{Corner, corner_behind, step, first_corner, corner_of, GoesRound, IsWalk, left_through}
 use Rattle.skeleton_definitions.specs.Skeleton.{Skeleton, IsSkeleton}
 use Rattle.group_definitions.specs.Trees.{is_odd_number}
 use Rattle.group_definitions.specs.declared.Letter.{Letter}
-use Rattle.group_definitions.specs.Presentations.{letter_of, left_through, IsRelator, Presentation, IsPresentation}
+use Rattle.group_definitions.specs.Presentations.{letter_of, IsRelator, Presentation, IsPresentation}
 use Rattle.group_laws.specs.Laws.{turns}
 use Rattle.group_laws.proofs.Parity.{differs, differs_self, differs_false, differs_middle, odd_more, sign, turn}
 use Rattle.group_laws.proofs.Letters.{TurnsAs, letter_turns, zip_at}
+use Rattle.class_laws.specs.Rounds.{corner_word, swap}
+use Rattle.class_laws.proofs.RoundLemmas.{swap_permutes, corner_behind_permutes}
 
 -- ---- corners as permutations
 
-abbrev pub word_of : Corner → List ℕ
-word_of k = k.a ∷ k.b ∷ k.c ∷ k.d ∷ []
-
-abbrev exchanged : List ℕ
-exchanged = 0 ∷ 1 ∷ 3 ∷ 2 ∷ []
-
-exchanged_permutes : IsPermutationOfFour exchanged
+swap_odd : is_odd swap ≡ true
 unfolding computed
-exchanged_permutes = refl
+swap_odd = refl
 
-exchanged_odd : is_odd exchanged ≡ true
-unfolding computed
-exchanged_odd = refl
-
-word_behind : (k : Corner) (g : Gluing) → word_of (corner_behind k g) ≡ compose g.perm (compose (word_of k) exchanged)
+word_behind : (k : Corner) (g : Gluing) → corner_word (corner_behind k g) ≡ compose g.perm (compose (corner_word k) swap)
 unfolding computed
 word_behind k g = refl
 
-behind_permutes : (k : Corner) (g : Gluing) → IsPermutationOfFour g.perm → IsPermutationOfFour (word_of k) → IsPermutationOfFour (word_of (corner_behind k g))
-behind_permutes k g hg hk = subst IsPermutationOfFour (sym (word_behind k g)) (compose_permutes g.perm (compose (word_of k) exchanged) hg (compose_permutes (word_of k) exchanged hk exchanged_permutes))
-
 -- an even gluing changes the parity of the corner, and an odd one keeps it
-even_behind : (k : Corner) (g : Gluing) → IsPermutationOfFour g.perm → IsPermutationOfFour (word_of k) → not (is_odd g.perm) ≡ differs (is_odd (word_of k)) (is_odd (word_of (corner_behind k g)))
-even_behind k g hg hk = sym (ap (differs (is_odd (word_of k))) (ap is_odd (word_behind k g) ∙ is_odd-compose g.perm (compose (word_of k) exchanged) hg (compose_permutes (word_of k) exchanged hk exchanged_permutes)
-    ∙ ap (λ b. if is_odd g.perm then not b else b) (is_odd-compose (word_of k) exchanged hk exchanged_permutes ∙ ap (λ b. if is_odd (word_of k) then not b else b) exchanged_odd))
-    ∙ around (is_odd (word_of k)) (is_odd g.perm))
+even_behind : (k : Corner) (g : Gluing) → IsPermutationOfFour g.perm → IsPermutationOfFour (corner_word k) → not (is_odd g.perm) ≡ differs (is_odd (corner_word k)) (is_odd (corner_word (corner_behind k g)))
+even_behind k g hg hk = sym (ap (differs (is_odd (corner_word k))) (ap is_odd (word_behind k g) ∙ is_odd-compose g.perm (compose (corner_word k) swap) hg (compose_permutes (corner_word k) swap hk swap_permutes)
+    ∙ ap (λ b. if is_odd g.perm then not b else b) (is_odd-compose (corner_word k) swap hk swap_permutes ∙ ap (λ b. if is_odd (corner_word k) then not b else b) swap_odd))
+    ∙ around (is_odd (corner_word k)) (is_odd g.perm))
   where
     around : (a b : Bool) → differs a (if b then not (if a then not true else true) else (if a then not true else true)) ≡ not b
     around true true = refl
@@ -55,9 +44,9 @@ even_behind k g hg hk = sym (ap (differs (is_odd (word_of k))) (ap is_odd (word_
     around false true = refl
     around false false = refl
 
-first_permutes : (i : ℕ) → IsPermutationOfFour (word_of (first_corner i))
+first_permutes : (i : ℕ) → IsPermutationOfFour (corner_word (first_corner i))
 unfolding computed
-first_permutes i = list_all-below (λ e. is_permutation (word_of (corner_of 0 (ends e) (filter (λ v. not (has (ends e) v)) four)))) 6 refl (i % 6) (omega arith)
+first_permutes i = list_all-below (λ e. is_permutation (corner_word (corner_of 0 (ends e) (filter (λ v. not (has (ends e) v)) four)))) 6 refl (i % 6) (omega arith)
 
 module _ (s : Skeleton) (h : IsSkeleton s) (connected : IsConnected s.rows) where
   abbrev sign_at : ℕ → Bool
@@ -80,7 +69,7 @@ module _ (s : Skeleton) (h : IsSkeleton s) (connected : IsConnected s.rows) wher
 
   -- what is told of a corner
   abbrev mark : Corner → Bool
-  mark k = differs (sign_at k.tet) (is_odd (word_of k))
+  mark k = differs (sign_at k.tet) (is_odd (corner_word k))
 
   record Steps (k l : Corner) : Type 0 where
     g : Gluing
@@ -94,12 +83,12 @@ module _ (s : Skeleton) (h : IsSkeleton s) (connected : IsConnected s.rows) wher
       cases None d = let z : None ≡ Some l = ap (option_map (corner_behind k)) (sym d) ∙ e in absurd cc
       cases (Some g) d = let z : Some (corner_behind k g) ≡ Some l = ap (option_map (corner_behind k)) (sym d) ∙ e in let same : corner_behind k g ≡ l = cc in record { g = g; glued = d; is = same }
 
-  step_turns : (k l : Corner) → IsPermutationOfFour (word_of k) → Steps k l → (turn_at k ≡ differs (mark k) (mark l)) × IsPermutationOfFour (word_of l)
+  step_turns : (k l : Corner) → IsPermutationOfFour (corner_word k) → Steps k l → (turn_at k ≡ differs (mark k) (mark l)) × IsPermutationOfFour (corner_word l)
   unfolding turn
   step_turns k l hk w = (
     ap (turn_glued k.tet) w.glued ∙ ap (λ b. differs (sign_at k.tet) (differs b (sign_at w.g.tet))) (even_behind k w.g hg hk)
-        ∙ around (sign_at k.tet) (is_odd (word_of k)) (is_odd (word_of (corner_behind k w.g))) (sign_at w.g.tet) ∙ ap (λ c. differs (mark k) (mark c)) w.is,
-    subst (λ c. IsPermutationOfFour (word_of c)) w.is (behind_permutes k w.g hg hk),
+        ∙ around (sign_at k.tet) (is_odd (corner_word k)) (is_odd (corner_word (corner_behind k w.g))) (sign_at w.g.tet) ∙ ap (λ c. differs (mark k) (mark c)) w.is,
+    subst (λ c. IsPermutationOfFour (corner_word c)) w.is (corner_behind_permutes k w.g hg hk),
   )
     where
       hg : IsPermutationOfFour w.g.perm
@@ -123,7 +112,7 @@ module _ (s : Skeleton) (h : IsSkeleton s) (connected : IsConnected s.rows) wher
       around false false false true = refl
       around false false false false = refl
 
-  walk_turns : (first k : Corner) (ls : List Corner) → IsPermutationOfFour (word_of k) → GoesRound s.rows first k ls → total (k ∷ ls) ≡ differs (mark k) (mark first)
+  walk_turns : (first k : Corner) (ls : List Corner) → IsPermutationOfFour (corner_word k) → GoesRound s.rows first k ls → total (k ∷ ls) ≡ differs (mark k) (mark first)
   unfolding total
   walk_turns first k [] hk w = differs_false (turn_at k) ∙ (step_turns k first hk (steps k first w)).0
   walk_turns first k (l ∷ ls) hk w = let t = step_turns k l hk (steps k l w.0) in
@@ -162,9 +151,9 @@ module _ (s : Skeleton) (h : IsSkeleton s) (connected : IsConnected s.rows) wher
         by_letter (Some letter) e rest = ap (λ o. is_odd_number (count_by (turns p) (cons_option o (filter_map letter_at ks)))) e ∙ odd_more (turns p) letter (filter_map letter_at ks)
             ∙ ap₂ differs (told.some letter e ∙ turn_is_at) rest
 
-    walk_even : (first : Corner) (corners : List Corner) → IsPermutationOfFour (word_of first) → IsWalk s.rows first corners → is_odd_number (count_by (turns p) (filter_map letter_at corners)) ≡ false
+    walk_even : (first : Corner) (corners : List Corner) → IsPermutationOfFour (corner_word first) → IsWalk s.rows first corners → is_odd_number (count_by (turns p) (filter_map letter_at corners)) ≡ false
     walk_even first [] hf w = absurd w
-    walk_even first (k ∷ ks) hf w = letters_turn (k ∷ ks) (round_glued first k ks w.1) ∙ walk_turns first k ks (subst (λ c. IsPermutationOfFour (word_of c)) (sym w.0) hf) w.1
+    walk_even first (k ∷ ks) hf w = letters_turn (k ∷ ks) (round_glued first k ks w.1) ∙ walk_turns first k ks (subst (λ c. IsPermutationOfFour (corner_word c)) (sym w.0) hf) w.1
         ∙ ap (λ c. differs (mark c) (mark first)) w.0 ∙ differs_self (mark first)
 
     relator_even : (c : ℕ) (letters : List Letter) → IsRelator s p.generators c letters → is_odd_number (count_by (turns p) letters) ≡ false

@@ -7,6 +7,7 @@ use Rattle.table_definitions.specs.Table.{Gluing, Row, Face, IsTable, glue}
 use Rattle.table_definitions.specs.Relabelling.{Relabelling, IsRelabelling, Carries, stand_in, face_under, gluing_under}
 use Rattle.table_definitions.proofs.Permutations.{carried_twice, image_below, image-compose, preimage-image, image-inverse, inverse_permutes, compose_permutes}
 use Rattle.table_definitions.proofs.Carried.{stands_for, image_in_range, perm_permutes, comes_from, images_apart, StandsFor}
+use Rattle.table_definitions.proofs.Faces.{face_at}
 use Rattle.labelling_laws.proofs.Group.{back_again}
 use Rattle.labelling_laws.specs.Between.{place_of, back_of, inverted, after_of, after}
 use Rattle.labelling_laws.proofs.Standing.{made_stands, CanStand, made_relabelling, place_of-image}
@@ -43,9 +44,6 @@ carries_back rows new by table h c = record {
     n : ℕ
     n = length rows
 
-    mk : ℕ → ℕ → Face
-    mk a b = record { tet = a; face = b }
-
     back_at : (x : Face) → x.tet < n → x.face < 4
         → glue rows (face_under (stand_in (inverted n by) (slice_index by.images x.tet)) (face_under (stand_in by x.tet) x))
         ≡ option_map (λ g. gluing_under (stand_in (inverted n by) (slice_index by.images x.tet)) (stand_in (inverted n by) g.tet) g) (glue new (face_under (stand_in by x.tet) x))
@@ -54,7 +52,7 @@ carries_back rows new by table h c = record {
         let hs : IsPermutationOfFour s = perm_permutes n by h x.tet lt in
         let here = inverted_stands n by h x.tet lt in
         let home : image (inverse s) (image s x.face) ≡ x.face = image-inverse s (image s x.face) (image_below s hs x.face lf) ∙ preimage-image s hs x.face lf in
-        ap (λ (g : Gluing). glue rows (face_under g (face_under (stand_in by x.tet) x))) here ∙ ap (λ f. glue rows (mk x.tet f)) home
+        ap (λ (g : Gluing). glue rows (face_under g (face_under (stand_in by x.tet) x))) here ∙ ap (λ f. glue rows (face_at x.tet f)) home
         ∙ cases (glue rows x) refl
         ∙ ap (λ (b : Gluing). option_map (λ (g : Gluing). gluing_under b (stand_in (inverted n by) g.tet) g) (glue new (face_under (stand_in by x.tet) x))) (sym here)
       where
@@ -102,9 +100,6 @@ carries_on rows next last second first table h k c d = record {
     n : ℕ
     n = length rows
 
-    mk : ℕ → ℕ → Face
-    mk a b = record { tet = a; face = b }
-
     both : ℕ → Gluing
     both t = stand_in (after n second first) t
 
@@ -118,7 +113,7 @@ carries_on rows next last second first table h k c d = record {
         let m : slice_index first.images x.tet < n = image_in_range n first k x.tet lt in
         let m' : slice_index first.images x.tet < length next = omega (arith, long) in
         ap (λ (b : Gluing). glue last (face_under b x)) here
-        ∙ ap (λ f. glue last (mk (slice_index second.images (slice_index first.images x.tet)) f)) (image-compose p2 p1 h1 x.face lf)
+        ∙ ap (λ f. glue last (face_at (slice_index second.images (slice_index first.images x.tet)) f)) (image-compose p2 p1 h1 x.face lf)
         ∙ d.glued (face_under (stand_in first x.tet) x) m' (image_below p1 h1 x.face lf)
         ∙ cases (glue rows x) refl
       where

@@ -2,7 +2,7 @@
 use Rattle.std.proofs.Common.{◌≡◌, ℕ, ◌<◌, ◌≤◌, Bool, true, false, List, [], ◌∷◌, ◌++◌, length, get_or, refl, sym, ap, ◌∙◌, arith, ⊎_elim}
 use Rattle.std.specs.Prelude.{◌==◌, ◌||◌}
 use Rattle.std.specs.List.{slice_set}
-use Rattle.std.proofs.lemmas.Bool.{eqb-true, eq-eqb, cases_lt, cases_eq}
+use Rattle.std.proofs.lemmas.Bool.{eqb-true, eq-eqb, cases_lt, cases_eq, or_right}
 use Rattle.std.proofs.lemmas.List.{length-set, get_or_past, get_or_default}
 use Rattle.std.proofs.lemmas.List.Folds.{list_any-append}
 use Rattle.plain_facts.proofs.Truths.{by_bool}
@@ -33,15 +33,11 @@ push_marks order s marks l h t = ⊎_elim
     (λ (e : t ≡ s.tet).
     let there : get_or (slice_set marks s.tet true) t false ≡ true = rw e (mark_same marks s.tet l) in
     let here : (s.tet == t) ≡ true = eq-eqb s.tet t (sym e) in
-    there ∙ sym (is_met-push order s t ∙ or_here (is_met order t) (s.tet == t) here))
+    there ∙ sym (is_met-push order s t ∙ or_right (is_met order t) (s.tet == t) here))
     (λ (d : t ≡ s.tet → ⊥).
     let away : (s.tet == t) ≡ false = by_bool (s.tet == t) (λ e. absurd (d (sym (eqb-true s.tet t e)))) (λ e. e) in
     mark_other marks s.tet t d ∙ h t ∙ sym (is_met-push order s t ∙ ap (λ b. is_met order t || b) away ∙ or_false (is_met order t)))
     (cases_eq t s.tet)
-  where
-    or_here : (a b : Bool) → b ≡ true → (a || b) ≡ true
-    or_here true b h = refl
-    or_here false b h = h
 
 -- the marks once a gluing is followed
 pub follow_met : (from : Start) (g : Gluing) (order : List Start) (marks : List Bool) → AreMet order marks → g.tet < length marks → AreMet (follow (get_or marks g.tet false) from g order) (slice_set marks g.tet true)

@@ -8,12 +8,13 @@ use Rattle.std.proofs.lemmas.Map.Steps.{length-le_from_distinct_below}
 use Rattle.std.proofs.lemmas.Map.Views.{Contains-from_any}
 use Rattle.plain_facts.proofs.Truths.{by_bool}
 use Rattle.table_definitions.specs.Permutation.{IsPermutationOfFour, image}
-use Rattle.table_definitions.specs.Table.{Gluing, Row, Face, glue, IsTable}
+use Rattle.table_definitions.specs.Table.{Gluing, Row, glue, IsTable}
 use Rattle.table_definitions.specs.Places.{Place, IsConnected, whole, along}
 use Rattle.signature_definitions.specs.Labellings.{Start}
 use Rattle.table_definitions.proofs.Permutations.{image_below, preimage-image}
 use Rattle.table_definitions.proofs.Bijections.{IsDistinct-from_before}
 use Rattle.table_definitions.proofs.TableLaws.{glued_face}
+use Rattle.table_definitions.proofs.Faces.{face_at}
 use Rattle.labelling_laws.specs.Orders.{start_at, is_met, start_behind, face_from, take_face, order_after, whole_order, IsWholeOrder}
 use Rattle.labelling_laws.proofs.Growing.{met_from, met_at, Extends, extends_after, after_next, taken, untaken}
 use Rattle.labelling_laws.proofs.Sound.{IsOrder, order_holds}
@@ -114,11 +115,8 @@ met_across rows start t f g table h m e =
     let back : face_from s (image s.perm f) ≡ record { tet = t; face = f } = same_face at.2 (preimage-image s.perm p f lf) in
     met_from_number rows start at.0 (image s.perm f) g (omega arith) l (image_below s.perm p f lf) (ap (glue rows) back ∙ e)
   where
-    mk : ℕ → ℕ → Face
-    mk a b = record { tet = a; face = b }
-
-    same_face : {a b c d : ℕ} → a ≡ b → c ≡ d → mk a c ≡ mk b d
-    same_face p q = λ i. mk (p i) (q i)
+    same_face : {a b c d : ℕ} → a ≡ b → c ≡ d → face_at a c ≡ face_at b d
+    same_face p q = λ i. face_at (p i) (q i)
 
 -- a chain from one that is met leads to one that is met
 met_along : (rows : List Row) (start : Start) (fs : List ℕ) (t : ℕ) (q : Place) → IsTable rows → IsOrder rows start (whole_order rows start) → is_met (whole_order rows start) t ≡ true → along rows (whole t) fs ≡ Some q

@@ -5,7 +5,7 @@ use Rattle.std.proofs.lemmas.List.Elements.{All-more, All-weaker}
 use Rattle.cone_definitions.specs.Rows.{Row}
 use Rattle.cone_definitions.specs.Vectors.{unit}
 use Rattle.double_description.specs.Kepts.{rays_of}
-use Rattle.double_description.specs.Unordered.{HasSurfaces}
+use Rattle.cone_definitions.specs.Unordered.{HasSurfaces}
 use Rattle.late_columns.specs.declared.entering.LateRays.{LateRays}
 use Rattle.late_columns.specs.Late.{IsUnseen, held_rows, AreSeen, HaveEntered}
 use Rattle.late_columns.specs.Fresh.{IsLone}

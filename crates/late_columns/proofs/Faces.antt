@@ -6,7 +6,7 @@ use Rattle.cone_definitions.specs.Rows.{Row, IsSolution}
 use Rattle.cone_definitions.specs.Surfaces.{Clash, IsVertexSurface}
 use Rattle.row_operation_laws.specs.Solutions.{HaveSameSolutions}
 use Rattle.row_operation_laws.proofs.Kept.{surface_kept}
-use Rattle.double_description.specs.Unordered.{HasSurfaces}
+use Rattle.cone_definitions.specs.Unordered.{HasSurfaces}
 use Rattle.late_columns.specs.Late.{IsUnseen, held_rows}
 use Rattle.late_columns.proofs.Held.{held_solution, unseen_after, unseen_still}
 

@@ -16,9 +16,9 @@ use Rattle.double_description.specs.Clashes.{AreClashes}
 use Rattle.double_description.specs.Kepts.{rays_of, AreOfWidth}
 use Rattle.double_description.specs.Steps.{step_of}
 use Rattle.double_description.specs.Unions.{HaveSmallUnions}
-use Rattle.double_description.specs.Unordered.{HasSurfaces}
+use Rattle.cone_definitions.specs.Unordered.{HasSurfaces}
 use Rattle.double_description.proofs.KeptLemmas.{length-rays_of, ray_at-rays_of}
-use Rattle.double_description.proofs.UnorderedLemmas.{place_of}
+use Rattle.cone_definitions.proofs.Unordered.{place_of}
 use Rattle.solved_laws.specs.Fresh.{IsUntouched}
 use Rattle.late_columns.specs.declared.entering.LateRays.{LateRays}
 use Rattle.late_columns.specs.declared.fresh.Fresh.{Fresh}

@@ -16,7 +16,7 @@ use Rattle.double_description.specs.Kepts.{rays_of}
 use Rattle.double_description.specs.Steps.{step_of}
 use Rattle.double_description.specs.Signs.{IsBoundedSign, ComesFromPlaces, IsMadeUpTo}
 use Rattle.double_description.proofs.KeptLemmas.{rays_of-push}
-use Rattle.double_description.proofs.UnorderedLemmas.{place_is_one}
+use Rattle.cone_definitions.proofs.Unordered.{place_is_one}
 use Rattle.double_description.proofs.MadeLemmas.{sign_read, comes_read}
 use Rattle.solved_laws.proofs.Fresh.{set_zero}
 use Rattle.late_columns.specs.Raised.{IsLeft, HasRoom, AppendsRaised, ComesFromRaised, IsFreshStepAt, IsRaisedFrom}

@@ -8,9 +8,9 @@ use Rattle.cone_definitions.specs.Enumeration.{ComesFromPair}
 use Rattle.double_description.specs.declared.signs.Sign.{Sign}
 use Rattle.double_description.specs.declared.signs.Sign.TheVariants.{Zero, Positive, Negative}
 use Rattle.double_description.specs.Steps.{step_of}
-use Rattle.double_description.specs.Unordered.{HasSurfaces}
+use Rattle.cone_definitions.specs.Unordered.{HasSurfaces}
 use Rattle.double_description.specs.Signs.{IsSignAt, AreSigns, ComesFromPlaces}
-use Rattle.double_description.proofs.UnorderedLemmas.{place_of}
+use Rattle.cone_definitions.proofs.Unordered.{place_of}
 use Rattle.double_description.proofs.MadeLemmas.{comes_read}
 use Rattle.double_description.proofs.SurfaceSteps.{the_step, sign_at_place, pair_stands}
 use Rattle.solved_laws.specs.Fresh.{IsUntouched, IsFresh, IsRaised, ComesFromOthers}

@@ -7,7 +7,7 @@ use Rattle.std.proofs.lemmas.List.Sorted.{All-permutation, Contains-permutation}
 use Rattle.cone_definitions.specs.Rows.{Row}
 use Rattle.cone_definitions.specs.Surfaces.{Clash, IsVertexSurface, IsSurfaceList}
 use Rattle.cone_definitions.proofs.FromList.{ascending_from_sorted}
-use Rattle.double_description.specs.Unordered.{HasSurfaces}
+use Rattle.cone_definitions.specs.Unordered.{HasSurfaces}
 use Rattle.cone_laws.proofs.DistinctLemmas.{apart_permutation}
 
 pub sorted_surfaces : (columns : ℕ) (rows : List Row) (pairs : List Clash) (rays sorted : List (List ℕ)) → HasSurfaces columns rows pairs rays → IsPermutation rays sorted →

@@ -9,7 +9,7 @@ use Rattle.cone_definitions.specs.Rows.{Row, plus_part, minus_part}
 use Rattle.cone_definitions.specs.Surfaces.{Clash, PairsAreApart, IsVertexSurface}
 use Rattle.cone_definitions.proofs.Units.{entry-unit_same}
 use Rattle.cone_definitions.proofs.Entries.{nonzero_before}
-use Rattle.double_description.specs.Unordered.{HasSurfaces}
+use Rattle.cone_definitions.specs.Unordered.{HasSurfaces}
 use Rattle.solved_laws.specs.Fresh.{IsUntouched}
 use Rattle.solved_laws.proofs.Fresh.{units, columns_are_units}
 use Rattle.late_columns.specs.Late.{IsUnseen, held_rows}

@@ -6,7 +6,7 @@ ghost use Rattle.cone_definitions.specs.Rows.{Row};
 ghost use Rattle.double_description.specs.Clashes.{DecidesClashes};
 ghost use Rattle.double_description.specs.Kepts.{rays_of, AreOfWidth};
 ghost use Rattle.double_description.specs.Unions.{HaveSmallUnions, MakeSinglesPairs};
-ghost use Rattle.double_description.specs.Unordered.{HasSurfaces};
+ghost use Rattle.cone_definitions.specs.Unordered.{HasSurfaces};
 ghost use Rattle.ray_pairs.specs.Partners.{ArePartners};
 
 use cone_core::{MAX_ENTRY, SparseRow};

@@ -6,7 +6,7 @@ ghost use Rattle.cone_definitions.specs.Rows.{Row};
 ghost use Rattle.cone_definitions.specs.Surfaces.{Clash, IsSurfaceList};
 ghost use Rattle.double_description.specs.Clashes.{DecidesClashes};
 ghost use Rattle.double_description.specs.Kepts.{rays_of};
-ghost use Rattle.double_description.specs.Unordered.{HasSurfaces};
+ghost use Rattle.cone_definitions.specs.Unordered.{HasSurfaces};
 ghost use Rattle.late_columns.specs.Late.{AreLateOfFew, AreNextLate};
 ghost use Rattle.late_columns.specs.Fresh.{IsFreeColumn};
 ghost use Rattle.ray_pairs.specs.Partners.{ArePartners};

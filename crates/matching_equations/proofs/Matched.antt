@@ -8,10 +8,11 @@ use Rattle.std.proofs.lemmas.Grind.{flat_map-append}
 use Rattle.table_definitions.specs.Lists.{below}
 use Rattle.table_definitions.specs.Permutation.{four, others}
 use Rattle.table_definitions.specs.Table.{Gluing, Row, Face, glue, other_side, faces, is_face_before}
+use Rattle.table_definitions.proofs.Faces.{face_at}
 use Rattle.surface_definitions.specs.Coordinates.{columns}
 use Rattle.surface_definitions.specs.declared.Coords.{Coords}
 use Rattle.surface_definitions.specs.Equations.{Equation, matching, matching_equations, matching_rows, row_of, lesser_side, glued_pairs}
-use Rattle.matching_equations.specs.Matching.{glued_rows, face_rows, face_of, rows_if_lesser, tet_rows}
+use Rattle.matching_equations.specs.Matching.{glued_rows, face_rows, rows_if_lesser, tet_rows}
 use Rattle.coordinate_laws.proofs.Ranges.{filter-more, flat_map-more}
 
 abbrev pub Rows : Type 0
@@ -62,7 +63,7 @@ face_rows-boundary coords rows n x e = ap (rows_if_lesser coords n x) (sym e)
 pub appended_more : (f : ℕ → Rows) (k : ℕ) (old now new : Rows) → now ≡ old ++ flat_map f (below k) → new ≡ now ++ f k → new ≡ old ++ flat_map f (below (k + 1))
 appended_more f k old now new e g = g ∙ ap (λ r. r ++ f k) e ∙ append_assoc old (flat_map f (below k)) (f k) ∙ ap (λ r. old ++ r) (sym (flat_map-more f k))
 
-pub tet_whole : (coords : Coords) (rows : List Row) (n t : ℕ) → flat_map (λ f. face_rows coords rows n (face_of t f)) (below 4) ≡ tet_rows coords rows n t
+pub tet_whole : (coords : Coords) (rows : List Row) (n t : ℕ) → flat_map (λ f. face_rows coords rows n (face_at t f)) (below 4) ≡ tet_rows coords rows n t
 unfolding tet_rows
 tet_whole coords rows n t = refl
 

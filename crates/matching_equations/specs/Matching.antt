@@ -18,9 +18,6 @@ rows_if_lesser coords n x (Some g) = if is_face_before x (other_side x g) then g
 unfoldable pub face_rows : Coords → List Row → ℕ → Face → List (List (ℕ × ℤ))
 face_rows coords rows n x = rows_if_lesser coords n x (glue rows x)
 
-abbrev pub face_of : ℕ → ℕ → Face
-face_of t f = record { tet = t; face = f }
-
 -- the rows of the faces of a tetrahedron
 unfoldable pub tet_rows : Coords → List Row → ℕ → ℕ → List (List (ℕ × ℤ))
-tet_rows coords rows n t = flat_map (λ f. face_rows coords rows n (face_of t f)) four
+tet_rows coords rows n t = flat_map (λ f. face_rows coords rows n (record { tet = t; face = f })) four

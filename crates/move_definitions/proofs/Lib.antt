@@ -11,3 +11,4 @@ pub mod RelationExamples
 pub mod CertificateExamples
 pub mod MoveTests
 pub mod UndoExamples
+pub mod MoveLists

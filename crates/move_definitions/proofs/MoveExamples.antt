@@ -6,13 +6,11 @@ use Rattle.table_definitions.specs.Permutation.{four}
 use Rattle.text_definitions.specs.declared.LexFault.{LexFault}
 use Rattle.text_definitions.specs.Reading.{Reading, start_of, ◌>>=◌, need_line_at}
 use Rattle.move_definitions.specs.declared.MoveFault.TheVariants.{Boundary, Repeated, NotMatched}
-use Rattle.move_definitions.specs.Moves.{Move, inverse_move}
+use Rattle.move_definitions.specs.Moves.{inverse_move}
 use Rattle.move_definitions.specs.MoveText.{step_at, move_text, play, undo, Step}
 use Rattle.move_definitions.proofs.MoveEvaluators.{play_on}
+use Rattle.move_definitions.proofs.RelationExamples.{at}
 use Rattle.table_definitions.proofs.Tables.{sphere, four_tets, row, free, by}
-
-abbrev at : ℕ → List ℕ → Move
-at t core = record { tet = t; core = core }
 
 -- 14 0
 four_tets_lem : play_on sphere (at 0 four) ≡ Ok four_tets

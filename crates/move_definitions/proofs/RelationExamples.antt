@@ -1,6 +1,7 @@
 -- The relation of a move is met by tables of the examples.
 use Rattle.std.proofs.Common.{ℕ, List, [], ◌∷◌, refl}
 use Rattle.table_definitions.specs.Permutation.{four}
+use Rattle.table_definitions.specs.Table.{Row}
 use Rattle.move_definitions.specs.Moves.{Move, IsMoved}
 use Rattle.move_definitions.proofs.Computed.{computed}
 use Rattle.move_definitions.proofs.MoveTests.{IsMoved-passed}
@@ -14,6 +15,9 @@ pub moved_by_14 : IsMoved sphere (at 0 four) four_tets
 unfolding computed
 moved_by_14 = IsMoved-passed sphere (at 0 four) four_tets (record { core = refl; legal = refl; length_is = refl; fours = refl; inner = refl; outer = refl })
 
-moved_by_41 : IsMoved four_tets (at 0 (3 ∷ [])) (row (by 0 21) (by 0 9) (by 0 18) (by 0 21) ∷ [])
+abbrev pub one_tet : List Row
+one_tet = row (by 0 21) (by 0 9) (by 0 18) (by 0 21) ∷ []
+
+pub moved_by_41 : IsMoved four_tets (at 0 (3 ∷ [])) one_tet
 unfolding computed
-moved_by_41 = IsMoved-passed four_tets (at 0 (3 ∷ [])) (row (by 0 21) (by 0 9) (by 0 18) (by 0 21) ∷ []) (record { core = refl; legal = refl; length_is = refl; fours = refl; inner = refl; outer = refl })
+moved_by_41 = IsMoved-passed four_tets (at 0 (3 ∷ [])) one_tet (record { core = refl; legal = refl; length_is = refl; fours = refl; inner = refl; outer = refl })

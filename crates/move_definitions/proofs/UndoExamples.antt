@@ -1,15 +1,11 @@
 -- Moves of the examples are taken back.
-use Rattle.std.proofs.Common.{◌≡◌, List, [], ◌∷◌, refl}
+use Rattle.std.proofs.Common.{◌≡◌, [], ◌∷◌, refl}
 use Rattle.table_definitions.specs.Permutation.{four}
-use Rattle.table_definitions.specs.Table.{Row}
 use Rattle.table_definitions.proofs.RelationExamples.{sphere_table}
-use Rattle.table_definitions.proofs.Tables.{sphere, four_tets, row, by}
+use Rattle.table_definitions.proofs.Tables.{sphere, four_tets}
 use Rattle.move_definitions.specs.Undos.{undo_of, former, CanTakeBack}
 use Rattle.move_definitions.proofs.Computed.{computed}
-use Rattle.move_definitions.proofs.RelationExamples.{at, moved_by_14}
-
-abbrev one_tet : List Row
-one_tet = row (by 0 21) (by 0 9) (by 0 18) (by 0 21) ∷ []
+use Rattle.move_definitions.proofs.RelationExamples.{at, moved_by_14, one_tet}
 
 -- 14 0 on the sphere, and 41 0 3 on the table of four, where all rows are taken out
 back : (former four_tets (undo_of sphere (at 0 four)) ≡ sphere) × (former one_tet (undo_of four_tets (at 0 (3 ∷ []))) ≡ four_tets)

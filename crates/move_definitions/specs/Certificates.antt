@@ -23,6 +23,10 @@ IsStandard rows = IsRelabelled rows standard_sphere
 abbrev pub IsCertificate : List Row → List Move → Type 0
 IsCertificate rows moves = (last : List Row) × PlaysAll rows moves last × IsStandard last
 
+-- the moves of a tetrahedron with these cores
+abbrev pub moves_at : ℕ → List (List ℕ) → List Move
+moves_at t cores = map (λ core. record { tet = t; core = core }) cores
+
 -- the moves of n tetrahedra with these cores, by tetrahedron and then by core
 abbrev pub moves_with : List (List ℕ) → ℕ → List Move
 moves_with cores n = map (λ p. record { tet = p.0; core = p.1 }) (pairs_of (below n) cores)

@@ -105,10 +105,14 @@ new_facet rows m j = record { tet = kept rows m + j; missing = j; labels = filte
 abbrev pub label_by_label : Facet → Facet → List ℕ
 label_by_label f g = map (λ l. vertex_of g (in_place_of g.missing f.missing l)) f.labels
 
+-- how the old facet f goes to the new facet j
+abbrev pub facet_gluing : List Row → Move → Facet → ℕ → Gluing
+facet_gluing rows m f j = record { tet = (new_facet rows m j).tet; perm = label_by_label f (new_facet rows m j) }
+
 -- what stands in the new table for the old facet f at the face opposite label j: nothing between old facets, else the new facet j
 abbrev pub facet_stand_in : List Row → Move → Facet → ℕ → Option Gluing
 facet_stand_in rows m f j =
-    if nat_lt j (length m.core) then Some (record { tet = (new_facet rows m j).tet; perm = label_by_label f (new_facet rows m j) }) else None
+    if nat_lt j (length m.core) then Some (facet_gluing rows m f j) else None
 
 abbrev pub kept_stand_in : List Row → Move → ℕ → Gluing
 kept_stand_in rows m t = record { tet = closed_up (map (λ (f : Facet). f.tet) (old_facets rows m)) t; perm = identity }

@@ -3,10 +3,11 @@ use Rattle.std.proofs.Common.{◌≡◌, ℕ, ◌<◌, List, [], length, get_or,
 use Rattle.std.specs.Prelude.{◌⊎◌, All}
 use Rattle.std.proofs.lemmas.List.{ext_get_or}
 use Rattle.table_definitions.specs.Table.{Row, Face, glue}
+use Rattle.table_definitions.proofs.Faces.{face_at}
 use Rattle.move_definitions.specs.Moves.{Move, new_length, IsMoved}
 use Rattle.move_definitions.specs.Laws.{MovesAgree}
 use Rattle.move_laws.proofs.Legal.{no_fault}
-use Rattle.move_laws.proofs.Covered.{StandsForOld, IsInner, covered, face_at}
+use Rattle.move_laws.proofs.Covered.{StandsForOld, IsInner, covered}
 
 same_at : (old : List Row) (m : Move) (new new' : List Row) → IsMoved old m new → IsMoved old m new' → (y : Face) → StandsForOld old m y ⊎ IsInner old m y → glue new y ≡ glue new' y
 same_at old m new new' h h' y (inl s) =

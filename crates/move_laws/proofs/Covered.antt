@@ -8,18 +8,13 @@ use Rattle.table_definitions.specs.Table.{Gluing, Row, Face, IsTable}
 use Rattle.table_definitions.specs.Relabelling.{face_under}
 use Rattle.table_definitions.proofs.Permutations.{image-identity}
 use Rattle.table_definitions.proofs.InPlace.{in_place-same}
-use Rattle.move_definitions.specs.Moves.{Move, IsCore, Facet, opposite, facet, old_labels, new_length, new_facet, label_by_label, facet_stand_in, kept_stand_in, stand_in_of, stand_in_at, kept}
+use Rattle.table_definitions.proofs.Faces.{face_at}
+use Rattle.move_definitions.specs.Moves.{Move, IsCore, Facet, opposite, facet, old_labels, new_length, new_facet, label_by_label, facet_stand_in, kept_stand_in, stand_in_of, stand_in_at, kept, facet_gluing}
 use Rattle.move_definitions.proofs.CoreTests.{core_size}
 use Rattle.move_definitions.proofs.StandIns.{facet_stand_in-new}
 use Rattle.move_laws.proofs.Labels.{ascending, new_labels, HasLabel, label_at, HasVertex, vertex_at, length-labels, image-map}
 use Rattle.move_laws.proofs.ListedFacets.{not_found, is_found, comes_from, stays-count}
 use Rattle.move_laws.proofs.Legal.{IsFacet, facet_is, HasNoFault, old_facet, old_label, facets_apart, gone, gone_distinct, length-gone, gone_below}
-
-abbrev pub face_at : ℕ → ℕ → Face
-face_at t v = record { tet = t; face = v }
-
-abbrev pub gluing_to : ℕ → List ℕ → Gluing
-gluing_to t p = record { tet = t; perm = p }
 
 -- what stands for a kept tetrahedron, and for an old facet
 
@@ -30,9 +25,6 @@ pub stand_in-old : (rows : List Row) (m : Move) (i : ℕ) (f : Facet) (v : ℕ) 
     → stand_in_at rows m (face_at f.tet v) ≡ facet_stand_in rows m f (image f.labels v)
 stand_in-old rows m i f v h c low high e =
     ap (stand_in_of rows m (face_at f.tet v)) (is_found (facet rows m) (old_labels m) i f (facets_apart rows m h c) (old_label (length m.core) i (core_size m.core c).1 low high) e)
-
-abbrev pub facet_gluing : List Row → Move → Facet → ℕ → Gluing
-facet_gluing rows m f j = record { tet = (new_facet rows m j).tet; perm = label_by_label f (new_facet rows m j) }
 
 -- as many tetrahedra are kept as stay, and no fewer than those that are taken out were there
 pub kept-count : (rows : List Row) (m : Move) → IsTable rows → HasNoFault rows m → IsCore m.core → 5 - length m.core ≤ length rows

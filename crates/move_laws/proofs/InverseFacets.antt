@@ -7,13 +7,14 @@ use Rattle.table_definitions.specs.Permutation.{four, image, preimage, compose}
 use Rattle.table_definitions.specs.Table.{Row, glue, IsTable}
 use Rattle.table_definitions.proofs.TableLaws.{Among}
 use Rattle.table_definitions.proofs.Listed.{filter-among, pairs-among, first_some-nowhere}
+use Rattle.table_definitions.proofs.Faces.{face_at}
 use Rattle.move_definitions.specs.declared.MoveFault.TheVariants.{Repeated, NotMatched}
 use Rattle.move_definitions.specs.Moves.{Move, IsCore, Facet, own_facet, opposite, facet_behind, facet, found_labels, tets_before, facet_fault, pair_fault, is_matched, move_fault, kept, inverse_move, IsMoved}
 use Rattle.move_definitions.proofs.CoreTests.{core_size}
 use Rattle.move_laws.proofs.Labels.{ascending, new_labels, label_at, HasVertex, vertex_at, length-labels, image-map}
 use Rattle.move_laws.proofs.ListedFacets.{same_some, tets_of, IsOf, facet_with}
 use Rattle.move_laws.proofs.Legal.{facet-found, no_fault}
-use Rattle.move_laws.proofs.Covered.{face_at, kept-count}
+use Rattle.move_laws.proofs.Covered.{kept-count}
 use Rattle.move_laws.proofs.Renamed.{renamed, renamed_back, renamed-back, back-new, IsInverseCore, inverse_core, new_as_old_labels, renamed_labels, across, behind-renamed, match-renamed}
 
 -- the inverse, and new facet j as a facet of it
@@ -55,8 +56,8 @@ renamed-vertex s j l hs hj hl d =
 
 -- the facets of the inverse
 
-abbrev pub mk_facet : ℕ → ℕ → List ℕ → Facet
-mk_facet t i ls = record { tet = t; missing = i; labels = ls }
+abbrev pub facet_by : ℕ → ℕ → List ℕ → Facet
+facet_by t i ls = record { tet = t; missing = i; labels = ls }
 
 pub renamed_zero : (s : ℕ) → 0 < s → renamed s 0 ≡ 4
 unfolding renamed
@@ -65,9 +66,9 @@ renamed_zero s l = ap (λ (b : Bool). if b then (if 0 == 0 then 4 else 0 + (4 - 
 own_inverse : (old : List Row) (m : Move) (new : List Row) → IsPlayed old m new → own_facet (inverse_of old m) ≡ new_as_old old m 0
 own_inverse old m new p =
     let t : kept old m ≡ kept old m + 0 = omega arith in
-    ap (λ ls. mk_facet (kept old m) 4 ls) p.inverse_core.labels
-    ∙ ap (λ u. mk_facet u 4 (new_as_old_labels (length m.core) 0)) t
-    ∙ ap (λ i. mk_facet (kept old m + 0) i (new_as_old_labels (length m.core) 0)) (sym (renamed_zero (length m.core) p.some))
+    ap (λ ls. facet_by (kept old m) 4 ls) p.inverse_core.labels
+    ∙ ap (λ u. facet_by u 4 (new_as_old_labels (length m.core) 0)) t
+    ∙ ap (λ i. facet_by (kept old m + 0) i (new_as_old_labels (length m.core) 0)) (sym (renamed_zero (length m.core) p.some))
 
 renamed_found : (s j : ℕ) → 0 < j → j < s → renamed s j ≡ j + (4 - s)
 unfolding renamed
@@ -90,7 +91,7 @@ found_inverse old m new p j low high =
     facet-found new (inverse_of old m) (renamed s j) small
     ∙ ap (λ (f : Facet). option_map (facet_behind f (renamed s j)) (glue new (opposite f (renamed s j)))) (own_inverse old m new p)
     ∙ ap (option_map (facet_behind (new_as_old old m 0) (renamed s j))) (opposite-new old m new p 0 j p.some high (λ e. absurd (omega arith)))
-    ∙ ap (λ ls. Some (mk_facet (kept old m + j) (renamed s j) ls)) (behind-renamed s j few low high)
+    ∙ ap (λ ls. Some (facet_by (kept old m + j) (renamed s j) ls)) (behind-renamed s j few low high)
 
 pub facet-inverse : (old : List Row) (m : Move) (new : List Row) → IsPlayed old m new → (j : ℕ) → j < length m.core → facet new (inverse_of old m) (renamed (length m.core) j) ≡ Some (new_as_old old m j)
 facet-inverse old m new p zero l = ap (facet new (inverse_of old m)) (renamed_zero (length m.core) p.some) ∙ ap (λ (f : Facet). Some f) (own_inverse old m new p)

@@ -11,14 +11,15 @@ use Rattle.move_definitions.specs.Moves.{Move, Facet, opposite, facet, kept, fac
 use Rattle.move_definitions.specs.Laws.{InversesHaveCores, InversesLeadBackUpToLabels}
 use Rattle.table_definitions.proofs.ListFacts.{list_all-below}
 use Rattle.table_definitions.proofs.Permutations.{image_below, preimage_below, image-preimage, preimage-image, image-inverse, inverse_permutes, compose_permutes, image-compose, same_images, carried_twice}
+use Rattle.table_definitions.proofs.Faces.{face_at, gluing_to}
 use Rattle.move_definitions.proofs.CoreTests.{core_size}
 use Rattle.move_definitions.proofs.StandIns.{facet_stand_in-old}
 use Rattle.move_laws.proofs.ListedFacets.{same_some}
 use Rattle.move_laws.proofs.Labels.{AreLabels, ascending, new_labels, HasLabel, label_at, HasVertex, vertex_at, length-labels, image-map}
 use Rattle.move_laws.proofs.Legal.{IsFacet, facet_is, HasNoFault, no_fault, old_facet}
-use Rattle.move_laws.proofs.Covered.{gluing_to, face_at, StandsForOld, IsInner, covered, stand_in-old}
+use Rattle.move_laws.proofs.Covered.{StandsForOld, IsInner, covered, stand_in-old}
 use Rattle.move_laws.proofs.Matched.{AreGlued, old_glued, label_across}
-use Rattle.move_laws.proofs.Renamed.{renamed, renamed_back, back-renamed, renamed-old, renamed-new, renamed_below, renamed-place, new_as_old_labels, across, inverse_core}
+use Rattle.move_laws.proofs.Renamed.{renamed, renamed-old, renamed-new, renamed_below, renamed-place, new_as_old_labels, across, inverse_core, renamed_apart}
 use Rattle.move_laws.proofs.InverseFacets.{inverse_of, new_as_old, IsPlayed, played, facet-inverse, inverse_legal}
 use Rattle.move_laws.proofs.Placed.{moved_perm, moved_perm_permutes, place, facet_place, place-old, relabelling, stand_in-placed, is_relabelling, led_back, carries_back}
 use Rattle.move_laws.proofs.SecondStand.{kept-inverse, StandsAgain, stands_again, other_stands}
@@ -77,15 +78,9 @@ moved_across s i k a b q small low low' d ha hb hq e =
     label : (w : ℕ) → w < 4 → image (ascending j) (image pi w) ≡ renamed s (image a w)
     label w lw =
         let h : HasLabel i a w = label_at i a ha w lw in
-        let there : renamed s (image a w) ≢ j = apart (image a w) h.small h.present in
+        let there : renamed s (image a w) ≢ j = renamed_apart s i (image a w) small low ha.missing h.small h.present in
         ap (image (ascending j)) (image-map (λ x. preimage (ascending j) (renamed s x)) a w (rw (length-labels i a ha) lw))
         ∙ (vertex_at j (ascending j) (new_labels j (let m = ha.missing in omega arith)) (renamed s (image a w)) (renamed_below s (image a w) small h.small) there).label
-      where
-        apart : (x : ℕ) → x < 5 → x ≢ i → renamed s x ≢ j
-        apart x lx n z =
-            let back : renamed_back s (renamed s x) ≡ x = back-renamed s x small lx in
-            let here : renamed_back s (renamed s i) ≡ i = back-renamed s i small ha.missing in
-            n (sym back ∙ ap (renamed_back s) (z ∙ sym (renamed-old s i low)) ∙ here)
 
     at : (v : ℕ) → v < 4 → image (compose pk (compose q (inverse pi))) v ≡ image (across j l) v
     at v lv =

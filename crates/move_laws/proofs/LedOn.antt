@@ -9,13 +9,14 @@ use Rattle.table_definitions.specs.Lists.{below}
 use Rattle.table_definitions.specs.Permutation.{four, image}
 use Rattle.table_definitions.specs.Table.{Gluing, Row, Face, glue, IsTable}
 use Rattle.table_definitions.specs.Relabelling.{face_under}
+use Rattle.table_definitions.proofs.Faces.{face_at}
 use Rattle.move_definitions.specs.Moves.{Move, IsCore, opposite, new_length, new_facet, label_by_label, moved_gluing, stand_in_at}
 use Rattle.move_definitions.specs.Laws.{LegalMovesLeadOn}
 use Rattle.move_definitions.proofs.CoreTests.{core_size}
 use Rattle.move_laws.proofs.ListedFacets.{same_some}
 use Rattle.move_laws.proofs.Labels.{ascending, new_labels, HasVertex, vertex_at}
 use Rattle.move_laws.proofs.Legal.{HasNoFault, no_fault}
-use Rattle.move_laws.proofs.Covered.{face_at, StandsForOld, IsInner, covered}
+use Rattle.move_laws.proofs.Covered.{StandsForOld, IsInner, covered}
 use Rattle.move_laws.proofs.Shapes.{shape, IsKeptFace, IsFacetFace, stands_for_one, inner_stands_for_none, inner_once, stand_in_range}
 
 -- what a face is glued by, by that for which it stands

@@ -16,8 +16,9 @@ use Rattle.table_definitions.proofs.ListFacts.{list_all-below}
 use Rattle.table_definitions.proofs.Permutations.{inverse_permutes, compose_permutes}
 use Rattle.move_definitions.proofs.CoreTests.{core_size, own_permutes}
 use Rattle.move_laws.proofs.Labels.{AreLabels, own_labels}
-use Rattle.move_laws.proofs.ListedFacets.{same_some, Among_from_has, has_tet, tets_of, IsOf, facet_with, AreApart, is_distinct, tets_distinct, length-tets}
+use Rattle.move_laws.proofs.ListedFacets.{same_some, has_tet, tets_of, IsOf, facet_with, AreApart, is_distinct, tets_distinct, length-tets}
 use Rattle.table_definitions.proofs.Carried.{lesser}
+use Rattle.table_definitions.proofs.Listed.{has_among}
 use Rattle.move_laws.proofs.Renamed.{un_lt}
 
 -- labels that are found, all old labels, and labels before one
@@ -31,7 +32,7 @@ not_before i s c h l = let e : nat_lt i s ≡ false = le-ltb i s l in grind arit
 pub found_label : (s i : ℕ) → s < 5 → s ≤ i → i < 4 → Among i (drop s four)
 unfolding found_test
 found_label s i small low high =
-    Among_from_has (drop s four) i (not_before i s (has (drop s four) i) (list_all-below (λ i. found_test s i) 4 (list_all-below (λ s. list_all (λ i. found_test s i) (below 4)) 5 tests s small) i high) low)
+    has_among (drop s four) i (not_before i s (has (drop s four) i) (list_all-below (λ i. found_test s i) 4 (list_all-below (λ s. list_all (λ i. found_test s i) (below 4)) 5 tests s small) i high) low)
   where
     tests : list_all (λ s. list_all (λ i. found_test s i) (below 4)) (below 5) ≡ true
     tests = unfold found_test in refl
@@ -42,7 +43,7 @@ old_test s i = nat_lt i s || has (drop s (below 5)) i
 pub old_label : (s i : ℕ) → s < 5 → s ≤ i → i < 5 → Among i (drop s (below 5))
 unfolding old_test
 old_label s i small low high =
-    Among_from_has (drop s (below 5)) i (not_before i s (has (drop s (below 5)) i) (list_all-below (λ i. old_test s i) 5 (list_all-below (λ s. list_all (λ i. old_test s i) (below 5)) 5 refl s small) i high) low)
+    has_among (drop s (below 5)) i (not_before i s (has (drop s (below 5)) i) (list_all-below (λ i. old_test s i) 5 (list_all-below (λ s. list_all (λ i. old_test s i) (below 5)) 5 refl s small) i high) low)
 
 -- and only those are old labels
 label_range : ℕ → Bool
@@ -68,7 +69,7 @@ unfolding before_test
 label_before s k i small high low less =
     let at : before_test s k i ≡ true =
     list_all-below (λ i. before_test s k i) 5 (list_all-below (λ k. list_all (λ i. before_test s k i) (below 5)) 4 (list_all-below (λ s. list_all (λ k. list_all (λ i. before_test s k i) (below 5)) (below 4)) 5 refl s small) k high) i (omega arith) in
-    Among_from_has (filter (λ l. nat_lt l k) (drop s four)) i (last (not_before i s (has (filter (λ l. nat_lt l k) (drop s four)) i || not (nat_lt i k)) at low) (lt-ltb i k less))
+    has_among (filter (λ l. nat_lt l k) (drop s four)) i (last (not_before i s (has (filter (λ l. nat_lt l k) (drop s four)) i || not (nat_lt i k)) at low) (lt-ltb i k less))
   where
     last : (has (filter (λ l. nat_lt l k) (drop s four)) i || not (nat_lt i k)) ≡ true → nat_lt i k ≡ true → has (filter (λ l. nat_lt l k) (drop s four)) i ≡ true
     last h t = grind arith

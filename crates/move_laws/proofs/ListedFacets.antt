@@ -1,27 +1,16 @@
 -- What is found in a list of what a function gives of the numbers in a list.
-use Rattle.std.proofs.Common.{◌≡◌, ℕ, zero, suc, ◌+◌, ◌<◌, Bool, true, false, cond, List, [], ◌∷◌, length, map, get_or, Option, Some, None, refl, sym, ap, ◌∙◌, subst, arith, inl, inr}
+use Rattle.std.proofs.Common.{◌≡◌, ℕ, suc, ◌+◌, ◌<◌, Bool, true, false, cond, List, [], ◌∷◌, length, map, get_or, Option, Some, None, refl, sym, ap, ◌∙◌, subst, arith, inl, inr}
 use Rattle.std.specs.Prelude.{◌⊎◌, ◌==◌, ◌||◌, ◌&&◌, nat_lt, not, find, filter_map, count_by}
 use Rattle.std.specs.List.{cons_option}
 use Rattle.std.proofs.lemmas.List.Sums.{sum_by-cons}
-use Rattle.std.proofs.lemmas.Bool.{eqb-true, eq-eqb, and_parts, or_cases, false≢true, le-ltb, lt-ltb}
+use Rattle.std.proofs.lemmas.Bool.{eqb-true, eq-eqb, and_parts, or_cases, false≢true, lt-ltb}
 use Rattle.table_definitions.specs.Lists.{has, closed_up}
 use Rattle.table_definitions.proofs.TableLaws.{Among}
 use Rattle.move_definitions.specs.Moves.{Facet}
 use Rattle.table_definitions.specs.Replaceable.{gone_before}
-use Rattle.table_definitions.proofs.Ranks.{rank, one_if, stays, rank-suc, count_whole, of_rank, gone_before-suc}
-
-pub Among_from_has : (ns : List ℕ) (n : ℕ) → has ns n ≡ true → Among n ns
-Among_from_has [] n h = absurd (false≢true h)
-Among_from_has (m ∷ ns) n h = pick (or_cases (m == n) (has ns n) h) (λ t. Among_from_has ns n t)
-  where
-    pick : ((m == n) ≡ true) ⊎ (has ns n ≡ true) → (has ns n ≡ true → Among n ns) → Among n (m ∷ ns)
-    pick (inl e) later = inl (sym (eqb-true m n e))
-    pick (inr t) later = inr (later t)
-
-pub has_from_Among : (ns : List ℕ) (n : ℕ) → Among n ns → has ns n ≡ true
-has_from_Among [] n h = absurd h
-has_from_Among (m ∷ ns) n (inl e) = let t : (m == n) ≡ true = eq-eqb m n (sym e) in ap (λ b. b || has ns n) t
-has_from_Among (m ∷ ns) n (inr h) = let t : has ns n ≡ true = has_from_Among ns n h in grind arith
+use Rattle.table_definitions.proofs.Ranks.{rank, stays, count_whole, of_rank, stays_and_once}
+use Rattle.table_definitions.proofs.Listed.{among_has}
+use Rattle.plain_facts.proofs.Truths.{one_if}
 
 abbrev pub tet_of : Facet → ℕ
 tet_of f = f.tet
@@ -129,7 +118,7 @@ tets_distinct F (l ∷ ls) d a = by_head (F l) refl (tets_distinct F ls (and_par
         by_test true h =
             let o : IsOf F ls f.tet = facet_with F ls f.tet h in
             let same : o.label ≡ l = a o.label l o.facet f (inr o.among) (inl refl) o.is i o.tet in
-            let there : has ls l ≡ true = subst (λ k. has ls k ≡ true) same (has_from_Among ls o.label o.among) in
+            let there : has ls l ≡ true = subst (λ k. has ls k ≡ true) same (among_has ls o.label o.among) in
             let new : not (has ls l) ≡ true = (and_parts (not (has ls l)) (is_distinct ls) d).0 in
             absurd (let q : not (has ls l) ≡ false = ap not there in false≢true (sym q ∙ new))
 
@@ -169,23 +158,7 @@ times_one (x ∷ xs) t d =
     by_test false e new before = rw e (omega arith)
 
 pub stays_and_gone : (gone : List ℕ) (t : ℕ) → is_distinct gone ≡ true → rank (stays gone) t + gone_before gone t ≡ t
-stays_and_gone gone zero d =
-    let none : gone_before gone 0 ≡ 0 = none_before gone in
-    let z : rank (stays gone) 0 ≡ 0 = refl in
-    omega arith
-  where
-    none_before : (xs : List ℕ) → gone_before xs 0 ≡ 0
-    none_before [] = refl
-    none_before (x ∷ xs) =
-        let a : gone_before (x ∷ xs) 0 ≡ one_if (nat_lt x 0) + gone_before xs 0 = sum_by-cons (λ u. one_if (nat_lt u 0)) x xs in
-        let b : one_if (nat_lt x 0) ≡ 0 = ap one_if (le-ltb x 0 (omega arith)) in
-        omega (arith, none_before xs)
-stays_and_gone gone (suc t) d =
-    omega (arith, stays_and_gone gone t d, rank-suc (stays gone) t, gone_before-suc gone t, times_one gone t d, one_of (has gone t))
-  where
-    one_of : (b : Bool) → one_if (not b) + one_if b ≡ 1
-    one_of true = omega arith
-    one_of false = omega arith
+stays_and_gone gone t d = stays_and_once gone t (λ u. times_one gone u d)
 
 pub closed_up-rank : (gone : List ℕ) (t : ℕ) → is_distinct gone ≡ true → closed_up gone t ≡ rank (stays gone) t
 closed_up-rank gone t d = omega (arith, stays_and_gone gone t d)

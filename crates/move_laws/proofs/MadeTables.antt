@@ -15,10 +15,10 @@ use Rattle.table_definitions.proofs.Permutations.{image_below, image-inverse, in
 use Rattle.table_definitions.proofs.Carried.{IsGood, not_from, same_from, carried_back as turned}
 use Rattle.table_definitions.proofs.InPlace.{in_place-same}
 use Rattle.move_definitions.proofs.CoreTests.{core_size}
-use Rattle.table_definitions.proofs.Faces.{same_face-itself}
+use Rattle.table_definitions.proofs.Faces.{same_face-itself, face_at, gluing_to}
 use Rattle.move_laws.proofs.Labels.{ascending, new_labels, HasVertex, vertex_at, length-labels, image-map}
 use Rattle.move_laws.proofs.Legal.{HasNoFault, no_fault}
-use Rattle.move_laws.proofs.Covered.{gluing_to, face_at, StandsForOld, IsInner, covered}
+use Rattle.move_laws.proofs.Covered.{StandsForOld, IsInner, covered}
 use Rattle.move_laws.proofs.Renamed.{across}
 use Rattle.move_laws.proofs.SecondStand.{other_stands}
 use Rattle.move_laws.proofs.LedBack.{across_permutes, over_there, inverses_lead_back_lem}

@@ -14,10 +14,10 @@ use Rattle.table_definitions.proofs.ListFacts.{same_list-true}
 use Rattle.table_definitions.proofs.Permutations.{image_below, preimage_below, image-preimage, preimage-image, image-inverse, inverse_permutes, length-permutation}
 use Rattle.table_definitions.proofs.Listed.{Among-filter}
 use Rattle.table_definitions.proofs.InPlace.{in_place-back, in_place-same}
+use Rattle.table_definitions.proofs.Faces.{face_at}
 use Rattle.move_definitions.proofs.CoreTests.{core_size, own_permutes}
 use Rattle.move_laws.proofs.Labels.{AreLabels, label_at, HasVertex, vertex_at, length-labels, image-map}
 use Rattle.move_laws.proofs.Legal.{IsFacet, facet_is, HasNoFault, found_label, facet-found}
-use Rattle.move_laws.proofs.Covered.{face_at}
 
 -- the face of f opposite label k is glued to g, label k going to label i and the others staying
 pub record AreGlued (rows : List Row) (i k : ℕ) (f g : Facet) : Type 0 where

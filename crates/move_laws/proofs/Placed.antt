@@ -17,10 +17,11 @@ use Rattle.table_definitions.specs.Moved.{moved_row}
 use Rattle.table_definitions.proofs.Ranks.{rank, stays, at_rank, StandsAt, ranks_apart}
 use Rattle.table_definitions.proofs.Bijections.{onto, IsDistinct-from_before}
 use Rattle.table_definitions.proofs.Moves.{carries_from}
+use Rattle.table_definitions.proofs.Faces.{gluing_to, tet_of, perm_of}
 use Rattle.move_laws.proofs.Labels.{AreLabels, ascending, on_labels, label_tests}
 use Rattle.move_laws.proofs.ListedFacets.{same_some, found_by, not_found, is_found, closed_up-rank, stays-count}
 use Rattle.move_laws.proofs.Legal.{facet_is, HasNoFault, old_label, facets_apart, gone, gone_distinct, length-gone, gone_below, OldFacet, gone_facet}
-use Rattle.move_laws.proofs.Covered.{gluing_to, kept-count}
+use Rattle.move_laws.proofs.Covered.{kept-count}
 use Rattle.move_definitions.proofs.CoreTests.{core_size}
 use Rattle.move_laws.proofs.Renamed.{renamed, given_le}
 
@@ -102,12 +103,6 @@ place_cases old m t table h c l = by_test (has (gone old m) t) refl
     by_test true e = inr (by_facet (gone_facet old m t c e))
 
 -- places are in range, apart, and permute the vertices
-abbrev tet_of : Gluing → ℕ
-tet_of g = g.tet
-
-abbrev perm_of : Gluing → List ℕ
-perm_of g = g.perm
-
 pub place_below : (old : List Row) (m : Move) (t : ℕ) → IsTable old → HasNoFault old m → IsCore m.core → t < length old → (place old m t).tet < length old
 place_below old m t table h c l =
     let fits : 5 - length m.core ≤ length old = kept-count old m table h c in

@@ -1,5 +1,5 @@
 -- The labels of a move and those of its inverse, where the core of the move has s vertices.
-use Rattle.std.proofs.Common.{◌≡◌, ℕ, ◌+◌, ◌-◌, ◌<◌, ◌≤◌, Bool, true, false, List, length, map, drop, refl, ap, arith}
+use Rattle.std.proofs.Common.{◌≡◌, ℕ, ◌+◌, ◌-◌, ◌<◌, ◌≤◌, Bool, true, false, List, length, map, drop, refl, ap, arith, sym, ◌∙◌}
 use Rattle.std.specs.Prelude.{◌==◌, ◌&&◌, ◌||◌, ◌≢◌, nat_lt, not, filter, if◌then◌else◌}
 use Rattle.std.specs.List.{list_all}
 use Rattle.std.proofs.lemmas.Bool.{eqb-true, ltb-true, lt-ltb, le-ltb, and_parts}
@@ -67,6 +67,13 @@ back_test s l = renamed_back s (renamed s l) == l
 pub back-renamed : (s l : ℕ) → s < 5 → l < 5 → renamed_back s (renamed s l) ≡ l
 unfolding back_test renamed renamed_back
 back-renamed s l hs hl = eqb-true (renamed_back s (renamed s l)) l (two_at back_test refl s l hs hl)
+
+-- labels that differ are renamed to labels that differ
+pub renamed_apart : (s i x : ℕ) → s < 5 → s ≤ i → i < 5 → x < 5 → x ≢ i → renamed s x ≢ i - s
+renamed_apart s i x small low high lx n z =
+    let back : renamed_back s (renamed s x) ≡ x = back-renamed s x small lx in
+    let here : renamed_back s (renamed s i) ≡ i = back-renamed s i small high in
+    n (sym back ∙ ap (renamed_back s) (z ∙ sym (renamed-old s i low)) ∙ here)
 
 forth_test : ℕ → ℕ → Bool
 forth_test s l = renamed s (renamed_back s l) == l

@@ -5,14 +5,15 @@ use Rattle.table_definitions.specs.Lists.{has, closed_up}
 use Rattle.table_definitions.specs.Permutation.{IsPermutationOfFour, image, preimage}
 use Rattle.table_definitions.specs.Table.{Gluing, Row, Face, IsTable}
 use Rattle.table_definitions.specs.Relabelling.{face_under}
-use Rattle.move_definitions.specs.Moves.{Move, IsCore, Facet, facet, new_length, kept, kept_stand_in, stand_in_at}
+use Rattle.move_definitions.specs.Moves.{Move, IsCore, Facet, facet, new_length, kept, kept_stand_in, stand_in_at, facet_gluing}
 use Rattle.table_definitions.proofs.Permutations.{image_below, identity_permutes, image-identity}
 use Rattle.table_definitions.proofs.Ranks.{rank, stays, ranks_apart}
+use Rattle.table_definitions.proofs.Faces.{face_at}
 use Rattle.move_definitions.proofs.CoreTests.{core_size}
 use Rattle.move_laws.proofs.Labels.{ascending, new_labels, HasLabel, label_at, vertex_at}
 use Rattle.move_laws.proofs.ListedFacets.{same_some, closed_up-rank}
 use Rattle.move_laws.proofs.Legal.{IsFacet, facet_is, HasNoFault, gone, gone_distinct, OldFacet, gone_facet}
-use Rattle.move_laws.proofs.Covered.{face_at, stand_in-kept, facet_gluing, crossed, IsInner}
+use Rattle.move_laws.proofs.Covered.{stand_in-kept, crossed, IsInner}
 use Rattle.move_laws.proofs.Placed.{closed_up_small, stays_true}
 use Rattle.move_laws.proofs.SecondStand.{crossing, crossing_permutes, HasNewLabel, has_new_label}
 

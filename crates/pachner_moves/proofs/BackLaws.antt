@@ -16,14 +16,14 @@ use Rattle.table_definitions.proofs.TableLaws.{glued_tet, glued_face}
 use Rattle.table_definitions.proofs.Faces.{there_and_back, back_again}
 use Rattle.table_definitions.proofs.Permutations.{image_below}
 use Rattle.table_definitions.specs.Replaceable.{fresh_numbers, fresh_glue, IsFreed, CanReplace}
-use Rattle.table_definitions.proofs.Ranks.{rank, stays, closed_up-rank, at_rank}
+use Rattle.table_definitions.proofs.Ranks.{rank, stays, closed_up-rank, at_rank, rank_all}
 use Rattle.table_definitions.proofs.Kept.{IsKeptAs, kept_as, length-replaced, fresh_row_at, kept_row_at, glue-fresh, glue-kept}
 use Rattle.table_definitions.proofs.FreshRows.{fresh_tet, length-fresh_row, back_is}
-use Rattle.move_definitions.specs.Moves.{Move, Facet, kept, kept_stand_in, stand_in_at, moved_gluing, IsMoved, Plays}
+use Rattle.move_definitions.specs.Moves.{Move, Facet, kept, kept_stand_in, stand_in_at, moved_gluing, IsMoved, Plays, facet_gluing}
 use Rattle.move_definitions.specs.Undos.{Undo, taken_numbers, undo_of, back_exchange, former, CanTakeBack, IsTakenBack, TakesBack}
-use Rattle.pachner_moves.specs.Facets.{stands_for, numbered}
+use Rattle.pachner_moves.specs.Facets.{numbered}
 use Rattle.pachner_moves.proofs.LegalLaws.{IsLegal, legal_from}
-use Rattle.pachner_moves.proofs.NumberLaws.{numbers-of, row-of, has-range, range-has, not-has, range-up, range-within, picked-up, picked-within, rank-all, filter-has}
+use Rattle.pachner_moves.proofs.NumberLaws.{numbers-of, row-of, has-range, range-has, not-has, range-up, range-within, picked-up, picked-within, filter-has}
 use Rattle.pachner_moves.proofs.ListedLaws.{tets, old_of_tet, taken-has, length-taken, enough, stand_kept}
 use Rattle.pachner_moves.proofs.StandLaws.{under_kept, closes, stand_put, face_at, outer_label}
 use Rattle.pachner_moves.proofs.ExchangeLaws.{one_face}
@@ -89,7 +89,7 @@ number-back old m new t h l free =
     let gone : List ℕ = range_with_len (kept old m) (length m.core) in
     let ascends = AllPairs-from_increasing gone (range-up (kept old m) (length m.core)) in
     let place : closed_up gone u ≡ rank (stays (taken_numbers old m)) t =
-    closed_up-rank gone u ascends ∙ rank-all (stays gone) u (λ v q. ap not (gone-not old m v (omega arith))) ∙ sym c.rank_is in
+    closed_up-rank gone u ascends ∙ rank_all (stays gone) u (λ v q. ap not (gone-not old m v (omega arith))) ∙ sym c.rank_is in
     let same : rank (stays (taken_numbers old m)) t ≡ rank (stays (fresh_numbers (back old m))) t = ap (λ (ns : List ℕ). rank (stays ns) t) (sym (saved-numbers old m)) in
     let n = back-length old m new h in
     ap (λ i. get_or (free_numbers new (back old m)) i 0) (place ∙ same)
@@ -107,7 +107,7 @@ record LedTo (old : List Row) (m : Move) (x : Face) (g : Gluing) : Type 0 where
   f : Facet
   j : ℕ
   new : j < length m.core
-  at : stand_in_at old m (other_side x g) ≡ Some (stands_for old m f j)
+  at : stand_in_at old m (other_side x g) ≡ Some (facet_gluing old m f j)
 
 led_to : (old : List Row) (m : Move) (x : Face) (g : Gluing) → IsLegal old m → x.face < 4 → has (tets old m) x.tet ≡ false → glue old x ≡ Some g → has (tets old m) g.tet ≡ true → LedTo old m x g
 led_to old m x g legal l free e h =
@@ -130,7 +130,7 @@ freed_back old m new x g h s free =
     let home : glue old y ≡ Some (way_back x g) = table.leads_back x g s.glued in
     let led = led_to old m y (way_back x g) h.legal ly free home s.taken in
     let k : Gluing = kept_stand_in old m g.tet in
-    let put : Gluing = gluing_under k (stands_for old m led.f led.j) (way_back x g) in
+    let put : Gluing = gluing_under k (facet_gluing old m led.f led.j) (way_back x g) in
     let fewer = (closes old m g.tet h.legal inside free).fewer in
     let n = h.moved.length_is in
     let new_label = led.new in
@@ -192,7 +192,7 @@ kept_again old m new x (Some g) h lt l free e = by_test (has (tets old m) g.tet)
         let led = led_to old m x g h.legal l free e q in
         let new_label = led.new in
         let s : Gluing = kept_stand_in old m x.tet in
-        let put : Gluing = gluing_under s (stands_for old m led.f led.j) g in
+        let put : Gluing = gluing_under s (facet_gluing old m led.f led.j) g in
         let y : Face = other_side x g in
         let home : fresh_glue (back old m) y ≡ Some (way_back x g) = saved-glue old m y inside q ∙ h.legal.table.leads_back x g e in
         let to_kept : has (fresh_numbers (back old m)) x.tet ≡ false = saved-has old m x.tet lt ∙ free in

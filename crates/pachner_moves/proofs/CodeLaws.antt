@@ -13,9 +13,9 @@ use Rattle.table_definitions.specs.Permutation.{image}
 use Rattle.table_definitions.specs.Table.{Gluing, Row, Face}
 use Rattle.table_definitions.proofs.Bijections.{range-push, below-push}
 use Rattle.table_definitions.proofs.Ranks.{rank, length-picked, at_rank}
-use Rattle.move_definitions.specs.Moves.{Move, Facet, facet, old_facets, new_facet, facet_stand_in, kept_stand_in, stand_in_of, stand_in_at}
+use Rattle.move_definitions.specs.Moves.{Move, Facet, facet, old_facets, new_facet, facet_stand_in, kept_stand_in, stand_in_of, stand_in_at, facet_gluing}
 use Rattle.move_definitions.specs.Undos.{taken_numbers}
-use Rattle.pachner_moves.specs.Facets.{IsOldFacet, AreOldFacets, stands_for, outer_gluing, fresh_gluing}
+use Rattle.pachner_moves.specs.Facets.{IsOldFacet, AreOldFacets, outer_gluing, fresh_gluing}
 
 -- the first facet of a tetrahedron
 
@@ -109,4 +109,4 @@ fresh_is rows m facets own label size f old es low high is =
     let F : IsOldFacet rows m label f =
     subst (λ k. IsOldFacet rows m k f) at (subst (λ (g : Facet). IsOldFacet rows m (length m.core + (label - size)) g) (sym is) (old.each (label - size) f (omega arith))) in
     ap (option_and_then (λ g. outer_gluing rows m g own)) (sym F.found)
-    ∙ ap (λ b. cond b (Some (stands_for rows m (new_facet rows m own) label)) (option_and_then (λ g. outer_gluing rows m g own) (facet rows m label))) (sym (le-ltb label (length m.core) (omega arith)))
+    ∙ ap (λ b. cond b (Some (facet_gluing rows m (new_facet rows m own) label)) (option_and_then (λ g. outer_gluing rows m g own) (facet rows m label))) (sym (le-ltb label (length m.core) (omega arith)))

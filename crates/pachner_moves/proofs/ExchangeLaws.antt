@@ -16,15 +16,15 @@ use Rattle.table_definitions.proofs.Permutations.{identity_permutes, image-ident
 use Rattle.table_definitions.proofs.InPlace.{in_place-same}
 use Rattle.table_definitions.proofs.Faces.{there_and_back}
 use Rattle.table_definitions.specs.Replaceable.{fresh_numbers, fresh_glue, IsFreed, CanReplace}
-use Rattle.table_definitions.proofs.Ranks.{rank, stays, closed_up-rank, at_rank}
+use Rattle.table_definitions.proofs.Ranks.{rank, stays, closed_up-rank, at_rank, rank_all}
 use Rattle.table_definitions.proofs.Carried.{not_from, same_from, same_to}
-use Rattle.move_definitions.specs.Moves.{Move, Facet, vertex_of, opposite, kept, new_length, new_facet, label_by_label, stand_in_at, moved_gluing}
+use Rattle.move_definitions.specs.Moves.{Move, Facet, vertex_of, opposite, kept, new_length, new_facet, label_by_label, stand_in_at, moved_gluing, facet_gluing}
 use Rattle.move_definitions.specs.Undos.{taken_numbers}
-use Rattle.pachner_moves.specs.Facets.{IsOldFacet, stands_for, fresh_gluing, put_row, put_rows, exchange}
+use Rattle.pachner_moves.specs.Facets.{IsOldFacet, fresh_gluing, put_row, put_rows, exchange}
 use Rattle.pachner_moves.proofs.LabelLaws.{by_permutes, by_back, vertex_by}
 use Rattle.pachner_moves.proofs.FacetLaws.{new_is_facet, core_few}
 use Rattle.pachner_moves.proofs.LegalLaws.{IsLegal, same_facet, label_in}
-use Rattle.pachner_moves.proofs.NumberLaws.{range-up, range-within, picked-up, picked-within, rank-all}
+use Rattle.pachner_moves.proofs.NumberLaws.{range-up, range-within, picked-up, picked-within}
 use Rattle.pachner_moves.proofs.ListedLaws.{tets, tet_of_old, taken-has}
 use Rattle.pachner_moves.proofs.StandLaws.{side_under, way_under, under_permutes, closes, closed-apart, StandsKept, StandsPut, stands, vertex_small, stand_put, put_permutes, put_face}
 use Rattle.pachner_moves.proofs.PutLaws.{put-numbers, put-length, is-put, put-is, not-put, glue-inner, glue-outer, LeadsIn, LeadsOut, leads}
@@ -38,7 +38,7 @@ number-kept rows m t legal l free =
     let u : ℕ = closed_up (tets rows m) t in
     let up = AllPairs-from_increasing (taken_numbers rows m) (picked-up (has (tets rows m)) (length rows)) in
     let place : closed_up (taken_numbers rows m) t ≡ rank (stays (fresh_numbers (exchange rows m))) u =
-    closed_up-rank (taken_numbers rows m) t up ∙ r ∙ sym (rank-all (stays (fresh_numbers (exchange rows m))) u (λ v q. ap not (not-put rows m v (omega arith)))) in
+    closed_up-rank (taken_numbers rows m) t up ∙ r ∙ sym (rank_all (stays (fresh_numbers (exchange rows m))) u (λ v q. ap not (not-put rows m v (omega arith)))) in
     let n = put-length rows m legal in
     ap (λ i. get_or (free_numbers rows (exchange rows m)) i 0) place
     ∙ (at_rank (stays (fresh_numbers (exchange rows m))) (replaced_length rows (exchange rows m)) u (omega arith) (ap not (not-put rows m u (omega arith)))).is
@@ -53,18 +53,18 @@ record Outer (rows : List Row) (m : Move) (x : Face) (g : Gluing) : Type 0 where
   there : Gluing
   old : IsOldFacet rows m i f
   own : j < length m.core
-  at : x ≡ face_under (stands_for rows m f j) (opposite f j)
-  is : g ≡ gluing_under (stands_for rows m f j) there before
+  at : x ≡ face_under (facet_gluing rows m f j) (opposite f j)
+  is : g ≡ gluing_under (facet_gluing rows m f j) there before
   glued : glue rows (opposite f j) ≡ Some before
   stands : stand_in_at rows m (other_side (opposite f j) before) ≡ Some there
   small : vertex_of f j < 4
   permutes : IsPermutationOfFour before.perm
-  here_permutes : IsPermutationOfFour (stands_for rows m f j).perm
+  here_permutes : IsPermutationOfFour (facet_gluing rows m f j).perm
   there_permutes : IsPermutationOfFour there.perm
   there_small : (other_side (opposite f j) before).face < 4
   there_in_range : before.tet < length rows
   side : other_side x g ≡ face_under there (other_side (opposite f j) before)
-  back : way_back x g ≡ gluing_under there (stands_for rows m f j) (way_back (opposite f j) before)
+  back : way_back x g ≡ gluing_under there (facet_gluing rows m f j) (way_back (opposite f j) before)
 
 there_is : (rows : List Row) (m : Move) (y : Face) (r : Gluing) → IsLegal rows m → StandsKept rows m y r ⊎ StandsPut rows m y r → IsPermutationOfFour r.perm
 there_is rows m y r legal (inl k) = subst (λ (s : Gluing). IsPermutationOfFour s.perm) (sym k.is) identity_permutes
@@ -72,7 +72,7 @@ there_is rows m y r legal (inr p) = subst (λ (s : Gluing). IsPermutationOfFour 
 
 outer : (rows : List Row) (m : Move) (x : Face) (g : Gluing) → IsLegal rows m → LeadsOut rows m x g → Outer rows m x g
 outer rows m x g legal o =
-    let s : Gluing = stands_for rows m o.f o.j in
+    let s : Gluing = facet_gluing rows m o.f o.j in
     let a : Face = opposite o.f o.j in
     let small = vertex_small rows m o.i o.j o.f legal o.old o.own in
     let h = legal.table.permutes a o.before o.glued in
@@ -154,7 +154,7 @@ kinds rows m x g legal e = of (leads rows m x g legal e)
 put_gluing_permutes : (rows : List Row) (m : Move) (x : Face) (g : Gluing) → IsLegal rows m → Kinds rows m x g → IsPermutationOfFour g.perm
 put_gluing_permutes rows m x g legal (inl i) = subst (λ (h : Gluing). IsPermutationOfFour h.perm) (sym i.is) (in_permutes rows m i.j i.l legal i.own i.new i.other)
 put_gluing_permutes rows m x g legal (inr o) =
-    subst (λ (h : Gluing). IsPermutationOfFour h.perm) (sym o.is) (under_permutes (stands_for rows m o.f o.j) o.there o.before o.here_permutes o.there_permutes o.permutes)
+    subst (λ (h : Gluing). IsPermutationOfFour h.perm) (sym o.is) (under_permutes (facet_gluing rows m o.f o.j) o.there o.before o.here_permutes o.there_permutes o.permutes)
 
 put_in_range : (rows : List Row) (m : Move) (x : Face) (g : Gluing) → IsLegal rows m → Kinds rows m x g → g.tet < replaced_length rows (exchange rows m)
 put_in_range rows m x g legal (inl i) = let t : g.tet ≡ kept rows m + i.l = tet_of g _ i.is in let n = put-length rows m legal in let b = i.new in omega arith
@@ -223,7 +223,7 @@ back_in rows m x g legal (inl i) h =
     let few = core_few m.core legal.core in
     let own = i.own in
     let new = i.new in
-    let way : way_back x g ≡ stands_for rows m (new_facet rows m i.l) i.j =
+    let way : way_back x g ≡ facet_gluing rows m (new_facet rows m i.l) i.j =
     ap (λ (y : Face). way_back y g) i.at ∙ ap (way_back (opposite (new_facet rows m i.j) i.l)) i.is
     ∙ ap (λ (p : List ℕ). record { tet = kept rows m + i.j; perm = p }) (by_back (new_facet rows m i.j) (new_facet rows m i.l) (new_is_facet rows m i.j (omega arith)) (new_is_facet rows m i.l (omega arith)) (λ e. i.other (sym e))) in
     ap (fresh_glue (exchange rows m)) (in_side rows m x g legal i) ∙ glue-inner rows m i.l i.j legal i.new i.own (λ e. i.other (sym e)) ∙ ap (λ (k : Gluing). Some k) (sym way)
@@ -239,8 +239,8 @@ back_in rows m x g legal (inr o) h = by_stand (outer_stands rows m x g legal o)
         absurd (omega arith)
     by_stand (inr p) =
         let a : Face = opposite o.f o.j in
-        let s : Gluing = stands_for rows m o.f o.j in
-        let r : Gluing = stands_for rows m p.f p.j in
+        let s : Gluing = facet_gluing rows m o.f o.j in
+        let r : Gluing = facet_gluing rows m p.f p.j in
         let back : glue rows (opposite p.f p.j) ≡ Some (way_back a o.before) = ap (glue rows) (sym p.at) ∙ legal.table.leads_back a o.before o.glued in
         let home : other_side (opposite p.f p.j) (way_back a o.before) ≡ a = ap (λ (y : Face). other_side y (way_back a o.before)) (sym p.at) ∙ there_and_back a o.before o.permutes o.small in
         let carried : moved_gluing rows m (opposite p.f p.j) r (way_back a o.before) ≡ Some (gluing_under r s (way_back a o.before)) =
@@ -322,7 +322,7 @@ one_by rows m x z g h legal kx kz kept_x e =
     let um = u.old.missing_is in
     let ul = u.old.old_label in
     let j : o.j ≡ u.j = sym (u.old.labelled.label_back o.j (omega arith) (λ s. absurd (omega arith))) ∙ ap (image u.f.labels) v ∙ u.old.labelled.label_back u.j (omega arith) (λ s. absurd (omega arith)) in
-    o.at ∙ ap (λ (k : Facet). face_under (stands_for rows m k o.j) (opposite k o.j)) f ∙ ap (λ n. face_under (stands_for rows m u.f n) (opposite u.f n)) j ∙ sym u.at
+    o.at ∙ ap (λ (k : Facet). face_under (facet_gluing rows m k o.j) (opposite k o.j)) f ∙ ap (λ n. face_under (facet_gluing rows m u.f n) (opposite u.f n)) j ∙ sym u.at
 
 pub can_exchange : (rows : List Row) (m : Move) → IsLegal rows m → new_length rows m ≤ max_tets → CanReplace rows (exchange rows m)
 can_exchange rows m legal fits = record {

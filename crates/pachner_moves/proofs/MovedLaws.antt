@@ -17,8 +17,8 @@ use Rattle.table_definitions.proofs.Kept.{IsKeptAs, kept_as, length-replaced, gl
 use Rattle.table_definitions.proofs.FreshRows.{back_is}
 use Rattle.table_definitions.proofs.Replaced.{replaced_is_table}
 use Rattle.move_definitions.specs.declared.MoveFault.TheVariants.{TooMany}
-use Rattle.move_definitions.specs.Moves.{Move, Facet, old_facets, vertex_of, opposite, move_fault, IsCore, kept, new_length, new_facet, kept_stand_in, stand_in_at, moved_gluing, IsMoved, Plays}
-use Rattle.pachner_moves.specs.Facets.{IsOldFacet, AreOldFacets, CanPlay, put_rows, stands_for, exchange}
+use Rattle.move_definitions.specs.Moves.{Move, Facet, old_facets, vertex_of, opposite, move_fault, IsCore, kept, new_length, new_facet, kept_stand_in, stand_in_at, moved_gluing, IsMoved, Plays, facet_gluing}
+use Rattle.pachner_moves.specs.Facets.{IsOldFacet, AreOldFacets, CanPlay, put_rows, exchange}
 use Rattle.pachner_moves.proofs.LegalLaws.{IsLegal, legal_from}
 use Rattle.pachner_moves.proofs.ListedLaws.{tets, old_of_tet, taken-has, are_old, stand_kept}
 use Rattle.pachner_moves.proofs.NumberLaws.{picked-within}
@@ -53,7 +53,7 @@ to_old : (rows : List Row) (m : Move) (x : Face) (g : Gluing) (i j : ℕ) (f : F
     → back_to_fresh (exchange rows m) (kept_place rows m x) ≡ moved_gluing rows m x (kept_stand_in rows m x.tet) g
 to_old rows m x g i j f legal can l free glued F new at =
     let s : Gluing = kept_stand_in rows m x.tet in
-    let r : Gluing = stands_for rows m f j in
+    let r : Gluing = facet_gluing rows m f j in
     let permutes = legal.table.permutes x g glued in
     let back : glue rows (opposite f j) ≡ Some (way_back x g) = ap (glue rows) (sym at) ∙ legal.table.leads_back x g glued in
     let home : other_side (opposite f j) (way_back x g) ≡ x = ap (λ (y : Face). other_side y (way_back x g)) (sym at) ∙ there_and_back x g permutes l in
@@ -132,9 +132,9 @@ moves rows m c = record {
         ∙ glue-kept rows (exchange rows m) x.tet (closed_up (tets rows m) x.tet) x.face kept l ∙ kept_moved rows m x (glue rows x) c.legal can lt l k.free refl
         ∙ ap (λ (t : Gluing). option_and_then (moved_gluing rows m x t) (glue rows x)) (sym k.is)
     outer_at x s lt l (inr p) =
-        ap (λ (t : Gluing). glue (changed rows m) (face_under t x)) p.is ∙ ap (λ (y : Face). glue (changed rows m) (face_under (stands_for rows m p.f p.j) y)) p.at
+        ap (λ (t : Gluing). glue (changed rows m) (face_under t x)) p.is ∙ ap (λ (y : Face). glue (changed rows m) (face_under (facet_gluing rows m p.f p.j) y)) p.at
         ∙ ap (glue (changed rows m)) (put_face rows m p.i p.j p.f c.legal p.old p.new) ∙ put_in rows m p.j (vertex_of (new_facet rows m p.j) p.i) c.legal p.new ∙ glue-outer rows m p.i p.j p.f c.legal p.old p.new
-        ∙ ap (λ (y : Face). option_and_then (moved_gluing rows m y (stands_for rows m p.f p.j)) (glue rows y)) (sym p.at)
+        ∙ ap (λ (y : Face). option_and_then (moved_gluing rows m y (facet_gluing rows m p.f p.j)) (glue rows y)) (sym p.at)
         ∙ ap (λ (t : Gluing). option_and_then (moved_gluing rows m x t) (glue rows x)) (sym p.is)
 
 -- a move that is not at fault

@@ -12,10 +12,11 @@ use Rattle.table_definitions.specs.Lists.{has, below}
 use Rattle.table_definitions.specs.Table.{Row}
 use Rattle.table_definitions.specs.Replacing.{fresh_row}
 use Rattle.table_definitions.specs.Replaceable.{gone_before}
-use Rattle.table_definitions.proofs.Ranks.{picked, rank, rank-suc, length-picked, of_rank, at_rank, one_if}
+use Rattle.table_definitions.proofs.Ranks.{picked, rank, rank-suc, length-picked, of_rank, at_rank}
 use Rattle.table_definitions.proofs.Bijections.{get_or-any}
 use Rattle.gluing_table.proofs.Opened.{has-none}
 use Rattle.pachner_moves.specs.Facets.{numbered}
+use Rattle.plain_facts.proofs.Truths.{one_if}
 
 -- each number stands at one place
 abbrev pub Apart : List ℕ → Type 0
@@ -27,13 +28,6 @@ rank-same p q (suc t) same =
     let before = rank-same p q t (λ u l. same u (omega arith)) in
     let here : one_if (p t) ≡ one_if (q t) = ap one_if (same t (omega arith)) in
     omega (arith, rank-suc p t, rank-suc q t)
-
-pub rank-all : (p : ℕ → Bool) (t : ℕ) → ((u : ℕ) → u < t → p u ≡ true) → rank p t ≡ t
-rank-all p zero all = refl
-rank-all p (suc t) all =
-    let before = rank-all p t (λ u l. all u (omega arith)) in
-    let here : one_if (p t) ≡ 1 = ap one_if (all t (omega arith)) in
-    omega (arith, rank-suc p t)
 
 rank-nothing : (t : ℕ) → rank (has []) t ≡ 0
 rank-nothing zero = refl

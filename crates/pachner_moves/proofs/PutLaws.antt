@@ -12,9 +12,9 @@ use Rattle.table_definitions.specs.Replacing.{replaced_length, fresh_row}
 use Rattle.table_definitions.specs.Relabelling.{gluing_under}
 use Rattle.table_definitions.specs.Replaceable.{fresh_numbers, fresh_glue}
 use Rattle.table_definitions.proofs.FreshRows.{fresh_tet}
-use Rattle.move_definitions.specs.Moves.{Move, Facet, vertex_of, opposite, facet, kept, new_length, new_facet, stand_in_at, moved_gluing}
+use Rattle.move_definitions.specs.Moves.{Move, Facet, vertex_of, opposite, facet, kept, new_length, new_facet, stand_in_at, moved_gluing, facet_gluing}
 use Rattle.move_definitions.specs.Undos.{taken_numbers}
-use Rattle.pachner_moves.specs.Facets.{IsFacet, IsOldFacet, stands_for, outer_gluing, fresh_gluing, put_row, put_rows, exchange}
+use Rattle.pachner_moves.specs.Facets.{IsFacet, IsOldFacet, outer_gluing, fresh_gluing, put_row, put_rows, exchange}
 use Rattle.pachner_moves.proofs.FacetLaws.{new_is_facet, core_few}
 use Rattle.pachner_moves.proofs.LegalLaws.{IsLegal, label_in}
 use Rattle.pachner_moves.proofs.NumberLaws.{numbers-of, row-of, has-range, range-has, not-has}
@@ -59,18 +59,18 @@ glue-opposite rows m j l new few small other =
     let N = new_is_facet rows m j (omega arith) in
     glue-put rows m j (vertex_of (new_facet rows m j) l) new few (N.vertex_below l small other) ∙ ap (fresh_gluing rows m j) (N.label_back l small other)
 
-pub glue-inner : (rows : List Row) (m : Move) (j l : ℕ) → IsLegal rows m → j < length m.core → l < length m.core → l ≢ j → fresh_glue (exchange rows m) (opposite (new_facet rows m j) l) ≡ Some (stands_for rows m (new_facet rows m j) l)
+pub glue-inner : (rows : List Row) (m : Move) (j l : ℕ) → IsLegal rows m → j < length m.core → l < length m.core → l ≢ j → fresh_glue (exchange rows m) (opposite (new_facet rows m j) l) ≡ Some (facet_gluing rows m (new_facet rows m j) l)
 glue-inner rows m j l legal nj nl other =
     let few = core_few m.core legal.core in
     glue-opposite rows m j l nj few (omega arith) other
-    ∙ ap (λ b. if◌then◌else◌ {A = Option Gluing} b (Some (stands_for rows m (new_facet rows m j) l)) (option_and_then (λ f. outer_gluing rows m f j) (facet rows m l))) (lt-ltb l (length m.core) nl)
+    ∙ ap (λ b. if◌then◌else◌ {A = Option Gluing} b (Some (facet_gluing rows m (new_facet rows m j) l)) (option_and_then (λ f. outer_gluing rows m f j) (facet rows m l))) (lt-ltb l (length m.core) nl)
 
 pub glue-outer : (rows : List Row) (m : Move) (i j : ℕ) (f : Facet) → IsLegal rows m → IsOldFacet rows m i f → j < length m.core → fresh_glue (exchange rows m) (opposite (new_facet rows m j) i) ≡ outer_gluing rows m f j
 glue-outer rows m i j f legal F nj =
     let few = core_few m.core legal.core in
     let low = F.old_label in
     glue-opposite rows m j i nj few (label_in rows m i f F) (λ e. absurd (omega arith))
-    ∙ ap (λ b. if◌then◌else◌ {A = Option Gluing} b (Some (stands_for rows m (new_facet rows m j) i)) (option_and_then (λ f. outer_gluing rows m f j) (facet rows m i))) (le-ltb i (length m.core) low)
+    ∙ ap (λ b. if◌then◌else◌ {A = Option Gluing} b (Some (facet_gluing rows m (new_facet rows m j) i)) (option_and_then (λ f. outer_gluing rows m f j) (facet rows m i))) (le-ltb i (length m.core) low)
     ∙ ap (option_and_then (λ f. outer_gluing rows m f j)) F.found
 
 -- a glued face of a new facet: it leads to a new facet, or stands for one of an old facet
@@ -82,7 +82,7 @@ pub record LeadsIn (rows : List Row) (m : Move) (x : Face) (g : Gluing) : Type 0
   pub new : l < length m.core
   pub other : l ≢ j
   pub at : x ≡ opposite (new_facet rows m j) l
-  pub is : g ≡ stands_for rows m (new_facet rows m j) l
+  pub is : g ≡ facet_gluing rows m (new_facet rows m j) l
 
 pub record LeadsOut (rows : List Row) (m : Move) (x : Face) (g : Gluing) : Type 0 where
   pub i : ℕ
@@ -95,7 +95,7 @@ pub record LeadsOut (rows : List Row) (m : Move) (x : Face) (g : Gluing) : Type 
   pub at : x ≡ opposite (new_facet rows m j) i
   pub glued : glue rows (opposite f j) ≡ Some before
   pub stands : stand_in_at rows m (other_side (opposite f j) before) ≡ Some there
-  pub is : g ≡ gluing_under (stands_for rows m f j) there before
+  pub is : g ≡ gluing_under (facet_gluing rows m f j) there before
 
 abbrev Leads : List Row → Move → Face → Gluing → Type 0
 Leads rows m x g = LeadsIn rows m x g ⊎ LeadsOut rows m x g
@@ -104,18 +104,18 @@ leads_by : (rows : List Row) (m : Move) (x : Face) (g : Gluing) (j l : ℕ) → 
 leads_by rows m x g j l legal e N own small other at = by_label (cases_lt l (length m.core))
   where
     by_stand : (f : Facet) (h : Gluing) (o : Option Gluing) → IsOldFacet rows m l f → glue rows (opposite f j) ≡ Some h → stand_in_at rows m (other_side (opposite f j) h) ≡ o
-        → option_map (λ r. gluing_under (stands_for rows m f j) r h) o ≡ Some g → Leads rows m x g
+        → option_map (λ r. gluing_under (facet_gluing rows m f j) r h) o ≡ Some g → Leads rows m x g
     by_stand f h None F glued q s = absurd cc
     by_stand f h (Some r) F glued q s =
         inr (record { i = l; j = j; f = f; before = h; there = r; old = F; own = own; at = at; glued = glued; stands = q; is = cc })
 
-    by_glue : (f : Facet) (o : Option Gluing) → IsOldFacet rows m l f → glue rows (opposite f j) ≡ o → option_and_then (moved_gluing rows m (opposite f j) (stands_for rows m f j)) o ≡ Some g → Leads rows m x g
+    by_glue : (f : Facet) (o : Option Gluing) → IsOldFacet rows m l f → glue rows (opposite f j) ≡ o → option_and_then (moved_gluing rows m (opposite f j) (facet_gluing rows m f j)) o ≡ Some g → Leads rows m x g
     by_glue f None F q s = absurd cc
     by_glue f (Some h) F q s = by_stand f h (stand_in_at rows m (other_side (opposite f j) h)) F q refl s
 
     by_label : (l < length m.core) ⊎ (length m.core ≤ l) → Leads rows m x g
     by_label (inl new) =
-        let z : Some (stands_for rows m (new_facet rows m j) l) ≡ Some g = sym (glue-inner rows m j l legal own new other) ∙ ap (fresh_glue (exchange rows m)) (sym at) ∙ e in
+        let z : Some (facet_gluing rows m (new_facet rows m j) l) ≡ Some g = sym (glue-inner rows m j l legal own new other) ∙ ap (fresh_glue (exchange rows m)) (sym at) ∙ e in
         inl (record { j = j; l = l; own = own; new = new; other = other; at = at; is = cc })
     by_label (inr old) =
         let o = legal.facet_at l old small in

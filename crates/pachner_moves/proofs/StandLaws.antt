@@ -9,10 +9,10 @@ use Rattle.table_definitions.specs.Relabelling.{face_under, gluing_under}
 use Rattle.table_definitions.proofs.Permutations.{inverse_permutes, compose_permutes, identity-compose, compose-identity, inverse-identity}
 use Rattle.table_definitions.proofs.Ranks.{rank, stays, closed_up-rank, at_rank, ranks_apart, stays-count}
 use Rattle.std.proofs.lemmas.List.Kept.{AllPairs-from_increasing}
-use Rattle.move_definitions.specs.Moves.{Move, Facet, vertex_of, opposite, kept, new_facet, label_by_label, facet_stand_in, kept_stand_in, stand_in_at}
+use Rattle.move_definitions.specs.Moves.{Move, Facet, vertex_of, opposite, kept, new_facet, label_by_label, facet_stand_in, kept_stand_in, stand_in_at, facet_gluing}
 use Rattle.move_definitions.specs.Undos.{taken_numbers}
 use Rattle.move_definitions.proofs.StandIns.{facet_stand_in-new, facet_stand_in-old}
-use Rattle.pachner_moves.specs.Facets.{IsFacet, IsOldFacet, stands_for}
+use Rattle.pachner_moves.specs.Facets.{IsFacet, IsOldFacet}
 use Rattle.pachner_moves.proofs.LabelLaws.{by_permutes, vertex_by}
 use Rattle.pachner_moves.proofs.FacetLaws.{new_is_facet, core_few}
 use Rattle.pachner_moves.proofs.LegalLaws.{IsLegal}
@@ -80,7 +80,7 @@ pub record StandsPut (rows : List Row) (m : Move) (x : Face) (s : Gluing) : Type
   pub old : IsOldFacet rows m i f
   pub new : j < length m.core
   pub at : x ≡ opposite f j
-  pub is : s ≡ stands_for rows m f j
+  pub is : s ≡ facet_gluing rows m f j
 
 pub face_at : (f : Facet) (x : Face) → IsFacet f → x.tet ≡ f.tet → x.face < 4 → x ≡ opposite f (image f.labels x.face)
 face_at f x F e l =
@@ -92,7 +92,7 @@ stands rows m x s legal l e = by_test (has (tets rows m) x.tet) refl
   where
     by_label : (i : ℕ) (f : Facet) → IsOldFacet rows m i f → f.tet ≡ x.tet → (image f.labels x.face < length m.core) ⊎ (length m.core ≤ image f.labels x.face) → StandsPut rows m x s
     by_label i f F t (inl b) =
-        let z : Some (stands_for rows m f (image f.labels x.face)) ≡ Some s = sym (facet_stand_in-new rows m f (image f.labels x.face) b) ∙ sym (stand_old rows m i f x legal F (sym t)) ∙ e in
+        let z : Some (facet_gluing rows m f (image f.labels x.face)) ≡ Some s = sym (facet_stand_in-new rows m f (image f.labels x.face) b) ∙ sym (stand_old rows m i f x legal F (sym t)) ∙ e in
         record { i = i; j = image f.labels x.face; f = f; old = F; new = b; at = face_at f x F.labelled (sym t) l; is = cc }
     by_label i f F t (inr b) =
         let z : None ≡ Some s = sym (facet_stand_in-old rows m f (image f.labels x.face) b) ∙ sym (stand_old rows m i f x legal F (sym t)) ∙ e in
@@ -121,11 +121,11 @@ label_again rows m i j f legal F l =
     let b = F.old_label in
     F.labelled.label_back j (omega arith) (λ e. absurd (omega arith))
 
-pub stand_put : (rows : List Row) (m : Move) (i j : ℕ) (f : Facet) → IsLegal rows m → IsOldFacet rows m i f → j < length m.core → stand_in_at rows m (opposite f j) ≡ Some (stands_for rows m f j)
+pub stand_put : (rows : List Row) (m : Move) (i j : ℕ) (f : Facet) → IsLegal rows m → IsOldFacet rows m i f → j < length m.core → stand_in_at rows m (opposite f j) ≡ Some (facet_gluing rows m f j)
 stand_put rows m i j f legal F l =
     stand_old rows m i f (opposite f j) legal F refl ∙ ap (facet_stand_in rows m f) (label_again rows m i j f legal F l) ∙ facet_stand_in-new rows m f j l
 
-pub put_permutes : (rows : List Row) (m : Move) (i j : ℕ) (f : Facet) → IsLegal rows m → IsOldFacet rows m i f → j < length m.core → IsPermutationOfFour (stands_for rows m f j).perm
+pub put_permutes : (rows : List Row) (m : Move) (i j : ℕ) (f : Facet) → IsLegal rows m → IsOldFacet rows m i f → j < length m.core → IsPermutationOfFour (facet_gluing rows m f j).perm
 put_permutes rows m i j f legal F l =
     let few = core_few m.core legal.core in
     let a = F.missing_is in
@@ -133,7 +133,7 @@ put_permutes rows m i j f legal F l =
     by_permutes f (new_facet rows m j) F.labelled (new_is_facet rows m j (omega arith)) (λ e. absurd (omega arith))
 
 -- its place is taken by the face of the new facet opposite the old label
-pub put_face : (rows : List Row) (m : Move) (i j : ℕ) (f : Facet) → IsLegal rows m → IsOldFacet rows m i f → j < length m.core → face_under (stands_for rows m f j) (opposite f j) ≡ opposite (new_facet rows m j) i
+pub put_face : (rows : List Row) (m : Move) (i j : ℕ) (f : Facet) → IsLegal rows m → IsOldFacet rows m i f → j < length m.core → face_under (facet_gluing rows m f j) (opposite f j) ≡ opposite (new_facet rows m j) i
 put_face rows m i j f legal F l =
     let few = core_few m.core legal.core in
     let a = F.missing_is in

@@ -4,7 +4,7 @@ use Rattle.std.specs.List.{slice_index_or, range_with_len}
 use Rattle.table_definitions.specs.Permutation.{image}
 use Rattle.table_definitions.specs.Table.{Gluing, Row, IsTable, glue}
 use Rattle.table_definitions.specs.Replacing.{Replacement}
-use Rattle.move_definitions.specs.Moves.{Move, IsCore, Facet, facet, vertex_of, opposite, play_fault, old_facets, kept, new_facet, label_by_label, moved_gluing}
+use Rattle.move_definitions.specs.Moves.{Move, IsCore, Facet, facet, vertex_of, opposite, play_fault, old_facets, kept, new_facet, moved_gluing, facet_gluing}
 use Rattle.move_definitions.specs.Undos.{taken_numbers}
 
 -- each label but the missing one is that of one vertex
@@ -33,18 +33,14 @@ pub record AreOldFacets (rows : List Row) (m : Move) (facets : List Facet) : Typ
   pub few : length (taken_numbers rows m) ≤ 4
   pub each : (k : ℕ) (d : Facet) → k < length facets → IsOldFacet rows m (length m.core + k) (slice_index_or facets k d)
 
--- what stands for the old facet f at its face opposite the new label j
-abbrev pub stands_for : List Row → Move → Facet → ℕ → Gluing
-stands_for rows m f j = record { tet = (new_facet rows m j).tet; perm = label_by_label f (new_facet rows m j) }
-
 -- what the face of the new facet j is glued by that stands for the one of the old facet f opposite label j
 abbrev pub outer_gluing : List Row → Move → Facet → ℕ → Option Gluing
-outer_gluing rows m f j = option_and_then (moved_gluing rows m (opposite f j) (stands_for rows m f j)) (glue rows (opposite f j))
+outer_gluing rows m f j = option_and_then (moved_gluing rows m (opposite f j) (facet_gluing rows m f j)) (glue rows (opposite f j))
 
 -- what the face of the new facet j opposite label l is glued by
 abbrev pub fresh_gluing : List Row → Move → ℕ → ℕ → Option Gluing
 fresh_gluing rows m j l =
-    if nat_lt l (length m.core) then Some (stands_for rows m (new_facet rows m j) l) else option_and_then (λ f. outer_gluing rows m f j) (facet rows m l)
+    if nat_lt l (length m.core) then Some (facet_gluing rows m (new_facet rows m j) l) else option_and_then (λ f. outer_gluing rows m f j) (facet rows m l)
 
 abbrev pub put_row : List Row → Move → ℕ → Row
 put_row rows m j = map (fresh_gluing rows m j) (new_facet rows m j).labels

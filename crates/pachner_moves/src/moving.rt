@@ -8,7 +8,7 @@ ghost use Rattle.move_definitions.specs.Moves.{Plays, IsCore};
 ghost use Rattle.move_definitions.specs.Undos as undos;
 ghost use Rattle.move_definitions.specs.Undos.{CanTakeBack, IsTakenBack, TakesBack};
 ghost use Rattle.pachner_moves.specs.Faults.{IsPattern};
-ghost use Rattle.pachner_moves.specs.Facets.{IsOldFacet, AreOldFacets, CanPlay, stands_for, outer_gluing, fresh_gluing, put_row, put_rows, exchange};
+ghost use Rattle.pachner_moves.specs.Facets.{IsOldFacet, AreOldFacets, CanPlay, outer_gluing, fresh_gluing, put_row, put_rows, exchange};
 
 use crate::facet::{glue_opposite, vertex_of};
 use crate::facets::{kept, label_by_label, moved_glue, new_facet, other_labels};
@@ -60,7 +60,7 @@ fn inner_glue(table: &Table, m: &Move, own: u8, label: u8) -> Glue
     requires own_label { own < 5 }
     requires a_label { label < 5 }
     requires other { label ≢ own }
-    ensures { result ≡ stands_for table.now m.now (moves.new_facet table.now m.now own) label }
+    ensures { result ≡ moves.facet_gluing table.now m.now (moves.new_facet table.now m.now own) label }
 {
     let new = new_facet(table, m, label);
     Glue {

@@ -4,7 +4,7 @@ use Rattle.std.proofs.lemmas.Bool.{cases_lt, cases_eq}
 use Rattle.std.proofs.lemmas.List.{get_or_default, get_or_append_left, length_push}
 use Rattle.std.proofs.lemmas.List.Elements.{All-push, All-nil, All-contains, Contains-push, Contains-push_cases}
 use Rattle.std.proofs.lemmas.List.Quantifiers.{all_pairs_push}
-use Rattle.plain_facts.proofs.Members.{contains_at, Ascends}
+use Rattle.plain_facts.proofs.Members.{contains_at, Ascends, contains_nil}
 use Rattle.table_definitions.specs.Table.{Row, IsTable}
 use Rattle.table_definitions.specs.Places.{whole, SameComponent}
 use Rattle.table_definitions.proofs.ChainLaws.{joined_refl, joins_back}
@@ -26,10 +26,7 @@ module _ (rows : List Row) (table : IsTable rows) where
     members : (t : ℕ) → Contains numbers t ↔ ((t < j) × SameComponent rows k t)
 
   joined : (k j : ℕ) → Joined k j
-  joined k zero = record { numbers = []; ascending = λ a b d less l. absurd (omega arith); members = λ t. (λ c. absurd (nothing t c), λ h. absurd (omega (arith, h.0))) }
-    where
-      nothing : (t : ℕ) → Contains [] t → ⊥
-      nothing t c = let l : c.0 < 0 = c.1 in omega arith
+  joined k zero = record { numbers = []; ascending = λ a b d less l. absurd (omega arith); members = λ t. (λ c. absurd (contains_nil t c), λ h. absurd (omega (arith, h.0))) }
   joined k (suc j) = more (joined k j)
     where
       more : Joined k j → Joined k (suc j)

@@ -6,6 +6,7 @@ use Rattle.table_definitions.specs.Permutation.{IsPermutationOfFour, image, inve
 use Rattle.table_definitions.specs.Table.{Gluing, Row, Face, IsTable, glue}
 use Rattle.table_definitions.specs.Relabelling.{Relabelling, IsRelabelling, IsRelabelled, Carries, stand_in, face_under, gluing_under}
 use Rattle.table_definitions.proofs.Carried.{image_in_range, images_apart, perm_permutes}
+use Rattle.table_definitions.proofs.Faces.{face_at}
 use Rattle.labelling_laws.specs.Between.{made}
 use Rattle.labelling_laws.proofs.Standing.{made_stands, made_relabelling}
 use Rattle.part_definitions.specs.Parts.{Part, place_in, renumbered, IsPart, AreParts}
@@ -138,20 +139,17 @@ module _ (first second : List Row) (P Q : List Part) (tf : IsTable first) (ts : 
 
   -- ---- the gluings
 
-  abbrev mk : ℕ → ℕ → Face
-  mk t f = record { tet = t; face = f }
-
   -- what stands for a gluing of part i, in its part and in the whole
   in_part : (i k : ℕ) → Gluing → Gluing
   in_part i k g = gluing_under (stand_in (m.by i) k) (stand_in (m.by i) (place_in (numbers_at P i) g.tet)) (renumbered (numbers_at P i) g)
 
   carried_in_part : (i k f : ℕ) → i < length P → k < length (numbers_at P i) → f < 4 →
-      option_map (renumbered (numbers_at Q (m.to i))) (glue second (mk (stand i k).tet (image (stand i k).perm f))) ≡ option_map (in_part i k) (glue first (mk (slice_index (numbers_at P i) k) f))
+      option_map (renumbered (numbers_at Q (m.to i))) (glue second (face_at (stand i k).tet (image (stand i k).perm f))) ≡ option_map (in_part i k) (glue first (face_at (slice_index (numbers_at P i) k) f))
   unfolding in_part
   carried_in_part i k f l lk lf = sym (glue-part second ts (part_at Q (m.to i)) (part_q i l) (slice_index (m.by i).images k) (image (slice_index_or (m.by i).perms k []) f) (image_below i k l lk))
-      ∙ (m.carries i l).glued (mk k f) (row_below i k l lk) lf
+      ∙ (m.carries i l).glued (face_at k f) (row_below i k l lk) lf
       ∙ ap (option_map (λ g. gluing_under (stand_in (m.by i) k) (stand_in (m.by i) g.tet) g)) (glue-part first tf (part_at P i) (part_p i l) k f lk)
-      ∙ twice (glue first (mk (slice_index (numbers_at P i) k) f))
+      ∙ twice (glue first (face_at (slice_index (numbers_at P i) k) f))
     where
       twice : (o : Option Gluing) → option_map (λ g. gluing_under (stand_in (m.by i) k) (stand_in (m.by i) g.tet) g) (option_map (renumbered (numbers_at P i)) o) ≡
           option_map (λ (g : Gluing). gluing_under (stand_in (m.by i) k) (stand_in (m.by i) (place_in (numbers_at P i) g.tet)) (renumbered (numbers_at P i) g)) o
@@ -159,8 +157,8 @@ module _ (first second : List Row) (P Q : List Part) (tf : IsTable first) (ts : 
       twice (Some g) = refl
 
   -- both glued: the gluing of the second table is the one that stands for that of the first
-  both_glued : (i k f : ℕ) (g h : Gluing) → i < length P → k < length (numbers_at P i) → glue first (mk (slice_index (numbers_at P i) k) f) ≡ Some g →
-      glue second (mk (stand i k).tet (image (stand i k).perm f)) ≡ Some h → renumbered (numbers_at Q (m.to i)) h ≡ in_part i k g → h ≡ gluing_under (stand i k) (stand_for g.tet) g
+  both_glued : (i k f : ℕ) (g h : Gluing) → i < length P → k < length (numbers_at P i) → glue first (face_at (slice_index (numbers_at P i) k) f) ≡ Some g →
+      glue second (face_at (stand i k).tet (image (stand i k).perm f)) ≡ Some h → renumbered (numbers_at Q (m.to i)) h ≡ in_part i k g → h ≡ gluing_under (stand i k) (stand_for g.tet) g
   unfolding in_part stand_at
   both_glued i k f g h l lk e d same = (λ n. record { tet = tet n; perm = perm n })
     where
@@ -174,7 +172,7 @@ module _ (first second : List Row) (P Q : List Part) (tf : IsTable first) (ts : 
       there = record { i = i; in_parts = l; k = place_in (numbers_at P i) g.tet; in_numbers = place.0; is = place.1 }
 
       stands : stand_for g.tet ≡ stand i (place_in (numbers_at P i) g.tet)
-      stands = stand_is g.tet there (tf.in_range (mk (slice_index (numbers_at P i) k) f) g e)
+      stands = stand_is g.tet there (tf.in_range (face_at (slice_index (numbers_at P i) k) f) g e)
 
       h_member : Contains (numbers_at Q (m.to i)) h.tet
       h_member = glued_member second ts (part_at Q (m.to i)) (part_q i l) (stand i k).tet (image (stand i k).perm f) h (member_of second ts Q q (stand i k).tet (stand_at i k l lk)) d
@@ -186,10 +184,10 @@ module _ (first second : List Row) (P Q : List Part) (tf : IsTable first) (ts : 
       perm = ap (λ (b : Gluing). b.perm) same ∙ ap (λ (b : Gluing). compose b.perm (compose g.perm (inverse (stand i k).perm))) (sym stands)
 
   glued_alike : (i k f : ℕ) → i < length P → k < length (numbers_at P i) → f < 4 →
-      glue second (mk (stand i k).tet (image (stand i k).perm f)) ≡ option_map (λ g. gluing_under (stand i k) (stand_for g.tet) g) (glue first (mk (slice_index (numbers_at P i) k) f))
-  glued_alike i k f l lk lf = cases (glue first (mk (slice_index (numbers_at P i) k) f)) (glue second (mk (stand i k).tet (image (stand i k).perm f))) refl refl (carried_in_part i k f l lk lf)
+      glue second (face_at (stand i k).tet (image (stand i k).perm f)) ≡ option_map (λ g. gluing_under (stand i k) (stand_for g.tet) g) (glue first (face_at (slice_index (numbers_at P i) k) f))
+  glued_alike i k f l lk lf = cases (glue first (face_at (slice_index (numbers_at P i) k) f)) (glue second (face_at (stand i k).tet (image (stand i k).perm f))) refl refl (carried_in_part i k f l lk lf)
     where
-      cases : (o o' : Option Gluing) → glue first (mk (slice_index (numbers_at P i) k) f) ≡ o → glue second (mk (stand i k).tet (image (stand i k).perm f)) ≡ o' →
+      cases : (o o' : Option Gluing) → glue first (face_at (slice_index (numbers_at P i) k) f) ≡ o → glue second (face_at (stand i k).tet (image (stand i k).perm f)) ≡ o' →
           option_map (renumbered (numbers_at Q (m.to i))) o' ≡ option_map (in_part i k) o → o' ≡ option_map (λ g. gluing_under (stand i k) (stand_for g.tet) g) o
       cases None None e d same = refl
       cases None (Some h) e d same = let z : Some (renumbered (numbers_at Q (m.to i)) h) ≡ None = same in absurd cc
@@ -210,8 +208,8 @@ module _ (first second : List Row) (P Q : List Part) (tf : IsTable first) (ts : 
       here : stand_in (made (length first) stand_for) x.tet ≡ stand s.i s.k
       here = made_stands (length first) stand_for x.tet lt ∙ stand_is x.tet s lt
 
-      there : glue second (mk (stand s.i s.k).tet (image (stand s.i s.k).perm x.face)) ≡ option_map (λ g. gluing_under (stand s.i s.k) (stand_for g.tet) g) (glue first x)
-      there = glued_alike s.i s.k x.face s.in_parts s.in_numbers lf ∙ ap (λ t. option_map (λ g. gluing_under (stand s.i s.k) (stand_for g.tet) g) (glue first (mk t x.face))) s.is
+      there : glue second (face_at (stand s.i s.k).tet (image (stand s.i s.k).perm x.face)) ≡ option_map (λ g. gluing_under (stand s.i s.k) (stand_for g.tet) g) (glue first x)
+      there = glued_alike s.i s.k x.face s.in_parts s.in_numbers lf ∙ ap (λ t. option_map (λ g. gluing_under (stand s.i s.k) (stand_for g.tet) g) (glue first (face_at t x.face))) s.is
 
       cases : (o : Option Gluing) → glue first x ≡ o → option_map (λ g. gluing_under (stand s.i s.k) (stand_for g.tet) g) (glue first x) ≡
           option_map (λ (g : Gluing). gluing_under (stand_in (made (length first) stand_for) x.tet) (stand_in (made (length first) stand_for) g.tet) g) (glue first x)

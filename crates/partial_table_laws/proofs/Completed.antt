@@ -1,6 +1,6 @@
 -- First entries of rows that glue soundly so far are those of a table: the faces to which they lead lead back, and all others
 -- are left free.
-use Rattle.std.proofs.Common.{◌≡◌, ℕ, zero, suc, ◌<◌, ◌≤◌, Bool, true, false, List, [], length, map, get_or, Option, Some, None, refl, sym, ap, ◌∙◌, subst, arith, ⊎_elim}
+use Rattle.std.proofs.Common.{◌≡◌, ℕ, ◌<◌, ◌≤◌, Bool, true, false, List, [], length, map, get_or, Option, Some, None, refl, sym, ap, ◌∙◌, subst, arith, ⊎_elim}
 use Rattle.std.specs.Prelude.{not, option_and_then, IsTrue, All, if◌then◌else◌}
 use Rattle.std.specs.List.{slice_index_or}
 use Rattle.std.proofs.lemmas.Bool.{ltb-true, lt-ltb, cases_lt}
@@ -12,10 +12,11 @@ use Rattle.table_definitions.specs.Permutation.{four, IsPermutationOfFour}
 use Rattle.table_definitions.specs.Replacing.{leads_to}
 use Rattle.table_definitions.specs.Table.{Gluing, Row, Face, glue, other_side, way_back, faces, same_face, IsTable}
 use Rattle.table_definitions.proofs.Permutations.{image_below, inverse_permutes}
-use Rattle.table_definitions.proofs.Faces.{same_face-true, same_face-itself, there_and_back, back_again}
+use Rattle.table_definitions.proofs.Faces.{same_face-true, same_face-itself, there_and_back, back_again, face_at}
 use Rattle.table_definitions.proofs.TableLaws.{Among-faces, glued_tet, glued_face}
 use Rattle.table_definitions.proofs.Carried.{IsGood, not_from}
 use Rattle.table_definitions.proofs.FreshRows.{first_some-finds, first_some-only}
+use Rattle.table_definitions.proofs.Kept.{of_four}
 use Rattle.partial_table_laws.specs.Partial.{is_given, IsPartialTable, Completes}
 use Rattle.partial_table_laws.specs.Laws.{PartialTablesAreCompleted}
 
@@ -66,9 +67,6 @@ module _ (n : ℕ) (rows table : List Row) (c : Completes n rows table) where
   })
 
 -- the table that completes first entries
-abbrev mk : ℕ → ℕ → Face
-mk t f = record { tet = t; face = f }
-
 module _ (rows : List Row) where
   abbrev pub gives_back : Face → Face → Option Gluing
   gives_back y x = option_and_then (leads_to y x) (glue rows x)
@@ -80,7 +78,7 @@ module _ (rows : List Row) where
   entry y = if is_given rows y then glue rows y else back_at y
 
   abbrev pub row_of : ℕ → Row
-  row_of t = map (λ f. entry (mk t f)) four
+  row_of t = map (λ f. entry (face_at t f)) four
 
   abbrev pub completed : ℕ → List Row
   completed n = map row_of (below n)
@@ -91,13 +89,6 @@ module _ (rows : List Row) where
   entry_back : (y : Face) → is_given rows y ≡ false → entry y ≡ back_at y
   entry_back y h = ap (λ b. if◌then◌else◌ {A = Option Gluing} b (glue rows y) (back_at y)) h
 
-  of_four : (f : ℕ → Option Gluing) (k : ℕ) → k < 4 → get_or (map f four) k None ≡ f k
-  of_four f zero l = refl
-  of_four f (suc zero) l = refl
-  of_four f (suc (suc zero)) l = refl
-  of_four f (suc (suc (suc zero))) l = refl
-  of_four f (suc (suc (suc (suc k)))) l = absurd (omega arith)
-
   pub completed_row : (n t : ℕ) → t < n → get_or (completed n) t [] ≡ row_of t
   completed_row n t l = get_or-map-range_with_len row_of 0 n t t [] l (omega arith)
 
@@ -105,7 +96,7 @@ module _ (rows : List Row) where
   length-completed n = length-map-range_with_len row_of 0 n
 
   pub glue-completed : (n : ℕ) (x : Face) → x.tet < n → x.face < 4 → glue (completed n) x ≡ entry x
-  glue-completed n x lt lf = ap (λ (row : Row). get_or row x.face None) (completed_row n x.tet lt) ∙ of_four (λ f. entry (mk x.tet f)) x.face lf
+  glue-completed n x lt lf = ap (λ (row : Row). get_or row x.face None) (completed_row n x.tet lt) ∙ of_four (λ f. entry (face_at x.tet f)) x.face lf
 
   -- a face that is given leads to this one
   record LeadsTo (y : Face) (v : Gluing) : Type 0 where

@@ -4,12 +4,11 @@ use Rattle.std.specs.Prelude.{codes}
 use Rattle.std.proofs.lemmas.List.{append_assoc, append-nil}
 use Rattle.text_definitions.specs.declared.Place.{Place}
 use Rattle.text_definitions.specs.Text.{Line}
-use Rattle.table_definitions.specs.Permutation.{index}
 use Rattle.table_definitions.specs.Table.{Row, max_tets}
 use Rattle.table_definitions.specs.Grammar.{IsNumber}
 use Rattle.table_definitions.proofs.Tables.{sphere}
-use Rattle.table_definitions.proofs.RelationExamples.{sphere_table}
-use Rattle.signature_definitions.specs.Spelling.{Spells, spelling_values}
+use Rattle.signature_definitions.specs.Spelling.{Spells}
+use Rattle.signature_definitions.proofs.RelationExamples.{sphere_spelled}
 use Rattle.document_definitions.specs.Signs.{Sign, shown, line_end, input_end, signs_of, plain}
 use Rattle.document_laws.specs.FaultLaws.{SomeTable}
 use Rattle.document_laws.proofs.Local.{plain-append}
@@ -52,10 +51,6 @@ none_given n few = record {
 
 naught : IsNumber max_tets (codes "0") 0
 naught = record { value = refl; up_to = omega arith }
-
--- the standard sphere is spelled
-sphere_spelled : Spells (codes "bkaagj") sphere
-sphere_spelled = record { table = sphere_table; ordered = refl; spelled = unfold spelling_values index in refl }
 
 -- a line `sig TEXT`
 with_text : (text : List ℕ) (rows : List Row) → Spells text rows → GoesOn (shown (codes "sig") ∷ shown text ∷ line_end ∷ [])

@@ -1,5 +1,5 @@
 -- Facts of lists.
-use Rattle.std.proofs.Common.{◌≡◌, Bool, true, false, cond, List, [], ◌∷◌, Some, refl, sym, ap, ◌∙◌, ◌≢◌, take, get_or, get_or-take, length-take, ⊎_elim, arith, ℕ, ◌+◌, ◌++◌}
+use Rattle.std.proofs.Common.{◌≡◌, Bool, true, false, cond, List, [], ◌∷◌, Some, refl, sym, ap, ◌∙◌, ◌≢◌, take, get_or, get_or-take, length-take, ⊎_elim, arith, ℕ, ◌+◌, ◌++◌, length, zero, ◌≤◌}
 use Rattle.std.specs.Prelude.{find}
 use Rattle.std.proofs.lemmas.Bool.{cases_lt}
 use Rattle.std.proofs.lemmas.List.{get_or_past}
@@ -13,6 +13,15 @@ found_passes {A} p (y ∷ ys) x e = by_test (p y) refl e (λ f. found_passes p y
     by_test : (b : Bool) → p y ≡ b → cond b (Some y) (find p ys) ≡ Some x → (find p ys ≡ Some x → p x ≡ true) → p x ≡ true
     by_test true t f later = let is : y ≡ x = cc in ap p (sym is) ∙ t
     by_test false t f later = later f
+
+-- what has no items, and no first ones
+pub no_items : {A : Type 0} (xs : List A) → length xs ≤ 0 → xs ≡ []
+no_items [] h = refl
+no_items (x ∷ xs) h = absurd (omega arith)
+
+pub take_none : {A : Type 0} (xs : List A) → take zero xs ≡ []
+take_none [] = refl
+take_none (x ∷ xs) = refl
 
 -- an entry of the first ones, but the last of them
 pub take_other : (x : List ℕ) (i column : ℕ) → column ≢ i → get_or (take (i + 1) x) column 0 ≡ get_or (take i x) column 0

@@ -11,6 +11,9 @@ not_equal a b h = grind arith
 pub given_apart : (a b : ℕ) (c : Bool) → ((a == b) || c) ≡ true → a ≢ b → c ≡ true
 given_apart a b c h d = grind arith
 
+pub one_on : (n : ℕ) → suc n ≡ n + 1
+one_on n = omega arith
+
 -- two different numbers compared, one way and the other
 pub compared_back : (a b : ℕ) → a ≢ b → nat_lt b a ≡ not (nat_lt a b)
 compared_back a b ne = elim (cases_order a b) [

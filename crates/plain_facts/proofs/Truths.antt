@@ -1,6 +1,10 @@
 -- Facts of truth values.
-use Rattle.std.proofs.Common.{◌≡◌, Bool, true, false, ◌⊎◌, inl, inr, refl}
+use Rattle.std.proofs.Common.{◌≡◌, ℕ, Bool, true, false, cond, ◌⊎◌, inl, inr, refl}
 use Rattle.std.specs.Prelude.{not, if◌then◌else◌}
+
+-- 1 where a truth value is true
+abbrev pub one_if : Bool → ℕ
+one_if b = cond b 1 0
 
 pub true_or_false : (b : Bool) → (b ≡ true) ⊎ (b ≡ false)
 true_or_false true = inl refl

@@ -4,7 +4,7 @@ use Rattle.std.specs.Prelude.{◌==◌, ◌&&◌, not, nat_lt, nat_le, IsTrue, �
 use Rattle.std.specs.List.{All}
 use Rattle.std.specs.declared.alloc.Global.{Global}
 use Rattle.std.proofs.lemmas.List.{length_push, get_or_push, get_or_append_left}
-use Rattle.std.proofs.lemmas.Bool.{cases_lt, eqb-true, eq-eqb, ltb-true, lt-ltb, le-ltb, leb-true, le-leb, and_parts, and_from, and_left, or_left, or_right, cases_eq, cases_order, false≢true, false_from_ne_true, or_cases}
+use Rattle.std.proofs.lemmas.Bool.{cases_lt, eqb-true, eq-eqb, ltb-true, lt-ltb, le-ltb, leb-true, le-leb, and_parts, and_from, and_left, or_left, or_right, cases_eq, cases_order, false≢true, false_from_ne_true, or_cases, and_right}
 use Rattle.support_bits.specs.Words.{bit_of, AreWordsOf}
 use Rattle.surface_definitions.specs.Coordinates.{columns, columns_each, triangles_each, is_octagon, is_quad_or_octagon, clash_test, clash_list}
 use Rattle.surface_definitions.specs.declared.Coords.{Coords}
@@ -40,13 +40,9 @@ marks_set marked column old new before is set others k =
 pub marks_skip : (marked : ℕ → Bool) (column : ℕ) (old : List ℕ) → MarkedBelow marked column old → marked column ≡ false → MarkedBelow marked (column + 1) old
 marks_skip marked column old before is_not k =
     ⊎_elim
-    (λ same. before k ∙ and_left (nat_lt k column) (marked k) (le-ltb k column (omega arith)) ∙ sym (and_false (nat_lt k (column + 1)) (marked k) (ap marked same ∙ is_not)))
+    (λ same. before k ∙ and_left (nat_lt k column) (marked k) (le-ltb k column (omega arith)) ∙ sym (and_right (nat_lt k (column + 1)) (marked k) (ap marked same ∙ is_not)))
     (λ other. before k ∙ ap (λ b. b && marked k) (sym (below_other k column other)))
     (cases_eq k column)
-  where
-    and_false : (x y : Bool) → y ≡ false → (x && y) ≡ false
-    and_false true y e = e
-    and_false false y e = refl
 
 -- a fact of all pairs of a list
 all_prefix : {X : Type 0} (P : X → Type 0) (xs ys : List X) → All P (xs ++ ys) → All P xs

@@ -3,7 +3,7 @@ use Rattle.std.proofs.Common.{◌≡◌, ◌≢◌, ℕ, zero, suc, ◌+◌, ◌
 use Rattle.std.specs.List.{flat_map, find}
 use Rattle.std.specs.Option.{option_or}
 use Rattle.std.specs.Prelude.{nat_lt, ◌&&◌, slice_index}
-use Rattle.std.proofs.lemmas.Bool.{lt-ltb, le-ltb, and_left, and_right}
+use Rattle.std.proofs.lemmas.Bool.{lt-ltb, le-ltb, and_left, and_right, and_from}
 use Rattle.std.proofs.lemmas.List.Elements.{filter-append}
 use Rattle.std.proofs.lemmas.List.Folds.{find-append}
 use Rattle.std.proofs.lemmas.List.FromFn.{filter_of_map_range_with_len_more}
@@ -98,16 +98,13 @@ unfolding partners
 found_one x coords n first second none less within some_first some_second clashes =
     let p : IsPrefix (partners_before coords first (second + 1)) (partners_before coords first ((second + 1) + (columns coords n - (second + 1)))) = prefix_by coords first (second + 1) (columns coords n - (second + 1)) in
     let e : (second + 1) + (columns coords n - (second + 1)) ≡ columns coords n = omega arith in
-    let is : is_clash coords (first, second) ≡ true = both_true (nat_lt first second) (clash_test coords first second) (lt-ltb first second less) clashes in
+    let is : is_clash coords (first, second) ≡ true = and_from (nat_lt first second) (clash_test coords first second) (lt-ltb first second less) clashes in
     let low : 0 < slice_index x first = omega arith in
     let high : 0 < slice_index x second = omega arith in
-    let both : both_nonzero x (first, second) ≡ true = both_true (nat_lt 0 (slice_index x first)) (nat_lt 0 (slice_index x second)) (lt-ltb 0 (slice_index x first) low) (lt-ltb 0 (slice_index x second) high) in
+    let both : both_nonzero x (first, second) ≡ true = and_from (nat_lt 0 (slice_index x first)) (nat_lt 0 (slice_index x second)) (lt-ltb 0 (slice_index x first) low) (lt-ltb 0 (slice_index x second) high) in
     let here : find (both_nonzero x) (partners_before coords first (second + 1)) ≡ Some (first, second) =
     one_more (both_nonzero x) coords first second none ∙ ap (λ b. find (both_nonzero x) (cond b ((first, second) ∷ []) [])) is ∙ ap (λ b. cond b (Some (first, second)) None) both in
     ap (λ k. find (both_nonzero x) (partners_before coords first k)) (sym e) ∙ find-prefix (both_nonzero x) _ _ (first, second) p here
-  where
-    both_true : (a b : Bool) → a ≡ true → b ≡ true → (a && b) ≡ true
-    both_true a b e f = ap (λ c. c && b) e ∙ f
 
 -- a column that is 0 is in no pair that is found
 zero_step : (x : List ℕ) (first k : ℕ) (rest : Pairs) (b : Bool) → slice_index x first ≡ 0 → find (both_nonzero x) rest ≡ None → find (both_nonzero x) (cond b ((first, k) ∷ rest) rest) ≡ None

@@ -11,13 +11,14 @@ use Rattle.table_definitions.specs.Permutation.{image}
 use Rattle.table_definitions.specs.Table.{Row, IsTable}
 use Rattle.table_definitions.specs.Places.{Place, across, along, vertex, SameVertex}
 use Rattle.table_definitions.proofs.PermutationLaws.{image_below}
+use Rattle.table_definitions.proofs.Faces.{face_at}
 use Rattle.skeleton_definitions.specs.Links.{vertex_number}
 use Rattle.skeleton_definitions.specs.Skeleton.{Skeleton, IsSkeleton}
 use Rattle.class_laws.specs.Crossings.{crossed_vertex, vertex_at}
 use Rattle.class_laws.specs.Neighbours.{row_at}
 use Rattle.class_laws.proofs.NeighbourLemmas.{entry_at}
 use Rattle.surface_laws.specs.LiftLaws.{AreHeights}
-use Rattle.surface_laws.proofs.Glued.{IsGlued, glued_is, face_at}
+use Rattle.surface_laws.proofs.Glued.{IsGlued, glued_is}
 use Rattle.surface_laws.proofs.Vertices.{one_vertex, vertex_is, number-vertex, IsCrossed, crossed_is, across_is}
 use Rattle.quad_lift.specs.Spreads.{vertices_round, quads_beside, marked_quads, AreSpread, AreAllSpread}
 use Rattle.quad_lift.specs.Crossings.{IsCrossing}

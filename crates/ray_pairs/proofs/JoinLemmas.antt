@@ -19,8 +19,3 @@ pub joined_to_ray : (pairs : List Clash) (kepts : List Kept) (i : ℕ) (kept : K
     AreJoinedTo pairs (get_or kepts i kept).support joined → AreJoinedTo pairs (support_of (ray_at (rays_of kepts) i)) joined
 joined_to_ray pairs kepts i kept joined within joins = subst (λ s. AreJoinedTo pairs s joined)
     ((get_or kepts i kept).matches ∙ ap support_of (sym (ray_at-rays_of kepts i kept within))) joins
-
--- the width of the support at a place
-pub support_width : (kepts : List Kept) (i columns : ℕ) (kept : Kept) → i < length kepts → AreOfWidth columns kepts → length (get_or kepts i kept).support ≡ columns
-support_width kepts i columns kept within widths =
-    ap length (get_or kepts i kept).matches ∙ length-map (get_or kepts i kept).ray (λ entry. ltb 0 entry) ∙ widths i kept within

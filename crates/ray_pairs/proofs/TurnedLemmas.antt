@@ -5,6 +5,7 @@ use Rattle.std.proofs.Math.Nat.{add_comm}
 use Rattle.std.proofs.Math.ListN.{get_or-map}
 use Rattle.std.proofs.lemmas.List.{length-map}
 use Rattle.std.proofs.lemmas.List.Elements.{All-weaker}
+use Rattle.std.proofs.lemmas.Nat.Gcd.{IsGcd-swap}
 use Rattle.cone_definitions.specs.Rows.{Row}
 use Rattle.cone_definitions.specs.Surfaces.{Clash, IsAdmissibleUnion}
 use Rattle.cone_definitions.specs.Elimination.{HasPartsWithin}
@@ -73,11 +74,8 @@ sum_of-turned [] (b ∷ y) = refl
 sum_of-turned (a ∷ x) [] = refl
 sum_of-turned (a ∷ x) (b ∷ y) = ap₂ (λ n z. n ∷ z) (add_comm a b) (sum_of-turned x y)
 
-gcd-turned : (a b g : ℕ) → IsGcd a b g → IsGcd b a g
-gcd-turned a b g h = (h.1, h.0, λ d of_b of_a. h.2 d of_a of_b)
-
 combination-turned : (at_u at_w : ℕ) (u w z : List ℕ) → IsCombinationBy at_u at_w u w z → IsCombinationBy at_w at_u w u z
-combination-turned at_u at_w u w z h = record { divisor = h.divisor; greatest = gcd-turned at_u at_w h.divisor h.greatest; sum = h.sum ∙ sum_of-turned _ _ }
+combination-turned at_u at_w u w z h = record { divisor = h.divisor; greatest = IsGcd-swap at_u at_w h.divisor h.greatest; sum = h.sum ∙ sum_of-turned _ _ }
 
 reduced-turned : (limit at_u at_w : ℕ) (u w x : List ℕ) → IsReducedBy limit at_u at_w u w x → IsReducedBy limit at_w at_u w u x
 reduced-turned limit at_u at_w u w x h = record {

@@ -7,6 +7,6 @@ use Rattle.table_definitions.proofs.Tables.{sphere}
 use Rattle.table_definitions.proofs.RelationExamples.{sphere_table}
 
 -- the texts spell the tables
-sphere_spelled : Spells (codes "bkaagj") sphere
+pub sphere_spelled : Spells (codes "bkaagj") sphere
 unfolding computed
 sphere_spelled = record { table = sphere_table; ordered = refl; spelled = refl }

@@ -1,8 +1,8 @@
 -- Joining the parts of a walk-ordered table face after face gives the table.
-use Rattle.std.proofs.Common.{◌≡◌, ℕ, zero, suc, ◌+◌, ◌*◌, ◌/◌, ◌%◌, ◌<◌, Bool, true, false, List, [], ◌∷◌, ◌++◌, length, drop, get_or, map, Option, Some, None, refl, sym, ap, ◌∙◌, subst, arith}
+use Rattle.std.proofs.Common.{◌≡◌, ℕ, zero, suc, ◌+◌, ◌*◌, ◌/◌, ◌%◌, ◌<◌, true, false, List, [], ◌∷◌, ◌++◌, length, drop, get_or, map, Option, Some, None, refl, sym, ap, ◌∙◌, subst, arith}
 use Rattle.std.specs.Prelude.{Ok, nat_le, is_some, filter_map, sum_by, ◌||◌, ◌==◌, if◌then◌else◌, cond}
 use Rattle.std.specs.List.{slice_index_or, list_all, range_with_len}
-use Rattle.std.proofs.lemmas.Bool.{lt-ltb, le-ltb}
+use Rattle.std.proofs.lemmas.Bool.{lt-ltb, le-ltb, or_from}
 use Rattle.std.proofs.lemmas.List.Sums.{sum_by-cons, sum_by-append}
 use Rattle.plain_facts.proofs.Truths.{if_false}
 use Rattle.table_definitions.specs.Lists.{below, times_in}
@@ -192,13 +192,10 @@ follow_step rows k m w v s table l walk f r hx (took_old g e late old same) =
         (Ok (record { met = meet_at met (face_at k) x; seen = seen; parts = parts }))) ≡ Ok (record { met = meet_at met (face_at k) g; seen = seen; parts = parts }) in
         subst P same
         (unless_of (nat_le seen g.tet) (sig_faults.Destination d.1) _ (not_le seen g.tet lt)
-        ∙ unless_of (same_face (other_side (face_at k) g) (face_at k) || is_some (slot met (other_side (face_at k) g))) (sig_faults.FaceTaken i.1) _ (or_of _ _ apart (ap is_some free_other)))
+        ∙ unless_of (same_face (other_side (face_at k) g) (face_at k) || is_some (slot met (other_side (face_at k) g))) (sig_faults.FaceTaken i.1) _ (or_from _ _ apart (ap is_some free_other)))
       where
         not_le : (a b : ℕ) → b < a → nat_le a b ≡ false
         not_le a b h = grind arith
-
-        or_of : (a b : Bool) → a ≡ false → b ≡ false → (a || b) ≡ false
-        or_of a b e f = rw (e, f) refl
 follow_step rows k m w v s table l walk f r hx (took_new g e late same_tet id same) =
     let xs : List Face = faces_from (k + 1) m in
     let ts : List ℕ = filter_map (type_at rows) xs in

@@ -17,11 +17,11 @@ use Rattle.signature_text_laws.specs.Faults.{Reads}
 use Rattle.signature_text_laws.specs.Parts.{parts_of, types_begun}
 use Rattle.signature_text_laws.specs.Slots.{Slots, slot_faces, slots_begun, slot_row, slot_rows, IsSlots}
 use Rattle.signature_text_laws.proofs.SlotLaws.{unless_ok, ok_same}
-use Rattle.signature_text_laws.proofs.TypeLaws.{parts_fit, numbers_read, behind_head, signature_table-head, after_types-parts}
+use Rattle.signature_text_laws.proofs.TypeLaws.{parts_fit, behind_head, signature_table-head, after_types-parts}
 use Rattle.signature_text_laws.proofs.Simulation.{slots_join}
 use Rattle.signature_text_laws.proofs.JoinedTables.{joined_table}
-use Rattle.signature_text_laws.proofs.Segments.{Holds, holds_nothing, holds_more, HeadHolds, head_holds}
-use Rattle.signature_text_laws.proofs.TypeSegments.{TypesHold, types_hold, numbers_hold, single_values}
+use Rattle.signature_text_laws.proofs.Segments.{Holds, holds_nothing, holds_more, HeadHolds, head_holds, numbers_read}
+use Rattle.signature_text_laws.proofs.TypeSegments.{TypesHold, types_hold, single_values}
 use Rattle.signature_text_laws.proofs.Walked.{IsPartedBy, joined_parts, no_types, no_pairs}
 
 -- what the parts of a text are, and where the text ends
@@ -47,20 +47,17 @@ parts_hold text h s at p parts =
     let a = bind_ok (signatures.unless late sig_faults.Unreached ds) (λ d. gs >>= (λ g. signatures.unless more (sig_faults.Trailing (gluings_at + twos)) (Ok (made d g)))) p parts in
     let b = bind_ok gs (λ g. signatures.unless more (sig_faults.Trailing (gluings_at + twos)) (Ok (made a.0 g))) p a.2 in
     let c = unless_ok more (sig_faults.Trailing (gluings_at + twos)) (Ok (made a.0 b.0)) p b.2 in
-    let d_read = (unless_ok late sig_faults.Unreached ds a.0 a.1).1 in
-    let d = numbers_read twos text h.width h.count sig_faults.Destination at a.0 d_read in
+    let d = numbers_read twos text h.width h.count sig_faults.Destination at a.0 (unless_ok late sig_faults.Unreached ds a.0 a.1).1 in
     let g = numbers_read twos text 1 24 sig_faults.Gluing gluings_at b.0 b.1 in
-    let d_holds = numbers_hold twos text h.width h.count sig_faults.Destination at a.0 d_read in
-    let g_holds = numbers_hold twos text 1 24 sig_faults.Gluing gluings_at b.0 b.1 in
-    let single = single_values b.0 g.1 in
-    let e : length (map (λ (d : ℕ × ℕ). d.0) b.0) ≡ twos = (let f = ap (λ (xs : List ℕ). length xs) single in let k = g_holds.1 in omega (arith, f, k)) in
+    let single = single_values b.0 g.small in
+    let e : length (map (λ (d : ℕ × ℕ). d.0) b.0) ≡ twos = (let f = ap (λ (xs : List ℕ). length xs) single in let k = g.wide in omega (arith, f, k)) in
     subst (PartsHold text h s at) (ok_same (made a.0 b.0) p c.1) (record {
       types = refl;
-      twos_d = d.0;
-      twos_g = g.0;
-      destinations = d_holds.0;
-      wide = d_holds.1;
-      gluings = subst (λ (xs : List ℕ). Holds text gluings_at xs) single g_holds.0;
+      twos_d = d.count;
+      twos_g = g.count;
+      destinations = d.holds;
+      wide = d.wide;
+      gluings = subst (λ (xs : List ℕ). Holds text gluings_at xs) single g.holds;
       long = e;
       end = ltb-false (gluings_at + twos) (length text) c.0;
     })

@@ -1,7 +1,7 @@
 -- What is read of a text stands in it as it is spelled.
 use Rattle.std.proofs.Common.{◌≡◌, ℕ, zero, suc, ◌+◌, ◌*◌, ◌/◌, ◌%◌, ◌<◌, ◌≤◌, Bool, true, false, List, [], ◌∷◌, ◌++◌, length, drop, map, Option, Some, None, refl, sym, ap, ◌∙◌, subst, arith, append_assoc}
-use Rattle.std.specs.Prelude.{Result, Ok, nat_le, nat_lt, not, slice_get, slice_index, ◌||◌, ◌==◌, if◌then◌else◌, cond}
-use Rattle.std.specs.List.{position_or_len}
+use Rattle.std.specs.Prelude.{Result, Ok, nat_le, nat_lt, not, slice_get, slice_index, ◌||◌, ◌==◌, if◌then◌else◌, cond, All}
+use Rattle.std.specs.List.{position_or_len, position}
 use Rattle.std.proofs.lemmas.Bool.{eqb-true, eq-eqb, lt-ltb, or_parts, not-false}
 use Rattle.std.proofs.lemmas.List.{map-append, length-append}
 use Rattle.std.proofs.lemmas.List.Sums.{prefix_len_stops}
@@ -11,11 +11,32 @@ use Rattle.text_definitions.specs.Reading.{◌>>=◌}
 use Rattle.text_definitions.proofs.Readers.{bind_ok}
 use Rattle.signature_definitions.specs.declared.SigFault.{SigFault}
 use Rattle.signature_definitions.specs.declared.SigFault.TheVariants as sig_faults
-use Rattle.signature_definitions.specs.Spelling.{alphabet, character, value_of, in_values, head_values, width}
+use Rattle.signature_definitions.specs.Spelling.{alphabet, character, value_of, in_values, head_values, width, joined}
 use Rattle.signature_definitions.specs.SignatureText as signatures
-use Rattle.signature_definitions.specs.SignatureText.{Head, value_at, number_in, head_of}
+use Rattle.signature_definitions.specs.SignatureText.{Head, value_at, number_in, head_of, numbers_in}
 use Rattle.signature_text_laws.proofs.SlotLaws.{unless_ok, ok_same}
-use Rattle.signature_text_laws.proofs.TypeLaws.{value_at_below}
+
+-- a value is below 64
+position_below : (p : ℕ → Bool) (xs : List ℕ) (i : ℕ) → position p xs ≡ Some i → i < length xs
+position_below p xs i h = cases (nat_lt (position_or_len p xs) (length xs)) refl h
+  where
+    cases : (b : Bool) → nat_lt (position_or_len p xs) (length xs) ≡ b → cond b (Some (position_or_len p xs)) None ≡ Some i → i < length xs
+    cases true e h = let same : position_or_len p xs ≡ i = cc in let l = ltb-true (position_or_len p xs) (length xs) e in let P : ℕ → Type 0 = λ k. k < length xs in subst P same l
+    cases false e h = absurd cc
+
+value_of_below : (b v : ℕ) → value_of b ≡ Some v → v < 64
+value_of_below b v h = position_below (λ c. c == b) alphabet v h
+
+pub value_at_below : (text : List ℕ) (at v : ℕ) → signatures.value_at text at ≡ Ok v → v < 64
+value_at_below text at v h = cases (slice_get text at) h
+  where
+    valued : (b : ℕ) (o : Option ℕ) → value_of b ≡ o → signatures.value_or o (sig_faults.BadChar at) ≡ Ok v → v < 64
+    valued b None e h = absurd cc
+    valued b (Some w) e h = let same : w ≡ v = ok_same w v h in let P : ℕ → Type 0 = λ k. k < 64 in subst P same (value_of_below b w e)
+
+    cases : (o : Option ℕ) → signatures.value_in o (length text) at ≡ Ok v → v < 64
+    cases None h = absurd cc
+    cases (Some b) h = valued b (value_of b) refl h
 
 -- the values stand in the text from a place on
 abbrev pub Holds : List ℕ → ℕ → List ℕ → Type 0
@@ -157,3 +178,42 @@ head_holds text h e =
     if_second : {A : Type 0} (b : Bool) (r q : Result A SigFault) (t : A) → b ≡ false → (if b then r else q) ≡ Ok t → q ≡ Ok t
     if_second true r q t e h = absurd cc
     if_second false r q t e h = h
+
+-- the values of numbers, w of each
+abbrev pub values_of : ℕ → List (ℕ × ℕ) → List ℕ
+values_of w xs = joined (map (λ (p : ℕ × ℕ). in_values w p.0) xs)
+
+-- what is known of the numbers that were read
+pub record AreNumbers (k : ℕ) (text : List ℕ) (w bound at : ℕ) (xs : List (ℕ × ℕ)) : Type 0 where
+  pub count : length xs ≡ k
+  pub small : All (λ (p : ℕ × ℕ). p.0 < bound) xs
+  pub holds : Holds text at (values_of w xs)
+  pub wide : length (values_of w xs) ≡ w * k
+
+pub numbers_read : (k : ℕ) (text : List ℕ) (w bound : ℕ) (fault : ℕ → SigFault) (at : ℕ) (xs : List (ℕ × ℕ)) → numbers_in k text w bound fault at ≡ Ok xs → AreNumbers k text w bound at xs
+unfolding numbers_in
+numbers_read zero text w bound fault at xs e =
+    let same = ok_same {A = List (ℕ × ℕ)} [] xs e in
+    subst (AreNumbers zero text w bound at) same (record { count = refl; small = λ i d l. absurd (omega arith); holds = holds_nothing text at; wide = omega arith })
+numbers_read (suc k) text w bound fault at xs e =
+    let others : Result (List (ℕ × ℕ)) SigFault = numbers_in k text w bound fault (at + w) in
+    let a = bind_ok (number_in text w at) (λ v. signatures.unless (nat_le bound v) (fault at) others >>= (λ ys. Ok ((v, at) ∷ ys))) xs e in
+    let b = bind_ok (signatures.unless (nat_le bound a.0) (fault at) others) (λ ys. Ok ((a.0, at) ∷ ys)) xs a.2 in
+    let u = unless_ok (nat_le bound a.0) (fault at) others b.0 b.1 in
+    let h = numbers_read k text w bound fault (at + w) b.0 u.1 in
+    let same : (a.0, at) ∷ b.0 ≡ xs = ok_same {A = List (ℕ × ℕ)} ((a.0, at) ∷ b.0) xs b.2 in
+    let wide = length-in_values w a.0 in
+    let there : at + w ≡ at + length (in_values w a.0) = ap (λ m. at + m) (sym wide) in
+    subst (AreNumbers (suc k) text w bound at) same (record {
+      count = ap suc h.count;
+      small = both (a.0, at) b.0 (not_le bound a.0 u.0) h.small;
+      holds = holds_more text at (at + w) (in_values w a.0) (values_of w b.0) (holds_number w text at a.0 a.1) there h.holds;
+      wide = let l = length-append (in_values w a.0) (values_of w b.0) in let m = h.wide in omega (arith, l, m, wide);
+    })
+  where
+    not_le : (a b : ℕ) → nat_le a b ≡ false → b < a
+    not_le a b h = grind arith
+
+    both : (p : ℕ × ℕ) (ps : List (ℕ × ℕ)) → p.0 < bound → All (λ (p : ℕ × ℕ). p.0 < bound) ps → All (λ (p : ℕ × ℕ). p.0 < bound) (p ∷ ps)
+    both p ps l h zero d m = l
+    both p ps l h (suc i) d m = h i d (omega arith)

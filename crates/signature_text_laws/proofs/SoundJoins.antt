@@ -2,7 +2,7 @@
 use Rattle.std.proofs.Common.{◌≡◌, ℕ, zero, suc, ◌+◌, ◌<◌, ◌≤◌, Bool, true, false, List, [], ◌∷◌, length, drop, Option, Some, None, refl, sym, ap, ◌∙◌, subst, arith, ◌⊎◌, inl, inr, ⊎_elim}
 use Rattle.std.specs.Prelude.{Result, Ok, All, nat_le, is_some, ◌||◌, if◌then◌else◌}
 use Rattle.std.specs.List.{slice_index_or, list_any}
-use Rattle.std.proofs.lemmas.Bool.{false≢true}
+use Rattle.std.proofs.lemmas.Bool.{false≢true, or_parts}
 use Rattle.plain_facts.proofs.Truths.{by_bool}
 use Rattle.table_definitions.specs.Lists.{times_in}
 use Rattle.table_definitions.specs.Permutation.{identity, words, image, IsPermutationOfFour}
@@ -187,14 +187,10 @@ type_sound x (suc (suc zero)) rest j u small index hf hx free h e =
     let first = unless_ok (nat_le j.seen d.0) (sig_faults.Destination d.1) (signatures.unless taken (sig_faults.FaceTaken i.1) (Ok (signatures.meet x g k))) u e in
     let second = unless_ok taken (sig_faults.FaceTaken i.1) (Ok (signatures.meet x g k)) u first.1 in
     let same : signatures.meet x g k ≡ u = ok_same (signatures.meet x g k) u second.1 in
-    let parts = or_false (same_face (other_side x g) x) (signatures.is_met k (other_side x g)) second.0 in
+    let parts = or_parts (same_face (other_side x g) x) (signatures.is_met k (other_side x g)) second.0 in
     let P : Joining → Type 0 = λ v. IsSound v.met v.seen in
     let lt : d.0 < j.seen = not_le j.seen d.0 first.0 in
     subst P same (both_sound j.met j.seen j.seen x g free (not_known j.met (other_side x g) parts.1) parts.0 hx lt (omega arith) hf (words_permute i.0 (index refl)) h)
-  where
-    or_false : (a b : Bool) → (a || b) ≡ false → (a ≡ false) × (b ≡ false)
-    or_false true b e = cc
-    or_false false b e = (refl, e)
 type_sound x (suc (suc (suc type))) rest j u small index hf hx free h e = absurd (omega arith)
 
 next_sound : (n : ℕ) (x : Face) (ts : List ℕ) (j u : Joining) → j.parts.types ≡ ts → (m : Slots) → m.parts ≡ j.parts → IsSlots n m → x.face < 4 → x.tet < j.seen

@@ -3,7 +3,7 @@ use Rattle.std.proofs.Common.{◌≡◌, ℕ, zero, suc, ◌+◌, ◌-◌, ◌*�
 use Rattle.std.specs.Prelude.{Result, Ok, Err, All, nat_le, nat_lt, not, slice_get, unwrap_or, sum_by, ◌||◌, ◌&&◌, ◌==◌, if◌then◌else◌, cond}
 use Rattle.std.specs.List.{list_all}
 use Rattle.std.proofs.Math.Nat.{pow-succ'}
-use Rattle.std.proofs.lemmas.Bool.{eqb-true, eq-eqb, lt-ltb, le-ltb, cases_lt}
+use Rattle.std.proofs.lemmas.Bool.{eqb-true, eq-eqb, lt-ltb, le-ltb, cases_lt, or_from, and_right}
 use Rattle.std.proofs.lemmas.List.{map-append, length-append}
 use Rattle.std.proofs.lemmas.List.Sums.{sum_by-cons}
 use Rattle.plain_facts.proofs.Truths.{by_bool, if_false}
@@ -99,7 +99,7 @@ long_head text n w low high same some small fits h =
     let w0 : (w == 0) ≡ false = by_bool (w == 0) (λ e. absurd (let f = eqb-true w 0 e in omega (arith, f))) (λ e. e) in
     let w3 : nat_le 3 w ≡ false = by_bool (nat_le 3 w) (λ e. absurd (le_three w small e)) (λ e. e) in
     let few : nat_lt 1000 n ≡ false = le-ltb 1000 n high in
-    let right : (nat_lt n 63 || not (w == width n)) ≡ false = or_of (nat_lt n 63) (not (w == width n)) (le-ltb n 63 low) (ap not (eq-eqb w (width n) same)) in
+    let right : (nat_lt n 63 || not (w == width n)) ≡ false = or_from (nat_lt n 63) (not (w == width n)) (le-ltb n 63 low) (ap not (eq-eqb w (width n) same)) in
     let made : Head = record { count = n; width = w; next = w + 2 } in
     next_ok (value_at text 0) 63 (λ v. if v == 63 then signatures.long_head text else Ok (record { count = v; width = 1; next = 1 })) first
     ∙ next_ok (value_at text 1) w (λ w. signatures.unless (w == 0) (sig_faults.Width 1) (signatures.unless (nat_le 3 w) sig_faults.TooMany (signatures.wide_head text w))) second
@@ -109,9 +109,6 @@ long_head text n w low high same some small fits h =
     ∙ unless_of (nat_lt 1000 n) sig_faults.TooMany (signatures.unless (nat_lt n 63 || not (w == width n)) (sig_faults.Width 1) (Ok made)) few
     ∙ unless_of (nat_lt n 63 || not (w == width n)) (sig_faults.Width 1) (Ok made) right
   where
-    or_of : (a b : Bool) → a ≡ false → b ≡ false → (a || b) ≡ false
-    or_of a b e f = rw (e, f) refl
-
     le_three : (w : ℕ) → w ≤ 2 → nat_le 3 w ≡ true → ⊥
     le_three w l e = grind arith
 
@@ -144,19 +141,12 @@ times_one type ts = sum_by-cons (λ m. cond (m == 1) 1 0) type ts
 
 right_type : (n type : ℕ) (s : Types) → type < 3 → faces_of_type type ≤ s.left → one_of type + s.ones < n → signatures.is_wrong_type n type s ≡ false
 unfolding one_of
-right_type n type s l enough few = or_of ((type == 3) || nat_lt s.left (faces_of_type type)) ((type == 1) && nat_le (n - 1) s.ones)
-    (or_of (type == 3) (nat_lt s.left (faces_of_type type)) (by_bool (type == 3) (λ e. absurd (let f = eqb-true type 3 e in omega (arith, f))) (λ e. e)) (le-ltb s.left (faces_of_type type) enough))
+right_type n type s l enough few = or_from ((type == 3) || nat_lt s.left (faces_of_type type)) ((type == 1) && nat_le (n - 1) s.ones)
+    (or_from (type == 3) (nat_lt s.left (faces_of_type type)) (by_bool (type == 3) (λ e. absurd (let f = eqb-true type 3 e in omega (arith, f))) (λ e. e)) (le-ltb s.left (faces_of_type type) enough))
     (by_bool (type == 1)
-    (λ e. let f = rw e at few in let g : s.ones < n - 1 = omega (arith, f) in and_none (type == 1) (nat_le (n - 1) s.ones) (lt_leb s.ones (n - 1) g))
+    (λ e. let f = rw e at few in let g : s.ones < n - 1 = omega (arith, f) in and_right (type == 1) (nat_le (n - 1) s.ones) (lt_leb s.ones (n - 1) g))
     (λ e. rw e refl))
   where
-    or_of : (a b : Bool) → a ≡ false → b ≡ false → (a || b) ≡ false
-    or_of a b e f = rw (e, f) refl
-
-    and_none : (a b : Bool) → b ≡ false → (a && b) ≡ false
-    and_none true b e = e
-    and_none false b e = refl
-
     lt_leb : (a b : ℕ) → a < b → nat_le b a ≡ false
     lt_leb a b h = grind arith
 

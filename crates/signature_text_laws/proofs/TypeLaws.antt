@@ -1,8 +1,6 @@
 -- What is known of the parts of a text that was read.
-use Rattle.std.proofs.Common.{◌≡◌, ℕ, zero, suc, ◌+◌, ◌-◌, ◌*◌, ◌/◌, ◌%◌, ◌<◌, ◌≤◌, Bool, true, false, List, [], ◌∷◌, ◌++◌, length, Option, Some, None, refl, sym, ap, ◌∙◌, subst, arith}
-use Rattle.std.specs.Prelude.{Result, Ok, Err, All, nat_le, nat_lt, not, slice_get, ◌==◌, if◌then◌else◌, cond}
-use Rattle.std.specs.List.{position, position_or_len}
-use borrow.Author.Tests.{ltb-true}
+use Rattle.std.proofs.Common.{◌≡◌, ℕ, zero, suc, ◌+◌, ◌-◌, ◌*◌, ◌/◌, ◌%◌, ◌<◌, ◌≤◌, Bool, true, false, List, [], ◌∷◌, ◌++◌, length, None, refl, sym, ap, ◌∙◌, subst, arith}
+use Rattle.std.specs.Prelude.{Result, Ok, Err, All, nat_lt, not, ◌==◌, if◌then◌else◌}
 use Rattle.std.proofs.lemmas.Grind.{common_steps}
 use Rattle.std.proofs.lemmas.List.{length-replicate}
 use Rattle.text_definitions.specs.Reading.{◌>>=◌}
@@ -11,35 +9,13 @@ use Rattle.table_definitions.specs.Lists.{times_in}
 use Rattle.table_definitions.specs.Table.{Row}
 use Rattle.signature_definitions.specs.declared.SigFault.{SigFault}
 use Rattle.signature_definitions.specs.declared.SigFault.TheVariants as sig_faults
-use Rattle.signature_definitions.specs.Spelling.{value_of, alphabet}
 use Rattle.signature_definitions.specs.SignatureText as signatures
 use Rattle.signature_definitions.specs.SignatureText.{numbers_in, types_from, Types, signature_table}
 use Rattle.signature_text_laws.specs.Parts.{parts_of, types_begun}
 use Rattle.signature_text_laws.specs.Slots.{IsSlots, slots_begun}
 use Rattle.signature_text_laws.proofs.ReadLaws.{behind_character, next_ok}
 use Rattle.signature_text_laws.proofs.SlotLaws.{unless_ok, ok_of, ok_same, unless_same}
-
--- a value is below 64
-position_below : (p : ℕ → Bool) (xs : List ℕ) (i : ℕ) → position p xs ≡ Some i → i < length xs
-position_below p xs i h = cases (nat_lt (position_or_len p xs) (length xs)) refl h
-  where
-    cases : (b : Bool) → nat_lt (position_or_len p xs) (length xs) ≡ b → cond b (Some (position_or_len p xs)) None ≡ Some i → i < length xs
-    cases true e h = let same : position_or_len p xs ≡ i = cc in let l = ltb-true (position_or_len p xs) (length xs) e in let P : ℕ → Type 0 = λ k. k < length xs in subst P same l
-    cases false e h = absurd cc
-
-value_of_below : (b v : ℕ) → value_of b ≡ Some v → v < 64
-value_of_below b v h = position_below (λ c. c == b) alphabet v h
-
-pub value_at_below : (text : List ℕ) (at v : ℕ) → signatures.value_at text at ≡ Ok v → v < 64
-value_at_below text at v h = cases (slice_get text at) h
-  where
-    valued : (b : ℕ) (o : Option ℕ) → value_of b ≡ o → signatures.value_or o (sig_faults.BadChar at) ≡ Ok v → v < 64
-    valued b None e h = absurd cc
-    valued b (Some w) e h = let same : w ≡ v = ok_same w v h in let P : ℕ → Type 0 = λ k. k < 64 in subst P same (value_of_below b w e)
-
-    cases : (o : Option ℕ) → signatures.value_in o (length text) at ≡ Ok v → v < 64
-    cases None h = absurd cc
-    cases (Some b) h = valued b (value_of b) refl h
+use Rattle.signature_text_laws.proofs.Segments.{value_at_below, numbers_read}
 
 -- what is known of the types that were read
 pub record AreTypes (n : ℕ) (s : Types) : Type 0 where
@@ -104,27 +80,6 @@ types_read (suc m) text n at s t next h e = cases (s.left == 0) (signatures.valu
     cases true r e f = let same : s ≡ t = first_same s t at next e in subst (AreTypes n) same h
     cases false r e f = f e
 
--- what is known of the numbers that were read
-pub numbers_read : (k : ℕ) (text : List ℕ) (w bound : ℕ) (fault : ℕ → SigFault) (at : ℕ) (xs : List (ℕ × ℕ)) → numbers_in k text w bound fault at ≡ Ok xs
-    → (length xs ≡ k) × All (λ (p : ℕ × ℕ). p.0 < bound) xs
-unfolding numbers_in
-numbers_read zero text w bound fault at xs e = let same : [] ≡ xs = cc in subst (λ (ys : List (ℕ × ℕ)). (length ys ≡ 0) × All (λ (p : ℕ × ℕ). p.0 < bound) ys) same (refl, λ i d l. absurd (omega arith))
-numbers_read (suc k) text w bound fault at xs e =
-    let others : Result (List (ℕ × ℕ)) SigFault = numbers_in k text w bound fault (at + w) in
-    let a = bind_ok (signatures.number_in text w at) (λ v. signatures.unless (nat_le bound v) (fault at) others >>= (λ ys. Ok ((v, at) ∷ ys))) xs e in
-    let b = bind_ok (signatures.unless (nat_le bound a.0) (fault at) others) (λ ys. Ok ((a.0, at) ∷ ys)) xs a.2 in
-    let u = unless_ok (nat_le bound a.0) (fault at) others b.0 b.1 in
-    let h = numbers_read k text w bound fault (at + w) b.0 u.1 in
-    let same : (a.0, at) ∷ b.0 ≡ xs = ok_same {A = List (ℕ × ℕ)} ((a.0, at) ∷ b.0) xs b.2 in
-    subst (λ (ys : List (ℕ × ℕ)). (length ys ≡ suc k) × All (λ (p : ℕ × ℕ). p.0 < bound) ys) same (ap suc h.0, both (a.0, at) b.0 (not_le bound a.0 u.0) h.1)
-  where
-    not_le : (a b : ℕ) → nat_le a b ≡ false → b < a
-    not_le a b h = grind arith
-
-    both : (p : ℕ × ℕ) (ps : List (ℕ × ℕ)) → p.0 < bound → All (λ (p : ℕ × ℕ). p.0 < bound) ps → All (λ (p : ℕ × ℕ). p.0 < bound) (p ∷ ps)
-    both p ps l h zero d m = l
-    both p ps l h (suc i) d m = h i d (omega arith)
-
 -- the parts that were read can be joined
 pub parts_fit : (text : List ℕ) (h : signatures.Head) (s : Types) (at : ℕ) (p : signatures.Parts) → h.count ≤ 1000
     → types_from (4 * h.count) text h.count h.next (types_begun h.count) ≡ Ok (s, at) → parts_of text h s at ≡ Ok p → 0 < h.count → IsSlots h.count (slots_begun h.count p)
@@ -147,9 +102,9 @@ parts_fit text h s at p few types parts some =
       size = length-replicate (4 * h.count) None;
       few = few;
       small = known.small;
-      destinations = d.0;
-      gluings = g.0;
-      indices = g.1;
+      destinations = d.count;
+      gluings = g.count;
+      indices = g.small;
       room = let o = known.ones in let l = known.few some in omega (arith, o, l);
     })
   where

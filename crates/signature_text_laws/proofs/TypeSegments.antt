@@ -1,6 +1,6 @@
 -- The types that are read stand in the text three to a character, and count the faces.
 use Rattle.std.proofs.Common.{◌≡◌, ℕ, zero, suc, ◌+◌, ◌-◌, ◌*◌, ◌/◌, ◌%◌, ◌<◌, ◌≤◌, Bool, true, false, List, [], ◌∷◌, ◌++◌, length, map, refl, sym, ap, ◌∙◌, subst, arith, ◌⊎◌, inl, inr, ⊎_elim, append_assoc}
-use Rattle.std.specs.Prelude.{Result, Ok, All, nat_le, nat_lt, not, sum_by, ◌||◌, ◌&&◌, ◌==◌, if◌then◌else◌}
+use Rattle.std.specs.Prelude.{Ok, All, nat_le, nat_lt, not, sum_by, ◌||◌, ◌&&◌, ◌==◌, if◌then◌else◌}
 use Rattle.std.proofs.lemmas.Bool.{eqb-true, eq-eqb, or_parts, not-false}
 use Rattle.std.proofs.lemmas.List.{length-append}
 use Rattle.std.proofs.lemmas.List.Sums.{sum_by-append}
@@ -8,15 +8,13 @@ use Rattle.plain_facts.proofs.Numbers.{positive}
 use borrow.Author.Tests.{ltb-false}
 use Rattle.text_definitions.specs.Reading.{◌>>=◌}
 use Rattle.text_definitions.proofs.Readers.{bind_ok}
-use Rattle.signature_definitions.specs.declared.SigFault.{SigFault}
 use Rattle.signature_definitions.specs.declared.SigFault.TheVariants as sig_faults
 use Rattle.signature_definitions.specs.Spelling.{in_values, packed, joined}
 use Rattle.signature_definitions.specs.SignatureText as signatures
-use Rattle.signature_definitions.specs.SignatureText.{Types, value_at, number_in, numbers_in, types_from, faces_of_type}
+use Rattle.signature_definitions.specs.SignatureText.{Types, value_at, types_from, faces_of_type}
 use Rattle.signature_text_laws.proofs.ReadLaws.{behind_character}
 use Rattle.signature_text_laws.proofs.SlotLaws.{unless_ok, ok_of, ok_same}
-use Rattle.signature_text_laws.proofs.TypeLaws.{value_at_below}
-use Rattle.signature_text_laws.proofs.Segments.{Holds, holds_nothing, holds_more, holds_value, holds_number, length-in_values}
+use Rattle.signature_text_laws.proofs.Segments.{Holds, holds_more, holds_value, value_at_below}
 
 -- what one type does: it is 0 behind the last face, and else it is read and counts its faces
 pub record Counts (type : ℕ) (s t : Types) : Type 0 where
@@ -175,28 +173,6 @@ types_hold (suc m) text n at s t next base total h l e = cases (s.left == 0) ref
         → (0 < s.left → (value_at text at >>= behind_character text n at m s) ≡ Ok (t, next) → TypesHold text base total next t × (t.left ≡ 0)) → TypesHold text base total next t × (t.left ≡ 0)
     cases true z e more = stops text base total at next s t h (eqb-true s.left 0 z) e
     cases false z e more = more (positive s.left z) e
-
--- the numbers that are read
-pub numbers_hold : (k : ℕ) (text : List ℕ) (w bound : ℕ) (fault : ℕ → SigFault) (at : ℕ) (xs : List (ℕ × ℕ)) → numbers_in k text w bound fault at ≡ Ok xs
-    → Holds text at (joined (map (λ (p : ℕ × ℕ). in_values w p.0) xs)) × (length (joined (map (λ (p : ℕ × ℕ). in_values w p.0) xs)) ≡ w * k)
-unfolding numbers_in
-numbers_hold zero text w bound fault at xs e =
-    let same = ok_same {A = List (ℕ × ℕ)} [] xs e in
-    subst (λ (ys : List (ℕ × ℕ)). Holds text at (joined (map (λ (p : ℕ × ℕ). in_values w p.0) ys)) × (length (joined (map (λ (p : ℕ × ℕ). in_values w p.0) ys)) ≡ w * 0)) same (holds_nothing text at, omega arith)
-numbers_hold (suc k) text w bound fault at xs e =
-    let others : Result (List (ℕ × ℕ)) SigFault = numbers_in k text w bound fault (at + w) in
-    let a = bind_ok (number_in text w at) (λ v. signatures.unless (nat_le bound v) (fault at) others >>= (λ ys. Ok ((v, at) ∷ ys))) xs e in
-    let b = bind_ok (signatures.unless (nat_le bound a.0) (fault at) others) (λ ys. Ok ((a.0, at) ∷ ys)) xs a.2 in
-    let u = unless_ok (nat_le bound a.0) (fault at) others b.0 b.1 in
-    let h = numbers_hold k text w bound fault (at + w) b.0 u.1 in
-    let same : (a.0, at) ∷ b.0 ≡ xs = ok_same {A = List (ℕ × ℕ)} ((a.0, at) ∷ b.0) xs b.2 in
-    let rest : List ℕ = joined (map (λ (p : ℕ × ℕ). in_values w p.0) b.0) in
-    let wide = length-in_values w a.0 in
-    let there : at + w ≡ at + length (in_values w a.0) = ap (λ m. at + m) (sym wide) in
-    subst (λ (ys : List (ℕ × ℕ)). Holds text at (joined (map (λ (p : ℕ × ℕ). in_values w p.0) ys)) × (length (joined (map (λ (p : ℕ × ℕ). in_values w p.0) ys)) ≡ w * suc k)) same (
-      holds_more text at (at + w) (in_values w a.0) rest (holds_number w text at a.0 a.1) there h.0,
-      (let l = length-append (in_values w a.0) rest in let m = h.1 in omega (arith, l, m, wide)),
-    )
 
 -- numbers of one character
 pub single_values : (xs : List (ℕ × ℕ)) → All (λ (p : ℕ × ℕ). p.0 < 24) xs → joined (map (λ (p : ℕ × ℕ). in_values 1 p.0) xs) ≡ map (λ (p : ℕ × ℕ). p.0) xs

@@ -2,7 +2,7 @@
 use Rattle.std.proofs.Common.{◌≡◌, ℕ, zero, suc, ◌+◌, ◌*◌, ◌/◌, ◌%◌, ◌<◌, ◌≤◌, Bool, true, false, List, [], ◌∷◌, ◌++◌, length, map, Option, Some, None, refl, sym, ap, ◌∙◌, subst, arith, ◌⊎◌, inl, inr, ⊎_elim, append-nil, below_more}
 use Rattle.std.specs.Prelude.{nat_lt, not, find, filter_map, ◌||◌, ◌&&◌, ◌==◌}
 use Rattle.std.specs.List.{list_all, range_with_len}
-use Rattle.std.proofs.lemmas.Bool.{eqb-true, eq-eqb, lt-ltb, le-ltb, cases_lt, cases_eq, and_parts, and_from, or_right}
+use Rattle.std.proofs.lemmas.Bool.{eqb-true, eq-eqb, lt-ltb, le-ltb, cases_lt, cases_eq, and_parts, and_from, or_right, or_from, and_left, and_right, or_left}
 use Rattle.std.proofs.lemmas.List.{map-append}
 use Rattle.std.proofs.lemmas.List.Elements.{filter_map-append}
 use Rattle.plain_facts.proofs.Truths.{by_bool, if_true, if_false}
@@ -15,7 +15,7 @@ use Rattle.signature_definitions.specs.Spelling.{type_of, seen_gluing, face_type
 use Rattle.signature_text_laws.specs.Slots.{face_at}
 use Rattle.signature_text_laws.specs.Walks.{Walking, with_type, take_glued, take_entry, take_face, walk_begun, IsWalk}
 use Rattle.signature_text_laws.proofs.Simulation.{faces-places}
-use Rattle.signature_text_laws.proofs.SeenLaws.{is_seen-more, is_seen-begun, is_seen-later, or_left}
+use Rattle.signature_text_laws.proofs.SeenLaws.{is_seen-more, is_seen-begun, is_seen-later}
 use Rattle.table_definitions.proofs.Marked.{or-false as or_none}
 use Rattle.table_definitions.proofs.ListFacts.{below_next}
 
@@ -196,10 +196,7 @@ glued_off rows k w g seen stopped = by_bool (is_face_before (other_side (face_at
     (λ old. absurd (let never = sym (if_true _ _ _ old) ∙ rest in cc))
     (λ new. let last = sym (if_false _ _ _ new) ∙ rest in by_bool ((g.tet == w.seen) && same_list g.perm identity)
     (λ next. absurd (let never = sym (if_true _ _ _ next) ∙ last in cc))
-    (λ none. glued_order rows (face_at k) g w.seen seen ∙ or_both (nat_lt g.tet w.seen) _ new none)))
-  where
-    or_both : (a b : Bool) → a ≡ false → b ≡ false → (a || b) ≡ false
-    or_both a b e f = rw (e, f) refl
+    (λ none. glued_order rows (face_at k) g w.seen seen ∙ or_from (nat_lt g.tet w.seen) _ new none)))
 
 pub takes_off : (rows : List Row) (k : ℕ) (w : Walking) → k < 4 * length rows → IsWalk rows k w → take_face rows (face_at k) w ≡ None → is_ordered_at rows (face_at k) ≡ false
 takes_off rows k w l h stopped = by_bool (nat_lt (k / 4) w.seen)
@@ -210,13 +207,6 @@ takes_off rows k w l h stopped = by_bool (nat_lt (k / 4) w.seen)
     entry : (o : Option Gluing) → take_entry (face_at k) o w ≡ None → is_ordered_gluing rows (face_at k) o ≡ false
     entry None e = absurd cc
     entry (Some g) e = glued_off rows k w g h.seen e
-
-    and_left : (a b : Bool) → a ≡ false → (a && b) ≡ false
-    and_left a b e = rw e refl
-
-    and_right : (a b : Bool) → b ≡ false → (a && b) ≡ false
-    and_right true b e = e
-    and_right false b e = refl
 
 -- before the first face
 pub walk_begins : (rows : List Row) → IsWalk rows 0 walk_begun

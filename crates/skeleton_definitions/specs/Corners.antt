@@ -3,7 +3,7 @@ use Rattle.std.specs.Prelude.{◌≡◌, ℕ, ◌/◌, ◌%◌, ◌<◌, ◌≢�
 use Rattle.std.specs.List.{slice_index_or}
 use Rattle.table_definitions.specs.Lists.{below, has}
 use Rattle.table_definitions.specs.Permutation.{four, image}
-use Rattle.table_definitions.specs.Table.{Gluing, Row, glue}
+use Rattle.table_definitions.specs.Table.{Gluing, Row, Face, glue}
 use Rattle.table_definitions.specs.Places.{ends, is_boundary_edge}
 
 -- the edge ab of a tetrahedron, and the faces c and d that meet in it: the walk comes through face d and leaves through face c
@@ -14,13 +14,20 @@ pub record Corner : Type 0 where
   pub c : ℕ
   pub d : ℕ
 
+-- the face through which the walk leaves a corner, and that through which it came
+abbrev pub left_through : Corner → Face
+left_through k = record { tet = k.tet; face = k.c }
+
+abbrev pub came_through : Corner → Face
+came_through k = record { tet = k.tet; face = k.d }
+
 -- the corner behind face c
 abbrev pub corner_behind : Corner → Gluing → Corner
 corner_behind k g = record { tet = g.tet; a = image g.perm k.a; b = image g.perm k.b; c = image g.perm k.d; d = image g.perm k.c }
 
 -- the next corner, where face c is glued
 abbrev pub step : List Row → Corner → Option Corner
-step rows k = option_map (corner_behind k) (glue rows (record { tet = k.tet; face = k.c }))
+step rows k = option_map (corner_behind k) (glue rows (left_through k))
 
 -- the corner after n steps
 abbrev pub steps : List Row → ℕ → Corner → Option Corner

@@ -3,7 +3,7 @@ ghost use Rattle.std.specs.Prelude.{◌≡◌, ◌++◌, codes, decimal, IfOk, O
 ghost use Rattle.text_definitions.specs.Written.{line};
 ghost use Rattle.outcome_definitions.specs.Sums as sums;
 
-use command_answers::{Outcome, append_checked, append_numbered};
+use command_answers::{Outcome, append_checked, append_numbered, refused_vector};
 use no_memory::NoMemory;
 use outcome_definitions::{Status, SumRefusal};
 use ray_decompose::AddFault;
@@ -113,20 +113,8 @@ fn status_of(refusal: SumRefusal) -> Status
     }
 }
 
-// The line for the vector of this number.
-#[tactic(auto, unfolding(outcome_definitions::specs::Sums::sum_refusal_line))]
-fn refused_line(alloc: Global, vector: usize, refusal: SumRefusal) -> Result<Vec<u8>, NoMemory>
-    ensures { IfOk result (λ text. text.items ≡ sums.sum_refusal_line vector refusal) }
-{
-    let mut text = Vec::new(alloc);
-    append(&mut text, b"refused: vector ")?;
-    append_decimal(alloc, &mut text, vector as u128)?;
-    append(&mut text, b" ")?;
-    append_cause(alloc, &mut text, refusal)?;
-    Ok(text)
-}
-
 /// The outcome where the vector of this number, which counts from 0, is refused.
+#[tactic(auto, unfolding(outcome_definitions::specs::Sums::sum_refusal_line))]
 pub fn refusal_outcome(
     alloc: Global,
     vector: usize,
@@ -134,6 +122,7 @@ pub fn refusal_outcome(
 ) -> Result<Outcome, NoMemory>
     ensures { IfOk result (λ o. o ≡ sums.sum_refusal_outcome vector refusal) }
 {
-    let text = refused_line(alloc, vector, refusal)?;
+    let mut text = refused_vector(alloc, vector)?;
+    append_cause(alloc, &mut text, refusal)?;
     Ok(Outcome::built(status_of(refusal), text))
 }

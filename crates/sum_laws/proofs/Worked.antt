@@ -2,14 +2,13 @@
 use Rattle.std.proofs.Common.{◌≡◌, ◌≢◌, ℕ, zero, suc, ◌*◌, ◌<◌, ◌≤◌, List, [], ◌∷◌, slice_index, slice_index_or, AllPairs, refl, arith, lit<}
 use Rattle.std.proofs.Math.Nat.{one-dvd}
 use Rattle.cone_definitions.specs.Vectors.{IsInside, IsBefore}
-use Rattle.cone_definitions.specs.Rows.{Row, IsZeroAt, IsSolution}
-use Rattle.cone_definitions.specs.WorkedRow.{worked_row, worked_surfaces}
-use Rattle.cone_definitions.proofs.Worked.{worked_list}
+use Rattle.cone_definitions.specs.WorkedRow.{worked_row, worked_surfaces, y_surface, x_surface, one_each}
+use Rattle.cone_definitions.proofs.Worked.{worked_list, one_each_solution}
 use Rattle.sum_laws.proofs.Surfaces.{surfaces_are_rays_lem}
 use Rattle.sum_definitions.specs.Sums.{HasRays, State, first_state, IsLeastInside, IsLeastFraction, IsTurn}
 use Rattle.sum_definitions.specs.Adding.{add_fault}
 use Rattle.sum_laws.specs.Laws.{IsAnswer, sum, large}
-use Rattle.sum_laws.specs.WorkedSums.{term, low, high, ones, torus, link, both, sphere_surfaces, WorkedSums, WorkedFaults}
+use Rattle.sum_laws.specs.WorkedSums.{term, torus, link, both, sphere_surfaces, WorkedSums, WorkedFaults}
 use Rattle.sum_laws.proofs.Fractions.{least_at}
 
 ascending_two : (u w : List ℕ) → IsBefore u w → AllPairs IsBefore (u ∷ w ∷ [])
@@ -22,18 +21,18 @@ ascending_two u w b i (suc (suc j)) d l m = absurd (omega arith)
 -- ---- 1 1 1 is the half of 0 2 1 and 2 0 1
 
 surfaces_ascend : AllPairs IsBefore worked_surfaces
-surfaces_ascend = ascending_two low high (record { column = 0; same = λ k h. absurd (omega arith); less = lit< tt })
+surfaces_ascend = ascending_two y_surface x_surface (record { column = 0; same = λ k h. absurd (omega arith); less = lit< tt })
 
-low_inside : IsInside low ones
+low_inside : IsInside y_surface one_each
 low_inside zero z = refl
 low_inside (suc zero) z = absurd (let e : 1 ≡ 0 = z in omega arith)
 low_inside (suc (suc zero)) z = absurd (let e : 1 ≡ 0 = z in omega arith)
 low_inside (suc (suc (suc j))) z = refl
 
-low_least : IsLeastInside worked_surfaces ones low
-low_least = least_at worked_surfaces ones 0 surfaces_ascend (lit< tt) low_inside (λ i l. absurd (omega arith))
+low_least : IsLeastInside worked_surfaces one_each y_surface
+low_least = least_at worked_surfaces one_each 0 surfaces_ascend (lit< tt) low_inside (λ i l. absurd (omega arith))
 
-one_over_two : IsLeastFraction ones low 1 2
+one_over_two : IsLeastFraction one_each y_surface 1 2
 one_over_two = record {
   lowest = (one-dvd 1, one-dvd 2, λ d a b. a);
   column = 1;
@@ -42,43 +41,43 @@ one_over_two = record {
   least = least;
 }
   where
-    least : (j : ℕ) → slice_index low j ≢ 0 → 1 * slice_index low j ≤ 2 * slice_index ones j
+    least : (j : ℕ) → slice_index y_surface j ≢ 0 → 1 * slice_index y_surface j ≤ 2 * slice_index one_each j
     least zero n = omega arith
     least (suc zero) n = omega arith
     least (suc (suc zero)) n = omega arith
     least (suc (suc (suc j))) n = absurd (n refl)
 
 abbrev middle : State
-middle = record { times = 2; terms = term 1 low ∷ []; rest = high }
+middle = record { times = 2; terms = term 1 y_surface ∷ []; rest = x_surface }
 
-first_turn : IsTurn worked_surfaces (first_state ones) middle
-first_turn = record { left = (0, λ z. absurd (let e : 1 ≡ 0 = z in omega arith)); vector = low; p = 1; q = 2; least_inside = low_least; fraction = one_over_two; after = refl }
+first_turn : IsTurn worked_surfaces (first_state one_each) middle
+first_turn = record { left = (0, λ z. absurd (let e : 1 ≡ 0 = z in omega arith)); vector = y_surface; p = 1; q = 2; least_inside = low_least; fraction = one_over_two; after = refl }
 
-not_low : slice_index low 1 ≡ 0 → ⊥
+not_low : slice_index y_surface 1 ≡ 0 → ⊥
 not_low e = absurd (omega arith)
 
-low_not_inside : (i : ℕ) → i < 1 → IsInside (slice_index_or worked_surfaces i []) high → ⊥
+low_not_inside : (i : ℕ) → i < 1 → IsInside (slice_index_or worked_surfaces i []) x_surface → ⊥
 low_not_inside zero l h = not_low (h 1 refl)
 low_not_inside (suc i) l h = absurd (omega arith)
 
-one_over_one : IsLeastFraction high high 1 1
+one_over_one : IsLeastFraction x_surface x_surface 1 1
 one_over_one = record { lowest = (one-dvd 1, one-dvd 1, λ d a b. a); column = 0; some = λ z. absurd (let e : 2 ≡ 0 = z in omega arith); reached = refl; least = λ j n. omega arith }
 
 abbrev last : State
-last = record { times = 2; terms = term 1 low ∷ term 1 high ∷ []; rest = 0 ∷ 0 ∷ 0 ∷ [] }
+last = record { times = 2; terms = term 1 y_surface ∷ term 1 x_surface ∷ []; rest = 0 ∷ 0 ∷ 0 ∷ [] }
 
 second_turn : IsTurn worked_surfaces middle last
 second_turn = record {
   left = (0, λ z. absurd (let e : 2 ≡ 0 = z in omega arith));
-  vector = high;
+  vector = x_surface;
   p = 1;
   q = 1;
-  least_inside = least_at worked_surfaces high 1 surfaces_ascend (lit< tt) (λ j z. z) low_not_inside;
+  least_inside = least_at worked_surfaces x_surface 1 surfaces_ascend (lit< tt) (λ j z. z) low_not_inside;
   fraction = one_over_one;
   after = refl;
 }
 
-two_ones : (j : ℕ) → 2 * slice_index ones j ≤ 2
+two_ones : (j : ℕ) → 2 * slice_index one_each j ≤ 2
 two_ones zero = omega arith
 two_ones (suc zero) = omega arith
 two_ones (suc (suc zero)) = omega arith
@@ -91,12 +90,12 @@ zeros (suc (suc zero)) = refl
 zeros (suc (suc (suc j))) = refl
 
 -- with the limit 2 the answer is 2 times, once 0 2 1 and once 2 0 1
-halves : IsAnswer 2 worked_surfaces ones (sum 2 (term 1 low ∷ term 1 high ∷ []))
-halves = record { turns = 2; rest = 0 ∷ 0 ∷ 0 ∷ []; led = (middle, (first_state ones, refl, first_turn, two_ones), second_turn, two_ones); nothing_left = zeros }
+halves : IsAnswer 2 worked_surfaces one_each (sum 2 (term 1 y_surface ∷ term 1 x_surface ∷ []))
+halves = record { turns = 2; rest = 0 ∷ 0 ∷ 0 ∷ []; led = (middle, (first_state one_each, refl, first_turn, two_ones), second_turn, two_ones); nothing_left = zeros }
 
 -- with the limit 1 it is too large at turn 0 and column 0
-too_large : IsAnswer 1 worked_surfaces ones (large 0 0)
-too_large = record { before = first_state ones; next = middle; led = refl; turns = first_turn; large = lit< tt; first = λ i l. absurd (omega arith) }
+too_large : IsAnswer 1 worked_surfaces one_each (large 0 0)
+too_large = record { before = first_state one_each; next = middle; led = refl; turns = first_turn; large = lit< tt; first = λ i l. absurd (omega arith) }
 
 -- nothing is taken of no columns
 nothing : IsAnswer 1 [] [] (sum 1 [])
@@ -201,15 +200,8 @@ whole = record { turns = 2; rest = link_taken.rest; led = (torus_taken, (first_s
 
 -- ---- given terms
 
-ones_solution : IsSolution 3 (worked_row ∷ []) ones
-ones_solution = record { width = refl; zero = zero_at }
-  where
-    zero_at : (k : ℕ) (d : Row) → k < 1 → IsZeroAt (slice_index_or (worked_row ∷ []) k d) ones
-    zero_at zero d l = refl
-    zero_at (suc k) d l = absurd (omega arith)
-
-rays : HasRays 3 (worked_row ∷ []) worked_surfaces ones
-rays = surfaces_are_rays_lem 3 (worked_row ∷ []) [] worked_surfaces ones worked_list ones_solution (λ k d l. absurd (omega arith))
+rays : HasRays 3 (worked_row ∷ []) worked_surfaces one_each
+rays = surfaces_are_rays_lem 3 (worked_row ∷ []) [] worked_surfaces one_each worked_list one_each_solution (λ k d l. absurd (omega arith))
 
 pub worked_sums_lem : WorkedSums
 worked_sums_lem = record { rays = rays; halves = halves; too_large = too_large; whole = whole; nothing = nothing }

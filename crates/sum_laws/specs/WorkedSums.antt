@@ -1,6 +1,6 @@
 -- Sums small enough to take by hand.
 use Rattle.std.specs.Prelude.{◌≡◌, ℕ, List, [], ◌∷◌, Some, None}
-use Rattle.cone_definitions.specs.WorkedRow.{worked_row, worked_surfaces}
+use Rattle.cone_definitions.specs.WorkedRow.{worked_row, worked_surfaces, y_surface, x_surface, one_each}
 use Rattle.sum_definitions.specs.Sums.{Term, HasRays}
 use Rattle.sum_definitions.specs.Adding.{add_fault}
 use Rattle.sum_definitions.specs.declared.AddFault.TheVariants.{ZeroTimes, Large, NotEqual}
@@ -8,16 +8,6 @@ use Rattle.sum_laws.specs.Laws.{IsAnswer, sum, large}
 
 abbrev pub term : ℕ → List ℕ → Term
 term count vector = record { count = count; vector = vector }
-
--- the surfaces of x + y - 2 z, and a solution
-abbrev pub low : List ℕ
-low = 0 ∷ 2 ∷ 1 ∷ []
-
-abbrev pub high : List ℕ
-high = 2 ∷ 0 ∷ 1 ∷ []
-
-abbrev pub ones : List ℕ
-ones = 1 ∷ 1 ∷ 1 ∷ []
 
 -- the surfaces of the standard sphere, and a solution
 abbrev pub torus : List ℕ
@@ -34,9 +24,9 @@ sphere_surfaces = torus ∷ link ∷ []
 
 -- the surfaces of x + y - 2 z are the rays of 1 1 1; twice it is 0 2 1 and 2 0 1, which takes a limit of 2; 3 3 1 1 2 0 0 is two of one surface and one of the other; and nothing is taken of no columns
 pub record WorkedSums : Type 0 where
-  pub rays : HasRays 3 (worked_row ∷ []) worked_surfaces ones
-  pub halves : IsAnswer 2 worked_surfaces ones (sum 2 (term 1 low ∷ term 1 high ∷ []))
-  pub too_large : IsAnswer 1 worked_surfaces ones (large 0 0)
+  pub rays : HasRays 3 (worked_row ∷ []) worked_surfaces one_each
+  pub halves : IsAnswer 2 worked_surfaces one_each (sum 2 (term 1 y_surface ∷ term 1 x_surface ∷ []))
+  pub too_large : IsAnswer 1 worked_surfaces one_each (large 0 0)
   pub whole : IsAnswer 3 sphere_surfaces both (sum 1 (term 2 torus ∷ term 1 link ∷ []))
   pub nothing : IsAnswer 1 [] [] (sum 1 [])
 

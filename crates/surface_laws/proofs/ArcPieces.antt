@@ -11,9 +11,9 @@ use Rattle.surface_definitions.specs.declared.Coords.{Coords}
 use Rattle.surface_definitions.specs.Pieces.{SurfacePiece, pieces_of, arcs_round, type_in, keeps_by_zero, further_piece, piece_of, component_vector}
 use Rattle.surface_laws.specs.MatchingLaws.{HasTriangles}
 use Rattle.surface_laws.proofs.MeetingArcs.{arc_at}
-use Rattle.surface_laws.proofs.FurtherArcs.{first_nonzero, one_further, further_one}
+use Rattle.surface_laws.proofs.FurtherArcs.{one_further, further_one}
 use Rattle.surface_laws.proofs.PieceNumbers.{piece_at}
-use Rattle.surface_laws.specs.PieceLaws.{IsPieceOf}
+use Rattle.surface_laws.specs.PieceLaws.{IsPieceOf, first_nonzero}
 use Rattle.surface_laws.proofs.ComponentCounts.{belongs, in_column, component_count, component_inside}
 use Rattle.surface_laws.proofs.Counting.{sum_by_same, below_sum, sum_back}
 use Rattle.table_definitions.proofs.Listed.{below-among}

@@ -10,9 +10,10 @@ use Rattle.table_definitions.specs.Permutation.{IsPermutationOfFour, image, comp
 use Rattle.table_definitions.specs.Places.{face_of}
 use Rattle.table_definitions.specs.Table.{Gluing, Row, Face, glue, other_side, IsTable}
 use Rattle.table_definitions.proofs.Permutations.{image-compose, compose_permutes}
+use Rattle.table_definitions.proofs.Faces.{face_at}
 use Rattle.surface_definitions.specs.Crushing.{is_removed, partner_in, exchange, passed, ChainEnds}
 use Rattle.surface_laws.specs.CrushingLaws.{IsKeptFace, HasOneEnd}
-use Rattle.surface_laws.proofs.Glued.{IsGlued, glued_is, glued_once, face_at}
+use Rattle.surface_laws.proofs.Glued.{IsGlued, glued_is, glued_once}
 use Rattle.surface_laws.proofs.Turns.{IsTurned, turned_at, IsExchange, exchange_is}
 
 -- no chain goes on at a kept face

@@ -4,17 +4,15 @@ use Rattle.table_definitions.specs.Permutation.{IsPermutationOfFour, image, inve
 use Rattle.table_definitions.specs.Table.{Gluing, Row, Face, glue, other_side, way_back, IsTable}
 use Rattle.table_definitions.proofs.Permutations.{image-compose, compose_permutes, inverse_permutes, inverse-of-compose, compose-compose, compose-identity, image_below, identity_permutes, image-identity}
 use Rattle.table_definitions.proofs.PermutationLaws.{image-of_inverse}
+use Rattle.table_definitions.proofs.Faces.{face_at, gluing_to}
 use Rattle.surface_definitions.specs.Crushing.{is_removed, partner_in, exchange, ChainEnds, CrushesTo}
 use Rattle.surface_laws.specs.CrushingLaws.{IsKeptFace}
-use Rattle.surface_laws.proofs.Glued.{IsGlued, glued_is, face_at}
+use Rattle.surface_laws.proofs.Glued.{IsGlued, glued_is}
 use Rattle.surface_laws.proofs.Turns.{IsTurned, turned_at, IsExchange, exchange_is}
-
-abbrev pub gluing_at : ℕ → List ℕ → Gluing
-gluing_at t p = record { tet = t; perm = p }
 
 -- what a chain that has come by q goes on by across the next gluing
 abbrev pub onward_by : List ℕ → Option Gluing → Option Gluing
-onward_by q o = option_map (λ (k : Gluing). gluing_at k.tet (compose k.perm q)) o
+onward_by q o = option_map (λ (k : Gluing). gluing_to k.tet (compose k.perm q)) o
 
 -- across h, the exchange e and g, the other way
 back_perm : (g e h q : List ℕ) → IsPermutationOfFour g → IsPermutationOfFour e → IsPermutationOfFour h → IsPermutationOfFour q → inverse e ≡ e
@@ -34,7 +32,7 @@ module _ (rows : List Row) (xs : List ℕ) (table : IsTable rows) (x : Face) (lx
     in_range : g.tet < length rows
     permutes : IsPermutationOfFour g.perm
     leads : (z : Face) (q : List ℕ) → z.face < 4 → IsPermutationOfFour q → image q z.face ≡ image g.perm x.face
-        → ChainEnds rows xs z m (onward_by q (glue rows (face_at g.tet (image g.perm x.face)))) (Some (gluing_at x.tet (compose (inverse g.perm) q)))
+        → ChainEnds rows xs z m (onward_by q (glue rows (face_at g.tet (image g.perm x.face)))) (Some (gluing_to x.tet (compose (inverse g.perm) q)))
 
   -- so it is behind the first gluing
   returns_first : (g : Gluing) → glue rows x ≡ Some g → Returns 0 g
@@ -44,7 +42,7 @@ module _ (rows : List Row) (xs : List ℕ) (table : IsTable rows) (x : Face) (lx
         in_range = a.other_tet;
         permutes = a.permutes;
         leads = λ z q lz hq same.
-            subst (λ o. ChainEnds rows xs z 0 (onward_by q o) (Some (gluing_at x.tet (compose (inverse g.perm) q)))) (sym a.back) (kept, refl);
+            subst (λ o. ChainEnds rows xs z 0 (onward_by q o) (Some (gluing_to x.tet (compose (inverse g.perm) q)))) (sym a.back) (kept, refl);
       }
 
   -- the vertex of the face that a chain has reached
@@ -55,7 +53,7 @@ module _ (rows : List Row) (xs : List ℕ) (table : IsTable rows) (x : Face) (lx
   partner_there g = partner_in xs g.tet (reached g)
 
   abbrev further : Gluing → Gluing → Gluing
-  further g h = gluing_at h.tet (compose h.perm (compose (exchange (reached g) (partner_there g)) g.perm))
+  further g h = gluing_to h.tet (compose h.perm (compose (exchange (reached g) (partner_there g)) g.perm))
 
   -- and behind each further one
   returns_on : (m : ℕ) (g h : Gluing) → Returns m g → is_removed xs g.tet ≡ true → glue rows (face_at g.tet (partner_there g)) ≡ Some h → Returns (suc m) (further g h)
@@ -91,11 +89,11 @@ module _ (rows : List Row) (xs : List ℕ) (table : IsTable rows) (x : Face) (lx
       goes : image (compose h.perm (compose ex g.perm)) x.face ≡ image h.perm w
       goes = image-compose h.perm (compose ex g.perm) inner x.face lx ∙ ap (image h.perm) (image-compose ex g.perm r.permutes x.face lx ∙ turning.leads)
 
-      back : glue rows (face_at h.tet (image (compose h.perm (compose ex g.perm)) x.face)) ≡ Some (gluing_at g.tet (inverse h.perm))
+      back : glue rows (face_at h.tet (image (compose h.perm (compose ex g.perm)) x.face)) ≡ Some (gluing_to g.tet (inverse h.perm))
       back = ap (λ f. glue rows (face_at h.tet f)) goes ∙ a.back
 
       leads : (z : Face) (q : List ℕ) → z.face < 4 → IsPermutationOfFour q → image q z.face ≡ image (compose h.perm (compose ex g.perm)) x.face
-          → ChainEnds rows xs z (suc m) (onward_by q (glue rows (face_at h.tet (image (compose h.perm (compose ex g.perm)) x.face)))) (Some (gluing_at x.tet (compose (inverse (compose h.perm (compose ex g.perm))) q)))
+          → ChainEnds rows xs z (suc m) (onward_by q (glue rows (face_at h.tet (image (compose h.perm (compose ex g.perm)) x.face)))) (Some (gluing_to x.tet (compose (inverse (compose h.perm (compose ex g.perm))) q)))
       leads z q lz hq same =
           let q1 : List ℕ = compose (inverse h.perm) q in
           let hq1 : IsPermutationOfFour q1 = compose_permutes (inverse h.perm) q (inverse_permutes h.perm a.permutes) hq in
@@ -108,15 +106,15 @@ module _ (rows : List Row) (xs : List ℕ) (table : IsTable rows) (x : Face) (lx
           let same' : image (compose ex q1) z.face ≡ v =
           image-compose ex q1 hq1 z.face lz ∙ ap (image ex) to_w ∙ ap (λ p. image p w) turning.either_way ∙ back_turn.leads in
           let hex : IsPermutationOfFour (compose ex q1) = compose_permutes ex q1 turning.permutes hq1 in
-          let then : ChainEnds rows xs z m (onward_by (compose ex q1) (glue rows (face_at g.tet v))) (Some (gluing_at x.tet (compose (inverse g.perm) (compose ex q1)))) =
+          let then : ChainEnds rows xs z m (onward_by (compose ex q1) (glue rows (face_at g.tet v))) (Some (gluing_to x.tet (compose (inverse g.perm) (compose ex q1)))) =
           r.leads z (compose ex q1) lz hex same' in
           let ends : compose (inverse g.perm) (compose ex q1) ≡ compose (inverse (compose h.perm (compose ex g.perm))) q =
           back_perm g.perm ex h.perm q r.permutes turning.permutes a.permutes hq turning.itself in
-          let here : ChainEnds rows xs z m (onward_by (compose (exchange v1 w1) q1) (glue rows (face_at g.tet w1))) (Some (gluing_at x.tet (compose (inverse (compose h.perm (compose ex g.perm))) q))) =
-          subst (λ p. ChainEnds rows xs z m (onward_by (compose (exchange v1 w1) q1) (glue rows (face_at g.tet w1))) (Some (gluing_at x.tet p))) ends
-          (subst (λ o. ChainEnds rows xs z m o (Some (gluing_at x.tet (compose (inverse g.perm) (compose ex q1)))))
+          let here : ChainEnds rows xs z m (onward_by (compose (exchange v1 w1) q1) (glue rows (face_at g.tet w1))) (Some (gluing_to x.tet (compose (inverse (compose h.perm (compose ex g.perm))) q))) =
+          subst (λ p. ChainEnds rows xs z m (onward_by (compose (exchange v1 w1) q1) (glue rows (face_at g.tet w1))) (Some (gluing_to x.tet p))) ends
+          (subst (λ o. ChainEnds rows xs z m o (Some (gluing_to x.tet (compose (inverse g.perm) (compose ex q1)))))
           (sym (λ i. onward_by (compose (swaps i) q1) (glue rows (face_at g.tet (to_v i))))) then) in
-          subst (λ o. ChainEnds rows xs z (suc m) (onward_by q o) (Some (gluing_at x.tet (compose (inverse (compose h.perm (compose ex g.perm))) q)))) (sym back) (gone, here)
+          subst (λ o. ChainEnds rows xs z (suc m) (onward_by q o) (Some (gluing_to x.tet (compose (inverse (compose h.perm (compose ex g.perm))) q)))) (sym back) (gone, here)
 
   -- where the chain of x ends at a kept face, chains come back from there
   record ComesBack (e : Gluing) : Type 0 where
@@ -143,7 +141,7 @@ module _ (rows : List Row) (xs : List ℕ) (table : IsTable rows) (x : Face) (lx
 
 unturned : (o : Option Gluing) → ((k : Gluing) → o ≡ Some k → IsPermutationOfFour k.perm) → onward_by identity o ≡ o
 unturned None h = refl
-unturned (Some k) h = ap (λ p. Some (gluing_at k.tet p)) (compose-identity k.perm (h k refl))
+unturned (Some k) h = ap (λ p. Some (gluing_to k.tet p)) (compose-identity k.perm (h k refl))
 
 -- where a chain ends at a kept face
 pub record IsReadBack (rows : List Row) (xs : List ℕ) (x : Face) (e : Gluing) : Type 0 where
@@ -157,14 +155,14 @@ chain_back rows xs x e table k c =
     let r : Returns rows xs table x k.face k.kept b.count e = b.returns in
     let z : Face = other_side x e in
     let lz : z.face < 4 = image_below e.perm r.permutes x.face k.face in
-    let chain : ChainEnds rows xs z b.count (onward_by identity (glue rows z)) (Some (gluing_at x.tet (compose (inverse e.perm) identity))) =
+    let chain : ChainEnds rows xs z b.count (onward_by identity (glue rows z)) (Some (gluing_to x.tet (compose (inverse e.perm) identity))) =
     r.leads z identity lz identity_permutes (image-identity z.face lz) in
     let same : onward_by identity (glue rows z) ≡ glue rows z = unturned (glue rows z) (λ g f. table.permutes z g f) in
     let ends : compose (inverse e.perm) identity ≡ inverse e.perm = compose-identity (inverse e.perm) (inverse_permutes e.perm r.permutes) in
     record {
       permutes = r.permutes;
       kept_there = record { in_range = r.in_range; face = lz; kept = b.kept_there };
-      back = (b.count, subst (λ o. ChainEnds rows xs z b.count o (Some (way_back x e))) same (subst (λ p. ChainEnds rows xs z b.count (onward_by identity (glue rows z)) (Some (gluing_at x.tet p))) ends chain));
+      back = (b.count, subst (λ o. ChainEnds rows xs z b.count o (Some (way_back x e))) same (subst (λ p. ChainEnds rows xs z b.count (onward_by identity (glue rows z)) (Some (gluing_to x.tet p))) ends chain));
     }
   where
     go : (o : Option Gluing) → glue rows x ≡ o → ChainEnds rows xs x c.0 (glue rows x) (Some e) → ComesBack rows xs table x k.face k.kept e

@@ -1,14 +1,10 @@
 -- Steps from corner to corner cross glued faces.
 use Rattle.std.proofs.Common.{◌≡◌, List, Option, Some, None, refl}
 use Rattle.std.specs.Prelude.{option_map}
-use Rattle.table_definitions.specs.Table.{Gluing, Row, Face, glue}
-use Rattle.skeleton_definitions.specs.Corners.{Corner, corner_behind, step}
+use Rattle.table_definitions.specs.Table.{Gluing, Row, glue}
+use Rattle.skeleton_definitions.specs.Corners.{Corner, corner_behind, step, left_through}
 
--- the face through which the walk leaves a corner
-abbrev pub left_through : Corner → Face
-left_through k = record { tet = k.tet; face = k.c }
-
--- it is glued
+-- the face through which the walk leaves a corner is glued
 pub record LeadsOn (rows : List Row) (k : Corner) : Type 0 where
   pub g : Gluing
   pub glued : glue rows (left_through k) ≡ Some g

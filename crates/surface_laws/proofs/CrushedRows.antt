@@ -9,17 +9,17 @@ use Rattle.table_definitions.specs.Table.{Gluing, Row, Face, glue, other_side, w
 use Rattle.table_definitions.proofs.TableLaws.{glued_tet, glued_face}
 use Rattle.table_definitions.proofs.Permutations.{image-identity}
 use Rattle.table_definitions.proofs.Ranks.{rank, rank_fits, StandsAt, at_rank, of_rank, ranks_apart, length-picked, picked}
+use Rattle.table_definitions.proofs.Faces.{face_at, gluing_to}
 use Rattle.surface_definitions.specs.Crushing.{is_removed, number_kept, CrushesTo, IsCrushed, ChainEnds, passed}
 use Rattle.surface_laws.specs.CrushingLaws.{IsKeptFace, HasOneEnd}
-use Rattle.surface_laws.proofs.Glued.{face_at}
 use Rattle.surface_definitions.proofs.SurfaceEvaluators.{followed, crushed}
 use Rattle.surface_laws.proofs.Chains.{one_end, has_one_end, HasChain, has_chain}
-use Rattle.surface_laws.proofs.ChainsBack.{gluing_at, IsReadBack, chain_back}
+use Rattle.surface_laws.proofs.ChainsBack.{IsReadBack, chain_back}
 use Rattle.surface_laws.proofs.NoReturn.{chain_elsewhere}
 
 -- a gluing with its tetrahedron's number in the crushed table
 abbrev pub renumbered : List ℕ → Option Gluing → Option Gluing
-renumbered xs o = option_map (λ (g : Gluing). gluing_at (number_kept xs g.tet) g.perm) o
+renumbered xs o = option_map (λ (g : Gluing). gluing_to (number_kept xs g.tet) g.perm) o
 
 abbrev pub stays : List ℕ → ℕ → Bool
 stays xs t = not (is_removed xs t)
@@ -80,7 +80,7 @@ module _ (rows : List Row) (xs : List ℕ) (table : IsTable rows) where
         by_end : (k : ComesFrom x.tet x.face) (o : Option Gluing) → CrushesTo rows xs (face_at k.was x.face) o → renumbered xs o ≡ Some h → GluedFrom x.tet x.face h
         by_end k None d s = absurd cc
         by_end k (Some g) d s =
-            let same : gluing_at (number_kept xs g.tet) g.perm ≡ h = cc in
+            let same : gluing_to (number_kept xs g.tet) g.perm ≡ h = cc in
             record { was = k.was; g = g; kept = k.kept; chain = d; number = k.number; other = ap (λ (q : Gluing). q.tet) same; perm = ap (λ (q : Gluing). q.perm) same }
 
     back_from : (x : Face) (h : Gluing) (s : GluedFrom x.tet x.face h) → IsReadBack rows xs (face_at s.was x.face) s.g
@@ -112,9 +112,9 @@ module _ (rows : List Row) (xs : List ℕ) (table : IsTable rows) where
     crushed_leads_back x h e =
         let s : GluedFrom x.tet x.face h = glued_from x h e in
         let b : IsReadBack rows xs (face_at s.was x.face) s.g = back_from x h s in
-        let there : glue new (face_at (number_kept xs (s.g).tet) (image (s.g).perm x.face)) ≡ Some (gluing_at (number_kept xs s.was) (inverse (s.g).perm)) =
+        let there : glue new (face_at (number_kept xs (s.g).tet) (image (s.g).perm x.face)) ≡ Some (gluing_to (number_kept xs s.was) (inverse (s.g).perm)) =
         c.glued (other_side (face_at s.was x.face) s.g) (Some (way_back (face_at s.was x.face) s.g)) (b.kept_there).in_range (b.kept_there).face (b.kept_there).kept b.back in
-        (λ i. glue new (face_at (sym s.other i) (image (sym s.perm i) x.face))) ∙ there ∙ (λ i. Some (gluing_at (s.number i) (inverse (s.perm i))))
+        (λ i. glue new (face_at (sym s.other i) (image (sym s.perm i) x.face))) ∙ there ∙ (λ i. Some (gluing_to (s.number i) (inverse (s.perm i))))
 
     pub crushed_is_table : IsTable new
     crushed_is_table = record {

@@ -12,6 +12,7 @@ use Rattle.surface_definitions.specs.Coordinates.{quad_column, oct_column, keepi
 use Rattle.surface_definitions.specs.declared.Coords.{Coords}
 use Rattle.surface_definitions.specs.declared.Coords.TheVariants.{Standard, Quad, Octagon}
 use Rattle.surface_laws.specs.MatchingLaws.{HasTriangles}
+use Rattle.surface_laws.specs.PieceLaws.{first_nonzero}
 use Rattle.surface_laws.proofs.Turns.{keeping_below}
 use Rattle.table_definitions.proofs.Listed.{Among-filter, all_at}
 
@@ -22,10 +23,6 @@ IsZeroIn xs a b = (slice_index xs a ≡ 0) ⊎ (slice_index xs b ≡ 0)
 abbrev pub MostOne : List ℕ → List ℕ → Type 0
 MostOne xs [] = ⊤
 MostOne xs (d ∷ ds) = AllByRecursion (IsZeroIn xs d) ds × MostOne xs ds
-
--- the first nonzero one of the columns, or else q
-abbrev pub first_nonzero : List ℕ → List ℕ → ℕ → ℕ
-first_nonzero xs os q = slice_index_or os (position_or_len (λ c. nat_lt 0 (slice_index xs c)) os) q
 
 module _ (xs ys : List ℕ) (inside : (c : ℕ) → slice_index xs c ≡ 0 → slice_index ys c ≡ 0) where
   others_zero : (o : ℕ) (os : List ℕ) → 0 < slice_index xs o → AllByRecursion (IsZeroIn xs o) os → sum_by (slice_index ys) os ≡ 0

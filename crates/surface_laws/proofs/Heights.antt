@@ -15,13 +15,13 @@ use Rattle.surface_definitions.specs.declared.Coords.TheVariants.{Standard, Quad
 use Rattle.surface_definitions.specs.Equations.{Holds, glued_pairs, matching}
 use Rattle.surface_definitions.specs.Lift.{projected, IsLiftAt}
 use Rattle.vector_definitions.specs.Lifting.{HasLiftAt}
-use Rattle.surface_laws.specs.LiftLaws.{IsLiftOf, AreHeights}
+use Rattle.surface_laws.specs.LiftLaws.{IsLiftOf, AreHeights, triangle_at}
 use Rattle.surface_laws.proofs.Glued.{IsGlued, glued_is}
 use Rattle.surface_laws.proofs.Turns.{keeping_below}
 use Rattle.surface_laws.proofs.Matched.{pair_glued}
 use Rattle.surface_laws.proofs.Quads.{projected_at, length-projected}
 use Rattle.surface_laws.proofs.Vertices.{number-vertex, class_across}
-use Rattle.surface_laws.proofs.Lifts.{triangles, lift_matched}
+use Rattle.surface_laws.proofs.Lifts.{lift_matched}
 use Rattle.surface_laws.proofs.Solved.{other_is}
 use Rattle.table_definitions.proofs.Listed.{among_contains}
 
@@ -148,7 +148,7 @@ lowest classes c h (suc bound) = go (lowest classes c h bound) (cases_eq (slice_
       })
     ]
 
-triangles_at : (ys : List ℕ) (t v : ℕ) → v < 4 → triangles ys (vertex_number t v) ≡ slice_index ys (tri_column Standard t v)
+triangles_at : (ys : List ℕ) (t v : ℕ) → v < 4 → triangle_at ys (vertex_number t v) ≡ slice_index ys (tri_column Standard t v)
 triangles_at ys t v l =
     let d : vertex_number t v / 4 ≡ t = omega arith in
     let m : vertex_number t v % 4 ≡ v = omega arith in
@@ -188,7 +188,7 @@ module _ (s : Skeleton) (k : IsSkeleton s) (xs : List ℕ) (w : length xs ≡ 3 
           (a x g v e o.0 o.1 ch)
 
   -- the triangles of a lift are heights
-  lift_heights : (c : ℕ) (ys : List ℕ) → IsLiftAt s.rows s.vertices.classes xs c ys → AreHeights s xs c (triangles ys)
+  lift_heights : (c : ℕ) (ys : List ℕ) → IsLiftAt s.rows s.vertices.classes xs c ys → AreHeights s xs c (triangle_at ys)
   lift_heights c ys l x g v e lv off ch =
       let into : IsGlued s.rows x g = glued_is s.rows x g k.table e in
       let u : ℕ = image g.perm v in
@@ -200,7 +200,7 @@ module _ (s : Skeleton) (k : IsSkeleton s) (xs : List ℕ) (w : length xs ≡ 3 
       λ t j lt lj. alone xs t j ∙ ap (λ zs. slice_index zs (3 * t + j)) (sym l.quads_are) ∙ projected_at ys n t j lt lj in
       from_holds (slice_index ys (tri_column Standard x.tet v)) (slice_index ys (quad_column Standard x.tet (keeping v x.face)))
       (slice_index ys (tri_column Standard g.tet u)) (slice_index ys (quad_column Standard g.tet (keeping u f)))
-      (triangles ys (vertex_number x.tet v)) (slice_index xs (quad_column Quad x.tet (keeping v x.face))) (triangles ys (vertex_number g.tet u)) (slice_index xs (quad_column Quad g.tet (keeping u f)))
+      (triangle_at ys (vertex_number x.tet v)) (slice_index xs (quad_column Quad x.tet (keeping v x.face))) (triangle_at ys (vertex_number g.tet u)) (slice_index xs (quad_column Quad g.tet (keeping u f)))
       (triangles_at ys x.tet v lv) (quad_at x.tet (keeping v x.face) into.tet q) (triangles_at ys g.tet u lu) (quad_at g.tet (keeping u f) into.other_tet q')
       (lift_matched s.rows k.table s.vertices.classes s.vertices.count k.vertices xs c ys l x g v e lv off ch)
 
@@ -227,7 +227,7 @@ module _ (s : Skeleton) (k : IsSkeleton s) (xs : List ℕ) (w : length xs ≡ 3 
           (vector_of n (λ i. h i - h m.member) xs, heights_lift c (λ i. h i - h m.member) (lowered_heights c h m a) m.member m.within m.in_class z)
 
   pub lift_gives : (c : ℕ) → HasLiftAt s xs c → (h : ℕ → ℕ) × AreHeights s xs c h
-  lift_gives c l = (triangles l.0, lift_heights c l.0 l.1)
+  lift_gives c l = (triangle_at l.0, lift_heights c l.0 l.1)
 
   -- a lift at each class, picked for any number
   module _ (each : (c : ℕ) → c < s.vertices.count → HasLiftAt s xs c) where
@@ -247,7 +247,7 @@ module _ (s : Skeleton) (k : IsSkeleton s) (xs : List ℕ) (w : length xs ≡ 3 
         go (inr p) = absurd (omega arith)
 
     abbrev joined : ℕ → ℕ
-    joined i = triangles (picked (class_of i)) i
+    joined i = triangle_at (picked (class_of i)) i
 
     joined_heights : (c : ℕ) → c < s.vertices.count → AreHeights s xs c joined
     joined_heights c lc x g v e lv off ch =
@@ -255,8 +255,8 @@ module _ (s : Skeleton) (k : IsSkeleton s) (xs : List ℕ) (w : length xs ≡ 3 
         let u : ℕ = image g.perm v in
         let f : ℕ = image g.perm x.face in
         let cu : class_of (vertex_number g.tet u) ≡ c = sym (class_across s.rows k.table s.vertices.classes s.vertices.count k.vertices x g v e lv off) ∙ ch in
-        let here : joined (vertex_number x.tet v) ≡ triangles (picked c) (vertex_number x.tet v) = ap (λ d. triangles (picked d) (vertex_number x.tet v)) ch in
-        let there : joined (vertex_number g.tet u) ≡ triangles (picked c) (vertex_number g.tet u) = ap (λ d. triangles (picked d) (vertex_number g.tet u)) cu in
+        let here : joined (vertex_number x.tet v) ≡ triangle_at (picked c) (vertex_number x.tet v) = ap (λ d. triangle_at (picked d) (vertex_number x.tet v)) ch in
+        let there : joined (vertex_number g.tet u) ≡ triangle_at (picked c) (vertex_number g.tet u) = ap (λ d. triangle_at (picked d) (vertex_number g.tet u)) cu in
         ap (λ i. i + slice_index xs (quad_column Quad x.tet (keeping v x.face))) here
         ∙ lift_heights c (picked c) (picked_lift c lc) x g v e lv off ch
         ∙ ap (λ i. i + slice_index xs (quad_column Quad g.tet (keeping u f))) (sym there)
@@ -270,6 +270,6 @@ module _ (s : Skeleton) (k : IsSkeleton s) (xs : List ℕ) (w : length xs ≡ 3 
             let m : IsLiftAt s.rows s.vertices.classes xs c (picked c) = picked_lift c lc in
             let i : ℕ = (m.least).0 in
             let li : i < 4 * n = let l = (m.least).1 in let e = (k.vertices).one_each in omega arith in
-            heights_lift c joined (joined_heights c lc) i li (m.least).2 (ap (λ d. triangles (picked d) i) (m.least).2 ∙ (m.least).3);
+            heights_lift c joined (joined_heights c lc) i li (m.least).2 (ap (λ d. triangle_at (picked d) i) (m.least).2 ∙ (m.least).3);
       },
     )

@@ -8,20 +8,18 @@ use Rattle.table_definitions.specs.Classes.{IsNumbering}
 use Rattle.table_definitions.specs.Places.{Place, across, vertex, SameVertex}
 use Rattle.table_definitions.proofs.ChainLaws.{kept_along}
 use Rattle.table_definitions.proofs.PermutationLaws.{image_below, images_apart}
+use Rattle.table_definitions.proofs.Faces.{face_at}
 use Rattle.skeleton_definitions.specs.Links.{vertex_number}
 use Rattle.surface_definitions.specs.Coordinates.{tri_column, quad_column, keeping}
 use Rattle.surface_definitions.specs.declared.Coords.TheVariants.{Standard}
 use Rattle.surface_definitions.specs.Equations.{Holds, matching}
 use Rattle.surface_definitions.specs.Lift.{projected, IsLiftAt, IsLift}
-use Rattle.surface_laws.proofs.Glued.{IsGlued, glued_is, face_at}
+use Rattle.surface_laws.proofs.Glued.{IsGlued, glued_is}
 use Rattle.surface_laws.proofs.Turns.{keeping_below}
 use Rattle.surface_laws.proofs.Matched.{matched}
 use Rattle.surface_laws.proofs.Quads.{projected_at}
 use Rattle.surface_laws.proofs.Vertices.{one_vertex, number-vertex, IsCrossed, crossed_is, class_across}
-
--- the triangles round vertex i
-abbrev pub triangles : List ℕ → ℕ → ℕ
-triangles ys i = slice_index ys (tri_column Standard (i / 4) (i % 4))
+use Rattle.surface_laws.specs.LiftLaws.{triangle_at}
 
 differ_on : (a b y y' z z' q q' r r' : ℕ) → a + z ≡ b + y → 0 + y + q ≡ 0 + y' + q' → 0 + z + r ≡ 0 + z' + r' → q ≡ r → q' ≡ r' → a + z' ≡ b + y'
 differ_on a b y y' z z' q q' r r' d e f s t = omega arith
@@ -79,29 +77,29 @@ module _ (rows : List Row) (table : IsTable rows) (classes : List ℕ) (count : 
         } in
         subst (DifferAt a b) s.is to
 
-    differ_along : (i j : ℕ) → i < 4 * length rows → j < 4 * length rows → slice_index classes i ≡ c → slice_index classes j ≡ c → triangles ys i + triangles zs j ≡ triangles zs i + triangles ys j
+    differ_along : (i j : ℕ) → i < 4 * length rows → j < 4 * length rows → slice_index classes i ≡ c → slice_index classes j ≡ c → triangle_at ys i + triangle_at zs j ≡ triangle_at zs i + triangle_at ys j
     differ_along i j li lj ci cj =
         let joined : SameVertex rows i j = (numbered.together i j li lj).0 (ci ∙ sym cj) in
         let low : i % 4 < 4 = omega arith in
-        let flip : triangles ys i + triangles zs i ≡ triangles zs i + triangles ys i = omega arith in
-        let start : DifferAt (triangles ys i) (triangles zs i) (vertex i) = record {
+        let flip : triangle_at ys i + triangle_at zs i ≡ triangle_at zs i + triangle_at ys i = omega arith in
+        let start : DifferAt (triangle_at ys i) (triangle_at zs i) (vertex i) = record {
           v = i % 4;
           is = refl;
           below = low;
           chosen = ap (slice_index classes) (number-vertex i) ∙ ci;
           differ = flip;
         } in
-        let end : DifferAt (triangles ys i) (triangles zs i) (vertex j) = kept_along rows (DifferAt (triangles ys i) (triangles zs i)) (differ_across (triangles ys i) (triangles zs i)) joined.0 (vertex i) (vertex j) start joined.1 in
+        let end : DifferAt (triangle_at ys i) (triangle_at zs i) (vertex j) = kept_along rows (DifferAt (triangle_at ys i) (triangle_at zs i)) (differ_across (triangle_at ys i) (triangle_at zs i)) joined.0 (vertex i) (vertex j) start joined.1 in
         let v : end.v ≡ j % 4 = sym (ap (λ (vs : List ℕ). slice_index vs 0) end.is) in
-        subst (λ w. triangles ys i + slice_index zs (tri_column Standard (j / 4) w) ≡ triangles zs i + slice_index ys (tri_column Standard (j / 4) w)) v end.differ
+        subst (λ w. triangle_at ys i + slice_index zs (tri_column Standard (j / 4) w) ≡ triangle_at zs i + slice_index ys (tri_column Standard (j / 4) w)) v end.differ
 
-    pub same_triangles : (i : ℕ) → i < 4 * length rows → slice_index classes i ≡ c → triangles ys i ≡ triangles zs i
+    pub same_triangles : (i : ℕ) → i < 4 * length rows → slice_index classes i ≡ c → triangle_at ys i ≡ triangle_at zs i
     same_triangles i li ci =
         let a : ℕ = (one.least).0 in
         let b : ℕ = (other.least).0 in
         let la : a < 4 * length rows = let l = (one.least).1 in omega (arith, numbered.one_each) in
         let lb : b < 4 * length rows = let l = (other.least).1 in omega (arith, numbered.one_each) in
-        same_heights (triangles ys i) (triangles zs i) (triangles ys a) (triangles zs a) (triangles ys b) (triangles zs b)
+        same_heights (triangle_at ys i) (triangle_at zs i) (triangle_at ys a) (triangle_at zs a) (triangle_at ys b) (triangle_at zs b)
         (differ_along i a li la ci (one.least).2) (differ_along i b li lb ci (other.least).2) (one.least).3 (other.least).3
 
   pub one_lift : (ys zs : List ℕ) → IsLift rows classes count xs ys → IsLift rows classes count xs zs → ys ≡ zs
@@ -120,7 +118,7 @@ module _ (rows : List Row) (table : IsTable rows) (classes : List ℕ) (count : 
                 let mn : n % 4 ≡ k = omega arith in
                 let c : ℕ = slice_index classes n in
                 let lc : c < count = numbered.in_range n ln in
-                let same : triangles ys n ≡ triangles zs n = same_triangles c ys zs (f.each c lc) (g.each c lc) n ln refl in
+                let same : triangle_at ys n ≡ triangle_at zs n = same_triangles c ys zs (f.each c lc) (g.each c lc) n ln refl in
                 let at : tri_column Standard (n / 4) (n % 4) ≡ i = (λ j. tri_column Standard (dn j) (mn j)) ∙ whole in
                 ap (slice_index ys) (sym at) ∙ same ∙ ap (slice_index zs) at)
             | inr high ↦ (let lk : k - 4 < 3 = omega arith in

@@ -4,9 +4,10 @@ use Rattle.std.specs.Prelude.{◌==◌}
 use Rattle.std.proofs.lemmas.Bool.{and_from, eq-eqb}
 use Rattle.table_definitions.specs.Permutation.{image}
 use Rattle.table_definitions.specs.Table.{Gluing, Row, Face, glue, other_side, way_back, same_face, IsTable}
+use Rattle.table_definitions.proofs.Faces.{face_at}
 use Rattle.surface_definitions.specs.Crushing.{is_removed, passed, ChainEnds, CrushesTo}
 use Rattle.surface_laws.proofs.Chains.{kept_or_gone, turned_face, turn_back, Stands, stands_on, starts}
-use Rattle.surface_laws.proofs.Glued.{IsGlued, glued_is, face_at}
+use Rattle.surface_laws.proofs.Glued.{IsGlued, glued_is}
 use Rattle.surface_laws.proofs.Turns.{turned_at}
 
 module _ (rows : List Row) (xs : List ℕ) (table : IsTable rows) where

@@ -18,11 +18,12 @@ use Rattle.vector_definitions.specs.Lifting.{HasLiftAt, IsLeastWithoutLift, IsLi
 use Rattle.vector_definitions.specs.declared.LiftFault.{LiftFault}
 use Rattle.vector_definitions.specs.declared.LiftFault.TheVariants.{Large, NoLift}
 use Rattle.surface_laws.specs.LiftLaws.{AreHeights, IsLiftOf}
-use Rattle.surface_laws.proofs.Glued.{IsGlued, glued_is, face_at}
+use Rattle.surface_laws.proofs.Glued.{IsGlued, glued_is}
 use Rattle.surface_laws.proofs.Vertices.{one_vertex, number-vertex, IsCrossed, crossed_is, class_across}
 use Rattle.surface_laws.proofs.Heights.{heights_give, lift_gives, lifts_join}
 use Rattle.surface_laws.proofs.Solved.{other_is}
 use Rattle.table_definitions.proofs.Listed.{Among-others}
+use Rattle.table_definitions.proofs.Faces.{face_at}
 
 -- what is decided of each item is decided of a list
 pub decided_all : {A : Type 0} (P : A → Type 0) (xs : List A) → ((x : A) → Among x xs → P x ⊎ (P x → ⊥)) → ((x : A) → Among x xs → P x) ⊎ (((x : A) → Among x xs → P x) → ⊥)

@@ -9,8 +9,9 @@ use Rattle.table_definitions.specs.Classes.{IsNumbering}
 use Rattle.table_definitions.specs.Places.{Place, carried, across, vertex, IsJoined, SameVertex}
 use Rattle.table_definitions.proofs.ChainLaws.{joined_step}
 use Rattle.table_definitions.proofs.PermutationLaws.{image_below}
+use Rattle.table_definitions.proofs.Faces.{face_at}
 use Rattle.skeleton_definitions.specs.Links.{vertex_number}
-use Rattle.surface_laws.proofs.Glued.{IsGlued, glued_is, face_at}
+use Rattle.surface_laws.proofs.Glued.{IsGlued, glued_is}
 
 abbrev pub one_vertex : ℕ → ℕ → Place
 one_vertex t v = record { tet = t; vertices = v ∷ [] }

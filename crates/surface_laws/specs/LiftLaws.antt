@@ -1,17 +1,21 @@
 -- Laws of lifts.
-use Rattle.std.specs.Prelude.{◌≡◌, ℕ, ◌+◌, ◌<◌, ◌↔◌, ◌⊎◌, List, length, Some, Result, slice_index}
+use Rattle.std.specs.Prelude.{◌≡◌, ℕ, ◌+◌, ◌<◌, ◌↔◌, ◌⊎◌, List, length, Some, Result, slice_index, ◌/◌, ◌%◌}
 use Rattle.cone_definitions.specs.Rows.{IsSolution}
 use Rattle.cone_definitions.specs.Surfaces.{IsAdmissible}
 use Rattle.table_definitions.specs.Permutation.{image}
 use Rattle.table_definitions.specs.Table.{Gluing, Face, glue}
 use Rattle.skeleton_definitions.specs.Links.{vertex_number}
 use Rattle.skeleton_definitions.specs.Skeleton.{Skeleton, IsSkeleton}
-use Rattle.surface_definitions.specs.Coordinates.{columns, clash_list, quad_column, keeping}
+use Rattle.surface_definitions.specs.Coordinates.{columns, clash_list, quad_column, keeping, tri_column}
 use Rattle.surface_definitions.specs.declared.Coords.TheVariants.{Standard, Quad}
 use Rattle.surface_definitions.specs.Equations.{matching_rows}
 use Rattle.surface_definitions.specs.Lift.{projected, IsLift}
 use Rattle.vector_definitions.specs.Lifting.{HasLiftAt, IsLiftAnswer}
 use Rattle.vector_definitions.specs.declared.LiftFault.{LiftFault}
+
+-- the triangles round vertex i
+abbrev pub triangle_at : List ℕ → ℕ → ℕ
+triangle_at ys i = slice_index ys (tri_column Standard (i / 4) (i % 4))
 
 -- ys is the lift of the quad vector xs of a table
 abbrev pub IsLiftOf : Skeleton → List ℕ → List ℕ → Type 0

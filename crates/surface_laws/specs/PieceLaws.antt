@@ -1,6 +1,6 @@
 -- Laws of pieces, of the arcs in which they meet, and of components.
-use Rattle.std.specs.Prelude.{◌≡◌, ℕ, ◌+◌, ◌<◌, ◌↔◌, List, length, take, Contains, Result, sum_by, sum, slice_index, ◌-◌, Bool, if◌then◌else◌}
-use Rattle.std.specs.List.{slice_index_or}
+use Rattle.std.specs.Prelude.{◌≡◌, ℕ, ◌+◌, ◌<◌, ◌↔◌, List, length, take, Contains, Result, sum_by, sum, slice_index, ◌-◌, Bool, if◌then◌else◌, nat_lt}
+use Rattle.std.specs.List.{slice_index_or, position_or_len}
 use Rattle.cone_definitions.specs.Rows.{IsSolution}
 use Rattle.cone_definitions.specs.Surfaces.{IsAdmissible}
 use Rattle.table_definitions.specs.Lists.{below}
@@ -110,3 +110,7 @@ ComponentsExist = (rows : List Row) (coords : Coords) (xs : List ℕ) → IsSurf
 -- so something is told of the pieces of each surface
 abbrev pub PiecesAnswersExist : Type 0
 PiecesAnswersExist = (rows : List Row) (coords : Coords) (xs : List ℕ) → IsSurface rows coords xs → (a : Result (List Component) PiecesFault) × IsPiecesAnswer rows coords xs a
+
+-- the first of these columns that isn't 0, or else q
+abbrev pub first_nonzero : List ℕ → List ℕ → ℕ → ℕ
+first_nonzero xs os q = slice_index_or os (position_or_len (λ c. nat_lt 0 (slice_index xs c)) os) q

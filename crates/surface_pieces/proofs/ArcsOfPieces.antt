@@ -12,11 +12,11 @@ use Rattle.surface_definitions.specs.Pieces.{SurfacePiece, Arc, arcs_round, type
 use Rattle.surface_laws.specs.MatchingLaws.{HasTriangles}
 use Rattle.surface_laws.proofs.MeetingArcs.{arc_at}
 use Rattle.surface_laws.proofs.Turns.{keeping_below}
-use Rattle.surface_laws.proofs.FurtherArcs.{first_nonzero, one_further, further_one}
+use Rattle.surface_laws.proofs.FurtherArcs.{one_further, further_one}
 use Rattle.surface_laws.proofs.PieceNumbers.{piece_at}
 use Rattle.table_definitions.specs.Table.{Row}
 use Rattle.surface_definitions.specs.Coordinates.{columns}
-use Rattle.surface_laws.specs.PieceLaws.{IsSurface}
+use Rattle.surface_laws.specs.PieceLaws.{IsSurface, first_nonzero}
 use Rattle.surface_pieces.specs.Arcs.{IsArcOf, IsOnlyArcOf}
 
 -- what is so of all the columns is so of the first nonzero one

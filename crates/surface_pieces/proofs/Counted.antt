@@ -1,16 +1,13 @@
 -- Sums and lists of pieces, column by column.
-use Rattle.std.proofs.Common.{◌≡◌, ℕ, ◌+◌, List, [], ◌∷◌, ◌++◌, map, flat_map, refl, sym, ap, ◌∙◌}
-use Rattle.std.proofs.lemmas.List.{map-append, append_assoc, append-nil}
+use Rattle.std.proofs.Common.{◌≡◌, ℕ, ◌+◌, List, [], ◌∷◌, ◌++◌, map, flat_map, ap, ◌∙◌}
+use Rattle.std.proofs.lemmas.List.{map-append, append-nil}
+use Rattle.std.proofs.lemmas.Grind.{flat_map-append}
 use Rattle.table_definitions.specs.Lists.{below}
 use Rattle.table_definitions.proofs.ListFacts.{below_next}
 use Rattle.surface_laws.proofs.PieceNumbers.{piece_at, of_column}
 
 pub piece_next : (c n : ℕ) → map (piece_at c) (below (n + 1)) ≡ map (piece_at c) (below n) ++ piece_at c n ∷ []
 piece_next c n = ap (map (piece_at c)) (below_next n) ∙ map-append (piece_at c) (below n) (n ∷ [])
-
-flat_map-append : {A B : Type 0} (F : A → List B) (xs ys : List A) → flat_map F (xs ++ ys) ≡ flat_map F xs ++ flat_map F ys
-flat_map-append F [] ys = refl
-flat_map-append F (x ∷ xs) ys = ap (λ zs. F x ++ zs) (flat_map-append F xs ys) ∙ sym (append_assoc (F x) (flat_map F xs) (flat_map F ys))
 
 pub column_next : (xs : List ℕ) (n : ℕ) → flat_map (of_column xs) (below (n + 1)) ≡ flat_map (of_column xs) (below n) ++ of_column xs n
 column_next xs n =

@@ -4,7 +4,7 @@ use Rattle.std.specs.Prelude.{nat_lt, slice_index}
 use Rattle.std.specs.List.{position_or_len, slice_index_or}
 use Rattle.std.proofs.lemmas.Bool.{lt-ltb, le-ltb}
 use Rattle.std.proofs.lemmas.List.{at_drop_more}
-use Rattle.surface_pieces.specs.Arcs.{first_nonzero}
+use Rattle.surface_laws.specs.PieceLaws.{first_nonzero}
 
 module _ (xs : List ℕ) (q : ℕ) where
   at_test : ℕ → List ℕ → Bool → ℕ

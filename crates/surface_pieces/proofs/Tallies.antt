@@ -12,9 +12,7 @@ use Rattle.table_definitions.proofs.ListFacts.{sum_below_next}
 use Rattle.surface_definitions.specs.Pieces.{SurfacePiece, pieces_of, is_counted, component_vector}
 use Rattle.surface_laws.proofs.PieceNumbers.{no_piece}
 use Rattle.surface_pieces.specs.Vectors.{AreVectors}
-
-abbrev one_if : Bool → ℕ
-one_if b = cond b 1 0
+use Rattle.plain_facts.proofs.Truths.{one_if}
 
 -- how many of the first n pieces of component i stand in column c
 abbrev pub tally : List ℕ → List ℕ → ℕ → ℕ → ℕ → ℕ

@@ -1,6 +1,5 @@
 -- The arc of a piece round a vertex of a face.
-use Rattle.std.specs.Prelude.{◌≡◌, ℕ, ◌/◌, ◌<◌, List, nat_lt, slice_index}
-use Rattle.std.specs.List.{position_or_len, slice_index_or}
+use Rattle.std.specs.Prelude.{◌≡◌, ℕ, ◌/◌, ◌<◌, List}
 use Rattle.surface_definitions.specs.Coordinates.{columns_each}
 use Rattle.surface_definitions.specs.declared.Coords.{Coords}
 use Rattle.surface_definitions.specs.Pieces.{SurfacePiece, Arc, arcs_round, piece_of}
@@ -20,7 +19,3 @@ IsOnlyArcOf coords xs p f v a = IsArcOf coords xs p f v a × ((b : Arc) → IsAr
 -- there is none
 abbrev pub HasNoArc : Coords → List ℕ → SurfacePiece → ℕ → ℕ → Type 0
 HasNoArc coords xs p f v = (b : Arc) → IsArcOf coords xs p f v b → ⊥
-
--- the first of these columns that isn't 0, or else q
-abbrev pub first_nonzero : List ℕ → List ℕ → ℕ → ℕ
-first_nonzero xs os q = slice_index_or os (position_or_len (λ c. nat_lt 0 (slice_index xs c)) os) q

@@ -4,7 +4,7 @@ ghost use Rattle.std.specs.Prelude.{◌≡◌, ◌≢◌, ◌+◌, ◌*◌, ◌%
 ghost use Rattle.table_definitions.specs.Table.{max_tets};
 ghost use Rattle.surface_definitions.specs.Coordinates as coordinates;
 ghost use Rattle.surface_definitions.specs.Pieces as pieces;
-ghost use Rattle.surface_pieces.specs.Arcs.{first_nonzero};
+ghost use Rattle.surface_laws.specs.PieceLaws.{first_nonzero};
 
 use normal_discs::{keeping, octagon_arcs, quad_column};
 use std::marker::Model;

@@ -7,23 +7,38 @@ use Rattle.table_definitions.proofs.Permutations.{inverse-inverse}
 use Rattle.table_definitions.proofs.Carried.{same_from, same_to}
 use Rattle.table_definitions.specs.Places.{face_of}
 
+-- a face, and a gluing, by their parts; what a gluing leads to, and how
+abbrev pub face_at : ℕ → ℕ → Face
+face_at t f = record { tet = t; face = f }
+
+abbrev pub gluing_to : ℕ → List ℕ → Gluing
+gluing_to t p = record { tet = t; perm = p }
+
+abbrev pub tet_of : Gluing → ℕ
+tet_of g = g.tet
+
+abbrev pub perm_of : Gluing → List ℕ
+perm_of g = g.perm
+
 pub same_face-true : (x y : Face) → same_face x y ≡ true → x ≡ y
 same_face-true x y h =
     let p = same_from x.tet y.tet x.face y.face h in
-    let mk : ℕ → ℕ → Face = λ a b. record { tet = a; face = b } in
-    ap (λ a. mk a x.face) p.0 ∙ ap (λ b. mk y.tet b) p.1
+    ap (λ a. face_at a x.face) p.0 ∙ ap (face_at y.tet) p.1
 
 pub same_face-itself : (x : Face) → same_face x x ≡ true
 same_face-itself x = same_to x.tet x.tet x.face x.face refl refl
 
 -- across a gluing and back
 pub there_and_back : (x : Face) (g : Gluing) → IsPermutationOfFour g.perm → x.face < 4 → other_side (other_side x g) (way_back x g) ≡ x
-there_and_back x g h l = ap (λ v. record { tet = x.tet; face = v }) (image-of_inverse g.perm x.face h l)
+there_and_back x g h l = ap (face_at x.tet) (image-of_inverse g.perm x.face h l)
 
 pub back_again : (x : Face) (g : Gluing) → IsPermutationOfFour g.perm → way_back (other_side x g) (way_back x g) ≡ g
-back_again x g h = ap (λ (p : List ℕ). record { tet = g.tet; perm = p }) (inverse-inverse g.perm h)
+back_again x g h = ap (gluing_to g.tet) (inverse-inverse g.perm h)
 
 -- a face by its number
+pub number-face_of : (k : ℕ) → face_number (face_of k) ≡ k
+number-face_of k = omega arith
+
 pub face_of-number : (x : Face) → x.face < 4 → face_of (face_number x) ≡ x
 face_of-number x l =
     let d : (4 * x.tet + x.face) / 4 ≡ x.tet = omega arith in

@@ -12,8 +12,7 @@ use Rattle.table_definitions.specs.Table.{Gluing, Row, Face, other_side, way_bac
 use Rattle.table_definitions.specs.Replacing.{Replacement, leads_to, fresh_faces, fresh_row, back_to_fresh}
 use Rattle.table_definitions.proofs.TableLaws.{Among, Among-left, Among-right, Among-map, Among-four}
 use Rattle.table_definitions.specs.Replaceable.{fresh_numbers, fresh_glue, CanReplace}
-use Rattle.table_definitions.proofs.Carried.{same_to}
-use Rattle.table_definitions.proofs.Faces.{same_face-true}
+use Rattle.table_definitions.proofs.Faces.{same_face-true, same_face-itself}
 
 abbrev Numbered : Type 0
 Numbered = ℕ × Row
@@ -53,19 +52,20 @@ length-fresh_row rows r can u h =
     let at : fresh_row r u ≡ (get_or r.fresh i nothing).1 = get_or-map (λ (x : Numbered). x.1) r.fresh i nothing [] l in
     ap length at ∙ All-get_or (λ (x : Numbered). length x.1 ≡ 4) r.fresh i nothing l can.four_faces
 
+-- an empty row has no gluing
+pub nothing_in : (k : ℕ) → (let none : Row = [] in slice_index_or none k None) ≡ None
+nothing_in zero = refl
+nothing_in (suc k) = refl
+
 -- a fresh gluing is that of a face of a fresh row
 pub fresh_tet : (r : Replacement) (x : Face) (g : Gluing) → fresh_glue r x ≡ Some g → has (fresh_numbers r) x.tet ≡ true
 fresh_tet r x g e = by_test (has (fresh_numbers r) x.tet) refl
   where
-    nothing : (k : ℕ) → (let none : Row = [] in slice_index_or none k None) ≡ None
-    nothing zero = refl
-    nothing (suc k) = refl
-
     by_test : (b : Bool) → has (fresh_numbers r) x.tet ≡ b → has (fresh_numbers r) x.tet ≡ true
     by_test true h = h
     by_test false h =
         let row : fresh_row r x.tet ≡ [] = no_row r.fresh x.tet h in
-        let n : fresh_glue r x ≡ None = ap (λ (w : Row). get_or w x.face None) row ∙ nothing x.face in
+        let n : fresh_glue r x ≡ None = ap (λ (w : Row). get_or w x.face None) row ∙ nothing_in x.face in
         absurd cc
 
 pub fresh_face : (rows : List Row) (r : Replacement) → CanReplace rows r → (x : Face) (g : Gluing) → fresh_glue r x ≡ Some g → x.face < 4
@@ -121,9 +121,6 @@ Among-fresh (x ∷ xs) u f h l = by_test (x.0 == u) refl (λ t. Among-fresh xs u
 abbrev pub gives_back : Replacement → Face → Face → Option Gluing
 gives_back r y x = option_and_then (leads_to y x) (fresh_glue r x)
 
-same_face-refl : (x y : Face) → x ≡ y → same_face x y ≡ true
-same_face-refl x y e = same_to x.tet y.tet x.face y.face (ap (λ (z : Face). z.tet) e) (ap (λ (z : Face). z.face) e)
-
 pub record ComesBack (r : Replacement) (y : Face) (v : Gluing) : Type 0 where
   pub from : Face
   pub gluing : Gluing
@@ -154,7 +151,7 @@ back_is rows r can x g e kept =
     here : gives_back r (other_side x g) x ≡ Some (way_back x g)
     here =
         ap (option_and_then (leads_to (other_side x g) x)) e
-        ∙ ap (λ b. if◌then◌else◌ {A = Option Gluing} b (Some (way_back x g)) None) (same_face-refl (other_side x g) (other_side x g) refl)
+        ∙ ap (λ b. if◌then◌else◌ {A = Option Gluing} b (Some (way_back x g)) None) (same_face-itself (other_side x g))
 
     only : (z : Face) (w : Gluing) → ComesBack r (other_side x g) w → w ≡ way_back x g
     only z w c =

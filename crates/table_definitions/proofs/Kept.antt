@@ -11,7 +11,8 @@ use Rattle.table_definitions.specs.Permutation.{four}
 use Rattle.table_definitions.specs.Table.{Gluing, Row, Face, glue}
 use Rattle.table_definitions.specs.Replacing.{Replacement, replaced_length, kept_numbers, free_numbers, number_of_kept, fresh_row, kept_gluing, kept_row, replaced_row, replaced}
 use Rattle.table_definitions.specs.Replaceable.{fresh_numbers, fresh_glue, CanReplace}
-use Rattle.table_definitions.proofs.Ranks.{rank, at_rank, of_rank, position_is_rank, Ascends, stays, closed_up-rank, stays-count}
+use Rattle.table_definitions.proofs.Ranks.{rank, at_rank, of_rank, position_is_rank, stays, closed_up-rank, stays-count}
+use Rattle.plain_facts.proofs.Members.{Ascends}
 
 -- the old number of the row at u
 abbrev pub kept_at : List Row → Replacement → ℕ → ℕ
@@ -95,7 +96,7 @@ kept_row_at rows r u l h = row_at rows r u l ∙ ap (λ b. cond b (fresh_row r u
 pub glue-fresh : (rows : List Row) (r : Replacement) (x : Face) → x.tet < replaced_length rows r → has (fresh_numbers r) x.tet ≡ true → glue (replaced rows r) x ≡ fresh_glue r x
 glue-fresh rows r x l h = ap (λ (row : Row). get_or row x.face None) (fresh_row_at rows r x.tet l h)
 
-of_four : (f : ℕ → Option Gluing) (k : ℕ) → k < 4 → get_or (map f four) k None ≡ f k
+pub of_four : (f : ℕ → Option Gluing) (k : ℕ) → k < 4 → get_or (map f four) k None ≡ f k
 of_four f zero l = refl
 of_four f (suc zero) l = refl
 of_four f (suc (suc zero)) l = refl

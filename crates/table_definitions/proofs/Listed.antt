@@ -1,10 +1,10 @@
 -- What stands in lists that are made by filters and maps.
 use Rattle.std.proofs.Common.{◌≡◌, ℕ, zero, suc, ◌+◌, ◌<◌, ◌≤◌, Bool, true, false, not, cond, List, [], ◌∷◌, ◌++◌, map, filter, filter_map, flat_map, Option, Some, None, Contains, ◌⊎◌, inl, inr, refl, sym, ap, ◌∙◌, subst, arith}
 use Rattle.std.specs.List.{cons_option, AllByRecursion, range_with_len}
-use Rattle.table_definitions.specs.Lists.{below, first_some, pairs_of}
-use Rattle.std.specs.Prelude.{◌==◌, find}
+use Rattle.table_definitions.specs.Lists.{below, first_some, pairs_of, has}
+use Rattle.std.specs.Prelude.{◌==◌, find, ◌||◌}
 use Rattle.std.specs.Option.{option_or}
-use Rattle.std.proofs.lemmas.Bool.{ne_eqb}
+use Rattle.std.proofs.lemmas.Bool.{ne_eqb, eqb-true, eq-eqb, or_cases, false≢true}
 use Rattle.table_definitions.specs.Permutation.{four, others}
 use Rattle.table_definitions.specs.Table.{Face, faces}
 use Rattle.table_definitions.proofs.TableLaws.{Among, Among-left, Among-right, Among-four, four-among}
@@ -18,6 +18,20 @@ pub among_contains : {A : Type 0} (x : A) (xs : List A) → Contains xs x → Am
 among_contains x [] (k, l, e) = absurd (omega arith)
 among_contains x (y ∷ ys) (zero, l, e) = inl (sym e)
 among_contains x (y ∷ ys) (suc k, l, e) = inr (among_contains x ys (k, omega arith, e))
+
+-- what a list of numbers has stands among them
+pub has_among : (ns : List ℕ) (n : ℕ) → has ns n ≡ true → Among n ns
+has_among [] n h = absurd (false≢true h)
+has_among (m ∷ ns) n h = pick (or_cases (m == n) (has ns n) h) (λ t. has_among ns n t)
+  where
+    pick : ((m == n) ≡ true) ⊎ (has ns n ≡ true) → (has ns n ≡ true → Among n ns) → Among n (m ∷ ns)
+    pick (inl e) later = inl (sym (eqb-true m n e))
+    pick (inr t) later = inr (later t)
+
+pub among_has : (ns : List ℕ) (n : ℕ) → Among n ns → has ns n ≡ true
+among_has [] n h = absurd h
+among_has (m ∷ ns) n (inl e) = let t : (m == n) ≡ true = eq-eqb m n (sym e) in ap (λ b. b || has ns n) t
+among_has (m ∷ ns) n (inr h) = let t : has ns n ≡ true = among_has ns n h in grind arith
 
 -- what passes a filter
 kept_if : {A : Type 0} (x y : A) (ys : List A) (b : Bool) → (x ≡ y) × (b ≡ true) ⊎ Among x ys → Among x (cond b (y ∷ ys) ys)

@@ -1,6 +1,6 @@
 -- Numbers that pass a test, and how many of them come before each. Numbers that are taken out, and what closes up over them.
 use Rattle.std.proofs.Common.{◌≡◌, ℕ, zero, suc, ◌+◌, ◌<◌, ◌≤◌, Bool, true, false, cond, List, [], ◌∷◌, ◌++◌, length, get_or, refl, sym, ap, ◌∙◌, arith, inl, inr}
-use Rattle.std.specs.Prelude.{◌⊎◌, ◌==◌, ◌||◌, nat_lt, not, filter, count_by, AllPairs, ◌≢◌}
+use Rattle.std.specs.Prelude.{◌⊎◌, ◌==◌, ◌||◌, nat_lt, not, filter, count_by, ◌≢◌}
 use Rattle.std.specs.List.{position_or_len}
 use Rattle.std.proofs.Math.ListN.{get_or-append}
 use Rattle.std.proofs.Math.Seq.{get_or-append_seam}
@@ -10,6 +10,8 @@ use Rattle.std.proofs.lemmas.Bool.{eqb-true, eq-eqb, lt-ltb, le-ltb, cases_lt, n
 use Rattle.table_definitions.specs.Lists.{below, has, closed_up}
 use Rattle.table_definitions.specs.Replaceable.{gone_before}
 use Rattle.table_definitions.proofs.Bijections.{below-push}
+use Rattle.plain_facts.proofs.Truths.{one_if}
+use Rattle.plain_facts.proofs.Members.{Ascends}
 
 -- the numbers below n that pass, and how many
 abbrev pub picked : (ℕ → Bool) → ℕ → List ℕ
@@ -17,9 +19,6 @@ picked p n = filter p (below n)
 
 abbrev pub rank : (ℕ → Bool) → ℕ → ℕ
 rank p n = count_by p (below n)
-
-abbrev pub one_if : Bool → ℕ
-one_if b = cond b 1 0
 
 abbrev only_if : Bool → ℕ → List ℕ
 only_if b n = cond b (n ∷ []) []
@@ -44,6 +43,14 @@ rank_fits p (suc n) = omega (arith, rank_fits p n, rank-suc p n, at_most (p n))
     at_most : (b : Bool) → one_if b ≤ 1
     at_most true = omega arith
     at_most false = omega arith
+
+-- where each number passes its rank is itself
+pub rank_all : (p : ℕ → Bool) (n : ℕ) → ((t : ℕ) → t < n → p t ≡ true) → rank p n ≡ n
+rank_all p zero all = refl
+rank_all p (suc n) all =
+    let before : rank p n ≡ n = rank_all p n (λ t l. all t (omega arith)) in
+    let one : one_if (p n) ≡ 1 = ap one_if (all n (omega arith)) in
+    omega (arith, rank-suc p n)
 
 -- a number that passes stands at its rank
 pub record StandsAt (p : ℕ → Bool) (n t : ℕ) : Type 0 where
@@ -120,10 +127,6 @@ gone_before-suc (x ∷ xs) t =
     let d : one_if (nat_lt x (suc t)) ≡ one_if (nat_lt x t) + one_if (x == t) = grind arith in
     omega (arith, gone_before-suc xs t)
 
--- each of the numbers is below all later ones
-abbrev pub Ascends : List ℕ → Type 0
-Ascends xs = AllPairs (λ x y. x < y) xs
-
 count_none : (p : ℕ → Bool) (xs : List ℕ) → ((k : ℕ) → k < length xs → p (get_or xs k 0) ≡ false) → count_by p xs ≡ 0
 count_none p [] none = refl
 count_none p (x ∷ xs) none =
@@ -152,18 +155,25 @@ times_one (x ∷ xs) t up =
         rw e (omega arith)
     by_test false e before = rw e (omega arith)
 
+-- each number stands among them once or never
+abbrev pub AreOnce : List ℕ → Type 0
+AreOnce xs = (t : ℕ) → count_by (λ u. u == t) xs ≡ one_if (has xs t)
+
 -- what stays below t and what is taken out below t are all numbers below t
-pub stays_and_gone : (gone : List ℕ) (t : ℕ) → Ascends gone → rank (stays gone) t + gone_before gone t ≡ t
-stays_and_gone gone zero up =
+pub stays_and_once : (gone : List ℕ) (t : ℕ) → AreOnce gone → rank (stays gone) t + gone_before gone t ≡ t
+stays_and_once gone zero once =
     let none : gone_before gone 0 ≡ 0 = count_none (λ u. nat_lt u 0) gone (λ k l. le-ltb (get_or gone k 0) 0 (omega arith)) in
     let z : rank (stays gone) 0 ≡ 0 = refl in
     omega arith
-stays_and_gone gone (suc t) up =
-    omega (arith, stays_and_gone gone t up, rank-suc (stays gone) t, gone_before-suc gone t, times_one gone t up, one_of (has gone t))
+stays_and_once gone (suc t) once =
+    omega (arith, stays_and_once gone t once, rank-suc (stays gone) t, gone_before-suc gone t, once t, one_of (has gone t))
   where
     one_of : (b : Bool) → one_if (not b) + one_if b ≡ 1
     one_of true = omega arith
     one_of false = omega arith
+
+pub stays_and_gone : (gone : List ℕ) (t : ℕ) → Ascends gone → rank (stays gone) t + gone_before gone t ≡ t
+stays_and_gone gone t up = stays_and_once gone t (λ u. times_one gone u up)
 
 pub closed_up-rank : (gone : List ℕ) (t : ℕ) → Ascends gone → closed_up gone t ≡ rank (stays gone) t
 closed_up-rank gone t up = omega (arith, stays_and_gone gone t up)

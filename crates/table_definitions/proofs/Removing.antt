@@ -1,21 +1,17 @@
 -- Rows that are only taken out.
-use Rattle.std.proofs.Common.{◌≡◌, ℕ, zero, suc, ◌<◌, ◌≤◌, List, [], ◌∷◌, length, Some, None, refl, arith}
+use Rattle.std.proofs.Common.{◌≡◌, ℕ, zero, suc, ◌<◌, ◌≤◌, List, [], ◌∷◌, length, Some, None, arith}
 use Rattle.std.specs.Prelude.{All}
-use Rattle.std.specs.List.{slice_index_or}
 use Rattle.std.specs.List.Sorted.{IsStrictlyIncreasing}
 use Rattle.table_definitions.specs.Table.{Gluing, Row, Face}
 use Rattle.table_definitions.specs.Replacing.{Replacement}
 use Rattle.table_definitions.specs.Replaceable.{fresh_glue, CanReplace}
-
-nothing : (k : ℕ) → (let none : Row = [] in slice_index_or none k None) ≡ None
-nothing zero = refl
-nothing (suc k) = refl
+use Rattle.table_definitions.proofs.FreshRows.{nothing_in}
 
 abbrev taking : List ℕ → Replacement
 taking removed = record { removed = removed; fresh = [] }
 
 never : (removed : List ℕ) (x : Face) (g : Gluing) → fresh_glue (taking removed) x ≡ Some g → ⊥
-never removed x g e = let n : fresh_glue (taking removed) x ≡ None = nothing x.face in cc
+never removed x g e = let n : fresh_glue (taking removed) x ≡ None = nothing_in x.face in cc
 
 pub can_remove : (rows : List Row) (removed : List ℕ) → length rows ≤ 1000 → IsStrictlyIncreasing removed → All (λ t. t < length rows) removed → CanReplace rows (record { removed = removed; fresh = [] })
 can_remove rows removed few up within = record {

@@ -13,9 +13,7 @@ use Rattle.table_definitions.proofs.Bijections.{there}
 use Rattle.table_definitions.proofs.Carried.{IsGood, not_from, same_from, same_to}
 use Rattle.table_definitions.proofs.Kept.{IsKeptAs, kept_at, kept_as, keeps, length-replaced, fresh_row_at, kept_row_at, glue-fresh, glue-kept}
 use Rattle.table_definitions.proofs.FreshRows.{ComesBack, back_comes, back_is, fresh_tet, fresh_face, length-fresh_row}
-
-abbrev mk : ℕ → ℕ → Face
-mk a b = record { tet = a; face = b }
+use Rattle.table_definitions.proofs.Faces.{face_at}
 
 -- a number that stands in a list of numbers below n
 pub has_below : (xs : List ℕ) (n u : ℕ) → All (λ v. v < n) xs → has xs u ≡ true → u < n
@@ -89,7 +87,7 @@ good_back rows r table can y v lf kept c = subst (λ (w : Gluing). IsGood (repla
     goes = image-inverse g.perm (image g.perm x.face) (image_below g.perm hp x.face xf) ∙ preimage-image g.perm hp x.face xf
 
     over : other_side (other_side x g) (way_back x g) ≡ x
-    over = ap (mk x.tet) goes
+    over = ap (face_at x.tet) goes
 
     apart : same_face (other_side (other_side x g) (way_back x g)) (other_side x g) ≡ true → ⊥
     apart t =
@@ -107,20 +105,20 @@ good_back rows r table can y v lf kept c = subst (λ (w : Gluing). IsGood (repla
     }
 
 -- a gluing between kept rows is good
-good_kept : (rows : List Row) (r : Replacement) → IsTable rows → CanReplace rows r → (t u f : ℕ) (g : Gluing) → IsKeptAs rows r t u → f < 4 → glue rows (mk t f) ≡ Some g → has r.removed g.tet ≡ false
-    → IsGood (replaced_length rows r) (replaced rows r) (mk u f) (record { tet = number_of_kept rows r g.tet; perm = g.perm })
+good_kept : (rows : List Row) (r : Replacement) → IsTable rows → CanReplace rows r → (t u f : ℕ) (g : Gluing) → IsKeptAs rows r t u → f < 4 → glue rows (face_at t f) ≡ Some g → has r.removed g.tet ≡ false
+    → IsGood (replaced_length rows r) (replaced rows r) (face_at u f) (record { tet = number_of_kept rows r g.tet; perm = g.perm })
 good_kept rows r table can t u f g k lf e h = record {
   permutes = hp;
   in_range = to.in_range;
   apart = not_from _ apart;
   leads_back = glue-kept rows r g.tet to_number (image g.perm f) to (image_below g.perm hp f lf)
-      ∙ ap (kept_gluing rows r (mk to_number (image g.perm f))) (table.leads_back x g e)
-      ∙ kept_stays rows r (mk to_number (image g.perm f)) (way_back x g) k.stays
+      ∙ ap (kept_gluing rows r (face_at to_number (image g.perm f))) (table.leads_back x g e)
+      ∙ kept_stays rows r (face_at to_number (image g.perm f)) (way_back x g) k.stays
       ∙ ap (λ n. Some (record { tet = n; perm = inverse g.perm })) k.number;
 }
   where
     x : Face
-    x = mk t f
+    x = face_at t f
 
     hp : IsPermutationOfFour g.perm
     hp = table.permutes x g e
@@ -131,7 +129,7 @@ good_kept rows r table can t u f g k lf e h = record {
     to : IsKeptAs rows r g.tet to_number
     to = kept_as rows r can g.tet (table.in_range x g e) h
 
-    apart : same_face (other_side (mk u f) (record { tet = number_of_kept rows r g.tet; perm = g.perm })) (mk u f) ≡ true → ⊥
+    apart : same_face (other_side (face_at u f) (record { tet = number_of_kept rows r g.tet; perm = g.perm })) (face_at u f) ≡ true → ⊥
     apart s =
         let p = same_from to_number u (image g.perm f) f s in
         let tets : g.tet ≡ t = sym to.back ∙ ap (kept_at rows r) p.0 ∙ k.back in
@@ -173,7 +171,7 @@ replaced_is_table rows r table can = record {
         by_test false h =
             let t : ℕ = kept_at rows r y.tet in
             let k : IsKeptAs rows r t y.tet = keeps rows r can y.tet lt h in
-            let parts = kept_cases rows r y (glue rows (mk t y.face)) v (sym (glue-kept rows r t y.tet y.face k lf) ∙ e) in
+            let parts = kept_cases rows r y (glue rows (face_at t y.face)) v (sym (glue-kept rows r t y.tet y.face k lf) ∙ e) in
             elim parts.2 [
               | inl gone ↦ good_back rows r table can y v lf h (back_comes r y v gone.1)
               | inr stays ↦ subst (λ (w : Gluing). IsGood (replaced_length rows r) (replaced rows r) y w) stays.1 (good_kept rows r table can t y.tet y.face parts.0 k lf parts.1 stays.0)

@@ -1,39 +1,14 @@
 -- Moves by tetrahedron and then by core, one tetrahedron after another.
-use Rattle.std.proofs.Common.{◌≡◌, ◌≢◌, ℕ, suc, ◌+◌, Bool, List, [], ◌∷◌, ◌++◌, length, map, refl, sym, ap, ◌∙◌, arith, append_assoc, append-nil}
+use Rattle.std.proofs.Common.{◌≡◌, ◌≢◌, ℕ, ◌+◌, Bool, List, [], ◌∷◌, ◌++◌, length, map, refl, sym, ap, ◌∙◌, arith, append_assoc}
 use Rattle.std.specs.Prelude.{filter}
-use Rattle.std.specs.List.{flat_map}
-use Rattle.std.proofs.lemmas.List.{map-append}
 use Rattle.std.proofs.lemmas.List.Elements.{filter-append}
-use Rattle.std.proofs.lemmas.Grind.{flat_map-append}
-use Rattle.table_definitions.specs.Lists.{below}
 use Rattle.table_definitions.specs.Permutation.{four, others}
 use Rattle.table_definitions.specs.Places.{edge_ends}
 use Rattle.table_definitions.specs.Table.{Row}
-use Rattle.table_definitions.proofs.Bijections.{below-push}
 use Rattle.move_definitions.specs.Moves.{Move}
-use Rattle.move_definitions.specs.Certificates.{moves_with, is_accepted, two_three_moves, three_two_moves, one_four_moves, or_these, candidates}
-use Rattle.tri_build.specs.Candidates.{moves_at}
-
-abbrev move_of : ℕ × List ℕ → Move
-move_of p = record { tet = p.0; core = p.1 }
-
-abbrev pairs_at : List (List ℕ) → ℕ → List (ℕ × List ℕ)
-pairs_at cores t = map (λ core. (t, core)) cores
-
-moves_of_pairs : (t : ℕ) (cores : List (List ℕ)) → map move_of (pairs_at cores t) ≡ moves_at t cores
-moves_of_pairs t [] = refl
-moves_of_pairs t (c ∷ cs) = ap (λ (ms : List Move). move_of (t, c) ∷ ms) (moves_of_pairs t cs)
-
-one_on : (n : ℕ) → suc n ≡ n + 1
-one_on n = omega arith
-
-pub moves_more : (cores : List (List ℕ)) (n : ℕ) → moves_with cores (n + 1) ≡ moves_with cores n ++ moves_at n cores
-moves_more cores n =
-    ap (moves_with cores) (sym (one_on n))
-    ∙ ap (λ ns. map move_of (flat_map (pairs_at cores) ns)) (sym (below-push n))
-    ∙ ap (map move_of) (flat_map-append (pairs_at cores) (below n) (n ∷ []))
-    ∙ map-append move_of (flat_map (pairs_at cores) (below n)) (pairs_at cores n ++ [])
-    ∙ ap (λ ms. moves_with cores n ++ ms) (ap (map move_of) (append-nil (pairs_at cores n)) ∙ moves_of_pairs n cores)
+use Rattle.move_definitions.specs.Certificates.{moves_at, moves_with, is_accepted, two_three_moves, three_two_moves, one_four_moves, or_these, candidates}
+use Rattle.move_definitions.proofs.MoveLists.{moves_more}
+use Rattle.plain_facts.proofs.Numbers.{one_on}
 
 -- those that pass a test, behind others
 pub accepted_more : (p : Move → Bool) (cores : List (List ℕ)) (t : ℕ) (so before more : List Move) → so ≡ before ++ filter p (moves_with cores t) → more ≡ so ++ filter p (moves_at t cores)
@@ -41,7 +16,7 @@ pub accepted_more : (p : Move → Bool) (cores : List (List ℕ)) (t : ℕ) (so 
 accepted_more p cores t so before more s m =
     m ∙ ap (λ (ms : List Move). ms ++ filter p (moves_at t cores)) s
     ∙ append_assoc before (filter p (moves_with cores t)) (filter p (moves_at t cores))
-    ∙ ap (λ (ms : List Move). before ++ ms) (sym (filter-append p (moves_with cores t) (moves_at t cores)) ∙ ap (filter p) (sym (moves_more cores t)))
+    ∙ ap (λ (ms : List Move). before ++ ms) (sym (filter-append p (moves_with cores t) (moves_at t cores)) ∙ ap (filter p) (sym (ap (moves_with cores) (sym (one_on t)) ∙ moves_more cores t)))
 
 -- the moves from which one is drawn
 

@@ -3,8 +3,7 @@
 ghost use Rattle.std.specs.Prelude.{◌≡◌, ◌∷◌, ◌++◌, ◌<◌, [], length, map, filter, IfOk, OnOk};
 ghost use Rattle.table_definitions.specs.Permutation.{four, others};
 ghost use Rattle.move_definitions.specs.Certificates as certificates;
-ghost use Rattle.move_definitions.specs.Certificates.{moves_with};
-ghost use Rattle.tri_build.specs.Candidates.{moves_at};
+ghost use Rattle.move_definitions.specs.Certificates.{moves_at, moves_with};
 
 use gluing_table::Table;
 use no_memory::NoMemory;

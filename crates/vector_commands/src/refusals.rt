@@ -3,14 +3,14 @@ ghost use Rattle.std.specs.Prelude.{◌≡◌, ◌++◌, IfOk, OnOk};
 ghost use Rattle.text_definitions.specs.Written.{line};
 ghost use Rattle.outcome_definitions.specs.Vectors as vectors;
 ghost use Rattle.vector_commands.specs.Faults.{fault_at};
-ghost use Rattle.vector_definitions.specs.Texts.{sum_word, fault_text, refusal_line};
+ghost use Rattle.vector_definitions.specs.Texts.{sum_word, fault_text};
 
-use command_answers::{Outcome, append_checked, append_numbered};
+use command_answers::{Outcome, append_checked, append_numbered, refused_vector};
 use no_memory::NoMemory;
 use outcome_definitions::Status;
 use std::alloc::Global;
 use surface_definitions::VectorFault;
-use text_io::{append, append_decimal};
+use text_io::append;
 use vector_definitions::{Refusal, Sum};
 
 /// Why nothing is told of a vector.
@@ -99,23 +99,12 @@ fn status_of(refusal: Refusal) -> Status
     }
 }
 
-// The line for the vector of this number.
-#[tactic(auto, unfolding(vector_definitions::specs::Texts::refusal_line))]
-fn refused_line(alloc: Global, vector: usize, refusal: Refusal) -> Result<Vec<u8>, NoMemory>
-    ensures { IfOk result (λ text. text.items ≡ refusal_line vector refusal) }
-{
-    let mut text = Vec::new(alloc);
-    append(&mut text, b"refused: vector ")?;
-    append_decimal(alloc, &mut text, vector as u128)?;
-    append(&mut text, b" ")?;
-    append_cause(alloc, &mut text, refusal)?;
-    Ok(text)
-}
-
 /// The outcome where the vector of this number, which counts from 0, is refused.
+#[tactic(auto, unfolding(vector_definitions::specs::Texts::refusal_line))]
 pub fn refusal_outcome(alloc: Global, vector: usize, refusal: Refusal) -> Result<Outcome, NoMemory>
     ensures { IfOk result (λ o. o ≡ vectors.refusal_outcome vector refusal) }
 {
-    let text = refused_line(alloc, vector, refusal)?;
+    let mut text = refused_vector(alloc, vector)?;
+    append_cause(alloc, &mut text, refusal)?;
     Ok(Outcome::built(status_of(refusal), text))
 }

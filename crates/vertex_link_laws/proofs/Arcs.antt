@@ -7,17 +7,18 @@ use Rattle.table_definitions.specs.Permutation.{four, others}
 use Rattle.table_definitions.specs.Table.{Row, Face, glue, faces}
 use Rattle.table_definitions.proofs.Listed.{below-among}
 use Rattle.table_definitions.proofs.TableLaws.{four-among}
+use Rattle.table_definitions.proofs.Faces.{face_at}
 use Rattle.skeleton_definitions.specs.Links.{vertex_number, is_first_side, link_edges}
 use Rattle.surface_definitions.specs.Characteristic.{arcs_in, arcs}
 use Rattle.surface_definitions.specs.declared.Coords.{Coords}
 use Rattle.surface_laws.specs.MatchingLaws.{HasTriangles}
 use Rattle.surface_laws.proofs.Counting.{sum_by_same, sum_by-map, sum_by-flat_map}
-use Rattle.surface_laws.proofs.Glued.{face_at}
 use Rattle.equation_laws.proofs.FaceSums.{sum_by-faces}
 use Rattle.quad_laws.specs.LinkLaws.{vertex_link}
 use Rattle.quad_laws.proofs.VertexLinks.{member}
-use Rattle.vertex_link_laws.proofs.Sums.{bit, sum_by-filter, sum_blocks}
+use Rattle.vertex_link_laws.proofs.Sums.{sum_by-filter, sum_blocks}
 use Rattle.vertex_link_laws.proofs.Triangles.{arcs_in-link}
+use Rattle.plain_facts.proofs.Truths.{one_if}
 
 -- each face has the triangles at its vertices, and each triangle the sides in the faces at its vertex
 turned_round : (b m : ℕ → ℕ) → sum_by (λ f. b f * sum_by m (others f)) four ≡ sum_by (λ v. m v * sum_by b (others v)) four
@@ -29,7 +30,7 @@ module _ (rows : List Row) (classes : List ℕ) (c : ℕ) where
 
   -- whether a face is counted, as a number
   abbrev first : Face → ℕ
-  first x = bit (is_first_side x (glue rows x))
+  first x = one_if (is_first_side x (glue rows x))
 
   abbrev at_vertex : ℕ → ℕ → ℕ
   at_vertex t v = member classes c (vertex_number t v)
@@ -47,7 +48,7 @@ module _ (rows : List Row) (classes : List ℕ) (c : ℕ) where
   abbrev sides_at : ℕ → ℕ → ℕ
   sides_at t v = sum_by (λ f. first (face_at t f)) (others v)
 
-  in_members : link_edges rows classes c ≡ sum_by (λ i. bit (slice_index classes i == c) * sides_at (i / 4) (i % 4)) (below (length classes))
+  in_members : link_edges rows classes c ≡ sum_by (λ i. one_if (slice_index classes i == c) * sides_at (i / 4) (i % 4)) (below (length classes))
   in_members =
       sum_by-flat_map first (λ i. map (λ f. face_at (i / 4) f) (others (i % 4))) (members classes c)
       ∙ sum_by_same (λ i. sum_by first (map (λ f. face_at (i / 4) f) (others (i % 4)))) (λ i. sides_at (i / 4) (i % 4)) (members classes c) (λ i a. sum_by-map first (λ f. face_at (i / 4) f) (others (i % 4)))
@@ -55,12 +56,12 @@ module _ (rows : List Row) (classes : List ℕ) (c : ℕ) where
 
   by_vertices : length classes ≡ 4 * n → link_edges rows classes c ≡ sum_by (λ t. sum_by (λ v. at_vertex t v * sides_at t v) four) (below n)
   by_vertices w =
-      in_members ∙ ap (λ m. sum_by (λ i. bit (slice_index classes i == c) * sides_at (i / 4) (i % 4)) (below m)) w
-      ∙ sum_blocks (λ i. bit (slice_index classes i == c) * sides_at (i / 4) (i % 4)) 4 n
-      ∙ sum_by_same (λ t. sum_by (λ v. bit (slice_index classes (4 * t + v) == c) * sides_at ((4 * t + v) / 4) ((4 * t + v) % 4)) (below 4)) (λ t. sum_by (λ v. at_vertex t v * sides_at t v) four) (below n)
-      (λ t a. sum_by_same (λ v. bit (slice_index classes (4 * t + v) == c) * sides_at ((4 * t + v) / 4) ((4 * t + v) % 4)) (λ v. at_vertex t v * sides_at t v) (below 4) (λ v b. at_place t v (below-among v 4 b)))
+      in_members ∙ ap (λ m. sum_by (λ i. one_if (slice_index classes i == c) * sides_at (i / 4) (i % 4)) (below m)) w
+      ∙ sum_blocks (λ i. one_if (slice_index classes i == c) * sides_at (i / 4) (i % 4)) 4 n
+      ∙ sum_by_same (λ t. sum_by (λ v. one_if (slice_index classes (4 * t + v) == c) * sides_at ((4 * t + v) / 4) ((4 * t + v) % 4)) (below 4)) (λ t. sum_by (λ v. at_vertex t v * sides_at t v) four) (below n)
+      (λ t a. sum_by_same (λ v. one_if (slice_index classes (4 * t + v) == c) * sides_at ((4 * t + v) / 4) ((4 * t + v) % 4)) (λ v. at_vertex t v * sides_at t v) (below 4) (λ v b. at_place t v (below-among v 4 b)))
     where
-      at_place : (t v : ℕ) → v < 4 → bit (slice_index classes (4 * t + v) == c) * sides_at ((4 * t + v) / 4) ((4 * t + v) % 4) ≡ at_vertex t v * sides_at t v
+      at_place : (t v : ℕ) → v < 4 → one_if (slice_index classes (4 * t + v) == c) * sides_at ((4 * t + v) / 4) ((4 * t + v) % 4) ≡ at_vertex t v * sides_at t v
       at_place t v l =
           let d : (4 * t + v) / 4 ≡ t = omega arith in
           let m : (4 * t + v) % 4 ≡ v = omega arith in

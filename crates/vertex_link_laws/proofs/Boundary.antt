@@ -1,5 +1,5 @@
 -- A vertex link has an arc in a boundary face exactly where a side of its triangles lies in one.
-use Rattle.std.proofs.Common.{◌≡◌, ℕ, ◌+◌, ◌*◌, ◌/◌, ◌%◌, ◌<◌, Bool, true, false, not, List, [], ◌∷◌, length, map, Option, Some, None, inl, inr, refl, sym, ap, ◌∙◌, subst, arith}
+use Rattle.std.proofs.Common.{◌≡◌, ℕ, ◌*◌, ◌/◌, ◌%◌, ◌<◌, Bool, true, false, not, List, [], ◌∷◌, length, map, Option, Some, None, inl, inr, refl, sym, ap, ◌∙◌, subst, arith}
 use Rattle.std.specs.Prelude.{◌==◌, if◌then◌else◌, is_none, sum_by, slice_index}
 use Rattle.std.proofs.lemmas.Bool.{eqb-true, eq-eqb, cases_lt, false_from_ne_true}
 use Rattle.std.proofs.lemmas.List.Sums.{sum_by-cons}
@@ -11,12 +11,12 @@ use Rattle.table_definitions.specs.Table.{Row, Face, Gluing, glue}
 use Rattle.table_definitions.proofs.Listed.{Among-filter, filter-among, below-among, Among-flat_map, flat_map-among, map-among, Among-others}
 use Rattle.table_definitions.proofs.Tests.{list_all-among}
 use Rattle.table_definitions.proofs.TableLaws.{Among, Among-map, Among-below}
+use Rattle.table_definitions.proofs.Faces.{face_at}
 use Rattle.skeleton_definitions.specs.Links.{vertex_number, sides, is_closed_link}
 use Rattle.surface_definitions.specs.Characteristic.{arcs_in, meets_boundary}
 use Rattle.surface_definitions.specs.declared.Coords.{Coords}
 use Rattle.surface_laws.specs.CharacteristicLaws.{HasBoundaryArc}
 use Rattle.surface_laws.specs.MatchingLaws.{HasTriangles}
-use Rattle.surface_laws.proofs.Glued.{face_at}
 use Rattle.surface_laws.proofs.LinkingLemmas.{all_test, boundary}
 use Rattle.surface_laws.proofs.Solved.{other_is}
 use Rattle.surface_laws.proofs.Vertices.{number-vertex}

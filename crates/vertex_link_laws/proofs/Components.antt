@@ -1,5 +1,5 @@
 -- A vertex link is one component: chains of gluings carry its triangles to one another.
-use Rattle.std.proofs.Common.{◌≡◌, ℕ, suc, zero, ◌+◌, ◌*◌, ◌/◌, ◌%◌, ◌<◌, ◌≤◌, List, [], ◌∷◌, ◌++◌, length, Some, ◌⊎◌, inl, inr, refl, sym, ap, ◌∙◌, subst, subst₂, arith, ext_get_or}
+use Rattle.std.proofs.Common.{◌≡◌, ℕ, ◌+◌, ◌*◌, ◌/◌, ◌%◌, ◌<◌, List, [], ◌∷◌, ◌++◌, length, Some, inl, inr, refl, sym, ap, ◌∙◌, subst, subst₂, arith, ext_get_or}
 use Rattle.std.specs.Prelude.{slice_index, sum_by}
 use Rattle.std.specs.List.{slice_index_or}
 use Rattle.std.proofs.lemmas.Bool.{cases_lt}
@@ -9,19 +9,19 @@ use Rattle.table_definitions.specs.Permutation.{image}
 use Rattle.table_definitions.specs.Places.{Place, vertex, across, IsJoined, SameVertex}
 use Rattle.table_definitions.proofs.ChainLaws.{kept_along}
 use Rattle.table_definitions.proofs.PermutationLaws.{image_below}
-use Rattle.table_definitions.proofs.TableLaws.{glued_face}
+use Rattle.table_definitions.proofs.Faces.{face_at}
 use Rattle.skeleton_definitions.specs.Links.{vertex_number}
 use Rattle.skeleton_definitions.specs.Skeleton.{Skeleton, IsSkeleton}
-use Rattle.surface_definitions.specs.Pieces.{SurfacePiece, Arc, pieces_of, piece_number, piece_of, ArcsLead, SamePiece, AreComponents, component_vector}
+use Rattle.surface_definitions.specs.Pieces.{SurfacePiece, Arc, pieces_of, piece_number, ArcsLead, SamePiece, AreComponents, component_vector}
 use Rattle.surface_definitions.specs.declared.Coords.{Coords}
 use Rattle.surface_laws.specs.MatchingLaws.{HasTriangles}
 use Rattle.surface_laws.proofs.ComponentCounts.{component_width, components_add_up}
-use Rattle.surface_laws.proofs.Glued.{IsGlued, glued_is, face_at}
+use Rattle.surface_laws.proofs.Glued.{IsGlued, glued_is}
 use Rattle.surface_laws.proofs.PieceChains.{leads_further}
 use Rattle.surface_laws.proofs.PieceNumbers.{no_piece, IsFound, piece_found}
 use Rattle.surface_laws.proofs.Vertices.{one_vertex, vertex_is, number-vertex, IsCrossed, crossed_is, class_across}
 use Rattle.quad_laws.specs.LinkLaws.{link_of}
-use Rattle.vertex_link_laws.proofs.Pieces.{triangle, IsMember, IsTriangle, IsLinkArc, triangle_there, piece_is, piece_of_arc, piece_across, arc_is, arc_in, arc_there}
+use Rattle.vertex_link_laws.proofs.Pieces.{triangle, IsMember, IsTriangle, triangle_there, piece_is, piece_of_arc, piece_across, arc_is, arc_in, arc_there}
 
 module _ (s : Skeleton) (k : IsSkeleton s) (c : ℕ) (coords : Coords) (h : HasTriangles coords) where
   abbrev n : ℕ

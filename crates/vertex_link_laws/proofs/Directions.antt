@@ -1,17 +1,19 @@
 -- The directions of an edge: each directed edge of its class is joined to one of the two, or the other.
-use Rattle.std.proofs.Common.{◌≡◌, ℕ, ◌*◌, ◌/◌, ◌%◌, ◌<◌, ◌≤◌, List, [], ◌∷◌, length, ◌⊎◌, inl, inr, sym, ap, ◌∙◌, subst₂, arith}
+use Rattle.std.proofs.Common.{◌≡◌, ℕ, ◌*◌, ◌/◌, ◌%◌, ◌<◌, ◌≤◌, List, [], ◌∷◌, length, ◌⊎◌, inl, inr, sym, ap, subst₂, arith}
 use Rattle.std.specs.Prelude.{◌==◌, slice_index}
 use Rattle.std.proofs.lemmas.Bool.{eqb-true}
 use Rattle.std.proofs.lemmas.List.Sums.{passes_at_first}
 use Rattle.table_definitions.specs.Classes.{IsNumbering, least}
 use Rattle.table_definitions.specs.Permutation.{others}
-use Rattle.table_definitions.specs.Places.{Place, edge, ends, edge_number, turned, IsJoined, SameEdge}
+use Rattle.table_definitions.specs.Places.{edge, ends, edge_number, turned, IsJoined, SameEdge}
 use Rattle.table_definitions.specs.Table.{Row}
 use Rattle.table_definitions.proofs.ChainLaws.{joined_turned}
 use Rattle.table_definitions.proofs.ClassLaws.{least_is_least}
 use Rattle.skeleton_definitions.specs.Links.{directed}
-use Rattle.quad_laws.proofs.InnerEdges.{two, HasEdge, has_edge, edge_at, tet_at, rest_at}
+use Rattle.quad_laws.proofs.InnerEdges.{HasEdge, has_edge, edge_at}
 use Rattle.quad_lift_laws.proofs.Ends.{head_below}
+use Rattle.class_laws.specs.Crossings.{pair}
+use Rattle.class_laws.proofs.EdgeTies.{edge_by_ends}
 
 -- the tetrahedron, tail and head of directed edge i
 abbrev pub tail : ℕ → ℕ
@@ -43,19 +45,16 @@ one_of_two i = by_ends h.ends_are
     h : HasEdge (tail i) (head i)
     h = has_edge_of i
 
-    at : (vs : List ℕ) → ends (edge_number (tail i) (head i)) ≡ vs → edge (edge_of i) ≡ record { tet = i / 12; vertices = vs }
-    at vs e = (λ k. record { tet = tet_at (i / 12) (edge_number (tail i) (head i)) h.small k; vertices = ends (rest_at (i / 12) (edge_number (tail i) (head i)) h.small k) }) ∙ ap (λ (vs : List ℕ). let p : Place = record { tet = i / 12; vertices = vs } in p) e
-
     by_ends : (ends (edge_number (tail i) (head i)) ≡ tail i ∷ head i ∷ []) ⊎ (ends (edge_number (tail i) (head i)) ≡ head i ∷ tail i ∷ []) → (edge (edge_of i) ≡ directed i) ⊎ (edge (edge_of i) ≡ turned (directed i))
-    by_ends (inl e) = inl (at (tail i ∷ head i ∷ []) e)
-    by_ends (inr e) = inr (at (head i ∷ tail i ∷ []) e)
+    by_ends (inl e) = inl (edge_by_ends (i / 12) (tail i) (head i) (tail i) (head i) h.small e)
+    by_ends (inr e) = inr (edge_by_ends (i / 12) (tail i) (head i) (head i) (tail i) h.small e)
 
-module _ (rows : List Row) (i j t a b : ℕ) (is : edge j ≡ two t a b) where
+module _ (rows : List Row) (i j t a b : ℕ) (is : edge j ≡ pair t a b) where
   -- joined to the edge in one direction or the other
   abbrev EitherWay : Type 0
-  EitherWay = IsJoined rows (directed i) (two t a b) ⊎ IsJoined rows (directed i) (two t b a)
+  EitherWay = IsJoined rows (directed i) (pair t a b) ⊎ IsJoined rows (directed i) (pair t b a)
 
-  is_turned : turned (edge j) ≡ two t b a
+  is_turned : turned (edge j) ≡ pair t b a
   is_turned = ap turned is
 
   pub same_either_way : EitherWay → SameEdge rows (edge_of i) j
@@ -64,8 +63,8 @@ module _ (rows : List Row) (i j t a b : ℕ) (is : edge j ≡ two t a b) where
       go : (edge (edge_of i) ≡ directed i) ⊎ (edge (edge_of i) ≡ turned (directed i)) → EitherWay → SameEdge rows (edge_of i) j
       go (inl e) (inl w) = inl (subst₂ (IsJoined rows) (sym e) (sym is) w)
       go (inl e) (inr w) = inr (subst₂ (IsJoined rows) (sym e) (sym is_turned) w)
-      go (inr e) (inl w) = inr (subst₂ (IsJoined rows) (sym e) (sym is_turned) (joined_turned rows (directed i) (two t a b) w))
-      go (inr e) (inr w) = inl (subst₂ (IsJoined rows) (sym e) (sym is) (joined_turned rows (directed i) (two t b a) w))
+      go (inr e) (inl w) = inr (subst₂ (IsJoined rows) (sym e) (sym is_turned) (joined_turned rows (directed i) (pair t a b) w))
+      go (inr e) (inr w) = inl (subst₂ (IsJoined rows) (sym e) (sym is) (joined_turned rows (directed i) (pair t b a) w))
 
   pub either_way : SameEdge rows (edge_of i) j → EitherWay
   either_way h = go (one_of_two i) h
@@ -73,8 +72,8 @@ module _ (rows : List Row) (i j t a b : ℕ) (is : edge j ≡ two t a b) where
       go : (edge (edge_of i) ≡ directed i) ⊎ (edge (edge_of i) ≡ turned (directed i)) → SameEdge rows (edge_of i) j → EitherWay
       go (inl e) (inl w) = inl (subst₂ (IsJoined rows) e is w)
       go (inl e) (inr w) = inr (subst₂ (IsJoined rows) e is_turned w)
-      go (inr e) (inl w) = inr (joined_turned rows (turned (directed i)) (two t a b) (subst₂ (IsJoined rows) e is w))
-      go (inr e) (inr w) = inl (joined_turned rows (turned (directed i)) (two t b a) (subst₂ (IsJoined rows) e is_turned w))
+      go (inr e) (inl w) = inr (joined_turned rows (turned (directed i)) (pair t a b) (subst₂ (IsJoined rows) e is w))
+      go (inr e) (inr w) = inl (joined_turned rows (turned (directed i)) (pair t b a) (subst₂ (IsJoined rows) e is_turned w))
 
 -- the least member of the class of thing i
 pub record IsLeastOf (n : ℕ) (Same : ℕ → ℕ → Type 0) (classes : List ℕ) (i m : ℕ) : Type 0 where

@@ -1,14 +1,13 @@
 -- The points of a vertex link are its vertices, and one more for each invalid edge: its two directions are one class.
-use Rattle.std.proofs.Common.{◌≡◌, ◌≢◌, ℕ, ◌+◌, ◌*◌, ◌/◌, ◌%◌, ◌<◌, Bool, true, false, List, [], ◌∷◌, length, ◌⊎◌, inl, inr, refl, sym, ap, ◌∙◌, subst, subst₂, arith}
-use Rattle.std.specs.Prelude.{◌==◌, ◌&&◌, ◌↔◌, not, filter, sum_by, slice_index}
+use Rattle.std.proofs.Common.{◌≡◌, ◌≢◌, ℕ, ◌+◌, ◌*◌, ◌/◌, ◌%◌, ◌<◌, Bool, true, false, List, length, ◌⊎◌, inl, inr, refl, sym, ap, ◌∙◌, subst, subst₂, arith}
+use Rattle.std.specs.Prelude.{◌==◌, ◌&&◌, ◌↔◌, filter, sum_by, slice_index}
 use Rattle.std.proofs.lemmas.List.Kept.{AllPairs-filter}
 use Rattle.std.proofs.lemmas.List.Sums.{length-filter}
-use Rattle.std.proofs.lemmas.Bool.{and_parts, and_from, cases_eq, eqb-true, eq-eqb, eqb-false, ne_eqb, not-true}
+use Rattle.std.proofs.lemmas.Bool.{and_parts, and_from, cases_eq, eqb-true, eq-eqb, ne_eqb}
 use Rattle.table_definitions.specs.Classes.{IsNumbering, least, is_least}
-use Rattle.table_definitions.specs.Lists.{below, same_list}
-use Rattle.table_definitions.specs.Places.{Place, edge, ends, turned, IsJoined, IsInvalidEdge, SameEdge}
+use Rattle.table_definitions.specs.Lists.{below}
+use Rattle.table_definitions.specs.Places.{edge, turned, IsJoined, IsInvalidEdge, SameEdge}
 use Rattle.table_definitions.proofs.ChainLaws.{joined_sym}
-use Rattle.table_definitions.proofs.ListFacts.{same_list-true, list_all-below}
 use Rattle.table_definitions.proofs.Listed.{below-among, Among-filter, filter-among, among_contains, contains_among}
 use Rattle.table_definitions.proofs.TableLaws.{Among-below}
 use Rattle.skeleton_definitions.specs.Links.{directed, SameDirected, vertex_number, link_vertices}
@@ -19,28 +18,24 @@ use Rattle.surface_laws.specs.MatchingLaws.{HasTriangles}
 use Rattle.surface_laws.proofs.Sums.{sum_by_plus}
 use Rattle.surface_laws.proofs.Counting.{sum_by_same, sum_swap, one_term}
 use Rattle.quad_laws.specs.LinkLaws.{link_of}
-use Rattle.quad_laws.proofs.InnerEdges.{two, start_below, start_class}
+use Rattle.quad_laws.proofs.InnerEdges.{start_below, start_class}
 use Rattle.quad_laws.proofs.VertexLinks.{member}
-use Rattle.quad_lift_laws.proofs.Ends.{direction_number, directed_is, place_is, IsAtClass, joined_class, two_at_class}
+use Rattle.quad_lift_laws.proofs.Ends.{direction_number, direction_below, IsAtClass, joined_class, two_at_class}
 use Rattle.vertex_link_laws.specs.Laws.{AreInvalidEdgesAt}
 use Rattle.vertex_link_laws.proofs.Directions.{tail, head, edge_of, edge_of_below, same_either_way, either_way, IsLeastOf, least_of}
-use Rattle.vertex_link_laws.proofs.Sums.{bit, one_bounded, two_terms, ascending_below}
-use Rattle.vertex_link_laws.proofs.Weights.{low, high, ends_below, weight-link}
+use Rattle.vertex_link_laws.proofs.Sums.{one_bounded, two_terms, ascending_below}
+use Rattle.vertex_link_laws.proofs.Weights.{weight-link}
+use Rattle.plain_facts.proofs.Truths.{one_if}
+use Rattle.class_laws.proofs.Cases.{low, high, are_ends}
+use Rattle.class_laws.proofs.EdgeTies.{edge_pair}
+use Rattle.class_laws.proofs.DirectionTies.{pair_is}
+use Rattle.class_laws.specs.Crossings.{pair}
 
-ends_apart : (e : ℕ) → e < 6 → low e ≢ high e
-ends_apart e l = eqb-false (low e) (high e) (not-true (low e == high e) (list_all-below (λ x. not (low x == high x)) 6 refl e l))
+none_of : (b : Bool) (m : ℕ) → b ≡ false → one_if b * m ≡ 0
+none_of b m e = ap (λ x. one_if x * m) e ∙ omega arith
 
-two_ends : (e : ℕ) → e < 6 → ends e ≡ low e ∷ high e ∷ []
-two_ends e l = same_list-true (ends e) (low e ∷ high e ∷ []) (list_all-below (λ x. same_list (ends x) (low x ∷ high x ∷ [])) 6 refl e l)
-
-edge_is : (i : ℕ) → edge i ≡ two (i / 6) (low (i % 6)) (high (i % 6))
-edge_is i = let l : i % 6 < 6 = omega arith in ap (λ (vs : List ℕ). let p : Place = record { tet = i / 6; vertices = vs } in p) (two_ends (i % 6) l)
-
-none_of : (b : Bool) (m : ℕ) → b ≡ false → bit b * m ≡ 0
-none_of b m e = ap (λ x. bit x * m) e ∙ omega arith
-
-one_of : (b : Bool) (m : ℕ) → b ≡ true → bit b * m ≡ m
-one_of b m e = ap (λ x. bit x * m) e ∙ omega arith
+one_of : (b : Bool) (m : ℕ) → b ≡ true → one_if b * m ≡ m
+one_of b m e = ap (λ x. one_if x * m) e ∙ omega arith
 
 module _ (s : Skeleton) (k : IsSkeleton s) (c : ℕ) (directions : List ℕ) (count : ℕ) (numbered : IsNumbering (12 * length s.rows) (SameDirected s.rows) directions count) where
   abbrev n : ℕ
@@ -54,18 +49,14 @@ module _ (s : Skeleton) (k : IsSkeleton s) (c : ℕ) (directions : List ℕ) (co
 
   -- whether directed edge i is a vertex of the link, as a number
   is_vertex : ℕ → ℕ
-  is_vertex i = bit (is_least directions i && (class_of (vertex_number (i / 12) (tail i)) == c))
+  is_vertex i = one_if (is_least directions i && (class_of (vertex_number (i / 12) (tail i)) == c))
 
   -- joined directed edges begin at one vertex class
-  one_tail : (i t a b : ℕ) → a < 4 → IsJoined s.rows (two t a b) (directed i) → class_of (vertex_number (i / 12) (tail i)) ≡ class_of (vertex_number t a)
+  one_tail : (i t a b : ℕ) → a < 4 → IsJoined s.rows (pair t a b) (directed i) → class_of (vertex_number (i / 12) (tail i)) ≡ class_of (vertex_number t a)
   one_tail i t a b la j =
       let d : ℕ = class_of (vertex_number t a) in
-      let h : IsAtClass s k (class_of (vertex_number t a)) (two t a b) = record { v = a; w = b; is = refl; below_four = la; chosen = refl } in
-      (two_at_class s k d (i / 12) (tail i) (head i) (joined_class s k d (two t a b) (directed i) j h)).1
-
-  -- the number of a directed edge
-  number_below : (t a b : ℕ) → t < n → a < 4 → b < 4 → a ≢ b → direction_number t a b < 12 * n
-  number_below t a b lt la lb ne = let p = (place_is a b la lb ne).small in omega arith
+      let h : IsAtClass s k (class_of (vertex_number t a)) (pair t a b) = record { v = a; w = b; is = refl; below_four = la; chosen = refl } in
+      (two_at_class s k d (i / 12) (tail i) (head i) (joined_class s k d (pair t a b) (directed i) j h)).1
 
   -- the vertex of the link that a directed edge belongs to
   abbrev vertex_of : ℕ → ℕ → ℕ → ℕ
@@ -73,10 +64,10 @@ module _ (s : Skeleton) (k : IsSkeleton s) (c : ℕ) (directions : List ℕ) (co
 
   module _ (t a b : ℕ) (lt : t < n) (la : a < 4) (lb : b < 4) (ne : a ≢ b) where
     first : IsLeastOf (12 * n) (SameDirected s.rows) directions (direction_number t a b) (vertex_of t a b)
-    first = least_of (12 * n) (SameDirected s.rows) directions count numbered (direction_number t a b) (number_below t a b lt la lb ne)
+    first = least_of (12 * n) (SameDirected s.rows) directions count numbered (direction_number t a b) (direction_below n t a b lt la lb ne)
 
-    first_joined : IsJoined s.rows (two t a b) (directed (vertex_of t a b))
-    first_joined = subst (λ p. IsJoined s.rows p (directed (vertex_of t a b))) (directed_is t a b la lb ne) first.same
+    first_joined : IsJoined s.rows (pair t a b) (directed (vertex_of t a b))
+    first_joined = subst (λ p. IsJoined s.rows p (directed (vertex_of t a b))) (pair_is t a b la lb ne) first.same
 
     -- it is counted where the tail is of the class
     first_counted : is_vertex (vertex_of t a b) ≡ at_vertex t a
@@ -84,14 +75,14 @@ module _ (s : Skeleton) (k : IsSkeleton s) (c : ℕ) (directions : List ℕ) (co
     first_counted =
         let i : ℕ = vertex_of t a b in
         let same : least directions (slice_index directions (vertex_of t a b)) ≡ vertex_of t a b = ap (least directions) first.same_class in
-        (λ j. bit (eq-eqb (least directions (slice_index directions i)) i same j && (one_tail i t a b la first_joined j == c)))
+        (λ j. one_if (eq-eqb (least directions (slice_index directions i)) i same j && (one_tail i t a b la first_joined j == c)))
 
     -- a least directed edge that is joined to it is it
-    told : (i : ℕ) → i < 12 * n → is_least directions i ≡ true → IsJoined s.rows (directed i) (two t a b) → i ≡ vertex_of t a b
+    told : (i : ℕ) → i < 12 * n → is_least directions i ≡ true → IsJoined s.rows (directed i) (pair t a b) → i ≡ vertex_of t a b
     told i l e j =
         let d : ℕ = direction_number t a b in
         let same : slice_index directions i ≡ slice_index directions (direction_number t a b) =
-        (numbered.together i d l (number_below t a b lt la lb ne)).1 (subst (IsJoined s.rows (directed i)) (sym (directed_is t a b la lb ne)) j) in
+        (numbered.together i d l (direction_below n t a b lt la lb ne)).1 (subst (IsJoined s.rows (directed i)) (sym (pair_is t a b la lb ne)) j) in
         sym (eqb-true (least directions (slice_index directions i)) i e) ∙ ap (least directions) same
 
   -- the class of the edge of directed edge i
@@ -137,13 +128,13 @@ module _ (s : Skeleton) (k : IsSkeleton s) (c : ℕ) (directions : List ℕ) (co
     small = omega arith
 
     la : a < 4
-    la = (ends_below (j % 6) small).0
+    la = (are_ends (j % 6) small).lower
 
     lb : b < 4
-    lb = (ends_below (j % 6) small).1
+    lb = (are_ends (j % 6) small).higher
 
     ne : a ≢ b
-    ne = ends_apart (j % 6) small
+    ne = (are_ends (j % 6) small).apart
 
     back : b ≢ a
     back q = ne (sym q)
@@ -163,7 +154,7 @@ module _ (s : Skeleton) (k : IsSkeleton s) (c : ℕ) (directions : List ℕ) (co
 
     -- a directed edge counts for the class where it is one of its edge
     term : ℕ → ℕ
-    term i = bit (edge_class i == e) * is_vertex i
+    term i = one_if (edge_class i == e) * is_vertex i
 
     same_class : (i : ℕ) → i < 12 * n → SameEdge s.rows (edge_of i) j → edge_class i ≡ e
     same_class i l h = ((k.edges).together (edge_of i) j (edge_of_below i n l) lj).1 h ∙ cj
@@ -171,15 +162,15 @@ module _ (s : Skeleton) (k : IsSkeleton s) (c : ℕ) (directions : List ℕ) (co
     at_one : term one ≡ at_vertex t a
     unfolding term
     at_one =
-        let joined : IsJoined s.rows (directed one) (two t a b) = joined_sym s.rows (two t a b) (directed one) k.table (la, (lb, tt)) (first_joined t a b lt la lb ne) in
-        let same : edge_class one ≡ e = same_class one one_below (same_either_way s.rows one j t a b (edge_is j) (inl joined)) in
+        let joined : IsJoined s.rows (directed one) (pair t a b) = joined_sym s.rows (pair t a b) (directed one) k.table (la, (lb, tt)) (first_joined t a b lt la lb ne) in
+        let same : edge_class one ≡ e = same_class one one_below (same_either_way s.rows one j t a b (edge_pair j) (inl joined)) in
         one_of (edge_class one == e) (is_vertex one) (eq-eqb (edge_class one) e same) ∙ first_counted t a b lt la lb ne
 
     at_other : term other ≡ at_vertex t b
     unfolding term
     at_other =
-        let joined : IsJoined s.rows (directed other) (two t b a) = joined_sym s.rows (two t b a) (directed other) k.table (lb, (la, tt)) (first_joined t b a lt lb la back) in
-        let same : edge_class other ≡ e = same_class other other_below (same_either_way s.rows other j t a b (edge_is j) (inr joined)) in
+        let joined : IsJoined s.rows (directed other) (pair t b a) = joined_sym s.rows (pair t b a) (directed other) k.table (lb, (la, tt)) (first_joined t b a lt lb la back) in
+        let same : edge_class other ≡ e = same_class other other_below (same_either_way s.rows other j t a b (edge_pair j) (inr joined)) in
         one_of (edge_class other == e) (is_vertex other) (eq-eqb (edge_class other) e same) ∙ first_counted t b a lt lb la back
 
     nowhere_else : (i : ℕ) → i < 12 * n → i ≢ one → i ≢ other → term i ≡ 0
@@ -187,20 +178,20 @@ module _ (s : Skeleton) (k : IsSkeleton s) (c : ℕ) (directions : List ℕ) (co
     nowhere_else i l off too = by_class (cases_eq (edge_class i) e)
       where
         not_least : edge_class i ≡ e → is_least directions i ≡ true → ⊥
-        not_least q h = elim (either_way s.rows i j t a b (edge_is j) (((k.edges).together (edge_of i) j (edge_of_below i n l) lj).0 (q ∙ sym cj))) [
+        not_least q h = elim (either_way s.rows i j t a b (edge_pair j) (((k.edges).together (edge_of i) j (edge_of_below i n l) lj).0 (q ∙ sym cj))) [
           | inl w ↦ off (told t a b lt la lb ne i l h w)
           | inr w ↦ too (told t b a lt lb la back i l h w)
         ]
 
-        by_least : edge_class i ≡ e → (x : Bool) → is_least directions i ≡ x → bit (is_least directions i && (class_of (vertex_number (i / 12) (tail i)) == c)) ≡ 0
+        by_least : edge_class i ≡ e → (x : Bool) → is_least directions i ≡ x → one_if (is_least directions i && (class_of (vertex_number (i / 12) (tail i)) == c)) ≡ 0
         by_least q true h = absurd (not_least q h)
-        by_least q false h = ap (λ x. bit (x && (class_of (vertex_number (i / 12) (tail i)) == c))) h
+        by_least q false h = ap (λ x. one_if (x && (class_of (vertex_number (i / 12) (tail i)) == c))) h
 
         nothing : (m z : ℕ) → z ≡ 0 → m * z ≡ 0
         nothing m z h = ap (λ x. m * x) h ∙ omega arith
 
-        by_class : (edge_class i ≡ e) ⊎ (edge_class i ≢ e) → bit (edge_class i == e) * is_vertex i ≡ 0
-        by_class (inl q) = nothing (bit (edge_class i == e)) (is_vertex i) (by_least q (is_least directions i) refl)
+        by_class : (edge_class i ≡ e) ⊎ (edge_class i ≢ e) → one_if (edge_class i == e) * is_vertex i ≡ 0
+        by_class (inl q) = nothing (one_if (edge_class i == e)) (is_vertex i) (by_least q (is_least directions i) refl)
         by_class (inr ne) = none_of (edge_class i == e) (is_vertex i) (ne_eqb (edge_class i) e ne)
 
     -- as numbers of directed edges
@@ -213,9 +204,9 @@ module _ (s : Skeleton) (k : IsSkeleton s) (c : ℕ) (directions : List ℕ) (co
     invalid_edge : (is_reversed e ≡ true) ↔ IsInvalidEdge s.rows (least s.edges.classes e)
     unfolding is_reversed
     invalid_edge =
-        let together = numbered.together there back_there (number_below t a b lt la lb ne) (number_below t b a lt lb la back) in
-        let to : directed there ≡ edge j = directed_is t a b la lb ne ∙ sym (edge_is j) in
-        let from : directed back_there ≡ turned (edge j) = directed_is t b a lb la back ∙ sym (ap turned (edge_is j)) in (
+        let together = numbered.together there back_there (direction_below n t a b lt la lb ne) (direction_below n t b a lt lb la back) in
+        let to : directed there ≡ edge j = pair_is t a b la lb ne ∙ sym (edge_pair j) in
+        let from : directed back_there ≡ turned (edge j) = pair_is t b a lb la back ∙ sym (ap turned (edge_pair j)) in (
           (λ h. subst₂ (IsJoined s.rows) to from (together.0 (eqb-true (slice_index directions there) (slice_index directions back_there) h))),
           (λ i. eq-eqb (slice_index directions there) (slice_index directions back_there) (together.1 (subst₂ (IsJoined s.rows) (sym to) (sym from) i))),
         )
@@ -232,7 +223,7 @@ module _ (s : Skeleton) (k : IsSkeleton s) (c : ℕ) (directions : List ℕ) (co
         let both : false ≡ true = sym h ∙ eq-eqb (slice_index directions there) (slice_index directions back_there) same in
         cc
 
-    counted : at_vertex t a + at_vertex t b ≡ sum_by term (below (12 * n)) + bit (is_extra e)
+    counted : at_vertex t a + at_vertex t b ≡ sum_by term (below (12 * n)) + one_if (is_extra e)
     unfolding is_extra
     counted = by_test (is_reversed e) refl
       where
@@ -242,31 +233,31 @@ module _ (s : Skeleton) (k : IsSkeleton s) (c : ℕ) (directions : List ℕ) (co
         once_more : (x y z w : ℕ) → z ≡ x → y ≡ x → w ≡ x → x + y ≡ z + w
         once_more x y z w f g h = omega arith
 
-        by_test : (q : Bool) → is_reversed e ≡ q → at_vertex t a + at_vertex t b ≡ sum_by term (below (12 * n)) + bit (is_reversed e && (class_of (first_vertex e) == c))
+        by_test : (q : Bool) → is_reversed e ≡ q → at_vertex t a + at_vertex t b ≡ sum_by term (below (12 * n)) + one_if (is_reversed e && (class_of (first_vertex e) == c))
         by_test false h =
-            nothing_more (at_vertex t a) (at_vertex t b) (sum_by term (below (12 * n))) (bit (is_reversed e && (class_of (first_vertex e) == c)))
+            nothing_more (at_vertex t a) (at_vertex t b) (sum_by term (below (12 * n))) (one_if (is_reversed e && (class_of (first_vertex e) == c)))
             (two_terms term one other (12 * n) one_below other_below (are_two h) nowhere_else ∙ (λ i. at_one i + at_other i))
-            (ap (λ x. bit (x && (class_of (first_vertex e) == c))) h)
+            (ap (λ x. one_if (x && (class_of (first_vertex e) == c))) h)
         by_test true h =
             let same : one ≡ other = one_for_both h in
-            once_more (at_vertex t a) (at_vertex t b) (sum_by term (below (12 * n))) (bit (is_reversed e && (class_of (first_vertex e) == c)))
+            once_more (at_vertex t a) (at_vertex t b) (sum_by term (below (12 * n))) (one_if (is_reversed e && (class_of (first_vertex e) == c)))
             (one_bounded term one (12 * n) one_below (λ i l off. nowhere_else i l off (λ q. off (q ∙ sym same))) ∙ at_one)
             (sym at_other ∙ ap term (sym same) ∙ at_one)
-            (ap (λ x. bit (x && (class_of (first_vertex e) == c))) h)
+            (ap (λ x. one_if (x && (class_of (first_vertex e) == c))) h)
 
   -- each directed edge counts for the class of its edge
-  counts_once : (i : ℕ) → i < 12 * n → is_vertex i ≡ sum_by (λ e. bit (edge_class i == e) * is_vertex i) (below s.edges.count)
+  counts_once : (i : ℕ) → i < 12 * n → is_vertex i ≡ sum_by (λ e. one_if (edge_class i == e) * is_vertex i) (below s.edges.count)
   counts_once i l =
       let small : edge_class i < s.edges.count = (k.edges).in_range (edge_of i) (edge_of_below i n l) in
-      sym (one_term (λ e. bit (edge_class i == e) * is_vertex i) (edge_class i) s.edges.count (λ e off. none_of (edge_class i == e) (is_vertex i) (ne_eqb (edge_class i) e (λ q. off (sym q)))) small
+      sym (one_term (λ e. one_if (edge_class i == e) * is_vertex i) (edge_class i) s.edges.count (λ e off. none_of (edge_class i == e) (is_vertex i) (ne_eqb (edge_class i) e (λ q. off (sym q)))) small
       ∙ one_of (edge_class i == edge_class i) (is_vertex i) (eq-eqb (edge_class i) (edge_class i) refl))
 
-  vertices-sum : link_vertices s.vertices.classes directions c ≡ sum_by (λ e. sum_by (λ i. bit (edge_class i == e) * is_vertex i) (below (12 * n))) (below s.edges.count)
+  vertices-sum : link_vertices s.vertices.classes directions c ≡ sum_by (λ e. sum_by (λ i. one_if (edge_class i == e) * is_vertex i) (below (12 * n))) (below s.edges.count)
   unfolding is_vertex
   vertices-sum =
       ap (λ m. sum_by is_vertex (below m)) numbered.one_each
-      ∙ sum_by_same is_vertex (λ i. sum_by (λ e. bit (edge_class i == e) * is_vertex i) (below s.edges.count)) (below (12 * n)) (λ i a. counts_once i (below-among i (12 * n) a))
-      ∙ sum_swap (λ i e. bit (edge_class i == e) * is_vertex i) (below (12 * n)) (below s.edges.count)
+      ∙ sum_by_same is_vertex (λ i. sum_by (λ e. one_if (edge_class i == e) * is_vertex i) (below s.edges.count)) (below (12 * n)) (λ i a. counts_once i (below-among i (12 * n) a))
+      ∙ sum_swap (λ i e. one_if (edge_class i == e) * is_vertex i) (below (12 * n)) (below s.edges.count)
 
   -- the edge classes that are counted once more
   pub extra : List ℕ
@@ -289,8 +280,8 @@ module _ (s : Skeleton) (k : IsSkeleton s) (c : ℕ) (directions : List ℕ) (co
   pub points-link : (coords : Coords) → HasTriangles coords → points coords (link_of s coords c) s.edges.classes s.edges.count ≡ link_vertices s.vertices.classes directions c + length extra
   unfolding term extra
   points-link coords h =
-      sum_by_same (λ e. weight coords (link_of s coords c) (least s.edges.classes e)) (λ e. sum_by (λ i. bit (edge_class i == e) * is_vertex i) (below (12 * n)) + bit (is_extra e)) (below s.edges.count)
+      sum_by_same (λ e. weight coords (link_of s coords c) (least s.edges.classes e)) (λ e. sum_by (λ i. one_if (edge_class i == e) * is_vertex i) (below (12 * n)) + one_if (is_extra e)) (below s.edges.count)
       (λ e m. let le : e < s.edges.count = below-among e s.edges.count m in
       weight-link n s.vertices.classes c coords h (least s.edges.classes e) (lj e le) ∙ counted e le)
-      ∙ sum_by_plus (λ e. sum_by (λ i. bit (edge_class i == e) * is_vertex i) (below (12 * n))) (λ e. bit (is_extra e)) (λ e. sum_by (λ i. bit (edge_class i == e) * is_vertex i) (below (12 * n)) + bit (is_extra e)) (λ e. refl) (below s.edges.count)
+      ∙ sum_by_plus (λ e. sum_by (λ i. one_if (edge_class i == e) * is_vertex i) (below (12 * n))) (λ e. one_if (is_extra e)) (λ e. sum_by (λ i. one_if (edge_class i == e) * is_vertex i) (below (12 * n)) + one_if (is_extra e)) (λ e. refl) (below s.edges.count)
       ∙ (λ i. sym vertices-sum i + sym (length-filter is_extra (below s.edges.count)) i)

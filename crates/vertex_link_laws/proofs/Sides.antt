@@ -1,15 +1,16 @@
 -- A vertex link has two sides, and signs of its triangles are signs of the members of the class.
-use Rattle.std.proofs.Common.{◌≡◌, ℕ, ◌+◌, ◌*◌, ◌/◌, ◌%◌, ◌<◌, Bool, true, false, List, length, map, Some, refl, sym, ap, ◌∙◌, arith}
+use Rattle.std.proofs.Common.{◌≡◌, ℕ, ◌/◌, ◌%◌, ◌<◌, Bool, true, false, List, length, map, refl, sym, ap, ◌∙◌, arith}
 use Rattle.std.specs.Prelude.{◌↔◌, not, if◌then◌else◌, slice_index}
 use Rattle.std.specs.List.{slice_index_or}
 use Rattle.std.proofs.lemmas.List.{length-map, get_or-map}
 use Rattle.std.proofs.lemmas.List.FromFn.{length-range_with_len, get_or-range_with_len}
 use Rattle.table_definitions.specs.Lists.{below}
 use Rattle.table_definitions.specs.Permutation.{image, is_odd}
-use Rattle.table_definitions.specs.Table.{Gluing, glue}
+use Rattle.table_definitions.specs.Table.{Gluing}
 use Rattle.table_definitions.proofs.PermutationLaws.{image_below}
+use Rattle.table_definitions.proofs.Faces.{face_at}
 use Rattle.skeleton_definitions.specs.Links.{vertex_number, AreLinkSigns, IsOrientableLink}
-use Rattle.skeleton_definitions.specs.Orientation.{sign_of, sign_across}
+use Rattle.skeleton_definitions.specs.Orientation.{sign_of}
 use Rattle.skeleton_definitions.specs.Skeleton.{Skeleton, IsSkeleton}
 use Rattle.surface_definitions.specs.Coordinates.{columns_each, tri_column}
 use Rattle.surface_definitions.specs.Pieces.{SurfacePiece, Arc, pieces_of, piece_number, piece_of, arc_across, Meets, AreComponents, IsTwoSided, IsOrientableComponent, keeps_sides}
@@ -17,12 +18,12 @@ use Rattle.surface_definitions.specs.declared.Coords.{Coords}
 use Rattle.surface_definitions.specs.declared.Coords.TheVariants.{Standard, Quad, Octagon}
 use Rattle.surface_laws.specs.MatchingLaws.{HasTriangles}
 use Rattle.surface_laws.specs.PieceLaws.{face_of_arc}
-use Rattle.surface_laws.proofs.Glued.{IsGlued, glued_is, face_at}
+use Rattle.surface_laws.proofs.Glued.{IsGlued, glued_is}
 use Rattle.surface_laws.proofs.PieceNumbers.{no_piece, IsFound, piece_found}
 use Rattle.surface_laws.proofs.Vertices.{class_across}
 use Rattle.quad_laws.specs.LinkLaws.{link_of}
 use Rattle.vertex_link_laws.proofs.Components.{in_first}
-use Rattle.vertex_link_laws.proofs.Pieces.{triangle, IsMember, IsLinkArc, triangle_there, arc_is, arc_in, arc_there, piece_of_arc, piece_across, sides_kept}
+use Rattle.vertex_link_laws.proofs.Pieces.{triangle, IsMember, triangle_there, arc_is, arc_in, arc_there, piece_of_arc, piece_across, sides_kept}
 
 -- the vertex of a triangle, by the column
 vertex_in : (coords : Coords) → ℕ → ℕ

@@ -10,18 +10,16 @@ use Rattle.table_definitions.proofs.Listed.{below-among}
 use Rattle.table_definitions.proofs.ListFacts.{sum_below_next}
 use Rattle.surface_laws.proofs.Counting.{sum_by_same, one_term, below_sum}
 use Rattle.surface_laws.proofs.Sums.{sum_by_plus}
+use Rattle.plain_facts.proofs.Truths.{one_if}
 
-abbrev pub bit : Bool → ℕ
-bit b = cond b 1 0
-
-kept_sum : {A : Type 0} (f : A → ℕ) (x : A) (xs : List A) (b : Bool) → sum_by f (cond b (x ∷ xs) xs) ≡ bit b * f x + sum_by f xs
+kept_sum : {A : Type 0} (f : A → ℕ) (x : A) (xs : List A) (b : Bool) → sum_by f (cond b (x ∷ xs) xs) ≡ one_if b * f x + sum_by f xs
 kept_sum f x xs true = omega (arith, sum_by-cons f x xs)
 kept_sum f x xs false = omega arith
 
-pub sum_by-filter : {A : Type 0} (f : A → ℕ) (p : A → Bool) (xs : List A) → sum_by f (filter p xs) ≡ sum_by (λ x. bit (p x) * f x) xs
+pub sum_by-filter : {A : Type 0} (f : A → ℕ) (p : A → Bool) (xs : List A) → sum_by f (filter p xs) ≡ sum_by (λ x. one_if (p x) * f x) xs
 sum_by-filter f p [] = refl
 sum_by-filter f p (x ∷ xs) =
-    kept_sum f x (filter p xs) (p x) ∙ ap (λ m. bit (p x) * f x + m) (sum_by-filter f p xs) ∙ sym (sum_by-cons (λ x. bit (p x) * f x) x xs)
+    kept_sum f x (filter p xs) (p x) ∙ ap (λ m. one_if (p x) * f x + m) (sum_by-filter f p xs) ∙ sym (sum_by-cons (λ x. one_if (p x) * f x) x xs)
 
 -- blocks of w numbers
 pub sum_blocks : (f : ℕ → ℕ) (w n : ℕ) → sum_by f (below (w * n)) ≡ sum_by (λ t. sum_by (λ j. f (w * t + j)) (below w)) (below n)
@@ -34,15 +32,15 @@ sum_blocks f w (suc n) =
 
 -- the term at x, and 0 elsewhere
 term_at : (ℕ → ℕ) → ℕ → ℕ → ℕ
-term_at f x k = bit (k == x) * f x
+term_at f x k = one_if (k == x) * f x
 
 at_it : (f : ℕ → ℕ) (x k : ℕ) → k ≡ x → term_at f x k ≡ f x
 unfolding term_at
-at_it f x k e = ap (λ b. bit b * f x) (eq-eqb k x e) ∙ omega arith
+at_it f x k e = ap (λ b. one_if b * f x) (eq-eqb k x e) ∙ omega arith
 
 off_it : (f : ℕ → ℕ) (x k : ℕ) → k ≢ x → term_at f x k ≡ 0
 unfolding term_at
-off_it f x k ne = ap (λ b. bit b * f x) (ne_eqb k x ne) ∙ omega arith
+off_it f x k ne = ap (λ b. one_if b * f x) (ne_eqb k x ne) ∙ omega arith
 
 first_of_two : (f m n : ℕ) → m ≡ f → n ≡ 0 → f ≡ m + n
 first_of_two f m n e z = omega arith

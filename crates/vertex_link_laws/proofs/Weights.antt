@@ -13,14 +13,9 @@ use Rattle.quad_laws.specs.LinkLaws.{vertex_link}
 use Rattle.quad_laws.proofs.BareArcs.{IsBare}
 use Rattle.quad_laws.proofs.VertexLinks.{member, triangle-link}
 use Rattle.vertex_link_laws.proofs.Triangles.{link_bare}
+use Rattle.class_laws.proofs.Cases.{low, high, are_ends}
 
 -- the ends of an edge of a tetrahedron
-abbrev pub low : ℕ → ℕ
-low e = slice_index (ends e) 0
-
-abbrev pub high : ℕ → ℕ
-high e = slice_index (ends e) 1
-
 two_alone : (g : ℕ → ℕ) (a b : ℕ) (rest : List ℕ) → sum_by g rest ≡ 0 → sum_by g (a ∷ b ∷ rest) ≡ g a + g b
 two_alone g a b rest z = omega (arith, sum_by-cons g a (b ∷ rest), sum_by-cons g b rest)
 
@@ -73,21 +68,11 @@ module _ (n : ℕ) (ys : List ℕ) (t : ℕ) (lt : t < n) where
   crossed_ends Quad h bare e l = absurd h
   crossed_ends Octagon h bare e l = octagon bare e l
 
--- ends are vertices
-pub ends_below : (e : ℕ) → e < 6 → (low e < 4) × (high e < 4)
-ends_below zero l = (omega arith, omega arith)
-ends_below (suc zero) l = (omega arith, omega arith)
-ends_below (suc (suc zero)) l = (omega arith, omega arith)
-ends_below (suc (suc (suc zero))) l = (omega arith, omega arith)
-ends_below (suc (suc (suc (suc zero)))) l = (omega arith, omega arith)
-ends_below (suc (suc (suc (suc (suc zero))))) l = (omega arith, omega arith)
-ends_below (suc (suc (suc (suc (suc (suc e)))))) l = absurd (omega arith)
-
 pub weight-link : (n : ℕ) (classes : List ℕ) (c : ℕ) (coords : Coords) → HasTriangles coords → (i : ℕ) → i < 6 * n
     → weight coords (vertex_link coords n classes c) i ≡ member classes c (vertex_number (i / 6) (low (i % 6))) + member classes c (vertex_number (i / 6) (high (i % 6)))
 weight-link n classes c coords h i l =
     let lt : i / 6 < n = omega arith in
     let le : i % 6 < 6 = omega arith in
-    let e = ends_below (i % 6) le in
+    let e = are_ends (i % 6) le in
     crossed_ends n (vertex_link coords n classes c) (i / 6) lt coords h (link_bare n classes c coords h) (i % 6) le
-    ∙ (λ j. triangle-link n classes c coords (i / 6) (low (i % 6)) h lt e.0 j + triangle-link n classes c coords (i / 6) (high (i % 6)) h lt e.1 j)
+    ∙ (λ j. triangle-link n classes c coords (i / 6) (low (i % 6)) h lt e.lower j + triangle-link n classes c coords (i / 6) (high (i % 6)) h lt e.higher j)

@@ -9,19 +9,18 @@ use Rattle.table_definitions.specs.Permutation.{image}
 use Rattle.table_definitions.specs.Table.{Gluing, glue}
 use Rattle.table_definitions.proofs.TableLaws.{Among, Among-below}
 use Rattle.table_definitions.proofs.PermutationLaws.{image_below, images_apart}
-use Rattle.skeleton_definitions.specs.Corners.{Corner}
+use Rattle.skeleton_definitions.specs.Corners.{Corner, left_through}
 use Rattle.skeleton_definitions.specs.Links.{vertex_number}
 use Rattle.skeleton_definitions.specs.Skeleton.{Skeleton, IsSkeleton}
 use Rattle.surface_definitions.specs.Coordinates.{columns, tri_column, quad_column, keeping}
 use Rattle.surface_definitions.specs.declared.Coords.TheVariants.{Standard, Quad}
 use Rattle.surface_definitions.specs.Equations.{matching, Holds}
 use Rattle.surface_definitions.specs.Lift.{IsLiftAt}
-use Rattle.surface_laws.specs.LiftLaws.{IsLiftOf}
+use Rattle.surface_laws.specs.LiftLaws.{IsLiftOf, triangle_at}
 use Rattle.surface_laws.proofs.Glued.{IsGlued, glued_is}
 use Rattle.surface_laws.proofs.Lifts.{lift_matched}
 use Rattle.surface_laws.proofs.Quads.{projected_at}
 use Rattle.surface_laws.proofs.Turns.{keeping_below}
-use Rattle.surface_laws.proofs.CornerSteps.{left_through}
 use Rattle.quad_lift_laws.proofs.DualTree.{beyond, triangles_seen, IsHung, hung}
 use Rattle.quad_lift_laws.proofs.Flags.{IsVertexClass, IsFlag, mate_by, triangle_of}
 use Rattle.quad_lift_laws.proofs.Growing.{only_one, seen_apart, seen_within}
@@ -30,11 +29,7 @@ use Rattle.written_answer_laws.specs.Lifts.{LiftsAreWithin}
 use Rattle.surface_laws.proofs.ThreeSums.{three_of}
 use Rattle.written_answer_laws.proofs.Besides.{beside, one_of_three, apart_sum, all_beside}
 
--- the triangles round vertex i
-abbrev height : List ℕ → ℕ → ℕ
-height ys i = slice_index ys (tri_column Standard (i / 4) (i % 4))
-
-height_is : (ys : List ℕ) (t v : ℕ) → v < 4 → height ys (vertex_number t v) ≡ slice_index ys (tri_column Standard t v)
+height_is : (ys : List ℕ) (t v : ℕ) → v < 4 → triangle_at ys (vertex_number t v) ≡ slice_index ys (tri_column Standard t v)
 height_is ys t v l =
     let tet : vertex_number t v / 4 ≡ t = omega arith in
     let vertex : vertex_number t v % 4 ≡ v = omega arith in
@@ -49,7 +44,7 @@ module _ (s : Skeleton) (c : ℕ) (z : IsVertexClass s c) (xs ys : List ℕ) (l 
   quad_is t k lt lk = sym (projected_at ys (length s.rows) t k lt lk) ∙ ap (λ (w : List ℕ). slice_index w (3 * t + k)) l.quads_are
 
   over_side : (k : Corner) → IsFlag s c z k → (o : Option Gluing) → glue s.rows (left_through k) ≡ o
-      → height ys (triangle_of k) ≤ height ys (triangle_of (mate_by k o)) + beside xs (triangle_of (mate_by k o))
+      → triangle_at ys (triangle_of k) ≤ triangle_at ys (triangle_of (mate_by k o)) + beside xs (triangle_of (mate_by k o))
   over_side k flag None e = omega arith
   over_side k flag (Some g) e =
       let f = flag.four in
@@ -65,28 +60,28 @@ module _ (s : Skeleton) (c : ℕ) (z : IsVertexClass s c) (xs ys : List ℕ) (l 
       (subst (λ t. slice_index xs (3 * g.tet + keeping w (image g.perm k.c)) ≤ three_of xs t) (sym tet) (one_of_three xs g.tet (keeping w (image g.perm k.c)) lk)) in
       risen (slice_index ys (tri_column Standard k.tet k.a)) (slice_index ys (tri_column Standard g.tet w))
       (slice_index ys (quad_column Standard k.tet (keeping k.a k.c))) (slice_index ys (quad_column Standard g.tet (keeping w (image g.perm k.c))))
-      (height ys (triangle_of k)) (height ys (vertex_number g.tet w)) (beside xs (vertex_number g.tet w)) holds (height_is ys k.tet k.a f.a) (height_is ys g.tet w lw) low
+      (triangle_at ys (triangle_of k)) (triangle_at ys (vertex_number g.tet w)) (beside xs (vertex_number g.tet w)) holds (height_is ys k.tet k.a f.a) (height_is ys g.tet w lw) low
 
-  module _ (root : ℕ) (start : height ys root ≡ 0) where
+  module _ (root : ℕ) (start : triangle_at ys root ≡ 0) where
     -- a height and the quads beside it are at most the quads beside all that was seen
-    spread : (ds : List Corner) → IsHung s c z root ds → (i : ℕ) → Among i (triangles_seen s c z root ds) → height ys i + beside xs i ≤ sum_by (beside xs) (triangles_seen s c z root ds)
+    spread : (ds : List Corner) → IsHung s c z root ds → (i : ℕ) → Among i (triangles_seen s c z root ds) → triangle_at ys i + beside xs i ≤ sum_by (beside xs) (triangles_seen s c z root ds)
     spread [] g i a =
         let sums : sum_by (beside xs) (root ∷ []) ≡ beside xs root + sum_by (beside xs) [] = sum_by-cons (beside xs) root [] in
-        subst (λ j. height ys j + beside xs j ≤ sum_by (beside xs) (root ∷ [])) (sym (only_one i root a)) (omega arith)
+        subst (λ j. triangle_at ys j + beside xs j ≤ sum_by (beside xs) (root ∷ [])) (sym (only_one i root a)) (omega arith)
     spread (k ∷ ks) g i (inl e) =
-        let older : height ys (beyond s k) + beside xs (beyond s k) ≤ sum_by (beside xs) (triangles_seen s c z root ks) = spread ks g.3 (beyond s k) g.2 in
-        let rise : height ys (triangle_of k) ≤ height ys (beyond s k) + beside xs (beyond s k) = over_side k g.0 (glue s.rows (left_through k)) refl in
+        let older : triangle_at ys (beyond s k) + beside xs (beyond s k) ≤ sum_by (beside xs) (triangles_seen s c z root ks) = spread ks g.3 (beyond s k) g.2 in
+        let rise : triangle_at ys (triangle_of k) ≤ triangle_at ys (beyond s k) + beside xs (beyond s k) = over_side k g.0 (glue s.rows (left_through k)) refl in
         let sums : sum_by (beside xs) (triangle_of k ∷ triangles_seen s c z root ks) ≡ beside xs (triangle_of k) + sum_by (beside xs) (triangles_seen s c z root ks) = sum_by-cons (beside xs) (triangle_of k) (triangles_seen s c z root ks) in
-        subst (λ j. height ys j + beside xs j ≤ sum_by (beside xs) (triangles_seen s c z root (k ∷ ks))) (sym e) (omega arith)
+        subst (λ j. triangle_at ys j + beside xs j ≤ sum_by (beside xs) (triangles_seen s c z root (k ∷ ks))) (sym e) (omega arith)
     spread (k ∷ ks) g i (inr a) =
-        let older : height ys i + beside xs i ≤ sum_by (beside xs) (triangles_seen s c z root ks) = spread ks g.3 i a in
+        let older : triangle_at ys i + beside xs i ≤ sum_by (beside xs) (triangles_seen s c z root ks) = spread ks g.3 i a in
         let sums : sum_by (beside xs) (triangle_of k ∷ triangles_seen s c z root ks) ≡ beside xs (triangle_of k) + sum_by (beside xs) (triangles_seen s c z root ks) = sum_by-cons (beside xs) (triangle_of k) (triangles_seen s c z root ks) in
         omega arith
 
-    height_within : length xs ≡ 3 * length s.rows → root < 4 * length s.rows → slice_index s.vertices.classes root ≡ c → (i : ℕ) → i < 4 * length s.rows → slice_index s.vertices.classes i ≡ c → height ys i ≤ 4 * sum xs
+    height_within : length xs ≡ 3 * length s.rows → root < 4 * length s.rows → slice_index s.vertices.classes root ≡ c → (i : ℕ) → i < 4 * length s.rows → slice_index s.vertices.classes i ≡ c → triangle_at ys i ≤ 4 * sum xs
     height_within width low at_class i li ci =
         let tree = hung s c z root low at_class in
-        let here : height ys i + beside xs i ≤ sum_by (beside xs) (triangles_seen s c z root tree.0) = spread tree.0 tree.1 i (tree.2 i (member_listed s c z i li ci)) in
+        let here : triangle_at ys i + beside xs i ≤ sum_by (beside xs) (triangles_seen s c z root tree.0) = spread tree.0 tree.1 i (tree.2 i (member_listed s c z i li ci)) in
         let roots_in : (x : ℕ) → Among x (root ∷ []) → Among x (below (4 * length s.rows)) = λ x a. Among-below x (4 * length s.rows) (let e : x ≡ root = only_one x root a in omega arith) in
         let new_in : (k : Corner) → IsFlag s c z k → Among (triangle_of k) (below (4 * length s.rows)) = λ k h. Among-below (triangle_of k) (4 * length s.rows) (let t = (h.four).tet in let a = (h.four).a in omega arith) in
         let fewer : sum_by (beside xs) (triangles_seen s c z root tree.0) ≤ sum_by (beside xs) (below (4 * length s.rows)) =
@@ -99,7 +94,7 @@ module _ (s : Skeleton) (xs ys : List ℕ) (k : IsSkeleton s) (width : length xs
   class_lift : (i : ℕ) → i < 4 * length s.rows → IsLiftAt s.rows s.vertices.classes xs (slice_index s.vertices.classes i) ys
   class_lift i l = lift.each (slice_index s.vertices.classes i) ((k.vertices).in_range i l)
 
-  triangle_within : (i : ℕ) → i < 4 * length s.rows → height ys i ≤ 4 * sum xs
+  triangle_within : (i : ℕ) → i < 4 * length s.rows → triangle_at ys i ≤ 4 * sum xs
   triangle_within i l =
       let c : ℕ = slice_index s.vertices.classes i in
       let at : IsLiftAt s.rows s.vertices.classes xs c ys = class_lift i l in

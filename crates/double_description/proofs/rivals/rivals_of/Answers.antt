@@ -1,8 +1,8 @@
 -- The rivals at hand where the same columns clash, and new ones otherwise.
 use Rattle.std.proofs.Common.{get_or, subst, sym, ◌∙◌, arith}
 use Rattle.support_table.specs.Joins.{ArePairsOf}
-use Rattle.double_description.proofs.KeptLemmas.{ray_at-rays_of}
-use Rattle.double_description.proofs.RivalLemmas.{support_width, rivals_kept, rivals_made}
+use Rattle.double_description.proofs.KeptLemmas.{ray_at-rays_of, support_width}
+use Rattle.double_description.proofs.RivalLemmas.{rivals_kept, rivals_made}
 use Rattle.double_description.proofs.rivals.rivals_of.Goals as goal
 
 pub joined-requires-clause-range : goal.joined-requires-clause-range

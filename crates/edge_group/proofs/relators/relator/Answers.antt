@@ -1,9 +1,9 @@
 -- A corner more.
 use Rattle.std.proofs.Common.{◌≡◌, ◌+◌, ◌*◌, Vec, Global, sym, ap, ap₂, ◌∙◌}
 use Rattle.std.specs.List.{slice_index_or}
-use Rattle.skeleton_definitions.specs.Corners.{Corner}
+use Rattle.skeleton_definitions.specs.Corners.{Corner, left_through}
 use Rattle.group_definitions.specs.declared.Letter.{Letter}
-use Rattle.group_definitions.specs.Presentations.{letter_of, left_through}
+use Rattle.group_definitions.specs.Presentations.{letter_of}
 use Rattle.table_definitions.specs.Table.{face_number}
 use Rattle.edge_group.proofs.Relating.{letter_added, letter_skipped}
 use Rattle.edge_group.proofs.relators.relator.Goals as goal

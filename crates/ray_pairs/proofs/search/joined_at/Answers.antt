@@ -1,8 +1,9 @@
 use Rattle.std.proofs.Common.{get_or}
 use Rattle.std.proofs.lemmas.Result.{IfOk-weaker}
-use Rattle.ray_pairs.proofs.JoinLemmas.{joined_to_ray, support_width}
+use Rattle.ray_pairs.proofs.JoinLemmas.{joined_to_ray}
 use Rattle.ray_pairs.proofs.PartnerLemmas.{joined_all}
 use Rattle.ray_pairs.proofs.search.joined_at.Goals as goal
+use Rattle.double_description.proofs.KeptLemmas.{support_width}
 
 pub returns : goal.returns
 returns g c =

@@ -1,7 +1,7 @@
 -- What is found is found behind the columns so far.
 use Rattle.std.proofs.Common.{◌≡◌, drop}
-use Rattle.surface_pieces.specs.Arcs.{first_nonzero}
 use Rattle.surface_pieces.proofs.columns.first_nonzero_of.Given as goal
+use Rattle.surface_laws.specs.PieceLaws.{first_nonzero}
 
 abbrev pub invariant-loop-column : goal.invariant-loop-column
 invariant-loop-column l = first_nonzero l.x l.columns l.other ≡ first_nonzero l.x (drop l.column-index l.columns) l.other

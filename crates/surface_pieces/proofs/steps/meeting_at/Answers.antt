@@ -2,9 +2,9 @@
 use Rattle.std.proofs.Common.{◌≡◌, ◌/◌, IfNone, sym, ap, ◌∙◌, subst, arith}
 use Rattle.table_definitions.specs.Permutation.{is_odd}
 use Rattle.table_definitions.specs.Table.{Gluing, glue}
+use Rattle.table_definitions.proofs.Faces.{face_at}
 use Rattle.surface_definitions.specs.Pieces.{Arc}
 use Rattle.surface_laws.specs.PieceLaws.{face_of_arc}
-use Rattle.surface_laws.proofs.Glued.{face_at}
 use Rattle.surface_pieces.specs.Meetings.{HasNoMeeting}
 use Rattle.surface_pieces.proofs.ArcsOfPieces.{tet_in_range}
 use Rattle.surface_pieces.proofs.MetArcs.{none_meets, free_meets, one_meets}

@@ -1,8 +1,7 @@
 -- The accepted moves with the cores so far stand behind those before.
 use Rattle.std.proofs.Common.{◌≡◌, ◌++◌, take}
 use Rattle.std.specs.Prelude.{filter}
-use Rattle.move_definitions.specs.Certificates.{is_accepted}
-use Rattle.tri_build.specs.Candidates.{moves_at}
+use Rattle.move_definitions.specs.Certificates.{is_accepted, moves_at}
 use Rattle.tri_build.proofs.candidates.append_at.Given as goal
 
 abbrev pub invariant-loop-core : goal.invariant-loop-core

@@ -7,7 +7,7 @@ use Rattle.cone_definitions.specs.Rows.{Row, IsPositiveAt, IsNegativeAt}
 use Rattle.cone_definitions.specs.Surfaces.{Clash, IsAdmissibleUnion, IsSurfaceList}
 use Rattle.cone_definitions.specs.Elimination.{Step, IsRay, IsPair}
 use Rattle.cone_definitions.proofs.Lexicographic.{before_irreflexive}
-use Rattle.double_description.specs.Unordered.{HasSurfaces}
+use Rattle.cone_definitions.specs.Unordered.{HasSurfaces}
 
 -- an ascending list is one
 pub without_order : (columns : ℕ) (rows : List Row) (pairs : List Clash) (rays : List (List ℕ)) → IsSurfaceList columns rows pairs rays → HasSurfaces columns rows pairs rays
