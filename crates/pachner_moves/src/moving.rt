@@ -6,9 +6,9 @@ ghost use Rattle.table_definitions.specs.Table.{max_tets, IsTable};
 ghost use Rattle.move_definitions.specs.Moves as moves;
 ghost use Rattle.move_definitions.specs.Moves.{Plays, IsCore};
 ghost use Rattle.move_definitions.specs.Undos as undos;
-ghost use Rattle.move_definitions.specs.Undos.{CanTakeBack, IsTakenBack, TakesBack};
-ghost use Rattle.pachner_moves.specs.Faults.{IsPattern};
-ghost use Rattle.pachner_moves.specs.Facets.{IsOldFacet, AreOldFacets, CanPlay, stands_for, outer_gluing, fresh_gluing, put_row, put_rows, exchange};
+ghost use Rattle.move_definitions.specs.Undos.{CanTakeBack, IsTakenBack};
+ghost use Rattle.move_laws.specs.Faults.{IsPattern};
+ghost use Rattle.move_laws.specs.Facets.{IsOldFacet, AreOldFacets, CanPlay, stands_for, outer_gluing, fresh_gluing, put_row, put_rows, exchange};
 
 use crate::facet::{glue_opposite, vertex_of};
 use crate::facets::{kept, label_by_label, moved_glue, new_facet, other_labels};
@@ -223,8 +223,3 @@ pub fn take_back(table: &mut Table, undo: &Undo)
     let removed = put_numbers(undo);
     table.replace(&removed, &undo.rows);
 }
-
-/// Taking back leads to the table on which the move was played.
-pub fn taking_back_law()
-    ensures { TakesBack }
-{}

@@ -1,6 +1,6 @@
 use Rattle.std.proofs.Common.{◌≡◌, ◌≤◌, length, subst, ap, arith}
 use Rattle.move_definitions.specs.Moves.{Move, IsCore, new_length}
-use Rattle.pachner_moves.proofs.MovedLaws.{can_play, are_old_by}
+use Rattle.move_laws.proofs.MovedLaws.{can_play, are_old_by}
 use Rattle.pachner_moves.proofs.moving.apply.Goals as goal
 
 pub exchange-requires-clause-can : goal.exchange-requires-clause-can
