@@ -71,8 +71,6 @@ pub fn draw_step(alloc: Global, table: &mut Table, state: u64) -> Result<Option<
     ensures none { IfOk result (λ r. IfNone r (certificates.candidates table.old ≡ [])) }
     ensures left { IfOk result (λ r. IfNone r (table.new ≡ table.old)) }
 {
-    // so the rows are known to be a table
-    let _ = table.rows();
     let moves = candidates(alloc, table)?;
     match drawn(state, &moves) {
         Some(m) => Ok(Some(play_step(table, m))),
