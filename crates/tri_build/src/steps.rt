@@ -11,7 +11,7 @@ use crate::generator::drawn;
 use arrayvec::ArrayVec;
 use gluing_table::Table;
 use no_memory::NoMemory;
-use pachner_moves::{Facet, Move, apply, legal};
+use pachner_moves::{Facet, Move, apply_legal, legal};
 use std::alloc::Global;
 use std::marker::Model;
 
@@ -52,7 +52,7 @@ fn play_step(table: &mut Table, m: Move) -> Step
 {
     let tets = table.len();
     match legal(table, m) {
-        Ok(pattern) => match apply(table, m) {
+        Ok(pattern) => match apply_legal(table, m, &pattern) {
             Ok(_) => Step {
                 played: m,
                 tets,
