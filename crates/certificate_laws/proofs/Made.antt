@@ -53,8 +53,11 @@ candidate_accepted rows m h =
       | inr a ↦ accepted_none (play_fault rows m) (filter-among (is_accepted rows) m (one_four_moves (length rows)) a).1
     ]
 
+pub drawn_accepted : (x : ℕ) (rows : List Row) (m : Move) → drawn x (candidates rows) ≡ Some m → play_fault rows m ≡ None
+drawn_accepted x rows m e = candidate_accepted rows m (drawn_among x (candidates rows) m e)
+
 pub drawn_leads : (x : ℕ) (rows : List Row) (m : Move) → IsTable rows → drawn x (candidates rows) ≡ Some m → (next : List Row) × Plays rows m next
-drawn_leads x rows m table e = accepted_leads rows m table (drawn_core x rows m e) (candidate_accepted rows m (drawn_among x (candidates rows) m e))
+drawn_leads x rows m table e = accepted_leads rows m table (drawn_core x rows m e) (drawn_accepted x rows m e)
 
 -- so a making goes on to its end
 

@@ -11,7 +11,7 @@ ghost use Rattle.part_laws.specs.Drafts.{AreMatched, AreWritten};
 
 use crate::drafts::{Draft, unwritten, write_part};
 use crate::order::{Ordered, Signed, in_order};
-use canonical_labelling::{SameFault, same};
+use canonical_labelling::same_of_connected;
 use gluing_table::{Relabelling, Table};
 use no_memory::NoMemory;
 use std::alloc::Global;
@@ -38,12 +38,9 @@ fn told(alloc: Global, first: &Table, second: &Table) -> Result<Relabelling, NoM
     requires relabelled { IsRelabelled first.now second.now }
     ensures { IfOk result (IsLeastRelabelling first.now second.now) }
 {
-    match same(alloc, first, second) {
-        Ok(Some(by)) => Ok(by),
-        Ok(None) => unreachable!(),
-        Err(SameFault::First { .. }) => unreachable!(),
-        Err(SameFault::Second { .. }) => unreachable!(),
-        Err(SameFault::NoMemory) => Err(NoMemory),
+    match same_of_connected(alloc, first, second)? {
+        Some(by) => Ok(by),
+        None => unreachable!(),
     }
 }
 

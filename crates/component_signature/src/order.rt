@@ -3,14 +3,13 @@
 ghost use Rattle.std.specs.Prelude.{◌≡◌, All, IfOk, OnOk};
 ghost use Rattle.table_definitions.specs.Table.{IsTable};
 ghost use Rattle.table_definitions.specs.Places.{IsConnected};
-ghost use Rattle.signature_definitions.specs.Spelling.{IsSignature};
 ghost use Rattle.part_definitions.specs.Parts as definition;
 ghost use Rattle.part_definitions.specs.Parts.{AreParts};
 ghost use Rattle.component_signature.specs.Entries.{entries_of};
 ghost use Rattle.part_laws.specs.Ordered.{AreSigned, AreInOrder};
 
 use crate::split::{Part, parts};
-use canonical_labelling::{WalkFault, signature};
+use canonical_labelling::signature_of_connected;
 use gluing_table::Table;
 use no_memory::NoMemory;
 use std::alloc::Global;
@@ -29,18 +28,6 @@ pub struct Ordered {
     pub signed: Vec<Signed>,
 }
 
-/// The signature of a connected table.
-fn signature_of(alloc: Global, table: &Table) -> Result<Vec<u8>, NoMemory>
-    requires { IsConnected table.now }
-    ensures { IfOk result (λ text. IsSignature table.now text.items) }
-{
-    match signature(alloc, table) {
-        Ok(text) => Ok(text),
-        Err(WalkFault::NoMemory) => Err(NoMemory),
-        Err(WalkFault::NotConnected { .. }) => unreachable!(),
-    }
-}
-
 /// The signature of each part.
 fn sign_parts(alloc: Global, parts: &[Part]) -> Result<Vec<Signed>, NoMemory>
     requires { All (λ (part : definition.Part). IsConnected part.rows) parts.now }
@@ -49,7 +36,7 @@ fn sign_parts(alloc: Global, parts: &[Part]) -> Result<Vec<Signed>, NoMemory>
     let mut signed = Vec::with_capacity(alloc, parts.len())?;
     for number in 0..parts.len() {
         let part = &parts[number];
-        let signature = signature_of(alloc, &part.table)?;
+        let signature = signature_of_connected(alloc, &part.table)?;
         signed.push(Signed {
             signature,
             part: number,

@@ -70,10 +70,10 @@ fn crushed_rows(
     x: &[u128],
     numbers: &[u32],
 ) -> Result<Vec<Row>, AllocError>
-    requires table { IsTable table.now }
     requires width { length x.now ≡ 7 * length table.now }
     requires numbers { AreNewNumbers x.now numbers.now (length table.now) }
-    ensures { IfOk result (λ rows. AreCrushedBefore table.now x.now (length table.now) rows.items) }
+    ensures rows { IfOk result (λ rows. AreCrushedBefore table.now x.now (length table.now) rows.items) }
+    ensures is_table { IsTable table.now }
 {
     let mut rows = Vec::with_capacity(alloc, table.len() as usize)?;
     for tet in 0..table.len() {
@@ -93,8 +93,6 @@ pub fn crush(alloc: Global, table: &Table, x: &[u128]) -> Result<Table, NoMemory
     ensures crushed { IfOk result (λ new. IsCrushed table.now x.now new) }
     ensures is_table { IfOk result (λ new. IsTable new) }
 {
-    // that the rows are a table is known where they are handed out
-    let _ = table.rows();
     let numbers = new_numbers(alloc, table, x)?;
     let rows = crushed_rows(alloc, table, x, &numbers)?;
     match Table::from_rows(alloc, &rows) {

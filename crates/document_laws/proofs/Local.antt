@@ -136,12 +136,11 @@ module _ {E : Type 0} (lexical : LexFault → E) (move : Reading → Result Read
       goes_same (chained moved (λ (u : ⊤). g)) (λ b. move b >>= g) (λ b. alone_bind (move b) g) c (goes_chained moved (λ (u : ⊤). g) c h (λ u d e. n d (alone_ok (move c) u d e)))
 
 -- readers with another kind of fault
-pub record Lift {X E F : Type 0} (low : LexFault → E) (high : LexFault → F) (lift : Result X E → Result X F) : Type 0 where
+pub record Lift {X E F : Type 0} (lift : Result X E → Result X F) : Type 0 where
   pub lowered : (r : Result X E) (x : X) → lift r ≡ Ok x → r ≡ Ok x
   pub lifted : (r : Result X E) (x : X) → r ≡ Ok x → lift r ≡ Ok x
-  pub faults : (r : Result X E) (f : LexFault) → lift r ≡ Err (high f) → r ≡ Err (low f)
 
-pub goes_lifted : {A E F : Type 0} (low : LexFault → E) (high : LexFault → F) (lift : Result (A × Reading) E → Result (A × Reading) F) → Lift low high lift → (r : Reading → Result (A × Reading) E) (c : Reading) → Goes r c → Goes (λ d. lift (r d)) c
-goes_lifted low high lift l r c g x d e =
+pub goes_lifted : {A E F : Type 0} (lift : Result (A × Reading) E → Result (A × Reading) F) → Lift lift → (r : Reading → Result (A × Reading) E) (c : Reading) → Goes r c → Goes (λ d. lift (r d)) c
+goes_lifted lift l r c g x d e =
     let h : GoesOn r c x d = g x d (l.lowered (r c) (x, d) e) in
     record { front = h.front; split = h.split; same = λ other more s o. (let n : (next : Reading) × (r other ≡ Ok (x, next)) × (shows next ≡ more) = h.same other more s o in (n.0, l.lifted (r other) (x, n.0) n.1, n.2)) }

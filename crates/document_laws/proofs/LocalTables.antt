@@ -29,8 +29,8 @@ use Rattle.document_laws.proofs.Given.{Entry}
 abbrev pub in_text : LexFault → InputFault
 in_text f = Text (Lex f)
 
-lexed_lift : {X : Type 0} → Lift {X = X} as_is Lex (λ r. lexed r)
-lexed_lift {X} = record { lowered = lowered; lifted = lifted; faults = faults }
+lexed_lift : {X : Type 0} → Lift {X = X} (λ r. lexed r)
+lexed_lift {X} = record { lowered = lowered; lifted = lifted }
   where
     lowered : (r : Result X LexFault) (x : X) → lexed r ≡ Ok x → r ≡ Ok x
     lowered (Ok y) x e = let same : y ≡ x = cc in cc
@@ -39,12 +39,8 @@ lexed_lift {X} = record { lowered = lowered; lifted = lifted; faults = faults }
     lifted : (r : Result X LexFault) (x : X) → r ≡ Ok x → lexed r ≡ Ok x
     lifted r x e = ap (λ (q : Result X LexFault). lexed q) e
 
-    faults : (r : Result X LexFault) (f : LexFault) → lexed r ≡ Err (Lex f) → r ≡ Err f
-    faults (Ok y) f e = absurd cc
-    faults (Err g) f e = let same : g ≡ f = cc in cc
-
-texted_lift : {X : Type 0} → Lift {X = X} Lex in_text (λ r. texted r)
-texted_lift {X} = record { lowered = lowered; lifted = lifted; faults = faults }
+texted_lift : {X : Type 0} → Lift {X = X} (λ r. texted r)
+texted_lift {X} = record { lowered = lowered; lifted = lifted }
   where
     lowered : (r : Result X TextFault) (x : X) → texted r ≡ Ok x → r ≡ Ok x
     lowered (Ok y) x e = let same : y ≡ x = cc in cc
@@ -53,12 +49,8 @@ texted_lift {X} = record { lowered = lowered; lifted = lifted; faults = faults }
     lifted : (r : Result X TextFault) (x : X) → r ≡ Ok x → texted r ≡ Ok x
     lifted r x e = ap (λ (q : Result X TextFault). texted q) e
 
-    faults : (r : Result X TextFault) (f : LexFault) → texted r ≡ Err (in_text f) → r ≡ Err (Lex f)
-    faults (Ok y) f e = absurd cc
-    faults (Err g) f e = let same : g ≡ Lex f = cc in cc
-
-pub worded_lift : {X : Type 0} → Lift {X = X} as_is in_text (λ r. worded r)
-worded_lift {X} = record { lowered = lowered; lifted = lifted; faults = faults }
+pub worded_lift : {X : Type 0} → Lift {X = X} (λ r. worded r)
+worded_lift {X} = record { lowered = lowered; lifted = lifted }
   where
     lowered : (r : Result X LexFault) (x : X) → worded r ≡ Ok x → r ≡ Ok x
     lowered (Ok y) x e = let same : y ≡ x = cc in cc
@@ -66,10 +58,6 @@ worded_lift {X} = record { lowered = lowered; lifted = lifted; faults = faults }
 
     lifted : (r : Result X LexFault) (x : X) → r ≡ Ok x → worded r ≡ Ok x
     lifted r x e = ap (λ (q : Result X LexFault). worded q) e
-
-    faults : (r : Result X LexFault) (f : LexFault) → worded r ≡ Err (in_text f) → r ≡ Err f
-    faults (Ok y) f e = absurd cc
-    faults (Err g) f e = let same : g ≡ f = cc in cc
 
 -- a reader of the lexer that gives no value, as one with another kind of fault
 pub lexed_alone : (r : Result Reading LexFault) → lexed (alone r) ≡ alone (lexed r)
@@ -82,10 +70,10 @@ worded_alone (Err f) = refl
 
 module _ (move : Reading → Result Reading LexFault) (c : Reading) (g : Goes (λ d. alone (move d)) c) where
   goes_lexed : Goes (λ d. alone (lexed (move d))) c
-  goes_lexed = goes_same (λ d. lexed (alone (move d))) (λ d. alone (lexed (move d))) (λ d. lexed_alone (move d)) c (goes_lifted as_is Lex (λ r. lexed r) lexed_lift (λ d. alone (move d)) c g)
+  goes_lexed = goes_same (λ d. lexed (alone (move d))) (λ d. alone (lexed (move d))) (λ d. lexed_alone (move d)) c (goes_lifted (λ r. lexed r) lexed_lift (λ d. alone (move d)) c g)
 
   pub goes_worded : Goes (λ d. alone (worded (move d))) c
-  goes_worded = goes_same (λ d. worded (alone (move d))) (λ d. alone (worded (move d))) (λ d. worded_alone (move d)) c (goes_lifted as_is in_text (λ r. worded r) worded_lift (λ d. alone (move d)) c g)
+  goes_worded = goes_same (λ d. worded (alone (move d))) (λ d. alone (worded (move d))) (λ d. worded_alone (move d)) c (goes_lifted (λ r. worded r) worded_lift (λ d. alone (move d)) c g)
 
 -- entries
 unfoldable pub gluing_test : Option Gluing → Result (Option Gluing) LexKind
@@ -177,7 +165,7 @@ goes_counted : (n : ℕ) (c : Reading) → Goes (counted_rows_at n) c
 unfolding counted_rows_at
 goes_counted n c =
     goes_moved Lex (λ d. lexed (end_line_at d)) (rows_on n) c (goes_lexed end_line_at c (goes_end c))
-    (λ d e. goes_chained (λ b. lexed (rows_at n b)) looked_at d (goes_lifted as_is Lex (λ r. lexed r) lexed_lift (rows_at n) d (goes_rows n d)) (λ rows last q. goes_checked (table_fault rows) rows last))
+    (λ d e. goes_chained (λ b. lexed (rows_at n b)) looked_at d (goes_lifted (λ r. lexed r) lexed_lift (rows_at n) d (goes_rows n d)) (λ rows last q. goes_checked (table_fault rows) rows last))
 
 -- what follows the word `tri`
 abbrev pub if_few : Bool → ℕ → Reading → Result Rows TextFault
@@ -190,7 +178,7 @@ goes_few false n c = goes_counted n c
 goes_table : (c : Reading) → Goes table_at c
 unfolding table_at
 goes_table c =
-    goes_chained (λ d. lexed (number_at limit d)) (λ n d. if_few (nat_lt max_tets n) n d) c (goes_lifted as_is Lex (λ r. lexed r) lexed_lift (number_at limit) c (goes_number limit c))
+    goes_chained (λ d. lexed (number_at limit d)) (λ n d. if_few (nat_lt max_tets n) n d) c (goes_lifted (λ r. lexed r) lexed_lift (number_at limit) c (goes_number limit c))
     (λ n d e. goes_few (nat_lt max_tets n) n d)
 
 -- what follows the word `sig`
@@ -209,7 +197,7 @@ abbrev pub a_word : Reading → Result (List ℕ × Reading) InputFault
 a_word c = worded (word_at c)
 
 goes_a_word : (c : Reading) → Goes a_word c
-goes_a_word c = goes_lifted as_is in_text (λ r. worded r) worded_lift word_at c (goes_same (word_with any_text) word_at any_word c (goes_word any_text c))
+goes_a_word c = goes_lifted (λ r. worded r) worded_lift word_at c (goes_same (word_with any_text) word_at any_word c (goes_word any_text c))
 
 goes_decoded : (r : Result (List tables.Row) SigFault) (c : Reading) → Goes (λ d. decoded d r) c
 goes_decoded (Ok rows) c = goes_pure rows c
@@ -252,11 +240,11 @@ table_named c = by_word (word_at c)
 
 goes_by_name : (b : Bool) (c : Reading) → Goes (by_name b) c
 unfolding by_name
-goes_by_name true c = goes_lifted Lex in_text (λ r. texted r) texted_lift table_at c (goes_table c)
+goes_by_name true c = goes_lifted (λ r. texted r) texted_lift table_at c (goes_table c)
 goes_by_name false c = goes_signature c
 
 goes_a_name : (c : Reading) → Goes a_name c
-goes_a_name c = goes_lifted as_is in_text (λ r. worded r) worded_lift (word_with name_test) c (goes_word name_test c)
+goes_a_name c = goes_lifted (λ r. worded r) worded_lift (word_with name_test) c (goes_word name_test c)
 
 pub goes_any_table : (c : Reading) → Goes any_table_at c
 goes_any_table c = goes_same (λ d. a_name d >>= λ (b : Bool × Reading). by_name b.0 b.1) any_table_at table_named c (goes_chained a_name by_name c (goes_a_name c) (λ b d e. goes_by_name b d))

@@ -12,29 +12,8 @@ use double_description::{EnumFault, Order};
 use gluing_table::Table;
 use matching_equations::Coords;
 use no_memory::NoMemory;
-use skeleton::Skeleton;
 use std::alloc::Global;
 use surface_answers::large_outcome;
-
-// The answer to a table, by its skeleton.
-fn listed(
-    alloc: Global,
-    skeleton: &Skeleton,
-    coords: Coords,
-    order: Order,
-    limit: u128,
-) -> Result<Outcome, NoMemory>
-    requires named { order ≢ Order.Free }
-    requires some_limit { 1 ≤ limit }
-    requires most_limit { limit ≤ MAX_ENTRY }
-    ensures { IfOk result (IsSurfacesAnswer coords order limit skeleton.now.rows) }
-{
-    match surface_list::surfaces(alloc, skeleton, coords, order, limit) {
-        Ok(surfaces) => list_outcome(alloc, b"surfaces", &surfaces),
-        Err(EnumFault::Large { order, kind }) => large_outcome(alloc, &order, &kind),
-        Err(EnumFault::NoMemory) => Err(NoMemory),
-    }
-}
 
 // The answer to a table.
 fn answer(
@@ -49,8 +28,11 @@ fn answer(
     requires most_limit { limit ≤ MAX_ENTRY }
     ensures { IfOk result (IsSurfacesAnswer coords order limit table.now) }
 {
-    let skeleton = Skeleton::of(alloc, table)?;
-    listed(alloc, &skeleton, coords, order, limit)
+    match surface_list::surfaces(alloc, table, coords, order, limit) {
+        Ok(surfaces) => list_outcome(alloc, b"surfaces", &surfaces),
+        Err(EnumFault::Large { order, kind }) => large_outcome(alloc, &order, &kind),
+        Err(EnumFault::NoMemory) => Err(NoMemory),
+    }
 }
 
 /// The outcome of `surfaces` on an input that isn't too long.

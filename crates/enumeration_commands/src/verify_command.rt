@@ -2,7 +2,6 @@
 ghost use Rattle.std.specs.Prelude.{◌≡◌, ◌≤◌, ◌++◌, length, map, IfOk, OnOk};
 ghost use Rattle.text_definitions.specs.Text.{max_text};
 ghost use Rattle.surface_definitions.specs.Coordinates as coordinates;
-ghost use Rattle.surface_definitions.specs.QuadEquations.{AreEquations};
 ghost use Rattle.document_definitions.specs.Documents.{vectors_document, verdicts_text};
 ghost use Rattle.command_answers.specs.Reads.{all_entries};
 ghost use Rattle.surface_definitions.specs.Verdict.{verdict_text};
@@ -16,7 +15,6 @@ use matching_equations::{Coords, equations};
 use no_memory::NoMemory;
 use outcome_definitions::Status;
 use quad_condition::check_vector;
-use skeleton::Skeleton;
 use std::alloc::Global;
 
 // The line of the verdict on a vector.
@@ -53,15 +51,6 @@ fn verdicts(
     Ok(text)
 }
 
-// The equations of a table.
-fn equations_of(alloc: Global, coords: Coords, table: &Table) -> Result<System, NoMemory>
-    ensures columns { IfOk result (λ s. s.columns ≡ coordinates.columns coords (length table.now)) }
-    ensures equations { IfOk result (λ s. AreEquations coords table.now s.rows) }
-{
-    let skeleton = Skeleton::of(alloc, table)?;
-    equations(alloc, &skeleton, coords)
-}
-
 // The answer to a table and vectors.
 fn answer(
     alloc: Global,
@@ -71,7 +60,7 @@ fn answer(
 ) -> Result<Outcome, NoMemory>
     ensures { IfOk result (IsVerdictsAnswer coords (table.now, all_entries vectors.now)) }
 {
-    let system = equations_of(alloc, coords, table)?;
+    let system = equations(alloc, table, coords)?;
     let text = verdicts(alloc, coords, table, &system, vectors)?;
     Ok(Outcome::built(Status::Done, text))
 }

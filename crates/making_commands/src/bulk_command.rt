@@ -8,9 +8,9 @@ use crate::summaries::{Numbers, summary_outcome};
 use command_answers::Outcome;
 use cone_core::MAX_ENTRY;
 use double_description::{EnumFault, Order};
+use gluing_table::Table;
 use matching_equations::Coords;
 use no_memory::NoMemory;
-use skeleton::Skeleton;
 use sphere_certificate::{CheckFault, check};
 use std::alloc::Global;
 use surface_answers::large_outcome;
@@ -28,11 +28,11 @@ fn accept(alloc: Global, made: &Made) -> Result<(), NoMemory>
     }
 }
 
-// What is told of a table that was made, by its skeleton.
-fn summed_up(alloc: Global, numbers: Numbers, skeleton: &Skeleton) -> Result<Outcome, NoMemory>
-    ensures { IfOk result (IsSummary numbers skeleton.now.rows) }
+// What is told of a table that was made.
+fn summed_up(alloc: Global, numbers: Numbers, table: &Table) -> Result<Outcome, NoMemory>
+    ensures { IfOk result (IsSummary numbers table.now) }
 {
-    match surface_list::surfaces(alloc, skeleton, Coords::Standard, Order::Given, MAX_ENTRY) {
+    match surface_list::surfaces(alloc, table, Coords::Standard, Order::Given, MAX_ENTRY) {
         Ok(surfaces) => summary_outcome(alloc, numbers, &surfaces),
         Err(EnumFault::Large { order, kind }) => large_outcome(alloc, &order, &kind),
         Err(EnumFault::NoMemory) => Err(NoMemory),
@@ -52,6 +52,5 @@ pub fn bulk(alloc: Global, seed: u64, moves: u32) -> Result<Outcome, NoMemory>
         moves: made.certificate.len() as u32,
         tetrahedra: made.table.len(),
     };
-    let skeleton = Skeleton::of(alloc, &made.table)?;
-    summed_up(alloc, numbers, &skeleton)
+    summed_up(alloc, numbers, &made.table)
 }

@@ -8,4 +8,4 @@ mod table_equations;
 
 pub use matching::matching_system;
 pub use surface_definitions::Coords;
-pub use table_equations::equations;
+pub use table_equations::{equations, quad_equations};

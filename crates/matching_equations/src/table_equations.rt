@@ -7,20 +7,38 @@ ghost use Rattle.surface_definitions.specs.QuadEquations.{AreEquations};
 use crate::matching::matching_system;
 use crate::quads::quad_system;
 use cone_core::System;
+use gluing_table::Table;
 use no_memory::NoMemory;
 use skeleton::Skeleton;
 use std::alloc::Global;
 use surface_definitions::Coords;
 
+/// The equations in quad coordinates, by the skeleton of a table: one for each inner edge class.
+pub fn quad_equations(alloc: Global, skeleton: &Skeleton) -> Result<System, NoMemory>
+    ensures columns { IfOk result (λ s. s.columns ≡ coordinates.columns Coords.Quad (length skeleton.now.rows)) }
+    ensures equations { IfOk result (λ s. AreEquations Coords.Quad skeleton.now.rows s.rows) }
+{
+    quad_system(alloc, skeleton)
+}
+
+/// The equations of a table in quad coordinates, which ask for its skeleton.
+fn equations_round_edges(alloc: Global, table: &Table) -> Result<System, NoMemory>
+    ensures columns { IfOk result (λ s. s.columns ≡ coordinates.columns Coords.Quad (length table.now)) }
+    ensures equations { IfOk result (λ s. AreEquations Coords.Quad table.now s.rows) }
+{
+    let skeleton = Skeleton::of(alloc, table)?;
+    quad_equations(alloc, &skeleton)
+}
+
 /// The equations of a table: in standard and octagon coordinates the matching equations, in quad coordinates one for
 /// each inner edge class.
-pub fn equations(alloc: Global, skeleton: &Skeleton, coords: Coords) -> Result<System, NoMemory>
-    ensures columns { IfOk result (λ s. s.columns ≡ coordinates.columns coords (length skeleton.now.rows)) }
-    ensures equations { IfOk result (λ s. AreEquations coords skeleton.now.rows s.rows) }
+pub fn equations(alloc: Global, table: &Table, coords: Coords) -> Result<System, NoMemory>
+    ensures columns { IfOk result (λ s. s.columns ≡ coordinates.columns coords (length table.now)) }
+    ensures equations { IfOk result (λ s. AreEquations coords table.now s.rows) }
 {
     match coords {
-        Coords::Standard => matching_system(alloc, coords, skeleton.table()),
-        Coords::Quad => quad_system(alloc, skeleton),
-        Coords::Octagon => matching_system(alloc, coords, skeleton.table()),
+        Coords::Standard => matching_system(alloc, coords, table),
+        Coords::Quad => equations_round_edges(alloc, table),
+        Coords::Octagon => matching_system(alloc, coords, table),
     }
 }

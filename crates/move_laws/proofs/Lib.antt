@@ -16,3 +16,14 @@ pub mod Cores
 pub mod Played
 pub mod LegalFacets
 pub mod StarLaws
+pub mod LabelLaws
+pub mod FacetLaws
+pub mod FindLaws
+pub mod LegalLaws
+pub mod NumberLaws
+pub mod ListedLaws
+pub mod StandLaws
+pub mod PutLaws
+pub mod ExchangeLaws
+pub mod MovedLaws
+pub mod BackLaws

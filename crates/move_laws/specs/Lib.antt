@@ -1,1 +1,3 @@
 pub mod Stars
+pub mod Facets
+pub mod Faults

@@ -1,10 +1,11 @@
 //! What follows from the definitions of moves alone, whatever the code: a move is legal exactly if the star of its core
-//! is a part of the boundary of a 4-simplex, it leads to one table, and its inverse leads back up to labels. Scripts of
-//! moves, descents and the generator end at one table.
+//! is a part of the boundary of a 4-simplex, it leads to one table, its inverse leads back up to labels, and taking it back
+//! leads back row for row. Scripts of moves, descents and the generator end at one table.
 #![tactic(auto)]
 
 ghost use Rattle.move_laws.specs.Stars.{LegalExactlyByStars, StarsAreTakenOut};
 ghost use Rattle.move_definitions.specs.Laws.{LegalMovesLeadOn, MovesAgree, MovesMakeTables, InversesHaveCores, InversesLeadBackUpToLabels, InversesLeadOnlyBack, MoveLinesHaveCores, PlaysAgree, DescentsAgree, MakingsAgree};
+ghost use Rattle.move_definitions.specs.Undos.{TakesBack};
 
 /// A move is legal exactly if the star of its core is a part of the boundary of a 4-simplex: as many facets as the core
 /// leaves, in different tetrahedra, of which any two meet label by label. These are the facets that it takes out.
@@ -33,6 +34,11 @@ pub fn inverses_lead_back()
     ensures cores { InversesHaveCores }
     ensures tables { InversesLeadBackUpToLabels }
     ensures alone { InversesLeadOnlyBack }
+{}
+
+/// Taking back leads to the table on which the move was played.
+pub fn moves_are_taken_back()
+    ensures { TakesBack }
 {}
 
 /// Moves that are played one after another lead to one table, and moves that lines spell have the cores for it.

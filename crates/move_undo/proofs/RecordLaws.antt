@@ -8,7 +8,7 @@ use Rattle.move_definitions.specs.Moves.{Move, play_fault, PlaysAll}
 use Rattle.move_definitions.specs.Undos.{Undo, former, CanTakeBack}
 use Rattle.move_definitions.specs.Sessions.{IsTableOf}
 use Rattle.move_laws.proofs.Played.{played_same}
-use Rattle.pachner_moves.proofs.BackLaws.{takes_back}
+use Rattle.move_laws.proofs.BackLaws.{takes_back}
 use Rattle.move_undo.specs.Records.{first_table, IsPlayed, CanPlayAll, Recorded}
 
 -- taking back all moves begins with the last one

@@ -75,8 +75,6 @@ fn play_on(table: &mut Table, m: Move) -> Result<Undo, MoveFault>
     ensures fault { IfErr result (λ e. play_fault table.old m ≡ Some e) }
     ensures left { OnErr result (table.new ≡ table.old) }
 {
-    // so the rows are known to be a table
-    let _ = table.rows();
     apply(table, m)
 }
 

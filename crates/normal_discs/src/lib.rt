@@ -7,8 +7,8 @@ mod meetings;
 mod types;
 
 pub use coords::{
-    column, columns, columns_each, first_column, is_octagon, is_quad_or_octagon, octagon_column,
-    place_of, quad_column, tet_of, triangle_column, triangles_each, type_of,
+    columns, columns_each, first_column, is_octagon, is_quad_or_octagon, octagon_column, place_of,
+    quad_column, tet_of, triangle_column, triangles_each, type_of,
 };
 pub use meetings::{arc_columns, edge_columns, octagon_arcs};
 pub use types::{keeping, other_types, partner};

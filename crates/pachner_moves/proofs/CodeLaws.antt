@@ -15,7 +15,7 @@ use Rattle.table_definitions.proofs.Bijections.{range-push, below-push}
 use Rattle.table_definitions.proofs.Ranks.{rank, length-picked, at_rank}
 use Rattle.move_definitions.specs.Moves.{Move, Facet, facet, old_facets, new_facet, facet_stand_in, kept_stand_in, stand_in_of, stand_in_at, facet_gluing}
 use Rattle.move_definitions.specs.Undos.{taken_numbers}
-use Rattle.pachner_moves.specs.Facets.{IsOldFacet, AreOldFacets, outer_gluing, fresh_gluing}
+use Rattle.move_laws.specs.Facets.{IsOldFacet, AreOldFacets, outer_gluing, fresh_gluing}
 
 -- the first facet of a tetrahedron
 

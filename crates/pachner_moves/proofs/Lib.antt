@@ -1,14 +1,3 @@
 pub mod MaskLaws
 pub mod MatchLaws
-pub mod FindLaws
-pub mod LabelLaws
-pub mod FacetLaws
-pub mod LegalLaws
-pub mod NumberLaws
-pub mod ListedLaws
-pub mod StandLaws
-pub mod PutLaws
-pub mod ExchangeLaws
-pub mod MovedLaws
-pub mod BackLaws
 pub mod CodeLaws

@@ -1,4 +1,2 @@
 pub mod Cores
 pub mod Masks
-pub mod Faults
-pub mod Facets

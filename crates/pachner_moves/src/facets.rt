@@ -6,7 +6,7 @@ ghost use Rattle.table_definitions.specs.Permutation.{IsPermutationOfFour, image
 ghost use Rattle.table_definitions.specs.Table.{max_tets, IsTable};
 ghost use Rattle.table_definitions.specs.Relabelling.{gluing_under};
 ghost use Rattle.move_definitions.specs.Moves as moves;
-ghost use Rattle.pachner_moves.specs.Facets.{IsFacet, IsOldFacet, AreOldFacets};
+ghost use Rattle.move_laws.specs.Facets.{IsFacet, IsOldFacet, AreOldFacets};
 
 use crate::facet::{replace_label, vertex_of};
 use crate::{Facet, Move};

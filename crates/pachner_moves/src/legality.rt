@@ -4,7 +4,7 @@ ghost use Rattle.std.specs.Prelude.{◌≡◌, ◌<◌, ◌≤◌, ◌∷◌, le
 ghost use Rattle.table_definitions.specs.Lists.{has};
 ghost use Rattle.table_definitions.specs.Table.{IsTable};
 ghost use Rattle.move_definitions.specs.Moves as moves;
-ghost use Rattle.pachner_moves.specs.Faults.{verdict, first_facet_fault, found_facets, pairs_fault, IsPattern, facets_below};
+ghost use Rattle.move_laws.specs.Faults.{verdict, first_facet_fault, found_facets, pairs_fault, IsPattern, facets_below};
 
 use crate::facet::{facet_at, is_matched, own_facet};
 use crate::{Facet, Move};

@@ -12,4 +12,4 @@ pub use facet::Facet;
 pub use facets::{closed_number, facet_of};
 pub use legality::{Pattern, legal};
 pub use move_definitions::MoveFault;
-pub use moving::{Undo, apply, inverse_move, take_back, taking_back_law};
+pub use moving::{Undo, apply, apply_legal, inverse_move, keeps_limit, take_back};

@@ -1,19 +1,19 @@
 //! Moves are played, and taken back.
 
-ghost use Rattle.std.specs.Prelude.{◌≡◌, ◌≢◌, ◌<◌, ◌≤◌, ◌+◌, ◌-◌, [], length, None, map, All, IfOk, IfErr, OnOk, OnErr};
+ghost use Rattle.std.specs.Prelude.{◌≡◌, ◌≢◌, ◌<◌, ◌≤◌, ◌+◌, ◌-◌, [], length, None, map, not, nat_lt, All, IfOk, IfErr, OnOk, OnErr};
 ghost use Rattle.std.specs.List.{range_with_len, slice_index_or};
 ghost use Rattle.table_definitions.specs.Table.{max_tets, IsTable};
 ghost use Rattle.move_definitions.specs.Moves as moves;
 ghost use Rattle.move_definitions.specs.Moves.{Plays, IsCore};
 ghost use Rattle.move_definitions.specs.Undos as undos;
-ghost use Rattle.move_definitions.specs.Undos.{CanTakeBack, IsTakenBack, TakesBack};
-ghost use Rattle.pachner_moves.specs.Faults.{IsPattern};
-ghost use Rattle.pachner_moves.specs.Facets.{IsOldFacet, AreOldFacets, CanPlay, outer_gluing, fresh_gluing, put_row, put_rows, exchange};
+ghost use Rattle.move_definitions.specs.Undos.{CanTakeBack, IsTakenBack};
+ghost use Rattle.move_laws.specs.Faults.{IsPattern};
+ghost use Rattle.move_laws.specs.Facets.{IsOldFacet, AreOldFacets, CanPlay, outer_gluing, fresh_gluing, put_row, put_rows, exchange};
 
 use crate::facet::{glue_opposite, vertex_of};
 use crate::facets::{kept, label_by_label, moved_glue, new_facet, other_labels};
 use crate::legality::is_of_facet;
-use crate::{Facet, Move, MoveFault, legal};
+use crate::{Facet, Move, MoveFault, Pattern, legal};
 use arrayvec::ArrayVec;
 use gluing_table::{Face, Glue, MAX_TETS, Row, Table};
 use std::marker::Model;
@@ -167,6 +167,31 @@ fn exchange(table: &mut Table, m: Move, facets: &[Facet]) -> Undo
     undo
 }
 
+/// Whether the table to which a move leads has no more tetrahedra than a table may have.
+pub fn keeps_limit(table: &Table, m: Move) -> bool
+    ensures value { result ≡ not (nat_lt max_tets (moves.new_length table.now m)) }
+    ensures core { IsCore m.core }
+    ensures is_table { IsTable table.now }
+{
+    kept(table, &m) + m.core.size() as u32 <= MAX_TETS
+}
+
+/// Plays a legal move by the facets that it takes out, and keeps what takes it back. It is refused where it doesn't keep
+/// the limit.
+pub fn apply_legal(table: &mut Table, m: Move, pattern: &Pattern) -> Result<Undo, MoveFault>
+    requires { IsPattern table.old m pattern.now.facets.items }
+    ensures moved { OnOk result (Plays table.old m table.new) }
+    ensures undo { IfOk result (λ u. u ≡ undos.undo_of table.old m) }
+    ensures core { IsCore m.core }
+    ensures fault { IfErr result (λ e. moves.play_fault table.old m ≡ Some e) }
+    ensures left { OnErr result (table.new ≡ table.old) }
+{
+    if !keeps_limit(table, m) {
+        return Err(MoveFault::TooMany);
+    }
+    Ok(exchange(table, m, &pattern.facets))
+}
+
 /// Plays a move, and keeps what takes it back. The refusals are those of `legal`, and then `TooMany`.
 pub fn apply(table: &mut Table, m: Move) -> Result<Undo, MoveFault>
     ensures moved { OnOk result (Plays table.old m table.new) }
@@ -176,10 +201,7 @@ pub fn apply(table: &mut Table, m: Move) -> Result<Undo, MoveFault>
     ensures left { OnErr result (table.new ≡ table.old) }
 {
     let pattern = legal(table, m)?;
-    if kept(table, &m) + m.core.size() as u32 > MAX_TETS {
-        return Err(MoveFault::TooMany);
-    }
-    Ok(exchange(table, m, &pattern.facets))
+    apply_legal(table, m, &pattern)
 }
 
 /// The move that leads back, up to relabelling.
@@ -223,8 +245,3 @@ pub fn take_back(table: &mut Table, undo: &Undo)
     let removed = put_numbers(undo);
     table.replace(&removed, &undo.rows);
 }
-
-/// Taking back leads to the table on which the move was played.
-pub fn taking_back_law()
-    ensures { TakesBack }
-{}

@@ -69,23 +69,13 @@ impl Model for Skeleton {
     }) };
 }
 
-/// The same table once more.
-fn copied(alloc: Global, table: &Table) -> Result<Table, NoMemory>
-    ensures same { IfOk result (λ copy. copy ≡ table.now) }
-    ensures is_table { IsTable table.now }
-{
-    // What is read of the rows says that they are a table's.
-    let _ = table.rows();
-    table.copy(alloc)
-}
-
 impl Skeleton {
     /// The skeleton of a table, which is copied.
     pub fn of(alloc: Global, table: &Table) -> Result<Skeleton, NoMemory>
         ensures rows { IfOk result (λ s. s.rows ≡ table.now) }
         ensures skeleton { IfOk result IsSkeleton }
     {
-        let table = copied(alloc, table)?;
+        let table = table.copy(alloc)?;
         let Classes {
             vertices,
             edges,

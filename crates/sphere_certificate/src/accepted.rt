@@ -1,14 +1,12 @@
 //! Moves that are accepted, and the first one of those with given cores.
 
-ghost use Rattle.std.specs.Prelude.{◌≡◌, ◌<◌, ◌∷◌, [], length, map, find, not, nat_lt};
+ghost use Rattle.std.specs.Prelude.{◌≡◌, ◌<◌, ◌∷◌, [], length, map, find};
 ghost use Rattle.table_definitions.specs.Permutation.{four};
-ghost use Rattle.table_definitions.specs.Table.{max_tets};
-ghost use Rattle.move_definitions.specs.Moves.{new_length};
 ghost use Rattle.move_definitions.specs.Certificates as certificates;
 ghost use Rattle.move_definitions.specs.Certificates.{moves_with};
 
-use gluing_table::{MAX_TETS, Table};
-use pachner_moves::{Core, Move, legal};
+use gluing_table::Table;
+use pachner_moves::{Core, Move, keeps_limit, legal};
 
 /// The cores of the moves 4-1: each vertex.
 pub fn vertices() -> [Core; 4]
@@ -20,14 +18,6 @@ pub fn vertices() -> [Core; 4]
         Core::of_mask(4),
         Core::of_mask(8),
     ]
-}
-
-/// Whether the table to which a move leads has no more tetrahedra than a table may have.
-fn keeps_limit(table: &Table, m: Move) -> bool
-    ensures { result ≡ not (nat_lt max_tets (new_length table.now m)) }
-{
-    let size = u32::from(m.core.size());
-    table.len().saturating_sub(5 - size) + size <= MAX_TETS
 }
 
 /// Whether a move is legal and leads to a table of no more than 1,000 tetrahedra, so that `apply` takes it.

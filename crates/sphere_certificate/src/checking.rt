@@ -1,6 +1,7 @@
 //! Whether moves certify a table.
 
 ghost use Rattle.std.specs.Prelude.{◌≡◌, ◌≢◌, ◌<◌, ◌-◌, ◌^◌, ◌↔◌, [], length, Ok, Err, IsTrue, IfErr, OnOk};
+ghost use Rattle.table_definitions.specs.Table.{IsTable};
 ghost use Rattle.move_definitions.specs.Moves.{PlaysAll};
 ghost use Rattle.move_definitions.specs.Certificates.{IsStandard, IsCertificate};
 ghost use Rattle.certificate_definitions.specs.Answers.{IsChecked, sphere_text};
@@ -42,11 +43,10 @@ pub fn is_sphere(text: &[u8]) -> bool
 
 /// Whether a table is a relabelling of the standard sphere, which its signature tells.
 fn judge(alloc: Global, last: &Table) -> Result<(), CheckFault>
+    requires { IsTable last.now }
     ensures standard { OnOk result (IsStandard last.now) }
     ensures fault { IfErr result (λ e. e ≢ check_faults.NoMemory → IsChecked last.now [] (Err (told e))) }
 {
-    // so the rows are known to be a table
-    let _ = last.rows();
     match signature(alloc, last) {
         Ok(text) if is_sphere(&text) => Ok(()),
         Ok(signature) => Err(CheckFault::NotStandard { signature }),
@@ -64,8 +64,6 @@ pub fn check(alloc: Global, table: &Table, moves: &[Move]) -> Result<(), CheckFa
     ensures fault { IfErr result (λ e. e ≢ check_faults.NoMemory → IsChecked table.now moves.now (Err (told e))) }
     ensures no_certificate { IfErr result (λ e. e ≢ check_faults.NoMemory → IsCertificate table.now moves.now → ⊥) }
 {
-    // so the rows are known to be a table
-    let _ = table.rows();
     let mut last = table.copy(alloc)?;
     play_all(&mut last, moves)?;
     judge(alloc, &last)

@@ -27,8 +27,7 @@ pub struct Descent {
 fn is_standard(alloc: Global, table: &Table) -> Result<bool, NoMemory>
     ensures { IfOk result (λ standard. IsTrue standard ↔ IsStandard table.now) }
 {
-    // so the rows are known to be a table
-    if table.rows().len() != 1 {
+    if table.len() != 1 {
         return Ok(false);
     }
     match signature(alloc, table) {
@@ -75,8 +74,6 @@ fn descent_of(alloc: Global, table: &Table) -> Result<Descent, NoMemory>
     ensures certificate { IfOk result (λ d. d.reached ≡ true → IsCertificate table.now d.moves.items) }
     ensures fewer { IfOk result (λ d. length d.table + length d.moves.items ≤ length table.now) }
 {
-    // so the rows are known to be a table
-    let _ = table.rows();
     let mut last = table.copy(alloc)?;
     let mut moves = Vec::new(alloc);
     while let Some(m) = next_move(alloc, &last)? {

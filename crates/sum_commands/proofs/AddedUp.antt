@@ -25,13 +25,11 @@ module _ (coords : Coords) (rows : List Row) (equations : List EquationRow) wher
       let a = accepted_by limit (columns coords (length rows)) equations (clash_list coords (length rows)) g.entries.items (h 0 (term_of g) (omega arith)) in
       All-cons (HasWidth width) g givens (a.solves.width ∙ sym e) (term_widths givens width e (λ k d l. h (suc k) d (omega arith)))
 
-  -- the rows of the table are those of its skeleton
-  module _ (table : List Row) (own : rows ≡ table) (of_table : AreEquations coords rows equations) (blocks : List Block) (o : Outcome) where
-    pub all_accepted : All (λ block. IsAddedUp coords rows equations block (Ok tt)) blocks → o ≡ accepted_outcome → IsAddupAnswer coords (table, blocks) o
+  module _ (of_table : AreEquations coords rows equations) (blocks : List Block) (o : Outcome) where
+    pub all_accepted : All (λ block. IsAddedUp coords rows equations block (Ok tt)) blocks → o ≡ accepted_outcome → IsAddupAnswer coords (rows, blocks) o
     all_accepted h e =
         let told = all_told (IsAddedUp coords rows equations) blocks h in
-        subst (λ (r : List Row). IsAddupAnswer coords (r, blocks) o) own (record { equations = equations; of_table = of_table; told = Ok told.0; added = told.1; outcome = e })
+        record { equations = equations; of_table = of_table; told = Ok told.0; added = told.1; outcome = e }
 
-    pub one_refused : (v : ℕ) (refusal : SumRefusal) → IsFirstRefused (IsAddedUp coords rows equations) blocks v refusal → o ≡ sum_refusal_outcome v refusal → IsAddupAnswer coords (table, blocks) o
-    one_refused v refusal first e =
-        subst (λ (r : List Row). IsAddupAnswer coords (r, blocks) o) own (record { equations = equations; of_table = of_table; told = Err (v, refusal); added = first; outcome = e })
+    pub one_refused : (v : ℕ) (refusal : SumRefusal) → IsFirstRefused (IsAddedUp coords rows equations) blocks v refusal → o ≡ sum_refusal_outcome v refusal → IsAddupAnswer coords (rows, blocks) o
+    one_refused v refusal first e = record { equations = equations; of_table = of_table; told = Err (v, refusal); added = first; outcome = e }

@@ -53,8 +53,8 @@ lines_in_range (l ∷ lines) (x ∷ vectors) z = All-cons (λ y. (column : ℕ) 
 pub document_in_range : (bytes : List ℕ) (rows : List Row) (vectors : List (List ℕ)) → vectors_document bytes ≡ Ok (rows, vectors) → AreInRange vectors
 document_in_range bytes rows vectors e = (let d = (vectors_document_read bytes rows vectors).0 e in lines_in_range d.1 vectors d.4)
 
--- by the equations of a table, whose rows are those of its skeleton
-module _ (coords : Coords) (rows table : List Row) (own : rows ≡ table) (equations : List EquationRow) (of_table : AreEquations coords rows equations) (most : ℕ) where
+-- by the equations of a table
+module _ (coords : Coords) (rows : List Row) (equations : List EquationRow) (of_table : AreEquations coords rows equations) (most : ℕ) where
   abbrev Passes : List ℕ → Type 0
   Passes x = IsVerdict coords rows equations x (Ok tt)
 
@@ -72,37 +72,33 @@ module _ (coords : Coords) (rows table : List Row) (own : rows ≡ table) (equat
       let rays = surfaces_are_rays_lem (columns coords (length rows)) equations (clash_list coords (length rows)) list x only.listed.surfaces a.solves a.admissible in
       subst (λ (n : ℕ). HasRays n equations list x) (sym wide) rays
 
-  abbrev of_own : (vectors : List (List ℕ)) (o : Outcome) → IsDecomposeAnswer coords most (rows, vectors) o → IsDecomposeAnswer coords most (table, vectors) o
-  of_own vectors o h = subst (λ (r : List Row). IsDecomposeAnswer coords most (r, vectors) o) own h
-
   -- the first vector that doesn't pass is the answer
   pub unfit_told : (vectors : List (List ℕ)) (v : ℕ) (fault : VectorFault) (o : Outcome) → IsFirstRefused (IsVerdict coords rows equations) vectors v fault → o ≡ sum_refusal_outcome v (Unfit fault)
-      → IsDecomposeAnswer coords most (table, vectors) o
-  unfit_told vectors v fault o first e = of_own vectors o (record { equations = equations; of_table = of_table; checked = Err (v, fault); verdicts = first; told = e })
+      → IsDecomposeAnswer coords most (rows, vectors) o
+  unfit_told vectors v fault o first e = record { equations = equations; of_table = of_table; checked = Err (v, fault); verdicts = first; told = e }
 
   -- sums of the surfaces, where all pass
-  pub sums_told : (list vectors : List (List ℕ)) (o : Outcome) → AreTableSurfaces most coords rows Given list → All Passes vectors → TellsList most list table vectors o → IsDecomposeAnswer coords most (table, vectors) o
+  pub sums_told : (list vectors : List (List ℕ)) (o : Outcome) → AreTableSurfaces most coords rows Given list → All Passes vectors → TellsList most list rows vectors o → IsDecomposeAnswer coords most (rows, vectors) o
   sums_told list vectors o s passed told =
       let only = listed list s in
       let checks = all_told (IsVerdict coords rows equations) vectors passed in
-      let t : TellsList most list rows vectors o = subst (λ (r : List Row). TellsList most list r vectors o) (sym own) told in
-      of_own vectors o (record {
+      record {
         equations = equations;
         of_table = of_table;
         checked = Ok checks.0;
         verdicts = checks.1;
-        told = inl (record { taken = only.taken; list = list; listed = only.listed; told = t.0; sums = t.1; outcome = t.2 });
-      })
+        told = inl (record { taken = only.taken; list = list; listed = only.listed; told = told.0; sums = told.1; outcome = told.2 });
+      }
 
   -- the step past the limit, where all pass
   pub past_told : (taken : Vec ℕ Global) (kind : Named) (vectors : List (List ℕ)) (o : Outcome) → IsTableRefused most coords rows Given (Large taken kind) → All Passes vectors
-      → o ≡ large_outcome taken.items kind → IsDecomposeAnswer coords most (table, vectors) o
+      → o ≡ large_outcome taken.items kind → IsDecomposeAnswer coords most (rows, vectors) o
   past_told taken kind vectors o r passed e =
       let checks = all_told (IsVerdict coords rows equations) vectors passed in
-      of_own vectors o (record {
+      record {
         equations = equations;
         of_table = of_table;
         checked = Ok checks.0;
         verdicts = checks.1;
         told = inr (taken.items, kind, subst (λ (q : List EquationRow). IsPastLimit (table_enumeration coords Given most rows q) taken.items kind) (one_equations coords rows r.0 equations r.1 of_table) r.2, e);
-      })
+      }

@@ -19,24 +19,23 @@ use matching_equations::{Coords, equations};
 use no_memory::NoMemory;
 use outcome_definitions::SumRefusal;
 use ray_decompose::add_up;
-use skeleton::Skeleton;
 use std::alloc::Global;
 use surface_answers::check;
 
 // Whether a block's vector and its terms are admissible solutions, and the terms add up; or what is wrong first.
 fn check_block(
     coords: Coords,
-    skeleton: &Skeleton,
+    table: &Table,
     system: &System,
     block: &Block,
 ) -> Result<(), SumRefusal>
-    requires { system.now.columns ≡ coordinates.columns coords (length skeleton.now.rows) }
-    ensures { IsAddedUp coords skeleton.now.rows system.now.rows (block_of block.now) result }
+    requires { system.now.columns ≡ coordinates.columns coords (length table.now) }
+    ensures { IsAddedUp coords table.now system.now.rows (block_of block.now) result }
 {
-    if let Err(fault) = check(coords, skeleton, system, &block.vector) {
+    if let Err(fault) = check(coords, table, system, &block.vector) {
         return Err(SumRefusal::Unfit { fault });
     }
-    if let Err(first) = check_terms(coords, skeleton, system, &block.terms) {
+    if let Err(first) = check_terms(coords, table, system, &block.terms) {
         return Err(SumRefusal::UnfitTerm {
             term: first.number,
             fault: first.fault,
@@ -51,15 +50,15 @@ fn check_block(
 // The first block that isn't accepted.
 fn check_blocks(
     coords: Coords,
-    skeleton: &Skeleton,
+    table: &Table,
     system: &System,
     blocks: &[Block],
 ) -> Result<(), FirstFault<SumRefusal>>
-    requires { system.now.columns ≡ coordinates.columns coords (length skeleton.now.rows) }
-    ensures { AreAllTold (IsAddedUp coords skeleton.now.rows system.now.rows) (all_blocks blocks.now) result }
+    requires { system.now.columns ≡ coordinates.columns coords (length table.now) }
+    ensures { AreAllTold (IsAddedUp coords table.now system.now.rows) (all_blocks blocks.now) result }
 {
     for (number, block) in blocks.iter().enumerate() {
-        match check_block(coords, skeleton, system, block) {
+        match check_block(coords, table, system, block) {
             Ok(()) => {}
             Err(fault) => return Err(FirstFault { number, fault }),
         }
@@ -67,19 +66,19 @@ fn check_blocks(
     Ok(())
 }
 
-// The answer to blocks, by the skeleton and the equations of a table.
+// The answer to blocks, by the equations of their table.
 fn answer_by(
     alloc: Global,
     coords: Coords,
-    skeleton: &Skeleton,
+    table: &Table,
     system: &System,
     blocks: &[Block],
 ) -> Result<Outcome, NoMemory>
-    requires columns { system.now.columns ≡ coordinates.columns coords (length skeleton.now.rows) }
-    requires equations { AreEquations coords skeleton.now.rows system.now.rows }
-    ensures { IfOk result (IsAddupAnswer coords (skeleton.now.rows, all_blocks blocks.now)) }
+    requires columns { system.now.columns ≡ coordinates.columns coords (length table.now) }
+    requires equations { AreEquations coords table.now system.now.rows }
+    ensures { IfOk result (IsAddupAnswer coords (table.now, all_blocks blocks.now)) }
 {
-    match check_blocks(coords, skeleton, system, blocks) {
+    match check_blocks(coords, table, system, blocks) {
         Ok(()) => accepted_outcome(alloc),
         Err(first) => refusal_outcome(alloc, first.number, first.fault),
     }
@@ -94,9 +93,8 @@ fn answer(
 ) -> Result<Outcome, NoMemory>
     ensures { IfOk result (IsAddupAnswer coords (table.now, all_blocks blocks.now)) }
 {
-    let skeleton = Skeleton::of(alloc, table)?;
-    let system = equations(alloc, &skeleton, coords)?;
-    answer_by(alloc, coords, &skeleton, &system, blocks)
+    let system = equations(alloc, table, coords)?;
+    answer_by(alloc, coords, table, &system, blocks)
 }
 
 /// The outcome of `addup` on an input that isn't too long.

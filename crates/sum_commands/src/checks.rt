@@ -7,8 +7,8 @@ ghost use Rattle.ray_decompose.specs.Sums.{terms_of};
 ghost use Rattle.sum_commands.specs.Firsts.{AreAllTold};
 
 use cone_core::System;
+use gluing_table::Table;
 use ray_decompose::Given;
-use skeleton::Skeleton;
 use surface_answers::check;
 use surface_definitions::{Coords, VectorFault};
 
@@ -22,15 +22,15 @@ pub struct FirstFault<F> {
 /// The first of some vectors that is no admissible solution.
 pub fn check_vectors(
     coords: Coords,
-    skeleton: &Skeleton,
+    table: &Table,
     system: &System,
     vectors: &[Vec<u128>],
 ) -> Result<(), FirstFault<VectorFault>>
-    requires { system.now.columns ≡ coordinates.columns coords (length skeleton.now.rows) }
-    ensures { AreAllTold (IsVerdict coords skeleton.now.rows system.now.rows) (all_entries vectors.now) result }
+    requires { system.now.columns ≡ coordinates.columns coords (length table.now) }
+    ensures { AreAllTold (IsVerdict coords table.now system.now.rows) (all_entries vectors.now) result }
 {
     for (number, vector) in vectors.iter().enumerate() {
-        match check(coords, skeleton, system, vector) {
+        match check(coords, table, system, vector) {
             Ok(()) => {}
             Err(fault) => return Err(FirstFault { number, fault }),
         }
@@ -41,15 +41,15 @@ pub fn check_vectors(
 /// The first of some terms whose vector is no admissible solution.
 pub fn check_terms(
     coords: Coords,
-    skeleton: &Skeleton,
+    table: &Table,
     system: &System,
     terms: &[Given],
 ) -> Result<(), FirstFault<VectorFault>>
-    requires { system.now.columns ≡ coordinates.columns coords (length skeleton.now.rows) }
-    ensures { AreAllTold (IsTermVerdict coords skeleton.now.rows system.now.rows) (terms_of terms.now) result }
+    requires { system.now.columns ≡ coordinates.columns coords (length table.now) }
+    ensures { AreAllTold (IsTermVerdict coords table.now system.now.rows) (terms_of terms.now) result }
 {
     for (number, term) in terms.iter().enumerate() {
-        match check(coords, skeleton, system, &term.entries) {
+        match check(coords, table, system, &term.entries) {
             Ok(()) => {}
             Err(fault) => return Err(FirstFault { number, fault }),
         }

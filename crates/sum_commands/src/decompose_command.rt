@@ -23,10 +23,9 @@ use matching_equations::{Coords, equations};
 use no_memory::NoMemory;
 use outcome_definitions::{Status, SumRefusal};
 use ray_decompose::SumFault;
-use skeleton::Skeleton;
 use std::alloc::Global;
 use surface_answers::large_outcome;
-use surface_list::surfaces;
+use surface_list::surfaces_by;
 
 /// Why the vectors of a document aren't told as sums.
 #[derive(Clone, Copy, Debug, PartialEq, Eq)]
@@ -139,32 +138,30 @@ fn summed(
     }
 }
 
-// The answer to a table and vectors, by the skeleton and the equations of the table.
+// The answer to a table and vectors, by the equations of the table.
 fn answer_by(
     alloc: Global,
     coords: Coords,
     limit: u128,
     table: &Table,
-    skeleton: &Skeleton,
     system: &System,
     vectors: &[Vec<u128>],
 ) -> Result<Outcome, NoMemory>
-    requires rows { skeleton.now.rows ≡ table.now }
-    requires columns { system.now.columns ≡ columns coords (length skeleton.now.rows) }
-    requires equations { AreEquations coords skeleton.now.rows system.now.rows }
+    requires columns { system.now.columns ≡ columns coords (length table.now) }
+    requires equations { AreEquations coords table.now system.now.rows }
     requires entries { AreInRange (all_entries vectors.now) }
     requires some_limit { 1 ≤ limit }
     requires most_limit { limit ≤ MAX_ENTRY }
     ensures { IfOk result (IsDecomposeAnswer coords limit (table.now, all_entries vectors.now)) }
 {
-    if let Err(first) = check_vectors(coords, skeleton, system, vectors) {
+    if let Err(first) = check_vectors(coords, table, system, vectors) {
         return refusal_outcome(
             alloc,
             first.number,
             SumRefusal::Unfit { fault: first.fault },
         );
     }
-    match surfaces(alloc, skeleton, coords, Order::Given, limit) {
+    match surfaces_by(alloc, table, system, coords, Order::Given, limit) {
         Ok(list) => summed(alloc, table, system, &list, vectors, limit),
         Err(EnumFault::Large { order, kind }) => large_outcome(alloc, &order, &kind),
         Err(EnumFault::NoMemory) => Err(NoMemory),
@@ -184,9 +181,8 @@ fn answer(
     requires most_limit { limit ≤ MAX_ENTRY }
     ensures { IfOk result (IsDecomposeAnswer coords limit (table.now, all_entries vectors.now)) }
 {
-    let skeleton = Skeleton::of(alloc, table)?;
-    let system = equations(alloc, &skeleton, coords)?;
-    answer_by(alloc, coords, limit, table, &skeleton, &system, vectors)
+    let system = equations(alloc, table, coords)?;
+    answer_by(alloc, coords, limit, table, &system, vectors)
 }
 
 /// The outcome of `decompose` on an input that isn't too long.

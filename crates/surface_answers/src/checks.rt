@@ -4,21 +4,16 @@ ghost use Rattle.surface_definitions.specs.Coordinates.{columns};
 ghost use Rattle.vector_definitions.specs.Answers.{verdict_in};
 
 use cone_core::System;
+use gluing_table::Table;
 use quad_condition::check_vector;
-use skeleton::Skeleton;
 use surface_definitions::{Coords, VectorFault};
 
 /// The verdict on a vector by the equations of a table.
-pub fn check(
-    coords: Coords,
-    skeleton: &Skeleton,
-    system: &System,
-    x: &[u128],
-) -> Result<(), VectorFault>
-    requires { system.now.columns ≡ columns coords (length skeleton.now.rows) }
-    ensures verdict { result ≡ verdict_in coords skeleton.now.rows system.now.rows x.now }
-    ensures width { IsOk result → length x.now ≡ columns coords (length skeleton.now.rows) }
+pub fn check(coords: Coords, table: &Table, system: &System, x: &[u128]) -> Result<(), VectorFault>
+    requires { system.now.columns ≡ columns coords (length table.now) }
+    ensures verdict { result ≡ verdict_in coords table.now system.now.rows x.now }
+    ensures width { IsOk result → length x.now ≡ columns coords (length table.now) }
     ensures few { IsOk result → length x.now < 2 ^ 32 }
 {
-    check_vector(coords, skeleton.table().len(), system, x)
+    check_vector(coords, table.len(), system, x)
 }

@@ -1,8 +1,9 @@
 //! All admissible vertex surfaces, by elimination of the equations.
 
-ghost use Rattle.std.specs.Prelude.{◌≡◌, ◌≢◌, ◌≤◌, IfOk, IfErr, IfSome};
+ghost use Rattle.std.specs.Prelude.{◌≡◌, ◌≢◌, ◌≤◌, length, IfOk, IfErr, IfSome};
 ghost use Rattle.table_definitions.specs.Table.{max_tets};
 ghost use Rattle.surface_definitions.specs.Coordinates as coordinates;
+ghost use Rattle.surface_definitions.specs.QuadEquations.{AreEquations};
 ghost use Rattle.cone_definitions.specs.Surfaces.{IsSurfaceList};
 ghost use Rattle.cone_definitions.specs.Listings.{IsListed};
 ghost use Rattle.equation_bounds_laws.specs.OneForm.{is_triangle};
@@ -12,12 +13,12 @@ ghost use Rattle.surface_list.specs.Surfaces.{AreTableSurfaces, IsTableRefused};
 use crate::bounds::numbers_fit;
 use cone_core::{MAX_ENTRY, Ray, System};
 use double_description::{EnumFault, Order, Permit, Picker, Rays, choice, enumerate};
+use gluing_table::Table;
 use late_columns::vertex_surfaces;
 use matching_equations::{Coords, equations};
 use no_memory::NoMemory;
 use normal_discs::{columns_each, is_quad_or_octagon};
 use quad_condition::{Masks, clash_list};
-use skeleton::Skeleton;
 use solved_rows::{SolveFault, solve};
 use std::alloc::Global;
 use support_bits::Support;
@@ -105,11 +106,40 @@ fn found(
     }
 }
 
-/// The vertex surfaces of a table, strictly ascending, its equations taken in a named order; refused exactly where a
-/// number of a step passes the limit (Haken 1961; Tollefson 1998; Burton 2010).
+/// The vertex surfaces of a table by its equations, strictly ascending, which are taken in a named order; refused exactly
+/// where a number of a step passes the limit (Haken 1961; Tollefson 1998; Burton 2010).
+pub fn surfaces_by(
+    alloc: Global,
+    table: &Table,
+    system: &System,
+    coords: Coords,
+    order: Order,
+    limit: u128,
+) -> Result<Vec<Ray>, EnumFault>
+    requires columns { system.now.columns ≡ coordinates.columns coords (length table.now) }
+    requires equations { AreEquations coords table.now system.now.rows }
+    requires named { order ≢ Order.Free }
+    requires some_limit { 1 ≤ limit }
+    requires most_limit { limit ≤ MAX_ENTRY }
+    ensures ok { IfOk result (λ rays. AreTableSurfaces limit coords table.now order rays.items) }
+    ensures err { IfErr result (IsTableRefused limit coords table.now order) }
+{
+    let tets = table.len();
+    // Where no number can pass the limit, it doesn't matter how the list was found.
+    if numbers_fit(coords, tets, limit)
+        && let Some(known) = found(alloc, coords, tets, system)?
+    {
+        return Ok(known);
+    }
+    let rays = enumerated(alloc, coords, tets, system, order, limit)?;
+    let Rays { list, order: _ } = rays;
+    Ok(list)
+}
+
+/// The same, where the equations aren't made yet.
 pub fn surfaces(
     alloc: Global,
-    skeleton: &Skeleton,
+    table: &Table,
     coords: Coords,
     order: Order,
     limit: u128,
@@ -117,18 +147,9 @@ pub fn surfaces(
     requires named { order ≢ Order.Free }
     requires some_limit { 1 ≤ limit }
     requires most_limit { limit ≤ MAX_ENTRY }
-    ensures ok { IfOk result (λ rays. AreTableSurfaces limit coords skeleton.now.rows order rays.items) }
-    ensures err { IfErr result (IsTableRefused limit coords skeleton.now.rows order) }
+    ensures ok { IfOk result (λ rays. AreTableSurfaces limit coords table.now order rays.items) }
+    ensures err { IfErr result (IsTableRefused limit coords table.now order) }
 {
-    let system = equations(alloc, skeleton, coords)?;
-    let tets = skeleton.table().len();
-    // Where no number can pass the limit, it doesn't matter how the list was found.
-    if numbers_fit(coords, tets, limit)
-        && let Some(known) = found(alloc, coords, tets, &system)?
-    {
-        return Ok(known);
-    }
-    let rays = enumerated(alloc, coords, tets, &system, order, limit)?;
-    let Rays { list, order: _ } = rays;
-    Ok(list)
+    let system = equations(alloc, table, coords)?;
+    surfaces_by(alloc, table, &system, coords, order, limit)
 }

@@ -15,9 +15,9 @@ use Rattle.move_laws.proofs.ListedFacets.{same_some}
 use Rattle.move_laws.proofs.Legal.{no_fault}
 use Rattle.move_laws.proofs.Placed.{closed_up_small}
 use Rattle.move_laws.proofs.Played.{played_same}
-use Rattle.pachner_moves.specs.Facets.{IsOldFacet, AreOldFacets}
-use Rattle.pachner_moves.proofs.LegalLaws.{legal_from}
-use Rattle.pachner_moves.proofs.ListedLaws.{are_old}
+use Rattle.move_laws.specs.Facets.{IsOldFacet, AreOldFacets}
+use Rattle.move_laws.proofs.LegalLaws.{legal_from}
+use Rattle.move_laws.proofs.ListedLaws.{are_old}
 use Rattle.pachner_moves.proofs.CodeLaws.{old_found}
 use Rattle.certificate_laws.proofs.BackLabels.{IsSteppedOn, carried_inverse, back_labels}
 use Rattle.certificate_laws.proofs.StepBack.{IsLedBack, led_back_by}

@@ -11,7 +11,7 @@ use crate::generator::drawn;
 use arrayvec::ArrayVec;
 use gluing_table::Table;
 use no_memory::NoMemory;
-use pachner_moves::{Facet, Move, apply, legal};
+use pachner_moves::{Facet, Move, apply_legal, legal};
 use std::alloc::Global;
 use std::marker::Model;
 
@@ -52,7 +52,7 @@ fn play_step(table: &mut Table, m: Move) -> Step
 {
     let tets = table.len();
     match legal(table, m) {
-        Ok(pattern) => match apply(table, m) {
+        Ok(pattern) => match apply_legal(table, m, &pattern) {
             Ok(_) => Step {
                 played: m,
                 tets,
@@ -71,8 +71,6 @@ pub fn draw_step(alloc: Global, table: &mut Table, state: u64) -> Result<Option<
     ensures none { IfOk result (λ r. IfNone r (certificates.candidates table.old ≡ [])) }
     ensures left { IfOk result (λ r. IfNone r (table.new ≡ table.old)) }
 {
-    // so the rows are known to be a table
-    let _ = table.rows();
     let moves = candidates(alloc, table)?;
     match drawn(state, &moves) {
         Some(m) => Ok(Some(play_step(table, m))),

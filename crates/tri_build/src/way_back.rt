@@ -122,8 +122,6 @@ pub fn way_back(alloc: Global, table: &Table, mut steps: Vec<Step>) -> Result<Ve
     requires { (first : List Row) × AreSteps first steps.items table.now }
     ensures { IfOk result (λ moves. (first : List Row) → AreSteps first steps.items table.now → (end : List Row) × (by : labels.Relabelling) × AreCarriedBack first (moves_of steps.items) table.now moves.items end by) }
 {
-    // so the rows are known to be a table
-    let _ = table.rows();
     let mut way = WayBack {
         now: table.copy(alloc)?,
         on: staying(alloc, table.len())?,

@@ -16,7 +16,6 @@ use gluing_table::{Table, write_table};
 use matching_equations::{Coords, equations};
 use no_memory::NoMemory;
 use outcome_definitions::Status;
-use skeleton::Skeleton;
 use std::alloc::Global;
 use surface_answers::check;
 use vector_definitions::Refusal;
@@ -32,20 +31,13 @@ fn crushed(alloc: Global, table: &Table, x: &[u128]) -> Result<Outcome, NoMemory
     Ok(Outcome::built(Status::Done, text))
 }
 
-// The answer to a table and a vector, by the skeleton and the equations of the table.
-fn answer_by(
-    alloc: Global,
-    table: &Table,
-    skeleton: &Skeleton,
-    system: &System,
-    x: &[u128],
-) -> Result<Outcome, NoMemory>
-    requires rows { skeleton.now.rows ≡ table.now }
-    requires columns { system.now.columns ≡ columns Standard (length skeleton.now.rows) }
-    requires equations { AreEquations Standard skeleton.now.rows system.now.rows }
+// The answer to a table and a vector, by the equations of the table.
+fn answer_by(alloc: Global, table: &Table, system: &System, x: &[u128]) -> Result<Outcome, NoMemory>
+    requires columns { system.now.columns ≡ columns Standard (length table.now) }
+    requires equations { AreEquations Standard table.now system.now.rows }
     ensures { IfOk result (IsCrushAnswer (table.now, x.now)) }
 {
-    match check(Coords::Standard, skeleton, system, x) {
+    match check(Coords::Standard, table, system, x) {
         Ok(()) => crushed(alloc, table, x),
         Err(fault) => refusal_outcome(alloc, 0, Refusal::Unfit { fault }),
     }
@@ -55,9 +47,8 @@ fn answer_by(
 fn answer(alloc: Global, table: &Table, x: &[u128]) -> Result<Outcome, NoMemory>
     ensures { IfOk result (IsCrushAnswer (table.now, x.now)) }
 {
-    let skeleton = Skeleton::of(alloc, table)?;
-    let system = equations(alloc, &skeleton, Coords::Standard)?;
-    answer_by(alloc, table, &skeleton, &system, x)
+    let system = equations(alloc, table, Coords::Standard)?;
+    answer_by(alloc, table, &system, x)
 }
 
 /// The outcome of `crush` on an input that isn't too long.

@@ -81,7 +81,7 @@ fn describe_checked(
     requires columns { system.now.columns ≡ columns coords (length skeleton.now.rows) }
     ensures { TellsDescription skeleton.now coords system.now.rows x.now result }
 {
-    match check(coords, skeleton, system, x) {
+    match check(coords, skeleton.table(), system, x) {
         Ok(()) => describe_fit(alloc, skeleton, system, coords, x),
         Err(fault) => Err(ToldFault::Refused(Refusal::Unfit { fault })),
     }
@@ -171,7 +171,7 @@ fn describe_valid(
     requires skeleton { IsSkeleton skeleton.now }
     ensures { IfOk result (AreDescribed skeleton.now coords (all_entries vectors.now)) }
 {
-    let system = equations(alloc, skeleton, coords)?;
+    let system = equations(alloc, skeleton.table(), coords)?;
     describe_each(alloc, skeleton, &system, coords, vectors)
 }
 

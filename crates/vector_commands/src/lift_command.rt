@@ -18,7 +18,7 @@ use crate::refusals::{EachFault, ToldFault, refusal_outcome};
 use command_answers::{Outcome, fault_outcome, read_table_and_vectors};
 use cone_core::System;
 use gluing_table::Table;
-use matching_equations::{Coords, equations};
+use matching_equations::{Coords, quad_equations};
 use no_memory::NoMemory;
 use outcome_definitions::Status;
 use quad_lift::lift as lift_of;
@@ -57,7 +57,7 @@ fn lift_checked(
     requires { system.now.columns ≡ columns coordinates.Quad (length skeleton.now.rows) }
     ensures { TellsLift skeleton.now system.now.rows x.now result }
 {
-    match check(Coords::Quad, skeleton, system, x) {
+    match check(Coords::Quad, skeleton.table(), system, x) {
         Ok(()) => lift_fit(alloc, skeleton, system, x),
         Err(fault) => Err(ToldFault::Refused(Refusal::Unfit { fault })),
     }
@@ -123,7 +123,7 @@ fn answer(alloc: Global, table: &Table, vectors: &[Vec<u128>]) -> Result<Outcome
     ensures { IfOk result (IsLiftsAnswer (table.now, all_entries vectors.now)) }
 {
     let skeleton = Skeleton::of(alloc, table)?;
-    let system = equations(alloc, &skeleton, Coords::Quad)?;
+    let system = quad_equations(alloc, &skeleton)?;
     answer_by(alloc, &skeleton, &system, vectors)
 }
 

@@ -1,11 +1,12 @@
-use crate::sample_cones::{SPHERE, are_rows, entries, skeleton_of};
+use crate::sample_cones::{SPHERE, are_rows, entries};
 use matching_equations::{Coords, equations};
+use signature_codec::read_signature;
 use std::test::Fail;
 
 #[test]
 fn a_sphere_has_six_rows(rt: HostRuntime) -> Result<(), Fail> {
-    let skeleton = skeleton_of(rt.alloc(), SPHERE)?;
-    let standard = equations(rt.alloc(), &skeleton, Coords::Standard)?;
+    let table = read_signature(rt.alloc(), SPHERE)?;
+    let standard = equations(rt.alloc(), &table, Coords::Standard)?;
     assert_eq!(rt; standard.columns(), 7);
     are_rows(
         &rt,
@@ -24,8 +25,8 @@ fn a_sphere_has_six_rows(rt: HostRuntime) -> Result<(), Fail> {
 
 #[test]
 fn octagons_stand_in_the_same_rows(rt: HostRuntime) -> Result<(), Fail> {
-    let skeleton = skeleton_of(rt.alloc(), SPHERE)?;
-    let octagon = equations(rt.alloc(), &skeleton, Coords::Octagon)?;
+    let table = read_signature(rt.alloc(), SPHERE)?;
+    let octagon = equations(rt.alloc(), &table, Coords::Octagon)?;
     assert_eq!(rt; octagon.len(), 6);
     assert_eq!(rt;
         entries(&octagon, 4),
@@ -36,8 +37,8 @@ fn octagons_stand_in_the_same_rows(rt: HostRuntime) -> Result<(), Fail> {
 
 #[test]
 fn a_sphere_has_two_rows_in_quads(rt: HostRuntime) -> Result<(), Fail> {
-    let skeleton = skeleton_of(rt.alloc(), SPHERE)?;
-    let quad = equations(rt.alloc(), &skeleton, Coords::Quad)?;
+    let table = read_signature(rt.alloc(), SPHERE)?;
+    let quad = equations(rt.alloc(), &table, Coords::Quad)?;
     assert_eq!(rt; quad.columns(), 3);
     are_rows(&rt, &quad, &[&[(1, -1), (2, 1)], &[(1, 1), (2, -1)]]);
     Ok(())

@@ -1,9 +1,10 @@
 ghost use Rattle.std.specs.Prelude.{◌≤◌};
 
-use crate::sample_cones::{SPHERE, are_rays, skeleton_of};
+use crate::sample_cones::{SPHERE, are_rays};
 use cone_core::MAX_ENTRY;
 use double_description::Order;
 use matching_equations::Coords;
+use signature_codec::read_signature;
 use std::alloc::Global;
 use std::process::Abort;
 use std::test::Fail;
@@ -20,8 +21,8 @@ fn are_surfaces(
     requires some_limit { 1 ≤ limit }
     requires most_limit { limit ≤ MAX_ENTRY }
 {
-    let skeleton = skeleton_of(alloc, signature)?;
-    match surfaces(alloc, &skeleton, coords, Order::Given, limit) {
+    let table = read_signature(alloc, signature)?;
+    match surfaces(alloc, &table, coords, Order::Given, limit) {
         Ok(rays) => {
             are_rays(rt, &rays, vectors);
         }

@@ -9,8 +9,8 @@ use Rattle.component_signature.proofs.order.sign_parts.Goals as goal
 pub loop-number-init : goal.loop-number-init
 loop-number-init c = none_signed c.args.parts.now c.in_ok-signed.signed.items c.in_ok-signed.ensures.items
 
-pub signature_of-requires : goal.signature_of-requires
-signature_of-requires c =
+pub signature_of_connected-requires : goal.signature_of_connected-requires
+signature_of_connected-requires c =
     subst (λ (p : Part). IsConnected p.rows) (sym (c.part.view_is ∙ c.index-parts-number.is)) (c.requires c.loop-number.number c.index-parts-number.result c.loop-number-test.true)
 
 pub loop-number-preserved : goal.loop-number-preserved

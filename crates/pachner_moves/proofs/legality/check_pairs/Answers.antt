@@ -1,5 +1,5 @@
 use Rattle.std.proofs.lemmas.Result.{err_from_is_err_and}
-use Rattle.pachner_moves.proofs.FindLaws.{pairs_two, pairs_err, pairs_second, pairs_third, pairs_few}
+use Rattle.move_laws.proofs.FindLaws.{pairs_two, pairs_err, pairs_second, pairs_third, pairs_few}
 use Rattle.pachner_moves.proofs.legality.check_pairs.Goals as goal
 
 pub returns-then-facets-eq2 : goal.returns-then-facets-eq2

@@ -1,6 +1,6 @@
 use Rattle.std.proofs.Common.{ap, ◌∙◌}
 use Rattle.move_definitions.specs.Moves.{Facet, Move, facet}
-use Rattle.pachner_moves.proofs.FindLaws.{is_boundary, repeated_by, free_by}
+use Rattle.move_laws.proofs.FindLaws.{is_boundary, repeated_by, free_by}
 use Rattle.pachner_moves.proofs.legality.find_facet.Goals as goal
 
 pub returns-in_default-clause-fault : goal.returns-in_default-clause-fault

@@ -1,6 +1,6 @@
 use Rattle.std.proofs.Common.{arith}
 use Rattle.std.proofs.lemmas.Result.{err_from_is_err_and}
-use Rattle.pachner_moves.proofs.FindLaws.{one_facet, none_more, all_facets, no_fault, first_fault, length_below}
+use Rattle.move_laws.proofs.FindLaws.{one_facet, none_more, all_facets, no_fault, first_fault, length_below}
 use Rattle.pachner_moves.proofs.legality.find_facets.Goals as goal
 
 pub push-requires : goal.push-requires

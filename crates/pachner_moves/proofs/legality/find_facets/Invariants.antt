@@ -1,7 +1,7 @@
 -- The facets so far, and that nothing was wrong with them.
 use Rattle.std.proofs.Common.{◌≡◌, ◌<◌, ◌≤◌, ℕ, None, length}
 use Rattle.move_definitions.specs.Moves as moves
-use Rattle.pachner_moves.specs.Faults.{facets_below}
+use Rattle.move_laws.specs.Faults.{facets_below}
 use Rattle.pachner_moves.proofs.legality.find_facets.Given as goal
 
 abbrev pub invariant-loop-label : goal.invariant-loop-label

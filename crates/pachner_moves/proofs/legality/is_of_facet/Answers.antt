@@ -1,6 +1,6 @@
 use Rattle.std.proofs.Common.{ap, ◌∙◌, sym}
 use Rattle.move_definitions.specs.Moves.{Facet}
-use Rattle.pachner_moves.proofs.FindLaws.{any_at}
+use Rattle.move_laws.proofs.FindLaws.{any_at}
 use Rattle.pachner_moves.proofs.legality.is_of_facet.Goals as goal
 
 pub returns-then-facet-tet : goal.returns-then-facet-tet

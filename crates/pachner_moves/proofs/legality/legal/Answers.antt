@@ -2,7 +2,7 @@ use Rattle.std.proofs.Common.{ap, arith, ◌≡◌, length, List}
 use Rattle.std.proofs.lemmas.Result.{err_from_is_err_and}
 use Rattle.table_definitions.specs.Table.{Row}
 use Rattle.move_definitions.specs.Moves.{Move}
-use Rattle.pachner_moves.proofs.FindLaws.{all_in, none_such, facet_fault_first, pair_fault_found, is_legal}
+use Rattle.move_laws.proofs.FindLaws.{all_in, none_such, facet_fault_first, pair_fault_found, is_legal}
 use Rattle.pachner_moves.proofs.legality.legal.Goals as goal
 
 pub returns-then-m-rows-clause-fault : goal.returns-then-m-rows-clause-fault

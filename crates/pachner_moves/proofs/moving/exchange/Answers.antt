@@ -1,5 +1,5 @@
 use Rattle.std.proofs.Common.{◌∙◌}
-use Rattle.pachner_moves.proofs.MovedLaws.{taken_in, can_replace_by, plays_by}
+use Rattle.move_laws.proofs.MovedLaws.{taken_in, can_replace_by, plays_by}
 use Rattle.pachner_moves.proofs.moving.exchange.Goals as goal
 
 pub saved_rows-requires-clause-in_range : goal.saved_rows-requires-clause-in_range

@@ -3,7 +3,7 @@ use Rattle.std.proofs.Common.{◌≡◌, ℕ, ◌+◌, ◌-◌, [], ◌∷◌, �
 use Rattle.std.proofs.lemmas.List.FromFn.{map-range_with_len_more}
 use Rattle.table_definitions.specs.Table.{Row}
 use Rattle.move_definitions.specs.Moves.{kept}
-use Rattle.pachner_moves.specs.Facets.{put_row}
+use Rattle.move_laws.specs.Facets.{put_row}
 use Rattle.pachner_moves.proofs.moving.fresh_rows.Goals as goal
 
 pub loop-label-preserved : goal.loop-label-preserved

@@ -2,7 +2,7 @@
 use Rattle.std.proofs.Common.{◌≡◌, ◌-◌}
 use Rattle.std.specs.List.{range_with_len}
 use Rattle.move_definitions.specs.Moves.{kept}
-use Rattle.pachner_moves.specs.Facets.{numbered, put_row}
+use Rattle.move_laws.specs.Facets.{numbered, put_row}
 use Rattle.pachner_moves.proofs.moving.fresh_rows.Given as goal
 
 abbrev pub invariant-loop-label : goal.invariant-loop-label

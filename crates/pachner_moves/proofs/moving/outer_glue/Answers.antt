@@ -1,7 +1,7 @@
 use Rattle.std.proofs.Common.{arith}
 use Rattle.move_definitions.specs.Moves.{new_facet}
-use Rattle.pachner_moves.proofs.LabelLaws.{by_permutes}
-use Rattle.pachner_moves.proofs.FacetLaws.{new_is_facet}
+use Rattle.move_laws.proofs.LabelLaws.{by_permutes}
+use Rattle.move_laws.proofs.FacetLaws.{new_is_facet}
 use Rattle.pachner_moves.proofs.moving.outer_glue.Goals as goal
 
 pub label_by_label-requires : goal.label_by_label-requires

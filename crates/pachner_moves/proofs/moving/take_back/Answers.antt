@@ -1,6 +1,6 @@
 use Rattle.std.proofs.Common.{ap, ◌∙◌}
 use Rattle.move_definitions.specs.Undos.{Undo}
-use Rattle.pachner_moves.proofs.BackLaws.{back_by, taken_back_by}
+use Rattle.move_laws.proofs.BackLaws.{back_by, taken_back_by}
 use Rattle.pachner_moves.proofs.moving.take_back.Goals as goal
 
 pub replace-requires : goal.replace-requires

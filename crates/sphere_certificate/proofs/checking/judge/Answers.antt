@@ -5,4 +5,4 @@ use Rattle.sphere_certificate.proofs.checking.judge.Goals as goal
 
 pub returns-in-Ok-clause-standard : goal.returns-in-Ok-clause-standard
 returns-in-Ok-clause-standard c =
-    text_standard c.args.last.now c.in-Ok.text.items c.rows.ensures.is_table c.in-Ok.ensures.signature (sym c.deref.ensures.value ∙ c.is_sphere.ensures.0 c.if-is_sphere.true)
+    text_standard c.args.last.now c.in-Ok.text.items c.requires c.in-Ok.ensures.signature (sym c.deref.ensures.value ∙ c.is_sphere.ensures.0 c.if-is_sphere.true)

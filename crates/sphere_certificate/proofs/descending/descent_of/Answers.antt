@@ -21,9 +21,9 @@ returns-clause-descent c =
 
 pub returns-clause-certificate : goal.returns-clause-certificate
 returns-clause-certificate c =
-    ended_certifies c.args.table.now c.loop-moves.moves.items c.loop-moves.last c.in_ok-reached.reached c.rows.ensures.is_table c.loop-moves.invariant
+    ended_certifies c.args.table.now c.loop-moves.moves.items c.loop-moves.last c.in_ok-reached.reached c.in_ok-last.ensures.is_table c.loop-moves.invariant
     (ends_here c.loop-moves.last c.in_ok-m.field-0 c.in_ok-m.ensures c.in_default.is) c.in_ok-reached.ensures
 
 pub returns-clause-fewer : goal.returns-clause-fewer
 returns-clause-fewer c =
-    ended_fewer c.args.table.now c.loop-moves.moves.items c.loop-moves.last c.rows.ensures.is_table c.loop-moves.invariant (ends_here c.loop-moves.last c.in_ok-m.field-0 c.in_ok-m.ensures c.in_default.is)
+    ended_fewer c.args.table.now c.loop-moves.moves.items c.loop-moves.last c.in_ok-last.ensures.is_table c.loop-moves.invariant (ends_here c.loop-moves.last c.in_ok-m.field-0 c.in_ok-m.ensures c.in_default.is)

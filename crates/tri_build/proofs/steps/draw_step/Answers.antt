@@ -1,9 +1,9 @@
 -- A drawn move is accepted.
 use Rattle.std.proofs.Common.{sym, ap, ◌∙◌}
 use Rattle.move_definitions.specs.Certificates.{drawn}
-use Rattle.certificate_laws.proofs.Made.{drawn_leads}
+use Rattle.certificate_laws.proofs.Made.{drawn_accepted}
 use Rattle.tri_build.proofs.steps.draw_step.Goals as goal
 
 pub play_step-requires : goal.play_step-requires
 play_step-requires c =
-    (drawn_leads c.args.state c.args.table.now c.in-Some.m c.rows.ensures.is_table (sym (c.in-Some.ensures ∙ ap (drawn c.args.state) (c.deref.ensures.value ∙ c.in_ok-moves.ensures)))).1.accepted
+    drawn_accepted c.args.state c.args.table.now c.in-Some.m (sym (c.in-Some.ensures ∙ ap (drawn c.args.state) (c.deref.ensures.value ∙ c.in_ok-moves.ensures)))

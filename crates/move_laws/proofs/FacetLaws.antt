@@ -12,8 +12,8 @@ use Rattle.table_definitions.proofs.ListFacts.{list_all-below, both_true}
 use Rattle.table_definitions.proofs.Permutations.{length-permutation, image_below, preimage_below, image-preimage, preimage-image}
 use Rattle.move_definitions.specs.Moves.{Move, Facet, IsCore, vertices_by_label, own_facet, vertex_of, facet_behind, new_facet, label_by_label}
 use Rattle.move_definitions.proofs.CoreTests.{core_size, own_permutes}
-use Rattle.pachner_moves.specs.Facets.{IsFacet}
-use Rattle.pachner_moves.proofs.LabelLaws.{facet_from, goes_below, goes_other, by_is}
+use Rattle.move_laws.specs.Facets.{IsFacet}
+use Rattle.move_laws.proofs.LabelLaws.{facet_from, goes_below, goes_other, by_is}
 
 -- a test of labels
 vertex_test : ℕ → List ℕ → ℕ → Bool

@@ -15,11 +15,11 @@ use Rattle.table_definitions.proofs.Permutations.{image_below, image-compose}
 use Rattle.move_definitions.specs.declared.MoveFault.{MoveFault}
 use Rattle.move_definitions.specs.declared.MoveFault.TheVariants.{NotMatched, Repeated}
 use Rattle.move_definitions.specs.Moves.{Move, Facet, IsCore, own_facet, vertex_of, opposite, facet, facet_behind, facet_fault, found_labels, tets_before, pair_fault, is_matched, move_fault, label_by_label}
-use Rattle.pachner_moves.specs.Facets.{IsFacet, IsOldFacet}
-use Rattle.pachner_moves.specs.Faults.{first_facet_fault}
-use Rattle.pachner_moves.proofs.FindLaws.{from_four, move_fault_is, pairs_first, some_facet, none_such}
-use Rattle.pachner_moves.proofs.LabelLaws.{by_back, by_is, vertex_by}
-use Rattle.pachner_moves.proofs.FacetLaws.{core_few, own_is_facet, behind_is_facet, behind_glued}
+use Rattle.move_laws.specs.Facets.{IsFacet, IsOldFacet}
+use Rattle.move_laws.specs.Faults.{first_facet_fault}
+use Rattle.move_laws.proofs.FindLaws.{from_four, move_fault_is, pairs_first, some_facet, none_such}
+use Rattle.move_laws.proofs.LabelLaws.{by_back, by_is, vertex_by}
+use Rattle.move_laws.proofs.FacetLaws.{core_few, own_is_facet, behind_is_facet, behind_glued}
 
 pub record IsLegal (rows : List Row) (m : Move) : Type 0 where
   pub table : IsTable rows

@@ -4,7 +4,7 @@ use Rattle.std.specs.Prelude.{codes}
 use Rattle.outcome_definitions.specs.Enumerations.{list_outcome, large_outcome}
 use Rattle.command_answers.proofs.Results.{if_ok}
 use Rattle.enumeration_commands.proofs.Answering.{table_listed, table_large}
-use Rattle.enumeration_commands.proofs.surfaces_command.listed.Goals as goal
+use Rattle.enumeration_commands.proofs.surfaces_command.answer.Goals as goal
 
 pub returns-in-Ok : goal.returns-in-Ok
 returns-in-Ok c = if_ok c.list_outcome.result _ _

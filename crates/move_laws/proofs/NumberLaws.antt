@@ -13,9 +13,8 @@ use Rattle.table_definitions.specs.Table.{Row}
 use Rattle.table_definitions.specs.Replacing.{fresh_row}
 use Rattle.table_definitions.specs.Replaceable.{gone_before}
 use Rattle.table_definitions.proofs.Ranks.{picked, rank, rank-suc, length-picked, of_rank, at_rank}
-use Rattle.table_definitions.proofs.Bijections.{get_or-any}
-use Rattle.gluing_table.proofs.Opened.{has-none}
-use Rattle.pachner_moves.specs.Facets.{numbered}
+use Rattle.table_definitions.proofs.Bijections.{there, get_or-any}
+use Rattle.move_laws.specs.Facets.{numbered}
 use Rattle.plain_facts.proofs.Truths.{one_if}
 
 -- each number stands at one place
@@ -57,11 +56,18 @@ rank-or x xs (suc t) free =
         ap (λ b. one_if (b || has xs t)) e ∙ ap (λ b. one_if b) (sym e) ∙ (let z : one_if (has xs t) ≡ 0 = ap one_if none in omega arith)
     by_test false e = ap (λ b. one_if (b || has xs t)) e ∙ (let z : one_if (x == t) ≡ 0 = ap one_if e in omega arith)
 
+pub not-has : (xs : List ℕ) (u : ℕ) → (has xs u ≡ true → ⊥) → has xs u ≡ false
+not-has xs u never = by_test (has xs u) refl
+  where
+    by_test : (b : Bool) → has xs u ≡ b → has xs u ≡ false
+    by_test true h = absurd (never h)
+    by_test false h = h
+
 -- as many of the numbers are below t as stand among them of those below t
 pub rank-has : (xs : List ℕ) (t : ℕ) → Apart xs → rank (has xs) t ≡ gone_before xs t
 rank-has [] t apart = rank-nothing t
 rank-has (x ∷ xs) t apart =
-    let free : has xs x ≡ false = has-none xs x (λ k l e. apart 0 (suc k) (omega arith) (omega arith) (sym e)) in
+    let free : has xs x ≡ false = not-has xs x (λ h. (let t = there xs x h in apart 0 (suc t.0) (omega arith) (omega (arith, t.1)) (t.2 ∙ get_or-any xs t.0 x 0 t.1))) in
     let rest : rank (has xs) t ≡ gone_before xs t = rank-has xs t (λ i j d l. apart (suc i) (suc j) (omega arith) (omega arith)) in
     let b : gone_before (x ∷ xs) t ≡ one_if (nat_lt x t) + gone_before xs t = sum_by-cons (λ u. one_if (nat_lt u t)) x xs in
     omega (arith, rank-or x xs t free, rank-one x t)
@@ -80,13 +86,6 @@ range-has a (suc n) u h = by_test (a == u) refl h (λ k. range-has (a + 1) n u k
     by_test : (b : Bool) → (a == u) ≡ b → (b || has (range_with_len (a + 1) n) u) ≡ true → (has (range_with_len (a + 1) n) u ≡ true → (a + 1 ≤ u) × (u < a + 1 + n)) → (a ≤ u) × (u < a + suc n)
     by_test true e k later = let q = eqb-true a u e in (omega arith, omega arith)
     by_test false e k later = let q = later k in let q0 = q.0 in let q1 = q.1 in (omega arith, omega arith)
-
-pub not-has : (xs : List ℕ) (u : ℕ) → (has xs u ≡ true → ⊥) → has xs u ≡ false
-not-has xs u never = by_test (has xs u) refl
-  where
-    by_test : (b : Bool) → has xs u ≡ b → has xs u ≡ false
-    by_test true h = absurd (never h)
-    by_test false h = h
 
 pub range-up : (a n : ℕ) → IsStrictlyIncreasing (range_with_len a n)
 range-up a n k l =

@@ -12,12 +12,12 @@ use Rattle.std.proofs.lemmas.List.Kept.{AllPairs-from_increasing}
 use Rattle.move_definitions.specs.Moves.{Move, Facet, vertex_of, opposite, kept, new_facet, label_by_label, facet_stand_in, kept_stand_in, stand_in_at, facet_gluing}
 use Rattle.move_definitions.specs.Undos.{taken_numbers}
 use Rattle.move_definitions.proofs.StandIns.{facet_stand_in-new, facet_stand_in-old}
-use Rattle.pachner_moves.specs.Facets.{IsFacet, IsOldFacet}
-use Rattle.pachner_moves.proofs.LabelLaws.{by_permutes, vertex_by}
-use Rattle.pachner_moves.proofs.FacetLaws.{new_is_facet, core_few}
-use Rattle.pachner_moves.proofs.LegalLaws.{IsLegal}
-use Rattle.pachner_moves.proofs.NumberLaws.{picked-up, picked-within}
-use Rattle.pachner_moves.proofs.ListedLaws.{tets, tet_of_old, old_of_tet, stand_old, stand_kept, taken-has, length-taken, closed-taken}
+use Rattle.move_laws.specs.Facets.{IsFacet, IsOldFacet}
+use Rattle.move_laws.proofs.LabelLaws.{by_permutes, vertex_by}
+use Rattle.move_laws.proofs.FacetLaws.{new_is_facet, core_few}
+use Rattle.move_laws.proofs.LegalLaws.{IsLegal}
+use Rattle.move_laws.proofs.NumberLaws.{picked-up, picked-within}
+use Rattle.move_laws.proofs.ListedLaws.{tets, tet_of_old, old_of_tet, stand_old, stand_kept, taken-has, length-taken, closed-taken}
 use Rattle.table_definitions.proofs.Carried.{carried_image as image_under, carried_back as back_under}
 use Rattle.table_definitions.proofs.InPlace.{in_place-same}
 

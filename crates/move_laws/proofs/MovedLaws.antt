@@ -18,14 +18,14 @@ use Rattle.table_definitions.proofs.FreshRows.{back_is}
 use Rattle.table_definitions.proofs.Replaced.{replaced_is_table}
 use Rattle.move_definitions.specs.declared.MoveFault.TheVariants.{TooMany}
 use Rattle.move_definitions.specs.Moves.{Move, Facet, old_facets, vertex_of, opposite, move_fault, IsCore, kept, new_length, new_facet, kept_stand_in, stand_in_at, moved_gluing, IsMoved, Plays, facet_gluing}
-use Rattle.pachner_moves.specs.Facets.{IsOldFacet, AreOldFacets, CanPlay, put_rows, exchange}
-use Rattle.pachner_moves.proofs.LegalLaws.{IsLegal, legal_from}
-use Rattle.pachner_moves.proofs.ListedLaws.{tets, old_of_tet, taken-has, are_old, stand_kept}
-use Rattle.pachner_moves.proofs.NumberLaws.{picked-within}
+use Rattle.move_laws.specs.Facets.{IsOldFacet, AreOldFacets, CanPlay, put_rows, exchange}
+use Rattle.move_laws.proofs.LegalLaws.{IsLegal, legal_from}
+use Rattle.move_laws.proofs.ListedLaws.{tets, old_of_tet, taken-has, are_old, stand_kept}
+use Rattle.move_laws.proofs.NumberLaws.{picked-within}
 use Rattle.move_definitions.specs.Undos.{taken_numbers}
-use Rattle.pachner_moves.proofs.StandLaws.{side_under, way_under, under_kept, closes, StandsKept, StandsPut, stands, stand_put, put_permutes, put_face, face_at, outer_label}
-use Rattle.pachner_moves.proofs.PutLaws.{put-length, is-put, not-put, glue-inner, glue-outer}
-use Rattle.pachner_moves.proofs.ExchangeLaws.{number-kept, can_exchange}
+use Rattle.move_laws.proofs.StandLaws.{side_under, way_under, under_kept, closes, StandsKept, StandsPut, stands, stand_put, put_permutes, put_face, face_at, outer_label}
+use Rattle.move_laws.proofs.PutLaws.{put-length, is-put, not-put, glue-inner, glue-outer}
+use Rattle.move_laws.proofs.ExchangeLaws.{number-kept, can_exchange}
 
 -- a table that a move can be played on
 pub record CanMove (rows : List Row) (m : Move) : Type 0 where

@@ -16,7 +16,7 @@ use Rattle.move_definitions.specs.declared.MoveFault.{MoveFault}
 use Rattle.move_definitions.specs.declared.MoveFault.TheVariants.{Boundary, Repeated, NoSuchTet}
 use Rattle.move_definitions.specs.Moves.{Move, Facet, facet, facet_fault, found_labels, tets_before, own_facet, opposite, facet_behind, pair_fault, move_fault}
 use Rattle.table_definitions.proofs.ListFacts.{list_all-below, same_list-true, first_some-from, first_some-none_from, first_some-is_none}
-use Rattle.pachner_moves.specs.Faults.{facets_below, first_facet_fault, found_facets, pairs_fault, verdict, IsPattern}
+use Rattle.move_laws.specs.Faults.{facets_below, first_facet_fault, found_facets, pairs_fault, verdict, IsPattern}
 
 -- lists of labels
 

@@ -14,11 +14,11 @@ use Rattle.table_definitions.specs.Replaceable.{fresh_numbers, fresh_glue}
 use Rattle.table_definitions.proofs.FreshRows.{fresh_tet}
 use Rattle.move_definitions.specs.Moves.{Move, Facet, vertex_of, opposite, facet, kept, new_length, new_facet, stand_in_at, moved_gluing, facet_gluing}
 use Rattle.move_definitions.specs.Undos.{taken_numbers}
-use Rattle.pachner_moves.specs.Facets.{IsFacet, IsOldFacet, outer_gluing, fresh_gluing, put_row, put_rows, exchange}
-use Rattle.pachner_moves.proofs.FacetLaws.{new_is_facet, core_few}
-use Rattle.pachner_moves.proofs.LegalLaws.{IsLegal, label_in}
-use Rattle.pachner_moves.proofs.NumberLaws.{numbers-of, row-of, has-range, range-has, not-has}
-use Rattle.pachner_moves.proofs.ListedLaws.{length-taken}
+use Rattle.move_laws.specs.Facets.{IsFacet, IsOldFacet, outer_gluing, fresh_gluing, put_row, put_rows, exchange}
+use Rattle.move_laws.proofs.FacetLaws.{new_is_facet, core_few}
+use Rattle.move_laws.proofs.LegalLaws.{IsLegal, label_in}
+use Rattle.move_laws.proofs.NumberLaws.{numbers-of, row-of, has-range, range-has, not-has}
+use Rattle.move_laws.proofs.ListedLaws.{length-taken}
 
 abbrev row_at : List Row → Move → ℕ → Row
 row_at rows m u = put_row rows m (u - kept rows m)

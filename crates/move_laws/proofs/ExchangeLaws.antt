@@ -20,14 +20,14 @@ use Rattle.table_definitions.proofs.Ranks.{rank, stays, closed_up-rank, at_rank,
 use Rattle.table_definitions.proofs.Carried.{not_from, same_from, same_to}
 use Rattle.move_definitions.specs.Moves.{Move, Facet, vertex_of, opposite, kept, new_length, new_facet, label_by_label, stand_in_at, moved_gluing, facet_gluing}
 use Rattle.move_definitions.specs.Undos.{taken_numbers}
-use Rattle.pachner_moves.specs.Facets.{IsOldFacet, fresh_gluing, put_row, put_rows, exchange}
-use Rattle.pachner_moves.proofs.LabelLaws.{by_permutes, by_back, vertex_by}
-use Rattle.pachner_moves.proofs.FacetLaws.{new_is_facet, core_few}
-use Rattle.pachner_moves.proofs.LegalLaws.{IsLegal, same_facet, label_in}
-use Rattle.pachner_moves.proofs.NumberLaws.{range-up, range-within, picked-up, picked-within}
-use Rattle.pachner_moves.proofs.ListedLaws.{tets, tet_of_old, taken-has}
-use Rattle.pachner_moves.proofs.StandLaws.{side_under, way_under, under_permutes, closes, closed-apart, StandsKept, StandsPut, stands, vertex_small, stand_put, put_permutes, put_face}
-use Rattle.pachner_moves.proofs.PutLaws.{put-numbers, put-length, is-put, put-is, not-put, glue-inner, glue-outer, LeadsIn, LeadsOut, leads}
+use Rattle.move_laws.specs.Facets.{IsOldFacet, fresh_gluing, put_row, put_rows, exchange}
+use Rattle.move_laws.proofs.LabelLaws.{by_permutes, by_back, vertex_by}
+use Rattle.move_laws.proofs.FacetLaws.{new_is_facet, core_few}
+use Rattle.move_laws.proofs.LegalLaws.{IsLegal, same_facet, label_in}
+use Rattle.move_laws.proofs.NumberLaws.{range-up, range-within, picked-up, picked-within}
+use Rattle.move_laws.proofs.ListedLaws.{tets, tet_of_old, taken-has}
+use Rattle.move_laws.proofs.StandLaws.{side_under, way_under, under_permutes, closes, closed-apart, StandsKept, StandsPut, stands, vertex_small, stand_put, put_permutes, put_face}
+use Rattle.move_laws.proofs.PutLaws.{put-numbers, put-length, is-put, put-is, not-put, glue-inner, glue-outer, LeadsIn, LeadsOut, leads}
 
 -- the new number of a tetrahedron that is kept
 pub number-kept : (rows : List Row) (m : Move) (t : ℕ) → IsLegal rows m → t < length rows → has (tets rows m) t ≡ false → number_of_kept rows (exchange rows m) t ≡ closed_up (tets rows m) t

@@ -13,10 +13,10 @@ use Rattle.table_definitions.proofs.ListFacts.{list_all-below, same_list-true}
 use Rattle.table_definitions.proofs.Ranks.{length-picked, rank_fits, count_whole}
 use Rattle.move_definitions.specs.Moves.{Move, Facet, facet, old_labels, old_facets, facet_stand_in, kept_stand_in, stand_in_of, stand_in_at}
 use Rattle.move_definitions.specs.Undos.{taken_numbers}
-use Rattle.pachner_moves.specs.Facets.{IsOldFacet, AreOldFacets}
-use Rattle.pachner_moves.proofs.FacetLaws.{core_some, core_few}
-use Rattle.pachner_moves.proofs.LegalLaws.{IsLegal, has-among, among-has, same_facet, label_in}
-use Rattle.pachner_moves.proofs.NumberLaws.{Apart, rank-same, rank-has, picked-up, picked-has, increasing-apart}
+use Rattle.move_laws.specs.Facets.{IsOldFacet, AreOldFacets}
+use Rattle.move_laws.proofs.FacetLaws.{core_some, core_few}
+use Rattle.move_laws.proofs.LegalLaws.{IsLegal, has-among, among-has, same_facet, label_in}
+use Rattle.move_laws.proofs.NumberLaws.{Apart, rank-same, rank-has, picked-up, picked-has, increasing-apart}
 
 -- where something is found for each number of a range
 

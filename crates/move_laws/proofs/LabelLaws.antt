@@ -10,7 +10,7 @@ use Rattle.table_definitions.specs.Permutation.{image, preimage, inverse, IsPerm
 use Rattle.table_definitions.proofs.InPlace.{in_place-same, in_place-other, in_place-back}
 use Rattle.table_definitions.proofs.Permutations.{is_permutation-four, same_images, image-inverse, preimage_at, inverse_permutes}
 use Rattle.move_definitions.specs.Moves.{Facet, vertex_of, label_by_label}
-use Rattle.pachner_moves.specs.Facets.{IsFacet}
+use Rattle.move_laws.specs.Facets.{IsFacet}
 
 -- the first place of a number
 pub stands_first : (xs : List ℕ) (w l : ℕ) → w < length xs → get_or xs w 0 ≡ l → ((v : ℕ) → v < w → get_or xs v 0 ≢ l) → preimage xs l ≡ w

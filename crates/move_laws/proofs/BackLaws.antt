@@ -21,13 +21,13 @@ use Rattle.table_definitions.proofs.Kept.{IsKeptAs, kept_as, length-replaced, fr
 use Rattle.table_definitions.proofs.FreshRows.{fresh_tet, length-fresh_row, back_is}
 use Rattle.move_definitions.specs.Moves.{Move, Facet, kept, kept_stand_in, stand_in_at, moved_gluing, IsMoved, Plays, facet_gluing}
 use Rattle.move_definitions.specs.Undos.{Undo, taken_numbers, undo_of, back_exchange, former, CanTakeBack, IsTakenBack, TakesBack}
-use Rattle.pachner_moves.specs.Facets.{numbered}
-use Rattle.pachner_moves.proofs.LegalLaws.{IsLegal, legal_from}
-use Rattle.pachner_moves.proofs.NumberLaws.{numbers-of, row-of, has-range, range-has, not-has, range-up, range-within, picked-up, picked-within, filter-has}
-use Rattle.pachner_moves.proofs.ListedLaws.{tets, old_of_tet, taken-has, length-taken, enough, stand_kept}
-use Rattle.pachner_moves.proofs.StandLaws.{under_kept, closes, stand_put, face_at, outer_label}
-use Rattle.pachner_moves.proofs.ExchangeLaws.{one_face}
-use Rattle.pachner_moves.proofs.MovedLaws.{kept_under, kept_place}
+use Rattle.move_laws.specs.Facets.{numbered}
+use Rattle.move_laws.proofs.LegalLaws.{IsLegal, legal_from}
+use Rattle.move_laws.proofs.NumberLaws.{numbers-of, row-of, has-range, range-has, not-has, range-up, range-within, picked-up, picked-within, filter-has}
+use Rattle.move_laws.proofs.ListedLaws.{tets, old_of_tet, taken-has, length-taken, enough, stand_kept}
+use Rattle.move_laws.proofs.StandLaws.{under_kept, closes, stand_put, face_at, outer_label}
+use Rattle.move_laws.proofs.ExchangeLaws.{one_face}
+use Rattle.move_laws.proofs.MovedLaws.{kept_under, kept_place}
 
 -- a legal move that led from the one table to the other
 pub record HasMoved (old : List Row) (m : Move) (new : List Row) : Type 0 where

@@ -1,0 +1,12 @@
+use Rattle.surface_list.proofs.Enumerations.{surfaces_by, surfaces_found}
+use Rattle.surface_list.proofs.listed.surfaces_by.Goals as goal
+
+pub returns-clause-ok : goal.returns-clause-ok
+returns-clause-ok c =
+    surfaces_found c.args.limit c.args.coords c.args.table.now c.args.system.now _ c.args.order c.requires.columns c.requires.equations c.len-tets.ensures.value
+    c.in-Some.known.items c.len-tets.ensures.is_table (c.numbers_fit.ensures.0 c.if-numbers_fit.true) (rw c.in-Some.is at c.in_ok-known.ensures)
+
+pub returns-2-clause-ok : goal.returns-2-clause-ok
+returns-2-clause-ok c =
+    surfaces_by c.args.limit c.args.coords c.args.table.now c.args.system.now _ c.args.order c.requires.columns c.requires.equations c.len-tets.ensures.value
+    c.in_ok-rays.rays c.in_ok-rays.ensures.ok
