@@ -1,13 +1,12 @@
 -- Lists with a place for each tetrahedron, filled in the order.
-use Rattle.std.proofs.Common.{◌≡◌, ℕ, ◌+◌, ◌<◌, ◌≤◌, true, false, List, length, take, get_or, refl, sym, ap, ◌∙◌, subst, arith, below_more}
-use Rattle.std.specs.Prelude.{nat_lt}
-use Rattle.std.proofs.lemmas.Bool.{lt-ltb}
-use Rattle.std.proofs.lemmas.List.{get_or-set_same, get_or-set_other, get_or-take, length-take-le, get_or_default}
-use Rattle.table_definitions.specs.Lists.{has}
-use Rattle.gluing_table.specs.Positions.{is_bad_at, IsFirstBad}
-use Rattle.table_definitions.proofs.Bijections.{there}
-use Rattle.std.specs.List.{slice_set}
-use Rattle.plain_facts.proofs.Truths.{by_bool}
+use Rattle.std.proofs.Common.{◌≡◌, ℕ, ◌+◌, ◌<◌, ◌≤◌, [], List, length, get_or, sym, ap, ◌∙◌, subst, arith, below_more}
+use Rattle.std.specs.Prelude.{◌≢◌, IsPermutation}
+use Rattle.std.specs.List.{All, slice_set}
+use Rattle.std.proofs.lemmas.List.{get_or-set_same, get_or-set_other}
+use Rattle.std.proofs.lemmas.List.Elements.{All-from_get_or}
+use Rattle.table_definitions.specs.Lists.{below}
+use Rattle.table_definitions.specs.Permutation.{IsPermutationOfFour}
+use Rattle.table_definitions.proofs.Bijections.{onto, IsDistinct-from_before}
 use Rattle.signature_definitions.specs.Labellings.{Start}
 use Rattle.labelling_laws.specs.Orders.{start_at, IsWholeOrder}
 use Rattle.labelling_laws.proofs.Marking.{start_is}
@@ -28,24 +27,24 @@ placed_more n order vals d v wanted i t s h l e is made size before =
     here = is ∙ ap (λ (r : Start). r.tet) (start_is order i s l e)
 
 -- images that are the places in a whole order are a bijection
-pub none_bad : (n : ℕ) (order : List Start) (images : List ℕ) (p : ℕ) → IsWholeOrder n order → length order ≤ n → length images ≡ n
-    → ((i : ℕ) → i < length order → get_or images (start_at order i).tet 0 ≡ i) → IsFirstBad images p → ⊥
-none_bad n order images p h few size each bad =
-    let in_range : p < length images = bad.in_range in
-    let at = h.all p (omega arith) in
-    let l : at.0 < length order = at.1 in
-    let image : get_or images p 0 ≡ at.0 = ap (λ t. get_or images t 0) (sym at.2) ∙ each at.0 l in
-    let small : nat_lt (get_or images p 0) (length images) ≡ true = lt-ltb (get_or images p 0) (length images) (omega arith) in
-    by_bool (has (take p images) (get_or images p 0))
-    (λ stood.
-    let found = there (take p images) (get_or images p 0) stood in
-    let k : ℕ = found.0 in
-    let before : k < p = omega (arith, found.1, length-take-le p images (omega arith)) in
-    let value : get_or images p 0 ≡ get_or images k 0 = found.2 ∙ get_or-take p images k (get_or images p 0) before ∙ get_or_default images k (get_or images p 0) 0 (omega arith) in
-    let other = h.all k (omega arith) in
-    let m : other.0 < length order = other.1 in
-    let other_image : get_or images k 0 ≡ other.0 = ap (λ t. get_or images t 0) (sym other.2) ∙ each other.0 m in
-    let same : other.0 ≡ at.0 = sym other_image ∙ sym value ∙ image in
-    let tets : k ≡ p = sym other.2 ∙ ap (λ i. (start_at order i).tet) same ∙ at.2 in
-    omega arith)
-    (λ new. let b = bad.bad in let never : is_bad_at images p ≡ false = rw (small, new) refl in cc)
+pub are_numbered : (n : ℕ) (order : List Start) (images : List ℕ) → IsWholeOrder n order → length order ≤ n → length images ≡ n
+    → ((i : ℕ) → i < length order → get_or images (start_at order i).tet 0 ≡ i) → IsPermutation images (below n)
+are_numbered n order images h few size each = onto n images size (λ t l. omega (arith, (h.all t l).1, image t l)) (IsDistinct-from_before images apart)
+  where
+    image : (t : ℕ) (l : t < n) → get_or images t 0 ≡ (h.all t l).0
+    image t l = ap (λ u. get_or images u 0) (sym (h.all t l).2) ∙ each (h.all t l).0 (h.all t l).1
+
+    apart : (i j : ℕ) → i < j → j < length images → get_or images i 0 ≢ get_or images j 0
+    apart i j d l e =
+        let li : i < n = omega arith in
+        let lj : j < n = omega arith in
+        let same : (h.all i li).0 ≡ (h.all j lj).0 = sym (image i li) ∙ e ∙ image j lj in
+        let tets : i ≡ j = sym (h.all i li).2 ∙ ap (λ k. (start_at order k).tet) same ∙ (h.all j lj).2 in
+        absurd (omega arith)
+
+-- and permutations that stand at them permute
+pub all_permute : (n : ℕ) (order : List Start) (perms : List (List ℕ)) → IsWholeOrder n order → length perms ≡ n → ((i : ℕ) → i < length order → get_or perms (start_at order i).tet [] ≡ (start_at order i).perm)
+    → ((i : ℕ) → i < length order → IsPermutationOfFour (start_at order i).perm) → All IsPermutationOfFour perms
+all_permute n order perms h size each permute = All-from_get_or IsPermutationOfFour perms [] (λ t l.
+    let at = h.all t (omega arith) in
+    subst IsPermutationOfFour (sym (each at.0 at.1) ∙ ap (λ u. get_or perms u []) at.2) (permute at.0 at.1))

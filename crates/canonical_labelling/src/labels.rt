@@ -2,11 +2,12 @@
 
 ghost use Rattle.std.specs.Prelude.{◌≡◌, ◌<◌, ◌≤◌, ℕ, [], length, slice_index, IfOk};
 ghost use Rattle.std.specs.List.{slice_index_or};
+ghost use Rattle.table_definitions.specs.Permutation.{IsPermutationOfFour};
 ghost use Rattle.table_definitions.specs.Relabelling.{IsRelabelling};
 ghost use Rattle.labelling_laws.specs.Orders.{IsWholeOrder, Numbers, start_at};
 
 use crate::Start;
-use gluing_table::{Relabelling, RelabellingFault};
+use gluing_table::Relabelling;
 use no_memory::NoMemory;
 use perm_four::Perm4;
 use std::alloc::{AllocError, Global};
@@ -46,14 +47,11 @@ pub fn relabelling_of(alloc: Global, count: u32, order: &[Start]) -> Result<Rela
     requires whole { IsWholeOrder count order.now }
     requires some { 0 < length order.now }
     requires few { length order.now ≤ count }
+    requires permute { (i : ℕ) → i < length order.now → IsPermutationOfFour (start_at order.now i).perm }
     ensures bijection { IfOk result (λ by. IsRelabelling count by) }
     ensures numbers { IfOk result (λ by. Numbers order.now by) }
 {
     let images = images_of(alloc, count, order)?;
     let perms = perms_of(alloc, count, order)?;
-    match Relabelling::new(alloc, &images, &perms) {
-        Ok(relabelling) => Ok(relabelling),
-        Err(RelabellingFault::NoMemory) => Err(NoMemory),
-        Err(RelabellingFault::NotBijection { position: _ }) => unreachable!(),
-    }
+    Ok(Relabelling::from_sound(images, perms))
 }

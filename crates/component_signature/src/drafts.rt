@@ -7,7 +7,7 @@ ghost use Rattle.table_definitions.specs.Relabelling.{IsRelabelling, stand_in};
 ghost use Rattle.part_definitions.specs.SameParts.{GoesBy};
 
 use crate::split::Part;
-use gluing_table::{Relabelling, RelabellingFault};
+use gluing_table::Relabelling;
 use no_memory::NoMemory;
 use perm_four::Perm4;
 use std::alloc::Global;
@@ -69,15 +69,11 @@ impl Draft {
     }
 
     /// The relabelling as it is written, which is one.
-    pub fn relabelling(&self, alloc: Global) -> Result<Relabelling, NoMemory>
-        requires relabelling { IsRelabelling (length self.now.images) self.now }
-        requires few { length self.now.images < 2 ^ 32 }
-        ensures { IfOk result (λ by. by ≡ self.now) }
+    pub fn relabelling(self) -> Relabelling
+        requires { IsRelabelling (length self.images) self }
+        ensures { result ≡ self }
     {
-        match Relabelling::new(alloc, &self.images, &self.perms) {
-            Ok(by) => Ok(by),
-            Err(RelabellingFault::NoMemory) => Err(NoMemory),
-            Err(RelabellingFault::NotBijection { .. }) => unreachable!(),
-        }
+        let Draft { images, perms } = self;
+        Relabelling::from_sound(images, perms)
     }
 }

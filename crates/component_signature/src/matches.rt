@@ -100,6 +100,5 @@ pub fn same_parts(
         return Ok(None);
     }
     let draft = drafted(alloc, first.len(), &parts, &others)?;
-    let by = draft.relabelling(alloc)?;
-    Ok(Some(by))
+    Ok(Some(draft.relabelling()))
 }

@@ -9,7 +9,7 @@ ghost use Rattle.component_signature.specs.Components as components;
 
 use crate::components::components;
 use crate::renumbered::renumbered_rows;
-use gluing_table::{Row, Table};
+use gluing_table::Table;
 use no_memory::NoMemory;
 use std::alloc::{AllocError, Global};
 use std::marker::Model;
@@ -44,18 +44,6 @@ fn members_of(alloc: Global, classes: &[u32], class: u32) -> Result<Vec<u32>, Al
     Ok(members)
 }
 
-/// The table of these rows, which are one.
-fn table_of(alloc: Global, rows: &[Row]) -> Result<Table, NoMemory>
-    requires { IsTable rows.now }
-    ensures { IfOk result (λ table. table ≡ rows.now) }
-{
-    match Table::from_rows(alloc, rows) {
-        Ok(table) => Ok(table),
-        // the rows are a table, so only memory can be missing
-        Err(_) => Err(NoMemory),
-    }
-}
-
 /// A component as a part.
 fn part_of(alloc: Global, table: &Table, classes: &[u32], class: u32) -> Result<Part, NoMemory>
     requires table { IsTable table.now }
@@ -65,7 +53,7 @@ fn part_of(alloc: Global, table: &Table, classes: &[u32], class: u32) -> Result<
 {
     let numbers = members_of(alloc, classes, class)?;
     let rows = renumbered_rows(alloc, table, &numbers)?;
-    let table = table_of(alloc, &rows)?;
+    let table = Table::from_sound_rows(alloc, rows)?;
     Ok(Part { table, numbers })
 }
 

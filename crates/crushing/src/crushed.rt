@@ -95,9 +95,6 @@ pub fn crush(alloc: Global, table: &Table, x: &[u128]) -> Result<Table, NoMemory
 {
     let numbers = new_numbers(alloc, table, x)?;
     let rows = crushed_rows(alloc, table, x, &numbers)?;
-    match Table::from_rows(alloc, &rows) {
-        Ok(crushed) => Ok(crushed),
-        // the rows are a table, so only memory can be missing
-        Err(_) => Err(NoMemory),
-    }
+    let crushed = Table::from_sound_rows(alloc, rows)?;
+    Ok(crushed)
 }

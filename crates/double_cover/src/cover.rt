@@ -109,7 +109,7 @@ impl Cover {
         ensures carries { IfOk result (λ by. Carries by (definition.cover self.now) (definition.cover self.now)) }
     {
         let images = exchanged(alloc, self.base.len())?;
-        let by = by_images(alloc, &images)?;
+        let by = by_images(alloc, images)?;
         Ok(by)
     }
 
@@ -125,7 +125,7 @@ impl Cover {
             return Ok(None);
         };
         let images = parted(alloc, self.base.len(), signs)?;
-        let by = by_images(alloc, &images)?;
+        let by = by_images(alloc, images)?;
         Ok(Some(by))
     }
 }

@@ -8,7 +8,7 @@ ghost use Rattle.table_definitions.specs.Relabelling.{IsRelabelling};
 ghost use Rattle.cover_definitions.specs.Cover as definition;
 
 use crate::sheets::{above, other_sheet, over, sheet};
-use gluing_table::{Relabelling, RelabellingFault};
+use gluing_table::Relabelling;
 use no_memory::NoMemory;
 use perm_four::Perm4;
 use std::alloc::{AllocError, Global};
@@ -56,15 +56,10 @@ pub fn parted(alloc: Global, tets: u32, signs: &[bool]) -> Result<Vec<u32>, Allo
 }
 
 /// The relabelling by these images that keeps all vertices.
-pub fn by_images(alloc: Global, images: &[u32]) -> Result<Relabelling, NoMemory>
-    requires relabelling { IsRelabelling (length images.now) (record { images = images.now; perms = replicate (length images.now) identity }) }
-    requires few { length images.now < 2 ^ 32 }
-    ensures { IfOk result (λ by. by ≡ record { images = images.now; perms = replicate (length images.now) identity }) }
+pub fn by_images(alloc: Global, images: Vec<u32>) -> Result<Relabelling, AllocError>
+    requires { IsRelabelling (length images.items) (record { images = images.items; perms = replicate (length images.items) identity }) }
+    ensures { IfOk result (λ by. by ≡ record { images = images.items; perms = replicate (length images.items) identity }) }
 {
     let perms = vec![in alloc; Perm4::identity(); images.len()]?;
-    match Relabelling::new(alloc, images, &perms) {
-        Ok(by) => Ok(by),
-        Err(RelabellingFault::NoMemory) => Err(NoMemory),
-        Err(RelabellingFault::NotBijection { .. }) => unreachable!(),
-    }
+    Ok(Relabelling::from_sound(images, perms))
 }

@@ -88,9 +88,6 @@ pub fn cover_table(alloc: Global, table: &Table) -> Result<Table, NoMemory>
     ensures { IfOk result (λ cover. cover ≡ definition.cover table.now) }
 {
     let rows = cover_rows(alloc, table)?;
-    match Table::from_rows(alloc, &rows) {
-        Ok(cover) => Ok(cover),
-        // the rows are a table, so only memory can be missing
-        Err(_) => Err(NoMemory),
-    }
+    let cover = Table::from_sound_rows(alloc, rows)?;
+    Ok(cover)
 }

@@ -11,19 +11,16 @@ use crate::heads::head_of;
 use crate::joining::join;
 use crate::parts::read_parts;
 use crate::types::read_types;
-use gluing_table::{Row, Table, TableFault};
+use gluing_table::{Row, Table};
 use std::alloc::Global;
 
 /// The table of rows that are one.
-fn table_of(alloc: Global, rows: &[Row]) -> Result<Table, SigFault>
-    requires { IsTable rows.now }
-    ensures { Reads (λ t. t) result (Ok rows.now) }
+fn table_of(alloc: Global, rows: Vec<Row>) -> Result<Table, SigFault>
+    requires { IsTable rows.items }
+    ensures { Reads (λ t. t) result (Ok rows.items) }
 {
-    match Table::from_rows(alloc, rows) {
-        Ok(table) => Ok(table),
-        Err(TableFault::NoMemory) => Err(SigFault::NoMemory),
-        Err(_) => unreachable!(),
-    }
+    let table = Table::from_sound_rows(alloc, rows)?;
+    Ok(table)
 }
 
 /// The walk-ordered table that a text spells, or the first fault of the text: its phases are the head, the types of the
@@ -38,5 +35,5 @@ pub fn read_signature(alloc: Global, text: &[u8]) -> Result<Table, SigFault>
     let types = read_types(alloc, text, head)?;
     let parts = read_parts(alloc, text, head, types)?;
     let rows = join(alloc, &parts)?;
-    table_of(alloc, &rows)
+    table_of(alloc, rows)
 }

@@ -5,10 +5,10 @@ ghost use Rattle.move_definitions.specs.Certificates.{standard_sphere};
 ghost use Rattle.move_definitions.specs.Certificates as certificates;
 ghost use Rattle.table_definitions.specs.Permutation.{IsPermutationOfFour};
 
-use gluing_table::{Glue, Table};
+use gluing_table::{Glue, Row, Table};
 use no_memory::NoMemory;
 use perm_four::Perm4;
-use std::alloc::Global;
+use std::alloc::{AllocError, Global};
 
 /// A face of tetrahedron 0 that is glued to another one of it.
 fn to_itself(a: u8, b: u8, c: u8, d: u8) -> Option<Glue>
@@ -18,19 +18,25 @@ fn to_itself(a: u8, b: u8, c: u8, d: u8) -> Option<Glue>
     Some(Glue { tet: 0, perm })
 }
 
-/// The standard sphere: one tetrahedron, with the row `0:1023 0:1023 0:1230 0:3012`.
-pub fn standard(alloc: Global) -> Result<Table, NoMemory>
-    ensures { IfOk result (λ table. table ≡ standard_sphere) }
+/// The row of the standard sphere: `0:1023 0:1023 0:1230 0:3012`.
+fn sphere_rows(alloc: Global) -> Result<Vec<Row>, AllocError>
+    ensures { IfOk result (λ rows. rows.items ≡ standard_sphere) }
 {
-    let row = [
+    let mut rows = Vec::with_capacity(alloc, 1)?;
+    rows.push([
         to_itself(1, 0, 2, 3),
         to_itself(1, 0, 2, 3),
         to_itself(1, 2, 3, 0),
         to_itself(3, 0, 1, 2),
-    ];
-    match Table::from_rows(alloc, &[row]) {
-        Ok(table) => Ok(table),
-        // these rows are a table
-        Err(_) => Err(NoMemory),
-    }
+    ])?;
+    Ok(rows)
+}
+
+/// The standard sphere, which has one tetrahedron.
+pub fn standard(alloc: Global) -> Result<Table, NoMemory>
+    ensures { IfOk result (λ table. table ≡ standard_sphere) }
+{
+    let rows = sphere_rows(alloc)?;
+    let table = Table::from_sound_rows(alloc, rows)?;
+    Ok(table)
 }

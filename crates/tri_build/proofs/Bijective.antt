@@ -1,38 +1,14 @@
 -- Relabellings that are filled in, one tetrahedron after another.
-use Rattle.std.proofs.Common.{◌≡◌, ℕ, suc, ◌+◌, ◌<◌, ◌≤◌, Bool, true, false, List, ◌∷◌, [], ◌++◌, length, map, take, get_or, refl, sym, ap, ◌∙◌, subst, arith}
-use Rattle.std.specs.Prelude.{nat_lt}
-use Rattle.std.proofs.lemmas.Bool.{lt-ltb}
-use Rattle.std.proofs.lemmas.List.{get_or-take, length-take-le, get_or_default, ext_get_or}
+use Rattle.std.proofs.Common.{◌≡◌, ℕ, suc, ◌+◌, ◌<◌, List, ◌∷◌, [], ◌++◌, length, map, sym, ap, ◌∙◌, subst, arith}
+use Rattle.std.proofs.lemmas.List.{ext_get_or}
 use Rattle.std.proofs.lemmas.List.FromFn.{get_or-map-range_with_len, length-map-range_with_len, map-range_with_len_more}
-use Rattle.table_definitions.specs.Lists.{below, has}
+use Rattle.table_definitions.specs.Lists.{below}
 use Rattle.table_definitions.specs.Permutation.{identity}
 use Rattle.table_definitions.specs.Table.{Gluing}
 use Rattle.table_definitions.specs.Relabelling.{Relabelling, IsRelabelling, stand_in}
 use Rattle.certificate_definitions.specs.CarriedBack.{staying}
-use Rattle.gluing_table.specs.Positions.{is_bad_at, IsFirstBad}
-use Rattle.table_definitions.proofs.Bijections.{there, below-push}
-use Rattle.table_definitions.proofs.Carried.{length-images, images_apart, image_in_range}
-
-by_bool : (b : Bool) → (b ≡ true → ⊥) → (b ≡ false → ⊥) → ⊥
-by_bool true t f = t refl
-by_bool false t f = f refl
-
--- no position of a relabelling's images is bad
-pub none_bad : (n : ℕ) (by : Relabelling) (p : ℕ) → IsRelabelling n by → IsFirstBad by.images p → ⊥
-none_bad n by p h bad =
-    let long : length by.images ≡ n = length-images n by h in
-    let in_range : p < length by.images = bad.in_range in
-    let image = image_in_range n by h p (omega arith) in
-    let small : nat_lt (get_or by.images p 0) (length by.images) ≡ true = lt-ltb (get_or by.images p 0) (length by.images) (omega (arith, image)) in
-    by_bool (has (take p by.images) (get_or by.images p 0))
-    (λ stood.
-    let found = there (take p by.images) (get_or by.images p 0) stood in
-    let k : ℕ = found.0 in
-    let before : k < p = omega (arith, found.1, length-take-le p by.images (omega arith)) in
-    let value : get_or by.images p 0 ≡ get_or by.images k 0 = found.2 ∙ get_or-take p by.images k (get_or by.images p 0) before ∙ get_or_default by.images k (get_or by.images p 0) 0 (omega arith) in
-    let same : p ≡ k = images_apart n by h p k (omega arith) (omega arith) value in
-    omega arith)
-    (λ new. let b = bad.bad in let never : is_bad_at by.images p ≡ false = rw (small, new) refl in cc)
+use Rattle.table_definitions.proofs.Bijections.{below-push}
+use Rattle.table_definitions.proofs.Carried.{length-images}
 
 -- what stands for each tetrahedron makes a relabelling
 pub made_of : (n : ℕ) (f : ℕ → Gluing) (by : Relabelling) → IsRelabelling n by → ((t : ℕ) → t < n → stand_in by t ≡ f t) → record { images = map (λ t. (f t).tet) (below n); perms = map (λ t. (f t).perm) (below n) } ≡ by
@@ -59,9 +35,6 @@ pub is_one : (n : ℕ) (by : Relabelling) (images : List ℕ) (perms : List (Lis
 is_one n by images perms h e =
     let long : length images ≡ n = ap (λ (r : Relabelling). length r.images) e ∙ length-images n by h in
     subst (λ k. IsRelabelling k (record { images = images; perms = perms })) (sym long) (subst (IsRelabelling n) (sym e) h)
-
-pub few_of : (n : ℕ) (by : Relabelling) (images : List ℕ) (perms : List (List ℕ)) → IsRelabelling n by → record { images = images; perms = perms } ≡ by → n ≤ 1000 → length images ≤ 1000
-few_of n by images perms h e l = let long : length images ≡ n = ap (λ (r : Relabelling). length r.images) e ∙ length-images n by h in omega arith
 
 -- each tetrahedron stays
 

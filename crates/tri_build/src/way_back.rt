@@ -14,24 +14,11 @@ use crate::carrying::move_under;
 use crate::labels::labels_back;
 use crate::standing::{Back, stands_at};
 use crate::steps::Step;
-use gluing_table::{Relabelling, RelabellingFault, Table};
+use gluing_table::{Relabelling, Table};
 use no_memory::NoMemory;
 use pachner_moves::{Move, apply, legal};
 use perm_four::Perm4;
 use std::alloc::Global;
-
-/// The relabelling with these images and permutations, where there is one.
-fn relabelling_of(alloc: Global, images: &[u32], perms: &[Perm4]) -> Result<Relabelling, NoMemory>
-    requires few { length images.now ≤ max_tets }
-    requires bijection { IsRelabelling (length images.now) (record { images = images.now; perms = perms.now }) }
-    ensures { IfOk result (λ by. by ≡ record { images = images.now; perms = perms.now }) }
-{
-    match Relabelling::new(alloc, images, perms) {
-        Ok(by) => Ok(by),
-        Err(RelabellingFault::NoMemory) => Err(NoMemory),
-        Err(RelabellingFault::NotBijection { position: _ }) => unreachable!(),
-    }
-}
 
 /// The relabelling by which each tetrahedron goes to what stands for it.
 fn carried_back(
@@ -53,7 +40,7 @@ fn carried_back(
         images.push(stands.tet)?;
         perms.push(stands.perm)?;
     }
-    relabelling_of(alloc, &images, &perms)
+    Ok(Relabelling::from_sound(images, perms))
 }
 
 /// The move back of a step, with what it takes out.
@@ -114,7 +101,7 @@ fn staying(alloc: Global, count: u32) -> Result<Relabelling, NoMemory>
         images.push(tet)?;
         perms.push(Perm4::identity())?;
     }
-    relabelling_of(alloc, &images, &perms)
+    Ok(Relabelling::from_sound(images, perms))
 }
 
 /// The moves back of steps that led to a table, from the last step to the first.

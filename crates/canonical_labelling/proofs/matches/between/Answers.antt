@@ -1,4 +1,4 @@
-use Rattle.std.proofs.Common.{◌≡◌, ℕ, length, List, sym, ap, ◌∙◌, arith}
+use Rattle.std.proofs.Common.{ℕ, length, List, ap, ◌∙◌, arith}
 use Rattle.table_definitions.proofs.Carried.{length-images}
 use Rattle.labelling_laws.specs.Between.{perms_between}
 use Rattle.labelling_laws.proofs.Matching.{olds_by, listed_range, listed_between}
@@ -27,24 +27,15 @@ perms_of-requires-clause-few c =
     let few = c.requires.few in
     omega (arith, long, few)
 
-pub relabelling_of-requires-clause-relabelling : goal.relabelling_of-requires-clause-relabelling
-relabelling_of-requires-clause-relabelling c =
+pub from_sound-requires : goal.from_sound-requires
+from_sound-requires c =
     let olds = olds_by (length c.args.first.now.images) c.args.second.now c.in_ok-olds.olds.items c.deref.result.now c.requires.second c.deref.ensures.value c.in_ok-olds.ensures.length c.in_ok-olds.ensures.back in
-    let same : c.deref-2.result.now ≡ c.deref-3.result.now = c.deref-2.ensures.value ∙ sym c.deref-3.ensures.value in
-    (listed_between c.args.first.now c.args.second.now c.deref.result.now c.deref-3.result.now c.deref-4.result.now c.requires.first c.requires.second olds (c.deref-3.ensures.value ∙ c.in_ok-images.ensures)
-    (c.deref-4.ensures.value ∙ c.in_ok-perms.ensures ∙ ap (λ (xs : List ℕ). perms_between c.args.first.now c.args.second.now xs) same)).0
-
-pub relabelling_of-requires-clause-few : goal.relabelling_of-requires-clause-few
-relabelling_of-requires-clause-few c =
-    let olds = olds_by (length c.args.first.now.images) c.args.second.now c.in_ok-olds.olds.items c.deref.result.now c.requires.second c.deref.ensures.value c.in_ok-olds.ensures.length c.in_ok-olds.ensures.back in
-    let long = (listed_range c.args.first.now c.args.second.now c.deref.result.now c.deref-3.result.now c.requires.first c.requires.second olds (c.deref-3.ensures.value ∙ c.in_ok-images.ensures)).0 in
-    let few = c.requires.few in
-    omega (arith, long, few)
+    (listed_between c.args.first.now c.args.second.now c.deref.result.now c.in_ok-images.images.items c.in_ok-perms.perms.items c.requires.first c.requires.second olds c.in_ok-images.ensures
+    (c.in_ok-perms.ensures ∙ ap (λ (xs : List ℕ). perms_between c.args.first.now c.args.second.now xs) c.deref-2.ensures.value)).0
 
 pub returns : goal.returns
 returns c =
     let olds = olds_by (length c.args.first.now.images) c.args.second.now c.in_ok-olds.olds.items c.deref.result.now c.requires.second c.deref.ensures.value c.in_ok-olds.ensures.length c.in_ok-olds.ensures.back in
-    let same : c.deref-2.result.now ≡ c.deref-3.result.now = c.deref-2.ensures.value ∙ sym c.deref-3.ensures.value in
-    c.in_ok-by.ensures
-    ∙ (listed_between c.args.first.now c.args.second.now c.deref.result.now c.deref-3.result.now c.deref-4.result.now c.requires.first c.requires.second olds (c.deref-3.ensures.value ∙ c.in_ok-images.ensures)
-    (c.deref-4.ensures.value ∙ c.in_ok-perms.ensures ∙ ap (λ (xs : List ℕ). perms_between c.args.first.now c.args.second.now xs) same)).1
+    c.from_sound.ensures
+    ∙ (listed_between c.args.first.now c.args.second.now c.deref.result.now c.in_ok-images.images.items c.in_ok-perms.perms.items c.requires.first c.requires.second olds c.in_ok-images.ensures
+    (c.in_ok-perms.ensures ∙ ap (λ (xs : List ℕ). perms_between c.args.first.now c.args.second.now xs) c.deref-2.ensures.value)).1

@@ -21,8 +21,8 @@ returns-then-not-agree-clause-none c =
     c.in_ok-parts.ensures.is_table c.in_ok-others.ensures.is_table c.in_ok-parts.ensures.parts c.in_ok-others.ensures.parts c.in_ok-parts.ensures.order c.in_ok-others.ensures.order
     (λ e. let t : IsTrue c.agree.result = c.agree.ensures.1 (subst₂ Agree (sym c.deref.ensures.value) (sym c.deref-2.ensures.value) e) in let f = c.if-not-agree.true in cc)
 
-pub relabelling-requires-clause-relabelling : goal.relabelling-requires-clause-relabelling
-relabelling-requires-clause-relabelling c =
+pub relabelling-requires : goal.relabelling-requires
+relabelling-requires c =
     let agree : Agree c.in_ok-parts.parts.signed.items c.in_ok-others.others.signed.items = subst₂ Agree c.deref.ensures.value c.deref-2.ensures.value (c.agree.ensures.0 (let f = c.if-not-agree.false in cc)) in
     subst (λ n. IsRelabelling n c.in_ok-draft.draft) (sym (c.in_ok-draft.ensures.images ∙ c.len.ensures.value))
     (relabelling_of c.args.first.now c.args.second.now c.in_ok-parts.parts.parts.items c.in_ok-others.others.parts.items c.in_ok-parts.parts.signed.items c.in_ok-others.others.signed.items
@@ -32,7 +32,7 @@ relabelling-requires-clause-relabelling c =
 pub returns-clause-told : goal.returns-clause-told
 returns-clause-told c =
     let agree : Agree c.in_ok-parts.parts.signed.items c.in_ok-others.others.signed.items = subst₂ Agree c.deref.ensures.value c.deref-2.ensures.value (c.agree.ensures.0 (let f = c.if-not-agree.false in cc)) in
-    subst (IsSameParts c.args.first.now c.args.second.now) (sym c.in_ok-by.ensures)
+    subst (IsSameParts c.args.first.now c.args.second.now) (sym c.relabelling.ensures)
     (told_of c.args.first.now c.args.second.now c.in_ok-parts.parts.parts.items c.in_ok-others.others.parts.items c.in_ok-parts.parts.signed.items c.in_ok-others.others.signed.items
     c.in_ok-parts.ensures.is_table c.in_ok-others.ensures.is_table c.in_ok-parts.ensures.parts c.in_ok-others.ensures.parts c.in_ok-parts.ensures.order c.in_ok-others.ensures.order agree
     c.in_ok-draft.draft (c.in_ok-draft.ensures.images ∙ c.len.ensures.value) (c.in_ok-draft.ensures.perms ∙ c.len.ensures.value) c.in_ok-draft.ensures.written)
@@ -40,10 +40,10 @@ returns-clause-told c =
 pub returns-clause-relabels : goal.returns-clause-relabels
 returns-clause-relabels c =
     let agree : Agree c.in_ok-parts.parts.signed.items c.in_ok-others.others.signed.items = subst₂ Agree c.deref.ensures.value c.deref-2.ensures.value (c.agree.ensures.0 (let f = c.if-not-agree.false in cc)) in
-    subst (Relabels c.args.first.now c.args.second.now) (sym c.in_ok-by.ensures)
+    subst (Relabels c.args.first.now c.args.second.now) (sym c.relabelling.ensures)
     (relabels_of c.args.first.now c.args.second.now c.in_ok-parts.parts.parts.items c.in_ok-others.others.parts.items c.in_ok-parts.parts.signed.items c.in_ok-others.others.signed.items
     c.in_ok-parts.ensures.is_table c.in_ok-others.ensures.is_table c.in_ok-parts.ensures.parts c.in_ok-others.ensures.parts c.in_ok-parts.ensures.order c.in_ok-others.ensures.order agree
     c.in_ok-draft.draft (c.in_ok-draft.ensures.images ∙ c.len.ensures.value) (c.in_ok-draft.ensures.perms ∙ c.len.ensures.value) c.in_ok-draft.ensures.written)
 
 pub returns-clause-size : goal.returns-clause-size
-returns-clause-size c = ap (λ (by : Relabelling). length by.images) c.in_ok-by.ensures ∙ c.in_ok-draft.ensures.images ∙ c.len.ensures.value
+returns-clause-size c = ap (λ (by : Relabelling). length by.images) c.relabelling.ensures ∙ c.in_ok-draft.ensures.images ∙ c.len.ensures.value

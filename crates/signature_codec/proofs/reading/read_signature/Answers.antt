@@ -60,7 +60,7 @@ table_of-requires c =
     let fit = parts_fit c.args.text.now h (types_shown c.in_ok-types.types) c.in_ok-types.types.next (parts_shown c.in_ok-parts.parts) c.in_ok-head.ensures.few c.in_ok-types.ensures.reads c.in_ok-parts.ensures.reads in
     let fits : 0 < n → IsSlots n (slots_begun n (parts_shown c.in_ok-parts.parts)) = rw c.in_ok-parts.ensures.count fit in
     let few : n ≤ 1000 = rw c.in_ok-parts.ensures.count c.in_ok-head.ensures.few in
-    subst IsTable (sym c.deref.ensures.value) (joined_table n (parts_shown c.in_ok-parts.parts) c.in_ok-rows.rows.items few fits c.in_ok-rows.ensures)
+    joined_table n (parts_shown c.in_ok-parts.parts) c.in_ok-rows.rows.items few fits c.in_ok-rows.ensures
 
 pub returns-clause-reads : goal.returns-clause-reads
 returns-clause-reads c =
@@ -68,7 +68,7 @@ returns-clause-reads c =
     let P : Result (List Row) SigFault → Type 0 = λ q. Reads (λ t. t) c.table_of.result q in
     let spelled = signature_table-joined c.args.text.now h (types_shown c.in_ok-types.types) c.in_ok-types.types.next (parts_shown c.in_ok-parts.parts) c.in_ok-parts.parts.count
     c.in_ok-head.ensures.reads c.in_ok-types.ensures.reads c.in_ok-parts.ensures.reads c.in_ok-parts.ensures.count in
-    subst P (ap Ok c.deref.ensures.value ∙ sym c.in_ok-rows.ensures ∙ spelled) c.table_of.ensures
+    subst P (sym c.in_ok-rows.ensures ∙ spelled) c.table_of.ensures
 
 pub returns-clause-spelled : goal.returns-clause-spelled
 returns-clause-spelled c = spelled_on_ok c.table_of.result c.args.text.now (returns-clause-reads c)

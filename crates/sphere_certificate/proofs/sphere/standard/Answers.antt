@@ -1,8 +1,8 @@
--- The rows that are written are those of the standard sphere.
-use Rattle.std.proofs.Common.{◌∙◌}
-use Rattle.sphere_certificate.proofs.SphereRow.{row_is}
+-- The row of the standard sphere is a table.
+use Rattle.std.proofs.Common.{sym, subst}
+use Rattle.table_definitions.specs.Table.{IsTable}
+use Rattle.certificate_laws.proofs.Sphere.{sphere_table}
 use Rattle.sphere_certificate.proofs.sphere.standard.Goals as goal
 
-pub returns-in-Ok : goal.returns-in-Ok
-returns-in-Ok c =
-    c.in-Ok.ensures.table ∙ row_is c.to_itself.result c.to_itself-2.result c.to_itself-3.result c.to_itself-4.result c.to_itself.ensures c.to_itself-2.ensures c.to_itself-3.ensures c.to_itself-4.ensures
+pub from_sound_rows-requires : goal.from_sound_rows-requires
+from_sound_rows-requires c = subst IsTable (sym c.in_ok-rows.ensures) sphere_table

@@ -3,8 +3,8 @@ use Rattle.std.proofs.Common.{◌≡◌, ap, ◌∙◌, arith}
 use Rattle.table_definitions.specs.Table.{Gluing}
 use Rattle.tri_build.specs.Steps.{Step}
 use Rattle.tri_build.specs.Standing.{stands_at}
-use Rattle.tri_build.proofs.Bijective.{one_more, is_one, few_of}
-use Rattle.tri_build.proofs.Led.{filled_in, ok_goes}
+use Rattle.tri_build.proofs.Bijective.{one_more, is_one}
+use Rattle.tri_build.proofs.Led.{filled_in}
 use Rattle.tri_build.proofs.way_back.carried_back.Goals as goal
 
 pub loop-tet-preserved : goal.loop-tet-preserved
@@ -14,24 +14,15 @@ loop-tet-preserved c =
       one_more (λ t. (stands_at c.args.step.now c.args.back.now c.args.on.now t).perm) c.loop-tet.perms.items c.push-in-loop-tet.new.self.items c.loop-tet.tet _ c.loop-tet.invariant.1 c.in_ok-push-2.ensures.items (ap (λ (g : Gluing). g.perm) stands),
     )
 
-pub relabelling_of-requires-clause-few : goal.relabelling_of-requires-clause-few
-relabelling_of-requires-clause-few c =
+pub from_sound-requires : goal.from_sound-requires
+from_sound-requires c =
     let s = c.requires.some.1 in
     let end : c.loop-tet.tet ≡ c.args.step.now.tets = omega (arith, ap (λ (x : Step). x.tets) c.step.view_is) in
-    few_of c.args.step.now.tets c.requires.some.0 c.deref.result.now c.deref-2.result.now s.relabels
-    (filled_in c.args.step.now c.args.back.now c.args.on.now c.requires.some.0 c.loop-tet.tet c.deref.result.now c.deref-2.result.now s end (c.deref.ensures.value ∙ c.loop-tet.invariant.0) (c.deref-2.ensures.value ∙ c.loop-tet.invariant.1))
-    c.requires.few
-
-pub relabelling_of-requires-clause-bijection : goal.relabelling_of-requires-clause-bijection
-relabelling_of-requires-clause-bijection c =
-    let s = c.requires.some.1 in
-    let end : c.loop-tet.tet ≡ c.args.step.now.tets = omega (arith, ap (λ (x : Step). x.tets) c.step.view_is) in
-    is_one c.args.step.now.tets c.requires.some.0 c.deref.result.now c.deref-2.result.now s.relabels
-    (filled_in c.args.step.now c.args.back.now c.args.on.now c.requires.some.0 c.loop-tet.tet c.deref.result.now c.deref-2.result.now s end (c.deref.ensures.value ∙ c.loop-tet.invariant.0) (c.deref-2.ensures.value ∙ c.loop-tet.invariant.1))
+    is_one c.args.step.now.tets c.requires.some.0 c.loop-tet.images.items c.loop-tet.perms.items s.relabels
+    (filled_in c.args.step.now c.args.back.now c.args.on.now c.requires.some.0 c.loop-tet.tet c.loop-tet.images.items c.loop-tet.perms.items s end c.loop-tet.invariant.0 c.loop-tet.invariant.1)
 
 pub returns : goal.returns
 returns c =
     let end : c.loop-tet.tet ≡ c.args.step.now.tets = omega (arith, ap (λ (x : Step). x.tets) c.step.view_is) in
-    ok_goes c.relabelling_of.result
-    (λ r e by s. e ∙ filled_in c.args.step.now c.args.back.now c.args.on.now by c.loop-tet.tet c.deref.result.now c.deref-2.result.now s end (c.deref.ensures.value ∙ c.loop-tet.invariant.0) (c.deref-2.ensures.value ∙ c.loop-tet.invariant.1))
-    c.relabelling_of.ensures
+    λ by s. c.from_sound.ensures
+    ∙ filled_in c.args.step.now c.args.back.now c.args.on.now by c.loop-tet.tet c.loop-tet.images.items c.loop-tet.perms.items s end c.loop-tet.invariant.0 c.loop-tet.invariant.1
