@@ -1,10 +1,12 @@
 -- What was answered is what is to be told.
 use Rattle.std.proofs.Common.{◌≡◌, ◌≢◌, ℕ, List, Option, None, Some, inl, inr, MatchOption, subst, sym, ap, ◌∙◌}
+use Rattle.no_memory.specs.declared.Failure.{Failure}
+use Rattle.no_memory.specs.declared.Failure.TheVariants.{Fault}
+use Rattle.no_memory.specs.Failures.{IfFault}
 use Rattle.table_definitions.specs.Table.{Row}
 use Rattle.table_definitions.specs.Places.{IsLeastUnreached}
 use Rattle.skeleton_definitions.specs.Skeleton.{Skeleton, IsSkeleton}
 use Rattle.cover_definitions.specs.declared.CoverFault.{CoverFault}
-use Rattle.cover_definitions.specs.declared.CoverFault.TheVariants as faults
 use Rattle.cover_definitions.specs.declared.CoverFault.TheVariants.{TooMany}
 use Rattle.cover_definitions.specs.Cover.{cover_fault}
 use Rattle.group_definitions.specs.declared.GroupFault.{GroupFault}
@@ -23,9 +25,9 @@ pub cover_answer : (rows base : List Row) (o : Outcome) → base ≡ rows → co
 cover_answer rows base o e fits t =
     subst (λ (f : Option CoverFault). MatchOption f (IsCoverTold rows o) (λ _. o ≡ large_cover_outcome)) (sym fits) (subst (λ (b : List Row). IsCoverTold b o) e t)
 
-pub large_answer : (rows base : List Row) (fault : CoverFault) (o : Outcome) → base ≡ rows → fault ≡ TooMany → (fault ≢ faults.NoMemory → cover_fault base ≡ Some fault) → o ≡ large_cover_outcome → IsCoverAnswer rows o
-large_answer rows base fault o e same is told =
-    subst (λ (f : Option CoverFault). MatchOption f (IsCoverTold rows o) (λ _. o ≡ large_cover_outcome)) (sym (ap cover_fault (sym e) ∙ is (λ z. let w : TooMany ≡ faults.NoMemory = sym same ∙ z in cc))) told
+pub large_answer : (rows : List Row) (e : Failure CoverFault) (o : Outcome) → e ≡ Fault TooMany → IfFault e (λ f. cover_fault rows ≡ Some f) → o ≡ large_cover_outcome → IsCoverAnswer rows o
+large_answer rows e o same is told =
+    subst (λ (f : Option CoverFault). MatchOption f (IsCoverTold rows o) (λ _. o ≡ large_cover_outcome)) (sym (subst (λ (e : Failure CoverFault). IfFault e (λ f. cover_fault rows ≡ Some f)) same is)) told
 
 -- ---- presentations
 
