@@ -1,14 +1,16 @@
 -- What was answered is what is to be told.
-use Rattle.std.proofs.Common.{◌≡◌, ◌≢◌, ℕ, List, Option, None, Some, inl, inr, MatchOption, subst, sym, ap, ◌∙◌}
+use Rattle.std.proofs.Common.{◌≡◌, ℕ, List, Option, None, Some, inl, inr, MatchOption, subst, sym, ap, ◌∙◌}
+use Rattle.no_memory.specs.declared.Failure.{Failure}
+use Rattle.no_memory.specs.declared.Failure.TheVariants.{Fault}
+use Rattle.no_memory.specs.Failures.{IfFault}
 use Rattle.table_definitions.specs.Table.{Row}
 use Rattle.table_definitions.specs.Places.{IsLeastUnreached}
 use Rattle.skeleton_definitions.specs.Skeleton.{Skeleton, IsSkeleton}
 use Rattle.cover_definitions.specs.declared.CoverFault.{CoverFault}
-use Rattle.cover_definitions.specs.declared.CoverFault.TheVariants as faults
 use Rattle.cover_definitions.specs.declared.CoverFault.TheVariants.{TooMany}
 use Rattle.cover_definitions.specs.Cover.{cover_fault}
 use Rattle.group_definitions.specs.declared.GroupFault.{GroupFault}
-use Rattle.group_definitions.specs.declared.GroupFault.TheVariants.{NoMemory, NotConnected, InvalidEdge}
+use Rattle.group_definitions.specs.declared.GroupFault.TheVariants.{NotConnected, InvalidEdge}
 use Rattle.group_definitions.specs.Groups.{IsGroupFault}
 use Rattle.vector_definitions.specs.Texts.{invalid_edge_line}
 use Rattle.outcome_definitions.specs.declared.Status.TheVariants.{Refused}
@@ -23,22 +25,22 @@ pub cover_answer : (rows base : List Row) (o : Outcome) → base ≡ rows → co
 cover_answer rows base o e fits t =
     subst (λ (f : Option CoverFault). MatchOption f (IsCoverTold rows o) (λ _. o ≡ large_cover_outcome)) (sym fits) (subst (λ (b : List Row). IsCoverTold b o) e t)
 
-pub large_answer : (rows base : List Row) (fault : CoverFault) (o : Outcome) → base ≡ rows → fault ≡ TooMany → (fault ≢ faults.NoMemory → cover_fault base ≡ Some fault) → o ≡ large_cover_outcome → IsCoverAnswer rows o
-large_answer rows base fault o e same is told =
-    subst (λ (f : Option CoverFault). MatchOption f (IsCoverTold rows o) (λ _. o ≡ large_cover_outcome)) (sym (ap cover_fault (sym e) ∙ is (λ z. let w : TooMany ≡ faults.NoMemory = sym same ∙ z in cc))) told
+pub large_answer : (rows : List Row) (e : Failure CoverFault) (o : Outcome) → e ≡ Fault TooMany → IfFault e (λ f. cover_fault rows ≡ Some f) → o ≡ large_cover_outcome → IsCoverAnswer rows o
+large_answer rows e o same is told =
+    subst (λ (f : Option CoverFault). MatchOption f (IsCoverTold rows o) (λ _. o ≡ large_cover_outcome)) (sym (subst (λ (e : Failure CoverFault). IfFault e (λ f. cover_fault rows ≡ Some f)) same is)) told
 
 -- ---- presentations
 
-pub not_connected_answer : (rows : List Row) (s : Skeleton) (e : GroupFault) (tet : ℕ) (o : Outcome) → s.rows ≡ rows → IsSkeleton s → e ≡ NotConnected tet → (e ≢ NoMemory → IsGroupFault s e)
+pub not_connected_answer : (rows : List Row) (s : Skeleton) (e : Failure GroupFault) (tet : ℕ) (o : Outcome) → s.rows ≡ rows → IsSkeleton s → e ≡ Fault (NotConnected tet) → IfFault e (IsGroupFault s)
     → o ≡ not_connected_outcome 0 tet → IsPresentationAnswer rows o
 not_connected_answer rows s e tet o of_rows h same fault told = record { skeleton = s; of_rows = of_rows; is_skeleton = h; told = inl (tet, least, told) }
   where
     least : IsLeastUnreached s.rows tet
-    least = subst (IsGroupFault s) same (fault (λ z. let w : NotConnected tet ≡ NoMemory = sym same ∙ z in cc))
+    least = subst (λ (e : Failure GroupFault). IfFault e (IsGroupFault s)) same fault
 
-pub invalid_answer : (rows : List Row) (s : Skeleton) (e : GroupFault) (class : ℕ) (o : Outcome) → s.rows ≡ rows → IsSkeleton s → e ≡ InvalidEdge class → (e ≢ NoMemory → IsGroupFault s e)
+pub invalid_answer : (rows : List Row) (s : Skeleton) (e : Failure GroupFault) (class : ℕ) (o : Outcome) → s.rows ≡ rows → IsSkeleton s → e ≡ Fault (InvalidEdge class) → IfFault e (IsGroupFault s)
     → o ≡ record { status = Refused; text = invalid_edge_line class } → IsPresentationAnswer rows o
 invalid_answer rows s e class o of_rows h same fault told = record { skeleton = s; of_rows = of_rows; is_skeleton = h; told = inr (inl (found.0, (class, found.1, told))) }
   where
     found : IsGroupFault s (InvalidEdge class)
-    found = subst (IsGroupFault s) same (fault (λ z. let w : InvalidEdge class ≡ NoMemory = sym same ∙ z in cc))
+    found = subst (λ (e : Failure GroupFault). IfFault e (IsGroupFault s)) same fault

@@ -14,7 +14,7 @@ use crate::presentation::presentation_text;
 use command_answers::{
     Outcome, fault_outcome, invalid_edge_outcome, not_connected_outcome, read_table_document,
 };
-use edge_group::{Group, GroupFault};
+use edge_group::{Failure, Group, GroupFault};
 use gluing_table::Table;
 use no_memory::NoMemory;
 use outcome_definitions::Status;
@@ -36,9 +36,13 @@ fn answer_by(alloc: Global, skeleton: &Skeleton) -> Result<Outcome, NoMemory>
 {
     match Group::of(alloc, skeleton) {
         Ok(group) => told(alloc, &group),
-        Err(GroupFault::NotConnected { tet }) => not_connected_outcome(alloc, 0, tet),
-        Err(GroupFault::InvalidEdge { class }) => invalid_edge_outcome(alloc, class),
-        Err(GroupFault::NoMemory) => Err(NoMemory),
+        Err(Failure::Fault(GroupFault::NotConnected { tet })) => {
+            not_connected_outcome(alloc, 0, tet)
+        }
+        Err(Failure::Fault(GroupFault::InvalidEdge { class })) => {
+            invalid_edge_outcome(alloc, class)
+        }
+        Err(Failure::NoMemory) => Err(NoMemory),
     }
 }
 

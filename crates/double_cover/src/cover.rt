@@ -1,7 +1,8 @@
 //! Double covers.
 
-ghost use Rattle.std.specs.Prelude.{◌≡◌, ◌≢◌, ◌*◌, ◌<◌, ◌≤◌, length, Some, None, IfOk, IfErr, OnOk, IfSome};
+ghost use Rattle.std.specs.Prelude.{◌≡◌, ◌*◌, ◌<◌, ◌≤◌, length, Some, None, IfOk, IfErr, OnOk, IfSome};
 ghost use Rattle.std.specs.Option.{option_copied, option_map};
+ghost use Rattle.no_memory.specs.Failures.{IfFault};
 ghost use Rattle.table_definitions.specs.Table.{IsTable};
 ghost use Rattle.table_definitions.specs.Relabelling.{Carries};
 ghost use Rattle.skeleton_definitions.specs.Orientation.{AreSigns};
@@ -13,7 +14,7 @@ use crate::rows::cover_table;
 use crate::sheets;
 use cover_definitions::CoverFault;
 use gluing_table::{MAX_TETS, Relabelling, Table};
-use no_memory::NoMemory;
+use no_memory::{Failure, NoMemory};
 use skeleton::Skeleton;
 use std::alloc::{AllocError, Global};
 use std::marker::Model;
@@ -58,14 +59,14 @@ impl Cover {
     /// The orientable double cover of a table: a tetrahedron on each of two sheets over each of the table's. Over an odd
     /// gluing the sheet stays, and over an even one it changes (the orientation cover of a triangulation, as in Regina's
     /// `makeDoubleCover`). Refused as `TooMany` exactly where the cover would have more than [`MAX_TETS`] tetrahedra.
-    pub fn of(alloc: Global, skeleton: &Skeleton) -> Result<Cover, CoverFault>
+    pub fn of(alloc: Global, skeleton: &Skeleton) -> Result<Cover, Failure<CoverFault>>
         ensures cover { IfOk result (λ c. c ≡ skeleton.now.rows) }
         ensures fits { OnOk result (definition.cover_fault skeleton.now.rows ≡ None) }
-        ensures fault { IfErr result (λ e. e ≢ CoverFault.NoMemory → definition.cover_fault skeleton.now.rows ≡ Some e) }
+        ensures fault { IfErr result (λ e. IfFault e (λ f. definition.cover_fault skeleton.now.rows ≡ Some f)) }
     {
         let base = skeleton.table();
         if 2 * base.len() > MAX_TETS {
-            return Err(CoverFault::TooMany);
+            return Err(Failure::Fault(CoverFault::TooMany));
         }
         let table = cover_table(alloc, base)?;
         let signs = copied(alloc, skeleton.orientation())?;

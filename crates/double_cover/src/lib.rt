@@ -8,3 +8,4 @@ mod sheets;
 
 pub use cover::Cover;
 pub use cover_definitions::CoverFault;
+pub use no_memory::Failure;

@@ -1,7 +1,8 @@
 //! Groups of tables.
 
-ghost use Rattle.std.specs.Prelude.{◌≡◌, ◌≢◌, ◌-◌, ◌<◌, ◌≤◌, ◌↔◌, length, slice_index, false, [], None, IsNone, IfOk, IfErr, OnOk};
+ghost use Rattle.std.specs.Prelude.{◌≡◌, ◌-◌, ◌<◌, ◌≤◌, ◌↔◌, length, slice_index, false, [], None, IsNone, IfOk, IfErr, OnOk};
 ghost use Rattle.std.specs.List.{slice_index_or};
+ghost use Rattle.no_memory.specs.Failures.{IfFault};
 ghost use Rattle.table_definitions.specs.Places.{IsConnected};
 ghost use Rattle.skeleton_definitions.specs.Skeleton.{IsSkeleton};
 ghost use Rattle.group_definitions.specs.Groups.{IsGroup, HasGroup, IsGroupFault};
@@ -12,7 +13,7 @@ use crate::tree::shortest_tree;
 use crate::turning::turning;
 use gluing_table::Face;
 use group_definitions::{GroupFault, Letter};
-use no_memory::NoMemory;
+use no_memory::{Failure, NoMemory};
 use skeleton::Skeleton;
 use std::alloc::Global;
 use std::marker::Model;
@@ -74,17 +75,17 @@ impl Group {
     /// tetrahedron 0 by the shortest ways, and there is a relator round each inner edge class. Refused as
     /// `NotConnected` exactly where a tetrahedron isn't reached, with the least, and else as `InvalidEdge` exactly
     /// where an edge class is invalid, with the least.
-    pub fn of(alloc: Global, skeleton: &Skeleton) -> Result<Group, GroupFault>
+    pub fn of(alloc: Global, skeleton: &Skeleton) -> Result<Group, Failure<GroupFault>>
         ensures group { IfOk result (IsGroup skeleton.now) }
         ensures size { IfOk result (λ g. length g.tree ≡ length skeleton.now.rows) }
         ensures has_group { OnOk result (HasGroup skeleton.now) }
-        ensures fault { IfErr result (λ e. e ≢ GroupFault.NoMemory → IsGroupFault skeleton.now e) }
+        ensures fault { IfErr result (λ e. IfFault e (IsGroupFault skeleton.now)) }
     {
         if let Some(tet) = skeleton.table().unreached(alloc)? {
-            return Err(GroupFault::NotConnected { tet });
+            return Err(Failure::Fault(GroupFault::NotConnected { tet }));
         }
         if let Some(class) = skeleton.first_invalid() {
-            return Err(GroupFault::InvalidEdge { class });
+            return Err(Failure::Fault(GroupFault::InvalidEdge { class }));
         }
         let group = presented(alloc, skeleton)?;
         Ok(group)

@@ -11,3 +11,4 @@ mod turning;
 
 pub use group::Group;
 pub use group_definitions::{GroupFault, Letter};
+pub use no_memory::Failure;

@@ -5,7 +5,7 @@ use Rattle.table_definitions.specs.Table.{Row, Face}
 use Rattle.table_definitions.specs.Places.{IsConnected, IsLeastUnreached}
 use Rattle.skeleton_definitions.specs.Skeleton.{Skeleton, IsFirstInvalid}
 use Rattle.group_definitions.specs.declared.GroupFault.{GroupFault}
-use Rattle.group_definitions.specs.declared.GroupFault.TheVariants.{NoMemory, NotConnected, InvalidEdge}
+use Rattle.group_definitions.specs.declared.GroupFault.TheVariants.{NotConnected, InvalidEdge}
 use Rattle.group_definitions.specs.Trees.{IsTreeFace}
 use Rattle.group_definitions.specs.Presentations.{Presentation, IsPresentation}
 
@@ -35,6 +35,5 @@ pub record HasGroup (s : Skeleton) : Type 0 where
 
 -- why there is none: a table that isn't connected comes before an invalid edge class
 abbrev pub IsGroupFault : Skeleton → GroupFault → Type 0
-IsGroupFault s NoMemory = ⊥
 IsGroupFault s (NotConnected tet) = IsLeastUnreached s.rows tet
 IsGroupFault s (InvalidEdge class) = IsConnected s.rows × IsFirstInvalid s (Some class)

@@ -50,7 +50,6 @@ some_crush d table =
 module _ (s : Skeleton) (k : IsSkeleton s) (equations : List EquationRow) where
   lifted_as : (xs : List ℕ) → IsFit Quad s.rows equations xs → (a : Result (List ℕ) LiftFault) → IsLiftAnswer limit s xs a → (r : Result (List ℕ) Refusal) × IsLifted s equations xs r
   lifted_as xs fit (Ok ys) h = (Ok ys, (fit, h))
-  lifted_as xs fit (Err lift_faults.NoMemory) h = absurd h
   lifted_as xs fit (Err lift_faults.Large) h = (Err LargeLift, (fit, h))
   lifted_as xs fit (Err (lift_faults.NoLift c)) h = (Err (NoLift c), (fit, h))
 
@@ -89,7 +88,6 @@ module _ (s : Skeleton) (k : IsSkeleton s) (coords : Coords) (triangles : coords
       → IsPiecesAnswer s.rows coords xs a → Told xs
   by_pieces xs fit none (Ok components) h =
       (Ok (record { vector = xs; properties = properties xs; components = components }), (fit, refl, (none, are_properties xs), h))
-  by_pieces xs fit none (Err pieces_faults.NoMemory) h = absurd h
   by_pieces xs fit none (Err (pieces_faults.TooManyPieces n)) h = (Err (TooManyPieces n), (fit, none, h))
 
   by_sums : (xs : List ℕ) → IsFit coords s.rows equations xs → (o : Option Sum) → first_large limit s coords xs ≡ o → Told xs

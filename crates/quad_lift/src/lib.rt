@@ -9,4 +9,5 @@ mod lows;
 mod sums;
 
 pub use lifting::{lift, project};
+pub use no_memory::Failure;
 pub use vector_definitions::LiftFault;

@@ -1,6 +1,7 @@
 //! The lift of a quad vector, and the quads of a standard vector.
 
-ghost use Rattle.std.specs.Prelude.{◌≡◌, ◌≢◌, ◌+◌, ◌*◌, ◌<◌, ◌≤◌, ◌^◌, length, sum, slice_index, Result, Ok, Err, ℕ, IfOk, IfErr};
+ghost use Rattle.std.specs.Prelude.{◌≡◌, ◌+◌, ◌*◌, ◌<◌, ◌≤◌, ◌^◌, length, sum, slice_index, Result, Ok, Err, ℕ, IfOk, IfErr};
+ghost use Rattle.no_memory.specs.Failures.{IfFault};
 ghost use Rattle.text_definitions.specs.Written.{limit};
 ghost use Rattle.skeleton_definitions.specs.Skeleton.{IsSkeleton};
 ghost use Rattle.surface_definitions.specs.declared.Coords.TheVariants.{Standard, Quad as QuadCoords};
@@ -14,7 +15,7 @@ use crate::checks::least_wrong;
 use crate::heights::heights_of;
 use crate::lows::lows_of;
 use crate::sums::four_times;
-use no_memory::NoMemory;
+use no_memory::{Failure, NoMemory};
 use normal_discs::{columns, columns_each, place_of, quad_column, tet_of, triangles_each, type_of};
 use skeleton::Skeleton;
 use std::alloc::{AllocError, Global};
@@ -69,20 +70,20 @@ fn entries(
 ///
 /// `Large` where four times the sum of the entries passes 2^127 - 1; else `NoLift` with the least vertex class at which
 /// there is no lift.
-pub fn lift(alloc: Global, skeleton: &Skeleton, x: &[u128]) -> Result<Vec<u128>, LiftFault>
+pub fn lift(alloc: Global, skeleton: &Skeleton, x: &[u128]) -> Result<Vec<u128>, Failure<LiftFault>>
     requires { length x.now ≡ coordinates.columns QuadCoords (length skeleton.now.rows) }
     ensures lifted { IfOk result (λ ys. IsLiftAnswer limit skeleton.now x.now (Ok ys.items)) }
     ensures surface { IfOk result (λ ys. IsSurfaceOver skeleton.now x.now ys.items) }
-    ensures fault { IfErr result (λ e. e ≢ LiftFault.NoMemory → IsLiftAnswer limit skeleton.now x.now (Err e)) }
+    ensures fault { IfErr result (λ e. IfFault e (λ f. IsLiftAnswer limit skeleton.now x.now (Err f))) }
 {
     let classes = skeleton.vertices();
     let Some(start) = four_times(x) else {
-        return Err(LiftFault::Large);
+        return Err(Failure::Fault(LiftFault::Large));
     };
     let heights = heights_of(alloc, skeleton, x, start)?;
     let class = least_wrong(skeleton, x, &heights);
     if class < classes {
-        return Err(LiftFault::NoLift { class });
+        return Err(Failure::Fault(LiftFault::NoLift { class }));
     }
     let lows = lows_of(alloc, skeleton, &heights)?;
     let lifted = entries(alloc, skeleton, x, &heights, &lows)?;

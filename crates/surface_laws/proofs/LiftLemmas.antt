@@ -19,7 +19,7 @@ use Rattle.surface_definitions.specs.Equations.{matching_rows}
 use Rattle.surface_definitions.specs.Lift.{projected, IsLift}
 use Rattle.vector_definitions.specs.Lifting.{IsLeastWithoutLift, IsLiftAnswer}
 use Rattle.vector_definitions.specs.declared.LiftFault.{LiftFault}
-use Rattle.vector_definitions.specs.declared.LiftFault.TheVariants.{NoMemory, Large, NoLift}
+use Rattle.vector_definitions.specs.declared.LiftFault.TheVariants.{Large, NoLift}
 use Rattle.surface_laws.proofs.Glued.{IsGlued, glued_is}
 use Rattle.surface_laws.proofs.Matched.{pair_glued}
 use Rattle.surface_laws.proofs.Quads.{projected_at, length-projected}
@@ -130,15 +130,11 @@ lifted_nowhere s xs ys c f g = g.none (ys, f.each c g.in_range)
 
 pub one_lift_answer : (max : ℕ) (s : Skeleton) (xs : List ℕ) (a b : Result (List ℕ) LiftFault) → IsSkeleton s → IsLiftAnswer max s xs a → IsLiftAnswer max s xs b → a ≡ b
 one_lift_answer max s xs (Ok ys) (Ok zs) k f g = ap Ok (one_lift s.rows k.table s.vertices.classes s.vertices.count k.vertices xs ys zs f.1 g.1)
-one_lift_answer max s xs (Ok ys) (Err NoMemory) k f g = absurd g
-one_lift_answer max s xs (Err NoMemory) b k f g = absurd f
 one_lift_answer max s xs (Ok ys) (Err Large) k f g = absurd (omega (arith, f.0, g))
 one_lift_answer max s xs (Ok ys) (Err (NoLift c)) k f g = absurd (lifted_nowhere s xs ys c f.1 g.1)
 one_lift_answer max s xs (Err Large) (Ok ys) k f g = absurd (omega (arith, f, g.0))
-one_lift_answer max s xs (Err Large) (Err NoMemory) k f g = absurd g
 one_lift_answer max s xs (Err Large) (Err Large) k f g = refl
 one_lift_answer max s xs (Err Large) (Err (NoLift c)) k f g = absurd (omega (arith, f, g.0))
 one_lift_answer max s xs (Err (NoLift c)) (Ok ys) k f g = absurd (lifted_nowhere s xs ys c g.1 f.1)
-one_lift_answer max s xs (Err (NoLift c)) (Err NoMemory) k f g = absurd g
 one_lift_answer max s xs (Err (NoLift c)) (Err Large) k f g = absurd (omega (arith, f.0, g))
 one_lift_answer max s xs (Err (NoLift c)) (Err (NoLift d)) k f g = ap (λ e. Err (NoLift e)) (least_class s xs c d f.1 g.1)

@@ -10,5 +10,6 @@ mod signs;
 mod steps;
 mod vectors;
 
+pub use no_memory::Failure;
 pub use pieces::Pieces;
 pub use vector_definitions::PiecesFault;

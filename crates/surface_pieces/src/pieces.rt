@@ -2,6 +2,7 @@
 
 ghost use Rattle.std.specs.Prelude.{◌≡◌, ◌≢◌, ◌<◌, ◌≤◌, length, sum, Ok, Err, IfOk, IfErr};
 ghost use Rattle.std.specs.List.{slice_index_or};
+ghost use Rattle.no_memory.specs.Failures.{IfFault};
 ghost use Rattle.text_definitions.specs.Written.{limit};
 ghost use Rattle.vector_definitions.specs.Components.{most_pieces, AreListedComponents, IsPiecesAnswer};
 ghost use Rattle.surface_laws.specs.PieceLaws.{IsSurface};
@@ -14,6 +15,7 @@ use crate::steps::Joining;
 use crate::vectors::vectors_of;
 use finite_walks::classes;
 use gluing_table::Table;
+use no_memory::Failure;
 use skeleton::Skeleton;
 use std::alloc::{AllocError, Global};
 use std::marker::Model;
@@ -94,15 +96,15 @@ impl Pieces {
         skeleton: &Skeleton,
         coords: Coords,
         x: &[u128],
-    ) -> Result<Pieces, PiecesFault>
+    ) -> Result<Pieces, Failure<PiecesFault>>
         requires surface { IsSurface skeleton.now.rows coords x.now }
         requires fits { sum x.now ≤ limit }
         ensures pieces { IfOk result (λ p. IsPiecesAnswer skeleton.now.rows coords x.now (Ok p)) }
-        ensures fault { IfErr result (λ e. e ≢ PiecesFault.NoMemory → IsPiecesAnswer skeleton.now.rows coords x.now (Err e)) }
+        ensures fault { IfErr result (λ e. IfFault e (λ f. IsPiecesAnswer skeleton.now.rows coords x.now (Err f))) }
     {
         let count = total(x);
         if count > MOST_PIECES {
-            return Err(PiecesFault::TooManyPieces { count });
+            return Err(Failure::Fault(PiecesFault::TooManyPieces { count }));
         }
         let entries = entries_of(alloc, x)?;
         let pieces = built(alloc, skeleton.table(), coords, &entries)?;

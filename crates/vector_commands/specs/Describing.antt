@@ -1,24 +1,24 @@
 -- What is told of one vector where it is described, and that the sums of its components are small too.
-use Rattle.std.specs.Prelude.{◌≡◌, ℕ, ◌<◌, List, length, None, Result, Ok, Err, ⊤}
+use Rattle.std.specs.Prelude.{◌≡◌, ℕ, ◌<◌, List, length, None, Result, Ok, Err}
 use Rattle.std.specs.List.{slice_index_or}
+use Rattle.no_memory.specs.declared.Failure.{Failure}
+use Rattle.no_memory.specs.Failures.{IfFault}
 use Rattle.text_definitions.specs.Written.{limit}
 use Rattle.cone_definitions.specs.Rows.{Row as EquationRow}
 use Rattle.skeleton_definitions.specs.Skeleton.{Skeleton}
 use Rattle.surface_definitions.specs.Coordinates.{columns}
 use Rattle.surface_definitions.specs.declared.Coords.{Coords}
+use Rattle.vector_definitions.specs.declared.Refusal.{Refusal}
 use Rattle.vector_definitions.specs.Answers.{IsDescription}
 use Rattle.vector_definitions.specs.Components.{Component}
 use Rattle.vector_definitions.specs.Properties.{first_large}
 use Rattle.surface_pieces.specs.Told.{no_component}
-use Rattle.vector_commands.specs.declared.refusals.ToldFault.{ToldFault}
-use Rattle.vector_commands.specs.declared.refusals.ToldFault.TheVariants as one
 use Rattle.vector_commands.specs.declared.describe_command.Described.{Described}
 
 -- the vector is described, or refused; of want of memory nothing is said
-abbrev pub TellsDescription : Skeleton → Coords → List EquationRow → List ℕ → Result Described ToldFault → Type 0
+abbrev pub TellsDescription : Skeleton → Coords → List EquationRow → List ℕ → Result Described (Failure Refusal) → Type 0
 TellsDescription s coords equations xs (Ok d) = IsDescription s coords equations xs (Ok (record { vector = xs; properties = d.properties; components = d.pieces }))
-TellsDescription s coords equations xs (Err one.NoMemory) = ⊤
-TellsDescription s coords equations xs (Err (one.Refused refusal)) = IsDescription s coords equations xs (Err refusal)
+TellsDescription s coords equations xs (Err e) = IfFault e (λ refusal. IsDescription s coords equations xs (Err refusal))
 
 -- each component's vector is as wide as the table wants, and no sum of it passes the limit
 pub record AreSmall (s : Skeleton) (coords : Coords) (components : List Component) : Type 0 where

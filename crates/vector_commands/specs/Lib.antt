@@ -1,4 +1,3 @@
 pub mod Crushed
-pub mod Faults
 pub mod Telling
 pub mod Describing

@@ -1,15 +1,14 @@
 -- What is told of the vectors of a document, one after another.
-use Rattle.std.specs.Prelude.{◌≡◌, ℕ, List, ◌++◌, Vec, Result, Ok, Err, ⊤}
+use Rattle.std.specs.Prelude.{◌≡◌, ℕ, List, ◌++◌, Vec, Result, Ok, Err}
 use Rattle.std.specs.declared.alloc.Global.{Global}
 use Rattle.std.specs.List.{AllZip, flat_map}
+use Rattle.no_memory.specs.declared.Failure.{Failure}
+use Rattle.no_memory.specs.Failures.{IfFault}
 use Rattle.cone_definitions.specs.Rows.{Row as EquationRow}
 use Rattle.skeleton_definitions.specs.Skeleton.{Skeleton}
 use Rattle.vector_definitions.specs.declared.Refusal.{Refusal}
 use Rattle.vector_definitions.specs.Answers.{IsLifted, IsFirstRefused}
-use Rattle.vector_commands.specs.declared.refusals.ToldFault.{ToldFault}
-use Rattle.vector_commands.specs.declared.refusals.ToldFault.TheVariants as one
-use Rattle.vector_commands.specs.declared.refusals.EachFault.{EachFault}
-use Rattle.vector_commands.specs.declared.refusals.EachFault.TheVariants as each
+use Rattle.vector_commands.specs.declared.refusals.FirstRefused.{FirstRefused}
 
 -- each vector of a list is answered, and the lines of the answers are the text
 pub record AreToldIn {A : Type 0} (IsTold : List ℕ → Result A Refusal → Type 0) (line : A → List ℕ) (vectors : List (List ℕ)) (text : List ℕ) : Type 0 where
@@ -18,19 +17,16 @@ pub record AreToldIn {A : Type 0} (IsTold : List ℕ → Result A Refusal → Ty
   pub lines : text ≡ flat_map line answers
 
 -- the lines of the answer to a vector were appended, or it is refused; of want of memory nothing is said
-abbrev pub TellsOne : {A : Type 0} → (List ℕ → Result A Refusal → Type 0) → (A → List ℕ) → List ℕ → List ℕ → List ℕ → Result (Unit {0}) ToldFault → Type 0
+abbrev pub TellsOne : {A : Type 0} → (List ℕ → Result A Refusal → Type 0) → (A → List ℕ) → List ℕ → List ℕ → List ℕ → Result (Unit {0}) (Failure Refusal) → Type 0
 TellsOne {A} IsTold line xs before now (Ok done) = (a : A) × IsTold xs (Ok a) × (now ≡ before ++ line a)
-TellsOne IsTold line xs before now (Err one.NoMemory) = ⊤
-TellsOne IsTold line xs before now (Err (one.Refused refusal)) = IsTold xs (Err refusal)
+TellsOne IsTold line xs before now (Err e) = IfFault e (λ refusal. IsTold xs (Err refusal))
 
 -- the lines of the answers to all vectors, or the first vector that is refused
-abbrev pub TellsEach : {A : Type 0} → (List ℕ → Result A Refusal → Type 0) → (A → List ℕ) → List (List ℕ) → Result (Vec ℕ Global) EachFault → Type 0
+abbrev pub TellsEach : {A : Type 0} → (List ℕ → Result A Refusal → Type 0) → (A → List ℕ) → List (List ℕ) → Result (Vec ℕ Global) (Failure FirstRefused) → Type 0
 TellsEach IsTold line vectors (Ok text) = AreToldIn IsTold line vectors text.items
-TellsEach IsTold line vectors (Err each.NoMemory) = ⊤
-TellsEach IsTold line vectors (Err (each.Refused v refusal)) = IsFirstRefused IsTold vectors v refusal
+TellsEach IsTold line vectors (Err e) = IfFault e (λ first. IsFirstRefused IsTold vectors first.vector first.refusal)
 
 -- a quad vector is lifted, or refused; of want of memory nothing is said
-abbrev pub TellsLift : Skeleton → List EquationRow → List ℕ → Result (Vec ℕ Global) ToldFault → Type 0
+abbrev pub TellsLift : Skeleton → List EquationRow → List ℕ → Result (Vec ℕ Global) (Failure Refusal) → Type 0
 TellsLift s equations xs (Ok lift) = IsLifted s equations xs (Ok lift.items)
-TellsLift s equations xs (Err one.NoMemory) = ⊤
-TellsLift s equations xs (Err (one.Refused refusal)) = IsLifted s equations xs (Err refusal)
+TellsLift s equations xs (Err e) = IfFault e (λ refusal. IsLifted s equations xs (Err refusal))

@@ -16,12 +16,12 @@ ghost use Rattle.vector_commands.specs.Telling.{TellsOne, TellsEach};
 ghost use Rattle.vector_commands.specs.Describing.{TellsDescription};
 
 use crate::descriptions::append_description;
-use crate::refusals::{EachFault, ToldFault, refusal_outcome};
+use crate::refusals::{FirstRefused, refusal_outcome};
 use command_answers::{Outcome, fault_outcome, invalid_edge_outcome, read_table_and_vectors};
 use cone_core::System;
 use gluing_table::Table;
 use matching_equations::{Coords, equations};
-use no_memory::NoMemory;
+use no_memory::{Failure, NoMemory};
 use outcome_definitions::Status;
 use skeleton::Skeleton;
 use std::alloc::Global;
@@ -44,7 +44,7 @@ fn describe_fit(
     system: &System,
     coords: Coords,
     x: &[u128],
-) -> Result<Described, ToldFault>
+) -> Result<Described, Failure<Refusal>>
     requires coords { coords ≢ Coords.Quad }
     requires skeleton { IsSkeleton skeleton.now }
     requires equations { AreEquations coords skeleton.now.rows system.now.rows }
@@ -55,15 +55,15 @@ fn describe_fit(
     let properties = match properties_of(skeleton, coords, x) {
         Ok(properties) => properties,
         Err(PropertyFault::Large { sum }) => {
-            return Err(ToldFault::Refused(Refusal::LargeSum { sum }));
+            return Err(Failure::Fault(Refusal::LargeSum { sum }));
         }
     };
     match Pieces::build(alloc, skeleton, coords, x) {
         Ok(pieces) => Ok(Described { properties, pieces }),
-        Err(PiecesFault::TooManyPieces { count }) => {
-            Err(ToldFault::Refused(Refusal::TooManyPieces { count }))
+        Err(Failure::Fault(PiecesFault::TooManyPieces { count })) => {
+            Err(Failure::Fault(Refusal::TooManyPieces { count }))
         }
-        Err(PiecesFault::NoMemory) => Err(ToldFault::NoMemory),
+        Err(Failure::NoMemory) => Err(Failure::NoMemory),
     }
 }
 
@@ -74,7 +74,7 @@ fn describe_checked(
     system: &System,
     coords: Coords,
     x: &[u128],
-) -> Result<Described, ToldFault>
+) -> Result<Described, Failure<Refusal>>
     requires coords { coords ≢ Coords.Quad }
     requires skeleton { IsSkeleton skeleton.now }
     requires equations { AreEquations coords skeleton.now.rows system.now.rows }
@@ -83,7 +83,7 @@ fn describe_checked(
 {
     match check(coords, skeleton.table(), system, x) {
         Ok(()) => describe_fit(alloc, skeleton, system, coords, x),
-        Err(fault) => Err(ToldFault::Refused(Refusal::Unfit { fault })),
+        Err(fault) => Err(Failure::Fault(Refusal::Unfit { fault })),
     }
 }
 
@@ -95,7 +95,7 @@ fn append_described(
     coords: Coords,
     x: &[u128],
     text: &mut Vec<u8>,
-) -> Result<(), ToldFault>
+) -> Result<(), Failure<Refusal>>
     requires coords { coords ≢ Coords.Quad }
     requires skeleton { IsSkeleton skeleton.now }
     requires equations { AreEquations coords skeleton.now.rows system.now.rows }
@@ -122,7 +122,7 @@ fn descriptions(
     system: &System,
     coords: Coords,
     vectors: &[Vec<u128>],
-) -> Result<Vec<u8>, EachFault>
+) -> Result<Vec<u8>, Failure<FirstRefused>>
     requires coords { coords ≢ Coords.Quad }
     requires skeleton { IsSkeleton skeleton.now }
     requires equations { AreEquations coords skeleton.now.rows system.now.rows }
@@ -133,7 +133,10 @@ fn descriptions(
     for v in 0..vectors.len() {
         match append_described(alloc, skeleton, system, coords, &vectors[v], &mut text) {
             Ok(()) => {}
-            Err(fault) => return Err(fault.at(v)),
+            Err(Failure::Fault(refusal)) => {
+                return Err(Failure::Fault(FirstRefused { vector: v, refusal }));
+            }
+            Err(Failure::NoMemory) => return Err(Failure::NoMemory),
         }
     }
     Ok(text)
@@ -155,8 +158,8 @@ fn describe_each(
 {
     match descriptions(alloc, skeleton, system, coords, vectors) {
         Ok(text) => Ok(Outcome::built(Status::Done, text)),
-        Err(EachFault::Refused { vector, refusal }) => refusal_outcome(alloc, vector, refusal),
-        Err(EachFault::NoMemory) => Err(NoMemory),
+        Err(Failure::Fault(first)) => refusal_outcome(alloc, first.vector, first.refusal),
+        Err(Failure::NoMemory) => Err(NoMemory),
     }
 }
 

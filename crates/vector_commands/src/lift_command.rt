@@ -14,12 +14,12 @@ ghost use Rattle.outcome_definitions.specs.Vectors.{IsLiftsAnswer};
 ghost use Rattle.vector_definitions.specs.Answers.{verdict_in, IsLifted};
 ghost use Rattle.vector_commands.specs.Telling.{TellsOne, TellsEach, TellsLift};
 
-use crate::refusals::{EachFault, ToldFault, refusal_outcome};
+use crate::refusals::{FirstRefused, refusal_outcome};
 use command_answers::{Outcome, fault_outcome, read_table_and_vectors};
 use cone_core::System;
 use gluing_table::Table;
 use matching_equations::{Coords, quad_equations};
-use no_memory::NoMemory;
+use no_memory::{Failure, NoMemory};
 use outcome_definitions::Status;
 use quad_lift::lift as lift_of;
 use ray_answers::write_vector;
@@ -34,16 +34,18 @@ fn lift_fit(
     skeleton: &Skeleton,
     system: &System,
     x: &[u128],
-) -> Result<Vec<u128>, ToldFault>
+) -> Result<Vec<u128>, Failure<Refusal>>
     requires width { length x.now ≡ columns coordinates.Quad (length skeleton.now.rows) }
     requires fit { verdict_in coordinates.Quad skeleton.now.rows system.now.rows x.now ≡ solution }
     ensures { TellsLift skeleton.now system.now.rows x.now result }
 {
     match lift_of(alloc, skeleton, x) {
         Ok(lifted) => Ok(lifted),
-        Err(LiftFault::Large) => Err(ToldFault::Refused(Refusal::LargeLift)),
-        Err(LiftFault::NoLift { class }) => Err(ToldFault::Refused(Refusal::NoLift { class })),
-        Err(LiftFault::NoMemory) => Err(ToldFault::NoMemory),
+        Err(Failure::Fault(LiftFault::Large)) => Err(Failure::Fault(Refusal::LargeLift)),
+        Err(Failure::Fault(LiftFault::NoLift { class })) => {
+            Err(Failure::Fault(Refusal::NoLift { class }))
+        }
+        Err(Failure::NoMemory) => Err(Failure::NoMemory),
     }
 }
 
@@ -53,13 +55,13 @@ fn lift_checked(
     skeleton: &Skeleton,
     system: &System,
     x: &[u128],
-) -> Result<Vec<u128>, ToldFault>
+) -> Result<Vec<u128>, Failure<Refusal>>
     requires { system.now.columns ≡ columns coordinates.Quad (length skeleton.now.rows) }
     ensures { TellsLift skeleton.now system.now.rows x.now result }
 {
     match check(Coords::Quad, skeleton.table(), system, x) {
         Ok(()) => lift_fit(alloc, skeleton, system, x),
-        Err(fault) => Err(ToldFault::Refused(Refusal::Unfit { fault })),
+        Err(fault) => Err(Failure::Fault(Refusal::Unfit { fault })),
     }
 }
 
@@ -70,7 +72,7 @@ fn append_lift(
     system: &System,
     x: &[u128],
     text: &mut Vec<u8>,
-) -> Result<(), ToldFault>
+) -> Result<(), Failure<Refusal>>
     requires { system.now.columns ≡ columns coordinates.Quad (length skeleton.now.rows) }
     ensures { TellsOne (IsLifted skeleton.now system.now.rows) vector_text x.now text.old.items text.new.items result }
 {
@@ -85,7 +87,7 @@ fn lifts(
     skeleton: &Skeleton,
     system: &System,
     vectors: &[Vec<u128>],
-) -> Result<Vec<u8>, EachFault>
+) -> Result<Vec<u8>, Failure<FirstRefused>>
     requires { system.now.columns ≡ columns coordinates.Quad (length skeleton.now.rows) }
     ensures { TellsEach (IsLifted skeleton.now system.now.rows) vector_text (all_entries vectors.now) result }
 {
@@ -93,7 +95,10 @@ fn lifts(
     for v in 0..vectors.len() {
         match append_lift(alloc, skeleton, system, &vectors[v], &mut text) {
             Ok(()) => {}
-            Err(fault) => return Err(fault.at(v)),
+            Err(Failure::Fault(refusal)) => {
+                return Err(Failure::Fault(FirstRefused { vector: v, refusal }));
+            }
+            Err(Failure::NoMemory) => return Err(Failure::NoMemory),
         }
     }
     Ok(text)
@@ -113,8 +118,8 @@ fn answer_by(
 {
     match lifts(alloc, skeleton, system, vectors) {
         Ok(text) => Ok(Outcome::built(Status::Done, text)),
-        Err(EachFault::Refused { vector, refusal }) => refusal_outcome(alloc, vector, refusal),
-        Err(EachFault::NoMemory) => Err(NoMemory),
+        Err(Failure::Fault(first)) => refusal_outcome(alloc, first.vector, first.refusal),
+        Err(Failure::NoMemory) => Err(NoMemory),
     }
 }
 

@@ -2,7 +2,6 @@
 ghost use Rattle.std.specs.Prelude.{◌≡◌, ◌++◌, IfOk, OnOk};
 ghost use Rattle.text_definitions.specs.Written.{line};
 ghost use Rattle.outcome_definitions.specs.Vectors as vectors;
-ghost use Rattle.vector_commands.specs.Faults.{fault_at};
 ghost use Rattle.vector_definitions.specs.Texts.{sum_word, fault_text};
 
 use command_answers::{Outcome, append_checked, append_numbered, refused_vector};
@@ -13,43 +12,11 @@ use surface_definitions::VectorFault;
 use text_io::append;
 use vector_definitions::{Refusal, Sum};
 
-/// Why nothing is told of a vector.
+/// The first vector of a document that is refused, by its number from 0, and why.
 #[derive(Clone, Copy, Debug, PartialEq, Eq)]
-pub enum ToldFault {
-    NoMemory,
-    /// It is refused.
-    Refused(Refusal),
-}
-
-impl From<NoMemory> for ToldFault {
-    ghost use Rattle.std.specs.Prelude.{◌≡◌};
-    ghost use Rattle.vector_commands.specs.declared.refusals.ToldFault.TheVariants as faults;
-
-    ghost from_gives = { λ _ e. e ≡ faults.NoMemory };
-
-    fn from(_error: NoMemory) -> ToldFault {
-        ToldFault::NoMemory
-    }
-}
-
-/// Why nothing is told of the vectors of a document.
-#[derive(Clone, Copy, Debug, PartialEq, Eq)]
-pub enum EachFault {
-    NoMemory,
-    /// The vector of this number, which counts from 0, is the first that is refused.
-    Refused { vector: usize, refusal: Refusal },
-}
-
-impl ToldFault {
-    /// The fault of the vector of this number.
-    pub fn at(self, vector: usize) -> EachFault
-        ensures { result ≡ fault_at vector self }
-    {
-        match self {
-            ToldFault::NoMemory => EachFault::NoMemory,
-            ToldFault::Refused(refusal) => EachFault::Refused { vector, refusal },
-        }
-    }
+pub struct FirstRefused {
+    pub vector: usize,
+    pub refusal: Refusal,
 }
 
 fn named(sum: Sum) -> &'static [u8]

@@ -11,7 +11,7 @@ use Rattle.surface_definitions.specs.declared.Coords.{Coords}
 use Rattle.surface_definitions.specs.Pieces.{pieces_of, SamePiece}
 use Rattle.vector_definitions.specs.Components.{Component, IsComponent, AreListedComponents, IsPiecesAnswer}
 use Rattle.vector_definitions.specs.declared.PiecesFault.{PiecesFault}
-use Rattle.vector_definitions.specs.declared.PiecesFault.TheVariants.{NoMemory, TooManyPieces}
+use Rattle.vector_definitions.specs.declared.PiecesFault.TheVariants.{TooManyPieces}
 
 module _ (n : ℕ) (Same : ℕ → ℕ → Type 0) where
   no_more : (one other : List ℕ) (k m : ℕ) → IsNumbering n Same one k → IsNumbering n Same other m → k < m → ⊥
@@ -67,9 +67,6 @@ one_listing rows coords xs cs ds f g =
 
 pub one_answer : (rows : List Row) (coords : Coords) (xs : List ℕ) (a b : Result (List Component) PiecesFault) → IsPiecesAnswer rows coords xs a → IsPiecesAnswer rows coords xs b → a ≡ b
 one_answer rows coords xs (Ok cs) (Ok ds) f g = ap Ok (one_listing rows coords xs cs ds f.1 g.1)
-one_answer rows coords xs (Ok cs) (Err NoMemory) f g = absurd g
 one_answer rows coords xs (Ok cs) (Err (TooManyPieces m)) f g = absurd (omega (arith, f.0, g.0))
-one_answer rows coords xs (Err NoMemory) b f g = absurd f
 one_answer rows coords xs (Err (TooManyPieces n)) (Ok ds) f g = absurd (omega (arith, f.0, g.0))
-one_answer rows coords xs (Err (TooManyPieces n)) (Err NoMemory) f g = absurd g
 one_answer rows coords xs (Err (TooManyPieces n)) (Err (TooManyPieces m)) f g = ap (λ k. Err (TooManyPieces k)) (f.1 ∙ sym g.1)

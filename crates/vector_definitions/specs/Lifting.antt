@@ -3,7 +3,7 @@ use Rattle.std.specs.Prelude.{ℕ, ◌*◌, ◌<◌, ◌≤◌, List, Result, Ok
 use Rattle.surface_definitions.specs.Lift.{IsLiftAt, IsLift}
 use Rattle.skeleton_definitions.specs.Skeleton.{Skeleton}
 use Rattle.vector_definitions.specs.declared.LiftFault.{LiftFault}
-use Rattle.vector_definitions.specs.declared.LiftFault.TheVariants.{NoMemory, Large, NoLift}
+use Rattle.vector_definitions.specs.declared.LiftFault.TheVariants.{Large, NoLift}
 
 -- there is a lift at vertex class c
 abbrev pub HasLiftAt : Skeleton → List ℕ → ℕ → Type 0
@@ -18,6 +18,5 @@ pub record IsLeastWithoutLift (s : Skeleton) (xs : List ℕ) (c : ℕ) : Type 0 
 -- what is told of a quad vector: large where four times the sum of its entries passes max, else the least class with no lift, else the lift
 abbrev pub IsLiftAnswer : ℕ → Skeleton → List ℕ → Result (List ℕ) LiftFault → Type 0
 IsLiftAnswer max s xs (Ok ys) = (4 * sum xs ≤ max) × IsLift s.rows s.vertices.classes s.vertices.count xs ys
-IsLiftAnswer max s xs (Err NoMemory) = ⊥
 IsLiftAnswer max s xs (Err Large) = max < 4 * sum xs
 IsLiftAnswer max s xs (Err (NoLift c)) = (4 * sum xs ≤ max) × IsLeastWithoutLift s xs c

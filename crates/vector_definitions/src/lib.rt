@@ -3,13 +3,8 @@
 //! definitions. `proofs/` has worked examples of the definitions too.
 #![tactic(auto)]
 
-ghost use Rattle.std.specs.Prelude.{◌≡◌};
 ghost use Rattle.vector_definitions.specs.Laws.{OnePropertyAnswer, OnePiecesAnswer, OneDescriptionEach};
-ghost use Rattle.vector_definitions.specs.declared.LiftFault.TheVariants as lift_faults;
-ghost use Rattle.vector_definitions.specs.declared.PiecesFault.TheVariants as pieces_faults;
 
-use no_memory::NoMemory;
-use std::alloc::{AllocError, AllocFailed};
 use surface_definitions::VectorFault;
 
 /// What is counted of a surface.
@@ -47,51 +42,17 @@ pub enum PropertyFault {
 /// Why no lift of a quad vector is told.
 #[derive(Clone, Copy, Debug, PartialEq, Eq)]
 pub enum LiftFault {
-    NoMemory,
     /// Four times the sum of the entries passes the maximum.
     Large,
     /// There is no lift at this vertex class, and one at each class before it.
     NoLift { class: u32 },
 }
 
-impl From<AllocError> for LiftFault {
-    ghost from_gives = { λ _ e. e ≡ lift_faults.NoMemory };
-
-    fn from(_error: AllocError) -> LiftFault {
-        LiftFault::NoMemory
-    }
-}
-
-impl From<NoMemory> for LiftFault {
-    ghost from_gives = { λ _ e. e ≡ lift_faults.NoMemory };
-
-    fn from(_error: NoMemory) -> LiftFault {
-        LiftFault::NoMemory
-    }
-}
-
 /// Why the pieces of a vector are not built.
 #[derive(Clone, Copy, Debug, PartialEq, Eq)]
 pub enum PiecesFault {
-    NoMemory,
     /// There are more than 100,000 pieces: this many.
     TooManyPieces { count: u128 },
-}
-
-impl From<AllocError> for PiecesFault {
-    ghost from_gives = { λ _ e. e ≡ pieces_faults.NoMemory };
-
-    fn from(_error: AllocError) -> PiecesFault {
-        PiecesFault::NoMemory
-    }
-}
-
-impl From<NoMemory> for PiecesFault {
-    ghost from_gives = { λ _ e. e ≡ pieces_faults.NoMemory };
-
-    fn from(_error: NoMemory) -> PiecesFault {
-        PiecesFault::NoMemory
-    }
 }
 
 /// Why a vector of a document is refused.

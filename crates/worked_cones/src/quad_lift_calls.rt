@@ -1,5 +1,5 @@
 use crate::sample_cones::{SPHERE, skeleton_of};
-use quad_lift::{LiftFault, lift, project};
+use quad_lift::{Failure, LiftFault, lift, project};
 use std::test::Fail;
 
 #[test]
@@ -13,7 +13,7 @@ fn a_sphere_has_a_torus(rt: HostRuntime) -> Result<(), Fail> {
     let most = 170_141_183_460_469_231_731_687_303_715_884_105_727;
     assert_eq!(rt;
         lift(rt.alloc(), &skeleton, &[most, 0, 0]).err(),
-        Some(LiftFault::Large)
+        Some(Failure::Fault(LiftFault::Large))
     );
     Ok(())
 }
@@ -23,6 +23,6 @@ fn a_figure_eight_has_no_lift(rt: HostRuntime) -> Result<(), Fail> {
     let skeleton = skeleton_of(rt.alloc(), b"cPcbbbiht")?;
     assert_eq!(rt; skeleton.table().len(), 2);
     let fault = lift(rt.alloc(), &skeleton, &[2, 0, 0, 0, 0, 1]).err();
-    assert_eq!(rt; fault, Some(LiftFault::NoLift { class: 0 }));
+    assert_eq!(rt; fault, Some(Failure::Fault(LiftFault::NoLift { class: 0 })));
     Ok(())
 }

@@ -1,5 +1,5 @@
 use crate::sample_tables::{BALL, figure_eight, reversed_row, skeleton_of, turned_row};
-use edge_group::{Group, GroupFault, Letter};
+use edge_group::{Failure, Group, GroupFault, Letter};
 use gluing_table::{Face, Row};
 
 fn plain(generator: u32) -> Letter {
@@ -72,12 +72,18 @@ fn a_table_without_tetrahedra(rt: HostRuntime) {
 fn a_table_that_is_not_connected(rt: HostRuntime) {
     let skeleton = skeleton_of(&rt, rt.alloc(), &[BALL, BALL]);
     let fault = Group::of(rt.alloc(), &skeleton).err();
-    assert_eq!(rt; fault, Some(GroupFault::NotConnected { tet: 1 }));
+    assert_eq!(rt;
+        fault,
+        Some(Failure::Fault(GroupFault::NotConnected { tet: 1 }))
+    );
 }
 
 #[test]
 fn an_edge_that_meets_its_reverse(rt: HostRuntime) {
     let skeleton = skeleton_of(&rt, rt.alloc(), &[reversed_row()]);
     let fault = Group::of(rt.alloc(), &skeleton).err();
-    assert_eq!(rt; fault, Some(GroupFault::InvalidEdge { class: 3 }));
+    assert_eq!(rt;
+        fault,
+        Some(Failure::Fault(GroupFault::InvalidEdge { class: 3 }))
+    );
 }

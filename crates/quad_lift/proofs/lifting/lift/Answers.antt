@@ -6,7 +6,7 @@ use Rattle.quad_lift.proofs.LiftParts.{least_without, lift_is, surface_over}
 use Rattle.quad_lift.proofs.lifting.lift.Goals as goal
 
 pub returns-then-class-classes-clause-fault : goal.returns-then-class-classes-clause-fault
-returns-then-class-classes-clause-fault c = λ real. (
+returns-then-class-classes-clause-fault c = (
   c.in-Some.ensures.fits,
   least_without c.args.skeleton.now c.vertices-classes.ensures.skeleton c.args.x.now c.requires c.in_ok-heights.heights.items c.in_ok-heights.ensures c.least_wrong-class.result
       (subst (λ hs. IsLeastWrong c.args.skeleton.now c.args.x.now hs c.least_wrong-class.result) c.deref.ensures.value c.least_wrong-class.ensures)

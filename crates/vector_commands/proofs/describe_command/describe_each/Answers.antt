@@ -1,9 +1,10 @@
 -- The vectors are described, or the first that is refused is told.
 use Rattle.std.proofs.Common.{Err, subst}
+use Rattle.no_memory.specs.declared.Failure.{Failure}
 use Rattle.vector_definitions.specs.Answers.{IsDescription}
 use Rattle.vector_definitions.specs.Texts.{description_text}
 use Rattle.vector_commands.specs.Telling.{TellsEach}
-use Rattle.vector_commands.specs.declared.refusals.EachFault.{EachFault}
+use Rattle.vector_commands.specs.declared.refusals.FirstRefused.{FirstRefused}
 use Rattle.command_answers.proofs.Results.{if_ok}
 use Rattle.command_answers.specs.Reads.{all_entries}
 use Rattle.vector_commands.proofs.DescribeAnswers.{described_told, describe_refused}
@@ -14,10 +15,10 @@ returns-in-Ok c =
     described_told c.args.skeleton.now c.args.coords c.args.system.now.rows (all_entries c.args.vectors.now) c.built.result
     c.requires.equations c.in-Ok.text.items c.in-Ok.ensures c.built.ensures
 
-pub returns-in-Err-Refused : goal.returns-in-Err-Refused
-returns-in-Err-Refused c =
+pub returns-in-Err-Fault : goal.returns-in-Err-Fault
+returns-in-Err-Fault c =
     if_ok c.refusal_outcome.result _ _
     (λ o h. describe_refused c.args.skeleton.now c.args.coords c.args.system.now.rows (all_entries c.args.vectors.now) o
-    c.requires.equations c.in-Err-Refused.vector c.in-Err-Refused.refusal
-    (subst (λ (e : EachFault). TellsEach (IsDescription c.args.skeleton.now c.args.coords c.args.system.now.rows) (description_text c.args.skeleton.now c.args.coords) (all_entries c.args.vectors.now) (Err e)) c.in-Err-Refused.field-0-is c.in-Err-Refused.ensures) h)
+    c.requires.equations c.in-Err-Fault.first.vector c.in-Err-Fault.first.refusal
+    (subst (λ (e : Failure FirstRefused). TellsEach (IsDescription c.args.skeleton.now c.args.coords c.args.system.now.rows) (description_text c.args.skeleton.now c.args.coords) (all_entries c.args.vectors.now) (Err e)) c.in-Err-Fault.field-0-is c.in-Err-Fault.ensures) h)
     c.refusal_outcome.ensures

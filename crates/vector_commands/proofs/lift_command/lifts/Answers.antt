@@ -4,10 +4,10 @@ use Rattle.vector_definitions.specs.Answers.{IsLifted}
 use Rattle.vector_commands.proofs.EachVector.{next_told, next_refused}
 use Rattle.vector_commands.proofs.lift_command.lifts.Goals as goal
 
-pub returns-in-Err : goal.returns-in-Err
-returns-in-Err c =
+pub returns-in-Err-Fault : goal.returns-in-Err-Fault
+returns-in-Err-Fault c =
     next_refused (IsLifted c.args.skeleton.now c.args.system.now.rows) vector_text c.args.vectors.now c.loop-v.v c.index-vectors-v.result c.deref.result.now c.loop-v.text.items
-    c.append_lift.new.text.items c.loop-v-test.true c.index-vectors-v.is c.deref.ensures.value c.loop-v.invariant c.in-Err.fault c.at.result c.in-Err.ensures c.at.ensures
+    c.append_lift.new.text.items c.loop-v-test.true c.index-vectors-v.is c.deref.ensures.value c.loop-v.invariant c.in-Err-Fault.field-0 c.in-Err-Fault.refusal c.in-Err-Fault.field-0-is c.in-Err-Fault.ensures
 
 pub loop-v-preserved : goal.loop-v-preserved
 loop-v-preserved c =

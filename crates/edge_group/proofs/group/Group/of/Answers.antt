@@ -7,7 +7,7 @@ none_is : {A : Type 0} (o : Option A) → o ≡ None → IsNone o
 none_is {A} o e = subst (λ (p : Option A). IsNone p) (sym e) (search rules)
 
 pub returns-in-Some-first_invalid-clause-fault : goal.returns-in-Some-first_invalid-clause-fault
-returns-in-Some-first_invalid-clause-fault c other = (subst IsConnected c.table.ensures.rows (c.in_ok-tet.ensures.connected.0 (none_is c.in_ok-tet.field-0 c.in_default.is)), c.in-Some-first_invalid.ensures)
+returns-in-Some-first_invalid-clause-fault c = (subst IsConnected c.table.ensures.rows (c.in_ok-tet.ensures.connected.0 (none_is c.in_ok-tet.field-0 c.in_default.is)), c.in-Some-first_invalid.ensures)
 
 pub presented-requires-clause-connected : goal.presented-requires-clause-connected
 presented-requires-clause-connected c = subst IsConnected c.table.ensures.rows (c.in_ok-tet.ensures.connected.0 (none_is c.in_ok-tet.field-0 c.in_default.is))
