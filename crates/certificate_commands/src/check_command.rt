@@ -9,7 +9,7 @@ use crate::documents::read_table_and_moves;
 use crate::faults::refused_outcome;
 use command_answers::{Outcome, accepted_outcome, fault_outcome};
 use gluing_table::Table;
-use no_memory::NoMemory;
+use no_memory::{Failure, NoMemory};
 use pachner_moves::Move;
 use sphere_certificate::check as check_moves;
 use std::alloc::Global;
@@ -21,7 +21,8 @@ fn answer(alloc: Global, table: &Table, moves: &[Move]) -> Result<Outcome, NoMem
 {
     match check_moves(alloc, table, moves) {
         Ok(()) => accepted_outcome(alloc),
-        Err(fault) => refused_outcome(alloc, fault),
+        Err(Failure::Fault(fault)) => refused_outcome(alloc, fault),
+        Err(Failure::NoMemory) => Err(NoMemory),
     }
 }
 

@@ -1,5 +1,5 @@
 // The one line of each refused check.
-ghost use Rattle.std.specs.Prelude.{◌≡◌, ◌≢◌, Err, IfOk, OnOk};
+ghost use Rattle.std.specs.Prelude.{◌≡◌, Err, IfOk};
 ghost use Rattle.certificate_definitions.specs.declared.CheckFault.TheVariants as check_faults;
 ghost use Rattle.outcome_definitions.specs.Certificates.{check_line, check_outcome};
 ghost use Rattle.sphere_certificate.specs.Checks.{told};
@@ -49,11 +49,9 @@ fn loose_outcome(alloc: Global, tet: u32) -> Result<Outcome, NoMemory>
 
 /// The outcome where moves are no certificate.
 pub fn refused_outcome(alloc: Global, fault: CheckFault) -> Result<Outcome, NoMemory>
-    ensures line { IfOk result (λ o. o ≡ check_outcome (Err (told fault))) }
-    ensures no_memory { OnOk result (fault ≢ check_faults.NoMemory) }
+    ensures { IfOk result (λ o. o ≡ check_outcome (Err (told fault))) }
 {
     match fault {
-        CheckFault::NoMemory => Err(NoMemory),
         CheckFault::Illegal { step, fault } => illegal_outcome(alloc, step, fault),
         CheckFault::NotConnected { tet } => loose_outcome(alloc, tet),
         CheckFault::NotStandard { signature } => not_standard_outcome(alloc, &signature),

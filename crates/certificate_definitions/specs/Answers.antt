@@ -7,7 +7,7 @@ use Rattle.move_definitions.specs.Moves.{Move, play_fault, PlaysAll}
 use Rattle.move_definitions.specs.declared.MoveFault.{MoveFault}
 use Rattle.move_definitions.specs.Certificates.{IsStandard, IsCertificate, IsDescent}
 use Rattle.certificate_definitions.specs.declared.CheckFault.{CheckFault}
-use Rattle.certificate_definitions.specs.declared.CheckFault.TheVariants.{NoMemory, Illegal, NotConnected, NotStandard}
+use Rattle.certificate_definitions.specs.declared.CheckFault.TheVariants.{Illegal, NotConnected, NotStandard}
 
 -- the moves before one are played, and this one is refused
 pub record IsRefusedAt (rows : List Row) (moves : List Move) (step : ℕ) (fault : MoveFault) : Type 0 where
@@ -28,10 +28,9 @@ abbrev pub CheckAnswer : Type 0
 CheckAnswer = Result (Unit {0}) (CheckFault (List ℕ))
 
 -- The moves are a certificate; or the first move that is refused, by its place from 1; or the last table has a tetrahedron
--- that isn't reached; or it has this signature, which isn't that of the standard sphere. Want of memory is no answer of the table's.
+-- that isn't reached; or it has this signature, which isn't that of the standard sphere.
 abbrev pub IsChecked : List Row → List Move → CheckAnswer → Type 0
 IsChecked rows moves (Ok u) = IsCertificate rows moves
-IsChecked rows moves (Err NoMemory) = ⊥
 IsChecked rows moves (Err (Illegal step fault)) = IsRefusedAt rows moves step fault
 IsChecked rows moves (Err (NotConnected t)) = (last : List Row) × PlaysAll rows moves last × IsLeastUnreached last t
 IsChecked rows moves (Err (NotStandard text)) =

@@ -8,7 +8,7 @@ use Rattle.move_definitions.specs.Moves.{Move, play_fault, PlaysAll, Plays}
 use Rattle.move_definitions.specs.declared.MoveFault.{MoveFault}
 use Rattle.move_definitions.specs.Certificates.{standard_sphere, IsStandard}
 use Rattle.certificate_definitions.specs.Answers.{IsRefusedAt, sphere_text}
-use Rattle.certificate_definitions.specs.declared.CheckFault.TheVariants.{NoMemory, Illegal, NotConnected, NotStandard}
+use Rattle.certificate_definitions.specs.declared.CheckFault.TheVariants.{Illegal, NotConnected, NotStandard}
 use Rattle.labelling_laws.proofs.Kept.{relabels_back, relabels_connected}
 use Rattle.labelling_laws.proofs.Told.{one_signature, tells_tables}
 use Rattle.certificate_laws.specs.Laws.{TextsTellStandard, AnswersAgree}
@@ -122,8 +122,3 @@ answers_agree_lem rows moves (Err (NotStandard text)) (Err (NotConnected t)) tab
 answers_agree_lem rows moves (Err (NotStandard text)) (Err (NotStandard text')) table (last, led, c, h, n) (last', led', c', h', n') =
     let same : last' ≡ last = all_played_same rows moves last' last led' led in
     ap (λ (z : List ℕ). Err (NotStandard z)) (one_signature last text text' h (subst (λ (q : List Row). IsSignature q text') same h'))
-answers_agree_lem rows moves (Ok done) (Err NoMemory) table h k = absurd k
-answers_agree_lem rows moves (Err (Illegal step fault)) (Err NoMemory) table h k = absurd k
-answers_agree_lem rows moves (Err (NotConnected t)) (Err NoMemory) table h k = absurd k
-answers_agree_lem rows moves (Err (NotStandard text)) (Err NoMemory) table h k = absurd k
-answers_agree_lem rows moves (Err NoMemory) other table h k = absurd h

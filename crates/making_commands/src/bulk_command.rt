@@ -10,8 +10,8 @@ use cone_core::MAX_ENTRY;
 use double_description::{EnumFault, Order};
 use gluing_table::Table;
 use matching_equations::Coords;
-use no_memory::NoMemory;
-use sphere_certificate::{CheckFault, check};
+use no_memory::{Failure, NoMemory};
+use sphere_certificate::check;
 use std::alloc::Global;
 use surface_answers::large_outcome;
 use tri_build::Made;
@@ -23,8 +23,8 @@ fn accept(alloc: Global, made: &Made) -> Result<(), NoMemory>
 {
     match check(alloc, &made.table, &made.certificate) {
         Ok(()) => Ok(()),
-        Err(CheckFault::NoMemory) => Err(NoMemory),
-        Err(_) => unreachable!(),
+        Err(Failure::NoMemory) => Err(NoMemory),
+        Err(Failure::Fault(_)) => unreachable!(),
     }
 }
 

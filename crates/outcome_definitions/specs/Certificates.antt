@@ -7,7 +7,7 @@ use Rattle.move_definitions.specs.Moves.{Move}
 use Rattle.move_definitions.specs.MoveText.{move_text}
 use Rattle.move_definitions.specs.Sessions.{move_fault_text}
 use Rattle.certificate_definitions.specs.declared.CheckFault.{CheckFault}
-use Rattle.certificate_definitions.specs.declared.CheckFault.TheVariants.{NoMemory, Illegal, NotConnected, NotStandard}
+use Rattle.certificate_definitions.specs.declared.CheckFault.TheVariants.{Illegal, NotConnected, NotStandard}
 use Rattle.certificate_definitions.specs.Answers.{CheckAnswer, IsChecked, Descended, DescentAnswer, IsDescentAnswer}
 use Rattle.text_definitions.specs.Written.{line}
 use Rattle.outcome_definitions.specs.declared.Status.TheVariants.{Refused}
@@ -16,9 +16,8 @@ use Rattle.outcome_definitions.specs.Outcomes.{Outcome}
 use Rattle.outcome_definitions.specs.Canonical.{done, not_connected_line, not_connected_outcome}
 
 -- why moves certify no table: the first move that is refused, by its place from 1, or the last table, which is table 0, isn't
--- connected, or has another signature than the standard sphere; want of memory has no line of its own
+-- connected, or has another signature than the standard sphere
 unfoldable pub check_line : CheckFault (List ℕ) → List ℕ
-check_line NoMemory = []
 check_line (Illegal step fault) = line (codes "refused: check illegal " ++ decimal step ++ codes " " ++ move_fault_text fault)
 check_line (NotConnected t) = not_connected_line 0 t
 check_line (NotStandard text) = line (codes "refused: check not-standard " ++ text)

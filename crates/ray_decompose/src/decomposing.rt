@@ -1,16 +1,18 @@
 // A solution as a sum of listed rays.
 
 ghost use Rattle.std.specs.Prelude.{◌≡◌, ℕ, ◌≤◌, IfOk, IfErr, slice_index};
+ghost use Rattle.no_memory.specs.Failures.{IfFault};
 ghost use Rattle.cone_core.specs.declared.numbers.TheConstants.{MAX_ENTRY};
-ghost use Rattle.sum_definitions.specs.Sums.{HasRays, IsSum, SumFails};
+ghost use Rattle.sum_definitions.specs.Sums.{HasRays, IsSum, IsLargeTurn};
 ghost use Rattle.sum_laws.specs.Laws.{IsSumOfRays};
 
 use crate::columns::{first_large, is_inside};
 use crate::fraction::least_fraction;
 use crate::taking::{repeat, take_out};
 use cone_core::{MAX_ENTRY, Ray, System};
+use no_memory::Failure;
 use std::alloc::Global;
-use sum_definitions::SumFault;
+use sum_definitions::LargeTurn;
 
 /// A ray, taken so many times.
 pub type Term = sum_definitions::Term<Ray>;
@@ -33,14 +35,14 @@ pub fn decompose(
     list: &[Ray],
     x: &[u128],
     limit: u128,
-) -> Result<Sum, SumFault>
+) -> Result<Sum, Failure<LargeTurn>>
     requires rays { HasRays system.now.columns system.now.rows list.now x.now }
     requires entries { (column : ℕ) → slice_index x.now column ≤ MAX_ENTRY }
     requires some_limit { 1 ≤ limit }
     requires most_limit { limit ≤ MAX_ENTRY }
     ensures ok { IfOk result (λ sum. IsSum limit list.now x.now sum.times sum.terms.items) }
     ensures right { IfOk result (λ sum. IsSumOfRays list.now limit x.now sum.times sum.terms.items) }
-    ensures err { IfErr result (SumFails limit list.now x.now) }
+    ensures err { IfErr result (λ e. IfFault e (λ large. IsLargeTurn limit list.now x.now large.turn large.column)) }
 {
     let mut times = 1;
     let mut terms: Vec<Term> = Vec::with_capacity(alloc, system.columns() as usize)?;
@@ -51,7 +53,7 @@ pub fn decompose(
             let fraction = least_fraction(&rest, ray.entries());
             if let Some(column) = first_large(x, fraction.denominator, times, limit) {
                 let turn = terms.len() as u32;
-                return Err(SumFault::Large { turn, column });
+                return Err(Failure::Fault(LargeTurn { turn, column }));
             }
             times = fraction.denominator * times;
             repeat(&mut terms, fraction.denominator);

@@ -10,4 +10,4 @@ mod taking;
 
 pub use adding::{Given, add_up};
 pub use decomposing::{Sum, Term, decompose};
-pub use sum_definitions::{AddFault, SumFault};
+pub use sum_definitions::{AddFault, LargeTurn};

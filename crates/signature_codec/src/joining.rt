@@ -12,9 +12,8 @@ ghost use Rattle.signature_codec.specs.Shown.{slots_shown, parts_shown};
 use crate::SigFault;
 use crate::parts::Parts;
 use gluing_table::{Face, Glue, Row};
-use no_memory::NoMemory;
 use perm_four::perm_at;
-use std::alloc::Global;
+use std::alloc::{AllocError, Global};
 
 /// What each face is glued to, where it was met; the number of tetrahedra that are seen; and how many types, and how
 /// many destinations and gluings, were used.
@@ -198,7 +197,7 @@ fn row_of(met: &[Option<Option<Glue>>], tet: u32) -> Row
     ]
 }
 
-fn rows_of(alloc: Global, count: u32, met: &[Option<Option<Glue>>]) -> Result<Vec<Row>, NoMemory>
+fn rows_of(alloc: Global, count: u32, met: &[Option<Option<Glue>>]) -> Result<Vec<Row>, AllocError>
     requires { length met.now ≡ 4 * count }
     ensures { IfOk result (λ rows. rows.items ≡ slots.slot_rows count met.now) }
 {

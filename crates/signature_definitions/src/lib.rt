@@ -9,7 +9,6 @@ ghost use Rattle.table_definitions.specs.declared.TextFault.TheVariants as TextV
 ghost use Rattle.signature_definitions.specs.declared.SigFault.TheVariants as SigVariants;
 ghost use Rattle.signature_definitions.specs.declared.InputFault.TheVariants as InputVariants;
 
-use no_memory::NoMemory;
 use std::alloc::{AllocError, AllocFailed};
 use table_definitions::TextFault;
 use text_definitions::LexFault;
@@ -54,14 +53,6 @@ impl<T: Drop> From<AllocFailed<T>> for SigFault {
     ghost from_gives = { λ _ e. e ≡ SigVariants.NoMemory };
 
     fn from(_failed: AllocFailed<T>) -> SigFault {
-        SigFault::NoMemory
-    }
-}
-
-impl From<NoMemory> for SigFault {
-    ghost from_gives = { λ _ e. e ≡ SigVariants.NoMemory };
-
-    fn from(_error: NoMemory) -> SigFault {
         SigFault::NoMemory
     }
 }

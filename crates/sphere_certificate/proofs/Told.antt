@@ -1,10 +1,13 @@
 -- What is told of a last table is told of the moves that lead to it.
 use Rattle.std.proofs.Common.{◌≡◌, ℕ, List, [], ◌∷◌, ◌++◌, Result, Ok, Err, IfErr, refl, sym, subst}
+use Rattle.no_memory.specs.declared.Failure.{Failure}
+use Rattle.no_memory.specs.declared.Failure.TheVariants.{NoMemory, Fault}
+use Rattle.no_memory.specs.Failures.{IfFault}
 use Rattle.table_definitions.specs.Table.{Row, IsTable}
 use Rattle.move_definitions.specs.Moves.{Move, PlaysAll}
 use Rattle.move_definitions.specs.Certificates.{IsStandard, IsCertificate}
 use Rattle.certificate_definitions.specs.declared.CheckFault.{CheckFault}
-use Rattle.certificate_definitions.specs.declared.CheckFault.TheVariants.{NoMemory, Illegal, NotConnected, NotStandard}
+use Rattle.certificate_definitions.specs.declared.CheckFault.TheVariants.{Illegal, NotConnected, NotStandard}
 use Rattle.certificate_definitions.specs.Answers.{CheckAnswer, IsChecked}
 use Rattle.certificate_laws.proofs.Checked.{answers_agree_lem}
 
@@ -15,7 +18,6 @@ none_refused (k ∷ ks) after m e = cc
 -- where the moves lead to a table, what is answered to this without moves is answered to them
 pub checked_on : (rows : List Row) (moves : List Move) (last : List Row) (answer : CheckAnswer) → PlaysAll rows moves last → IsChecked last [] answer → IsChecked rows moves answer
 checked_on rows moves last (Ok u) led (end, same, s) = (last, led, subst IsStandard (sym same) s)
-checked_on rows moves last (Err NoMemory) led h = absurd h
 checked_on rows moves last (Err (Illegal step fault)) led r = absurd (none_refused r.before r.after r.refused r.all)
 checked_on rows moves last (Err (NotConnected t)) led (end, same, u) = (end, subst (λ (table : List Row). PlaysAll rows moves table) same led, u)
 checked_on rows moves last (Err (NotStandard text)) led (end, same, c, h, n) = (end, subst (λ (table : List Row). PlaysAll rows moves table) same led, c, h, n)
@@ -31,6 +33,7 @@ fault_or_certificate rows moves fault table h k = differ (Err fault) (Ok tt) (an
     differ a b e p q = cc
 
 -- what a fault is, another says
-pub fault_goes : {A E : Type 0} {P Q : E → Type 0} (r : Result A E) → ((e : E) → P e → Q e) → IfErr r P → IfErr r Q
+pub fault_goes : {A E : Type 0} {P Q : E → Type 0} (r : Result A (Failure E)) → ((e : E) → P e → Q e) → IfErr r (λ e. IfFault e P) → IfErr r (λ e. IfFault e Q)
 fault_goes (Ok a) f h = tt
-fault_goes (Err e) f h = f e h
+fault_goes (Err NoMemory) f h = tt
+fault_goes (Err (Fault e)) f h = f e h

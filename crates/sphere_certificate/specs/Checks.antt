@@ -2,11 +2,10 @@
 use Rattle.std.specs.Prelude.{ℕ, List, Vec}
 use Rattle.std.specs.declared.alloc.Global.{Global}
 use Rattle.certificate_definitions.specs.declared.CheckFault.{CheckFault}
-use Rattle.certificate_definitions.specs.declared.CheckFault.TheVariants.{NoMemory, Illegal, NotConnected, NotStandard}
+use Rattle.certificate_definitions.specs.declared.CheckFault.TheVariants.{Illegal, NotConnected, NotStandard}
 
 -- a fault, whose signature is the list of its bytes
 abbrev pub told : CheckFault (Vec ℕ Global) → CheckFault (List ℕ)
-told NoMemory = NoMemory
 told (Illegal step fault) = Illegal step fault
 told (NotConnected t) = NotConnected t
 told (NotStandard text) = NotStandard text.items

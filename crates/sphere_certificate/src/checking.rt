@@ -1,15 +1,16 @@
 //! Whether moves certify a table.
 
-ghost use Rattle.std.specs.Prelude.{◌≡◌, ◌≢◌, ◌<◌, ◌-◌, ◌^◌, ◌↔◌, [], length, Ok, Err, IsTrue, IfErr, OnOk};
+ghost use Rattle.std.specs.Prelude.{◌≡◌, ◌<◌, ◌-◌, ◌^◌, ◌↔◌, [], length, Ok, Err, IsTrue, IfErr, OnOk};
+ghost use Rattle.no_memory.specs.Failures.{IfFault};
 ghost use Rattle.table_definitions.specs.Table.{IsTable};
 ghost use Rattle.move_definitions.specs.Moves.{PlaysAll};
 ghost use Rattle.move_definitions.specs.Certificates.{IsStandard, IsCertificate};
 ghost use Rattle.certificate_definitions.specs.Answers.{IsChecked, sphere_text};
-ghost use Rattle.certificate_definitions.specs.declared.CheckFault.TheVariants as check_faults;
 ghost use Rattle.sphere_certificate.specs.Checks.{told};
 
 use canonical_labelling::{WalkFault, signature};
 use gluing_table::Table;
+use no_memory::Failure;
 use pachner_moves::{Move, apply};
 use std::alloc::Global;
 
@@ -42,29 +43,31 @@ pub fn is_sphere(text: &[u8]) -> bool
 }
 
 /// Whether a table is a relabelling of the standard sphere, which its signature tells.
-fn judge(alloc: Global, last: &Table) -> Result<(), CheckFault>
+fn judge(alloc: Global, last: &Table) -> Result<(), Failure<CheckFault>>
     requires { IsTable last.now }
     ensures standard { OnOk result (IsStandard last.now) }
-    ensures fault { IfErr result (λ e. e ≢ check_faults.NoMemory → IsChecked last.now [] (Err (told e))) }
+    ensures fault { IfErr result (λ e. IfFault e (λ fault. IsChecked last.now [] (Err (told fault)))) }
 {
     match signature(alloc, last) {
         Ok(text) if is_sphere(&text) => Ok(()),
-        Ok(signature) => Err(CheckFault::NotStandard { signature }),
-        Err(WalkFault::NotConnected { tet }) => Err(CheckFault::NotConnected { tet }),
-        Err(WalkFault::NoMemory) => Err(CheckFault::NoMemory),
+        Ok(signature) => Err(Failure::Fault(CheckFault::NotStandard { signature })),
+        Err(WalkFault::NotConnected { tet }) => Err(Failure::Fault(CheckFault::NotConnected {
+            tet,
+        })),
+        Err(WalkFault::NoMemory) => Err(Failure::NoMemory),
     }
 }
 
 /// Whether moves are a certificate of a table: they lead from it, one after another, to a relabelling of the standard
 /// sphere (Pachner). `Illegal` names the first move that is refused, counted from 1; else `NotConnected` the least
 /// tetrahedron of the last table that isn't reached; else `NotStandard` has its signature.
-pub fn check(alloc: Global, table: &Table, moves: &[Move]) -> Result<(), CheckFault>
+pub fn check(alloc: Global, table: &Table, moves: &[Move]) -> Result<(), Failure<CheckFault>>
     requires few { length moves.now < 2 ^ 32 - 1 }
     ensures certificate { OnOk result (IsCertificate table.now moves.now) }
-    ensures fault { IfErr result (λ e. e ≢ check_faults.NoMemory → IsChecked table.now moves.now (Err (told e))) }
-    ensures no_certificate { IfErr result (λ e. e ≢ check_faults.NoMemory → IsCertificate table.now moves.now → ⊥) }
+    ensures fault { IfErr result (λ e. IfFault e (λ fault. IsChecked table.now moves.now (Err (told fault)))) }
+    ensures no_certificate { IfErr result (λ e. IfFault e (λ _. IsCertificate table.now moves.now → ⊥)) }
 {
     let mut last = table.copy(alloc)?;
-    play_all(&mut last, moves)?;
+    play_all(&mut last, moves).map_err(Failure::Fault)?;
     judge(alloc, &last)
 }

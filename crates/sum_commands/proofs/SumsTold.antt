@@ -8,10 +8,7 @@ use Rattle.sum_definitions.specs.Sums.{IsLargeTurn}
 use Rattle.document_definitions.specs.Blocks.{Block, block_text, blocks_text}
 use Rattle.command_answers.specs.Reads.{all_entries}
 use Rattle.outcome_definitions.specs.Sums.{IsFirstRefused, IsSummed}
-use Rattle.sum_definitions.specs.declared.SumFault.{SumFault}
-use Rattle.sum_definitions.specs.declared.SumFault.TheVariants.{NoMemory, Large}
-use Rattle.sum_commands.specs.declared.decompose_command.SumsFault.{SumsFault}
-use Rattle.sum_commands.specs.Telling.{fault_at, AreSummedIn, TellsSum, TellsSums}
+use Rattle.sum_commands.specs.Telling.{AreSummedIn, TellsSum}
 use Rattle.sum_commands.proofs.Walks.{seen_more, first_refused, told_more, have_answers}
 
 abbrev pub entries : Vec ℕ Global → List ℕ
@@ -36,15 +33,8 @@ module _ (most : ℕ) (list : List (List ℕ)) (rows : List Row) where
         subst (λ (ys : List (List ℕ)). AreSummedIn most list rows ys now) (sym (seen_more entries vs v x l e))
         (more_summed (all_entries (take v vs)) x.items before now told (subst (λ (ys : List ℕ). TellsSum most list ys before now (Ok u)) same h))
 
-    large_told : (turn column : ℕ) → IsLargeTurn most list xs turn column → IsFirstRefused (IsSummed most list) (all_entries vs) v (turn, column)
+    -- the sum of one more gets too large
+    pub large_told : (turn column : ℕ) → IsLargeTurn most list xs turn column → IsFirstRefused (IsSummed most list) (all_entries vs) v (turn, column)
     large_told turn column h =
         first_refused entries (IsSummed most list) vs v x (turn, column) l e (have_answers (IsSummed most list) (all_entries (take v vs)) told.told told.sums)
         (subst (λ (ys : List ℕ). IsSummed most list ys (Err (turn, column))) same h)
-
-    fault_told : (fault : SumFault) → TellsSum most list xs before now (Err fault) → TellsSums most list rows (all_entries vs) (Err (fault_at v fault))
-    fault_told NoMemory h = tt
-    fault_told (Large turn column) h = large_told turn column h
-
-    -- the sum of one more gets too large, and that is the fault of the whole
-    pub next_fault : (fault : SumFault) (whole : SumsFault) → TellsSum most list xs before now (Err fault) → whole ≡ fault_at v fault → TellsSums most list rows (all_entries vs) (Err whole)
-    next_fault fault whole h is = subst (λ (w : SumsFault). TellsSums most list rows (all_entries vs) (Err w)) (sym is) (fault_told fault h)

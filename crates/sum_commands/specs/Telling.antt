@@ -2,18 +2,18 @@
 use Rattle.std.specs.Prelude.{◌≡◌, ℕ, ◌≤◌, List, ◌++◌, Vec, Result, Ok, Err, slice_index}
 use Rattle.std.specs.declared.alloc.Global.{Global}
 use Rattle.std.specs.List.{All, AllZip}
+use Rattle.no_memory.specs.declared.Failure.{Failure}
+use Rattle.no_memory.specs.declared.Failure.TheVariants.{NoMemory, Fault}
 use Rattle.text_definitions.specs.Written.{limit}
 use Rattle.cone_definitions.specs.Systems.{Cone}
 use Rattle.table_definitions.specs.Table.{Row}
 use Rattle.table_definitions.specs.TableText.{table_text}
 use Rattle.sum_definitions.specs.Sums.{HasRays, IsLargeTurn}
-use Rattle.sum_definitions.specs.declared.SumFault.{SumFault}
-use Rattle.sum_definitions.specs.declared.SumFault.TheVariants as one
+use Rattle.sum_definitions.specs.declared.LargeTurn.{LargeTurn}
 use Rattle.document_definitions.specs.Blocks.{Block, block_text, blocks_text}
 use Rattle.outcome_definitions.specs.Outcomes.{Outcome}
 use Rattle.outcome_definitions.specs.Sums.{IsFirstRefused, IsSummed, AreTold, sums_outcome}
-use Rattle.sum_commands.specs.declared.decompose_command.SumsFault.{SumsFault}
-use Rattle.sum_commands.specs.declared.decompose_command.SumsFault.TheVariants as each
+use Rattle.sum_commands.specs.declared.checks.FirstFault.{FirstFault}
 
 -- no entry of the vectors passes the greatest number of a document
 abbrev pub AreInRange : List (List ℕ) → Type 0
@@ -23,16 +23,11 @@ AreInRange vectors = All (λ x. (column : ℕ) → slice_index x column ≤ limi
 abbrev pub HaveRays : Cone → List (List ℕ) → List (List ℕ) → Type 0
 HaveRays system list vectors = All (HasRays system.columns system.rows list) vectors
 
--- the fault of a vector by its number
-abbrev pub fault_at : ℕ → SumFault → SumsFault
-fault_at v one.NoMemory = each.NoMemory
-fault_at v (one.Large turn column) = each.Large v turn column
-
 -- the block of a vector is appended, or its sum gets too large
-abbrev pub TellsSum : ℕ → List (List ℕ) → List ℕ → List ℕ → List ℕ → Result (Unit {0}) SumFault → Type 0
+abbrev pub TellsSum : ℕ → List (List ℕ) → List ℕ → List ℕ → List ℕ → Result (Unit {0}) (Failure LargeTurn) → Type 0
 TellsSum most list x before now (Ok done) = (block : Block) × IsSummed most list x (Ok block) × (now ≡ before ++ block_text block)
-TellsSum most list x before now (Err (one.Large turn column)) = IsLargeTurn most list x turn column
-TellsSum most list x before now (Err one.NoMemory) = Unit {0}
+TellsSum most list x before now (Err (Fault large)) = IsLargeTurn most list x large.turn large.column
+TellsSum most list x before now (Err NoMemory) = Unit {0}
 
 -- text is the table and the blocks of these vectors
 pub record AreSummedIn (most : ℕ) (list : List (List ℕ)) (rows : List Row) (vectors : List (List ℕ)) (text : List ℕ) : Type 0 where
@@ -41,10 +36,10 @@ pub record AreSummedIn (most : ℕ) (list : List (List ℕ)) (rows : List Row) (
   pub lines : text ≡ table_text rows ++ blocks_text told
 
 -- the table and the blocks of all vectors, or the first whose sum gets too large
-abbrev pub TellsSums : ℕ → List (List ℕ) → List Row → List (List ℕ) → Result (Vec ℕ Global) SumsFault → Type 0
+abbrev pub TellsSums : ℕ → List (List ℕ) → List Row → List (List ℕ) → Result (Vec ℕ Global) (Failure (FirstFault LargeTurn)) → Type 0
 TellsSums most list rows vectors (Ok text) = AreSummedIn most list rows vectors text.items
-TellsSums most list rows vectors (Err (each.Large v turn column)) = IsFirstRefused (IsSummed most list) vectors v (turn, column)
-TellsSums most list rows vectors (Err each.NoMemory) = Unit {0}
+TellsSums most list rows vectors (Err (Fault first)) = IsFirstRefused (IsSummed most list) vectors first.number (first.fault.turn, first.fault.column)
+TellsSums most list rows vectors (Err NoMemory) = Unit {0}
 
 -- what is told of the vectors is the outcome
 abbrev pub TellsList : ℕ → List (List ℕ) → List Row → List (List ℕ) → Outcome → Type 0

@@ -10,9 +10,9 @@ ghost use Rattle.sum_definitions.specs.Sums.{HasRays};
 ghost use Rattle.command_answers.specs.Reads.{all_entries};
 ghost use Rattle.outcome_definitions.specs.Outcomes.{IsReadOutcome};
 ghost use Rattle.outcome_definitions.specs.Sums.{IsDecomposeAnswer};
-ghost use Rattle.sum_commands.specs.Telling.{fault_at, TellsSum, TellsSums, TellsList, AreInRange, HaveRays};
+ghost use Rattle.sum_commands.specs.Telling.{TellsSum, TellsSums, TellsList, AreInRange, HaveRays};
 
-use crate::checks::check_vectors;
+use crate::checks::{FirstFault, check_vectors};
 use crate::refusals::refusal_outcome;
 use crate::writing::append_block;
 use command_answers::{Outcome, fault_outcome, read_table_and_vectors};
@@ -20,49 +20,12 @@ use cone_core::{MAX_ENTRY, Ray, System};
 use double_description::{EnumFault, Order};
 use gluing_table::{Table, write_table};
 use matching_equations::{Coords, equations};
-use no_memory::NoMemory;
+use no_memory::{Failure, NoMemory};
 use outcome_definitions::{Status, SumRefusal};
-use ray_decompose::SumFault;
+use ray_decompose::LargeTurn;
 use std::alloc::Global;
 use surface_answers::large_outcome;
 use surface_list::surfaces_by;
-
-/// Why the vectors of a document aren't told as sums.
-#[derive(Clone, Copy, Debug, PartialEq, Eq)]
-pub enum SumsFault {
-    NoMemory,
-    /// The sum of the vector of this number, which counts from 0, gets too large at this turn, and first at this column.
-    Large {
-        vector: usize,
-        turn: u32,
-        column: u32,
-    },
-}
-
-impl From<NoMemory> for SumsFault {
-    ghost use Rattle.std.specs.Prelude.{◌≡◌};
-    ghost use Rattle.sum_commands.specs.declared.decompose_command.SumsFault.TheVariants as faults;
-
-    ghost from_gives = { λ _ e. e ≡ faults.NoMemory };
-
-    fn from(_error: NoMemory) -> SumsFault {
-        SumsFault::NoMemory
-    }
-}
-
-// The fault of the vector of this number.
-fn fault_at(vector: usize, fault: SumFault) -> SumsFault
-    ensures { result ≡ fault_at vector fault }
-{
-    match fault {
-        SumFault::NoMemory => SumsFault::NoMemory,
-        SumFault::Large { turn, column } => SumsFault::Large {
-            vector,
-            turn,
-            column,
-        },
-    }
-}
 
 // The block of a vector, behind the others.
 fn append_sum(
@@ -72,7 +35,7 @@ fn append_sum(
     x: &[u128],
     limit: u128,
     out: &mut Vec<u8>,
-) -> Result<(), SumFault>
+) -> Result<(), Failure<LargeTurn>>
     requires rays { HasRays system.now.columns system.now.rows list.now x.now }
     requires entries { (column : ℕ) → slice_index x.now column ≤ MAX_ENTRY }
     requires some_limit { 1 ≤ limit }
@@ -92,7 +55,7 @@ fn sums(
     list: &[Ray],
     vectors: &[Vec<u128>],
     limit: u128,
-) -> Result<Vec<u8>, SumsFault>
+) -> Result<Vec<u8>, Failure<FirstFault<LargeTurn>>>
     requires rays { HaveRays system.now list.now (all_entries vectors.now) }
     requires entries { AreInRange (all_entries vectors.now) }
     requires some_limit { 1 ≤ limit }
@@ -104,7 +67,11 @@ fn sums(
     for vector in 0..vectors.len() {
         match append_sum(alloc, system, list, &vectors[vector], limit, &mut text) {
             Ok(()) => {}
-            Err(fault) => return Err(fault_at(vector, fault)),
+            Err(Failure::NoMemory) => return Err(Failure::NoMemory),
+            Err(Failure::Fault(fault)) => return Err(Failure::Fault(FirstFault {
+                number: vector,
+                fault,
+            })),
         }
     }
     Ok(text)
@@ -127,14 +94,11 @@ fn summed(
 {
     match sums(alloc, table, system, list, vectors, limit) {
         Ok(text) => Ok(Outcome::built(Status::Done, text)),
-        Err(
-            SumsFault::Large {
-                vector,
-                turn,
-                column,
-            },
-        ) => refusal_outcome(alloc, vector, SumRefusal::LargeTimes { turn, column }),
-        Err(SumsFault::NoMemory) => Err(NoMemory),
+        Err(Failure::Fault(FirstFault { number, fault })) => {
+            let LargeTurn { turn, column } = fault;
+            refusal_outcome(alloc, number, SumRefusal::LargeTimes { turn, column })
+        }
+        Err(Failure::NoMemory) => Err(NoMemory),
     }
 }
 

@@ -5,8 +5,6 @@ use Rattle.std.specs.Int.{IsGcd}
 use Rattle.cone_definitions.specs.Vectors.{IsNonzero, IsInside, IsBefore, multiple}
 use Rattle.cone_definitions.specs.Rows.{Row, IsSolution, IsPrimitiveExtreme}
 use Rattle.sum_definitions.specs.declared.Term.{Term as Taken}
-use Rattle.sum_definitions.specs.declared.SumFault.{SumFault}
-use Rattle.sum_definitions.specs.declared.SumFault.TheVariants.{NoMemory, Large}
 
 -- a vector, taken so many times
 abbrev pub Term : Type 0
@@ -88,11 +86,6 @@ pub record IsLargeTurn (limit : ℕ) (list : List (List ℕ)) (x : List ℕ) (tu
   pub turns : IsTurn list before next
   pub large : limit < next.times * slice_index x column
   pub first : (earlier : ℕ) → earlier < column → next.times * slice_index x earlier ≤ limit
-
--- why no sum is answered: the turn and the column at which it gets too large; want of memory has no condition
-abbrev pub SumFails : ℕ → List (List ℕ) → List ℕ → SumFault → Type 0
-SumFails limit list x NoMemory = Unit {0}
-SumFails limit list x (Large turn column) = IsLargeTurn limit list x turn column
 
 -- x is a solution; the list ascends, its vectors are primitive extreme solutions, and all those inside x are listed
 pub record HasRays (columns : ℕ) (rows : List Row) (list : List (List ℕ)) (x : List ℕ) : Type 0 where

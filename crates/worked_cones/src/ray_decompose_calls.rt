@@ -2,8 +2,8 @@ ghost use Rattle.std.specs.Prelude.{◌≡◌, ◌<◌, [], ◌∷◌, IfOk};
 ghost use Rattle.cone_definitions.specs.WorkedRow.{worked_row};
 
 use cone_core::{MAX_ENTRY, Ray, SparseRow, System, combine};
-use no_memory::NoMemory;
-use ray_decompose::{AddFault, Given, SumFault, add_up, decompose};
+use no_memory::{Failure, NoMemory};
+use ray_decompose::{AddFault, Given, LargeTurn, add_up, decompose};
 use std::alloc::Global;
 use std::test::Fail;
 use sum_laws::worked_sums;
@@ -75,6 +75,9 @@ fn a_solution_is_a_sum_of_rays(rt: HostRuntime) -> Result<(), Fail> {
     assert_eq!(rt; (sum.times, sum.terms.len()), (2, 2));
     assert!(rt; sum.terms.iter().all(|term| term.count == 1));
     let large = decompose(alloc, &system, &rays, &[1, 1, 1], 1).err();
-    assert_eq!(rt; large, Some(SumFault::Large { turn: 0, column: 0 }));
+    assert_eq!(rt;
+        large,
+        Some(Failure::Fault(LargeTurn { turn: 0, column: 0 }))
+    );
     Ok(())
 }

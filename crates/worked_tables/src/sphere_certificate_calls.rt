@@ -1,4 +1,5 @@
 use crate::sample_tables::move_at;
+use no_memory::Failure;
 use pachner_moves::{MoveFault, apply};
 use signature_codec::read_signature;
 use sphere_certificate::{CheckFault, check, descend, standard};
@@ -20,7 +21,7 @@ fn moves_are_refused_by_their_step(rt: HostRuntime) -> Result<(), Fail> {
     let moves = [move_at(&rt, 0, 15), move_at(&rt, 0, 8), move_at(&rt, 0, 14)];
     assert!(rt; check(alloc, &sphere, &moves[..2]).is_ok());
     match check(alloc, &sphere, &moves) {
-        Err(CheckFault::Illegal { step, fault }) => {
+        Err(Failure::Fault(CheckFault::Illegal { step, fault })) => {
             assert_eq!(rt; step, 3);
             assert_eq!(rt; fault, MoveFault::Repeated { label: 3 });
         }
@@ -34,7 +35,7 @@ fn other_tables_have_another_signature(rt: HostRuntime) -> Result<(), Fail> {
     let alloc = rt.alloc();
     let table = read_signature(alloc, b"bkaagb")?;
     match check(alloc, &table, &[]) {
-        Err(CheckFault::NotStandard { signature }) => {
+        Err(Failure::Fault(CheckFault::NotStandard { signature })) => {
             assert_eq!(rt; signature.as_slice(), b"bkaagb".as_slice());
         }
         _ => assert!(rt; false, "not refused"),

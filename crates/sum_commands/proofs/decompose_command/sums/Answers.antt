@@ -1,10 +1,13 @@
 -- Each vector up to the first whose sum gets too large is told.
-use Rattle.std.proofs.Common.{ℕ, ◌≤◌, List, sym, subst}
+use Rattle.std.proofs.Common.{ℕ, ◌≤◌, List, Err, sym, subst}
 use Rattle.std.specs.Prelude.{slice_index}
+use Rattle.no_memory.specs.declared.Failure.{Failure}
 use Rattle.text_definitions.specs.Written.{limit}
+use Rattle.sum_definitions.specs.declared.LargeTurn.{LargeTurn}
 use Rattle.sum_definitions.specs.Sums.{HasRays}
+use Rattle.sum_commands.specs.Telling.{TellsSum}
 use Rattle.sum_commands.proofs.Walks.{seen_at}
-use Rattle.sum_commands.proofs.SumsTold.{entries, next_summed, next_fault}
+use Rattle.sum_commands.proofs.SumsTold.{entries, next_summed, large_told}
 use Rattle.sum_commands.proofs.decompose_command.sums.Goals as goal
 
 pub append_sum-requires-clause-rays : goal.append_sum-requires-clause-rays
@@ -17,10 +20,11 @@ append_sum-requires-clause-entries c =
     subst (λ (xs : List ℕ). (column : ℕ) → slice_index xs column ≤ limit) (sym c.deref.ensures.value)
     (seen_at entries (λ (xs : List ℕ). (column : ℕ) → slice_index xs column ≤ limit) c.args.vectors.now c.loop-vector.vector c.index-vectors-vector.result c.loop-vector-test.true c.index-vectors-vector.is c.requires.entries)
 
-pub returns-in-Err : goal.returns-in-Err
-returns-in-Err c =
-    next_fault c.args.limit c.args.list.now c.args.table.now c.args.vectors.now c.loop-vector.vector c.index-vectors-vector.result c.deref.result.now c.loop-vector.text.items c.append_sum.new.out.items
-    c.loop-vector-test.true c.index-vectors-vector.is c.deref.ensures.value c.loop-vector.invariant c.in-Err.fault c.fault_at.result c.in-Err.ensures c.fault_at.ensures
+pub returns-in-Err-Fault : goal.returns-in-Err-Fault
+returns-in-Err-Fault c =
+    large_told c.args.limit c.args.list.now c.args.table.now c.args.vectors.now c.loop-vector.vector c.index-vectors-vector.result c.deref.result.now c.loop-vector.text.items c.append_sum.new.out.items
+    c.loop-vector-test.true c.index-vectors-vector.is c.deref.ensures.value c.loop-vector.invariant c.in-Err-Fault.fault.turn c.in-Err-Fault.fault.column
+    (subst (λ (f : Failure LargeTurn). TellsSum c.args.limit c.args.list.now c.deref.result.now c.loop-vector.text.items c.append_sum.new.out.items (Err f)) c.in-Err-Fault.field-0-is c.in-Err-Fault.ensures)
 
 pub loop-vector-preserved : goal.loop-vector-preserved
 loop-vector-preserved c =
