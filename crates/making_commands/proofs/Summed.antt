@@ -45,14 +45,14 @@ pub large_told : (n : Numbers) (rows : List Row) (taken : Vec ℕ Global) (kind 
 large_told n rows taken kind o a same = record { equations = a.0; of_table = a.1; told = inr (record { taken = taken.items; kind = kind; past = a.2; outcome = same }) }
 
 -- a summary of the table that was made
-pub bulk_told : (seed moves : ℕ) (table : List Row) (certificate : List Move) (n : Numbers) (rows : List Row) (o : Outcome) → IsMade seed moves table certificate → IsCertificate table certificate
-    → n ≡ record { seed = seed; moves = length certificate; tetrahedra = length table } → rows ≡ table → IsSummary n rows o → IsBulkAnswer seed moves o
-bulk_told seed moves table certificate n rows o made accepted e r h = record {
+pub bulk_told : (seed moves : ℕ) (table : List Row) (certificate : List Move) (n : Numbers) (o : Outcome) → IsMade seed moves table certificate → IsCertificate table certificate
+    → n ≡ record { seed = seed; moves = length certificate; tetrahedra = length table } → IsSummary n table o → IsBulkAnswer seed moves o
+bulk_told seed moves table certificate n o made accepted e h = record {
   table = table;
   certificate = certificate;
   made = made;
   accepted = accepted;
-  summary = subst (λ (k : Numbers). IsSummary k table o) e (subst (λ (t : List Row). IsSummary n t o) r h);
+  summary = subst (λ (k : Numbers). IsSummary k table o) e h;
 }
 
 pub numbers_are : (seed moves tetrahedra : ℕ) (table : List Row) (certificate : List Move) (n : Numbers) → n ≡ record { seed = seed; moves = moves; tetrahedra = tetrahedra } → moves ≡ length certificate → tetrahedra ≡ length table

@@ -8,6 +8,7 @@ use crate::summaries::{Numbers, summary_outcome};
 use command_answers::Outcome;
 use cone_core::MAX_ENTRY;
 use double_description::{EnumFault, Order};
+use gluing_table::Table;
 use matching_equations::Coords;
 use no_memory::NoMemory;
 use skeleton::Skeleton;
@@ -39,6 +40,14 @@ fn summed_up(alloc: Global, numbers: Numbers, skeleton: &Skeleton) -> Result<Out
     }
 }
 
+// What is told of a table that was made.
+fn summary_of(alloc: Global, numbers: Numbers, table: &Table) -> Result<Outcome, NoMemory>
+    ensures { IfOk result (IsSummary numbers table.now) }
+{
+    let skeleton = Skeleton::of(alloc, table)?;
+    summed_up(alloc, numbers, &skeleton)
+}
+
 /// The outcome of `bulk`: a table is made by up to so many moves from a seed, its certificate is accepted, and its vertex
 /// surfaces in standard coordinates are summed up; or a number passes the limit while they are listed.
 pub fn bulk(alloc: Global, seed: u64, moves: u32) -> Result<Outcome, NoMemory>
@@ -52,6 +61,5 @@ pub fn bulk(alloc: Global, seed: u64, moves: u32) -> Result<Outcome, NoMemory>
         moves: made.certificate.len() as u32,
         tetrahedra: made.table.len(),
     };
-    let skeleton = Skeleton::of(alloc, &made.table)?;
-    summed_up(alloc, numbers, &skeleton)
+    summary_of(alloc, numbers, &made.table)
 }
