@@ -4,3 +4,4 @@ pub mod Completeness
 mod Responses
 pub mod FewSurfaces
 pub mod Meant
+pub mod Endings

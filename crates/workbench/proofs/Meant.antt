@@ -80,35 +80,11 @@ module _ (words : List (List ℕ)) (status : Status) (held grown : Option (List 
       | inr cut ↦ cut_of left cut
     ]
 
--- two requests of the same words are one
-same_request : (words : List (List ℕ)) (r q : Request) → accepted_request words ≡ Some r → accepted_request words ≡ Some q → r ≡ q
-same_request words r q e f = (let g : (let o : Option Request = Some r in o ≡ Some q) = sym e ∙ f in cc)
-
--- a command that reads nothing
-module _ (r : Request) (rest : Option (List ℕ)) (before now : ℕ) (o : Outcome) (held grown : Option (List ℕ)) (faults_before faults_now : ℕ) (status : Status) (nothing : reads_input r ≡ false) where
-  abbrev Alone : Type 0
-  Alone = (p : Outcome) × IsAnswerTo r [] p × (status ≡ p.status) × Grows held grown p.text
-
-  answered_alone : (left : Option (List ℕ)) → IsResponse r left rest before now o → IsDelivered o status held grown faults_before faults_now → IsAnswered status → Alone
-  answered_alone left (inl fault) (inl whole) h = absurd (let e : status ≡ ReadFault = whole.0 ∙ ap (λ (p : Outcome). p.status) fault.outcome in subst IsAnswered e h)
-  answered_alone left (inl fault) (inr cut) h = absurd (subst IsAnswered cut.0 h)
-  answered_alone left (inr well) (inl whole) h = (o, well.alone nothing, whole.0, whole.1)
-  answered_alone left (inr well) (inr cut) h = absurd (subst IsAnswered cut.0 h)
-
-  pub alone_or_cut : (left : Option (List ℕ)) → IsResponse r left rest before now o → IsDelivered o status held grown faults_before faults_now → Alone ⊎ IsCutShort status
-  alone_or_cut left response delivered = elim (answered_or_cut status) [
-    | inl told ↦ inl (answered_alone left response delivered told)
-    | inr cut ↦ inr cut
-  ]
-
--- what its outcome means, where the words are read
+-- what the outcome of a command means that reads nothing
 pub alone_told : (IsMeant : Outcome → Type 0) (asked : Request) → reads_input asked ≡ false → ((p : Outcome) → IsAnswerTo asked [] p → IsMeant p)
-    → (words : List (List ℕ)) (r : Request) → accepted_request words ≡ Some r → (rest : Option (List ℕ)) (before now : ℕ) (o : Outcome) (held grown : Option (List ℕ))
-    (faults_before faults_now : ℕ) (status : Status) (left : Option (List ℕ)) → IsResponse r left rest before now o → IsDelivered o status held grown faults_before faults_now
-    → accepted_request words ≡ Some asked → Writes IsMeant status held grown
-alone_told IsMeant asked nothing means words r accepted rest before now o held grown faults_before faults_now status left response delivered e =
-    let here : IsResponse asked left rest before now o = subst (λ (q : Request). IsResponse q left rest before now o) (same_request words r asked accepted e) response in
-    elim (alone_or_cut asked rest before now o held grown faults_before faults_now status nothing left here delivered) [
-      | inl t ↦ inl (t.0, means t.0 t.1, t.2, t.3)
-      | inr cut ↦ inr cut
-    ]
+    → (status : Status) (held grown : Option (List ℕ)) → (IsAnswered status → (p : Outcome) × IsAnswerTo asked [] p × (status ≡ p.status) × Grows held grown p.text)
+    → Writes IsMeant status held grown
+alone_told IsMeant asked nothing means status held grown h = elim (answered_or_cut status) [
+  | inl told ↦ (let t = h told in inl (t.0, means t.0 t.1, t.2, t.3))
+  | inr cut ↦ inr cut
+]

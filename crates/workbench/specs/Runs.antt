@@ -1,11 +1,12 @@
 -- What a run answers, over what is read and what is written.
-use Rattle.std.specs.Prelude.{◌≡◌, ℕ, ◌-◌, ◌^◌, ◌<◌, ◌≤◌, ◌+◌, true, false, List, [], length, take, Option, Some, None, ◌⊎◌, ⊤, IfSome}
+use Rattle.std.specs.Prelude.{◌≡◌, ◌↔◌, ℕ, ◌-◌, ◌^◌, ◌<◌, ◌≤◌, ◌+◌, true, false, List, [], length, take, Option, Some, None, ◌⊎◌, ⊤, IfSome}
 use Rattle.text_io.specs.Causes.{Grows, Rose, IsEnded}
 use Rattle.outcome_definitions.specs.declared.Status.{Status}
 use Rattle.outcome_definitions.specs.declared.Status.TheVariants.{Done, Usage, Input, Refused, Large, ReadFault, WriteFault, NoMemory}
 use Rattle.command_definitions.specs.declared.Request.{Request}
 use Rattle.command_definitions.specs.Requests.{reads_input}
 use Rattle.command_definitions.specs.Words.{accepted_request}
+use Rattle.outcome_definitions.specs.Lines.{read_line, usage_line}
 use Rattle.outcome_definitions.specs.Outcomes.{Outcome, IsOwnStatus, usage_outcome, read_outcome}
 use Rattle.outcome_definitions.specs.Answers.{IsOutcome, IsAnswerTo, IsRequestOutcome, most_bytes}
 
@@ -73,3 +74,25 @@ IsDue words left before now o = IsReadFault before now o
 abbrev pub IsDelivered : Outcome → Status → Option (List ℕ) → Option (List ℕ) → ℕ → ℕ → Type 0
 IsDelivered o result before now faults_before faults_now = ((result ≡ o.status) × Grows before now o.text × IsCalm faults_before faults_now)
     ⊎ ((result ≡ WriteFault) × IsCutOff before now o.text × Rose faults_before faults_now)
+
+-- What holds of each run, whatever is asked: of its words and its status, of the source before and after, with the bytes that it
+-- has left and its count of faults, and of the sink, with the bytes that it holds and its count.
+pub record IsRun {X Y : Type 0} (words : List (List ℕ)) (result : Status) (source read : X) (left rest : Option (List ℕ)) (faults read_faults : ℕ)
+    (sink written : Y) (held grown : Option (List ℕ)) (sink_faults write_faults : ℕ) : Type 0 where
+  pub usage : accepted_request words ≡ None → Answers result Usage × (read ≡ source)
+  pub usage_alone : result ≡ Usage → accepted_request words ≡ None
+  pub usage_told : result ≡ Usage → Grows held grown usage_line
+  pub read_fault : faults < 2 ^ 64 - 1 → faults < read_faults → (result ≡ ReadFault) ⊎ (result ≡ WriteFault)
+  pub read_fault_alone : result ≡ ReadFault → Rose faults read_faults
+  pub read_fault_told : result ≡ ReadFault → Grows held grown read_line
+  pub write_fault : sink_faults < 2 ^ 64 - 1 → ((result ≡ WriteFault) ↔ (sink_faults < write_faults))
+  pub prefix : result ≡ WriteFault → (o : Outcome) × IsDue words left faults read_faults o × IsCutOff held grown o.text
+  pub no_memory : result ≡ NoMemory → written ≡ sink
+  pub no_memory_calm : result ≡ NoMemory → IsCalm faults read_faults
+  pub no_memory_within : result ≡ NoMemory → IsWithin left rest
+  pub outcome : IsAnswered result → IfSome left (λ bytes. (o : Outcome) × IsOutcome words bytes o × (result ≡ o.status) × Grows held grown o.text)
+  pub end : (request : Request) → accepted_request words ≡ Some request → reads_input request ≡ true → result ≡ Done → IsEnded rest
+  pub untouched : (request : Request) → accepted_request words ≡ Some request → reads_input request ≡ false → read ≡ source
+  pub words_alone : (request : Request) → accepted_request words ≡ Some request → reads_input request ≡ false → IsAnswered result
+      → (o : Outcome) × IsAnswerTo request [] o × (result ≡ o.status) × Grows held grown o.text
+  pub answered : faults < 2 ^ 64 - 1 → sink_faults < 2 ^ 64 - 1 → read_faults ≡ faults → write_faults ≡ sink_faults → IsAnswered result ⊎ (result ≡ NoMemory)

@@ -25,7 +25,7 @@ ghost use Rattle.answer_laws.specs.Sums.{IsDecomposition, IsAddition};
 ghost use Rattle.answer_laws.specs.Covers.{IsCovering};
 ghost use Rattle.answer_laws.specs.Scripts.{IsPlayed};
 ghost use Rattle.workbench.specs.Prints.{PrintsSurfaces, PrintsRays, PrintsVerdicts, ListsSurfaces, IsCutShort, Writes, WritesOf, AnswersSurfaces, AnswersRays};
-ghost use Rattle.workbench.specs.Runs.{Answers, IsAnswered, IsCalm, IsWithin, IsResponse, IsWithoutMemory, IsCutOff, IsDue, IsDelivered};
+ghost use Rattle.workbench.specs.Runs.{Answers, IsAnswered, IsCalm, IsWithin, IsResponse, IsWithoutMemory, IsCutOff, IsDue, IsDelivered, IsRun};
 
 use certificate_commands::{check, descend};
 use command_answers::Outcome;
@@ -127,6 +127,26 @@ fn deliver<K: Sink>(outcome: &Outcome, sink: &mut K) -> Status
     match write_all(sink, outcome.text()) {
         Ok(()) => outcome.status(),
         Err(_) => Status::WriteFault,
+    }
+}
+
+// Reads the words, then the input, and writes the answer or the one line of a refusal.
+fn carry_out<S: Source, K: Sink>(
+    alloc: Global,
+    words: &Words,
+    source: &mut S,
+    sink: &mut K,
+) -> Status
+    ensures { IsRun words.now result source.old source.new (S.left source.old) (S.left source.new) (S.faults source.old) (S.faults source.new)
+        sink.old sink.new (K.held sink.old) (K.held sink.new) (K.faults sink.old) (K.faults sink.new) }
+{
+    match read_words(alloc, words) {
+        Ok(request) => match respond(alloc, request, source) {
+            Ok(outcome) => deliver(&outcome, sink),
+            Err(NoMemory) => Status::NoMemory,
+        },
+        Err(WordsFault::Usage) => deliver(&Outcome::usage(), sink),
+        Err(WordsFault::NoMemory) => Status::NoMemory,
     }
 }
 
@@ -232,12 +252,5 @@ pub fn run<S: Source, K: Sink>(alloc: Global, words: &Words, source: &mut S, sin
     ensures answered { S.faults source.old < 2 ^ 64 - 1 → K.faults sink.old < 2 ^ 64 - 1 → S.faults source.new ≡ S.faults source.old
         → K.faults sink.new ≡ K.faults sink.old → IsAnswered result ⊎ (result ≡ Status.NoMemory) }
 {
-    match read_words(alloc, words) {
-        Ok(request) => match respond(alloc, request, source) {
-            Ok(outcome) => deliver(&outcome, sink),
-            Err(NoMemory) => Status::NoMemory,
-        },
-        Err(WordsFault::Usage) => deliver(&Outcome::usage(), sink),
-        Err(WordsFault::NoMemory) => Status::NoMemory,
-    }
+    carry_out(alloc, words, source, sink)
 }
