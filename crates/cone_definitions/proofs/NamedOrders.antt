@@ -34,7 +34,6 @@ turn_one order system taken n m some s t =
 agree : (order : Order) (system : Cone) (xs ys : List ℕ) → order ≢ Free → AreNamed order system xs → AreNamed order system ys →
     (k : ℕ) → k ≤ length xs → k ≤ length ys → take k xs ≡ take k ys
 agree order system xs ys some hx hy zero lx ly = take_none xs ∙ sym (take_none ys)
-
 agree order system xs ys some hx hy (suc k) lx ly =
     let e = agree order system xs ys some hx hy k (omega arith) (omega arith) in
     let number = turn_one order system (take k xs) (get_or xs k 0) (get_or ys k 0) some (hx k (omega arith)) (subst (λ (t : List ℕ). IsNamedTurn order system t (get_or ys k 0)) (sym e) (hy k (omega arith))) in

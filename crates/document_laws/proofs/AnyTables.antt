@@ -58,7 +58,6 @@ none_read c tables d none e = let parts : ([] ≡ tables) × (c ≡ d) = ok_part
 tables_from_read : (most : List Line) (c : Reading) (tables : List (List Row)) (d : Reading) → length c.later ≤ length most → tables_from most c ≡ Ok (tables, d) → AreTo c tables
 unfolding tables_from
 tables_from_read [] c tables d few e = none_read c tables d (no_items c.later few) e
-
 tables_from_read (m ∷ most) c tables d few e = by_lines c.later refl (λ next ts last less f. tables_from_read most next ts last (omega arith) f) e
   where
     by_lines : (ls : List Line) → c.later ≡ ls → ((next : Reading) (ts : List (List Row)) (last : Reading) → length next.later + 1 ≤ length c.later → tables_from most next ≡ Ok (ts, last) → AreTo next ts)

@@ -51,7 +51,6 @@ none_read c blocks d none e = let parts : ([] ≡ blocks) × (c ≡ d) = ok_part
 blocks_from_read : (most : List Line) (c : Reading) (blocks : List Block) (d : Reading) → length c.later ≤ length most → blocks_from most c ≡ Ok (blocks, d) → AreTo c blocks
 unfolding blocks_from
 blocks_from_read [] c blocks d few e = none_read c blocks d (no_items c.later few) e
-
 blocks_from_read (m ∷ most) c blocks d few e = by_lines c.later refl (λ next bs last less f. blocks_from_read most next bs last (omega arith) f) e
   where
     by_lines : (ls : List Line) → c.later ≡ ls → ((next : Reading) (bs : List Block) (last : Reading) → length next.later + 1 ≤ length c.later → blocks_from most next ≡ Ok (bs, last) → AreTo next bs)
