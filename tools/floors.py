@@ -16,8 +16,6 @@ TOP = os.path.dirname(os.path.dirname(os.path.realpath(__file__)))
 BEGIN, END = "<!-- floors: tools/floors.py -->", "<!-- end of floors -->"
 LAWS_BEGIN, LAWS_END = "<!-- laws: tools/floors.py -->", "<!-- end of laws -->"
 PARTS = ("src", "specs", "proofs")
-# what a kind of crates may stand on, beside its own; want of memory is the one fault that definitions share with code
-BELOW = {"definitions": ("plain_facts", "no_memory"), "laws": ("plain_facts",)}
 PROGRAMS = ("trinorm", "worked_rows", "worked_texts", "worked_tables", "worked_cones")
 # what each crate is about; its kind is told by its name
 SUBJECTS = {
@@ -93,8 +91,8 @@ def named(name):
 
 
 def may_name(name, below):
-    """Whether a crate's kind lets it stand on another: laws stand on laws and definitions, these on definitions alone."""
-    if kind(name) not in BELOW or below in BELOW[kind(name)]:
+    """Whether a crate's kind lets it stand on another: laws stand on laws and definitions, these on definitions and plain facts."""
+    if kind(name) not in ("definitions", "laws") or below == "plain_facts":
         return True
     return kind(below) == "definitions" or kind(below) == kind(name)
 
