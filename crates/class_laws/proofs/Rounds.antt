@@ -3,7 +3,7 @@ use Rattle.std.proofs.Common.{◌≡◌, ◌≢◌, ℕ, zero, suc, ◌<◌, ◌
 use Rattle.std.specs.Prelude.{option_map, option_and_then, Contains}
 use Rattle.std.proofs.lemmas.Bool.{cases_lt}
 use Rattle.std.proofs.lemmas.List.{get_or_default}
-use Rattle.table_definitions.specs.Permutation.{image, IsPermutationOfFour}
+use Rattle.table_definitions.specs.Permutation.{IsPermutationOfFour}
 use Rattle.table_definitions.specs.Table.{Gluing, Row, glue, IsTable}
 use Rattle.table_definitions.proofs.PermutationLaws.{image_below, image-of_inverse, images_apart}
 use Rattle.class_laws.specs.CornersIn.{IsCornerIn}
