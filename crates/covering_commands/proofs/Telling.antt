@@ -7,7 +7,6 @@ use Rattle.table_definitions.specs.Table.{Row}
 use Rattle.table_definitions.specs.Places.{IsLeastUnreached}
 use Rattle.skeleton_definitions.specs.Skeleton.{Skeleton, IsSkeleton}
 use Rattle.cover_definitions.specs.declared.CoverFault.{CoverFault}
-use Rattle.cover_definitions.specs.declared.CoverFault.TheVariants.{TooMany}
 use Rattle.cover_definitions.specs.Cover.{cover_fault}
 use Rattle.group_definitions.specs.declared.GroupFault.{GroupFault}
 use Rattle.group_definitions.specs.declared.GroupFault.TheVariants.{NotConnected, InvalidEdge}
@@ -25,22 +24,25 @@ pub cover_answer : (rows base : List Row) (o : Outcome) → base ≡ rows → co
 cover_answer rows base o e fits t =
     subst (λ (f : Option CoverFault). MatchOption f (IsCoverTold rows o) (λ _. o ≡ large_cover_outcome)) (sym fits) (subst (λ (b : List Row). IsCoverTold b o) e t)
 
-pub large_answer : (rows : List Row) (e : Failure CoverFault) (o : Outcome) → e ≡ Fault TooMany → IfFault e (λ f. cover_fault rows ≡ Some f) → o ≡ large_cover_outcome → IsCoverAnswer rows o
-large_answer rows e o same is told =
+pub large_answer : (rows : List Row) (failure : Failure CoverFault) (fault : CoverFault) (o : Outcome) → failure ≡ Fault fault → IfFault failure (λ f. cover_fault rows ≡ Some f) → o ≡ large_cover_outcome → IsCoverAnswer rows o
+large_answer rows failure fault o same is told =
     subst (λ (f : Option CoverFault). MatchOption f (IsCoverTold rows o) (λ _. o ≡ large_cover_outcome)) (sym (subst (λ (e : Failure CoverFault). IfFault e (λ f. cover_fault rows ≡ Some f)) same is)) told
 
 -- ---- presentations
 
-pub not_connected_answer : (rows : List Row) (s : Skeleton) (e : Failure GroupFault) (tet : ℕ) (o : Outcome) → s.rows ≡ rows → IsSkeleton s → e ≡ Fault (NotConnected tet) → IfFault e (IsGroupFault s)
+pub fault_of : (s : Skeleton) (failure : Failure GroupFault) (fault : GroupFault) → failure ≡ Fault fault → IfFault failure (IsGroupFault s) → IsGroupFault s fault
+fault_of s failure fault same is = subst (λ (e : Failure GroupFault). IfFault e (IsGroupFault s)) same is
+
+pub not_connected_answer : (rows : List Row) (s : Skeleton) (fault : GroupFault) (tet : ℕ) (o : Outcome) → s.rows ≡ rows → IsSkeleton s → fault ≡ NotConnected tet → IsGroupFault s fault
     → o ≡ not_connected_outcome 0 tet → IsPresentationAnswer rows o
-not_connected_answer rows s e tet o of_rows h same fault told = record { skeleton = s; of_rows = of_rows; is_skeleton = h; told = inl (tet, least, told) }
+not_connected_answer rows s fault tet o of_rows h same is told = record { skeleton = s; of_rows = of_rows; is_skeleton = h; told = inl (tet, least, told) }
   where
     least : IsLeastUnreached s.rows tet
-    least = subst (λ (e : Failure GroupFault). IfFault e (IsGroupFault s)) same fault
+    least = subst (IsGroupFault s) same is
 
-pub invalid_answer : (rows : List Row) (s : Skeleton) (e : Failure GroupFault) (class : ℕ) (o : Outcome) → s.rows ≡ rows → IsSkeleton s → e ≡ Fault (InvalidEdge class) → IfFault e (IsGroupFault s)
+pub invalid_answer : (rows : List Row) (s : Skeleton) (fault : GroupFault) (class : ℕ) (o : Outcome) → s.rows ≡ rows → IsSkeleton s → fault ≡ InvalidEdge class → IsGroupFault s fault
     → o ≡ record { status = Refused; text = invalid_edge_line class } → IsPresentationAnswer rows o
-invalid_answer rows s e class o of_rows h same fault told = record { skeleton = s; of_rows = of_rows; is_skeleton = h; told = inr (inl (found.0, (class, found.1, told))) }
+invalid_answer rows s fault class o of_rows h same is told = record { skeleton = s; of_rows = of_rows; is_skeleton = h; told = inr (inl (found.0, (class, found.1, told))) }
   where
     found : IsGroupFault s (InvalidEdge class)
-    found = subst (λ (e : Failure GroupFault). IfFault e (IsGroupFault s)) same fault
+    found = subst (IsGroupFault s) same is
