@@ -6,7 +6,7 @@ use Rattle.std.proofs.lemmas.Bool.{cases_lt}
 use Rattle.std.proofs.lemmas.List.Sums.{sum_by-cons}
 use Rattle.table_definitions.specs.Lists.{below}
 use Rattle.table_definitions.specs.Permutation.{image}
-use Rattle.table_definitions.specs.Places.{Place, vertex, across, IsJoined, SameVertex}
+use Rattle.table_definitions.specs.Places.{Place, across, IsJoined, SameVertex}
 use Rattle.table_definitions.proofs.ChainLaws.{kept_along}
 use Rattle.table_definitions.proofs.PermutationLaws.{image_below}
 use Rattle.table_definitions.proofs.Faces.{face_at}

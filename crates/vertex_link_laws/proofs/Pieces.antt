@@ -1,26 +1,25 @@
 -- The pieces of a vertex link are its triangles, one at each member of the class, and each of its arcs is one of theirs.
-use Rattle.std.proofs.Common.{◌≡◌, ℕ, ◌+◌, ◌*◌, ◌/◌, ◌%◌, ◌<◌, ◌≤◌, Bool, true, false, not, ◌-◌, List, length, Contains, Some, refl, sym, ap, ◌∙◌, subst, arith}
-use Rattle.std.specs.Prelude.{◌==◌, ◌||◌, nat_lt, if◌then◌else◌, slice_index}
+use Rattle.std.proofs.Common.{◌≡◌, ℕ, ◌<◌, ◌≤◌, Bool, true, false, not, ◌-◌, List, length, Some, refl, sym, ap, ◌∙◌, subst, arith}
+use Rattle.std.specs.Prelude.{◌==◌, ◌||◌, if◌then◌else◌, slice_index}
 use Rattle.std.specs.List.{slice_index_or}
 use Rattle.std.proofs.lemmas.Bool.{eq-eqb, eqb-true, lt-ltb}
 use Rattle.std.proofs.lemmas.List.Elements.{Contains-get_or}
 use Rattle.table_definitions.specs.Lists.{below}
 use Rattle.table_definitions.specs.Permutation.{image}
-use Rattle.table_definitions.specs.Table.{Gluing, Face, glue}
+use Rattle.table_definitions.specs.Table.{Gluing, glue}
 use Rattle.table_definitions.proofs.Listed.{among_contains, map-among, flat_map-among, below-among}
-use Rattle.table_definitions.proofs.PermutationLaws.{image_below, images_apart}
 use Rattle.table_definitions.proofs.TableLaws.{Among}
 use Rattle.skeleton_definitions.specs.Links.{vertex_number}
 use Rattle.skeleton_definitions.specs.Skeleton.{Skeleton, IsSkeleton}
-use Rattle.surface_definitions.specs.Coordinates.{columns, columns_each, tri_column}
-use Rattle.surface_definitions.specs.Pieces.{SurfacePiece, Arc, pieces_of, piece_number, piece_of, arcs_round, arc_across, is_triangle_arc, triangles_round, looks_positive, keeps_by_zero, type_in, further_column, further_piece, Meets, keeps_sides}
+use Rattle.surface_definitions.specs.Coordinates.{columns, tri_column}
+use Rattle.surface_definitions.specs.Pieces.{SurfacePiece, Arc, pieces_of, piece_of, arcs_round, arc_across, is_triangle_arc, triangles_round, looks_positive, keeps_by_zero, type_in, further_column, further_piece, Meets, keeps_sides}
 use Rattle.surface_definitions.specs.declared.Coords.{Coords}
 use Rattle.surface_definitions.specs.declared.Coords.TheVariants.{Standard, Quad, Octagon}
 use Rattle.surface_laws.specs.MatchingLaws.{HasTriangles}
 use Rattle.surface_laws.specs.PieceLaws.{IsSurface, IsPieceOf, MeetsBack, face_of_arc}
 use Rattle.surface_laws.proofs.Glued.{IsGlued, glued_is}
 use Rattle.surface_laws.proofs.MeetingArcs.{meets_back}
-use Rattle.surface_laws.proofs.PieceNumbers.{piece_at, no_piece, of_column, IsFound, piece_found}
+use Rattle.surface_laws.proofs.PieceNumbers.{piece_at, no_piece, of_column}
 use Rattle.quad_laws.specs.LinkLaws.{link_of}
 use Rattle.quad_laws.proofs.LinkSums.{by_column}
 use Rattle.quad_laws.proofs.VertexLinks.{member, length-link, triangle-link, others-link, link_surface}

@@ -2,7 +2,6 @@
 use Rattle.std.proofs.Common.{◌≡◌, ℕ, zero, suc, ◌+◌, ◌*◌, ◌/◌, ◌%◌, ◌<◌, List, [], ◌∷◌, ◌∙◌, arith}
 use Rattle.std.specs.Prelude.{sum_by, slice_index}
 use Rattle.std.proofs.lemmas.List.Sums.{sum_by-cons}
-use Rattle.table_definitions.specs.Places.{ends}
 use Rattle.skeleton_definitions.specs.Links.{vertex_number}
 use Rattle.surface_definitions.specs.Coordinates.{tri_column, quad_column, oct_column}
 use Rattle.surface_definitions.specs.Characteristic.{crossings, weight}
