@@ -5,8 +5,8 @@ use Rattle.crushing.proofs.NewRows.{rows_on, rows_same}
 use Rattle.crushing.proofs.crushed.crushed_rows.Goals as goal
 use Rattle.crushing.proofs.crushed.crushed_rows.Goals.{then-not-is_removed+in_ok-push, else-not-is_removed}
 
-pub returns : goal.returns
-returns c =
+pub returns-clause-rows : goal.returns-clause-rows
+returns-clause-rows c =
     let all : c.loop-tet.tet ≡ length c.args.table.now = omega (arith, c.loop-tet-test.false, c.loop-tet.auto.tet-end, c.len-tet-end.ensures.value) in
     subst (λ t. AreCrushedBefore c.args.table.now c.args.x.now t c.loop-tet.rows.items) all c.loop-tet.invariant
 
