@@ -9,8 +9,9 @@ use Rattle.std.proofs.lemmas.List.Folds.{sum_by-replicate}
 use Rattle.plain_facts.proofs.Members.{contains_one, contains_nil}
 use Rattle.table_definitions.specs.Table.{Gluing, Row, Face, IsTable, glue}
 use Rattle.table_definitions.proofs.TableLaws.{glued_tet}
+use Rattle.table_definitions.proofs.Faces.{face_at}
 use Rattle.group_definitions.specs.Trees.{IsDistance}
-use Rattle.group_laws.proofs.Levels.{mk, Level, LastStep, level_more, level_last, level_zero, some_distance, distance_level, distance_least, one_distance}
+use Rattle.group_laws.proofs.Levels.{Level, LastStep, level_more, level_last, level_zero, some_distance, distance_level, distance_least, one_distance}
 use Rattle.edge_group.specs.Searches.{mark_of, unmarked, IsBehind, IsGrown, IsFaceOfSome, IsSearched, AreDistances}
 
 module _ (rows : List Row) (table : IsTable rows) where
@@ -23,7 +24,7 @@ module _ (rows : List Row) (table : IsTable rows) where
     distance : IsDistance rows face.tet m
 
   before : (m t : ℕ) → IsDistance rows t (suc m) → Before m t
-  before m t h = record { face = mk s.from s.face; gluing = s.gluing; glued = s.glued; to = s.to; distance = subst (IsDistance rows s.from) same near.1 }
+  before m t h = record { face = face_at s.from s.face; gluing = s.gluing; glued = s.glued; to = s.to; distance = subst (IsDistance rows s.from) same near.1 }
     where
       s : LastStep rows m t
       s = level_last rows m t (distance_level rows t (suc m) h)
