@@ -68,6 +68,8 @@ pub fn check(alloc: Global, table: &Table, moves: &[Move]) -> Result<(), Failure
     ensures no_certificate { IfErr result (λ e. IfFault e (λ _. IsCertificate table.now moves.now → ⊥)) }
 {
     let mut last = table.copy(alloc)?;
-    play_all(&mut last, moves).map_err(Failure::Fault)?;
+    if let Err(fault) = play_all(&mut last, moves) {
+        return Err(Failure::Fault(fault));
+    }
     judge(alloc, &last)
 }

@@ -1,6 +1,5 @@
 -- What is told of the last table is told of the moves.
 use Rattle.std.proofs.Common.{Err, List, sym, subst}
-use Rattle.std.proofs.lemmas.Result.{err_from_is_err_and}
 use Rattle.table_definitions.specs.Table.{Row, IsTable}
 use Rattle.move_laws.proofs.Played.{all_led_table}
 use Rattle.certificate_definitions.specs.Answers.{IsChecked}
@@ -10,23 +9,22 @@ use Rattle.sphere_certificate.proofs.checking.check.Goals as goal
 
 pub judge-requires : goal.judge-requires
 judge-requires c =
-    all_led_table c.in_ok-last.last c.args.moves.now c.play_all.new.table (subst (λ (rows : List Row). IsTable rows) (sym c.in_ok-last.ensures.same) c.in_ok-last.ensures.is_table) c.in_ok-play_all.ensures.led
+    all_led_table c.in_ok-last.last c.args.moves.now c.play_all.new.table (subst (λ (rows : List Row). IsTable rows) (sym c.in_ok-last.ensures.same) c.in_ok-last.ensures.is_table) c.in_default.ensures.led
 
-pub returns-in_err-play_all-clause-no_certificate : goal.returns-in_err-play_all-clause-no_certificate
-returns-in_err-play_all-clause-no_certificate c =
-    let p = err_from_is_err_and c.from_residual-in_err-play_all.result c.from_residual-in_err-play_all.ensures.1 in
-    let refused = subst (λ (rows : List Row). IsChecked rows c.args.moves.now (Err (told c.in_err-play_all.field-0.0))) c.in_ok-last.ensures.same c.in_err-play_all.ensures.refused in
-    rw (p.1, p.2) (λ e k. fault_or_certificate c.args.table.now c.args.moves.now (told c.in_err-play_all.field-0.0) c.in_ok-last.ensures.is_table refused k)
+pub returns-in-Err-clause-no_certificate : goal.returns-in-Err-clause-no_certificate
+returns-in-Err-clause-no_certificate c =
+    let refused = subst (λ (rows : List Row). IsChecked rows c.args.moves.now (Err (told c.in-Err.fault))) c.in_ok-last.ensures.same c.in-Err.ensures.refused in
+    fault_or_certificate c.args.table.now c.args.moves.now (told c.in-Err.fault) c.in_ok-last.ensures.is_table refused
 
 pub returns-clause-fault : goal.returns-clause-fault
 returns-clause-fault c =
     fault_goes c.judge.result
-    (λ e h some. checked_from c.args.table.now c.in_ok-last.last c.args.moves.now _ (Err (told e)) c.in_ok-last.ensures.same c.in_ok-play_all.ensures.led (h some))
+    (λ e h. checked_from c.args.table.now c.in_ok-last.last c.args.moves.now _ (Err (told e)) c.in_ok-last.ensures.same c.in_default.ensures.led h)
     c.judge.ensures.fault
 
 pub returns-clause-no_certificate : goal.returns-clause-no_certificate
 returns-clause-no_certificate c =
     fault_goes c.judge.result
-    (λ e h some. fault_or_certificate c.args.table.now c.args.moves.now (told e) c.in_ok-last.ensures.is_table
-    (checked_from c.args.table.now c.in_ok-last.last c.args.moves.now _ (Err (told e)) c.in_ok-last.ensures.same c.in_ok-play_all.ensures.led (h some)))
+    (λ e h. fault_or_certificate c.args.table.now c.args.moves.now (told e) c.in_ok-last.ensures.is_table
+    (checked_from c.args.table.now c.in_ok-last.last c.args.moves.now _ (Err (told e)) c.in_ok-last.ensures.same c.in_default.ensures.led h))
     c.judge.ensures.fault
