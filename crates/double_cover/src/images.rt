@@ -1,6 +1,6 @@
 //! Relabellings of the cover that keep all vertices.
 
-ghost use Rattle.std.specs.Prelude.{◌≡◌, ◌*◌, ◌<◌, ◌≤◌, ◌^◌, length, map, replicate, IfOk};
+ghost use Rattle.std.specs.Prelude.{◌≡◌, ◌*◌, ◌<◌, ◌≤◌, length, map, replicate, IfOk};
 ghost use Rattle.table_definitions.specs.Table.{max_tets};
 ghost use Rattle.table_definitions.specs.Lists.{below};
 ghost use Rattle.table_definitions.specs.Permutation.{identity};
@@ -9,7 +9,6 @@ ghost use Rattle.cover_definitions.specs.Cover as definition;
 
 use crate::sheets::{above, other_sheet, over, sheet};
 use gluing_table::Relabelling;
-use no_memory::NoMemory;
 use perm_four::Perm4;
 use std::alloc::{AllocError, Global};
 

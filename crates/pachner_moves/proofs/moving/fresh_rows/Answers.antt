@@ -1,7 +1,6 @@
 -- One row more.
 use Rattle.std.proofs.Common.{◌≡◌, ℕ, ◌+◌, ◌-◌, [], ◌∷◌, ◌++◌, refl, sym, ap, ◌∙◌, arith}
 use Rattle.std.proofs.lemmas.List.FromFn.{map-range_with_len_more}
-use Rattle.table_definitions.specs.Table.{Row}
 use Rattle.move_definitions.specs.Moves.{kept}
 use Rattle.move_laws.specs.Facets.{put_row}
 use Rattle.pachner_moves.proofs.moving.fresh_rows.Goals as goal
