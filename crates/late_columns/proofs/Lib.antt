@@ -2,7 +2,6 @@ pub mod Held
 pub mod Faces
 pub mod UnitRays
 pub mod Entered
-pub mod MarkedSupports
 pub mod RaisedLists
 pub mod RaisedSurfaces
 pub mod LateSteps

@@ -6,7 +6,7 @@ ghost use Rattle.cone_definitions.specs.Surfaces.{Clash};
 ghost use Rattle.late_columns.specs.Late.{IsUnseen, AreLate, AreSeen, HaveEntered};
 ghost use Rattle.late_columns.specs.Fresh.{IsLone};
 
-use cone_core::{Ray, SparseRow};
+use cone_core::SparseRow;
 use double_description::Kept;
 use no_memory::NoMemory;
 use std::alloc::Global;
@@ -35,8 +35,7 @@ fn enter(alloc: Global, columns: u32, column: u32, late: &mut LateRays) -> Resul
     ensures entered { OnOk result (HaveEntered columns late.old late.new) }
     ensures seen { OnOk result (late.new.seen.items ≡ slice_set late.old.seen.items column true) }
 {
-    let ray = Ray::unit(alloc, columns, column)?;
-    late.kepts.push(Kept::new(alloc, ray)?)?;
+    late.kepts.push(Kept::unit(alloc, columns, column)?)?;
     late.seen[column as usize] = true;
     Ok(())
 }

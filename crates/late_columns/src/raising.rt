@@ -4,7 +4,6 @@ ghost use Rattle.std.specs.Prelude.{◌≡◌, ◌<◌, ◌≤◌, List, length,
 ghost use Rattle.std.specs.List.{All};
 ghost use Rattle.cone_core.specs.Sparse.{IsInRange};
 ghost use Rattle.cone_definitions.specs.Surfaces.{Clash};
-ghost use Rattle.cone_definitions.specs.Vectors.{unit};
 ghost use Rattle.double_description.specs.Clashes.{DecidesClashes};
 ghost use Rattle.double_description.specs.Kepts.{rays_of, AreOfWidth};
 ghost use Rattle.double_description.specs.Signs.{AreSigns, IsBoundedSign, IsMadeUpTo};
@@ -12,12 +11,10 @@ ghost use Rattle.double_description.specs.Unions.{HaveSmallUnions, MakeSinglesPa
 ghost use Rattle.late_columns.specs.Fresh.{oriented};
 ghost use Rattle.late_columns.specs.Raised.{HasRoom, AppendsRaised, IsRaisedFrom, AreRaised};
 ghost use Rattle.ray_pairs.specs.Partners.{ArePartners};
-ghost use Rattle.support_bits.specs.Columns.{support_of};
 
 use crate::fresh::Fresh;
-use cone_core::{MAX_ENTRY, Ray, SparseRow};
+use cone_core::{MAX_ENTRY, SparseRow};
 use double_description::{Kept, Permit, Sign, StepFault, signs_at};
-use no_memory::NoMemory;
 use ray_pairs::{made_rays, turned_signs};
 use std::alloc::Global;
 use support_bits::Support;
@@ -40,19 +37,9 @@ fn signs_of(
     Ok(turned)
 }
 
-/// The support of a column alone.
-fn mark_of(alloc: Global, columns: u32, column: u32) -> Result<Support, NoMemory>
-    requires { column < columns }
-    ensures { IfOk result (λ mark. mark ≡ support_of (unit columns column)) }
-{
-    let ray = Ray::unit(alloc, columns, column)?;
-    Support::of(alloc, ray.entries())
-}
-
-/// A ray with what is left for a column, which is all that the mark has.
-fn raised(kept: Kept, mark: &Support, column: u32, left: u128) -> Kept
+/// A ray with what is left for a column.
+fn raised(kept: Kept, column: u32, left: u128) -> Kept
     requires room { HasRoom column kept }
-    requires mark { mark.now ≡ support_of (unit (length kept.ray) column) }
     requires some { 1 ≤ left }
     requires most { left ≤ MAX_ENTRY }
     ensures { result.ray ≡ slice_set kept.ray column left }
@@ -62,20 +49,13 @@ fn raised(kept: Kept, mark: &Support, column: u32, left: u128) -> Kept
         mut support,
     } = kept;
     ray.raise(column, left);
-    support.add(mark);
+    support.insert(column);
     Kept { ray, support }
 }
 
 /// Appends a ray with what is left for a column, unless that is less than nothing.
-fn raise(
-    kept: Kept,
-    sign: Sign,
-    mark: &Support,
-    column: u32,
-    next: &mut Vec<Kept>,
-) -> Result<(), StepFault>
+fn raise(kept: Kept, sign: Sign, column: u32, next: &mut Vec<Kept>) -> Result<(), StepFault>
     requires room { HasRoom column kept }
-    requires mark { mark.now ≡ support_of (unit (length kept.ray) column) }
     requires bounded { IsBoundedSign MAX_ENTRY sign }
     ensures { OnOk result (AppendsRaised column sign kept next.old.items next.new.items) }
 {
@@ -86,7 +66,7 @@ fn raise(
         }
         Sign::Positive(_) => Ok(()),
         Sign::Negative(left) => {
-            next.push(raised(kept, mark, column, left))?;
+            next.push(raised(kept, column, left))?;
             Ok(())
         }
     }
@@ -96,19 +76,17 @@ fn raise(
 fn raise_all(
     mut kepts: Vec<Kept>,
     signs: &[Sign],
-    mark: &Support,
     column: u32,
     next: &mut Vec<Kept>,
 ) -> Result<(), StepFault>
     requires count { length signs.now ≡ length kepts.items }
     requires room { All (HasRoom column) kepts.items }
-    requires mark { All (λ kept. mark.now ≡ support_of (unit (length kept.ray) column)) kepts.items }
     requires bounded { All (IsBoundedSign MAX_ENTRY) signs.now }
     ensures { OnOk result ((pairs : List Clash) → IsMadeUpTo MAX_ENTRY pairs (rays_of kepts.items) signs.now (length kepts.items) 0 (rays_of next.old.items)
         → IsRaisedFrom MAX_ENTRY pairs (rays_of kepts.items) signs.now column 0 (rays_of next.new.items)) }
 {
     while let Some(kept) = kepts.pop() {
-        raise(kept, signs[kepts.len()], mark, column, next)?;
+        raise(kept, signs[kepts.len()], column, next)?;
     }
     Ok(())
 }
@@ -135,7 +113,6 @@ pub fn raised_rays<F: Fn(&Support, &Support) -> bool>(
 {
     let signs = signs_of(alloc, row, fresh.is_turned, &kepts)?;
     let mut next = made_rays(alloc, permit, partners, &kepts, &signs, most)?;
-    let mark = mark_of(alloc, permit.columns, fresh.column)?;
-    raise_all(kepts, &signs, &mark, fresh.column, &mut next)?;
+    raise_all(kepts, &signs, fresh.column, &mut next)?;
     Ok(next)
 }

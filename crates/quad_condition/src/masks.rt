@@ -8,12 +8,12 @@ ghost use Rattle.double_description.specs.Clashes.{IsClashFree};
 ghost use Rattle.quad_condition.specs.Marks as marks;
 ghost use Rattle.quad_condition.specs.Marks.{AreMarks, AreNear, HasNear};
 
-use crate::words::{has_pair_ahead, has_two, set_bit};
+use crate::words::{has_pair_ahead, has_two};
 use no_memory::NoMemory;
 use normal_discs::{columns, columns_each, triangles_each};
 use std::alloc::Global;
 use std::marker::Model;
-use support_bits::Support;
+use support_bits::{Support, set_bit};
 use surface_definitions::Coords;
 
 /// The clashing pairs of so many tetrahedra as masks of columns: for each distance from 1 on the columns whose quad or

@@ -4,16 +4,6 @@ ghost use Rattle.std.specs.Prelude.{◌≡◌, ℕ, ◌+◌, ◌/◌, ◌<◌, �
 ghost use Rattle.support_bits.specs.Words.{bit_of};
 ghost use Rattle.quad_condition.specs.Bits.{word_of_either, word_ahead, HasPairAhead, HasTwo, HasTwoBits, HasFrom};
 
-/// Sets the bit of a column.
-pub fn set_bit(words: &mut Vec<u64>, column: u32)
-    requires { column / 64 < length words.old.items }
-    ensures count { length words.new.items ≡ length words.old.items }
-    ensures set { bit_of words.new.items column ≡ true }
-    ensures others { (k : ℕ) → k ≢ column → bit_of words.new.items k ≡ bit_of words.old.items k }
-{
-    words[column as usize / 64] |= 1 << (column % 64);
-}
-
 /// The word of the columns of `a` or of `b`; none past the end.
 fn either(a: &[u64], b: &[u64], k: usize) -> u64
     requires { length b.now ≡ length a.now }

@@ -14,6 +14,12 @@ pub record ArePartners (columns : ℕ) (pairs : List Clash) (partners : List (Li
   pub count : length partners ≡ columns
   pub each : (column : ℕ) → column < length partners → IsPartnerOf columns pairs column (slice_index_or partners column [])
 
+-- the second of two columns is one of the partners of the first
+pub record IsNoted (one other : ℕ) (old new : List (List Bool)) : Type 0 where
+  pub count : length new ≡ length old
+  pub widths : (k : ℕ) → length (slice_index_or new k []) ≡ length (slice_index_or old k [])
+  pub each : (k column : ℕ) → HasColumn (slice_index_or new k []) column ↔ (HasColumn (slice_index_or old k []) column ⊎ ((k ≡ one) × (column ≡ other)))
+
 -- the columns below n of the support have these partners
 pub record IsJoinedBelow (n : ℕ) (partners : List (List Bool)) (support joined : List Bool) : Type 0 where
   pub count : length joined ≡ length support

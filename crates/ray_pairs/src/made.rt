@@ -8,7 +8,7 @@ ghost use Rattle.double_description.specs.Signs.{IsBoundedSign, IsMadeUpTo};
 ghost use Rattle.double_description.specs.Unions.{HaveSmallUnions, MakeSinglesPairs};
 ghost use Rattle.ray_pairs.specs.Partners.{ArePartners};
 
-use crate::search::{combine_with, no_rivals};
+use crate::search::combine_with;
 use crate::turned::{has_more_positives, has_positive, turned_signs};
 use cone_core::MAX_ENTRY;
 use double_description::{Kept, Permit, Sign, StepFault, negatives_of};
@@ -39,7 +39,7 @@ fn made_in_turn<F: Fn(&Support, &Support) -> bool>(
         return Ok(made);
     }
     let negatives = negatives_of(alloc, kepts, signs, permit.columns)?;
-    let mut rivals = no_rivals(alloc, kepts, permit.columns)?;
+    let mut rivals = None;
     for (i, sign) in signs.iter().enumerate() {
         if let Sign::Positive(at_u) = *sign {
             combine_with(

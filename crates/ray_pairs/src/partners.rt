@@ -1,15 +1,13 @@
 // For each column the columns that clash with it, and those that clash with one of a support.
 
-ghost use Rattle.std.specs.Prelude.{◌≡◌, ◌<◌, length, IsTrue, IfOk};
+ghost use Rattle.std.specs.Prelude.{◌≡◌, ◌<◌, [], length, slice_index_or, IsTrue, IfOk};
 ghost use Rattle.std.specs.List.{All};
 ghost use Rattle.double_description.specs.Clashes.{AreClashes};
-ghost use Rattle.ray_pairs.specs.Partners.{IsFree, IsPartnerOf, ArePartners, IsJoinedBelow};
+ghost use Rattle.ray_pairs.specs.Partners.{IsFree, IsNoted, ArePartners, IsJoinedBelow};
 
-use cone_core::Ray;
 use no_memory::NoMemory;
 use std::alloc::Global;
 use support_bits::Support;
-use support_table::joined;
 
 /// Whether a column clashes with none.
 pub fn is_free(clashes: &[(u32, u32)], column: u32) -> bool
@@ -23,23 +21,24 @@ pub fn is_free(clashes: &[(u32, u32)], column: u32) -> bool
     true
 }
 
-/// The columns that clash with one.
-fn partners_at(
-    alloc: Global,
-    clashes: &[(u32, u32)],
-    columns: u32,
-    column: u32,
-) -> Result<Support, NoMemory>
-    requires clashes { AreClashes columns clashes.now }
-    requires in_range { column < columns }
-    ensures { IfOk result (IsPartnerOf columns clashes.now column) }
+/// No partner of any column.
+fn no_partners(alloc: Global, columns: u32) -> Result<Vec<Support>, NoMemory>
+    ensures { IfOk result (λ partners. ArePartners columns [] partners.items) }
 {
-    if is_free(clashes, column) {
-        return Support::none(alloc, columns);
+    let mut partners = Vec::with_capacity(alloc, columns as usize)?;
+    for _number in 0..columns {
+        partners.push(Support::none(alloc, columns)?)?;
     }
-    let unit = Ray::unit(alloc, columns, column)?;
-    let support = Support::of(alloc, unit.entries())?;
-    joined(alloc, clashes, &support)
+    Ok(partners)
+}
+
+/// Notes that one column is a partner of another.
+fn note(partners: &mut Vec<Support>, one: u32, other: u32)
+    requires one { one < length partners.old.items }
+    requires other { other < length (slice_index_or partners.old.items one []) }
+    ensures { IsNoted one other partners.old.items partners.new.items }
+{
+    partners[one as usize].insert(other);
 }
 
 /// For each column the columns that clash with it.
@@ -51,9 +50,10 @@ pub fn partners_of(
     requires { AreClashes columns clashes.now }
     ensures { IfOk result (λ partners. ArePartners columns clashes.now partners.items) }
 {
-    let mut partners = Vec::with_capacity(alloc, columns as usize)?;
-    for column in 0..columns {
-        partners.push(partners_at(alloc, clashes, columns, column)?)?;
+    let mut partners = no_partners(alloc, columns)?;
+    for pair in clashes {
+        note(&mut partners, pair.0, pair.1);
+        note(&mut partners, pair.1, pair.0);
     }
     Ok(partners)
 }

@@ -1,6 +1,6 @@
 // The pairs of one positive ray with the negative ones, and what they are combined to.
 
-ghost use Rattle.std.specs.Prelude.{◌≡◌, ◌+◌, ◌<◌, ◌↔◌, length, IsTrue, IfOk, OnOk, slice_index_or};
+ghost use Rattle.std.specs.Prelude.{◌≡◌, ◌+◌, ◌<◌, ◌↔◌, length, IsTrue, IfOk, IfSome, OnOk, slice_index_or};
 ghost use Rattle.std.specs.List.{All};
 ghost use Rattle.cone_definitions.specs.Vectors.{ray_at};
 ghost use Rattle.support_bits.specs.Columns.{support_of};
@@ -23,16 +23,6 @@ use no_memory::NoMemory;
 use std::alloc::Global;
 use support_bits::Support;
 
-/// No rivals, as those of a ray with whose columns all clash: none are gathered yet.
-pub fn no_rivals(alloc: Global, kepts: &[Kept], columns: u32) -> Result<Rivals, NoMemory>
-    requires { AreOfWidth columns kepts.now }
-    ensures { IfOk result (HaveRivals (rays_of kepts.now) columns) }
-{
-    let ones = vec![in alloc; 1u128; columns as usize]?;
-    let all = Support::of(alloc, &ones)?;
-    rivals_with(alloc, kepts, columns, all)
-}
-
 /// The columns that clash with one of the ray at a place.
 fn joined_at<F: Fn(&Support, &Support) -> bool>(
     alloc: Global,
@@ -49,26 +39,28 @@ fn joined_at<F: Fn(&Support, &Support) -> bool>(
     joined_by(alloc, partners, &kepts[i].support)
 }
 
-/// Gathers the rivals of the ray at a place, unless those at hand have the same columns joined.
+/// The rivals of the ray at a place: those at hand where they have the same columns joined, and else they are gathered.
 fn gather<F: Fn(&Support, &Support) -> bool>(
     alloc: Global,
     permit: &Permit<F>,
     kepts: &[Kept],
     i: usize,
     columns: &Support,
-    rivals: &mut Rivals,
-) -> Result<(), NoMemory>
+    before: Option<Rivals>,
+) -> Result<Rivals, NoMemory>
     requires widths { AreOfWidth permit.now.columns kepts.now }
     requires in_range { i < length kepts.now }
     requires joined { AreJoinedTo permit.now.clashes.items (support_of (ray_at (rays_of kepts.now) i)) columns.now }
-    requires rivals { HaveRivals (rays_of kepts.now) permit.now.columns rivals.old }
-    ensures { OnOk result (AreRivals permit.now.clashes.items (rays_of kepts.now) i permit.now.columns rivals.new) }
+    requires before { IfSome before (HaveRivals (rays_of kepts.now) permit.now.columns) }
+    ensures { IfOk result (AreRivals permit.now.clashes.items (rays_of kepts.now) i permit.now.columns) }
 {
-    if !rivals.joined.same(columns) {
-        let joined = columns.copy(alloc)?;
-        *rivals = rivals_with(alloc, kepts, permit.columns, joined)?;
+    if let Some(rivals) = before {
+        if rivals.joined.same(columns) {
+            return Ok(rivals);
+        }
     }
-    Ok(())
+    let joined = columns.copy(alloc)?;
+    rivals_with(alloc, kepts, permit.columns, joined)
 }
 
 /// Whether the union of the supports at two places holds no clashing pair and contains the support at no third place. The
@@ -78,7 +70,7 @@ fn is_face<F: Fn(&Support, &Support) -> bool>(
     permit: &Permit<F>,
     kepts: &[Kept],
     columns: &Support,
-    rivals: &mut Rivals,
+    rivals: &mut Option<Rivals>,
     i: usize,
     j: usize,
     hint: &mut usize,
@@ -89,15 +81,17 @@ fn is_face<F: Fn(&Support, &Support) -> bool>(
     requires second { j < length kepts.now }
     requires singles { MakeSinglesPairs permit.now.clashes.items (rays_of kepts.now) }
     requires joined { AreJoinedTo permit.now.clashes.items (support_of (ray_at (rays_of kepts.now) i)) columns.now }
-    requires rivals { HaveRivals (rays_of kepts.now) permit.now.columns rivals.old }
+    requires rivals { IfSome rivals.old (HaveRivals (rays_of kepts.now) permit.now.columns) }
     ensures face { IfOk result (λ face. IsTrue face ↔ IsFacePair permit.now.clashes.items (rays_of kepts.now) i j) }
-    ensures rivals { OnOk result (HaveRivals (rays_of kepts.now) permit.now.columns rivals.new) }
+    ensures rivals { OnOk result (IfSome rivals.new (HaveRivals (rays_of kepts.now) permit.now.columns)) }
 {
     if let Some(face) = face_of_single(permit, kepts, i, j) {
         return Ok(face);
     }
-    gather(alloc, permit, kepts, i, columns, rivals)?;
-    Ok(is_face_among(permit, kepts, rivals, i, j, hint))
+    let gathered = gather(alloc, permit, kepts, i, columns, rivals.take())?;
+    let face = is_face_among(permit, kepts, &gathered, i, j, hint);
+    *rivals = Some(gathered);
+    Ok(face)
 }
 
 /// Combines the positive ray at a place with each negative ray that it makes a pair with.
@@ -108,7 +102,7 @@ pub fn combine_with<F: Fn(&Support, &Support) -> bool>(
     kepts: &[Kept],
     signs: &[Sign],
     negatives: &Negatives,
-    rivals: &mut Rivals,
+    rivals: &mut Option<Rivals>,
     i: usize,
     at_u: u128,
     most: u64,
@@ -122,14 +116,14 @@ pub fn combine_with<F: Fn(&Support, &Support) -> bool>(
     requires negatives { AreNegatives (rays_of kepts.now) signs.now permit.now.columns negatives.now }
     requires small { HaveSmallUnions permit.now.columns most permit.now.clashes.items (rays_of kepts.now) }
     requires singles { MakeSinglesPairs permit.now.clashes.items (rays_of kepts.now) }
-    requires rivals { HaveRivals (rays_of kepts.now) permit.now.columns rivals.old }
+    requires rivals { IfSome rivals.old (HaveRivals (rays_of kepts.now) permit.now.columns) }
     requires in_range { i < length kepts.now }
     requires positive { slice_index_or signs.now i Sign.Zero ≡ Sign.Positive at_u }
     requires made { IsMadeUpTo MAX_ENTRY permit.now.clashes.items (rays_of kepts.now) signs.now i 0 (rays_of made.old.items) }
     requires made_widths { AreOfWidth permit.now.columns made.old.items }
     ensures made { OnOk result (IsMadeUpTo MAX_ENTRY permit.now.clashes.items (rays_of kepts.now) signs.now (i + 1) 0 (rays_of made.new.items)) }
     ensures widths { OnOk result (AreOfWidth permit.now.columns made.new.items) }
-    ensures rivals { OnOk result (HaveRivals (rays_of kepts.now) permit.now.columns rivals.new) }
+    ensures rivals { OnOk result (IfSome rivals.new (HaveRivals (rays_of kepts.now) permit.now.columns)) }
 {
     let u = &kepts[i];
     let columns = joined_at(alloc, permit, partners, kepts, i)?;

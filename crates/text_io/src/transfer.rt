@@ -5,6 +5,12 @@ ghost use Rattle.text_io.specs.Causes.{Takes, Grows, IsEnded};
 use crate::{Failed, Sink, Source};
 use std::alloc::{AllocError, Global};
 
+/// The fewest bytes that are asked for at once, where there is room for so many.
+const FEWEST_ASKED: usize = 4096;
+
+/// The most bytes that are asked for at once.
+const MOST_ASKED: usize = 65536;
+
 /// Why not all bytes of a source were read.
 #[derive(Clone, Copy, Debug, PartialEq, Eq)]
 pub enum ReadEnd {
@@ -36,13 +42,14 @@ impl From<AllocError> for ReadEnd {
     }
 }
 
-/// How many bytes to ask for at once, where there is room for so many.
-fn read_length(room: usize) -> usize
+/// How many bytes to ask for at once behind so many, where there is room for so many more. Most inputs are short, and each
+/// byte that is asked for is made before the read, so it is few at first.
+fn read_length(len: usize, room: usize) -> usize
     requires { 0 < room }
     ensures some { 0 < result }
     ensures within { result ≤ room }
 {
-    room.min(65536)
+    room.min(len.max(FEWEST_ASKED).min(MOST_ASKED))
 }
 
 /// All bytes that are left in a source, where they are at most `limit`. Its memory is taken before the first read.
@@ -68,7 +75,7 @@ pub fn read_all<S: Source>(alloc: Global, source: &mut S, limit: u64) -> Result<
     let mut bytes = Vec::with_capacity(alloc, most)?;
     while bytes.len() < most {
         let len = bytes.len();
-        bytes.resize(len + read_length(most - len), 0)?;
+        bytes.resize(len + read_length(len, most - len), 0)?;
         let count = source.read(&mut bytes[len..])?;
         bytes.truncate(len + count);
         if count == 0 {

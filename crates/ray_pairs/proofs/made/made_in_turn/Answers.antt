@@ -1,4 +1,5 @@
 use Rattle.std.proofs.Common.{◌≡◌, ◌+◌, length, subst, sym, ap, arith}
+use Rattle.std.specs.Prelude.{IfSome}
 use Rattle.cone_core.specs.declared.numbers.TheConstants.{MAX_ENTRY}
 use Rattle.double_description.specs.Kepts.{rays_of, AreOfWidth}
 use Rattle.double_description.specs.Signs.{IsMadeUpTo}
@@ -18,7 +19,7 @@ loop-i-preserved g c =
           record {
             made = subst (λ xs. IsMadeUpTo MAX_ENTRY pairs rays signs (c.loop-i.i + 1) 0 (rays_of xs)) (sym e) w.in_ok-combine_with.ensures.made;
             widths = subst (AreOfWidth c.args.permit.now.columns) (sym e) w.in_ok-combine_with.ensures.widths;
-            rivals = subst (HaveRivals rays c.args.permit.now.columns) (sym w.rivals-is) w.in_ok-combine_with.ensures.rivals;
+            rivals = subst (λ r. IfSome r (HaveRivals rays c.args.permit.now.columns)) (sym w.rivals-is) w.in_ok-combine_with.ensures.rivals;
           }
       | in_default w ↦
           let e = ap (λ v. v.items) w.made-is in
@@ -26,7 +27,7 @@ loop-i-preserved g c =
             made = subst (λ xs. IsMadeUpTo MAX_ENTRY pairs rays signs (c.loop-i.i + 1) 0 (rays_of xs)) (sym e)
                 (made_skip_all MAX_ENTRY pairs rays signs c.loop-i.i (rays_of c.loop-i.made.items) (λ at_u p. w.in_default.not-Positive at_u p) c.loop-i.invariant.made);
             widths = subst (AreOfWidth c.args.permit.now.columns) (sym e) c.loop-i.invariant.widths;
-            rivals = subst (HaveRivals rays c.args.permit.now.columns) (sym w.rivals-is) c.loop-i.invariant.rivals;
+            rivals = subst (λ r. IfSome r (HaveRivals rays c.args.permit.now.columns)) (sym w.rivals-is) c.loop-i.invariant.rivals;
           }
     ]
 

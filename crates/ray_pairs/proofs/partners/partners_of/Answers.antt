@@ -1,13 +1,10 @@
-use Rattle.std.proofs.Common.{[], arith, length-append, ◌∷◌}
-use Rattle.ray_pairs.proofs.PartnerLemmas.{partners_push}
+use Rattle.std.proofs.Common.{subst, sym}
+use Rattle.std.proofs.lemmas.List.{take_more}
+use Rattle.ray_pairs.specs.Partners.{ArePartners}
+use Rattle.ray_pairs.proofs.PartnerLemmas.{partners_more}
 use Rattle.ray_pairs.proofs.partners.partners_of.Goals as goal
 
-pub loop-column-preserved : goal.loop-column-preserved
-loop-column-preserved c =
-    let old = c.loop-column.partners.items in
-    let e = c.in_ok-push.ensures.items in
-    let n = length-append old (c.in_ok-partners_at.field-0 ∷ []) in
-    record {
-      count = rw e (omega (arith, n, c.loop-column.invariant.count));
-      each = rw e (partners_push c.args.columns c.args.clashes.now old c.in_ok-partners_at.field-0 c.loop-column.column c.loop-column.invariant.count c.loop-column.invariant.each c.in_ok-partners_at.ensures);
-    }
+pub loop-pair-preserved : goal.loop-pair-preserved
+loop-pair-preserved c =
+    subst (λ ps. ArePartners c.args.columns ps c.note-in-loop-pair.new.partners.items) (sym (take_more c.args.clashes.now c.loop-pair.pair-index (0, 0) c.loop-pair-test.true))
+    (partners_more c.args.columns _ _ _ _ _ c.loop-pair.invariant c.note.ensures c.note-in-loop-pair.ensures)

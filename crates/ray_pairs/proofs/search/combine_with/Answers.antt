@@ -1,4 +1,5 @@
 use Rattle.std.proofs.Common.{◌≡◌, ℕ, ◌+◌, ◌<◌, List, length, get_or, subst, subst₂, sym, ◌∙◌, ap, arith}
+use Rattle.std.specs.Prelude.{IfSome}
 use Rattle.std.proofs.lemmas.List.Elements.{All-push}
 use Rattle.std.proofs.lemmas.Bool.{false≢true}
 use Rattle.cone_definitions.specs.Vectors.{ray_at}
@@ -79,7 +80,7 @@ loop-m-preserved g c =
                 (reduced_width MAX_ENTRY c.args.at_u w'.in-Negative.at_w (ray_at rays i) (ray_at rays j) w'.in_ok-kept.kept.ray reduced
                 (ray_width kepts i columns c.requires.in_range c.requires.widths ∙ sym (ray_width kepts j columns j_within c.requires.widths))
                 ∙ ray_width kepts j columns j_within c.requires.widths));
-            rivals = subst (HaveRivals rays columns) (sym w'.rivals-is) w'.in_ok-is_face.ensures.rivals;
+            rivals = subst (λ r. IfSome r (HaveRivals rays columns)) (sym w'.rivals-is) w'.in_ok-is_face.ensures.rivals;
           }
       | in-Negative+in_ok-is_face+else-branch w' ↦
           let e = ap (λ v. v.items) w'.made-is in
@@ -90,7 +91,7 @@ loop-m-preserved g c =
             within = after.0;
             taken = after.1;
             widths = subst (AreOfWidth columns) (sym e) c.loop-m.invariant.widths;
-            rivals = subst (HaveRivals rays columns) (sym w'.rivals-is) w'.in_ok-is_face.ensures.rivals;
+            rivals = subst (λ r. IfSome r (HaveRivals rays columns)) (sym w'.rivals-is) w'.in_ok-is_face.ensures.rivals;
           }
       | in_default w' ↦
           let e = ap (λ v. v.items) w'.made-is in
@@ -100,7 +101,7 @@ loop-m-preserved g c =
             within = after.0;
             taken = after.1;
             widths = subst (AreOfWidth columns) (sym e) c.loop-m.invariant.widths;
-            rivals = subst (HaveRivals rays columns) (sym w'.rivals-is) c.loop-m.invariant.rivals;
+            rivals = subst (λ r. IfSome r (HaveRivals rays columns)) (sym w'.rivals-is) c.loop-m.invariant.rivals;
           }
     ]
 

@@ -1,4 +1,5 @@
 -- the pairs of the negative places so far are taken
+use Rattle.std.specs.Prelude.{IfSome}
 use Rattle.std.proofs.Common.{◌-◌, ◌≤◌, length}
 use Rattle.cone_core.specs.declared.numbers.TheConstants.{MAX_ENTRY}
 use Rattle.double_description.specs.Kepts.{rays_of, AreOfWidth}
@@ -11,7 +12,7 @@ invariant-loop-m g l = record {
   within : l.m ≤ length l.negatives.places.items;
   taken : HaveTaken MAX_ENTRY l.permit.clashes.items (rays_of l.kepts) l.signs l.negatives.places.items l.i l.m (rays_of l.made.items);
   widths : AreOfWidth l.permit.columns l.made.items;
-  rivals : HaveRivals (rays_of l.kepts) l.permit.columns l.rivals;
+  rivals : IfSome l.rivals (HaveRivals (rays_of l.kepts) l.permit.columns);
 }
 
 abbrev pub decreases-loop-m : goal.decreases-loop-m

@@ -2,7 +2,7 @@ use Rattle.std.proofs.Common.{ℕ, ◌*◌, ◌/◌, ◌%◌, ◌^◌, List, set
 use Rattle.std.proofs.lemmas.Grind.{get_or_default_zero}
 use Rattle.support_bits.specs.Words.{bit_of}
 use Rattle.support_bits.proofs.WordLemmas.{bit_of-set_same, bit_of-set_other}
-use Rattle.quad_condition.proofs.words.set_bit.Goals as goal
+use Rattle.support_bits.proofs.bits.set_bit.Goals as goal
 
 pub returns-clause-set : goal.returns-clause-set
 returns-clause-set c =
