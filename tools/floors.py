@@ -16,7 +16,7 @@ TOP = os.path.dirname(os.path.dirname(os.path.realpath(__file__)))
 BEGIN, END = "<!-- floors: tools/floors.py -->", "<!-- end of floors -->"
 LAWS_BEGIN, LAWS_END = "<!-- laws: tools/floors.py -->", "<!-- end of laws -->"
 PARTS = ("src", "specs", "proofs")
-PROGRAMS = ("trinorm", "worked_rows", "worked_texts", "worked_tables", "worked_cones")
+PROGRAMS = ("trinorm", "worked_rows", "worked_tables", "worked_cones")
 # what each crate is about; its kind is told by its name
 SUBJECTS = {
     "below all": "plain_facts no_memory",
@@ -38,7 +38,7 @@ SUBJECTS = {
     " quad_lift surface_pieces surface_properties crushing surface_list surface_answers vector_commands",
     "sum": "sum_definitions sum_laws ray_decompose sum_commands",
     "program": "command_definitions outcome_definitions command_laws outcome_laws outcome_existence_laws answer_laws"
-    " written_answer_laws command_words command_answers workbench trinorm worked_rows worked_texts worked_tables worked_cones",
+    " written_answer_laws command_words command_answers workbench trinorm worked_rows worked_tables worked_cones",
 }
 MATRIX_BEGIN, MATRIX_END = "<!-- subjects: tools/floors.py -->", "<!-- end of subjects -->"
 COLOURS = {"definitions": "#dbe9f6", "laws": "#fde8c8", "code": "#e3f1dc", "program": "#f5d9e2"}

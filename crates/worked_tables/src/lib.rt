@@ -1,4 +1,4 @@
-//! Worked calls of the crates on what tables have. There is no product code here.
+//! Worked calls of the crates on texts and tables. There is no product code here.
 #![tactic(auto)]
 
 #[cfg(test)]
@@ -14,19 +14,29 @@ mod double_cover_calls;
 #[cfg(test)]
 mod edge_group_calls;
 #[cfg(test)]
+mod finite_walks_calls;
+#[cfg(test)]
+mod gluing_table_calls;
+#[cfg(test)]
 mod labelling_walk_calls;
 #[cfg(test)]
 mod move_undo_calls;
 #[cfg(test)]
 mod pachner_moves_calls;
 #[cfg(test)]
+mod perm_four_calls;
+#[cfg(test)]
 mod sample_tables;
 #[cfg(test)]
 mod signature_census_calls;
 #[cfg(test)]
+mod signature_codec_calls;
+#[cfg(test)]
 mod skeleton_calls;
 #[cfg(test)]
 mod sphere_certificate_calls;
+#[cfg(test)]
+mod text_io_calls;
 #[cfg(test)]
 mod tri_build_calls;
 #[cfg(test)]

@@ -1,6 +1,6 @@
 ghost use Rattle.std.specs.Prelude.{◌≡◌, length};
 
-use crate::sample_rows::{BALL, by, sphere_row, table_of, text_of};
+use crate::sample_tables::{BALL, by, sphere_row, table_of, text_of};
 use gluing_table::{
     Face, Glue, Probe, Relabelling, RelabellingFault, Table, TableFault, TextFault, read_rows,
 };
@@ -10,7 +10,7 @@ use text_io::Lexer;
 
 #[test]
 fn a_sphere_is_a_table(rt: HostRuntime) {
-    let table = table_of(&rt, rt.alloc(), &[sphere_row()]);
+    let table = table_of(&rt, rt.alloc(), &[sphere_row(0)]);
     assert_eq!(rt; table.len(), 1);
     assert!(rt; table.len() > 0);
     let written = text_of(rt.alloc(), &table).expect(&rt, "memory");
@@ -30,7 +30,7 @@ fn a_text_is_read(rt: HostRuntime) {
     let mut lexer = Lexer::new(text);
     assert!(rt; lexer.next_line());
     let table = read_rows(rt.alloc(), &mut lexer).expect(&rt, "a table");
-    let sphere = table_of(&rt, rt.alloc(), &[sphere_row()]);
+    let sphere = table_of(&rt, rt.alloc(), &[sphere_row(0)]);
     assert!(rt; table.equals(&sphere));
     let mut many = Lexer::new(b"1001 x");
     assert!(rt; many.next_line());
@@ -92,7 +92,7 @@ fn faults_are_found(rt: HostRuntime) {
 
 #[test]
 fn faces_that_are_read_are_counted(rt: HostRuntime) {
-    let table = table_of(&rt, rt.alloc(), &[sphere_row()]);
+    let table = table_of(&rt, rt.alloc(), &[sphere_row(0)]);
     let mut probe = Probe::new(&table);
     assert_eq!(rt; probe.len(), 1);
     assert_eq!(rt; probe.taken(), 0);

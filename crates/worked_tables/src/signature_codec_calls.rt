@@ -1,4 +1,4 @@
-use crate::sample_rows::text_of;
+use crate::sample_tables::text_of;
 use gluing_table::{Glue, Table};
 use perm_four::Perm4;
 use signature_codec::{SigFault, SpellFault, read_any, read_signature, spell};
