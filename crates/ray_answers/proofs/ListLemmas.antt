@@ -10,7 +10,3 @@ pub vector_line : (old named entries : List ℕ) (x : List ℕ) → named ≡ ol
 vector_line old named entries x named_is entries_are =
     ap (λ v. v ++ 10 ∷ []) (entries_are ∙ ap (λ v. v ++ entries_text x) named_is ∙ append_assoc old (codes "vec") (entries_text x)) ∙
     append_assoc old (codes "vec" ++ entries_text x) (10 ∷ []) ∙ ap (λ v. old ++ v) (sym (spaced_entries (codes "vec") x))
-
--- a space and digits behind it
-pub after_space : (old spaced new digits : List ℕ) → spaced ≡ old ++ 32 ∷ [] → new ≡ spaced ++ digits → new ≡ old ++ 32 ∷ digits
-after_space old spaced new digits spaced_is new_is = new_is ∙ ap (λ v. v ++ digits) spaced_is ∙ append_assoc old (32 ∷ []) digits

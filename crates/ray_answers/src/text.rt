@@ -12,11 +12,10 @@ use text_io::{append, append_decimal};
 fn push_entry(alloc: Global, text: &mut Vec<u8>, entry: u128) -> Result<(), NoMemory>
     ensures { OnOk result (text.new.items ≡ text.old.items ++ 32 ∷ decimal entry) }
 {
-    text.push(b' ')?;
     if entry < 10 {
-        text.push(b'0' + entry as u8)?;
-        Ok(())
+        append(text, &[b' ', b'0' + entry as u8])
     } else {
+        append(text, b" ")?;
         append_decimal(alloc, text, entry)
     }
 }
@@ -72,11 +71,12 @@ fn least_bytes(list: &[Ray]) -> usize {
     }
 }
 
-/// The lines of all rays.
-fn lines_of(alloc: Global, list: &[Ray]) -> Result<Vec<u8>, NoMemory>
-    ensures { IfOk result (λ text. text.items ≡ list_text list.now) }
+/// A text, and the lines of all rays behind it.
+fn lines_behind(alloc: Global, front: &[u8], list: &[Ray]) -> Result<Vec<u8>, NoMemory>
+    ensures { IfOk result (λ text. text.items ≡ front.now ++ list_text list.now) }
 {
-    let mut text = Vec::with_capacity(alloc, least_bytes(list))?;
+    let mut text = Vec::with_capacity(alloc, least_bytes(list).saturating_add(front.len()))?;
+    append(&mut text, front)?;
     for ray in list {
         push_line(alloc, &mut text, ray.entries())?;
     }
@@ -88,6 +88,7 @@ pub fn write_list(alloc: Global, list: &[Ray], out: &mut Vec<u8>) -> Result<(), 
     ensures ok { OnOk result (out.new.items ≡ out.old.items ++ list_text list.now) }
     ensures err { OnErr result (out.new.items ≡ out.old.items) }
 {
-    let text = lines_of(alloc, list)?;
-    append(out, &text)
+    // The lines are far longer than what stands before them, so that is copied and not they.
+    *out = lines_behind(alloc, out, list)?;
+    Ok(())
 }
