@@ -10,7 +10,7 @@ use Rattle.surface_definitions.specs.TableSurfaces.{table_enumeration}
 use Rattle.cone_definitions.specs.Surfaces.{Clash, IsSurfaceList}
 use Rattle.cone_definitions.specs.Systems.{Cone}
 use Rattle.cone_definitions.specs.Orders.{AreNamed}
-use Rattle.cone_definitions.specs.Listings.{Enumeration, IsListed}
+use Rattle.cone_definitions.specs.Listings.{Enumeration, IsListed, IsPastLimit}
 use Rattle.cone_definitions.specs.declared.Order.{Order}
 use Rattle.cone_definitions.proofs.Next.{one_surface_list_lem}
 use Rattle.double_description.specs.declared.engine.Rays.{Rays}
@@ -22,7 +22,7 @@ use Rattle.ray_answers.specs.Answers.{AreRefused}
 use Rattle.cone_laws.proofs.Taken.{some_rows_taken}
 use Rattle.equation_bounds_laws.specs.Bounds.{number_bound}
 use Rattle.equation_bounds_laws.proofs.Bounds.{are_listed as table_listed}
-use Rattle.surface_list.specs.Surfaces.{AreTableSurfaces}
+use Rattle.surface_list.specs.Surfaces.{AreTableSurfaces, IsTableRefused}
 use denote.Ref.{Bor}
 
 abbrev pub Listed : Enumeration → Rays → Type 0
@@ -75,6 +75,11 @@ module _ (limit : ℕ) (coords : Coords) (rows : List Row) (system : Cone) (n : 
               (IsPermutation-refl system.rows) is_list there.surfaces;
         },
       )
+
+  -- and where the engine is refused, so is the table
+  pub refused_by : (fault : EnumFault) → AreRefused (given system n) fault → IsTableRefused limit coords rows order fault
+  refused_by NoMemory h = tt
+  refused_by (Large taken kind) h = (system.rows, equations, of_table (λ e. IsPastLimit e taken.items kind) h)
 
   pub surfaces_by : (rays : Rays) → Listed (given system n) rays → AreTableSurfaces limit coords rows order rays.list.items
   surfaces_by rays h = only_listing rays.order.items rays.list.items h
