@@ -4,4 +4,4 @@
 mod bounds;
 mod listed;
 
-pub use listed::surfaces;
+pub use listed::{surfaces, surfaces_by};
