@@ -1,16 +1,19 @@
 -- How a run ends, and what holds of it then: each ending by itself, over what was asked, read and written.
-use Rattle.std.proofs.Common.{◌≡◌, ◌+◌, ◌-◌, ◌^◌, ◌<◌, ◌≤◌, ℕ, false, List, [], length, Option, Some, None, inl, inr, refl, sym, ◌∙◌, ap, subst, arith}
+use Rattle.std.proofs.Common.{◌≡◌, ℕ, false, List, [], Option, Some, None, inl, inr, refl, sym, ◌∙◌, ap, subst, arith}
 use Rattle.std.specs.Prelude.{IfSome}
 use Rattle.text_io.specs.Causes.{Grows, Rose}
 use Rattle.command_definitions.specs.declared.Request.{Request}
 use Rattle.command_definitions.specs.Requests.{reads_input}
 use Rattle.command_definitions.specs.Words.{accepted_request}
+use Rattle.command_words.specs.declared.WordsFault.{WordsFault}
+use Rattle.command_words.specs.declared.WordsFault.TheVariants.{Usage as Unknown}
+use Rattle.command_words.specs.Requests.{FailsWords}
 use Rattle.outcome_definitions.specs.declared.Status.{Status}
 use Rattle.outcome_definitions.specs.declared.Status.TheVariants.{Done, Usage, Input, Refused, Large, ReadFault, WriteFault, NoMemory}
 use Rattle.outcome_definitions.specs.Lines.{read_line, usage_line}
 use Rattle.outcome_definitions.specs.Outcomes.{Outcome, IsOwnStatus, usage_outcome}
-use Rattle.outcome_definitions.specs.Answers.{IsOutcome, IsOutcomeOf, IsAnswerTo, most_bytes}
-use Rattle.workbench.specs.Runs.{IsAnswered, IsCalm, IsWithin, IsReadFault, IsReadWell, IsResponse, IsWithoutMemory, IsCutOff, IsDelivered, IsDue, IsOutcomeAlone, IsRun}
+use Rattle.outcome_definitions.specs.Answers.{IsOutcome, IsOutcomeOf, IsAnswerTo}
+use Rattle.workbench.specs.Runs.{IsAnswered, IsCalm, IsWithin, IsReadWell, IsResponse, IsCutOff, IsDelivered, IsDue, IsOutcomeAlone, IsRun}
 use Rattle.workbench.proofs.RunClauses.{run_outcome, run_prefix}
 
 own_answered : (status : Status) → IsOwnStatus status → IsAnswered status
@@ -32,16 +35,27 @@ pub all_within : (left : Option (List ℕ)) → IsWithin left left
 all_within None = tt
 all_within (Some bytes) = omega arith
 
+-- the words are accepted: two requests of the same words are one
+one_request : (words : List (List ℕ)) (asked request : Request) → accepted_request words ≡ Some asked → accepted_request words ≡ Some request → asked ≡ request
+one_request words asked request accepted e = (let g : (let o : Option Request = Some asked in o ≡ Some request) = sym accepted ∙ e in cc)
+
+-- the source is left untouched where the words ask for a command that reads nothing
+abbrev LeavesIdle : {X : Type 0} → List (List ℕ) → X → X → Type 0
+LeavesIdle words source read = (request : Request) → accepted_request words ≡ Some request → reads_input request ≡ false → read ≡ source
+
+pub idle_of : {X : Type 0} (words : List (List ℕ)) (source read : X) (asked : Request) → accepted_request words ≡ Some asked → (reads_input asked ≡ false → read ≡ source) → LeavesIdle words source read
+idle_of words source read asked accepted idle request e nothing = idle (ap reads_input (one_request words asked request accepted e) ∙ nothing)
+
+-- the words are refused where they are no command
+pub refused_by : (fault : WordsFault) (asked : Option Request) → fault ≡ Unknown → FailsWords fault asked → asked ≡ None
+refused_by fault asked is h = subst (λ (f : WordsFault). FailsWords f asked) is h
+
 module _ {X Y : Type 0} (words : List (List ℕ)) (source read : X) (left rest : Option (List ℕ)) (faults read_faults : ℕ) (sink written : Y) (held grown : Option (List ℕ)) (sink_faults write_faults : ℕ) where
   abbrev Run : Status → Type 0
   Run result = IsRun words result source read left rest faults read_faults sink written held grown sink_faults write_faults
 
-  -- the source is left untouched where the words ask for nothing or for a command that reads nothing
-  abbrev LeavesIdle : Type 0
-  LeavesIdle = (request : Request) → accepted_request words ≡ Some request → reads_input request ≡ false → read ≡ source
-
   -- the sink failed
-  cut_run : (accepted_request words ≡ None → read ≡ source) → LeavesIdle → (o : Outcome) → IsDue words left faults read_faults o → IsCutOff held grown o.text → Rose sink_faults write_faults → Run WriteFault
+  cut_run : (accepted_request words ≡ None → read ≡ source) → LeavesIdle words source read → (o : Outcome) → IsDue words left faults read_faults o → IsCutOff held grown o.text → Rose sink_faults write_faults → Run WriteFault
   cut_run refused idle o due cut rose = record {
     usage = λ e. (inr (inl refl), refused e);
     usage_alone = λ e. absurd cc;
@@ -62,7 +76,7 @@ module _ {X Y : Type 0} (words : List (List ℕ)) (source read : X) (left rest :
   }
 
   -- memory ran out
-  pub spent_run : (accepted_request words ≡ None → read ≡ source) → LeavesIdle → IsCalm faults read_faults → IsWithin left rest → written ≡ sink → write_faults ≡ sink_faults → Run NoMemory
+  pub spent_run : (accepted_request words ≡ None → read ≡ source) → LeavesIdle words source read → IsCalm faults read_faults → IsWithin left rest → written ≡ sink → write_faults ≡ sink_faults → Run NoMemory
   spent_run refused idle calm within same still = record {
     usage = λ e. (inr (inr refl), refused e);
     usage_alone = λ e. absurd cc;
@@ -129,13 +143,6 @@ module _ {X Y : Type 0} (words : List (List ℕ)) (source read : X) (left rest :
 
   -- the words are accepted
   module _ (asked : Request) (accepted : accepted_request words ≡ Some asked) (idle : reads_input asked ≡ false → read ≡ source) where
-    -- two requests of the same words are one
-    one_request : (request : Request) → accepted_request words ≡ Some request → asked ≡ request
-    one_request request e = (let g : (let o : Option Request = Some asked in o ≡ Some request) = sym accepted ∙ e in cc)
-
-    pub idle_of : LeavesIdle
-    idle_of request e nothing = idle (ap reads_input (one_request request e) ∙ nothing)
-
     -- the source failed, and that is told
     fault_run : Rose faults read_faults → Grows held grown read_line → IsCalm sink_faults write_faults → Run ReadFault
     fault_run rose grows still = record {
@@ -152,7 +159,7 @@ module _ {X Y : Type 0} (words : List (List ℕ)) (source read : X) (left rest :
       no_memory_within = λ e. absurd cc;
       outcome = λ answered. absurd answered;
       end = λ request e reads done. absurd cc;
-      untouched = idle_of;
+      untouched = idle_of words source read asked accepted idle;
       words_alone = λ request e nothing answered. absurd answered;
       answered = λ small room same_count still_count. absurd (let risen = rose small in omega (arith, risen, same_count));
     }
@@ -172,10 +179,10 @@ module _ {X Y : Type 0} (words : List (List ℕ)) (source read : X) (left rest :
       no_memory_calm = λ e. absurd (no_own o.status NoMemory well.own_status e);
       no_memory_within = λ e. absurd (no_own o.status NoMemory well.own_status e);
       outcome = run_outcome words asked accepted rest faults read_faults o held grown sink_faults write_faults o.status left (inr well) (inl (refl, grows, still));
-      end = λ request e reads done. well.end (ap reads_input (one_request request e) ∙ reads) done;
-      untouched = idle_of;
+      end = λ request e reads done. well.end (ap reads_input (one_request words asked request accepted e) ∙ reads) done;
+      untouched = idle_of words source read asked accepted idle;
       words_alone = λ request e nothing answered.
-          (o, subst (λ (r : Request). IsAnswerTo r [] o) (one_request request e) (well.alone (ap reads_input (one_request request e) ∙ nothing)), refl, grows);
+          (o, subst (λ (r : Request). IsAnswerTo r [] o) (one_request words asked request accepted e) (well.alone (ap reads_input (one_request words asked request accepted e) ∙ nothing)), refl, grows);
       answered = λ small room same_count still_count. inl (own_answered o.status well.own_status);
     }
 
@@ -186,4 +193,4 @@ module _ {X Y : Type 0} (words : List (List ℕ)) (source read : X) (left rest :
     response_delivered o (inr well) status (inl whole) = subst Run (sym whole.0) (own_run o well whole.1 whole.2)
     response_delivered o response status (inr cut) =
         let due = run_prefix words asked accepted rest faults read_faults o held grown sink_faults write_faults status left response (inr cut) cut.0 in
-        subst Run (sym cut.0) (cut_run (λ e. absurd cc) idle_of due.0 due.1 due.2 cut.2)
+        subst Run (sym cut.0) (cut_run (λ e. absurd cc) (idle_of words source read asked accepted idle) due.0 due.1 due.2 cut.2)

@@ -1,6 +1,6 @@
 -- What the outcome of words and of an input means, or that the run was cut short.
-use Rattle.std.proofs.Common.{◌≡◌, ◌≤◌, ◌↔◌, ℕ, false, List, [], length, Option, Some, None, Result, Ok, inl, inr, sym, ◌∙◌, ap, subst}
-use Rattle.std.specs.Prelude.{◌⊎◌, IfSome, All}
+use Rattle.std.proofs.Common.{◌≡◌, ◌≤◌, ◌↔◌, ℕ, false, List, [], length, Option, Some, None, Result, Ok, inl, inr, sym, ◌∙◌}
+use Rattle.std.specs.Prelude.{IfSome, All}
 use Rattle.text_io.specs.Causes.{Grows}
 use Rattle.signature_definitions.specs.declared.InputFault.{InputFault}
 use Rattle.cone_definitions.specs.Rows.{Row as EquationRow}
@@ -15,14 +15,14 @@ use Rattle.command_definitions.specs.declared.Request.TheVariants.{Lift, Check}
 use Rattle.command_definitions.specs.Requests.{reads_input}
 use Rattle.command_definitions.specs.Words.{accepted_request}
 use Rattle.outcome_definitions.specs.declared.Status.{Status}
-use Rattle.outcome_definitions.specs.declared.Status.TheVariants.{Done, ReadFault}
+use Rattle.outcome_definitions.specs.declared.Status.TheVariants.{Done}
 use Rattle.outcome_definitions.specs.Outcomes.{Outcome}
 use Rattle.outcome_definitions.specs.Answers.{IsAnswerTo, most_bytes}
 use Rattle.answer_laws.specs.Asked.{IsOutcomeTo, Means}
 use Rattle.answer_laws.specs.Lifts.{HasSphereAndDiscVertices, IsSmallSolution, AreLifted}
 use Rattle.answer_laws.proofs.Lifts.{solutions_lifted}
 use Rattle.answer_laws.proofs.Checks.{done_where_certified}
-use Rattle.workbench.specs.Runs.{IsAnswered, IsResponse, IsDelivered}
+use Rattle.workbench.specs.Runs.{IsAnswered}
 use Rattle.workbench.specs.Prints.{Writes, WritesOf, IsCutShort}
 use Rattle.workbench.proofs.Headlines.{Tells}
 use Rattle.workbench.proofs.Completeness.{answered_or_cut}
