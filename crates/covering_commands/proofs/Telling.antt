@@ -1,5 +1,5 @@
 -- What was answered is what is to be told.
-use Rattle.std.proofs.Common.{◌≡◌, ℕ, List, Option, None, Some, inl, inr, MatchOption, subst, sym, ap, ◌∙◌}
+use Rattle.std.proofs.Common.{◌≡◌, ℕ, List, Option, None, Some, inl, inr, MatchOption, subst, sym}
 use Rattle.no_memory.specs.declared.Failure.{Failure}
 use Rattle.no_memory.specs.declared.Failure.TheVariants.{Fault}
 use Rattle.no_memory.specs.Failures.{IfFault}
