@@ -1,6 +1,6 @@
 -- From what the engine gives to surfaces.
 use Rattle.std.proofs.Common.{◌≡◌, ◌≤◌, ℕ, List, length, ap, subst}
-use Rattle.std.specs.Prelude.{Result, Ok, Err, Option, Some, None, IfOk, IfErr, IfSome}
+use Rattle.std.specs.Prelude.{Result, Ok, Err, IfOk, IfErr}
 use Rattle.std.proofs.lemmas.List.Sorted.{IsPermutation-refl}
 use Rattle.table_definitions.specs.Table.{Row, IsTable}
 use Rattle.surface_definitions.specs.Coordinates.{columns, clash_list}
