@@ -1,5 +1,5 @@
 -- One step through the vectors of a document.
-use Rattle.std.proofs.Common.{◌≡◌, ℕ, ◌<◌, ◌+◌, List, [], ◌∷◌, ◌++◌, length, take, get_or, Vec, Result, Ok, Err, sym, subst, ◌∙◌, arith}
+use Rattle.std.proofs.Common.{◌≡◌, ℕ, ◌<◌, ◌+◌, List, length, take, get_or, Vec, Result, Ok, Err, sym, subst, ◌∙◌, arith}
 use Rattle.std.specs.declared.alloc.Global.{Global}
 use Rattle.no_memory.specs.declared.Failure.{Failure}
 use Rattle.no_memory.specs.declared.Failure.TheVariants.{Fault}
