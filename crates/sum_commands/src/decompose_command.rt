@@ -94,9 +94,9 @@ fn summed(
 {
     match sums(alloc, table, system, list, vectors, limit) {
         Ok(text) => Ok(Outcome::built(Status::Done, text)),
-        Err(Failure::Fault(FirstFault { number, fault })) => {
-            let LargeTurn { turn, column } = fault;
-            refusal_outcome(alloc, number, SumRefusal::LargeTimes { turn, column })
+        Err(Failure::Fault(first)) => {
+            let LargeTurn { turn, column } = first.fault;
+            refusal_outcome(alloc, first.number, SumRefusal::LargeTimes { turn, column })
         }
         Err(Failure::NoMemory) => Err(NoMemory),
     }
