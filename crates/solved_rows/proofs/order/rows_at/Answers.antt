@@ -1,5 +1,5 @@
 -- One row more.
-use Rattle.std.proofs.Common.{◌∙◌, ap, subst, sym}
+use Rattle.std.proofs.Common.{◌∙◌, ap}
 use Rattle.std.proofs.lemmas.List.{take_all}
 use Rattle.cone_definitions.specs.Elimination.{in_order}
 use Rattle.solved_rows.proofs.RowLemmas.{rows_ordered}
