@@ -1,9 +1,9 @@
 -- The vectors are lent to the two steps, and stand in their places again.
-use Rattle.std.proofs.Common.{◌∷◌, ◌++◌, [], length, map, ap, ap₂, ◌∙◌, sym}
+use Rattle.std.proofs.Common.{length, ap, ap₂, ◌∙◌, sym}
 use Rattle.std.proofs.lemmas.List.{length-map}
 use Rattle.cone_definitions.specs.Vectors.{multiple}
-use Rattle.sum_definitions.specs.Sums.{repeated, difference}
-use Rattle.ray_decompose.proofs.Vectors.{refilled}
+use Rattle.sum_definitions.specs.Sums.{difference}
+use Rattle.ray_decompose.proofs.Vectors.{refilled, term_pushed, lent_terms}
 use Rattle.ray_decompose.proofs.taking.take_ray.Goals as goal
 
 pub repeat-requires : goal.repeat-requires
@@ -21,9 +21,8 @@ take_out-requires-clause-enough c = rw (c.entries.ensures.entries, c.deref_mut-2
 pub returns-clause-terms : goal.returns-clause-terms
 returns-clause-terms c =
     let kept = refilled _ _ _ (ap length c.repeat.ensures ∙ length-map _ _ ∙ ap length c.deref_mut.ensures.value ∙ sym c.args.terms.now.ok.0) in
-    c.in_ok-push.ensures.items ∙
-    ap₂ (λ ts v. ts ++ record { count = c.args.fraction.numerator; vector = v } ∷ []) (kept ∙ c.repeat.ensures ∙ ap (map (repeated c.args.fraction.denominator)) c.deref_mut.ensures.value)
-    c.in_ok-copy.ensures
+    term_pushed _ _ _ c.args.fraction.numerator _ _ c.in_ok-push.ensures.items
+    (lent_terms c.args.fraction.denominator c.args.terms.now.items _ c.repeat.new.terms _ kept c.repeat.ensures c.deref_mut.ensures.value) c.in_ok-copy.ensures
 
 pub returns-clause-rest : goal.returns-clause-rest
 returns-clause-rest c =
