@@ -1,9 +1,9 @@
 -- Weights and sizes, one term or one row more.
-use Rattle.std.proofs.Common.{◌≡◌, ◌≢◌, ℕ, ◌+◌, ◌<◌, ◌≤◌, ℤ, pos, negsuc, inl, inr, List, [], ◌++◌, take, drop, length, get_or, slice_set, All, ap, ap₂, sym, subst, ◌∙◌, arith}
+use Rattle.std.proofs.Common.{◌≡◌, ◌≢◌, ℕ, ◌+◌, ◌<◌, ◌≤◌, ℤ, pos, negsuc, inl, inr, List, [], take, length, get_or, slice_set, All, ap, ap₂, sym, subst, ◌∙◌, arith}
 use Rattle.std.specs.Prelude.{◌==◌, unsigned_abs, if◌then◌else◌}
 use Rattle.std.proofs.lemmas.Bool.{cases_eq}
 use Rattle.std.proofs.lemmas.Bool.Decides.{nat_tests}
-use Rattle.std.proofs.lemmas.List.{get_or-set_same, get_or-set_other, get_or_default, take-append-le, take_all}
+use Rattle.std.proofs.lemmas.List.{get_or-set_same, get_or-set_other, get_or_default}
 use Rattle.std.proofs.lemmas.List.Sums.{sum_by_more}
 use Rattle.cone_definitions.specs.Rows.{Row}
 use Rattle.minor_laws.specs.Caps.{magnitude, row_weight, column_weight, row_size}
@@ -52,10 +52,6 @@ weights_more old start row i weight n l within so_far is one j =
           let m = other (get_or row i (0, pos 0)).0 j (get_or row i (0, pos 0)).1 ne in
           omega (arith, a, m, more, so_far j)
     ]
-
--- what was lent and written stands in its place again
-pub refilled : (n : ℕ) (new old : List ℕ) → length new ≡ n → take n (new ++ drop (length new) old) ≡ new
-refilled n new old same = take-append-le n new (drop (length new) old) (omega arith) ∙ take_all n new (omega arith)
 
 pub rows_more : (rows : List Row) (i : ℕ) (row : Row) (old lent new kept : List ℕ) → i < length rows → row ≡ get_or rows i [] → ((j : ℕ) → get_or old j 0 ≡ column_weight (take i rows) j) →
     lent ≡ old → ((j : ℕ) → get_or new j 0 ≡ get_or lent j 0 + row_weight j row) → kept ≡ new → (j : ℕ) → get_or kept j 0 ≡ column_weight (take (i + 1) rows) j

@@ -1,7 +1,8 @@
 use Rattle.std.proofs.Common.{◌≤◌, length, ap, sym, ◌∙◌, arith}
 use Rattle.std.proofs.lemmas.List.{take_all}
 use Rattle.minor_laws.specs.Caps.{column_weight}
-use Rattle.number_bounds.proofs.Tallies.{rows_more, refilled}
+use Rattle.cone_core.proofs.EntryLemmas.{refilled}
+use Rattle.number_bounds.proofs.Tallies.{rows_more}
 use Rattle.number_bounds.proofs.weights.column_weights.Goals as goal
 
 pub loop-number-preserved : goal.loop-number-preserved
