@@ -1,6 +1,6 @@
-use crate::sample_tables::BALL;
+use crate::sample_tables::{BALL, table_of};
 use canonical_labelling::{SameFault, Start, WalkFault, lesser, same, signature};
-use gluing_table::{Probe, Table};
+use gluing_table::Probe;
 use perm_four::Perm4;
 use signature_codec::read_signature;
 use std::test::Fail;
@@ -39,7 +39,7 @@ fn the_first_relabelling_is_told(rt: HostRuntime) -> Result<(), Fail> {
 
 #[test]
 fn loose_tables_are_refused(rt: HostRuntime) -> Result<(), Fail> {
-    let loose = Table::from_rows(rt.alloc(), &[BALL, BALL])?;
+    let loose = table_of(&rt, rt.alloc(), &[BALL, BALL]);
     let one = read_signature(rt.alloc(), b"bkaagj")?;
     assert_eq!(rt;
         signature(rt.alloc(), &loose).err(),

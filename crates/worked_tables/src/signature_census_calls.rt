@@ -1,5 +1,4 @@
-use crate::sample_tables::BALL;
-use gluing_table::Table;
+use crate::sample_tables::{BALL, table_of};
 use signature_census::{Census, WalkFault};
 use signature_codec::read_signature;
 use std::test::Fail;
@@ -29,7 +28,7 @@ fn classes_are_numbered_as_they_are_met(rt: HostRuntime) -> Result<(), Fail> {
 #[test]
 fn loose_tables_are_refused(rt: HostRuntime) -> Result<(), Fail> {
     let mut census = Census::new(rt.alloc());
-    let loose = Table::from_rows(rt.alloc(), &[BALL, BALL])?;
+    let loose = table_of(&rt, rt.alloc(), &[BALL, BALL]);
     assert_eq!(rt;
         census.add(&loose).err(),
         Some(WalkFault::NotConnected { tet: 1 })
