@@ -17,13 +17,6 @@ use Rattle.double_description.proofs.RivalLemmas.{support_read, support_of_rival
 use Rattle.double_description.proofs.PlaceLemmas.{HaveTaken, taken_to}
 use Rattle.double_description.proofs.UnionLemmas.{not_face_large}
 
--- words have a common bit where their supports have a common column
-pub common_iff : (s t : List Bool) (words other : List ℕ) → AreWordsOf s words → AreWordsOf t other → HaveCommon words other ↔ Meets s t
-common_iff s t words other of_s of_t = (
-  λ h. (h.0, sym (of_s.bits h.0) ∙ h.1, sym (of_t.bits h.0) ∙ h.2),
-  λ h. (h.0, of_s.bits h.0 ∙ h.1, of_t.bits h.0 ∙ h.2),
-)
-
 -- a far ray makes no pair
 pub not_face_far : (pairs : List Clash) (rays : List (List ℕ)) (signs : List Sign) (i columns most k : ℕ) (joined : List Bool) (negatives : Negatives) (a : List Bool) →
     AreJoinedTo pairs (support_of (ray_at rays i)) joined → HaveSmallUnions columns most pairs rays → AreNegatives rays signs columns negatives → length signs ≡ length rays →

@@ -9,9 +9,6 @@ use Rattle.walk_laws.proofs.Rows.{entry_marks, entry_passes, entry_skips}
 use Rattle.walk_laws.proofs.SearchLemmas.{turn_ends, has_few_turns}
 use Rattle.walk_laws.proofs.Members.{members_grow}
 
-pub none_done : (row : List ℕ) (marked : List Bool) (pending : List ℕ) → IsRowMarked row [] marked marked pending pending
-none_done row marked pending = record { size = refl; behind = omega arith; turn = λ neighbours first x k same l t. t; members = λ old m. m; work = λ k l. refl }
-
 module _ (row : List (Option ℕ)) (i : ℕ) (inside : i < length row) (before after : List Bool) (pending longer : List ℕ)
     (h : IsRowMarked (present row) (present (take i row)) before after pending longer) (after' : List Bool) (longer' : List ℕ) where
   pub marks_one : (y : ℕ) → slice_index_or row i None ≡ Some y → y < length after → slice_index_or after y false ≡ false → after' ≡ set after y true → longer' ≡ longer ++ y ∷ [] →
