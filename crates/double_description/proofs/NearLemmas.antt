@@ -1,8 +1,7 @@
 -- Lemmas on the negative rays that are far from a positive one.
-use Rattle.std.proofs.Common.{◌≡◌, ℕ, ◌<◌, ◌≤◌, ◌↔◌, ⊎_elim, List, Bool, length, get_or, [], subst, sym, ◌∙◌, arith}
+use Rattle.std.proofs.Common.{◌≡◌, ℕ, ◌<◌, ◌≤◌, ⊎_elim, List, Bool, length, get_or, [], subst, arith}
 use Rattle.cone_definitions.specs.Surfaces.{Clash}
 use Rattle.support_bits.specs.Columns.{support_of, Meets}
-use Rattle.support_bits.specs.Words.{AreWordsOf, HaveCommon}
 use Rattle.support_table.specs.Joins.{AreJoinedTo}
 use Rattle.double_description.specs.declared.negatives.Negatives.{Negatives}
 use Rattle.double_description.specs.declared.signs.Sign.{Sign}

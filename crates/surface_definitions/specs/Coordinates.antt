@@ -1,5 +1,5 @@
 -- The columns of a vector: triangles, quads and octagons of each tetrahedron.
-use Rattle.std.specs.Prelude.{ℕ, ◌+◌, ◌*◌, ◌/◌, ◌%◌, Bool, ◌&&◌, ◌||◌, not, List, [], ◌∷◌, map, filter, ◌==◌, nat_lt, nat_le, Option, Some, None, option_map, if◌then◌else◌}
+use Rattle.std.specs.Prelude.{ℕ, ◌+◌, ◌*◌, ◌/◌, ◌%◌, Bool, ◌&&◌, ◌||◌, not, List, [], ◌∷◌, map, filter, ◌==◌, nat_lt, nat_le}
 use Rattle.std.specs.List.{position_or_len, slice_index_or}
 use Rattle.table_definitions.specs.Lists.{below, pairs_of}
 use Rattle.table_definitions.specs.Permutation.{image}

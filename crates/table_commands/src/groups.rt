@@ -1,5 +1,5 @@
 // Tables that are read and sorted into classes, and not kept.
-ghost use Rattle.std.specs.Prelude.{◌≡◌, ◌<◌, ◌≤◌, ◌+◌, ◌++◌, ◌^◌, ℕ, List, [], ◌∷◌, None, length, OnOk};
+ghost use Rattle.std.specs.Prelude.{◌≡◌, ◌<◌, ◌≤◌, ◌+◌, ◌++◌, ◌^◌, List, [], ◌∷◌, None, length, OnOk};
 ghost use Rattle.text_definitions.specs.Text.{max_text};
 ghost use Rattle.table_definitions.specs.Table as gluings;
 ghost use Rattle.signature_definitions.specs.SignatureText.{any_table_at};

@@ -1,5 +1,5 @@
 // A source and a sink over memory, which fail where they are told to, and a source that never fails.
-ghost use Rattle.std.specs.Prelude.{◌≡◌, ◌↔◌, ◌⊎◌, ◌+◌, ◌-◌, ◌<◌, ◌≤◌, ℕ, List, [], ◌++◌, length, take, drop, min, Some, Contains, IfOk, OnErr, IsErr, IsOk};
+ghost use Rattle.std.specs.Prelude.{◌≡◌, ◌↔◌, ◌⊎◌, ◌+◌, ◌-◌, ◌<◌, ◌≤◌, [], ◌++◌, length, take, drop, min, Some, Contains, IfOk, OnErr, IsErr, IsOk};
 ghost use Rattle.text_io.specs.Causes.{next_count};
 
 use crate::{Failed, NoMemory, Sink, Source};
