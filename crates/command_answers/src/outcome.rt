@@ -84,12 +84,14 @@ impl Outcome {
         }
     }
 
+    /// The exit status.
     pub fn status(&self) -> Status
         ensures { result ≡ self.now.status }
     {
         self.status
     }
 
+    /// The bytes that go to standard output.
     pub fn text(&self) -> &[u8]
         ensures { result.now ≡ self.now.text }
     {
