@@ -73,7 +73,8 @@ fn two_free_tetrahedra_are_apart(rt: HostRuntime) {
 }
 
 fn fault(rt: &impl Abort, alloc: Global, glue: Option<Glue>) -> Option<TableFault> {
-    let rows = vec![in alloc; [glue, None, None, None]].expect(rt, "memory");
+    let rows = [[glue, None, None, None]];
+    let rows = rows.to_vec(alloc).expect(rt, "memory");
     Table::from_rows(alloc, rows).err()
 }
 
