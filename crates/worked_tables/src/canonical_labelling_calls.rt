@@ -1,6 +1,7 @@
 use crate::sample_tables::{BALL, table_of};
-use canonical_labelling::{SameFault, Start, WalkFault, lesser, same, signature};
+use canonical_labelling::{NotConnected, SameFault, Start, lesser, same, signature};
 use gluing_table::Probe;
+use no_memory::Failure;
 use perm_four::Perm4;
 use signature_codec::read_signature;
 use std::test::Fail;
@@ -43,7 +44,7 @@ fn loose_tables_are_refused(rt: HostRuntime) -> Result<(), Fail> {
     let one = read_signature(rt.alloc(), b"bkaagj")?;
     assert_eq!(rt;
         signature(rt.alloc(), &loose).err(),
-        Some(WalkFault::NotConnected { tet: 1 })
+        Some(Failure::Fault(NotConnected { tet: 1 }))
     );
     assert_eq!(rt;
         same(rt.alloc(), &loose, &one).err(),

@@ -1,7 +1,8 @@
 //! Walks through small tables. The expected texts were found by trying all relabellings.
 
 use crate::sample_tables::{BALL, table_of};
-use canonical_labelling::{Start, WalkFault, walk};
+use canonical_labelling::{NotConnected, Start, walk};
+use no_memory::Failure;
 use perm_four::Perm4;
 use signature_codec::{read_signature, spell};
 use std::alloc::Global;
@@ -42,5 +43,5 @@ fn two_loose_tetrahedra_are_not_walked(rt: HostRuntime) {
     let perm = Perm4::of_index(0).expect(&rt, "the identity");
     assert_eq!(rt; table.len(), 2);
     let fault = walk(rt.alloc(), &table, Start { tet: 0, perm }).err();
-    assert_eq!(rt; fault, Some(WalkFault::NotConnected { tet: 1 }));
+    assert_eq!(rt; fault, Some(Failure::Fault(NotConnected { tet: 1 })));
 }

@@ -1,5 +1,6 @@
 use crate::sample_tables::{BALL, table_of};
-use signature_census::{Census, WalkFault};
+use no_memory::Failure;
+use signature_census::{Census, NotConnected};
 use signature_codec::read_signature;
 use std::test::Fail;
 
@@ -31,7 +32,7 @@ fn loose_tables_are_refused(rt: HostRuntime) -> Result<(), Fail> {
     let loose = table_of(&rt, rt.alloc(), &[BALL, BALL]);
     assert_eq!(rt;
         census.add(&loose).err(),
-        Some(WalkFault::NotConnected { tet: 1 })
+        Some(Failure::Fault(NotConnected { tet: 1 }))
     );
     assert_eq!(rt; census.len(), 0);
     Ok(())

@@ -1,5 +1,7 @@
 use crate::sample_tables::{by, table_of, text_of};
-use signature_codec::{SigFault, SpellFault, read_any, read_signature, spell};
+use gluing_table::Face;
+use no_memory::Failure;
+use signature_codec::{NotOrdered, SigFault, read_any, read_signature, spell};
 use std::alloc::Global;
 use std::test::Fail;
 use text_io::Lexer;
@@ -69,7 +71,9 @@ fn tables_in_another_order_are_not_spelled(rt: HostRuntime) {
     let table = table_of(&rt, rt.alloc(), &rows);
     assert_eq!(rt;
         spell(rt.alloc(), &table).err(),
-        Some(SpellFault::NotOrdered { tet: 0, face: 0 })
+        Some(Failure::Fault(NotOrdered {
+            face: Face { tet: 0, face: 0 }
+        }))
     );
 }
 
