@@ -11,7 +11,7 @@ use Rattle.table_definitions.proofs.Carried.{stands_for, image_in_range, perm_pe
 use Rattle.table_definitions.proofs.Permutations.{preimage_below, image-preimage, inverse_permutes, compose_permutes}
 use Rattle.signature_text_laws.specs.Slots.{face_at}
 use Rattle.signature_definitions.specs.Labellings.{Start, IsWalked}
-use Rattle.labelling_laws.proofs.Group.{taken_away}
+use Rattle.table_definitions.proofs.Permutations.{taken_away}
 use Rattle.labelling_laws.proofs.Standing.{same_relabelling}
 use Rattle.labelling_laws.proofs.Seen.{SeenBelow, tet_below, seen_begun, at_boundary, to_seen, to_next}
 
