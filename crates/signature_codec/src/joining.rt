@@ -6,7 +6,7 @@ ghost use Rattle.table_definitions.specs.Table.{face_number};
 ghost use Rattle.signature_definitions.specs.SignatureText as signatures;
 ghost use Rattle.signature_text_laws.specs.Faults.{Reads, Leaves};
 ghost use Rattle.signature_text_laws.specs.Slots as slots;
-ghost use Rattle.signature_text_laws.specs.Slots.{IsSlots, IsTaking, face_at, meet_at, slots_begun};
+ghost use Rattle.signature_text_laws.specs.Slots.{IsSlots, IsTaking, meet_at, slots_begun};
 ghost use Rattle.signature_codec.specs.Shown.{slots_shown, parts_shown};
 
 use crate::SigFault;
