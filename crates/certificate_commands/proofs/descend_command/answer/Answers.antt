@@ -1,12 +1,12 @@
 -- What is told of the descent is the answer.
 use Rattle.std.proofs.Common.{Ok, Err}
-use Rattle.command_answers.proofs.Results.{if_ok}
+use Rattle.std.proofs.lemmas.Result.{IfOk-weaker}
 use Rattle.certificate_commands.proofs.TellingLaws.{named_unreached}
 use Rattle.certificate_commands.proofs.descend_command.answer.Goals as goal
 
 pub returns-in-Ok : goal.returns-in-Ok
 returns-in-Ok c =
-    if_ok c.told.result _ _
+    IfOk-weaker c.told.result _ _
     (λ o e. record {
       told = Ok (record { reached = c.in-Ok.descent.reached; moves = c.in-Ok.descent.moves.items; table = c.in-Ok.descent.table });
       descended = (c.in-Ok.ensures.connected, c.in-Ok.ensures.descent);
@@ -16,7 +16,7 @@ returns-in-Ok c =
 
 pub returns-in-Err-NotConnected : goal.returns-in-Err-NotConnected
 returns-in-Err-NotConnected c =
-    if_ok c.not_connected_outcome.result _ _
+    IfOk-weaker c.not_connected_outcome.result _ _
     (λ o e. record {
       told = Err c.in-Err-NotConnected.tet;
       descended = named_unreached c.args.table.now c.in-Err-NotConnected.field-0 c.in-Err-NotConnected.tet c.in-Err-NotConnected.field-0-is c.in-Err-NotConnected.ensures.fault;
