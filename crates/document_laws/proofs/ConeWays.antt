@@ -223,7 +223,7 @@ goes_after_end : (columns n : ℕ) (c : Reading) → Goes (after_end columns n) 
 goes_after_end columns n c = goes_chained (rows_of_cone_at columns n) (λ rows d. Ok (cone_of columns rows, d)) c (goes_cone_rows columns n c) (λ rows last q. goes_pure (cone_of columns rows) last)
 
 goes_after_count : (columns n : ℕ) (c : Reading) → Goes (after_count columns n) c
-goes_after_count columns n c = goes_moved as_is end_line_at (after_end columns n) c (goes_end c) (λ d e. goes_after_end columns n d)
+goes_after_count columns n c = goes_moved end_line_at (after_end columns n) c (goes_end c) (λ d e. goes_after_end columns n d)
 
 goes_after_columns : (columns : ℕ) (c : Reading) → Goes (after_columns columns) c
 goes_after_columns columns c = goes_chained (number_at 10000) (after_count columns) c (goes_number 10000 c) (λ n d e. goes_after_count columns n d)

@@ -179,7 +179,7 @@ module _ {A B E : Type 0} (lexical : LexFault → E) (first : Reading → Result
   case_of c f e = bind_err (first c) (λ (y : A × Reading). second y.0 y.1) (lexical f) e
 
   early : (c : Reading) → Well lexical first (Then second Aim) c → (f : LexFault) → first c ≡ Err (lexical f) → (h : StopsAt both c f.place) × Way both h.front Aim
-  early c w f p = (let u = w f p in (stops_early lexical first second c f.place u.0, (way_early u.0.front u.1).0))
+  early c w f p = (let u = w f p in (stops_early first second c f.place u.0, (way_early u.0.front u.1).0))
 
   pub well_free : (c : Reading) → Free first c → Well lexical first (Then second Aim) c → ((x : A) (d : Reading) → first c ≡ Ok (x, d) → Well lexical (second x) Aim d) → Well lexical both Aim c
   well_free c g w1 w2 f e = by_case (case_of c f e)
@@ -188,7 +188,7 @@ module _ {A B E : Type 0} (lexical : LexFault → E) (first : Reading → Result
       late x d fr u =
           let gr : (o : Reading) × (shows o ≡ plain fr.goes.front ++ shows (u.1.other)) = graft c fr.goes.front d fr.goes.split u.1.other in
           let n : (next : Reading) × (first gr.0 ≡ Ok (x, next)) × (shows next ≡ shows (u.1.other)) = fr.same gr.0 u.1.other gr.1 in
-          (stops_late lexical first second c x d f.place fr.goes u.0, (way_late fr.goes.front u.0.front x u.1 gr.0 n.0 gr.1 n.1 n.2).0)
+          (stops_late first second c x d f.place fr.goes u.0, (way_late fr.goes.front u.0.front x u.1 gr.0 n.0 gr.1 n.1 n.2).0)
 
       by_case : Case c f → (h : StopsAt both c f.place) × Way both h.front Aim
       by_case (inl p) = early c w1 f p
@@ -201,7 +201,7 @@ module _ {A B E : Type 0} (lexical : LexFault → E) (first : Reading → Result
       let gr : (o : Reading) × (shows o ≡ plain g.front ++ shows (u.1.other)) = graft c g.front d g.split u.1.other in
       let n : (next : Reading) × (first gr.0 ≡ Ok (x, next)) × (shows next ≡ shows (u.1.other)) = g.same gr.0 (shows (u.1.other)) gr.1 u.2 in
       let way = way_late g.front u.0.front x u.1 gr.0 n.0 gr.1 n.1 n.2 in (
-        stops_late lexical first second c x d p g u.0,
+        stops_late first second c x d p g u.0,
         way.0,
         ap (λ (r : Reading). opening (shows r)) way.1 ∙ ap opening gr.1 ∙ opening_more (plain g.front) (shows (u.1.other)) (shows d) u.2 ∙ sym (ap opening (shows_split c d g.front g.split)),
       )
@@ -220,7 +220,7 @@ module _ {A B E : Type 0} (lexical : LexFault → E) (first : Reading → Result
       by_case (inl p) =
           let u = w1 f p in
           let way = way_early u.0.front u.1 in
-          (stops_early lexical first second c f.place u.0, way.0, ap (λ (r : Reading). opening (shows r)) way.1 ∙ u.2)
+          (stops_early first second c f.place u.0, way.0, ap (λ (r : Reading). opening (shows r)) way.1 ∙ u.2)
       by_case (inr (y, p, q)) = late_open c y.0 y.1 f.place (g y.0 y.1 p) (w2 y.0 y.1 p f q)
 
   -- the first reader takes a sign, and doesn't look at the next one
@@ -234,13 +234,13 @@ module _ {A B E : Type 0} (lexical : LexFault → E) (first : Reading → Result
           let gr : (o : Reading) × (shows o ≡ plain fr.0.goes.front ++ shows (u.1.other)) = graft c fr.0.goes.front d fr.0.goes.split u.1.other in
           let n : (next : Reading) × (first gr.0 ≡ Ok (x, next)) × (shows next ≡ shows (u.1.other)) = fr.0.same gr.0 u.1.other gr.1 in
           let way = way_late fr.0.goes.front u.0.front x u.1 gr.0 n.0 gr.1 n.1 n.2 in
-          (stops_late lexical first second c x d f.place fr.0.goes u.0, way.0, ap (λ (r : Reading). opening (shows r)) way.1 ∙ ap opening gr.1 ∙ fr.1 (shows (u.1.other)))
+          (stops_late first second c x d f.place fr.0.goes u.0, way.0, ap (λ (r : Reading). opening (shows r)) way.1 ∙ ap opening gr.1 ∙ fr.1 (shows (u.1.other)))
 
       by_case : Case c f → (h : StopsAt both c f.place) × (w : Way both h.front Aim) × (opening (shows w.other) ≡ opening (shows c))
       by_case (inl p) =
           let u = w1 f p in
           let way = way_early u.0.front u.1 in
-          (stops_early lexical first second c f.place u.0, way.0, ap (λ (r : Reading). opening (shows r)) way.1 ∙ u.2)
+          (stops_early first second c f.place u.0, way.0, ap (λ (r : Reading). opening (shows r)) way.1 ∙ u.2)
       by_case (inr (y, p, q)) = late y.0 y.1 (g y.0 y.1 p) (w2 y.0 y.1 p f q)
 
 -- two readers that don't look ahead
@@ -307,7 +307,7 @@ module _ {A B : Type 0} (read : Reading → Result (A × Reading) LexFault) (g :
   well_mapped c w f e = by_case (bind_err (read c) (λ (y : A × Reading). Ok (g y.0, y.1)) f e)
     where
       by_case : (read c ≡ Err f) ⊎ ((y : A × Reading) × (read c ≡ Ok y) × (◌≡◌ {A = Result (B × Reading) LexFault} (Ok (g y.0, y.1)) (Err f))) → (h : StopsAt mapped c f.place) × Way mapped h.front Aim
-      by_case (inl p) = (let u = w f p in (stops_early as_is read (λ x d. Ok (g x, d)) c f.place u.0, (way_mapped u.0.front u.1).0))
+      by_case (inl p) = (let u = w f p in (stops_early read (λ x d. Ok (g x, d)) c f.place u.0, (way_mapped u.0.front u.1).0))
       by_case (inr (y, p, q)) = absurd (never y f q)
 
   pub well_open_mapped : (c : Reading) → WellOpen as_is read Made c → WellOpen as_is mapped Aim c
@@ -318,5 +318,5 @@ module _ {A B : Type 0} (read : Reading → Result (A × Reading) LexFault) (g :
       by_case (inl p) =
           let u = w f p in
           let way = way_mapped u.0.front u.1 in
-          (stops_early as_is read (λ x d. Ok (g x, d)) c f.place u.0, way.0, ap (λ (r : Reading). opening (shows r)) way.1 ∙ u.2)
+          (stops_early read (λ x d. Ok (g x, d)) c f.place u.0, way.0, ap (λ (r : Reading). opening (shows r)) way.1 ∙ u.2)
       by_case (inr (y, p, q)) = absurd (never y f q)

@@ -1,6 +1,6 @@
 //! Tables from text.
 
-ghost use Rattle.std.specs.Prelude.{◌≡◌, ◌==◌, ◌<◌, ◌≤◌, length, Some, if◌then◌else◌, nat_lt};
+ghost use Rattle.std.specs.Prelude.{◌≡◌, ◌==◌, ◌<◌, ◌≤◌, length, Some};
 ghost use Rattle.std.specs.List.{position_or_len, before_first, after_first};
 ghost use Rattle.text_definitions.specs.Reading.{Gives, ReadsFrom};
 ghost use Rattle.table_definitions.specs.TableText.{lexed, gluing_of, gluing_entry, entry_at, row_at, rows_at, counted_rows_at, table_at};
@@ -103,7 +103,7 @@ fn read_counted(alloc: Global, lexer: &mut Lexer<'_>, count: u32) -> Result<Tabl
 {
     lexer.end_line()?;
     let rows = read_lines(alloc, lexer, count)?;
-    let table = Table::from_read_rows(alloc, rows)?;
+    let table = Table::from_rows(alloc, rows)?;
     Ok(table)
 }
 

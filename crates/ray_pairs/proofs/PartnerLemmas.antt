@@ -25,12 +25,6 @@ partner_none columns column = record {
   );
 }
 
-pub joined_none : (partners : List (List Bool)) (support : List Bool) (columns : ℕ) → columns ≡ length support → IsJoinedBelow 0 partners support (replicate columns false)
-joined_none partners support columns is = record {
-  count = length-replicate columns false ∙ is;
-  each = λ other. (λ h. absurd (no_column columns other h), λ h. absurd (let e = h.1 in omega arith));
-}
-
 -- a column that isn't one of the support
 pub joined_skip : (n : ℕ) (partners : List (List Bool)) (support joined : List Bool) → IsJoinedBelow n partners support joined → ¬ HasColumn support n → IsJoinedBelow (n + 1) partners support joined
 joined_skip n partners support joined h none = record {

@@ -1,6 +1,6 @@
 //! The faces of a table, joined in order.
 
-ghost use Rattle.std.specs.Prelude.{◌≡◌, ◌<◌, ◌≤◌, ◌+◌, ◌*◌, ℕ, length, drop, slice_set, is_some, Some, None, unwrap_or, OnOk, IfOk};
+ghost use Rattle.std.specs.Prelude.{◌≡◌, ◌<◌, ◌≤◌, ◌+◌, ◌*◌, length, drop, slice_set, is_some, Some, None, unwrap_or, OnOk, IfOk};
 ghost use Rattle.table_definitions.specs.Table as gluings;
 ghost use Rattle.table_definitions.specs.Table.{face_number};
 ghost use Rattle.signature_definitions.specs.SignatureText as signatures;

@@ -1,7 +1,6 @@
 //! Corners, and walks round edges.
 
-ghost use Rattle.std.specs.Prelude.{◌≡◌, ◌*◌, ◌<◌, ◌≤◌, ℕ, length, slice_index, IfOk, map, []};
-ghost use Rattle.std.specs.List.{slice_index_or};
+ghost use Rattle.std.specs.Prelude.{◌≡◌, ◌*◌, ◌<◌, ℕ, length, slice_index, IfOk, map, []};
 ghost use Rattle.table_definitions.specs.Permutation.{IsPermutationOfFour};
 ghost use Rattle.table_definitions.specs.Table.{IsTable};
 ghost use Rattle.walk_laws.specs.Walks.{IsInjectiveBelow, step_of};

@@ -1,5 +1,5 @@
 // The checks of vectors and terms by the equations of their table.
-ghost use Rattle.std.specs.Prelude.{◌≡◌, ◌<◌, ◌^◌, length, IsOk};
+ghost use Rattle.std.specs.Prelude.{◌≡◌, ◌<◌, length};
 ghost use Rattle.surface_definitions.specs.Coordinates as coordinates;
 ghost use Rattle.outcome_definitions.specs.Sums.{IsVerdict, IsTermVerdict};
 ghost use Rattle.command_answers.specs.Reads.{all_entries};

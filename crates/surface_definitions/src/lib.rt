@@ -14,14 +14,6 @@ pub enum Coords {
     Octagon,
 }
 
-/// A triangle round a vertex; a quad or an octagon of a type, 0 for 01/23, 1 for 02/13 and 2 for 03/12.
-#[derive(Clone, Copy, Debug, PartialEq, Eq)]
-pub enum Piece {
-    Tri(u8),
-    Quad(u8),
-    Oct(u8),
-}
-
 /// Why a vector is no admissible solution.
 #[derive(Clone, Copy, Debug, PartialEq, Eq)]
 pub enum VectorFault {

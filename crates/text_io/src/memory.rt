@@ -1,5 +1,5 @@
 // A source and a sink over memory, which fail where they are told to, and a source that never fails.
-ghost use Rattle.std.specs.Prelude.{◌≡◌, ◌↔◌, ◌⊎◌, ◌+◌, ◌-◌, ◌<◌, ◌≤◌, ℕ, List, [], ◌++◌, length, take, drop, min, Some, Contains, IfOk, OnErr, IsErr, IsOk};
+ghost use Rattle.std.specs.Prelude.{◌≡◌, ◌↔◌, ◌⊎◌, ◌+◌, ◌-◌, ◌<◌, ◌≤◌, [], ◌++◌, length, take, drop, min, Some, Contains, IfOk, OnErr, IsErr, IsOk};
 ghost use Rattle.text_io.specs.Causes.{next_count};
 
 use crate::{Failed, NoMemory, Sink, Source};
@@ -29,6 +29,8 @@ impl Model for MemorySource {
 }
 
 impl MemorySource {
+    /// The source of these bytes. It fails at the calls of these numbers, counted from 1, and gives at most `most` bytes a
+    /// call.
     pub fn new(bytes: Vec<u8>, failing: Vec<u64>, most: usize) -> MemorySource
         requires { 0 < most }
         ensures { result ≡ record { left = bytes.items; failing = failing.items; most = most; calls = 0; faults = 0 } }
@@ -88,6 +90,7 @@ impl Model for SteadySource {
 }
 
 impl SteadySource {
+    /// The source of these bytes.
     pub fn new(bytes: Vec<u8>) -> SteadySource
         ensures { result ≡ bytes.items }
     {
@@ -148,6 +151,8 @@ impl Model for MemorySink {
 }
 
 impl MemorySink {
+    /// An empty sink with room for so many bytes. It fails at the calls of these numbers, counted from 1, and takes at most
+    /// `most` bytes a call.
     pub fn new(
         alloc: Global,
         room: usize,
@@ -167,6 +172,7 @@ impl MemorySink {
         })
     }
 
+    /// The bytes that it took.
     pub fn bytes(&self) -> &[u8]
         ensures { result.now ≡ self.now.held }
     {

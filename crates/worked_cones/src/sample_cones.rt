@@ -1,5 +1,6 @@
 //! The cones, and the tables of small signatures, that several calls are tried on.
-ghost use Rattle.std.specs.Prelude.{◌≤◌, ◌^◌, length};
+ghost use Rattle.std.specs.Prelude.{◌≤◌, length};
+ghost use Rattle.text_definitions.specs.Text.{max_text};
 
 use cone_core::{ConeFault, Ray, System, read_cone};
 use signature_codec::read_signature;
@@ -14,7 +15,7 @@ pub const SPHERE: &[u8] = b"bkaagj";
 
 /// The system of a text.
 pub fn cone(rt: &impl Abort, alloc: Global, text: &[u8]) -> Result<System, ConeFault>
-    requires { length text.now ≤ 2 ^ 31 }
+    requires { length text.now ≤ max_text }
 {
     let mut lexer = Lexer::new(text);
     assert!(rt; lexer.next_line());

@@ -1,6 +1,7 @@
-use crate::sample_tables::BALL;
-use canonical_labelling::{SameFault, Start, WalkFault, lesser, same, signature};
-use gluing_table::{Probe, Table};
+use crate::sample_tables::{BALL, table_of};
+use canonical_labelling::{NotConnected, SameFault, Start, lesser, same, signature};
+use gluing_table::Probe;
+use no_memory::Failure;
 use perm_four::Perm4;
 use signature_codec::read_signature;
 use std::test::Fail;
@@ -39,11 +40,11 @@ fn the_first_relabelling_is_told(rt: HostRuntime) -> Result<(), Fail> {
 
 #[test]
 fn loose_tables_are_refused(rt: HostRuntime) -> Result<(), Fail> {
-    let loose = Table::from_rows(rt.alloc(), &[BALL, BALL])?;
+    let loose = table_of(&rt, rt.alloc(), &[BALL, BALL]);
     let one = read_signature(rt.alloc(), b"bkaagj")?;
     assert_eq!(rt;
         signature(rt.alloc(), &loose).err(),
-        Some(WalkFault::NotConnected { tet: 1 })
+        Some(Failure::Fault(NotConnected { tet: 1 }))
     );
     assert_eq!(rt;
         same(rt.alloc(), &loose, &one).err(),

@@ -1,7 +1,8 @@
 //! Walks through small tables. The expected texts were found by trying all relabellings.
 
-use canonical_labelling::{Start, WalkFault, walk};
-use gluing_table::Table;
+use crate::sample_tables::{BALL, table_of};
+use canonical_labelling::{NotConnected, Start, walk};
+use no_memory::Failure;
 use perm_four::Perm4;
 use signature_codec::{read_signature, spell};
 use std::alloc::Global;
@@ -38,10 +39,9 @@ fn a_walk_leads_to_the_one_table(rt: HostRuntime) -> Result<(), Fail> {
 
 #[test]
 fn two_loose_tetrahedra_are_not_walked(rt: HostRuntime) {
-    let rows = [[None, None, None, None], [None, None, None, None]];
-    let table = Table::from_rows(rt.alloc(), &rows).expect(&rt, "a table");
+    let table = table_of(&rt, rt.alloc(), &[BALL, BALL]);
     let perm = Perm4::of_index(0).expect(&rt, "the identity");
     assert_eq!(rt; table.len(), 2);
     let fault = walk(rt.alloc(), &table, Start { tet: 0, perm }).err();
-    assert_eq!(rt; fault, Some(WalkFault::NotConnected { tet: 1 }));
+    assert_eq!(rt; fault, Some(Failure::Fault(NotConnected { tet: 1 })));
 }

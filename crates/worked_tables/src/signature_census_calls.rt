@@ -1,6 +1,6 @@
-use crate::sample_tables::BALL;
-use gluing_table::Table;
-use signature_census::{Census, WalkFault};
+use crate::sample_tables::{BALL, table_of};
+use no_memory::Failure;
+use signature_census::{Census, NotConnected};
 use signature_codec::read_signature;
 use std::test::Fail;
 
@@ -29,10 +29,10 @@ fn classes_are_numbered_as_they_are_met(rt: HostRuntime) -> Result<(), Fail> {
 #[test]
 fn loose_tables_are_refused(rt: HostRuntime) -> Result<(), Fail> {
     let mut census = Census::new(rt.alloc());
-    let loose = Table::from_rows(rt.alloc(), &[BALL, BALL])?;
+    let loose = table_of(&rt, rt.alloc(), &[BALL, BALL]);
     assert_eq!(rt;
         census.add(&loose).err(),
-        Some(WalkFault::NotConnected { tet: 1 })
+        Some(Failure::Fault(NotConnected { tet: 1 }))
     );
     assert_eq!(rt; census.len(), 0);
     Ok(())

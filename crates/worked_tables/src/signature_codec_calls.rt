@@ -1,7 +1,7 @@
-use crate::sample_tables::text_of;
-use gluing_table::{Glue, Table};
-use perm_four::Perm4;
-use signature_codec::{SigFault, SpellFault, read_any, read_signature, spell};
+use crate::sample_tables::{by, table_of, text_of};
+use gluing_table::Face;
+use no_memory::Failure;
+use signature_codec::{NotOrdered, SigFault, read_any, read_signature, spell};
 use std::alloc::Global;
 use std::test::Fail;
 use text_io::Lexer;
@@ -64,12 +64,16 @@ fn the_first_fault_is_answered(rt: HostRuntime) {
 
 #[test]
 fn tables_in_another_order_are_not_spelled(rt: HostRuntime) {
-    let to = |tet: u32| Perm4::from_word(b"1023").map(|perm| Glue { tet, perm });
-    let rows = [[to(1), None, None, None], [None, to(0), None, None]];
-    let table = Table::from_rows(rt.alloc(), &rows).expect(&rt, "a table");
+    let rows = [
+        [by(1, b"1023"), None, None, None],
+        [None, by(0, b"1023"), None, None],
+    ];
+    let table = table_of(&rt, rt.alloc(), &rows);
     assert_eq!(rt;
         spell(rt.alloc(), &table).err(),
-        Some(SpellFault::NotOrdered { tet: 0, face: 0 })
+        Some(Failure::Fault(NotOrdered {
+            face: Face { tet: 0, face: 0 }
+        }))
     );
 }
 
