@@ -132,24 +132,25 @@ again_from read Aim g ss f c e =
     let n : (next : Reading) × (read c ≡ Ok (f.value, next)) × (shows next ≡ shows f.next) = g f.start c f.value f.next f.reads (e ∙ sym f.there) in
     (f.value, n.0, n.1, subst (λ (ts : List Sign). Aim f.value ts) (sym n.2) f.aim)
 
+-- the second of two readers can be gone on with to the aim
+abbrev pub Then : {A B E : Type 0} → (A → Reading → Result (B × Reading) E) → (B → List Sign → Type 0) → A → List Sign → Type 0
+Then second Aim x ss = From (second x) Aim ss
+
 -- one reader after another
 module _ {A B E : Type 0} (lexical : LexFault → E) (first : Reading → Result (A × Reading) E) (second : A → Reading → Result (B × Reading) E) (Aim : B → List Sign → Type 0)
     (alike : (x : A) → Alike (second x)) where
-  abbrev pub Then : A → List Sign → Type 0
-  Then x ss = From (second x) Aim ss
-
   abbrev pub both : Reading → Result (B × Reading) E
   both c = first c >>= λ (y : A × Reading). second y.0 y.1
 
   on : (o : Reading) (x : A) (d : Reading) (y : B) (e : Reading) → first o ≡ Ok (x, d) → second x d ≡ Ok (y, e) → both o ≡ Ok (y, e)
   on o x d y e p q = ap (λ (r : Result (A × Reading) E). r >>= λ (y : A × Reading). second y.0 y.1) p ∙ q
 
-  pub sat_both : Sat first Then → Sat both Aim
+  pub sat_both : Sat first (Then second Aim) → Sat both Aim
   sat_both s =
       let a : (y : B) × (e : Reading) × (second s.value s.next ≡ Ok (y, e)) × Aim y (shows e) = again_from (second s.value) Aim (alike s.value) (shows s.next) s.aim s.next refl in
       record { start = s.start; value = a.0; next = a.1; reads = on s.start s.value s.next a.0 a.1 s.reads a.2; aim = a.3 }
 
-  way_early : (front : List Placed) → (w : Way first front Then) → (v : Way both front Aim) × (v.other ≡ w.other)
+  way_early : (front : List Placed) → (w : Way first front (Then second Aim)) → (v : Way both front Aim) × (v.other ≡ w.other)
   way_early front w =
       let a : (y : B) × (e : Reading) × (second w.value w.next ≡ Ok (y, e)) × Aim y (shows e) = again_from (second w.value) Aim (alike w.value) (shows w.next) w.aim w.next refl in
       (record { other = w.other; more = w.more; there = w.there; value = a.0; next = a.1; reads = on w.other w.value w.next a.0 a.1 w.reads a.2; aim = a.3 }, refl)
@@ -177,10 +178,10 @@ module _ {A B E : Type 0} (lexical : LexFault → E) (first : Reading → Result
   case_of : (c : Reading) (f : LexFault) → both c ≡ Err (lexical f) → Case c f
   case_of c f e = bind_err (first c) (λ (y : A × Reading). second y.0 y.1) (lexical f) e
 
-  early : (c : Reading) → Well lexical first Then c → (f : LexFault) → first c ≡ Err (lexical f) → (h : StopsAt both c f.place) × Way both h.front Aim
+  early : (c : Reading) → Well lexical first (Then second Aim) c → (f : LexFault) → first c ≡ Err (lexical f) → (h : StopsAt both c f.place) × Way both h.front Aim
   early c w f p = (let u = w f p in (stops_early first second c f.place u.0, (way_early u.0.front u.1).0))
 
-  pub well_free : (c : Reading) → Free first c → Well lexical first Then c → ((x : A) (d : Reading) → first c ≡ Ok (x, d) → Well lexical (second x) Aim d) → Well lexical both Aim c
+  pub well_free : (c : Reading) → Free first c → Well lexical first (Then second Aim) c → ((x : A) (d : Reading) → first c ≡ Ok (x, d) → Well lexical (second x) Aim d) → Well lexical both Aim c
   well_free c g w1 w2 f e = by_case (case_of c f e)
     where
       late : (x : A) (d : Reading) → FreeOn first c x d → (h : StopsAt (second x) d f.place) × Way (second x) h.front Aim → (h : StopsAt both c f.place) × Way both h.front Aim
@@ -205,14 +206,14 @@ module _ {A B E : Type 0} (lexical : LexFault → E) (first : Reading → Result
         ap (λ (r : Reading). opening (shows r)) way.1 ∙ ap opening gr.1 ∙ opening_more (plain g.front) (shows (u.1.other)) (shows d) u.2 ∙ sym (ap opening (shows_split c d g.front g.split)),
       )
 
-  pub well_goes : (c : Reading) → Goes first c → Well lexical first Then c → ((x : A) (d : Reading) → first c ≡ Ok (x, d) → WellOpen lexical (second x) Aim d) → Well lexical both Aim c
+  pub well_goes : (c : Reading) → Goes first c → Well lexical first (Then second Aim) c → ((x : A) (d : Reading) → first c ≡ Ok (x, d) → WellOpen lexical (second x) Aim d) → Well lexical both Aim c
   well_goes c g w1 w2 f e = by_case (case_of c f e)
     where
       by_case : Case c f → (h : StopsAt both c f.place) × Way both h.front Aim
       by_case (inl p) = early c w1 f p
       by_case (inr (y, p, q)) = (let u = late_open c y.0 y.1 f.place (g y.0 y.1 p) (w2 y.0 y.1 p f q) in (u.0, u.1))
 
-  pub well_open : (c : Reading) → Goes first c → WellOpen lexical first Then c → ((x : A) (d : Reading) → first c ≡ Ok (x, d) → WellOpen lexical (second x) Aim d) → WellOpen lexical both Aim c
+  pub well_open : (c : Reading) → Goes first c → WellOpen lexical first (Then second Aim) c → ((x : A) (d : Reading) → first c ≡ Ok (x, d) → WellOpen lexical (second x) Aim d) → WellOpen lexical both Aim c
   well_open c g w1 w2 f e = by_case (case_of c f e)
     where
       by_case : Case c f → (h : StopsAt both c f.place) × (w : Way both h.front Aim) × (opening (shows w.other) ≡ opening (shows c))
@@ -223,7 +224,7 @@ module _ {A B E : Type 0} (lexical : LexFault → E) (first : Reading → Result
       by_case (inr (y, p, q)) = late_open c y.0 y.1 f.place (g y.0 y.1 p) (w2 y.0 y.1 p f q)
 
   -- the first reader takes a sign, and doesn't look at the next one
-  pub well_behind : (c : Reading) → ((x : A) (d : Reading) → first c ≡ Ok (x, d) → (fr : FreeOn first c x d) × ((ss : List Sign) → opening (plain fr.goes.front ++ ss) ≡ opening (shows c))) → WellOpen lexical first Then c
+  pub well_behind : (c : Reading) → ((x : A) (d : Reading) → first c ≡ Ok (x, d) → (fr : FreeOn first c x d) × ((ss : List Sign) → opening (plain fr.goes.front ++ ss) ≡ opening (shows c))) → WellOpen lexical first (Then second Aim) c
       → ((x : A) (d : Reading) → first c ≡ Ok (x, d) → Well lexical (second x) Aim d) → WellOpen lexical both Aim c
   well_behind c g w1 w2 f e = by_case (case_of c f e)
     where

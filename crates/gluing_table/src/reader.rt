@@ -103,7 +103,7 @@ fn read_counted(alloc: Global, lexer: &mut Lexer<'_>, count: u32) -> Result<Tabl
 {
     lexer.end_line()?;
     let rows = read_lines(alloc, lexer, count)?;
-    let table = Table::from_rows(alloc, rows)?;
+    let table = Table::from_read_rows(alloc, rows)?;
     Ok(table)
 }
 

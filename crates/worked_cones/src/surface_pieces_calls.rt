@@ -8,8 +8,7 @@ use surface_pieces::Pieces;
 #[test]
 fn pieces_that_meet_none_are_components(rt: HostRuntime) -> Result<(), Fail> {
     let alloc = rt.alloc();
-    let rows = vec![in alloc; [None, None, None, None]]?;
-    let table = Table::from_rows(alloc, rows).expect(&rt, "a table");
+    let table = Table::from_rows(alloc, &[[None, None, None, None]]).expect(&rt, "a table");
     let skeleton = Skeleton::of(alloc, &table).expect(&rt, "memory");
     let pieces = Pieces::build(alloc, &skeleton, Coords::Standard, &[1, 0, 0, 0, 2, 0, 0])?;
     assert_eq!(rt; pieces.components(), 3);

@@ -1,10 +1,11 @@
 ghost use Rattle.std.specs.Prelude.{◌≡◌, length};
 
 use crate::sample_tables::{BALL, by, sphere_row, table_of, text_of};
-use canonical_labelling::same;
-use gluing_table::{Face, Glue, Probe, Table, TableFault, TextFault, read_rows};
+use gluing_table::{
+    Face, Glue, Probe, Relabelling, RelabellingFault, Table, TableFault, TextFault, read_rows,
+};
+use perm_four::Perm4;
 use std::alloc::Global;
-use std::process::Abort;
 use text_io::Lexer;
 
 #[test]
@@ -72,22 +73,20 @@ fn two_free_tetrahedra_are_apart(rt: HostRuntime) {
     assert_eq!(rt; written.as_slice(), b"tri 2\n- - - -\n- - - -\n".as_slice());
 }
 
-fn fault(rt: &impl Abort, alloc: Global, glue: Option<Glue>) -> Option<TableFault> {
-    let rows = [[glue, None, None, None]];
-    let rows = rows.to_vec(alloc).expect(rt, "memory");
-    Table::from_rows(alloc, rows).err()
+fn fault(alloc: Global, glue: Option<Glue>) -> Option<TableFault> {
+    Table::from_rows(alloc, &[[glue, None, None, None]]).err()
 }
 
 #[test]
 fn faults_are_found(rt: HostRuntime) {
     let not_mutual = TableFault::NotMutual { tet: 0, face: 0 };
-    assert_eq!(rt; fault(&rt, rt.alloc(), by(0, b"1023")), Some(not_mutual));
+    assert_eq!(rt; fault(rt.alloc(), by(0, b"1023")), Some(not_mutual));
     let self_glued = TableFault::SelfGlued { tet: 0, face: 0 };
-    assert_eq!(rt; fault(&rt, rt.alloc(), by(0, b"0123")), Some(self_glued));
+    assert_eq!(rt; fault(rt.alloc(), by(0, b"0123")), Some(self_glued));
     let no_such_tet = TableFault::NoSuchTet { tet: 0, face: 0 };
-    assert_eq!(rt; fault(&rt, rt.alloc(), by(1, b"0123")), Some(no_such_tet));
+    assert_eq!(rt; fault(rt.alloc(), by(1, b"0123")), Some(no_such_tet));
     let rows = vec![in rt.alloc(); BALL; 1001].expect(&rt, "memory");
-    let too_many = Table::from_rows(rt.alloc(), rows).err();
+    let too_many = Table::from_rows(rt.alloc(), &rows).err();
     assert_eq!(rt; too_many, Some(TableFault::TooMany));
 }
 
@@ -103,6 +102,23 @@ fn faces_that_are_read_are_counted(rt: HostRuntime) {
 }
 
 #[test]
+fn images_are_looked_at_in_turn(rt: HostRuntime) {
+    let turn = Perm4::new(1, 2, 3, 0).expect(&rt, "a permutation");
+    let perms = [turn, turn, turn];
+    let swapped = Relabelling::new(rt.alloc(), &[1, 0, 2], &perms).expect(&rt, "a relabelling");
+    assert_eq!(rt; swapped.len(), 3);
+    assert_eq!(rt;
+        (swapped.image(0), swapped.image(1), swapped.image(2)),
+        (1, 0, 2)
+    );
+    assert_eq!(rt; swapped.perm(2), turn);
+    let twice = Relabelling::new(rt.alloc(), &[1, 1, 7], &perms).err();
+    assert_eq!(rt; twice, Some(RelabellingFault::NotBijection { position: 1 }));
+    let large = Relabelling::new(rt.alloc(), &[3, 1, 1], &perms).err();
+    assert_eq!(rt; large, Some(RelabellingFault::NotBijection { position: 0 }));
+}
+
+#[test]
 fn a_sphere_is_relabelled(rt: HostRuntime) {
     let other = [
         by(0, b"1023"),
@@ -111,10 +127,13 @@ fn a_sphere_is_relabelled(rt: HostRuntime) {
         by(0, b"1302"),
     ];
     let table = table_of(&rt, rt.alloc(), &[other]);
-    let sphere = table_of(&rt, rt.alloc(), &[sphere_row(0)]);
-    let told = same(rt.alloc(), &table, &sphere).expect(&rt, "connected tables");
-    let to_sphere = told.expect(&rt, "a relabelling");
+    let turn = Perm4::new(0, 1, 3, 2).expect(&rt, "a permutation");
+    let to_sphere = Relabelling::new(rt.alloc(), &[0], &[turn]).expect(&rt, "a relabelling");
     assert_eq!(rt; to_sphere.len(), table.len());
     let new = table.relabel(rt.alloc(), &to_sphere).expect(&rt, "memory");
-    assert!(rt; new.equals(&sphere));
+    let written = text_of(rt.alloc(), &new).expect(&rt, "memory");
+    assert_eq!(rt;
+        written.as_slice(),
+        b"tri 1\n0:1023 0:1023 0:1230 0:3012\n".as_slice()
+    );
 }

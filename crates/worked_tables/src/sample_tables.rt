@@ -63,7 +63,6 @@ pub fn figure_eight() -> [Row; 2] {
 
 /// The table of these rows.
 pub fn table_of(rt: &impl Abort, alloc: Global, rows: &[Row]) -> Table {
-    let rows = rows.to_vec(alloc).expect(rt, "memory");
     Table::from_rows(alloc, rows).expect(rt, "a table")
 }
 
