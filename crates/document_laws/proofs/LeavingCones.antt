@@ -17,7 +17,7 @@ use Rattle.document_laws.proofs.Local.{shows, opening, plain-append, GoesOn, Sto
 use Rattle.document_laws.proofs.LocalWords.{ending, StopsHere, stops_end_here}
 use Rattle.document_laws.proofs.LocalLines.{by_lines, in_line, rest_here, line_split, behind_line as behind_rest, no_input_end}
 use Rattle.document_laws.proofs.LocalForms.{goes_cone}
-use Rattle.document_laws.proofs.Leaving.{StopsBehind, behind_end, behind_line, start_with, leaves, none_stop, no_line_alone, none_never}
+use Rattle.document_laws.proofs.Leaving.{StopsBehind, behind_end, behind_line, start_with, leaves, none_stop, no_line_alone}
 use Rattle.document_laws.proofs.LeavingDocuments.{no_line, no_line_ends, cone_by_line}
 use Rattle.document_laws.proofs.Ways.{Way, graft}
 use Rattle.document_laws.proofs.WordWays.{opens_rest}

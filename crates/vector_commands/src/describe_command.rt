@@ -25,7 +25,7 @@ use outcome_definitions::Status;
 use skeleton::Skeleton;
 use std::alloc::Global;
 use surface_answers::check;
-use surface_pieces::{Pieces, PiecesFault};
+use surface_pieces::{ManyPieces, Pieces};
 use surface_properties::{Properties, PropertyFault, properties_of};
 use vector_definitions::Refusal;
 
@@ -59,7 +59,7 @@ fn describe_fit(
     };
     match Pieces::build(alloc, skeleton, coords, x) {
         Ok(pieces) => Ok(Described { properties, pieces }),
-        Err(Failure::Fault(PiecesFault::TooManyPieces { count })) => {
+        Err(Failure::Fault(ManyPieces { count })) => {
             Err(Failure::Fault(Refusal::TooManyPieces { count }))
         }
         Err(Failure::NoMemory) => Err(Failure::NoMemory),

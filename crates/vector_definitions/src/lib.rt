@@ -48,11 +48,10 @@ pub enum LiftFault {
     NoLift { class: u32 },
 }
 
-/// Why the pieces of a vector are not built.
+/// Why the pieces of a vector are not built: there are more than 100,000, this many.
 #[derive(Clone, Copy, Debug, PartialEq, Eq)]
-pub enum PiecesFault {
-    /// There are more than 100,000 pieces: this many.
-    TooManyPieces { count: u128 },
+pub struct ManyPieces {
+    pub count: u128,
 }
 
 /// Why a vector of a document is refused.

@@ -1,5 +1,5 @@
 use crate::sample_tables::{BALL, skeleton_of, sphere_row, table_of, turned_row};
-use double_cover::{Cover, CoverFault, Failure};
+use double_cover::{Cover, Failure, LargeCover};
 use gluing_table::Row;
 use perm_four::Perm4;
 use skeleton::Skeleton;
@@ -61,5 +61,5 @@ fn too_many(rt: HostRuntime) {
     let table = table_of(&rt, rt.alloc(), &rows);
     let skeleton = Skeleton::of(rt.alloc(), &table).expect(&rt, "memory");
     let fault = Cover::of(rt.alloc(), &skeleton).err();
-    assert_eq!(rt; fault, Some(Failure::Fault(CoverFault::TooMany)));
+    assert_eq!(rt; fault, Some(Failure::Fault(LargeCover)));
 }
