@@ -3,7 +3,7 @@
 #![tactic(auto)]
 
 /// Why no cover of a table is made.
-#[derive(Clone, Copy, Debug, PartialEq, Eq)]
+#[derive(Clone, Copy)]
 pub enum CoverFault {
     /// The cover would have more tetrahedra than a table may have.
     TooMany,

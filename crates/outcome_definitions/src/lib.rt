@@ -29,7 +29,7 @@ pub enum Status {
 }
 
 /// Why a vector isn't told as a sum, or a given sum isn't accepted.
-#[derive(Clone, Copy, Debug, PartialEq, Eq)]
+#[derive(Clone, Copy)]
 pub enum SumRefusal {
     /// The vector is no admissible solution.
     Unfit { fault: VectorFault },

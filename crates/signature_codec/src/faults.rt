@@ -7,7 +7,7 @@ use no_memory::NoMemory;
 use std::alloc::{AllocError, AllocFailed};
 
 /// Why a table has no spelling.
-#[derive(Clone, Copy, Debug, PartialEq, Eq)]
+#[derive(Clone, Copy)]
 pub enum SpellFault {
     NoMemory,
     /// The first face at which the table isn't walk-ordered.

@@ -53,16 +53,14 @@ fn the_walks_of_a_sphere(rt: HostRuntime) {
     let skeleton = skeleton_of(&rt, rt.alloc(), &[sphere_row(0)]);
     assert_eq!(rt; skeleton.edges(), 2);
     let corner = |a: u8, b: u8, c: u8, d: u8| Corner { tet: 0, a, b, c, d };
-    assert_eq!(rt;
-        skeleton.around(0),
-        [
-            corner(0, 1, 2, 3),
-            corner(1, 2, 0, 3),
-            corner(0, 2, 3, 1),
-            corner(3, 1, 0, 2),
-            corner(3, 0, 2, 1),
-        ]
-        .as_slice()
-    );
+    let corners = [
+        corner(0, 1, 2, 3),
+        corner(1, 2, 0, 3),
+        corner(0, 2, 3, 1),
+        corner(3, 1, 0, 2),
+        corner(3, 0, 2, 1),
+    ]
+    .as_slice();
+    assert!(rt; skeleton.around(0) == corners);
     assert_eq!(rt; skeleton.around(1).len(), 1);
 }

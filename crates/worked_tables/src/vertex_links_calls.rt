@@ -20,7 +20,7 @@ fn the_figure_eight_complement_has_a_torus(rt: HostRuntime) {
         orientable: true,
         kind: LinkKind::Torus,
     };
-    assert_eq!(rt; found.as_slice(), [torus].as_slice());
+    assert!(rt; found.as_slice() == [torus].as_slice());
 }
 
 #[test]
@@ -35,7 +35,7 @@ fn the_gieseking_manifold_has_a_klein_bottle(rt: HostRuntime) {
         orientable: false,
         kind: LinkKind::Klein,
     };
-    assert_eq!(rt; found.as_slice(), [klein].as_slice());
+    assert!(rt; found.as_slice() == [klein].as_slice());
 }
 
 #[test]
@@ -59,5 +59,5 @@ fn two_discs(rt: HostRuntime) {
         orientable: true,
         kind: LinkKind::Disc,
     };
-    assert_eq!(rt; found.as_slice(), [first, second].as_slice());
+    assert!(rt; found.as_slice() == [first, second].as_slice());
 }
