@@ -59,8 +59,7 @@ fn the_walks_of_a_sphere(rt: HostRuntime) {
         corner(0, 2, 3, 1),
         corner(3, 1, 0, 2),
         corner(3, 0, 2, 1),
-    ]
-    .as_slice();
-    assert!(rt; skeleton.around(0) == corners);
+    ];
+    assert!(rt; skeleton.around(0) == corners.as_slice());
     assert_eq!(rt; skeleton.around(1).len(), 1);
 }
