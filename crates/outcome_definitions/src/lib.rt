@@ -8,7 +8,7 @@ use sum_definitions::AddFault;
 use surface_definitions::VectorFault;
 
 /// How a run ends. The number is the exit status of the program.
-#[derive(Clone, Copy, Debug, PartialEq, Eq)]
+#[derive(Clone, Copy, PartialEq, Eq)]
 pub enum Status {
     /// 0: the whole answer was written.
     Done,
