@@ -16,7 +16,7 @@ use text_io::{LexFault, Lexer};
 const MAX_COUNT: u128 = 10000;
 
 /// Why no cone is read: the lexer's first fault, or want of memory.
-#[derive(Clone, Copy, Debug, PartialEq, Eq)]
+#[derive(Clone, Copy)]
 pub enum ConeFault {
     Lex(LexFault),
     NoMemory,

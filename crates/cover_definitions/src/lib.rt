@@ -3,5 +3,5 @@
 #![tactic(auto)]
 
 /// Why no cover of a table is made: it would have more tetrahedra than a table may have.
-#[derive(Clone, Copy, Debug, PartialEq, Eq)]
+#[derive(Clone, Copy)]
 pub struct LargeCover;

@@ -8,7 +8,7 @@ ghost use Rattle.ray_decompose.specs.Fractions.{IsLeastColumn};
 use cone_core::gcd;
 
 /// A fraction of two whole numbers.
-#[derive(Clone, Copy, Debug, PartialEq, Eq)]
+#[derive(Clone, Copy)]
 pub struct Fraction {
     pub numerator: u128,
     pub denominator: u128,

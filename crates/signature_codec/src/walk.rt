@@ -22,7 +22,7 @@ pub struct Walk {
 }
 
 /// The first face at which a table isn't walk-ordered.
-#[derive(Clone, Copy, Debug, PartialEq, Eq)]
+#[derive(Clone, Copy)]
 pub struct NotOrdered {
     pub face: Face,
 }

@@ -17,7 +17,7 @@ use std::marker::Model;
 
 /// The edge ab of a tetrahedron, and the faces c and d that meet in it: the walk comes through face d and leaves
 /// through face c.
-#[derive(Clone, Copy, Debug, PartialEq, Eq)]
+#[derive(Clone, Copy)]
 pub struct Corner {
     pub tet: u32,
     pub a: u8,

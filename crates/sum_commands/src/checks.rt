@@ -13,7 +13,7 @@ use surface_answers::check;
 use surface_definitions::{Coords, VectorFault};
 
 /// The first of a list at which something is wrong, by its number, which counts from 0.
-#[derive(Clone, Copy, Debug, PartialEq, Eq)]
+#[derive(Clone, Copy)]
 pub struct FirstFault<F> {
     pub number: usize,
     pub fault: F,

@@ -7,7 +7,7 @@ ghost use Rattle.surface_definitions.specs.Laws.{VectorLinesAreRead, VerdictsAre
 
 /// Standard coordinates count triangles and quads, quad coordinates quads alone, octagon coordinates octagons
 /// too (Haken; Tollefson; Rubinstein and Thompson).
-#[derive(Clone, Copy, Debug, PartialEq, Eq)]
+#[derive(Clone, Copy, PartialEq, Eq)]
 pub enum Coords {
     Standard,
     Quad,
@@ -15,7 +15,7 @@ pub enum Coords {
 }
 
 /// Why a vector is no admissible solution.
-#[derive(Clone, Copy, Debug, PartialEq, Eq)]
+#[derive(Clone, Copy)]
 pub enum VectorFault {
     /// The vector has so many entries, and the coordinates have another number of columns.
     Length { got: usize },

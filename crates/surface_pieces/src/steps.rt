@@ -16,7 +16,7 @@ use gluing_table::{Face, Glue, Table};
 use surface_definitions::Coords;
 
 /// What numbers a search joins: those of pieces, or those of pieces with a sign, which is kept where a test passes.
-#[derive(Clone, Copy, PartialEq, Eq)]
+#[derive(Clone, Copy)]
 pub enum Joining {
     Pieces,
     Sides,

@@ -14,7 +14,7 @@ use std::alloc::Global;
 use text_io::Lexer;
 
 /// A table, counted from 0, and its least tetrahedron that no chain joins to the first.
-#[derive(Clone, Copy, Debug, PartialEq, Eq)]
+#[derive(Clone, Copy)]
 pub struct NotConnected {
     pub table: u32,
     pub tet: u32,

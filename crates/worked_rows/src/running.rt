@@ -55,7 +55,7 @@ pub fn answered(
 pub fn are_answered(rt: &impl Abort, alloc: Global, rows: &[Row]) -> Result<(), Fail> {
     for row in rows {
         let answer = answered(alloc, row.words, row.input, STEADY, STEADY, 1 << 16)?;
-        assert_eq!(rt; answer.status, row.status);
+        assert!(rt; answer.status == row.status);
         assert_eq!(rt; answer.text.as_slice(), row.text);
     }
     Ok(())
