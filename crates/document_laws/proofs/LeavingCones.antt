@@ -12,7 +12,7 @@ use Rattle.document_definitions.specs.Documents.{no_line_at, no_line_from, cone_
 use Rattle.document_definitions.specs.Signs.{Sign, line_end, input_end, Placed, token_sign, line_signs, signs_of, plain, LeavesAt, FirstLeavesAt}
 use Rattle.document_laws.specs.FaultLaws.{ConeFaultsLeave, SomeCone}
 use Rattle.document_laws.proofs.ConeReading.{ConeRead, cone_read}
-use Rattle.document_laws.proofs.Cones.{closed_cone, cone_on, cone_document_at, cone_document_found}
+use Rattle.document_laws.proofs.Cones.{closed_cone, cone_on, cone_document_found}
 use Rattle.document_laws.proofs.Local.{shows, opening, plain-append, GoesOn, StopsAt, bind_err, stops_early, stops_late, alone, alone_bind}
 use Rattle.document_laws.proofs.LocalWords.{ending, StopsHere, stops_end_here}
 use Rattle.document_laws.proofs.LocalLines.{by_lines, in_line, rest_here, line_split, behind_line as behind_rest, no_input_end}
