@@ -62,16 +62,12 @@ whole_cone o cone d r none =
 some_cone : (o : Reading) (cone : Cone) (d : Reading) → cone_at o ≡ Ok (cone, d) → d.later ≡ [] → SomeCone (o.current ∷ o.later)
 some_cone o cone d e none = (cone, whole_cone o cone d (cone_read o cone d e) none)
 
--- the document, by its first line
-abbrev doc : Reading → Result Cone LexFault
-doc c = by_lines no_line cone_on c.later c
-
-doc_found : (bytes : List ℕ) (others : List Line) → SomeCone others → (x : Cone) × (doc (start_with bytes others) ≡ Ok x)
+doc_found : (bytes : List ℕ) (others : List Line) → SomeCone others → (x : Cone) × (by_lines no_line cone_on others (start_with bytes others) ≡ Ok x)
 doc_found bytes others g = (g.0, cone_by_line (start_with bytes others) ∙ cone_document_found (start_with bytes others) g.0 g.1)
 
 -- where the document stops behind its start, no cone goes on
-abbrev left_at : (bytes : List ℕ) (p : Place) → StopsBehind doc (start_of bytes) p → LeavesAt SomeCone (end_of bytes) (lines_of bytes) p
-left_at bytes p h = leaves doc SomeCone bytes p h (doc_found bytes)
+abbrev left_at : (bytes : List ℕ) (p : Place) → StopsBehind (λ c. by_lines no_line cone_on c.later c) (start_of bytes) p → LeavesAt SomeCone (end_of bytes) (lines_of bytes) p
+left_at bytes p h = leaves (λ c. by_lines no_line cone_on c.later c) SomeCone bytes p h (doc_found bytes)
 
 abbrev First : List ℕ → Place → Type 0
 First bytes p = FirstLeavesAt SomeCone (end_of bytes) (lines_of bytes) p
