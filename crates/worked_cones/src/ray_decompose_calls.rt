@@ -27,12 +27,14 @@ fn given_terms_add_up(rt: HostRuntime) -> Result<(), Fail> {
     let terms = [torus, link];
     let x = [3, 3, 1, 1, 2, 0, 0];
     assert!(rt; add_up(&x, 1, &terms).is_ok());
-    let twice = add_up(&x, 2, &terms);
-    assert!(rt; matches!(twice, Err(AddFault::NotEqual { column: 0 })));
-    let never = add_up(&x, 0, &terms);
-    assert!(rt; matches!(never, Err(AddFault::ZeroTimes)));
-    let large = add_up(&x, MAX_ENTRY, &terms);
-    assert!(rt; matches!(large, Err(AddFault::Large { column: 0 })));
+    assert!(rt; matches!(add_up(&x, 2, &terms), Err(AddFault::NotEqual { column: 0 })));
+    assert!(rt; matches!(add_up(&x, 0, &terms), Err(AddFault::ZeroTimes)));
+    assert!(rt;
+        matches!(
+            add_up(&x, MAX_ENTRY, &terms),
+            Err(AddFault::Large { column: 0 })
+        )
+    );
     Ok(())
 }
 
