@@ -1,6 +1,6 @@
 //! Values and numbers in a text.
 
-ghost use Rattle.std.specs.Prelude.{◌<◌, ◌≤◌, ◌+◌, ◌*◌, ◌^◌, length, IfOk, OnOk};
+ghost use Rattle.std.specs.Prelude.{◌≡◌, ◌<◌, ◌≤◌, ◌+◌, ◌*◌, ◌^◌, length, IfOk, OnOk};
 ghost use Rattle.signature_definitions.specs.SignatureText as signatures;
 ghost use Rattle.signature_text_laws.specs.Faults.{Reads};
 ghost use Rattle.signature_codec.specs.Shown.{fault_of_part};
