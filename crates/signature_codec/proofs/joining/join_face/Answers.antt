@@ -9,3 +9,8 @@ returns-clause-slots c =
     kept_on_ok c.join_type.result c.args.parts.now.count _ _ c.join_type.ensures
     (λ t. taken_kept c.args.parts.now.count c.args.face c.index-kind.result.now _ t
     (taking_next c.args.parts.now.count c.args.state.now.types_used c.index-kind.result.now c.args.parts.now.types.items (slots_shown c.args.parts.now c.args.state.now) c.requires.slots some c.index-kind.ensures))
+
+pub join_type-requires-clause-taking : goal.join_type-requires-clause-taking
+join_type-requires-clause-taking c =
+    let some : c.args.state.now.types_used < length c.args.parts.now.types.items = omega arith in
+    taking_next c.args.parts.now.count c.args.state.now.types_used c.index-kind.result.now c.args.parts.now.types.items (slots_shown c.args.parts.now c.args.state.now) c.requires.slots some c.index-kind.ensures
