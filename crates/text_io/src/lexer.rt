@@ -2,7 +2,7 @@
 ghost use Rattle.std.specs.Prelude.{◌≡◌, ◌↔◌, ◌<◌, ◌≤◌, [], length, IsTrue, Ok};
 ghost use Rattle.std.specs.Bool.{OnTrue, OnFalse};
 ghost use Rattle.text_definitions.specs.declared.LexKind.TheVariants.{BadWord};
-ghost use Rattle.text_definitions.specs.Reading.{Gives, Moves, start_of, need_line_at, word_at, number_at, signed_at, end_line_at, word_fault, fault_at, number_up_to};
+ghost use Rattle.text_definitions.specs.Reading.{Gives, Moves, start_of, need_line_at, word_at, number_at, signed_at, end_line_at, word_fault, fault_at, number_up_to, magnitude, is_negative};
 ghost use Rattle.text_definitions.specs.Signed.{signed_bound};
 ghost use Rattle.text_definitions.specs.Text.{max_text, decimal_value};
 
@@ -128,11 +128,11 @@ impl<'a> Lexer<'a> {
         ensures { Gives (λ n. n) result self.new (signed_at max self.old) }
     {
         let word = self.word()?;
-        if let [b'-', digits @ ..] = word {
-            let value = self.value_of(digits, u128::from(max))?;
+        let (negative, digits) = split_sign(word);
+        let value = self.value_of(digits, u128::from(max))?;
+        if negative {
             return Ok(-(value as i32));
         }
-        let value = self.value_of(word, u128::from(max))?;
         Ok(value as i32)
     }
 
@@ -187,4 +187,15 @@ impl<'a> Lexer<'a> {
             kind: LexKind::NumberTooWide,
         })
     }
+}
+
+// Whether a `-` stands in front of a word, and what stands behind it, or else the word.
+fn split_sign(word: &[u8]) -> (bool, &[u8])
+    ensures negative { result.0 ≡ is_negative word.now }
+    ensures digits { result.1.now ≡ magnitude word.now }
+{
+    if let [b'-', digits @ ..] = word {
+        return (true, digits);
+    }
+    (false, word)
 }

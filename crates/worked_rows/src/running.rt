@@ -1,10 +1,11 @@
 // A run over memory.
 ghost use Rattle.std.specs.Prelude.{◌<◌};
 
+use memory_streams::{MemorySink, MemorySource};
 use std::alloc::Global;
 use std::process::Abort;
 use std::test::Fail;
-use text_io::{MemorySink, MemorySource, Words};
+use text_io::Words;
 use workbench::{Status, run};
 
 /// Words and an input, with the status and the text that are wanted.

@@ -1,10 +1,11 @@
 ghost use Rattle.std.specs.Prelude.{◌<◌, length};
 
+use memory_streams::{MemorySink, MemorySource};
 use std::alloc::Global;
 use std::test::Fail;
 use text_io::{
-    Failed, LexFault, LexKind, Lexer, MemorySink, MemorySource, NullSink, ReadEnd, StdSink,
-    StdSource, SteadySource, Words, read_all, write_all,
+    Failed, LexFault, LexKind, Lexer, NullSink, ReadEnd, StdSink, StdSource, SteadySource, Words,
+    read_all, write_all,
 };
 
 const INPUT: &[u8] = b"sig bkaagj\n";
