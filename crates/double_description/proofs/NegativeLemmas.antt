@@ -1,5 +1,5 @@
 -- The negative places, one place on, and the words of their supports.
-use Rattle.std.proofs.Common.{◌≡◌, ℕ, ◌+◌, ◌/◌, ◌^◌, ◌<◌, ⊎_elim, Bool, List, [], ◌∷◌, ◌++◌, Contains, length, get_or, slice_index_or, subst, sym, ◌∙◌, ap, arith}
+use Rattle.std.proofs.Common.{◌≡◌, ℕ, ◌+◌, ◌/◌, ◌^◌, ◌<◌, ⊎_elim, Bool, List, [], ◌∷◌, ◌++◌, Contains, length, slice_index_or, subst, sym, ◌∙◌, ap, arith}
 use Rattle.std.proofs.lemmas.Bool.{cases_lt}
 use Rattle.std.proofs.lemmas.List.Elements.{All-push, Contains-push, Contains-append_left}
 use Rattle.std.proofs.lemmas.List.Quantifiers.{all_pairs_push}

@@ -1,5 +1,5 @@
 -- The rivals in turn, over plain values.
-use Rattle.std.proofs.Common.{◌≡◌, ◌≢◌, ℕ, ◌+◌, ◌<◌, ◌≤◌, List, [], Bool, length, get_or, slice_index_or, subst, sym, ◌∙◌, ap, arith}
+use Rattle.std.proofs.Common.{◌≡◌, ◌≢◌, ℕ, ◌+◌, ◌<◌, ◌≤◌, List, [], Bool, length, get_or, slice_index_or, subst, ◌∙◌, ap, arith}
 use Rattle.support_bits.specs.Columns.{IsInsideUnionOf}
 use Rattle.double_description.specs.Rivals.{IsThirdInside}
 
