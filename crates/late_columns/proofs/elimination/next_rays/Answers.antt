@@ -36,7 +36,7 @@ returns g c before surfaces =
     next_surfaces MAX_ENTRY c.args.permit.now.columns pairs before c.args.row.now (rays_of kepts) signs surfaces signed (rays_of c.keep_zeros.new.next.items) next
 
 pub signs_at-requires-clause-in_range : goal.signs_at-requires-clause-in_range
-signs_at-requires-clause-in_range g c = 
+signs_at-requires-clause-in_range g c =
     subst (All (λ (kept : Kept). IsInRange (length kept.ray) c.args.row.now)) (sym c.deref.ensures.value)
     (λ k d less. subst (λ n. IsInRange n c.args.row.now) (sym (c.requires.widths k d less)) c.requires.in_range)
 
@@ -50,11 +50,11 @@ pub made_rays-requires-clause-widths : goal.made_rays-requires-clause-widths
 made_rays-requires-clause-widths g c = subst (AreOfWidth c.args.permit.now.columns) (sym c.deref-2.ensures.value) c.requires.widths
 
 pub made_rays-requires-clause-count : goal.made_rays-requires-clause-count
-made_rays-requires-clause-count g c = 
+made_rays-requires-clause-count g c =
     ap length c.deref-3.ensures.value ∙ c.in_ok-signs.ensures.ok.count ∙ length-rays_of c.deref.result.now ∙ ap length (c.deref.ensures.value ∙ sym c.deref-2.ensures.value)
 
 pub keep_zeros-requires : goal.keep_zeros-requires
-keep_zeros-requires g c = 
+keep_zeros-requires g c =
     ap length c.deref-4.ensures.value ∙ c.in_ok-signs.ensures.ok.count ∙ length-rays_of c.deref.result.now ∙ ap length c.deref.ensures.value
 
 pub returns-in_err-signs : goal.returns-in_err-signs

@@ -31,6 +31,6 @@ pub bounds-partners-column : goal.bounds-partners-column
 bounds-partners-column c = subst (λ m. c.loop-column.column < m) (c.columns-column-end.ensures ∙ sym c.requires.count) c.loop-column-test.true
 
 pub add-requires : goal.add-requires
-add-requires c = 
+add-requires c =
     let within = subst (λ m. c.loop-column.column < m) (c.columns-column-end.ensures ∙ sym c.requires.count) c.loop-column-test.true in
     ap length c.index-partners-column.is ∙ c.requires.widths c.loop-column.column c.index-partners-column.result within ∙ sym c.loop-column.invariant.count
