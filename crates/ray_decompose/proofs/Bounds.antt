@@ -111,16 +111,16 @@ at_place list i item v l is e = e ∙ is ∙ get_or_default list i item [] l
 pub same_lengths : (v w a b : List ℕ) → v ≡ a → w ≡ b → length a ≡ length b → length v ≡ length w
 same_lengths v w a b e f g = ap length e ∙ g ∙ sym (ap length f)
 
-pub turn_is : (columns : ℕ) (rows : List Row) (list : List (List ℕ)) (x : List ℕ) (limit times : ℕ) (terms : List Term) (rest : List ℕ) (i p q : ℕ) (item v r v' r' : List ℕ) →
+pub turn_is : (columns : ℕ) (rows : List Row) (list : List (List ℕ)) (x : List ℕ) (limit times : ℕ) (terms : List Term) (rest : List ℕ) (i p q : ℕ) (item v r : List ℕ) →
     HasRays columns rows list x → LeadsTo limit list x (length terms) (record { times = times; terms = terms; rest = rest }) → NoneBefore list rest i → i < length list →
-    item ≡ slice_index_or list i item → v ≡ item → r ≡ rest → IsInside v r → v' ≡ item → r' ≡ rest → IsLeastFraction r' v' p q → Turn columns rows list x limit times terms rest i p q
-turn_is columns rows list x limit times terms rest i p q item v r v' r' h led none l is e f inside e' f' fraction = record {
+    item ≡ slice_index_or list i item → v ≡ item → r ≡ rest → IsInside v r → IsLeastFraction r v p q → Turn columns rows list x limit times terms rest i p q
+turn_is columns rows list x limit times terms rest i p q item v r h led none l is e f inside fraction = record {
   rays = h;
   led = led;
   none = none;
   in_range = l;
   inside = subst₂ IsInside (at_place list i item v l is e) f inside;
-  fraction = subst₂ (λ a b. IsLeastFraction a b p q) f' (at_place list i item v' l is e') fraction;
+  fraction = subst₂ (λ a b. IsLeastFraction a b p q) f (at_place list i item v l is e) fraction;
 }
 
 module _ (columns : ℕ) (rows : List Row) (list : List (List ℕ)) (x : List ℕ) (limit times : ℕ) (terms : List Term) (rest : List ℕ) (i p q : ℕ) (t : Turn columns rows list x limit times terms rest i p q) where

@@ -1,6 +1,7 @@
 -- Vectors and terms by their entries.
-use Rattle.std.proofs.Common.{◌≡◌, ℕ, ◌*◌, ◌-◌, ◌<◌, ◌++◌, List, take, drop, map, length, slice_index, slice_index_or, sym, ◌∙◌, arith}
-use Rattle.std.proofs.lemmas.List.{length-map, get_or-map, ext_get_or, take-append-le, take_all}
+use Rattle.std.proofs.Common.{◌≡◌, ℕ, ◌*◌, ◌-◌, ◌<◌, [], ◌∷◌, ◌++◌, ◌+◌, ◌≤◌, ap, ap₂, inl, inr, subst, List, take, drop, map, length, slice_index, slice_index_or, sym, ◌∙◌, arith}
+use Rattle.std.proofs.lemmas.List.{length-map, get_or-map, ext_get_or, take-append-le, take_all, get_or_past}
+use Rattle.std.proofs.lemmas.Bool.{cases_eq, cases_lt}
 use Rattle.cone_definitions.specs.Vectors.{multiple}
 use Rattle.cone_definitions.proofs.Entries.{length-multiple, entry-multiple}
 use Rattle.sum_definitions.specs.Sums.{Term, repeated, difference}
@@ -34,3 +35,30 @@ is_repeated new old times same h = ext_get_or d new (map (repeated times) old) (
 -- what was lent and written stands in its place again
 pub refilled : {A : Type 0} (n : ℕ) (xs ys : List A) → length xs ≡ n → take n (xs ++ drop (length xs) ys) ≡ xs
 refilled n xs ys same = take-append-le n xs (drop (length xs) ys) (omega arith) ∙ take_all n xs (omega arith)
+
+-- ---- no entry up to a place, taken so many times, passes the limit
+
+pub within_more : (x : List ℕ) (times limit i : ℕ) → ((k : ℕ) → k < i → times * slice_index x k ≤ limit) → (limit < times * slice_index x i → ⊥) → (k : ℕ) → k < i + 1 →
+    times * slice_index x k ≤ limit
+within_more x times limit i before not_large k l = elim (cases_eq k i) [
+  | inl e ↦ elim (cases_lt limit (times * slice_index x i)) [
+    | inl large ↦ absurd (not_large large)
+    | inr within ↦ subst (λ j. times * slice_index x j ≤ limit) (sym e) within
+  ]
+  | inr ne ↦ before k (omega arith)
+]
+
+pub within_all : (x : List ℕ) (times limit i : ℕ) → ((k : ℕ) → k < i → times * slice_index x k ≤ limit) → length x ≤ i → (k : ℕ) → times * slice_index x k ≤ limit
+within_all x times limit i before past k = elim (cases_lt k i) [
+  | inl l ↦ before k l
+  | inr h ↦ let none : slice_index x k ≡ 0 = get_or_past x k 0 (omega arith) in rw none (omega arith)
+]
+
+-- ---- a term more
+
+pub term_pushed : (new kept terms : List Term) (count : ℕ) (copy ray : List ℕ) → new ≡ kept ++ record { count = count; vector = copy } ∷ [] → kept ≡ terms → copy ≡ ray →
+    new ≡ terms ++ record { count = count; vector = ray } ∷ []
+term_pushed new kept terms count copy ray is e f = is ∙ ap₂ (λ ts v. ts ++ record { count = count; vector = v } ∷ []) e f
+
+pub lent_terms : (times : ℕ) (old lent new kept : List Term) → kept ≡ new → new ≡ map (repeated times) lent → lent ≡ old → kept ≡ map (repeated times) old
+lent_terms times old lent new kept e is f = e ∙ is ∙ ap (map (repeated times)) f

@@ -6,9 +6,9 @@ ghost use Rattle.cone_core.specs.declared.numbers.TheConstants.{MAX_ENTRY};
 ghost use Rattle.sum_definitions.specs.Sums.{HasRays, IsSum, IsLargeTurn};
 ghost use Rattle.sum_laws.specs.Laws.{IsSumOfRays};
 
-use crate::columns::{first_large, is_inside};
-use crate::fraction::least_fraction;
-use crate::taking::{repeat, take_out};
+use crate::columns::first_large;
+use crate::fraction::fraction_inside;
+use crate::taking::take_ray;
 use cone_core::{MAX_ENTRY, Ray, System};
 use no_memory::Failure;
 use std::alloc::Global;
@@ -46,22 +46,15 @@ pub fn decompose(
 {
     let mut times = 1;
     let mut terms: Vec<Term> = Vec::with_capacity(alloc, system.columns() as usize)?;
-    let mut rest = Vec::with_capacity(alloc, x.len())?;
-    rest.extend_from_slice(x)?;
+    let mut rest = x.to_vec(alloc)?;
     for ray in list {
-        if is_inside(ray.entries(), &rest) {
-            let fraction = least_fraction(&rest, ray.entries());
+        if let Some(fraction) = fraction_inside(&rest, ray.entries()) {
             if let Some(column) = first_large(x, fraction.denominator, times, limit) {
                 let turn = terms.len() as u32;
                 return Err(Failure::Fault(LargeTurn { turn, column }));
             }
+            take_ray(alloc, fraction, ray, &mut terms, &mut rest)?;
             times = fraction.denominator * times;
-            repeat(&mut terms, fraction.denominator);
-            terms.push(Term {
-                count: fraction.numerator,
-                vector: ray.copy(alloc)?,
-            })?;
-            take_out(&mut rest, fraction, ray.entries());
         }
     }
     Ok(Sum { times, terms })

@@ -1,10 +1,11 @@
 // The least fraction of the entries of two vectors, in lowest terms.
 
-ghost use Rattle.std.specs.Prelude.{◌≡◌, ◌≢◌, ℕ, ◌*◌, ◌+◌, ◌<◌, ◌≤◌, ◌↔◌, IsTrue, length, slice_index};
-ghost use Rattle.cone_definitions.specs.Vectors.{IsNonzero};
+ghost use Rattle.std.specs.Prelude.{◌≡◌, ◌≢◌, ℕ, ◌*◌, ◌+◌, ◌<◌, ◌≤◌, ◌↔◌, IfNone, IfSome, IsTrue, length, slice_index};
+ghost use Rattle.cone_definitions.specs.Vectors.{IsInside, IsNonzero};
 ghost use Rattle.sum_definitions.specs.Sums.{IsLeastFraction};
 ghost use Rattle.ray_decompose.specs.Fractions.{IsLeastColumn};
 
+use crate::columns::is_inside;
 use cone_core::gcd;
 
 /// A fraction of two whole numbers.
@@ -76,5 +77,20 @@ pub fn least_fraction(rest: &[u128], ray: &[u128]) -> Fraction
     Fraction {
         numerator: rest[column] / divisor,
         denominator: ray[column] / divisor,
+    }
+}
+
+/// The least of these fractions, where the support of `ray` lies in that of `rest`.
+pub fn fraction_inside(rest: &[u128], ray: &[u128]) -> Option<Fraction>
+    requires lengths { length rest.now ≡ length ray.now }
+    requires nonzero { IsNonzero ray.now }
+    ensures inside { IfSome result (λ _. IsInside ray.now rest.now) }
+    ensures least { IfSome result (λ fraction. IsLeastFraction rest.now ray.now fraction.numerator fraction.denominator) }
+    ensures none { IfNone result (IsInside ray.now rest.now → ⊥) }
+{
+    if is_inside(ray, rest) {
+        Some(least_fraction(rest, ray))
+    } else {
+        None
     }
 }

@@ -1,0 +1,17 @@
+-- The parts of a row, one term more.
+use Rattle.std.proofs.Common.{◌≡◌, ℕ, ◌+◌, ◌*◌, ◌<◌, ℤ, pos, List, take, length, get_or, ap, sym, ◌∙◌}
+use Rattle.std.specs.Prelude.{slice_index}
+use Rattle.std.proofs.lemmas.List.Sums.{sum_by_more}
+use Rattle.cone_definitions.specs.Rows.{Row, positive_coefficient, negative_coefficient, plus_part, minus_part}
+
+pub plus_more : (row : Row) (x : List ℕ) (i old new : ℕ) → i < length row → old ≡ plus_part (take i row) x →
+    new ≡ old + positive_coefficient (get_or row i (0, pos 0)).1 * slice_index x (get_or row i (0, pos 0)).0 → new ≡ plus_part (take (i + 1) row) x
+plus_more row x i old new l so_far is =
+    is ∙ ap (λ n. n + positive_coefficient (get_or row i (0, pos 0)).1 * slice_index x (get_or row i (0, pos 0)).0) so_far ∙
+    sym (sum_by_more (λ (term : ℕ × ℤ). positive_coefficient term.1 * slice_index x term.0) row i (0, pos 0) l)
+
+pub minus_more : (row : Row) (x : List ℕ) (i old new : ℕ) → i < length row → old ≡ minus_part (take i row) x →
+    new ≡ old + negative_coefficient (get_or row i (0, pos 0)).1 * slice_index x (get_or row i (0, pos 0)).0 → new ≡ minus_part (take (i + 1) row) x
+minus_more row x i old new l so_far is =
+    is ∙ ap (λ n. n + negative_coefficient (get_or row i (0, pos 0)).1 * slice_index x (get_or row i (0, pos 0)).0) so_far ∙
+    sym (sum_by_more (λ (term : ℕ × ℤ). negative_coefficient term.1 * slice_index x term.0) row i (0, pos 0) l)

@@ -1,0 +1,24 @@
+use Rattle.std.proofs.Common.{◌≤◌, length, ap, sym, ◌∙◌, arith}
+use Rattle.std.proofs.lemmas.List.{take_all}
+use Rattle.minor_laws.specs.Caps.{column_weight}
+use Rattle.number_bounds.proofs.Tallies.{rows_more, refilled}
+use Rattle.number_bounds.proofs.weights.column_weights.Goals as goal
+
+pub loop-number-preserved : goal.loop-number-preserved
+loop-number-preserved c =
+    let kept = refilled c.loop-number.weights.len c.add_row.new.weights c.loop-number.weights.items
+    (c.add_row.auto.weights ∙ ap length c.deref_mut.ensures.value ∙ sym c.loop-number.weights.ok.0) in
+    record {
+      count = ap length kept ∙ c.add_row.auto.weights ∙ ap length c.deref_mut.ensures.value ∙ c.loop-number.invariant.count;
+      each = rows_more c.args.system.now.rows c.loop-number.number c.entries.result.now c.loop-number.weights.items _ c.add_row.new.weights _
+          (omega (arith, c.loop-number-test.true, c.len-number-end.ensures)) (c.entries.ensures.entries ∙ c.row.ensures.row) c.loop-number.invariant.each
+          c.deref_mut.ensures.value (c.add_row.ensures c.if-not-add_row.false) kept;
+    }
+
+pub returns : goal.returns
+returns c =
+    let past : length c.args.system.now.rows ≤ c.loop-number.number = omega (arith, c.len-number-end.ensures, c.loop-number-test.false) in
+    record {
+      count = c.loop-number.invariant.count;
+      each = λ j. c.loop-number.invariant.each j ∙ ap (λ rows. column_weight rows j) (take_all c.loop-number.number c.args.system.now.rows past);
+    }

@@ -1,0 +1,14 @@
+-- Each step keeps where the rows are 0.
+use Rattle.std.proofs.lemmas.List.Sorted.{All-permutation}
+use Rattle.cone_core.specs.Sparse.{IsInRange}
+use Rattle.solved_rows.proofs.RowLemmas.{zeros_follow, zeros_reordered}
+use Rattle.solved_rows.proofs.blocks.ordered_rows.Goals as goal
+
+pub returns-clause-same : goal.returns-clause-same
+returns-clause-same c =
+    let thin = zeros_follow c.args.unsolved.now c.in_ok-rows.rows.items c.thin_rows.new.rows.items c.in_ok-rows.ensures.same c.in_ok-thin_rows.ensures.same in
+    zeros_follow c.args.unsolved.now c.thin_rows.new.rows.items c.in_ok-in_cheapest_order.field-0.items thin
+    (zeros_reordered _ _ (rw c.deref.ensures.value at c.in_ok-in_cheapest_order.ensures))
+
+pub returns-clause-in_range : goal.returns-clause-in_range
+returns-clause-in_range c = All-permutation (IsInRange c.args.columns) _ _ (rw c.deref.ensures.value at c.in_ok-in_cheapest_order.ensures) c.in_ok-thin_rows.ensures.in_range

@@ -1,0 +1,14 @@
+-- Both steps fit, so they are the product and the sum.
+use Rattle.std.proofs.Common.{rules, w32, FitsSigned}
+use Rattle.std.proofs.lemmas.Int.{to_z-of_z}
+use Rattle.solved_rows.proofs.MergeLemmas.{checked_sum}
+use Rattle.solved_rows.proofs.merge.sum_with_product.Goals as goal
+
+pub returns : goal.returns
+returns c =
+    let n = c.ranges.number in
+    let p = c.ranges.factor in
+    let q = c.ranges.other in
+    let product = simp to_z-of_z at c.in_ok-product.ensures in
+    let f : FitsSigned w32 c.in_ok-product.product = search rules in
+    checked_sum _ c.args.number c.args.factor c.args.other c.in_ok-product.product c.checked_add.result product.1 (simp to_z-of_z at c.checked_add.ensures)
