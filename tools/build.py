@@ -200,7 +200,8 @@ def say_what_comes(plan, times, to, keep):
     minutes = max(1, round(plan.length() / 60))
     stays = "" if keep else ", dropped afterwards"
     print(f"{PROGRAM}: proves and builds the program once: about {minutes} min on {processors()} processors, "
-          f"and {times.disk / 1000:.1f} GB of disk in {to}{stays}", file=sys.stderr, flush=True)
+          f"and {times.disk / 1000:.1f} GB of disk in {to}{stays}; until then `rt try -- WORDS` in {TOP}/crates/{PROGRAM} "
+          "answers in a minute or two, with nothing proved", file=sys.stderr, flush=True)
 
 
 def fail(progress, log, crate):

@@ -20,7 +20,7 @@ PROGRAMS = ("trinorm", "worked_rows", "worked_tables", "worked_cones")
 # what each crate is about; its kind is told by its name
 SUBJECTS = {
     "below all": "plain_facts no_memory",
-    "text": "text_definitions document_definitions document_laws partial_table_laws written_laws text_io",
+    "text": "text_definitions document_definitions document_laws partial_table_laws written_laws text_io memory_streams",
     "table": "table_definitions permutation_laws walk_laws perm_four finite_walks gluing_table table_commands",
     "skeleton": "skeleton_definitions class_laws skeleton_laws skeleton vertex_links",
     "signature": "signature_definitions signature_text_laws labelling_laws signature_laws signature_codec canonical_labelling signature_census",

@@ -4,8 +4,7 @@ use Rattle.std.specs.Prelude.{nat_lt, IsTrue}
 use Rattle.std.proofs.lemmas.Bool.{ltb-true, ltb-false}
 use Rattle.table_definitions.specs.Table.{max_tets, Row, Face, IsTable, glue}
 use Rattle.table_definitions.specs.Places.{is_closed}
-use Rattle.cover_definitions.specs.declared.CoverFault.TheVariants.{TooMany}
-use Rattle.cover_definitions.specs.Cover.{over, sheet, above, lifted, cover, face_below, sheet_signs}
+use Rattle.cover_definitions.specs.Cover.{over, sheet, above, lifted, cover, face_below, sheet_signs, too_large}
 use Rattle.kept_laws.proofs.Closed.{AreGluedAll, all_glued, is_closed-from}
 use Rattle.cover_laws.proofs.Sheets.{cases_sheet, sheet_small, above_over, over_above, over_below, above_below, glue-cover, length-cover}
 use Rattle.cover_laws.proofs.Covered.{cover_is_table, cover_signs}
@@ -88,7 +87,7 @@ module _ (rows : List Row) (table : IsTable rows) (o : Outcome) where
   apart connected told e =
       let z : Done ≡ Refused = sym (status_of o (done (cover_text rows connected)) told) ∙ status_of o large_cover_outcome e in absurd cc
 
-  by_test : (b : Bool) → nat_lt max_tets (2 * length rows) ≡ b → MatchOption (if b then Some TooMany else None) (IsCoverTold rows o) (λ _. o ≡ large_cover_outcome) → IsCovering rows o
+  by_test : (b : Bool) → nat_lt max_tets (2 * length rows) ≡ b → MatchOption (if b then Some too_large else None) (IsCoverTold rows o) (λ _. o ≡ large_cover_outcome) → IsCovering rows o
   by_test true e h =
       let large : max_tets < 2 * length rows = ltb-true max_tets (2 * length rows) e in
       record { too_many = ((λ same. large), (λ l. h)); told = λ small. absurd (omega arith) }

@@ -1,2 +1,1 @@
 pub mod MoveLines
-pub mod TellingLaws

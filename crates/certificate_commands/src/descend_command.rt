@@ -7,11 +7,10 @@ ghost use Rattle.outcome_definitions.specs.Outcomes.{IsReadOutcome};
 ghost use Rattle.outcome_definitions.specs.Certificates as certificates;
 ghost use Rattle.outcome_definitions.specs.Certificates.{IsDescendAnswer};
 
-use canonical_labelling::WalkFault;
 use command_answers::{Outcome, fault_outcome, not_connected_outcome, read_table_document};
 use gluing_table::{Table, write_table};
 use move_undo::write_moves;
-use no_memory::NoMemory;
+use no_memory::{Failure, NoMemory};
 use outcome_definitions::Status;
 use sphere_certificate::{Descent, descend as descend_from};
 use std::alloc::Global;
@@ -65,8 +64,8 @@ fn answer(alloc: Global, table: &Table) -> Result<Outcome, NoMemory>
 {
     match descend_from(alloc, table) {
         Ok(descent) => told(alloc, &descent),
-        Err(WalkFault::NotConnected { tet }) => not_connected_outcome(alloc, 0, tet),
-        Err(WalkFault::NoMemory) => Err(NoMemory),
+        Err(Failure::Fault(fault)) => not_connected_outcome(alloc, 0, fault.tet),
+        Err(Failure::NoMemory) => Err(NoMemory),
     }
 }
 

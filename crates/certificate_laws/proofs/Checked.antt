@@ -13,6 +13,7 @@ use Rattle.labelling_laws.proofs.Kept.{relabels_back, relabels_connected}
 use Rattle.labelling_laws.proofs.Told.{one_signature, tells_tables}
 use Rattle.certificate_laws.specs.Laws.{TextsTellStandard, AnswersAgree}
 use Rattle.certificate_laws.proofs.Sphere.{sphere_table, sphere_signature}
+use Rattle.move_laws.proofs.ListedFacets.{same_some}
 use Rattle.move_laws.proofs.Played.{all_led_table, played_same, all_played_same}
 
 -- a move that is refused leads nowhere
@@ -32,9 +33,6 @@ refused_at_most rows (k ∷ ks) m after table fault last (next, first, rest) ref
 
 abbrev AreSame : ℕ → MoveFault → ℕ → MoveFault → Type 0
 AreSame n fault n' fault' = (n ≡ n') × (fault ≡ fault')
-
-same_some : (o : Option MoveFault) (f f' : MoveFault) → o ≡ Some f → o ≡ Some f' → f ≡ f'
-same_some o f f' e k = cc
 
 first_of : (m k : Move) (ms ks : List Move) → m ∷ ms ≡ k ∷ ks → m ≡ k
 first_of m k ms ks e = cc

@@ -5,14 +5,11 @@ use Rattle.table_definitions.specs.Permutation.{image, inverse}
 use Rattle.table_definitions.specs.Table.{Gluing, Face, Row, glue, other_side, way_back, IsTable, face_number}
 use Rattle.table_definitions.specs.Places.{face_of, SameFace}
 use Rattle.table_definitions.proofs.PermutationLaws.{image_below, image-of_inverse}
-use Rattle.table_definitions.proofs.Faces.{face_of-number}
+use Rattle.table_definitions.proofs.Faces.{face_of-number, number-face_of}
 use Rattle.std.proofs.lemmas.Bool.{ne_eqb}
 use Rattle.class_laws.proofs.CrossingLemmas.{crossed_face-other}
 use Rattle.class_laws.specs.Crossings.{crossed_face}
 use Rattle.class_laws.specs.Neighbours.{led, IsLed, IsReversible}
-
-pub number_of_face : (i : ℕ) → face_number (face_of i) ≡ i
-number_of_face i = omega arith
 
 module _ (rows : List Row) (table : IsTable rows) where
   -- the face that a step leads to
@@ -48,7 +45,7 @@ module _ (rows : List Row) (table : IsTable rows) where
 
   glued_leads : (i j : ℕ) (g : Gluing) → glue rows (face_of i) ≡ Some g → other_side (face_of i) g ≡ face_of j → crossed_face rows i 0 ≡ Some j
   unfolding crossed_face
-  glued_leads i j g h e = ap (λ (o : Option Gluing). option_map (λ k. face_number (other_side (face_of i) k)) o) h ∙ ap (λ (x : Face). Some (face_number x)) e ∙ ap Some (number_of_face j)
+  glued_leads i j g h e = ap (λ (o : Option Gluing). option_map (λ k. face_number (other_side (face_of i) k)) o) h ∙ ap (λ (x : Face). Some (face_number x)) e ∙ ap Some (number-face_of j)
 
   -- the step back
   back : (i f j : ℕ) → crossed_face rows i f ≡ Some j → crossed_face rows j 0 ≡ Some i

@@ -24,10 +24,6 @@ pub record AreTalliesUpTo (i : ℕ) (passes : List Bool) (owners : List ℕ) (co
 unfoldable pub side_at : ℕ → Face
 side_at j = record { tet = j / 12; face = slice_index (others (j / 3 % 4)) (j % 3) }
 
--- of so many things, those that pass a test and that class c owns
-abbrev pub tally_of : (ℕ → Bool) → (ℕ → ℕ) → ℕ → ℕ → ℕ
-tally_of passes owner c n = count_by (λ j. passes j && (owner j == c)) (below n)
-
 -- how many classes of directed edges begin at members of each vertex class
 abbrev pub CountsCorners : Skeleton → List ℕ → List ℕ → Type 0
 CountsCorners s directions tallies = (c : ℕ) → c < s.vertices.count → slice_index tallies c ≡ link_vertices s.vertices.classes directions c

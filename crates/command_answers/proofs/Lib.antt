@@ -1,4 +1,3 @@
 pub mod EachLine
 pub mod RefusalLines
-pub mod Results
 pub mod LastLine

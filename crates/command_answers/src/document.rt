@@ -1,5 +1,5 @@
 // The documents of the commands.
-ghost use Rattle.std.specs.Prelude.{◌≡◌, ◌≤◌, length};
+ghost use Rattle.std.specs.Prelude.{◌≤◌, length};
 ghost use Rattle.text_definitions.specs.Text.{max_text};
 ghost use Rattle.text_definitions.specs.Reading.{Moves, Reads, ReadsFrom};
 ghost use Rattle.document_definitions.specs.Documents.{next_table_at, no_line_at, table_document, two_tables_document, vector_document, vectors_document};

@@ -1,7 +1,6 @@
 // What is to be written, and the exit status.
 ghost use Rattle.std.specs.Prelude.{◌≡◌};
 ghost use Rattle.outcome_definitions.specs.Outcomes.{usage_outcome, too_long_outcome, read_outcome};
-ghost use Rattle.outcome_definitions.specs.Lines as lines;
 ghost use Rattle.outcome_definitions.specs.Canonical.{different_outcome};
 
 use outcome_definitions::Status;
@@ -85,12 +84,14 @@ impl Outcome {
         }
     }
 
+    /// The exit status.
     pub fn status(&self) -> Status
         ensures { result ≡ self.now.status }
     {
         self.status
     }
 
+    /// The bytes that go to standard output.
     pub fn text(&self) -> &[u8]
         ensures { result.now ≡ self.now.text }
     {

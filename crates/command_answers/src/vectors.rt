@@ -1,5 +1,4 @@
 // Vectors from text.
-ghost use Rattle.std.specs.Prelude.{◌≡◌, map};
 ghost use Rattle.text_definitions.specs.Written.{limit};
 ghost use Rattle.cone_text_definitions.specs.VectorText.{vector_at};
 ghost use Rattle.document_definitions.specs.Documents.{each_line_from};

@@ -9,7 +9,7 @@ use surface_definitions::Coords;
 
 /// A command with the values of its options: coordinates, an order of rows, the greatest entry, a seed, a number of
 /// moves.
-#[derive(Clone, Copy, Debug, PartialEq, Eq)]
+#[derive(Clone, Copy, PartialEq, Eq)]
 pub enum Request {
     Verify(Coords),
     Info,

@@ -12,7 +12,7 @@ use std::alloc::AllocError;
 pub use surface_definitions::Coords;
 
 /// Why words give no request.
-#[derive(Clone, Copy, Debug, PartialEq, Eq)]
+#[derive(Clone, Copy)]
 pub enum WordsFault {
     /// Memory ran out.
     NoMemory,

@@ -1,5 +1,5 @@
 // Reads the words.
-ghost use Rattle.std.specs.Prelude.{◌≡◌, false, count_by, codes, map, IfOk, OnOk};
+ghost use Rattle.std.specs.Prelude.{◌≡◌, false, count_by, codes, IfOk, OnOk};
 ghost use Rattle.std.specs.List.{list_any};
 ghost use Rattle.std.specs.Str.{bytes_eq};
 ghost use Rattle.clap.specs.Values.{kind_of};

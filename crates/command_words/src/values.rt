@@ -1,5 +1,5 @@
 // The values of options, and the request of a command with such values.
-ghost use Rattle.std.specs.Prelude.{◌≡◌, ◌≤◌, ◌^◌, ◌<◌};
+ghost use Rattle.std.specs.Prelude.{◌≡◌, ◌<◌};
 ghost use Rattle.std.specs.Option.{option_map};
 ghost use Rattle.command_definitions.specs.Requests.{most_moves, most_bulk_moves};
 ghost use Rattle.command_definitions.specs.Values as spec;

@@ -1,8 +1,7 @@
 //! Relabellings that are written part by part.
 
-ghost use Rattle.std.specs.Prelude.{◌≡◌, ◌<◌, ◌^◌, ℕ, length, slice_index, slice_set, replicate, All, AllPairs, Contains, IfOk};
+ghost use Rattle.std.specs.Prelude.{◌≡◌, ◌<◌, ◌^◌, ℕ, length, slice_index, slice_set, All, AllPairs, Contains, IfOk};
 ghost use Rattle.table_definitions.specs.Permutation.{identity};
-ghost use Rattle.table_definitions.specs.Relabelling as labels;
 ghost use Rattle.table_definitions.specs.Relabelling.{IsRelabelling, stand_in};
 ghost use Rattle.part_definitions.specs.SameParts.{GoesBy};
 

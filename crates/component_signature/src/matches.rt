@@ -1,8 +1,8 @@
 //! The relabelling that is told of two tables, part by part.
 
-ghost use Rattle.std.specs.Prelude.{◌≡◌, ◌<◌, ◌+◌, ◌^◌, ◌↔◌, ℕ, length, slice_index, All, IsTrue, IfOk, OnOk, IfSome, IfNone};
+ghost use Rattle.std.specs.Prelude.{◌≡◌, ◌<◌, ◌+◌, ◌↔◌, length, IsTrue, IfOk, OnOk, IfSome, IfNone};
 ghost use Rattle.table_definitions.specs.Places.{IsConnected};
-ghost use Rattle.table_definitions.specs.Relabelling.{IsRelabelling, IsRelabelled};
+ghost use Rattle.table_definitions.specs.Relabelling.{IsRelabelled};
 ghost use Rattle.signature_definitions.specs.Labellings.{IsLeastRelabelling, Relabels};
 ghost use Rattle.part_definitions.specs.SameParts.{IsSameParts};
 ghost use Rattle.component_signature.specs.Entries.{entries_of};

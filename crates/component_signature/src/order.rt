@@ -1,6 +1,6 @@
 //! The parts of a table in the order of their signatures.
 
-ghost use Rattle.std.specs.Prelude.{◌≡◌, All, IfOk, OnOk};
+ghost use Rattle.std.specs.Prelude.{All, IfOk, OnOk};
 ghost use Rattle.table_definitions.specs.Table.{IsTable};
 ghost use Rattle.table_definitions.specs.Places.{IsConnected};
 ghost use Rattle.part_definitions.specs.Parts as definition;

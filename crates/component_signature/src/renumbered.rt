@@ -1,6 +1,6 @@
 //! The rows of some tetrahedra, with the numbers of their places among these.
 
-ghost use Rattle.std.specs.Prelude.{◌≡◌, ◌<◌, ◌^◌, ℕ, length, option_map, Contains, AllPairs, IfOk};
+ghost use Rattle.std.specs.Prelude.{◌≡◌, ◌<◌, ◌^◌, length, option_map, Contains, AllPairs, IfOk};
 ghost use Rattle.table_definitions.specs.Table as gluings;
 ghost use Rattle.table_definitions.specs.Table.{IsTable};
 ghost use Rattle.part_definitions.specs.Parts as parts;

@@ -3,7 +3,6 @@
 ghost use Rattle.std.specs.Prelude.{◌≡◌, ◌<◌, ◌^◌, length, IfOk, OnOk};
 ghost use Rattle.table_definitions.specs.Table.{IsTable};
 ghost use Rattle.table_definitions.specs.Classes.{members};
-ghost use Rattle.part_definitions.specs.Parts as definition;
 ghost use Rattle.part_definitions.specs.Parts.{IsPart, AreParts};
 ghost use Rattle.component_signature.specs.Components as components;
 

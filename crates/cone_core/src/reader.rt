@@ -1,6 +1,6 @@
 // Cones in text: `cone C R`, and R lines of C coefficients, or no line where C is 0.
 
-ghost use Rattle.std.specs.Prelude.{◌≡◌, ◌≤◌, ◌<◌, ◌^◌, IfOk, OnOk, ◌++◌, replicate, []};
+ghost use Rattle.std.specs.Prelude.{◌≡◌, ◌<◌, IfOk, OnOk, ◌++◌, replicate, []};
 ghost use Rattle.cone_core.specs.Sparse.{IsInRange};
 ghost use Rattle.cone_core.specs.ConeReads.{GivesHere, GivesCone, sparse_row_at, entries_of, sparse_entries_at, sparse_rows_at};
 ghost use Rattle.cone_text_definitions.specs.ConeText.{cone_at};
@@ -16,7 +16,7 @@ use text_io::{LexFault, Lexer};
 const MAX_COUNT: u128 = 10000;
 
 /// Why no cone is read: the lexer's first fault, or want of memory.
-#[derive(Clone, Copy, Debug, PartialEq, Eq)]
+#[derive(Clone, Copy)]
 pub enum ConeFault {
     Lex(LexFault),
     NoMemory,

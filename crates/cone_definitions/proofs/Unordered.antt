@@ -1,7 +1,7 @@
 -- What follows for a step from the vertex surfaces of the rows before in any order, place by place.
-use Rattle.std.proofs.Common.{◌≡◌, ◌≢◌, ℕ, ◌<◌, ◌⊎◌, inl, inr, List, [], length, get_or, AllPairs, subst, sym, ap, ◌∙◌}
-use Rattle.std.proofs.lemmas.Bool.{cases_order}
+use Rattle.std.proofs.Common.{◌≡◌, ℕ, ◌<◌, ◌⊎◌, inl, inr, List, [], length, get_or, subst, sym, ap, ◌∙◌}
 use Rattle.std.proofs.lemmas.List.{get_or_default}
+use Rattle.plain_facts.proofs.Lists.{one_place}
 use Rattle.cone_definitions.specs.Vectors.{IsBefore, IsInsideUnion, ray_at}
 use Rattle.cone_definitions.specs.Rows.{Row, IsPositiveAt, IsNegativeAt}
 use Rattle.cone_definitions.specs.Surfaces.{Clash, IsAdmissibleUnion, IsSurfaceList}
@@ -17,21 +17,13 @@ without_order columns rows pairs rays h = record {
   complete = h.complete;
 }
 
--- elements that differ stand at one place
-pub one_place : (xs : List (List ℕ)) → AllPairs (λ x y. x ≢ y) xs → (i k : ℕ) → i < length xs → k < length xs → ray_at xs k ≡ ray_at xs i → k ≡ i
-one_place xs apart i k i_in k_in same = elim (cases_order k i) [
-  | inl e ↦ e
-  | inr (inl less) ↦ absurd (apart k i [] less i_in same)
-  | inr (inr more) ↦ absurd (apart i k [] more k_in (sym same))
-]
-
 module _ (step : Step) (rays : List (List ℕ)) (h : HasSurfaces step.columns step.before step.pairs rays) where
   pub place_of : (x : List ℕ) → IsRay step x → (k : ℕ) × (k < length rays) × (ray_at rays k ≡ x)
   place_of x r = let c = h.complete x r in (c.0, c.1, get_or_default rays c.0 [] x c.1 ∙ c.2)
 
   -- a ray stands at one place
   pub place_is_one : (i k : ℕ) → i < length rays → k < length rays → ray_at rays k ≡ ray_at rays i → k ≡ i
-  place_is_one = one_place rays h.apart
+  place_is_one i k i_in k_in same = one_place rays h.apart k i [] k_in i_in same
 
   -- in the union of a pair at two places lies no ray of a third place
   pub pair_third_place : (i j : ℕ) → i < length rays → j < length rays → IsPair step (ray_at rays i) (ray_at rays j) →

@@ -1,6 +1,6 @@
 -- What holds of all clashing columns holds of the listed pairs.
 use Rattle.std.proofs.Common.{◌≡◌, ◌≢◌, ℕ, ◌+◌, ◌<◌, Bool, true, false, cond, List, [], ◌∷◌, map, filter, subst, sym, ◌∙◌, refl, suc, arith}
-use Rattle.std.specs.Prelude.{◌&&◌, nat_lt}
+use Rattle.std.specs.Prelude.{nat_lt}
 use Rattle.std.specs.List.{All, flat_map}
 use Rattle.std.proofs.lemmas.Bool.{ltb-true, and_parts}
 use Rattle.std.proofs.lemmas.List.Elements.{All-map, All-append, All-cons}
@@ -9,13 +9,10 @@ use Rattle.table_definitions.specs.Lists.{below, pairs_of}
 use Rattle.cone_definitions.specs.Surfaces.{PairsAreApart}
 use Rattle.surface_definitions.specs.Coordinates.{columns, clash_test, clash_list}
 use Rattle.surface_definitions.specs.declared.Coords.{Coords}
+use Rattle.coordinate_laws.specs.ClashPairs.{is_clash}
 
 abbrev Pairs : Type 0
 Pairs = List (ℕ × ℕ)
-
--- whether a pair is of a lesser and a greater column that clash
-abbrev is_clash : Coords → ℕ × ℕ → Bool
-is_clash coords p = nat_lt p.0 p.1 && clash_test coords p.0 p.1
 
 filter_all : (P : ℕ × ℕ → Type 0) (q : ℕ × ℕ → Bool) (xs : Pairs) → All (λ x. q x ≡ true → P x) xs → All P (filter q xs)
 filter_all P q [] h = λ k d l. absurd (omega arith)

@@ -7,8 +7,7 @@ use Rattle.table_definitions.specs.Table.{max_tets, Gluing, Row, Face}
 use Rattle.table_definitions.specs.Relabelling.{Relabelling}
 use Rattle.skeleton_definitions.specs.Orientation.{sign_of, IsOrientable}
 use Rattle.skeleton_definitions.specs.Skeleton.{IsOrientation}
-use Rattle.cover_definitions.specs.declared.CoverFault.{CoverFault}
-use Rattle.cover_definitions.specs.declared.CoverFault.TheVariants.{TooMany}
+use Rattle.cover_definitions.specs.declared.LargeCover.{LargeCover}
 
 -- of the cover of n tetrahedra, tetrahedron u lies over one of them, on a sheet
 abbrev pub over : ℕ → ℕ → ℕ
@@ -41,8 +40,11 @@ unfoldable pub cover : List Row → List Row
 cover rows = map (cover_row rows) (below (2 * length rows))
 
 -- no cover is made where it would have too many tetrahedra
-abbrev pub cover_fault : List Row → Option CoverFault
-cover_fault rows = if nat_lt max_tets (2 * length rows) then Some TooMany else None
+abbrev pub too_large : LargeCover
+too_large = record {}
+
+abbrev pub cover_fault : List Row → Option LargeCover
+cover_fault rows = if nat_lt max_tets (2 * length rows) then Some too_large else None
 
 -- the face below a face of the cover
 abbrev pub face_below : ℕ → Face → Face

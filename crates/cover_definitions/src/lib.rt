@@ -2,9 +2,6 @@
 //! `proofs/` has worked examples.
 #![tactic(auto)]
 
-/// Why no cover of a table is made.
-#[derive(Clone, Copy, Debug, PartialEq, Eq)]
-pub enum CoverFault {
-    /// The cover would have more tetrahedra than a table may have.
-    TooMany,
-}
+/// Why no cover of a table is made: it would have more tetrahedra than a table may have.
+#[derive(Clone, Copy)]
+pub struct LargeCover;

@@ -6,7 +6,7 @@ use Rattle.no_memory.specs.Failures.{IfFault}
 use Rattle.table_definitions.specs.Table.{Row}
 use Rattle.table_definitions.specs.Places.{IsLeastUnreached}
 use Rattle.skeleton_definitions.specs.Skeleton.{Skeleton, IsSkeleton}
-use Rattle.cover_definitions.specs.declared.CoverFault.{CoverFault}
+use Rattle.cover_definitions.specs.declared.LargeCover.{LargeCover}
 use Rattle.cover_definitions.specs.Cover.{cover_fault}
 use Rattle.group_definitions.specs.declared.GroupFault.{GroupFault}
 use Rattle.group_definitions.specs.declared.GroupFault.TheVariants.{NotConnected, InvalidEdge}
@@ -22,11 +22,11 @@ use Rattle.outcome_definitions.specs.Presented.{IsPresentationAnswer}
 
 pub cover_answer : (rows base : List Row) (o : Outcome) → base ≡ rows → cover_fault rows ≡ None → IsCoverTold base o → IsCoverAnswer rows o
 cover_answer rows base o e fits t =
-    subst (λ (f : Option CoverFault). MatchOption f (IsCoverTold rows o) (λ _. o ≡ large_cover_outcome)) (sym fits) (subst (λ (b : List Row). IsCoverTold b o) e t)
+    subst (λ (f : Option LargeCover). MatchOption f (IsCoverTold rows o) (λ _. o ≡ large_cover_outcome)) (sym fits) (subst (λ (b : List Row). IsCoverTold b o) e t)
 
-pub large_answer : (rows : List Row) (failure : Failure CoverFault) (fault : CoverFault) (o : Outcome) → failure ≡ Fault fault → IfFault failure (λ f. cover_fault rows ≡ Some f) → o ≡ large_cover_outcome → IsCoverAnswer rows o
+pub large_answer : (rows : List Row) (failure : Failure LargeCover) (fault : LargeCover) (o : Outcome) → failure ≡ Fault fault → IfFault failure (λ f. cover_fault rows ≡ Some f) → o ≡ large_cover_outcome → IsCoverAnswer rows o
 large_answer rows failure fault o same is told =
-    subst (λ (f : Option CoverFault). MatchOption f (IsCoverTold rows o) (λ _. o ≡ large_cover_outcome)) (sym (subst (λ (e : Failure CoverFault). IfFault e (λ f. cover_fault rows ≡ Some f)) same is)) told
+    subst (λ (f : Option LargeCover). MatchOption f (IsCoverTold rows o) (λ _. o ≡ large_cover_outcome)) (sym (subst (λ (e : Failure LargeCover). IfFault e (λ f. cover_fault rows ≡ Some f)) same is)) told
 
 -- ---- presentations
 

@@ -8,7 +8,7 @@ ghost use Rattle.outcome_definitions.specs.Covers.{IsCoverTold, IsCoverAnswer, l
 
 use crate::sheets::cover_text;
 use command_answers::{Outcome, fault_outcome, read_table_document};
-use double_cover::{Cover, CoverFault, Failure};
+use double_cover::{Cover, Failure};
 use gluing_table::Table;
 use no_memory::NoMemory;
 use outcome_definitions::Status;
@@ -41,7 +41,7 @@ fn answer_by(alloc: Global, skeleton: &Skeleton) -> Result<Outcome, NoMemory>
 {
     match Cover::of(alloc, skeleton) {
         Ok(cover) => told(alloc, &cover),
-        Err(Failure::Fault(CoverFault::TooMany)) => too_many(alloc),
+        Err(Failure::Fault(_)) => too_many(alloc),
         Err(Failure::NoMemory) => Err(NoMemory),
     }
 }

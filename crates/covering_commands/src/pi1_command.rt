@@ -3,7 +3,6 @@
 ghost use Rattle.std.specs.Prelude.{◌≡◌, ◌≤◌, length, IfOk};
 ghost use Rattle.text_definitions.specs.Text.{max_text};
 ghost use Rattle.skeleton_definitions.specs.Skeleton.{IsSkeleton};
-ghost use Rattle.group_definitions.specs.Groups.{IsGroup};
 ghost use Rattle.document_definitions.specs.Documents.{table_document};
 ghost use Rattle.outcome_definitions.specs.Outcomes.{IsReadOutcome};
 ghost use Rattle.outcome_definitions.specs.Canonical.{done};

@@ -1,6 +1,6 @@
 //! The crushed table.
 
-ghost use Rattle.std.specs.Prelude.{◌≡◌, ◌*◌, ◌<◌, length, false, Option, None, IfOk};
+ghost use Rattle.std.specs.Prelude.{◌≡◌, ◌*◌, ◌<◌, length, false, Option, IfOk};
 ghost use Rattle.table_definitions.specs.Table.{Gluing, IsTable};
 ghost use Rattle.surface_definitions.specs.Coordinates.{columns};
 ghost use Rattle.surface_definitions.specs.declared.Coords.TheVariants.{Standard};

@@ -1,6 +1,6 @@
 //! The quads of a tetrahedron, and what its faces become where it is taken out.
 
-ghost use Rattle.std.specs.Prelude.{◌≡◌, ◌≢◌, ◌+◌, ◌*◌, ◌<◌, ◌≤◌, length, true, false, IsNone, IfNone, IfSome, if◌then◌else◌, ◌==◌};
+ghost use Rattle.std.specs.Prelude.{◌≡◌, ◌+◌, ◌*◌, ◌<◌, ◌≤◌, length, true, false, IfNone, IfSome, if◌then◌else◌, ◌==◌};
 ghost use Rattle.table_definitions.specs.Lists.{in_place_of};
 ghost use Rattle.std.specs.List.{position_or_len};
 ghost use Rattle.table_definitions.specs.Permutation.{IsPermutationOfFour};

@@ -13,7 +13,7 @@ use Rattle.document_laws.proofs.Local.{shows, Goes, goes_chained, goes_pure}
 use Rattle.document_laws.proofs.LocalWords.{as_is, word_with, ending, goes_word, goes_end}
 use Rattle.document_laws.proofs.LocalLines.{next_line, goes_line}
 use Rattle.document_laws.proofs.LocalForms.{exact_test, exact_word, goes_number, goes_numbers, goes_vector}
-use Rattle.document_laws.proofs.Ways.{Sat, From, Alike, alike_goes, Well, WellOpen, sat_both, well_free, well_goes, well_open, well_behind, from_sat, sat_mapped, well_mapped}
+use Rattle.document_laws.proofs.Ways.{Sat, From, Then, Alike, alike_goes, Well, WellOpen, sat_both, well_free, well_goes, well_open, well_behind, from_sat, sat_mapped, well_mapped}
 use Rattle.document_laws.proofs.WordWays.{free_word, sat_word, well_word, sat_end, well_end, free_line, well_line, free_number, sat_number, well_number}
 use Rattle.document_laws.proofs.VectorWays.{well_numbers_in, well_vector}
 use Rattle.document_laws.proofs.TextReaders.{Read, left_only, shown_only, Copies, copy_bind, copy_then, copy_same, copy_alone}
@@ -222,16 +222,13 @@ module _ (Aim : ⊤ → List Sign → Type 0) (k : Reading) (none : k.current.to
       well_behind as_is next_line (λ u. term_words) Aim (λ u. alike_term_words) c (free_line c) (well_line (λ u ss. From term_words Aim ss) c sat_term_words.start (from_sat term_words Aim sat_term_words)) (λ u d e. well_term_words d)
 
 -- so many lines of terms
-abbrev ThenTerms : ℕ → (⊤ → List Sign → Type 0) → ⊤ → List Sign → Type 0
-ThenTerms n Aim u ss = From (terms_text n) Aim ss
-
 pure_terms : (Aim : ⊤ → List Sign → Type 0) (k : Reading) → k.current.tokens ≡ [] → Aim tt (shows k) → SatBehind (terms_text 0) Aim
 unfolding terms_text
 pure_terms Aim k none a = record { sat = record { start = k; value = tt; next = k; reads = refl; aim = a }; none = none }
 
 more_terms : (n : ℕ) (Aim : ⊤ → List Sign → Type 0) → SatBehind (terms_text n) Aim → SatBehind (terms_text (suc n)) Aim
 unfolding terms_text
-more_terms n Aim r = behind_both term_line (terms_text n) Aim (alike_terms n) (sat_term (ThenTerms n Aim) r.sat.start r.none (from_sat (terms_text n) Aim r.sat))
+more_terms n Aim r = behind_both term_line (terms_text n) Aim (alike_terms n) (sat_term (Then (λ u. terms_text n) Aim) r.sat.start r.none (from_sat (terms_text n) Aim r.sat))
 
 module _ (Aim : ⊤ → List Sign → Type 0) (k : Reading) (none : k.current.tokens ≡ []) (a : Aim tt (shows k)) where
   sat_terms : (n : ℕ) → SatBehind (terms_text n) Aim
@@ -243,16 +240,16 @@ module _ (Aim : ⊤ → List Sign → Type 0) (k : Reading) (none : k.current.to
   well_terms zero c = λ f e. absurd cc
   well_terms (suc n) c =
       let r : SatBehind (terms_text n) Aim = sat_terms n in
-      well_open as_is term_line (λ u. terms_text n) Aim (λ u. alike_terms n) c (goes_term c) (well_term (ThenTerms n Aim) r.sat.start r.none (from_sat (terms_text n) Aim r.sat) c) (λ u d e. well_terms n d)
+      well_open as_is term_line (λ u. terms_text n) Aim (λ u. alike_terms n) c (goes_term c) (well_term (Then (λ u. terms_text n) Aim) r.sat.start r.none (from_sat (terms_text n) Aim r.sat) c) (λ u d e. well_terms n d)
 
-  sat_ending : (n : ℕ) → Sat ending (ThenTerms n Aim)
-  sat_ending n = (let r : SatBehind (terms_text n) Aim = sat_terms n in sat_end (ThenTerms n Aim) r.sat.start r.none (from_sat (terms_text n) Aim r.sat))
+  sat_ending : (n : ℕ) → Sat ending (Then (λ u. terms_text n) Aim)
+  sat_ending n = (let r : SatBehind (terms_text n) Aim = sat_terms n in sat_end (Then (λ u. terms_text n) Aim) r.sat.start r.none (from_sat (terms_text n) Aim r.sat))
 
   sat_counted : (n : ℕ) → Sat (counted n) Aim
   sat_counted n = sat_both as_is ending (λ u. terms_text n) Aim (λ u. alike_terms n) (sat_ending n)
 
   well_counted : (n : ℕ) (c : Reading) → Well as_is (counted n) Aim c
-  well_counted n c = well_goes as_is ending (λ u. terms_text n) Aim (λ u. alike_terms n) c (goes_end c) (well_end (ThenTerms n Aim) c (sat_ending n)) (λ u d e. well_terms n d)
+  well_counted n c = well_goes as_is ending (λ u. terms_text n) Aim (λ u. alike_terms n) c (goes_end c) (well_end (Then (λ u. terms_text n) Aim) c (sat_ending n)) (λ u d e. well_terms n d)
 
   -- a line `times S T` and T terms
   abbrev ThenCounted : ℕ → List Sign → Type 0

@@ -18,7 +18,7 @@ use Rattle.document_laws.proofs.LocalWords.{as_is, word_with, ending, ends_again
 use Rattle.document_laws.proofs.LocalLines.{next_line, ends_shown}
 use Rattle.document_laws.proofs.ConeSteps.{closed_row, row_on}
 use Rattle.document_laws.proofs.LocalForms.{number_test, signed_test, signed_word, exact_test, exact_word, exactly, goes_number, goes_coefficients, goes_closed, goes_row, goes_rows, goes_cone_rows, cone_of, after_end, after_count, after_columns, after_name}
-use Rattle.document_laws.proofs.Ways.{Sat, From, alike_each, Well, WellOpen, Free, sat_both, well_free, well_goes, well_open, well_behind, free_chained, free_pure, free_same, sat_same, well_same, well_open_same, from_sat, sat_mapped, well_mapped, well_open_mapped}
+use Rattle.document_laws.proofs.Ways.{Sat, From, alike_each, Well, WellOpen, Free, sat_both, well_free, well_goes, well_open, well_behind, free_chained, free_pure, free_same, sat_same, well_same, well_open_same, from_sat, mapped, sat_mapped, well_mapped, well_open_mapped}
 use Rattle.document_laws.proofs.WordWays.{free_word, sat_word, well_word, sat_end, well_end, free_line, well_line, free_number, sat_number, well_number}
 use Rattle.document_laws.proofs.Given.{Row, Rows}
 
@@ -85,18 +85,15 @@ well_coefficients (suc n) Aim k a c =
     (λ z d e. well_mapped (coefficients_at n) (λ r. z ∷ r) Aim d (well_coefficients n (λ r. Aim (z ∷ r)) k (λ row. a (z ∷ row)) d))
 
 -- rows
-abbrev ended_row : List ℤ → Reading → Result Row LexFault
-ended_row r c = ending c >>= λ (u : ⊤ × Reading). Ok (r, u.1)
-
-row_ended : (r : List ℤ) (c : Reading) → ended_row r c ≡ closed_row r c
-row_ended r c = alone_bind (end_line_at c) (λ end. Ok (r, end))
-
 module _ (Aim : List ℤ → List Sign → Type 0) (k : Reading) (none : k.current.tokens ≡ []) (a : (row : List ℤ) → Aim row (shows k)) where
+  row_ended : (r : List ℤ) (c : Reading) → mapped ending (λ u. r) Aim c ≡ closed_row r c
+  row_ended r c = alone_bind (end_line_at c) (λ end. Ok (r, end))
+
   from_closed : (r : List ℤ) → From (closed_row r) Aim (shows k)
   from_closed r = from_sat (closed_row r) Aim (record { start = k; value = r; next = k; reads = sym (row_ended r k) ∙ ap (λ (q : Result (⊤ × Reading) LexFault). q >>= λ (u : ⊤ × Reading). Ok (r, u.1)) (ends_again k (ends_shown k.current.tokens k none)); aim = a r })
 
   well_closed : (r : List ℤ) (c : Reading) → Well as_is (closed_row r) Aim c
-  well_closed r c = well_same as_is (ended_row r) (closed_row r) Aim (row_ended r) c (well_mapped ending (λ u. r) Aim c (well_end (λ u. Aim r) c (sat_end (λ u. Aim r) k none (a r))))
+  well_closed r c = well_same as_is (mapped ending (λ u. r) Aim) (closed_row r) Aim (row_ended r) c (well_mapped ending (λ u. r) Aim c (well_end (λ u. Aim r) c (sat_end (λ u. Aim r) k none (a r))))
 
   sat_row_on : (columns : ℕ) → Sat (row_on columns) Aim
   sat_row_on columns = sat_both as_is (coefficients_at columns) closed_row Aim (alike_each closed_row goes_closed) (sat_coefficients columns (λ r ss. From (closed_row r) Aim ss) k from_closed)
@@ -226,7 +223,7 @@ goes_after_end : (columns n : ℕ) (c : Reading) → Goes (after_end columns n) 
 goes_after_end columns n c = goes_chained (rows_of_cone_at columns n) (λ rows d. Ok (cone_of columns rows, d)) c (goes_cone_rows columns n c) (λ rows last q. goes_pure (cone_of columns rows) last)
 
 goes_after_count : (columns n : ℕ) (c : Reading) → Goes (after_count columns n) c
-goes_after_count columns n c = goes_moved as_is end_line_at (after_end columns n) c (goes_end c) (λ d e. goes_after_end columns n d)
+goes_after_count columns n c = goes_moved end_line_at (after_end columns n) c (goes_end c) (λ d e. goes_after_end columns n d)
 
 goes_after_columns : (columns : ℕ) (c : Reading) → Goes (after_columns columns) c
 goes_after_columns columns c = goes_chained (number_at 10000) (after_count columns) c (goes_number 10000 c) (λ n d e. goes_after_count columns n d)

@@ -51,16 +51,20 @@ cones_read c cone rest = (
   λ h. (let r : ReadsLines c cone rest = cone_found c cone h.0 rest h.1 h.2 in record { left = r.left; read = r.read; later = r.later; at_end = r.at_end }),
 )
 
-abbrev closed : Cone × Reading → Result Cone LexFault
-closed x = no_line_at x.1 >>= λ (end : Reading). Ok x.0
+-- a cone with no line behind it, from its line on
+abbrev pub closed_cone : Cone → Reading → Result Cone LexFault
+closed_cone cone d = no_line_at d >>= λ (last : Reading). Ok cone
+
+abbrev pub cone_on : Reading → Result Cone LexFault
+cone_on d = cone_at d >>= λ (x : Cone × Reading). closed_cone x.0 x.1
 
 abbrev pub cone_document_at : Reading → Result Cone LexFault
-cone_document_at c = need_line_at c >>= λ (line : Reading). cone_at line >>= closed
+cone_document_at c = need_line_at c >>= cone_on
 
-grouped : (c : Reading) → cone_document_at c ≡ next_cone c >>= closed
+grouped : (c : Reading) → cone_document_at c ≡ next_cone c >>= λ (x : Cone × Reading). closed_cone x.0 x.1
 grouped c = by_line (need_line_at c)
   where
-    by_line : (r : Result Reading LexFault) → (r >>= λ (line : Reading). cone_at line >>= closed) ≡ r >>= cone_at >>= closed
+    by_line : (r : Result Reading LexFault) → (r >>= cone_on) ≡ r >>= cone_at >>= λ (x : Cone × Reading). closed_cone x.0 x.1
     by_line (Ok x) = refl
     by_line (Err f) = refl
 

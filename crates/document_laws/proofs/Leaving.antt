@@ -1,5 +1,5 @@
 -- Documents: where one is refused, its lines leave the grammar.
-use Rattle.std.proofs.Common.{◌≡◌, ◌≢◌, ℕ, List, [], ◌∷◌, ◌++◌, Some, Result, Ok, Err, refl, sym, ap, ◌∙◌}
+use Rattle.std.proofs.Common.{◌≡◌, ◌≢◌, ℕ, List, [], ◌∷◌, ◌++◌, Some, Result, Ok, refl, sym, ap, ◌∙◌}
 use Rattle.std.specs.Prelude.{⊤}
 use Rattle.text_definitions.specs.declared.Place.{Place}
 use Rattle.text_definitions.specs.declared.LexFault.{LexFault}
@@ -27,8 +27,7 @@ pub begun_signs : (c : Reading) (l : Line) (ls : List Line) → signs_of c.input
 unfolding signs_of
 begun_signs c l ls = refl
 
-module _ {X E : Type 0} (lexical : LexFault → E) (stop go : Reading → Result X E)
-    (at_end : (c : Reading) (f : LexFault) → stop c ≡ Err (lexical f) → (f.place ≡ c.input_end) × ((d : Reading) (x : X) → stop d ≢ Ok x)) where
+module _ {X E : Type 0} (stop go : Reading → Result X E) where
   abbrev pub reads : Reading → Result X E
   reads c = by_lines stop go c.later c
 
@@ -85,6 +84,3 @@ no_line_alone c = by_list c.later
     by_list : (ls : List Line) → by_lines none_stop ending ls c ≡ alone (no_line_from ls c)
     by_list [] = refl
     by_list (l ∷ ls) = refl
-
-pub none_never : (c : Reading) (f : LexFault) → none_stop c ≢ Err f
-none_never c f e = absurd cc

@@ -9,16 +9,16 @@ use Rattle.text_definitions.specs.Reading.{Reading, ◌>>=◌, begun, start_of}
 use Rattle.cone_text_definitions.specs.ConeText.{Cone, cone_at}
 use Rattle.document_definitions.specs.ConeGrammar.{AreConeLines}
 use Rattle.document_definitions.specs.Documents.{no_line_at, no_line_from, cone_document}
-use Rattle.document_definitions.specs.Signs.{Sign, line_end, input_end, Placed, token_sign, line_signs, signs_of, plain, FirstLeavesAt}
+use Rattle.document_definitions.specs.Signs.{Sign, line_end, input_end, Placed, token_sign, line_signs, signs_of, plain, LeavesAt, FirstLeavesAt}
 use Rattle.document_laws.specs.FaultLaws.{ConeFaultsLeave, SomeCone}
 use Rattle.document_laws.proofs.ConeReading.{ConeRead, cone_read}
-use Rattle.document_laws.proofs.Cones.{cone_document_found}
+use Rattle.document_laws.proofs.Cones.{closed_cone, cone_on, cone_document_found}
 use Rattle.document_laws.proofs.Local.{shows, opening, plain-append, GoesOn, StopsAt, bind_err, stops_early, stops_late, alone, alone_bind}
-use Rattle.document_laws.proofs.LocalWords.{as_is, ending, StopsHere, stops_end_here}
+use Rattle.document_laws.proofs.LocalWords.{ending, StopsHere, stops_end_here}
 use Rattle.document_laws.proofs.LocalLines.{by_lines, in_line, rest_here, line_split, behind_line as behind_rest, no_input_end}
 use Rattle.document_laws.proofs.LocalForms.{goes_cone}
-use Rattle.document_laws.proofs.Leaving.{behind_end, behind_line, start_with, leaves, none_stop, no_line_alone, none_never}
-use Rattle.document_laws.proofs.LeavingDocuments.{no_line, no_line_ends, closed_cone, cone_on, cone_by_line}
+use Rattle.document_laws.proofs.Leaving.{StopsBehind, behind_end, behind_line, start_with, leaves, none_stop, no_line_alone}
+use Rattle.document_laws.proofs.LeavingDocuments.{no_line, no_line_ends, cone_by_line}
 use Rattle.document_laws.proofs.Ways.{Way, graft}
 use Rattle.document_laws.proofs.WordWays.{opens_rest}
 use Rattle.document_laws.proofs.ConeWays.{last_signs, IsLast, sat_cone, well_cone}
@@ -62,12 +62,12 @@ whole_cone o cone d r none =
 some_cone : (o : Reading) (cone : Cone) (d : Reading) → cone_at o ≡ Ok (cone, d) → d.later ≡ [] → SomeCone (o.current ∷ o.later)
 some_cone o cone d e none = (cone, whole_cone o cone d (cone_read o cone d e) none)
 
--- the document, by its first line
-abbrev doc : Reading → Result Cone LexFault
-doc c = by_lines no_line cone_on c.later c
-
-doc_found : (bytes : List ℕ) (others : List Line) → SomeCone others → (x : Cone) × (doc (start_with bytes others) ≡ Ok x)
+doc_found : (bytes : List ℕ) (others : List Line) → SomeCone others → (x : Cone) × (by_lines no_line cone_on others (start_with bytes others) ≡ Ok x)
 doc_found bytes others g = (g.0, cone_by_line (start_with bytes others) ∙ cone_document_found (start_with bytes others) g.0 g.1)
+
+-- where the document stops behind its start, no cone goes on
+abbrev left_at : (bytes : List ℕ) (p : Place) → StopsBehind (λ c. by_lines no_line cone_on c.later c) (start_of bytes) p → LeavesAt SomeCone (end_of bytes) (lines_of bytes) p
+left_at bytes p h = leaves (λ c. by_lines no_line cone_on c.later c) SomeCone bytes p h (doc_found bytes)
 
 abbrev First : List ℕ → Place → Type 0
 First bytes p = FirstLeavesAt SomeCone (end_of bytes) (lines_of bytes) p
@@ -75,7 +75,7 @@ First bytes p = FirstLeavesAt SomeCone (end_of bytes) (lines_of bytes) p
 -- no line is there
 first_of_none : (bytes : List ℕ) (p : Place) → lines_of bytes ≡ [] → p ≡ end_of bytes → First bytes p
 first_of_none bytes p split there = record {
-  leaves = leaves doc SomeCone bytes p (behind_end as_is no_line cone_on no_line_ends (start_of bytes) p split there (λ d x q. absurd cc)) (doc_found bytes);
+  leaves = left_at bytes p (behind_end no_line cone_on (start_of bytes) p split there (λ d x q. absurd cc));
   others = sat_cone.start.current ∷ sat_cone.start.later;
   more = plain (signs_of (end_of bytes) (sat_cone.start.current ∷ sat_cone.start.later));
   shown_before = refl;
@@ -90,7 +90,7 @@ first_of_cone bytes l ls p split u =
     let c : Reading = start_of bytes in
     let w : Way cone_at u.0.front IsLast = u.1 in
     record {
-      leaves = leaves doc SomeCone bytes p (behind_line as_is no_line cone_on no_line_ends c l ls p split (stops_early as_is cone_at closed_cone (begun l ls c) p u.0)) (doc_found bytes);
+      leaves = left_at bytes p (behind_line no_line cone_on c l ls p split (stops_early cone_at closed_cone (begun l ls c) p u.0));
       others = w.other.current ∷ w.other.later;
       more = w.more;
       shown_before = as_lines (end_of bytes) w.other ∙ w.there;
@@ -105,13 +105,13 @@ past_in : (ls : List Line) (d : Reading) → d.later ≡ ls → (f : LexFault) �
 past_in [] d split f e = absurd cc
 past_in (l ∷ ls) d split f e =
     let h : StopsHere ending (begun l ls d) f.place = stops_end_here l.tokens (begun l ls d) f (ap alone e) in
-    (in_line as_is none_stop ending none_never d l ls f.place split h.0, ap (λ (fr : List Placed). rest_here d ++ fr) h.1 ∙ append-nil (rest_here d))
+    (in_line none_stop ending d l ls f.place split h.0, ap (λ (fr : List Placed). rest_here d ++ fr) h.1 ∙ append-nil (rest_here d))
 
 past_cone : (cone : Cone) (d : Reading) (f : LexFault) → no_line_at d ≡ Err f → StopsPast (closed_cone cone) d f.place
 past_cone cone d f e =
     let alone_past : StopsPast (λ c. alone (no_line_at c)) d f.place =
     subst (λ (q : Reading → Result (⊤ × Reading) LexFault). StopsPast q d f.place) (λ i c. no_line_alone c i) (past_in d.later d refl f e) in
-    let closed : StopsPast (λ c. alone (no_line_at c) >>= λ (u : ⊤ × Reading). Ok cone) d f.place = (stops_early as_is (λ c. alone (no_line_at c)) (λ u c. Ok cone) d f.place alone_past.0, alone_past.1) in
+    let closed : StopsPast (λ c. alone (no_line_at c) >>= λ (u : ⊤ × Reading). Ok cone) d f.place = (stops_early (λ c. alone (no_line_at c)) (λ u c. Ok cone) d f.place alone_past.0, alone_past.1) in
     subst (λ (q : Reading → Result Cone LexFault). StopsPast q d f.place) (λ i c. alone_bind (no_line_at c) (λ last. Ok cone) i) closed
 
 abbrev pub cut : Reading → Reading
@@ -129,7 +129,7 @@ first_past_cone bytes l ls p cone d split g h =
     let n : (next : Reading) × (cone_at gr.0 ≡ Ok (cone, next)) × (shows next ≡ shows (cut d)) = g.same gr.0 (shows (cut d)) gr.1 opens in
     let none : n.0.later ≡ [] = no_lines n.0.input_end n.0.later (behind_rest d n.0 (input_end ∷ []) (n.2 ∙ cut_shows d)) in
     record {
-      leaves = leaves doc SomeCone bytes p (behind_line as_is no_line cone_on no_line_ends c l ls p split (stops_late as_is cone_at closed_cone (begun l ls c) cone d p g h.0)) (doc_found bytes);
+      leaves = left_at bytes p (behind_line no_line cone_on c l ls p split (stops_late cone_at closed_cone (begun l ls c) cone d p g h.0));
       others = gr.0.current ∷ gr.0.later;
       more = input_end ∷ [];
       shown_before =

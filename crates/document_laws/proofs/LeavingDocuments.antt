@@ -4,9 +4,7 @@ use Rattle.text_definitions.specs.declared.LexKind.TheVariants.{MissingWord}
 use Rattle.text_definitions.specs.declared.LexFault.{LexFault}
 use Rattle.text_definitions.specs.Text.{Line}
 use Rattle.text_definitions.specs.Reading.{Reading, ◌>>=◌, need_line_at, line_from}
-use Rattle.cone_text_definitions.specs.ConeText.{Cone, cone_at}
-use Rattle.document_definitions.specs.Documents.{no_line_at}
-use Rattle.document_laws.proofs.Cones.{cone_document_at}
+use Rattle.document_laws.proofs.Cones.{cone_on, cone_document_at}
 use Rattle.document_laws.proofs.LocalLines.{by_lines}
 
 -- the fault of a line that is wanted where none is left
@@ -20,12 +18,6 @@ pub no_line_ends : {X : Type 0} (c : Reading) (f : LexFault) → no_line {X = X}
 no_line_ends c f e = (let same : missing c ≡ f = cc in (ap (λ (g : LexFault). g.place) (sym same), λ d x p. absurd cc))
 
 -- a cone
-abbrev pub closed_cone : Cone → Reading → Result Cone LexFault
-closed_cone cone d = no_line_at d >>= λ (last : Reading). Ok cone
-
-abbrev pub cone_on : Reading → Result Cone LexFault
-cone_on d = cone_at d >>= λ (x : Cone × Reading). closed_cone x.0 x.1
-
 pub cone_by_line : (c : Reading) → by_lines no_line cone_on c.later c ≡ cone_document_at c
 unfolding need_line_at
 cone_by_line c = by_list c.later

@@ -3,7 +3,6 @@ use Rattle.std.proofs.Common.{◌≡◌, ◌≢◌, List, [], ◌∷◌, ◌++�
 use Rattle.std.specs.Prelude.{⊤}
 use Rattle.std.proofs.lemmas.List.{append_assoc, map-append}
 use Rattle.text_definitions.specs.declared.Place.{Place}
-use Rattle.text_definitions.specs.declared.LexFault.{LexFault}
 use Rattle.text_definitions.specs.Reading.{Reading, ◌>>=◌}
 use Rattle.text_definitions.proofs.Readers.{bind_ok}
 use Rattle.document_definitions.specs.Signs.{Sign, Placed, line_signs, signs_of, plain}
@@ -75,7 +74,7 @@ module _ {A B E : Type 0} (first : Reading → Result (A × Reading) E) (second 
       let b : (y : A × Reading) × (first c ≡ Ok y) × (second y.0 y.1 ≡ Ok (z, last)) = bind_ok (first c) (λ (y : A × Reading). second y.0 y.1) (z, last) e in
       goes_joined c (b.0).0 (b.0).1 z last (g (b.0).0 (b.0).1 b.1) (h (b.0).0 (b.0).1 b.1 z last b.2)
 
-module _ {A X E : Type 0} (lexical : LexFault → E) (first : Reading → Result (A × Reading) E) (second : A → Reading → Result X E) where
+module _ {A X E : Type 0} (first : Reading → Result (A × Reading) E) (second : A → Reading → Result X E) where
   abbrev pub ended : Reading → Result X E
   ended c = first c >>= λ (y : A × Reading). second y.0 y.1
 
@@ -127,7 +126,7 @@ pub alone_ok : {E : Type 0} (r : Result Reading E) (x : ⊤) (d : Reading) → a
 alone_ok (Ok y) x d e = let parts : (tt ≡ x) × (y ≡ d) = ok_parts (tt, y) (x, d) e in ap (λ (r : Reading). Ok r) parts.1
 alone_ok (Err f) x d e = absurd cc
 
-module _ {E : Type 0} (lexical : LexFault → E) (move : Reading → Result Reading E) where
+module _ {E : Type 0} (move : Reading → Result Reading E) where
   abbrev pub moved : Reading → Result (⊤ × Reading) E
   moved c = alone (move c)
 

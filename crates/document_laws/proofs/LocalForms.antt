@@ -12,7 +12,7 @@ use Rattle.cone_text_definitions.specs.ConeText.{Cone, coefficients_at, cone_row
 use Rattle.table_definitions.proofs.ReadingLaws.{TakesNumber, number_read}
 use Rattle.document_laws.proofs.ConeSteps.{closed_row, row_on}
 use Rattle.document_laws.proofs.Local.{Goes, goes_chained, goes_pure, goes_same, alone, goes_moved}
-use Rattle.document_laws.proofs.LocalWords.{as_is, tested, word_with, goes_word, goes_end}
+use Rattle.document_laws.proofs.LocalWords.{tested, word_with, goes_word, goes_end}
 use Rattle.document_laws.proofs.LocalLines.{goes_line, by_end, by_ends, goes_by_end}
 use Rattle.document_laws.proofs.Given.{Numbers, Row, Rows}
 
@@ -133,7 +133,7 @@ module _ (max : ℕ) where
 -- vectors
 pub goes_vector : (c : Reading) → Goes vector_at c
 unfolding vector_at
-goes_vector c = goes_moved as_is (exactly_at (codes "vec")) (numbers_at limit) c (goes_exactly (codes "vec") c) (λ d e. goes_numbers limit d)
+goes_vector c = goes_moved (exactly_at (codes "vec")) (numbers_at limit) c (goes_exactly (codes "vec") c) (λ d e. goes_numbers limit d)
 
 -- coefficients, rows and cones
 pub goes_coefficients : (n : ℕ) (c : Reading) → Goes (coefficients_at n) c
@@ -144,11 +144,11 @@ goes_coefficients (suc n) c =
     (λ z d e. goes_chained (coefficients_at n) (λ r d'. Ok (z ∷ r, d')) d (goes_coefficients n d) (λ r last q. goes_pure (z ∷ r) last))
 
 pub goes_closed : (r : List ℤ) (d : Reading) → Goes (closed_row r) d
-goes_closed r d = goes_moved as_is end_line_at (λ end. Ok (r, end)) d (goes_end d) (λ end e. goes_pure r end)
+goes_closed r d = goes_moved end_line_at (λ end. Ok (r, end)) d (goes_end d) (λ end e. goes_pure r end)
 
 pub goes_row : (columns : ℕ) (c : Reading) → Goes (cone_row_at columns) c
 unfolding cone_row_at
-goes_row columns c = goes_moved as_is need_line_at (row_on columns) c (goes_line c) (λ d e. goes_chained (coefficients_at columns) closed_row d (goes_coefficients columns d) (λ r d' q. goes_closed r d'))
+goes_row columns c = goes_moved need_line_at (row_on columns) c (goes_line c) (λ d e. goes_chained (coefficients_at columns) closed_row d (goes_coefficients columns d) (λ r d' q. goes_closed r d'))
 
 pub goes_rows : (n columns : ℕ) (c : Reading) → Goes (cone_rows_at n columns) c
 unfolding cone_rows_at
@@ -182,8 +182,8 @@ after_name d = number_at 10000 d >>= λ (n : ℕ × Reading). after_columns n.0 
 pub goes_cone : (c : Reading) → Goes cone_at c
 unfolding cone_at
 goes_cone c =
-    goes_moved as_is (exactly_at (codes "cone")) after_name c (goes_exactly (codes "cone") c)
+    goes_moved (exactly_at (codes "cone")) after_name c (goes_exactly (codes "cone") c)
     (λ d1 e1. goes_chained (number_at 10000) after_columns d1 (goes_number 10000 d1)
     (λ columns d2 e2. goes_chained (number_at 10000) (after_count columns) d2 (goes_number 10000 d2)
-    (λ n d3 e3. goes_moved as_is end_line_at (after_end columns n) d3 (goes_end d3)
+    (λ n d3 e3. goes_moved end_line_at (after_end columns n) d3 (goes_end d3)
     (λ d4 e4. goes_chained (rows_of_cone_at columns n) (λ rows d. Ok (cone_of columns rows, d)) d4 (goes_cone_rows columns n d4) (λ rows last q. goes_pure (cone_of columns rows) last)))))

@@ -125,7 +125,7 @@ abbrev pub by_lines : {X E : Type 0} → (Reading → Result X E) → (Reading �
 by_lines stop go [] c = stop c
 by_lines stop go (l ∷ ls) c = go (begun l ls c)
 
-module _ {X E : Type 0} (lexical : LexFault → E) (stop go : Reading → Result X E) (never : (c : Reading) (f : LexFault) → stop c ≢ Err (lexical f)) where
+module _ {X E : Type 0} (stop go : Reading → Result X E) where
   abbrev pub by_line : Reading → Result X E
   by_line c = by_lines stop go c.later c
 

@@ -20,7 +20,7 @@ use Rattle.signature_definitions.specs.declared.SigFault.{SigFault}
 use Rattle.signature_definitions.specs.SignatureText.{texted, decoded, signature_table, signature_at, named_table_at, any_table_at}
 use Rattle.document_definitions.specs.Documents.{worded}
 use Rattle.document_laws.proofs.Local.{Goes, goes_chained, goes_pure, goes_same, alone, goes_moved, Lift, goes_lifted}
-use Rattle.document_laws.proofs.LocalWords.{as_is, tested, word_with, goes_word, goes_end}
+use Rattle.document_laws.proofs.LocalWords.{tested, word_with, goes_word, goes_end}
 use Rattle.document_laws.proofs.LocalLines.{goes_line}
 use Rattle.document_laws.proofs.LocalForms.{goes_number}
 use Rattle.document_laws.proofs.Given.{Entry}
@@ -134,12 +134,12 @@ entries c = entry_at c >>= λ (e : Entry). first e.0 e.1
 goes_row : (c : Reading) → Goes row_at c
 unfolding row_at
 goes_row c =
-    goes_moved as_is need_line_at entries c (goes_line c)
+    goes_moved need_line_at entries c (goes_line c)
     (λ c0 p0. goes_chained entry_at first c0 (goes_entry c0)
     (λ e0 c1 p1. goes_chained entry_at (second e0) c1 (goes_entry c1)
     (λ e1 c2 p2. goes_chained entry_at (third e0 e1) c2 (goes_entry c2)
     (λ e2 c3 p3. goes_chained entry_at (fourth e0 e1 e2) c3 (goes_entry c3)
-    (λ e3 c4 p4. goes_moved as_is end_line_at (λ end. Ok (e0 ∷ e1 ∷ e2 ∷ e3 ∷ [], end)) c4 (goes_end c4) (λ end p5. goes_pure (e0 ∷ e1 ∷ e2 ∷ e3 ∷ []) end))))))
+    (λ e3 c4 p4. goes_moved end_line_at (λ end. Ok (e0 ∷ e1 ∷ e2 ∷ e3 ∷ [], end)) c4 (goes_end c4) (λ end p5. goes_pure (e0 ∷ e1 ∷ e2 ∷ e3 ∷ []) end))))))
 
 abbrev pub Rows : Type 0
 Rows = List tables.Row × Reading
@@ -164,7 +164,7 @@ rows_on n d = lexed (rows_at n d) >>= λ (rows : Rows). looked_at rows.0 rows.1
 goes_counted : (n : ℕ) (c : Reading) → Goes (counted_rows_at n) c
 unfolding counted_rows_at
 goes_counted n c =
-    goes_moved Lex (λ d. lexed (end_line_at d)) (rows_on n) c (goes_lexed end_line_at c (goes_end c))
+    goes_moved (λ d. lexed (end_line_at d)) (rows_on n) c (goes_lexed end_line_at c (goes_end c))
     (λ d e. goes_chained (λ b. lexed (rows_at n b)) looked_at d (goes_lifted (λ r. lexed r) lexed_lift (rows_at n) d (goes_rows n d)) (λ rows last q. goes_checked (table_fault rows) rows last))
 
 -- what follows the word `tri`
@@ -210,7 +210,7 @@ goes_signature : (c : Reading) → Goes signature_at c
 unfolding signature_at
 goes_signature c =
     goes_chained a_word text_on c (goes_a_word c)
-    (λ w d e. goes_moved in_text (λ b. worded (end_line_at b)) (λ end. decoded end (signature_table w)) d (goes_worded end_line_at d (goes_end d)) (λ end q. goes_decoded (signature_table w) end))
+    (λ w d e. goes_moved (λ b. worded (end_line_at b)) (λ end. decoded end (signature_table w)) d (goes_worded end_line_at d (goes_end d)) (λ end q. goes_decoded (signature_table w) end))
 
 -- a table by its first word: true for `tri`, false for `sig`
 unfoldable pub name_test : List ℕ → Result Bool LexKind

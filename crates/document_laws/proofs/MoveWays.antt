@@ -105,7 +105,7 @@ module _ {A : Type 0} (x : A) where
   is_closed c = alone_bind (end_line_at c) (λ end. Ok (x, end))
 
   goes_closed : (c : Reading) → Goes closed c
-  goes_closed c = goes_moved as_is end_line_at (λ end. Ok (x, end)) c (goes_end c) (λ end e. goes_pure x end)
+  goes_closed c = goes_moved end_line_at (λ end. Ok (x, end)) c (goes_end c) (λ end e. goes_pure x end)
 
   module _ (Aim : A → List Sign → Type 0) (k : Reading) (none : k.current.tokens ≡ []) (a : Aim x (shows k)) where
     well_closed : (c : Reading) → Well as_is closed Aim c

@@ -164,7 +164,7 @@ module _ {A : Type 0} (line : Reading → Result (A × Reading) LexFault) where
         let w : Way (go_each most) u.0.front AtEnd = u.1 in
         let o : Reading = record w.other { current = c.current; later = w.other.current ∷ w.other.later } in
         let there : shows o ≡ plain (rest_here c) ++ shows w.other = ap plain (split_line o w.other.current w.other.later refl) ∙ plain-append (rest_here c) (left_signs w.other) in (
-          in_line as_is stop_each (go_each most) (λ d f e. absurd cc) c l ls p split u.0,
+          in_line stop_each (go_each most) c l ls p split u.0,
           record {
             other = o;
             more = w.more;

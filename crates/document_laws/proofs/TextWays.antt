@@ -12,7 +12,7 @@ use Rattle.document_laws.proofs.LocalWords.{as_is, word_with, ending, goes_word,
 use Rattle.document_laws.proofs.LocalLines.{next_line, goes_line}
 use Rattle.document_laws.proofs.LocalForms.{goes_number}
 use Rattle.document_laws.proofs.LocalTables.{entry_test, any_text, name_test}
-use Rattle.document_laws.proofs.Ways.{Sat, From, Alike, alike_goes, again_from, Well, WellOpen, sat_both, well_free, well_goes, well_open, well_behind, from_sat, line_before}
+use Rattle.document_laws.proofs.Ways.{Sat, From, Then, Alike, alike_goes, again_from, Well, WellOpen, sat_both, well_free, well_goes, well_open, well_behind, from_sat, line_before}
 use Rattle.document_laws.proofs.WordWays.{free_word, sat_word, well_word, sat_end, well_end, free_line, well_line, free_number, sat_number, well_number}
 use Rattle.document_laws.proofs.TextReaders.{Read, words_at, row_text, row_line, rows_text, counted_text, tri_text, sig_text, text_named, text_at, next_text}
 use Rattle.document_laws.proofs.TextGrammar.{tri_passes}
@@ -112,9 +112,6 @@ module _ (Aim : ⊤ → List Sign → Type 0) (k : Reading) (none : k.current.to
 alike_rows : (n : ℕ) (u : ⊤) → Alike (rows_text n)
 alike_rows n u = alike_goes (rows_text n) (goes_rows n)
 
-abbrev ThenRows : ℕ → (⊤ → List Sign → Type 0) → ⊤ → List Sign → Type 0
-ThenRows n Aim u ss = From (rows_text n) Aim ss
-
 pure_rows : (Aim : ⊤ → List Sign → Type 0) (k : Reading) → k.current.tokens ≡ [] → Aim tt (shows k) → SatBehind (rows_text 0) Aim
 unfolding rows_text
 pure_rows Aim k none a = record { sat = record { start = k; value = tt; next = k; reads = refl; aim = a }; none = none }
@@ -130,7 +127,7 @@ behind_both first second Aim alike s =
 
 more_rows : (n : ℕ) (Aim : ⊤ → List Sign → Type 0) → SatBehind (rows_text n) Aim → SatBehind (rows_text (suc n)) Aim
 unfolding rows_text
-more_rows n Aim r = behind_both row_line (rows_text n) Aim (alike_rows n tt) (sat_row (ThenRows n Aim) r.sat.start r.none (from_sat (rows_text n) Aim r.sat))
+more_rows n Aim r = behind_both row_line (rows_text n) Aim (alike_rows n tt) (sat_row (Then (λ u. rows_text n) Aim) r.sat.start r.none (from_sat (rows_text n) Aim r.sat))
 
 module _ (Aim : ⊤ → List Sign → Type 0) (k : Reading) (none : k.current.tokens ≡ []) (a : Aim tt (shows k)) where
   sat_rows : (n : ℕ) → SatBehind (rows_text n) Aim
@@ -142,16 +139,16 @@ module _ (Aim : ⊤ → List Sign → Type 0) (k : Reading) (none : k.current.to
   well_rows zero c = λ f e. absurd cc
   well_rows (suc n) c =
       let r : SatBehind (rows_text n) Aim = sat_rows n in
-      well_open as_is row_line (λ u. rows_text n) Aim (alike_rows n) c (goes_row c) (well_row (ThenRows n Aim) r.sat.start r.none (from_sat (rows_text n) Aim r.sat) c) (λ u d e. well_rows n d)
+      well_open as_is row_line (λ u. rows_text n) Aim (alike_rows n) c (goes_row c) (well_row (Then (λ u. rows_text n) Aim) r.sat.start r.none (from_sat (rows_text n) Aim r.sat) c) (λ u d e. well_rows n d)
 
-  sat_ending : (n : ℕ) → Sat ending (ThenRows n Aim)
-  sat_ending n = (let r : SatBehind (rows_text n) Aim = sat_rows n in sat_end (ThenRows n Aim) r.sat.start r.none (from_sat (rows_text n) Aim r.sat))
+  sat_ending : (n : ℕ) → Sat ending (Then (λ u. rows_text n) Aim)
+  sat_ending n = (let r : SatBehind (rows_text n) Aim = sat_rows n in sat_end (Then (λ u. rows_text n) Aim) r.sat.start r.none (from_sat (rows_text n) Aim r.sat))
 
   sat_counted : (n : ℕ) → Sat (counted_text n) Aim
   sat_counted n = sat_both as_is ending (λ u. rows_text n) Aim (alike_rows n) (sat_ending n)
 
   well_counted : (n : ℕ) (c : Reading) → Well as_is (counted_text n) Aim c
-  well_counted n c = well_goes as_is ending (λ u. rows_text n) Aim (alike_rows n) c (goes_end c) (well_end (ThenRows n Aim) c (sat_ending n)) (λ u d e. well_rows n d)
+  well_counted n c = well_goes as_is ending (λ u. rows_text n) Aim (alike_rows n) c (goes_end c) (well_end (Then (λ u. rows_text n) Aim) c (sat_ending n)) (λ u d e. well_rows n d)
 
 letter_passes : any_text (codes "a") ≡ Ok (codes "a")
 unfolding any_text

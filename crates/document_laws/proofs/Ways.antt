@@ -132,24 +132,25 @@ again_from read Aim g ss f c e =
     let n : (next : Reading) × (read c ≡ Ok (f.value, next)) × (shows next ≡ shows f.next) = g f.start c f.value f.next f.reads (e ∙ sym f.there) in
     (f.value, n.0, n.1, subst (λ (ts : List Sign). Aim f.value ts) (sym n.2) f.aim)
 
+-- the second of two readers can be gone on with to the aim
+abbrev pub Then : {A B E : Type 0} → (A → Reading → Result (B × Reading) E) → (B → List Sign → Type 0) → A → List Sign → Type 0
+Then second Aim x ss = From (second x) Aim ss
+
 -- one reader after another
 module _ {A B E : Type 0} (lexical : LexFault → E) (first : Reading → Result (A × Reading) E) (second : A → Reading → Result (B × Reading) E) (Aim : B → List Sign → Type 0)
     (alike : (x : A) → Alike (second x)) where
-  abbrev pub Then : A → List Sign → Type 0
-  Then x ss = From (second x) Aim ss
-
   abbrev pub both : Reading → Result (B × Reading) E
   both c = first c >>= λ (y : A × Reading). second y.0 y.1
 
   on : (o : Reading) (x : A) (d : Reading) (y : B) (e : Reading) → first o ≡ Ok (x, d) → second x d ≡ Ok (y, e) → both o ≡ Ok (y, e)
   on o x d y e p q = ap (λ (r : Result (A × Reading) E). r >>= λ (y : A × Reading). second y.0 y.1) p ∙ q
 
-  pub sat_both : Sat first Then → Sat both Aim
+  pub sat_both : Sat first (Then second Aim) → Sat both Aim
   sat_both s =
       let a : (y : B) × (e : Reading) × (second s.value s.next ≡ Ok (y, e)) × Aim y (shows e) = again_from (second s.value) Aim (alike s.value) (shows s.next) s.aim s.next refl in
       record { start = s.start; value = a.0; next = a.1; reads = on s.start s.value s.next a.0 a.1 s.reads a.2; aim = a.3 }
 
-  way_early : (front : List Placed) → (w : Way first front Then) → (v : Way both front Aim) × (v.other ≡ w.other)
+  way_early : (front : List Placed) → (w : Way first front (Then second Aim)) → (v : Way both front Aim) × (v.other ≡ w.other)
   way_early front w =
       let a : (y : B) × (e : Reading) × (second w.value w.next ≡ Ok (y, e)) × Aim y (shows e) = again_from (second w.value) Aim (alike w.value) (shows w.next) w.aim w.next refl in
       (record { other = w.other; more = w.more; there = w.there; value = a.0; next = a.1; reads = on w.other w.value w.next a.0 a.1 w.reads a.2; aim = a.3 }, refl)
@@ -177,17 +178,17 @@ module _ {A B E : Type 0} (lexical : LexFault → E) (first : Reading → Result
   case_of : (c : Reading) (f : LexFault) → both c ≡ Err (lexical f) → Case c f
   case_of c f e = bind_err (first c) (λ (y : A × Reading). second y.0 y.1) (lexical f) e
 
-  early : (c : Reading) → Well lexical first Then c → (f : LexFault) → first c ≡ Err (lexical f) → (h : StopsAt both c f.place) × Way both h.front Aim
-  early c w f p = (let u = w f p in (stops_early lexical first second c f.place u.0, (way_early u.0.front u.1).0))
+  early : (c : Reading) → Well lexical first (Then second Aim) c → (f : LexFault) → first c ≡ Err (lexical f) → (h : StopsAt both c f.place) × Way both h.front Aim
+  early c w f p = (let u = w f p in (stops_early first second c f.place u.0, (way_early u.0.front u.1).0))
 
-  pub well_free : (c : Reading) → Free first c → Well lexical first Then c → ((x : A) (d : Reading) → first c ≡ Ok (x, d) → Well lexical (second x) Aim d) → Well lexical both Aim c
+  pub well_free : (c : Reading) → Free first c → Well lexical first (Then second Aim) c → ((x : A) (d : Reading) → first c ≡ Ok (x, d) → Well lexical (second x) Aim d) → Well lexical both Aim c
   well_free c g w1 w2 f e = by_case (case_of c f e)
     where
       late : (x : A) (d : Reading) → FreeOn first c x d → (h : StopsAt (second x) d f.place) × Way (second x) h.front Aim → (h : StopsAt both c f.place) × Way both h.front Aim
       late x d fr u =
           let gr : (o : Reading) × (shows o ≡ plain fr.goes.front ++ shows (u.1.other)) = graft c fr.goes.front d fr.goes.split u.1.other in
           let n : (next : Reading) × (first gr.0 ≡ Ok (x, next)) × (shows next ≡ shows (u.1.other)) = fr.same gr.0 u.1.other gr.1 in
-          (stops_late lexical first second c x d f.place fr.goes u.0, (way_late fr.goes.front u.0.front x u.1 gr.0 n.0 gr.1 n.1 n.2).0)
+          (stops_late first second c x d f.place fr.goes u.0, (way_late fr.goes.front u.0.front x u.1 gr.0 n.0 gr.1 n.1 n.2).0)
 
       by_case : Case c f → (h : StopsAt both c f.place) × Way both h.front Aim
       by_case (inl p) = early c w1 f p
@@ -200,30 +201,30 @@ module _ {A B E : Type 0} (lexical : LexFault → E) (first : Reading → Result
       let gr : (o : Reading) × (shows o ≡ plain g.front ++ shows (u.1.other)) = graft c g.front d g.split u.1.other in
       let n : (next : Reading) × (first gr.0 ≡ Ok (x, next)) × (shows next ≡ shows (u.1.other)) = g.same gr.0 (shows (u.1.other)) gr.1 u.2 in
       let way = way_late g.front u.0.front x u.1 gr.0 n.0 gr.1 n.1 n.2 in (
-        stops_late lexical first second c x d p g u.0,
+        stops_late first second c x d p g u.0,
         way.0,
         ap (λ (r : Reading). opening (shows r)) way.1 ∙ ap opening gr.1 ∙ opening_more (plain g.front) (shows (u.1.other)) (shows d) u.2 ∙ sym (ap opening (shows_split c d g.front g.split)),
       )
 
-  pub well_goes : (c : Reading) → Goes first c → Well lexical first Then c → ((x : A) (d : Reading) → first c ≡ Ok (x, d) → WellOpen lexical (second x) Aim d) → Well lexical both Aim c
+  pub well_goes : (c : Reading) → Goes first c → Well lexical first (Then second Aim) c → ((x : A) (d : Reading) → first c ≡ Ok (x, d) → WellOpen lexical (second x) Aim d) → Well lexical both Aim c
   well_goes c g w1 w2 f e = by_case (case_of c f e)
     where
       by_case : Case c f → (h : StopsAt both c f.place) × Way both h.front Aim
       by_case (inl p) = early c w1 f p
       by_case (inr (y, p, q)) = (let u = late_open c y.0 y.1 f.place (g y.0 y.1 p) (w2 y.0 y.1 p f q) in (u.0, u.1))
 
-  pub well_open : (c : Reading) → Goes first c → WellOpen lexical first Then c → ((x : A) (d : Reading) → first c ≡ Ok (x, d) → WellOpen lexical (second x) Aim d) → WellOpen lexical both Aim c
+  pub well_open : (c : Reading) → Goes first c → WellOpen lexical first (Then second Aim) c → ((x : A) (d : Reading) → first c ≡ Ok (x, d) → WellOpen lexical (second x) Aim d) → WellOpen lexical both Aim c
   well_open c g w1 w2 f e = by_case (case_of c f e)
     where
       by_case : Case c f → (h : StopsAt both c f.place) × (w : Way both h.front Aim) × (opening (shows w.other) ≡ opening (shows c))
       by_case (inl p) =
           let u = w1 f p in
           let way = way_early u.0.front u.1 in
-          (stops_early lexical first second c f.place u.0, way.0, ap (λ (r : Reading). opening (shows r)) way.1 ∙ u.2)
+          (stops_early first second c f.place u.0, way.0, ap (λ (r : Reading). opening (shows r)) way.1 ∙ u.2)
       by_case (inr (y, p, q)) = late_open c y.0 y.1 f.place (g y.0 y.1 p) (w2 y.0 y.1 p f q)
 
   -- the first reader takes a sign, and doesn't look at the next one
-  pub well_behind : (c : Reading) → ((x : A) (d : Reading) → first c ≡ Ok (x, d) → (fr : FreeOn first c x d) × ((ss : List Sign) → opening (plain fr.goes.front ++ ss) ≡ opening (shows c))) → WellOpen lexical first Then c
+  pub well_behind : (c : Reading) → ((x : A) (d : Reading) → first c ≡ Ok (x, d) → (fr : FreeOn first c x d) × ((ss : List Sign) → opening (plain fr.goes.front ++ ss) ≡ opening (shows c))) → WellOpen lexical first (Then second Aim) c
       → ((x : A) (d : Reading) → first c ≡ Ok (x, d) → Well lexical (second x) Aim d) → WellOpen lexical both Aim c
   well_behind c g w1 w2 f e = by_case (case_of c f e)
     where
@@ -233,13 +234,13 @@ module _ {A B E : Type 0} (lexical : LexFault → E) (first : Reading → Result
           let gr : (o : Reading) × (shows o ≡ plain fr.0.goes.front ++ shows (u.1.other)) = graft c fr.0.goes.front d fr.0.goes.split u.1.other in
           let n : (next : Reading) × (first gr.0 ≡ Ok (x, next)) × (shows next ≡ shows (u.1.other)) = fr.0.same gr.0 u.1.other gr.1 in
           let way = way_late fr.0.goes.front u.0.front x u.1 gr.0 n.0 gr.1 n.1 n.2 in
-          (stops_late lexical first second c x d f.place fr.0.goes u.0, way.0, ap (λ (r : Reading). opening (shows r)) way.1 ∙ ap opening gr.1 ∙ fr.1 (shows (u.1.other)))
+          (stops_late first second c x d f.place fr.0.goes u.0, way.0, ap (λ (r : Reading). opening (shows r)) way.1 ∙ ap opening gr.1 ∙ fr.1 (shows (u.1.other)))
 
       by_case : Case c f → (h : StopsAt both c f.place) × (w : Way both h.front Aim) × (opening (shows w.other) ≡ opening (shows c))
       by_case (inl p) =
           let u = w1 f p in
           let way = way_early u.0.front u.1 in
-          (stops_early lexical first second c f.place u.0, way.0, ap (λ (r : Reading). opening (shows r)) way.1 ∙ u.2)
+          (stops_early first second c f.place u.0, way.0, ap (λ (r : Reading). opening (shows r)) way.1 ∙ u.2)
       by_case (inr (y, p, q)) = late y.0 y.1 (g y.0 y.1 p) (w2 y.0 y.1 p f q)
 
 -- two readers that don't look ahead
@@ -306,7 +307,7 @@ module _ {A B : Type 0} (read : Reading → Result (A × Reading) LexFault) (g :
   well_mapped c w f e = by_case (bind_err (read c) (λ (y : A × Reading). Ok (g y.0, y.1)) f e)
     where
       by_case : (read c ≡ Err f) ⊎ ((y : A × Reading) × (read c ≡ Ok y) × (◌≡◌ {A = Result (B × Reading) LexFault} (Ok (g y.0, y.1)) (Err f))) → (h : StopsAt mapped c f.place) × Way mapped h.front Aim
-      by_case (inl p) = (let u = w f p in (stops_early as_is read (λ x d. Ok (g x, d)) c f.place u.0, (way_mapped u.0.front u.1).0))
+      by_case (inl p) = (let u = w f p in (stops_early read (λ x d. Ok (g x, d)) c f.place u.0, (way_mapped u.0.front u.1).0))
       by_case (inr (y, p, q)) = absurd (never y f q)
 
   pub well_open_mapped : (c : Reading) → WellOpen as_is read Made c → WellOpen as_is mapped Aim c
@@ -317,5 +318,5 @@ module _ {A B : Type 0} (read : Reading → Result (A × Reading) LexFault) (g :
       by_case (inl p) =
           let u = w f p in
           let way = way_mapped u.0.front u.1 in
-          (stops_early as_is read (λ x d. Ok (g x, d)) c f.place u.0, way.0, ap (λ (r : Reading). opening (shows r)) way.1 ∙ u.2)
+          (stops_early read (λ x d. Ok (g x, d)) c f.place u.0, way.0, ap (λ (r : Reading). opening (shows r)) way.1 ∙ u.2)
       by_case (inr (y, p, q)) = absurd (never y f q)

@@ -12,7 +12,7 @@ ghost use Rattle.cover_definitions.specs.Cover as definition;
 use crate::images::{by_images, exchanged, parted};
 use crate::rows::cover_table;
 use crate::sheets;
-use cover_definitions::CoverFault;
+use cover_definitions::LargeCover;
 use gluing_table::{MAX_TETS, Relabelling, Table};
 use no_memory::{Failure, NoMemory};
 use skeleton::Skeleton;
@@ -58,15 +58,15 @@ fn copied(alloc: Global, signs: Option<&[bool]>) -> Result<Option<Vec<bool>>, Al
 impl Cover {
     /// The orientable double cover of a table: a tetrahedron on each of two sheets over each of the table's. Over an odd
     /// gluing the sheet stays, and over an even one it changes (the orientation cover of a triangulation, as in Regina's
-    /// `makeDoubleCover`). Refused as `TooMany` exactly where the cover would have more than [`MAX_TETS`] tetrahedra.
-    pub fn of(alloc: Global, skeleton: &Skeleton) -> Result<Cover, Failure<CoverFault>>
+    /// `makeDoubleCover`). Refused exactly where the cover would have more than [`MAX_TETS`] tetrahedra.
+    pub fn of(alloc: Global, skeleton: &Skeleton) -> Result<Cover, Failure<LargeCover>>
         ensures cover { IfOk result (λ c. c ≡ skeleton.now.rows) }
         ensures fits { OnOk result (definition.cover_fault skeleton.now.rows ≡ None) }
         ensures fault { IfErr result (λ e. IfFault e (λ f. definition.cover_fault skeleton.now.rows ≡ Some f)) }
     {
         let base = skeleton.table();
         if 2 * base.len() > MAX_TETS {
-            return Err(Failure::Fault(CoverFault::TooMany));
+            return Err(Failure::Fault(LargeCover));
         }
         let table = cover_table(alloc, base)?;
         let signs = copied(alloc, skeleton.orientation())?;

@@ -7,5 +7,5 @@ mod rows;
 mod sheets;
 
 pub use cover::Cover;
-pub use cover_definitions::CoverFault;
+pub use cover_definitions::LargeCover;
 pub use no_memory::Failure;

@@ -1,6 +1,6 @@
 //! Sheets of the cover.
 
-ghost use Rattle.std.specs.Prelude.{◌≡◌, ◌+◌, ◌*◌, ◌<◌, ◌≤◌};
+ghost use Rattle.std.specs.Prelude.{◌≡◌, ◌+◌, ◌<◌, ◌≤◌};
 ghost use Rattle.table_definitions.specs.Table.{max_tets};
 ghost use Rattle.cover_definitions.specs.Cover as definition;
 

@@ -1,21 +1,18 @@
 -- The support of a vector in which an entry is set, and of a unit vector.
 use Rattle.std.proofs.Common.{◌≡◌, ℕ, ◌<◌, ◌≤◌, true, false, List, length, replicate, ltb, get_or, set, length-set, get_or-set_same, get_or-set_other, ⊎_elim, ap, sym, ◌∙◌, arith}
 use Rattle.std.proofs.lemmas.Bool.{cases_eq, lt-ltb}
-use Rattle.std.proofs.lemmas.List.{ext_get_or, get_or-replicate, length-map, length-replicate}
+use Rattle.std.proofs.lemmas.List.{ext_get_or, get_or-replicate, length-replicate}
 use Rattle.cone_definitions.specs.Vectors.{unit}
 use Rattle.cone_definitions.proofs.Units.{length-unit, entry-unit_same, entry-unit_other}
 use Rattle.support_bits.specs.Columns.{support_of}
-use Rattle.support_bits.proofs.WordLemmas.{get_or-support_of}
-
-width : (x : List ℕ) → length (support_of x) ≡ length x
-width x = length-map x (λ entry. ltb 0 entry)
+use Rattle.support_bits.proofs.WordLemmas.{get_or-support_of, length-support_of}
 
 -- an entry that isn't 0 gives its column
 pub inserted : (x : List ℕ) (column left : ℕ) → column < length x → 1 ≤ left → set (support_of x) column true ≡ support_of (set x column left)
 inserted x column left within some = ext_get_or false (set (support_of x) column true) (support_of (set x column left))
-    (length-set (support_of x) column true ∙ width x ∙ sym (length-set x column left) ∙ sym (width (set x column left)))
+    (length-set (support_of x) column true ∙ length-support_of x ∙ sym (length-set x column left) ∙ sym (length-support_of (set x column left)))
     (λ j less. ⊎_elim
-    (λ same. ap (λ i. get_or (set (support_of x) column true) i false) same ∙ get_or-set_same (support_of x) column true false (let n = width x in omega (arith, n, within))
+    (λ same. ap (λ i. get_or (set (support_of x) column true) i false) same ∙ get_or-set_same (support_of x) column true false (let n = length-support_of x in omega (arith, n, within))
     ∙ sym (get_or-support_of (set x column left) j ∙ ap (λ i. ltb 0 (get_or (set x column left) i 0)) same ∙ ap (ltb 0) (get_or-set_same x column left 0 within) ∙ lt-ltb 0 left (omega (arith, some))))
     (λ other. get_or-set_other (support_of x) column j true false other ∙ get_or-support_of x j
     ∙ sym (get_or-support_of (set x column left) j ∙ ap (ltb 0) (get_or-set_other x column j left 0 other)))
@@ -24,7 +21,7 @@ inserted x column left within some = ext_get_or false (set (support_of x) column
 -- a unit vector has its column alone
 pub unit_support : (columns place : ℕ) → place < columns → set (replicate columns false) place true ≡ support_of (unit columns place)
 unit_support columns place within = ext_get_or false (set (replicate columns false) place true) (support_of (unit columns place))
-    (length-set (replicate columns false) place true ∙ length-replicate columns false ∙ sym (width (unit columns place) ∙ length-unit columns place))
+    (length-set (replicate columns false) place true ∙ length-replicate columns false ∙ sym (length-support_of (unit columns place) ∙ length-unit columns place))
     (λ j less. ⊎_elim
     (λ same. ap (λ i. get_or (set (replicate columns false) place true) i false) same
     ∙ get_or-set_same (replicate columns false) place true false (let n = length-replicate columns false in omega (arith, n, within))

@@ -16,7 +16,7 @@ use Rattle.support_table.specs.Counts.{columns_in_either}
 use Rattle.support_table.proofs.BitCounts.{columns_of_vectors}
 use Rattle.double_description.specs.Unions.{HasSingle, IsSingle, MakeSinglesPairs}
 use Rattle.cone_definitions.specs.Unordered.{HasSurfaces}
-use Rattle.cone_definitions.proofs.Unordered.{one_place}
+use Rattle.plain_facts.proofs.Lists.{one_place}
 
 -- a ray inside the union of one of a single column and another is one of them
 no_third_beside_single : (columns : ℕ) (rows : List Row) (u w v : List ℕ) → IsPrimitiveExtreme columns rows u → IsPrimitiveExtreme columns rows w → IsPrimitiveExtreme columns rows v →
@@ -46,9 +46,9 @@ module _ (columns : ℕ) (rows : List Row) (pairs : List Clash) (rays : List (Li
 
   third_of_two : (i j k : ℕ) → i < length rays → j < length rays → k < length rays → IsSingle (ray_at rays i) ⊎ IsSingle (ray_at rays j) →
       IsInsideUnion (ray_at rays k) (ray_at rays i) (ray_at rays j) → (k ≡ i) ⊎ (k ≡ j)
-  third_of_two i j k i_in j_in k_in (inl single) inside = ⊎_elim (λ e. inl (one_place rays h.apart i k i_in k_in e)) (λ e. inr (one_place rays h.apart j k j_in k_in e))
+  third_of_two i j k i_in j_in k_in (inl single) inside = ⊎_elim (λ e. inl (one_place rays h.apart k i [] k_in i_in e)) (λ e. inr (one_place rays h.apart k j [] k_in j_in e))
       (no_third_beside_single columns rows (ray_at rays i) (ray_at rays j) (ray_at rays k) (primitive_at i i_in) (primitive_at j j_in) (primitive_at k k_in) single inside)
-  third_of_two i j k i_in j_in k_in (inr single) inside = ⊎_elim (λ e. inr (one_place rays h.apart j k j_in k_in e)) (λ e. inl (one_place rays h.apart i k i_in k_in e))
+  third_of_two i j k i_in j_in k_in (inr single) inside = ⊎_elim (λ e. inr (one_place rays h.apart k j [] k_in j_in e)) (λ e. inl (one_place rays h.apart k i [] k_in i_in e))
       (no_third_beside_single columns rows (ray_at rays j) (ray_at rays i) (ray_at rays k) (primitive_at j j_in) (primitive_at i i_in) (primitive_at k k_in) single (λ c at_w at_u. inside c at_u at_w))
 
   pub single_pairs : MakeSinglesPairs pairs rays

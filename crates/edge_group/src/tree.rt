@@ -1,6 +1,6 @@
 //! The tree of faces that lead from tetrahedron 0 to each other tetrahedron.
 
-ghost use Rattle.std.specs.Prelude.{◌+◌, ◌<◌, ◌↔◌, length, IsTrue, IfOk};
+ghost use Rattle.std.specs.Prelude.{◌<◌, ◌↔◌, length, IsTrue, IfOk};
 ghost use Rattle.table_definitions.specs.Table.{IsTable};
 ghost use Rattle.table_definitions.specs.Places.{IsConnected};
 ghost use Rattle.group_definitions.specs.Groups.{IsTree, IsTreeFaceAt};

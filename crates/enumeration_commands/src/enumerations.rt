@@ -1,8 +1,6 @@
 // The answers of the commands that list rays or surfaces.
-ghost use Rattle.std.specs.Prelude.{◌≡◌, ◌+◌, ◌++◌, List, ℕ, length, codes, decimal, IfOk};
-ghost use Rattle.cone_text_definitions.specs.VectorText.{list_text};
+ghost use Rattle.std.specs.Prelude.{◌≡◌, IfOk};
 ghost use Rattle.outcome_definitions.specs.Enumerations.{list_outcome};
-ghost use Rattle.text_definitions.specs.Written.{line};
 
 use command_answers::Outcome;
 use cone_core::Ray;

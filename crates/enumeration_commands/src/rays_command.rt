@@ -1,5 +1,5 @@
 // The command `rays`: all primitive extreme rays of a cone.
-ghost use Rattle.std.specs.Prelude.{◌≡◌, ◌≢◌, ◌≤◌, length, codes, IfOk};
+ghost use Rattle.std.specs.Prelude.{◌≢◌, ◌≤◌, length, codes, IfOk};
 ghost use Rattle.text_definitions.specs.Text.{max_text};
 ghost use Rattle.cone_definitions.specs.Listings.{without_pairs};
 ghost use Rattle.document_definitions.specs.Documents.{worded, cone_document};

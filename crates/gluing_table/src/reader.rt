@@ -1,6 +1,6 @@
 //! Tables from text.
 
-ghost use Rattle.std.specs.Prelude.{◌≡◌, ◌==◌, ◌<◌, ◌≤◌, length, Some, if◌then◌else◌, nat_lt};
+ghost use Rattle.std.specs.Prelude.{◌≡◌, ◌==◌, ◌<◌, ◌≤◌, length, Some};
 ghost use Rattle.std.specs.List.{position_or_len, before_first, after_first};
 ghost use Rattle.text_definitions.specs.Reading.{Gives, ReadsFrom};
 ghost use Rattle.table_definitions.specs.TableText.{lexed, gluing_of, gluing_entry, entry_at, row_at, rows_at, counted_rows_at, table_at};

@@ -1,6 +1,6 @@
 //! Rows that are taken out of a table, and fresh rows that are put in.
 
-ghost use Rattle.std.specs.Prelude.{◌≡◌, false, ◌==◌, ◌+◌, ◌<◌, ◌≤◌, ◌^◌, [], length, vec_capacity, slice_index_or, if◌then◌else◌, Some, None, option_and_then};
+ghost use Rattle.std.specs.Prelude.{◌≡◌, false, ◌==◌, ◌+◌, ◌<◌, ◌≤◌, ◌^◌, [], length, vec_capacity, if◌then◌else◌, Some, None, option_and_then};
 ghost use Rattle.std.specs.List.Sorted.{IsStrictlyIncreasing};
 ghost use Rattle.table_definitions.specs.Lists.{has, first_some, closed_up};
 ghost use Rattle.table_definitions.specs.Table as gluings;

@@ -2,14 +2,14 @@
 #![tactic(auto)]
 
 /// A generator, by its number from 1, or its inverse.
-#[derive(Clone, Copy, Debug, PartialEq, Eq)]
+#[derive(Clone, Copy, PartialEq, Eq)]
 pub struct Letter {
     pub generator: u32,
     pub inverse: bool,
 }
 
 /// Why a table has no presentation.
-#[derive(Clone, Copy, Debug, PartialEq, Eq)]
+#[derive(Clone, Copy)]
 pub enum GroupFault {
     /// The table isn't connected, and this is the least tetrahedron that no chain of gluings joins to the first.
     NotConnected { tet: u32 },

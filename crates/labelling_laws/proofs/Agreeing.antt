@@ -9,9 +9,9 @@ use Rattle.table_definitions.specs.Table.{Gluing, Row, Face, IsTable, glue}
 use Rattle.table_definitions.specs.Relabelling.{Relabelling, IsRelabelling, Carries, stand_in, face_under, gluing_under}
 use Rattle.table_definitions.proofs.Carried.{stands_for, image_in_range, perm_permutes, images_apart, StandsFor}
 use Rattle.table_definitions.proofs.Permutations.{preimage_below, image-preimage, inverse_permutes, compose_permutes}
-use Rattle.signature_text_laws.specs.Slots.{face_at}
 use Rattle.signature_definitions.specs.Labellings.{Start, IsWalked}
-use Rattle.labelling_laws.proofs.Group.{taken_away}
+use Rattle.table_definitions.proofs.Permutations.{taken_away}
+use Rattle.table_definitions.specs.Places.{face_of}
 use Rattle.labelling_laws.proofs.Standing.{same_relabelling}
 use Rattle.labelling_laws.proofs.Seen.{SeenBelow, tet_below, seen_begun, at_boundary, to_seen, to_next}
 
@@ -71,7 +71,7 @@ module _ (rows new other : List Row) (by others : Relabelling) (table : IsTable 
 
   -- a face that leads to a tetrahedron
   glued_on : (k s t : ℕ) (x : Face) (g : Gluing) → k < 4 * n → Agree k s → x.tet < n → glue rows x ≡ Some g → stand_in by x.tet ≡ stand_in others x.tet
-      → glue new (face_at k) ≡ Some (gluing_under (stand_in by x.tet) (stand_in by g.tet) g) → glue other (face_at k) ≡ Some (gluing_under (stand_in others x.tet) (stand_in others g.tet) g) → (s' : ℕ) × Agree (k + 1) s'
+      → glue new (face_of k) ≡ Some (gluing_under (stand_in by x.tet) (stand_in by g.tet) g) → glue other (face_of k) ≡ Some (gluing_under (stand_in others x.tet) (stand_in others g.tet) g) → (s' : ℕ) × Agree (k + 1) s'
   glued_on k s t x g l a m e same there there' = ⊎_elim old next (cases_lt (slice_index by.images g.tet) s)
     where
       behind : g.tet < n
@@ -135,13 +135,13 @@ module _ (rows new other : List Row) (by others : Relabelling) (table : IsTable 
           lf : preimage p (k % 4) < 4
           lf = preimage_below p hp (k % 4) (omega arith)
 
-          is : face_under (stand_in by t) x ≡ face_at k
+          is : face_under (stand_in by t) x ≡ face_of k
           is = let f = image-preimage p hp (k % 4) (omega arith) in λ i. record { tet = e i; face = f i }
 
-          here : glue new (face_at k) ≡ option_map (λ g. gluing_under (stand_in by t) (stand_in by g.tet) g) (glue rows x)
+          here : glue new (face_of k) ≡ option_map (λ g. gluing_under (stand_in by t) (stand_in by g.tet) g) (glue rows x)
           here = ap (glue new) (sym is) ∙ w.relabels.1.glued x m lf
 
-          here' : glue other (face_at k) ≡ option_map (λ g. gluing_under (stand_in others t) (stand_in others g.tet) g) (glue rows x)
+          here' : glue other (face_of k) ≡ option_map (λ g. gluing_under (stand_in others t) (stand_in others g.tet) g) (glue rows x)
           here' = ap (glue other) (sym is) ∙ ap (λ (q : Gluing). glue other (face_under q x)) same ∙ w'.relabels.1.glued x m lf
 
           cases : (o : Option Gluing) → glue rows x ≡ o → (s' : ℕ) × Agree (k + 1) s'

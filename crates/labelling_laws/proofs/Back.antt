@@ -8,7 +8,7 @@ use Rattle.table_definitions.specs.Relabelling.{Relabelling, IsRelabelling, Carr
 use Rattle.table_definitions.proofs.Permutations.{carried_twice, image_below, image-compose, preimage-image, image-inverse, inverse_permutes, compose_permutes}
 use Rattle.table_definitions.proofs.Carried.{stands_for, image_in_range, perm_permutes, comes_from, images_apart, StandsFor}
 use Rattle.table_definitions.proofs.Faces.{face_at}
-use Rattle.labelling_laws.proofs.Group.{back_again}
+use Rattle.table_definitions.proofs.Carried.{carried_and_back}
 use Rattle.labelling_laws.specs.Between.{place_of, back_of, inverted, after_of, after}
 use Rattle.labelling_laws.proofs.Standing.{made_stands, CanStand, made_relabelling, place_of-image}
 
@@ -67,7 +67,7 @@ carries_back rows new by table h c = record {
                 let m : g.tet < n = table.in_range x g e in
                 let s : List ℕ = slice_index_or by.perms x.tet [] in
                 let r : List ℕ = slice_index_or by.perms g.tet [] in
-                let p : compose (inverse r) (compose (compose r (compose g.perm (inverse s))) (inverse (inverse s))) ≡ g.perm = back_again s r g.perm (perm_permutes n by h x.tet lt) (perm_permutes n by h g.tet m) (table.permutes x g e) in
+                let p : compose (inverse r) (compose (compose r (compose g.perm (inverse s))) (inverse (inverse s))) ≡ g.perm = carried_and_back s r g.perm (perm_permutes n by h x.tet lt) (perm_permutes n by h g.tet m) (table.permutes x g e) in
                 ap (λ (b : Gluing). gluing_under (record { tet = x.tet; perm = inverse s }) b (gluing_under (stand_in by x.tet) (stand_in by g.tet) g)) (inverted_stands n by h g.tet m)
                 ∙ (λ i. record { tet = g.tet; perm = p i })
 

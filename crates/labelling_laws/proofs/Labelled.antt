@@ -8,7 +8,7 @@ use Rattle.table_definitions.specs.Table.{Gluing, Row, IsTable, glue}
 use Rattle.table_definitions.specs.Relabelling.{Relabelling, stand_in}
 use Rattle.signature_definitions.specs.Labellings.{Start, IsWalked}
 use Rattle.table_definitions.proofs.Carried.{carried_is_table}
-use Rattle.signature_text_laws.specs.Slots.{face_at}
+use Rattle.table_definitions.specs.Places.{face_of}
 use Rattle.signature_text_laws.specs.Walks.{Walking, with_type, walk_begun}
 use Rattle.signature_text_laws.proofs.WalkLaws.{walk_begins, walk_ordered}
 use Rattle.labelling_laws.specs.Orders.{start_at, is_met, start_behind, face_from, follow, order_after, whole_order}
@@ -52,7 +52,7 @@ old_gluing : (rows : List Row) (start : Start) (by : Relabelling) (new : List Ro
 old_gluing rows start by new k o h e = ap (λ (s : Start). glue rows (face_from s (k % 4))) (sym h.same) ∙ e
 
 glued_now : (rows : List Row) (start : Start) (by : Relabelling) (new : List Row) (k : ℕ) (o : Option Gluing) → IsFacing rows start by new k → glue rows (face_from (start_here rows start k) (k % 4)) ≡ o
-    → glue new (face_at k) ≡ option_map (new_gluing rows start by k) o
+    → glue new (face_of k) ≡ option_map (new_gluing rows start by k) o
 glued_now rows start by new k o h e = new_glue rows start by new k h.labelled h.full ∙ ap (option_map (new_gluing rows start by k)) e
 
 -- a boundary face
@@ -81,7 +81,7 @@ sees_met rows start by new k g h e met sees =
     ap (slice_index by.images) (sym (ap (λ (r : Start). r.tet) (ext.kept at.0 m) ∙ at.2)) ∙ ap (λ (r : Gluing). r.tet) (h.labelled.numbers at.0 (omega arith)) in
     let stays : order_after rows start (suc k) ≡ order_after rows start k = goes_on rows start by new k g h e ∙ if_true (is_met (order_after rows start k) g.tet) _ _ met in
     sees_on new k (length (order_after rows start k)) (length (order_after rows start (suc k))) (Some (new_gluing rows start by k g)) h.table h.new_place h.number (glued_now rows start by new k (Some g) h e)
-    (λ w q. (let t = takes_seen (face_at k) (new_gluing rows start by k g) w (omega (arith, number_of, q, m)) in (t.0, t.1, t.2 ∙ q ∙ ap length (sym stays)))) sees
+    (λ w q. (let t = takes_seen (face_of k) (new_gluing rows start by k g) w (omega (arith, number_of, q, m)) in (t.0, t.1, t.2 ∙ q ∙ ap length (sym stays)))) sees
 
 -- a face that leads to a new tetrahedron
 sees_unmet : (rows : List Row) (start : Start) (by : Relabelling) (new : List Row) (k : ℕ) (g : Gluing) → IsFacing rows start by new k → glue rows (face_from (start_here rows start k) (k % 4)) ≡ Some g
@@ -110,9 +110,9 @@ sees_unmet rows start by new k g h e unmet sees =
   where
     takes : (w : Walking) → w.seen ≡ length (order_after rows start k) → k / 4 < length (order_after rows start k) → (stand_in by g.tet).tet ≡ length (order_after rows start k)
         → (new_gluing rows start by k g).perm ≡ identity → length (order_after rows start (suc k)) ≡ length (order_after rows start k) + 1
-        → TakesTo (face_at k) (Some (new_gluing rows start by k g)) w (length (order_after rows start (suc k)))
-    takes w q number tet perm size = subst (TakesTo (face_at k) (Some (new_gluing rows start by k g)) w) (ap (λ n. n + 1) q ∙ sym size)
-        (takes_next (face_at k) (new_gluing rows start by k g) w (omega (arith, q, number)) (tet ∙ sym q) perm)
+        → TakesTo (face_of k) (Some (new_gluing rows start by k g)) w (length (order_after rows start (suc k)))
+    takes w q number tet perm size = subst (TakesTo (face_of k) (Some (new_gluing rows start by k g)) w) (ap (λ n. n + 1) q ∙ sym size)
+        (takes_next (face_of k) (new_gluing rows start by k g) w (omega (arith, q, number)) (tet ∙ sym q) perm)
 
 sees_next : (rows : List Row) (start : Start) (by : Relabelling) (new : List Row) (k : ℕ) → IsFacing rows start by new k → Sees new k (length (order_after rows start k)) → Sees new (k + 1) (length (order_after rows start (suc k)))
 sees_next rows start by new k h sees = by_glue (glue rows (face_from (start_here rows start k) (k % 4))) refl

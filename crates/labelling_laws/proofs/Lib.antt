@@ -1,4 +1,3 @@
-pub mod Group
 pub mod Standing
 pub mod Back
 pub mod Kept

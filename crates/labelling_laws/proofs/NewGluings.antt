@@ -7,7 +7,7 @@ use Rattle.table_definitions.specs.Relabelling.{Relabelling, IsRelabelling, Carr
 use Rattle.signature_definitions.specs.Labellings.{Start}
 use Rattle.table_definitions.proofs.Permutations.{preimage_below, image-preimage, inverse_permutes, inverse-inverse, inverse-of-compose, compose_permutes, compose-inverse}
 use Rattle.table_definitions.proofs.Carried.{comes_from}
-use Rattle.signature_text_laws.specs.Slots.{face_at}
+use Rattle.table_definitions.specs.Places.{face_of}
 use Rattle.labelling_laws.specs.Orders.{start_at, face_from, whole_order, IsWholeOrder, Numbers}
 use Rattle.labelling_laws.proofs.Sound.{IsOrder}
 
@@ -35,14 +35,14 @@ new_gluing rows start by k g = gluing_under (record { tet = k / 4; perm = (start
 
 -- the face at a place stands for the face that is taken there
 pub new_glue : (rows : List Row) (start : Start) (by : Relabelling) (new : List Row) (k : ℕ) → IsLabelled rows start by new → k / 4 < length (whole_order rows start)
-    → glue new (face_at k) ≡ option_map (λ g. new_gluing rows start by k g)
+    → glue new (face_of k) ≡ option_map (λ g. new_gluing rows start by k g)
     (glue rows (face_from (start_at (whole_order rows start) (k / 4)) (k % 4)))
 new_glue rows start by new k h l =
     let s : Start = start_at (whole_order rows start) (k / 4) in
     let p : IsPermutationOfFour s.perm = h.order.permutes (k / 4) l in
     let small : k % 4 < 4 = omega arith in
     let stands : stand_in by s.tet ≡ record { tet = k / 4; perm = s.perm } = h.numbers (k / 4) l in
-    let there : face_under (stand_in by s.tet) (face_from s (k % 4)) ≡ face_at k =
+    let there : face_under (stand_in by s.tet) (face_from s (k % 4)) ≡ face_of k =
     ap (λ (r : Gluing). face_under r (face_from s (k % 4))) stands ∙ ap (λ (f : ℕ). record { tet = k / 4; face = f }) (image-preimage s.perm p (k % 4) small) in
     ap (glue new) (sym there) ∙ h.carries.glued (face_from s (k % 4)) (h.order.in_range (k / 4) l) (preimage_below s.perm p (k % 4) small)
     ∙ ap (λ (r : Gluing). option_map (λ g. gluing_under r (stand_in by g.tet) g) (glue rows (face_from s (k % 4)))) stands

@@ -7,7 +7,7 @@ use Rattle.table_definitions.specs.Lists.{same_list}
 use Rattle.table_definitions.specs.Permutation.{identity, image}
 use Rattle.table_definitions.specs.Table.{Gluing, Row, Face, IsTable, glue, other_side, is_face_before}
 use Rattle.table_definitions.proofs.ListFacts.{same_list-refl}
-use Rattle.signature_text_laws.specs.Slots.{face_at}
+use Rattle.table_definitions.specs.Places.{face_of}
 use Rattle.signature_text_laws.specs.Walks.{Walking, take_entry, take_face, IsWalk}
 use Rattle.signature_text_laws.proofs.WalkLaws.{takes_on}
 
@@ -40,11 +40,11 @@ takes_next x g w l e p =
         rw (le-ltb a b (omega arith), ne) refl
 
 -- one more face
-pub sees_on : (new : List Row) (k seen more : ℕ) (o : Option Gluing) → IsTable new → k < 4 * length new → k / 4 < seen → glue new (face_at k) ≡ o → ((w : Walking) → w.seen ≡ seen → TakesTo (face_at k) o w more) → Sees new k seen → Sees new (k + 1) more
+pub sees_on : (new : List Row) (k seen more : ℕ) (o : Option Gluing) → IsTable new → k < 4 * length new → k / 4 < seen → glue new (face_of k) ≡ o → ((w : Walking) → w.seen ≡ seen → TakesTo (face_of k) o w more) → Sees new k seen → Sees new (k + 1) more
 sees_on new k seen more o table l numbered e takes h =
     let entry = takes h.walk h.sees in
     let sees = h.sees in
     let open_tet : nat_lt (k / 4) h.walk.seen ≡ true = lt-ltb (k / 4) h.walk.seen (omega (arith, sees)) in
-    let taken : take_face new (face_at k) h.walk ≡ Some entry.0 =
-    if_true (nat_lt (k / 4) h.walk.seen) (take_entry (face_at k) (glue new (face_at k)) h.walk) None open_tet ∙ ap (λ q. take_entry (face_at k) q h.walk) e ∙ entry.1 in
+    let taken : take_face new (face_of k) h.walk ≡ Some entry.0 =
+    if_true (nat_lt (k / 4) h.walk.seen) (take_entry (face_of k) (glue new (face_of k)) h.walk) None open_tet ∙ ap (λ q. take_entry (face_of k) q h.walk) e ∙ entry.1 in
     record { walk = entry.0; is = takes_on new k h.walk entry.0 table l h.is taken; sees = entry.2 }

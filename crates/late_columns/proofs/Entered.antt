@@ -28,9 +28,6 @@ entered_one columns old new column unseen seen_is rays_is = record {
     before : (j : ℕ) → IsUnseen new.seen.items j → IsUnseen old.seen.items j
     before j still = (unseen_after old.seen.items column j unseen (subst (λ seen. IsUnseen seen j) seen_is still)).0
 
-pub entered_none : (columns : ℕ) (late : LateRays) → HaveEntered columns late late
-entered_none columns late = record { late = λ rows pairs apart h. h; unseen = λ j h. h }
-
 pub entered_more : (columns : ℕ) (old middle new : LateRays) → HaveEntered columns old middle → HaveEntered columns middle new → HaveEntered columns old new
 entered_more columns old middle new first then = record {
   late = λ rows pairs apart h. then.late rows pairs apart (first.late rows pairs apart h);

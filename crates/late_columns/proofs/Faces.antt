@@ -1,12 +1,9 @@
 -- Solutions without some columns: their vertex surfaces are those without these columns.
-use Rattle.std.proofs.Common.{◌≡◌, ℕ, inl, inr, subst, sym, List, ◌++◌, Bool, true, set, slice_index, slice_index_or}
+use Rattle.std.proofs.Common.{◌≡◌, ℕ, inl, inr, subst, sym, List, ◌++◌, Bool, true, set, slice_index}
 use Rattle.std.specs.Prelude.{◌↔◌}
 use Rattle.std.proofs.lemmas.Bool.{cases_eq}
 use Rattle.cone_definitions.specs.Rows.{Row, IsSolution}
 use Rattle.cone_definitions.specs.Surfaces.{Clash, IsVertexSurface}
-use Rattle.row_operation_laws.specs.Solutions.{HaveSameSolutions}
-use Rattle.row_operation_laws.proofs.Kept.{surface_kept}
-use Rattle.cone_definitions.specs.Unordered.{HasSurfaces}
 use Rattle.late_columns.specs.Late.{IsUnseen, held_rows}
 use Rattle.late_columns.proofs.Held.{held_solution, unseen_after, unseen_still}
 
@@ -61,12 +58,3 @@ column_face columns rows seen column unseen x = (
         ],
       ),
 )
-
--- rows with the same solutions have the same vertex surfaces
-pub same_surfaces : (columns : ℕ) (rows others : List Row) (pairs : List Clash) (rays : List (List ℕ)) → HaveSameSolutions columns rows others →
-    HasSurfaces columns rows pairs rays → HasSurfaces columns others pairs rays
-same_surfaces columns rows others pairs rays same h = record {
-  apart = h.apart;
-  vertex_surfaces = λ k d within. (surface_kept columns rows others pairs (slice_index_or rays k d) same).0 (h.vertex_surfaces k d within);
-  complete = λ x s. h.complete x ((surface_kept columns rows others pairs x same).1 s);
-}

@@ -9,6 +9,7 @@ use Rattle.cone_definitions.specs.Surfaces.{Clash, PairsAreApart, IsVertexSurfac
 use Rattle.cone_definitions.proofs.Rays.{IsSolution-front, IsSolution-last, IsSolution-push}
 use Rattle.cone_definitions.proofs.Unions.{third_ray}
 use Rattle.row_operation_laws.specs.Solutions.{HaveSameSolutions}
+use Rattle.row_operation_laws.proofs.Kept.{same_surfaces}
 use Rattle.row_operation_laws.proofs.Sums.{turned_zero}
 use Rattle.cone_laws.specs.Laws.{HasNoThird}
 use Rattle.cone_laws.proofs.Bound.{union_bound}
@@ -26,7 +27,7 @@ use Rattle.late_columns.specs.Late.{IsUnseen, held_rows, AreLate, AreSeen}
 use Rattle.late_columns.specs.Fresh.{oriented, IsFreshColumn}
 use Rattle.late_columns.specs.Raised.{HasRoom, AreRaised}
 use Rattle.late_columns.proofs.Held.{held_solution, parts_without, unseen_after}
-use Rattle.late_columns.proofs.Faces.{surface_of_face, surface_in_face, gone_in_face, held_face, same_surfaces}
+use Rattle.late_columns.proofs.Faces.{surface_of_face, surface_in_face, gone_in_face, held_face}
 use Rattle.late_columns.proofs.RaisedSurfaces.{raised_surfaces}
 
 -- ---- the union of a pair

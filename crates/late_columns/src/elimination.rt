@@ -1,6 +1,6 @@
 // The elimination of a row all of whose columns are seen.
 
-ghost use Rattle.std.specs.Prelude.{◌≡◌, ◌∷◌, [], ◌++◌, List, IfOk};
+ghost use Rattle.std.specs.Prelude.{◌∷◌, [], ◌++◌, List, IfOk};
 ghost use Rattle.cone_core.specs.Sparse.{IsInRange};
 ghost use Rattle.cone_definitions.specs.Rows.{Row};
 ghost use Rattle.double_description.specs.Clashes.{DecidesClashes};

@@ -1,5 +1,5 @@
 // The command `bulk`: a table is made, its certificate is checked, and its surfaces are summed up.
-ghost use Rattle.std.specs.Prelude.{◌≡◌, ◌-◌, ◌<◌, ◌≤◌, ◌^◌, length, IfOk};
+ghost use Rattle.std.specs.Prelude.{◌-◌, ◌<◌, ◌≤◌, ◌^◌, length, IfOk};
 ghost use Rattle.command_definitions.specs.Requests.{most_moves};
 ghost use Rattle.move_definitions.specs.Certificates.{IsCertificate};
 ghost use Rattle.outcome_definitions.specs.Makings.{IsSummary, IsBulkAnswer};

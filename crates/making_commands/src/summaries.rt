@@ -52,7 +52,7 @@ pub fn linking_count(list: &[Ray]) -> u64
 }
 
 /// The numbers of a table that was made: its seed, the moves of its certificate, and its tetrahedra.
-#[derive(Clone, Copy, Debug, PartialEq, Eq)]
+#[derive(Clone, Copy)]
 pub struct Numbers {
     pub seed: u64,
     pub moves: u32,

@@ -1,6 +1,6 @@
 //! The row of an equation.
 
-ghost use Rattle.std.specs.Prelude.{◌≡◌, ℕ, ◌+◌, ◌<◌, ◌≤◌, ◌-ℤ◌, pos, ◌++◌, length, slice_index, option_to_list, IfOk, OnOk};
+ghost use Rattle.std.specs.Prelude.{◌≡◌, ℕ, ◌+◌, ◌<◌, ◌≤◌, ◌++◌, length, slice_index, option_to_list, IfOk, OnOk};
 ghost use Rattle.table_definitions.specs.Lists as lists;
 ghost use Rattle.surface_definitions.specs.Equations as equations;
 ghost use Rattle.cone_core.specs.Sparse.{IsInRange};

@@ -1,5 +1,5 @@
 // The command `play`: a line for each step of a script, and the table then.
-ghost use Rattle.std.specs.Prelude.{◌≡◌, ◌≤◌, length, IfOk};
+ghost use Rattle.std.specs.Prelude.{◌≤◌, length, IfOk};
 ghost use Rattle.text_definitions.specs.Text.{max_text};
 ghost use Rattle.document_definitions.specs.Documents.{steps_document};
 ghost use Rattle.outcome_definitions.specs.Outcomes.{IsReadOutcome};

@@ -1,5 +1,4 @@
 // Steps from text.
-ghost use Rattle.std.specs.Prelude.{◌≡◌};
 ghost use Rattle.move_definitions.specs.MoveText.{step_at};
 ghost use Rattle.document_definitions.specs.Documents.{each_line_from};
 ghost use Rattle.text_definitions.specs.Reading.{ReadsFrom};

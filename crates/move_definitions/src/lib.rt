@@ -6,7 +6,7 @@
 ghost use Rattle.move_definitions.specs.TextLaws.{MovesAreRead, StepsAreRead, WrittenMovesAreRead};
 
 /// Why a move can't be made.
-#[derive(Clone, Copy, Debug, PartialEq, Eq)]
+#[derive(Clone, Copy)]
 pub enum MoveFault {
     /// The table has no such tetrahedron.
     NoSuchTet,

@@ -178,7 +178,7 @@ old_facet rows m i h c low high = by_case (cases_lt i 4)
 not_head : (t u : ℕ) (b : Bool) → ((t == u) || b) ≡ false → (t ≡ u → ⊥) × (b ≡ false)
 not_head t u b h = (λ e. (let s : (t == u) ≡ true = eq-eqb t u e in cc), grind arith)
 
-apart_before : (rows : List Row) (m : Move) → HasNoFault rows m → IsCore m.core → (i k : ℕ) (f g : Facet) → length m.core ≤ i → i < k → k < 5 → facet rows m i ≡ Some f → facet rows m k ≡ Some g → f.tet ≡ g.tet → ⊥
+pub apart_before : (rows : List Row) (m : Move) → HasNoFault rows m → IsCore m.core → (i k : ℕ) (f g : Facet) → length m.core ≤ i → i < k → k < 5 → facet rows m i ≡ Some f → facet rows m k ≡ Some g → f.tet ≡ g.tet → ⊥
 apart_before rows m h c i k f g low less high ef eg t = by_case (cases_lt k 4)
   where
     by_case : (k < 4) ⊎ (4 ≤ k) → ⊥

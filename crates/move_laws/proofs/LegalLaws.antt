@@ -1,23 +1,20 @@
 -- The facets that a legal move takes out.
-use Rattle.std.proofs.Common.{◌≡◌, ℕ, ◌-◌, ◌<◌, ◌≤◌, Bool, true, false, List, [], ◌∷◌, length, map, Option, Some, None, refl, sym, ap, ◌∙◌, subst, arith, inl, inr}
-use Rattle.std.specs.Prelude.{◌⊎◌, ◌==◌, ◌||◌, ◌≢◌, nat_lt, filter, filter_map, option_map, if◌then◌else◌}
-use Rattle.std.proofs.lemmas.Bool.{eqb-true, eq-eqb, lt-ltb, cases_lt, cases_eq, ne_eqb, or_parts}
+use Rattle.std.proofs.Common.{◌≡◌, ℕ, ◌<◌, ◌≤◌, Bool, true, false, List, length, map, Option, Some, None, refl, sym, ap, ◌∙◌, subst, arith, inl, inr}
+use Rattle.std.specs.Prelude.{◌⊎◌, ◌==◌, ◌≢◌, nat_lt, filter, if◌then◌else◌}
+use Rattle.std.proofs.lemmas.Bool.{eqb-true, lt-ltb, cases_lt, cases_eq}
 use Rattle.std.proofs.lemmas.List.{get_or-map}
-use Rattle.plain_facts.proofs.Options.{both_none}
 use Rattle.table_definitions.specs.Lists.{has, in_place_of, same_list, pairs_of}
 use Rattle.table_definitions.specs.Permutation.{image, compose}
 use Rattle.table_definitions.specs.Table.{Gluing, Row, glue, other_side, way_back, IsTable}
-use Rattle.table_definitions.proofs.TableLaws.{Among, Among-range, Among-pairs, first_some-none}
-use Rattle.table_definitions.proofs.Listed.{Among-filter, Among-filter_map}
+use Rattle.table_definitions.proofs.TableLaws.{Among, Among-map, Among-pairs, first_some-none}
+use Rattle.table_definitions.proofs.Listed.{Among-filter, among_has, has_among, map-among}
 use Rattle.table_definitions.proofs.InPlace.{in_place-same}
 use Rattle.table_definitions.proofs.ListFacts.{both_true, same_list-true}
 use Rattle.table_definitions.proofs.Permutations.{image_below, image-compose}
-use Rattle.move_definitions.specs.declared.MoveFault.{MoveFault}
-use Rattle.move_definitions.specs.declared.MoveFault.TheVariants.{NotMatched, Repeated}
-use Rattle.move_definitions.specs.Moves.{Move, Facet, IsCore, own_facet, vertex_of, opposite, facet, facet_behind, facet_fault, found_labels, tets_before, pair_fault, is_matched, move_fault, label_by_label}
+use Rattle.move_definitions.specs.declared.MoveFault.TheVariants.{NotMatched}
+use Rattle.move_definitions.specs.Moves.{Move, Facet, IsCore, own_facet, vertex_of, opposite, facet, facet_behind, found_labels, pair_fault, is_matched, move_fault, label_by_label}
 use Rattle.move_laws.specs.Facets.{IsFacet, IsOldFacet}
-use Rattle.move_laws.specs.Faults.{first_facet_fault}
-use Rattle.move_laws.proofs.FindLaws.{from_four, move_fault_is, pairs_first, some_facet, none_such}
+use Rattle.move_laws.proofs.Legal.{HasNoFault, no_fault as without_fault, found_label, old_facet, apart_before, behind_some, facet-found}
 use Rattle.move_laws.proofs.LabelLaws.{by_back, by_is, vertex_by}
 use Rattle.move_laws.proofs.FacetLaws.{core_few, own_is_facet, behind_is_facet, behind_glued}
 
@@ -31,45 +28,18 @@ pub record IsLegal (rows : List Row) (m : Move) : Type 0 where
 -- lists of facets
 
 pub has-among : (fs : List Facet) (f : Facet) → Among f fs → has (map (λ (f : Facet). f.tet) fs) f.tet ≡ true
-has-among [] f a = absurd a
-has-among (g ∷ fs) f (inl e) = ap (λ b. b || has (map (λ (f : Facet). f.tet) fs) f.tet) (eq-eqb g.tet f.tet (ap (λ (x : Facet). x.tet) (sym e)))
-has-among (g ∷ fs) f (inr a) = by_test (g.tet == f.tet) (has-among fs f a)
-  where
-    by_test : (b : Bool) → has (map (λ (f : Facet). f.tet) fs) f.tet ≡ true → (b || has (map (λ (f : Facet). f.tet) fs) f.tet) ≡ true
-    by_test true h = refl
-    by_test false h = h
+has-among fs f a = among_has (map (λ (f : Facet). f.tet) fs) f.tet (Among-map (λ (f : Facet). f.tet) f fs a)
 
 pub among-has : (fs : List Facet) (t : ℕ) → has (map (λ (f : Facet). f.tet) fs) t ≡ true → (f : Facet) × Among f fs × (f.tet ≡ t)
-among-has [] t h = absurd cc
-among-has (g ∷ fs) t h = by_test (g.tet == t) refl h (λ k. among-has fs t k)
-  where
-    Standing : List Facet → Type 0
-    Standing xs = (f : Facet) × Among f xs × (f.tet ≡ t)
-
-    further : Standing fs → Standing (g ∷ fs)
-    further x = (x.0, inr x.1, x.2)
-
-    by_test : (b : Bool) → (g.tet == t) ≡ b → (b || has (map (λ (f : Facet). f.tet) fs) t) ≡ true → (has (map (λ (f : Facet). f.tet) fs) t ≡ true → Standing fs) → Standing (g ∷ fs)
-    by_test true e k later = (g, inl refl, eqb-true g.tet t e)
-    by_test false e k later = further (later k)
+among-has fs t h =
+    let m : (f : Facet) × Among f fs × (t ≡ f.tet) = map-among (λ (f : Facet). f.tet) t fs (has_among (map (λ (f : Facet). f.tet) fs) t h) in
+    (m.0, m.1, sym m.2)
 
 -- what stands behind a face of the move's tetrahedron
 
 pub found_behind : (rows : List Row) (m : Move) (i : ℕ) (f : Facet) → i < 4 → facet rows m i ≡ Some f
     → (g : Gluing) × (glue rows (opposite (own_facet m) i) ≡ Some g) × (facet_behind (own_facet m) i g ≡ f)
-found_behind rows m i f small e = by_glue (glue rows (opposite (own_facet m) i)) refl
-  where
-    shown : option_map (facet_behind (own_facet m) i) (glue rows (opposite (own_facet m) i)) ≡ Some f
-    shown =
-        sym (ap (λ b. if◌then◌else◌ {A = Option Facet} b (Some (own_facet m)) (option_map (facet_behind (own_facet m) i) (glue rows (opposite (own_facet m) i)))) (ne_eqb i 4 (λ q. absurd (omega arith)))) ∙ e
-
-    by_glue : (o : Option Gluing) → glue rows (opposite (own_facet m) i) ≡ o → (g : Gluing) × (glue rows (opposite (own_facet m) i) ≡ Some g) × (facet_behind (own_facet m) i g ≡ f)
-    by_glue None h = let z : None ≡ Some f = sym (ap (option_map (facet_behind (own_facet m) i)) h) ∙ shown in absurd cc
-    by_glue (Some g) h =
-        let z : Some (facet_behind (own_facet m) i g) ≡ Some f = sym (ap (option_map (facet_behind (own_facet m) i)) h) ∙ shown in
-        (g, h, cc)
-
--- a legal move
+found_behind rows m i f small e = behind_some (own_facet m) i (glue rows (opposite (own_facet m) i)) f (sym (facet-found rows m i small) ∙ e)
 
 pub same_facet : (rows : List Row) (m : Move) (i : ℕ) (f g : Facet) → IsOldFacet rows m i f → IsOldFacet rows m i g → f ≡ g
 same_facet rows m i f g a b = let z : Some f ≡ Some g = sym a.found ∙ b.found in cc
@@ -87,28 +57,7 @@ leads_by rows table f g F G apart e =
     vertex_by f g g.missing F G.missing_below (λ q. apart (sym q)) ∙ ap (vertex_of g) (in_place-same g.missing f.missing g.missing refl) in
     ap (λ v. glue rows (record { tet = g.tet; face = v })) (sym at) ∙ back ∙ ap (λ (p : List ℕ). Some (record { tet = f.tet; perm = p })) (by_back f g F G apart)
 
-record Faultless (rows : List Row) (m : Move) : Type 0 where
-  in_range : m.tet < length rows
-  facets : first_facet_fault rows m ≡ None
-  pairs : pairs_first rows m (length m.core) ≡ None
-
-faultless : (rows : List Row) (m : Move) → move_fault rows m ≡ None → Faultless rows m
-faultless rows m none = by_size (cases_lt m.tet (length rows))
-  where
-    by_size : (m.tet < length rows) ⊎ (length rows ≤ m.tet) → Faultless rows m
-    by_size (inr l) = let z = none_such rows m l in absurd cc
-    by_size (inl l) =
-        let p = both_none (first_facet_fault rows m) (pairs_first rows m (length m.core)) (sym (move_fault_is rows m l) ∙ none) in
-        record { in_range = l; facets = p.0; pairs = p.1 }
-
-among_found : (m : Move) (i : ℕ) → IsCore m.core → length m.core ≤ i → i < 4 → Among i (found_labels m)
-among_found m i core low high =
-    subst (λ (ls : List ℕ). Among i ls) (sym (from_four (length m.core) (core_few m.core core))) (Among-range i (length m.core) (4 - length m.core) low (omega arith))
-
-fault_at : (rows : List Row) (m : Move) (i : ℕ) → IsCore m.core → Faultless rows m → length m.core ≤ i → i < 4 → facet_fault rows m i (facet rows m i) ≡ None
-fault_at rows m i core no_fault low high = first_some-none (λ k. facet_fault rows m k (facet rows m k)) i (found_labels m) no_fault.facets (among_found m i core low high)
-
-own_old : (rows : List Row) (m : Move) → IsCore m.core → Faultless rows m → IsOldFacet rows m 4 (own_facet m)
+own_old : (rows : List Row) (m : Move) → IsCore m.core → HasNoFault rows m → IsOldFacet rows m 4 (own_facet m)
 own_old rows m core no_fault = record {
   found = refl;
   missing_is = refl;
@@ -128,41 +77,6 @@ behind_old rows m i f table core low high e =
       labelled = subst (λ (x : Facet). IsFacet x) b.2 (behind_is_facet (own_facet m) i b.0 (own_is_facet m core) refl high permutes);
       in_range = subst (λ (x : Facet). x.tet < length rows) b.2 (table.in_range (opposite (own_facet m) i) b.0 b.1);
     }
-
--- a facet that is found is of a tetrahedron of its own
-not_taken : (b : Bool) (e : MoveFault) → (if b then Some e else None) ≡ None → b ≡ false
-not_taken true e h = absurd cc
-not_taken false e h = refl
-
-free_tet : (rows : List Row) (m : Move) (i : ℕ) (f : Facet) → IsCore m.core → Faultless rows m → length m.core ≤ i → i < 4 → facet rows m i ≡ Some f → has (tets_before rows m i) f.tet ≡ false
-free_tet rows m i f core no_fault low high e =
-    not_taken (has (tets_before rows m i) f.tet) (Repeated i) (ap (facet_fault rows m i) (sym e) ∙ fault_at rows m i core no_fault low high)
-
-apart_below : (rows : List Row) (m : Move) (i k : ℕ) (f g : Facet) → IsCore m.core → Faultless rows m → i < k → IsOldFacet rows m i f → IsOldFacet rows m k g → f.tet ≡ g.tet → ⊥
-apart_below rows m i k f g core no_fault less F G same = by_last (cases_eq k 4)
-  where
-    few : length m.core < 5
-    few = core_few m.core core
-
-    by_last : (k ≡ 4) ⊎ (k ≢ 4) → ⊥
-    by_last (inl e) =
-        let small : i < 4 = omega arith in
-        let free = free_tet rows m i f core no_fault F.old_label small F.found in
-        let first : (m.tet == f.tet) ≡ false = (or_parts (m.tet == f.tet) _ free).0 in
-        let mine : own_facet m ≡ g = same_facet rows m 4 (own_facet m) g (own_old rows m core no_fault) (subst (λ j. IsOldFacet rows m j g) e G) in
-        let t : m.tet ≡ f.tet = ap (λ (x : Facet). x.tet) mine ∙ sym same in
-        let z : false ≡ true = sym first ∙ eq-eqb m.tet f.tet t in
-        absurd cc
-    by_last (inr d) =
-        let small : k < 4 = (let b = label_in rows m k g G in grind arith) in
-        let free = free_tet rows m k g core no_fault G.old_label small G.found in
-        let rest : has (map (λ (x : Facet). x.tet) (filter_map (facet rows m) (filter (λ l. nat_lt l k) (found_labels m)))) g.tet ≡ false = (or_parts (m.tet == g.tet) _ free).1 in
-        let low = F.old_label in
-        let among : Among i (filter (λ l. nat_lt l k) (found_labels m)) =
-        Among-filter (λ l. nat_lt l k) i (found_labels m) (among_found m i core low (omega arith)) (lt-ltb i k less) in
-        let taken = has-among (filter_map (facet rows m) (filter (λ l. nat_lt l k) (found_labels m))) f (Among-filter_map (facet rows m) i f (filter (λ l. nat_lt l k) (found_labels m)) among F.found) in
-        let z : false ≡ true = sym rest ∙ ap (has (map (λ (x : Facet). x.tet) (filter_map (facet rows m) (filter (λ l. nat_lt l k) (found_labels m))))) (sym same) ∙ taken in
-        absurd cc
 
 -- the move's tetrahedron is glued to a facet that is found, label by label
 own_glued : (rows : List Row) (m : Move) (k : ℕ) (g : Facet) → IsTable rows → IsCore m.core → k < 4 → IsOldFacet rows m k g → glue rows (opposite (own_facet m) k) ≡ Some (record { tet = g.tet; perm = label_by_label (own_facet m) g })
@@ -197,7 +111,7 @@ matched_by rows f g table F G apart (Some p) e h =
     image-labels : (v : ℕ) → v < 4 → image (map (in_place_of g.missing f.missing) f.labels) v ≡ in_place_of g.missing f.missing (image f.labels v)
     image-labels v l = get_or-map (in_place_of g.missing f.missing) f.labels v 0 0 (let q = F.four_labels in omega arith)
 
-found_glued : (rows : List Row) (m : Move) (i k : ℕ) (f g : Facet) → IsTable rows → IsCore m.core → Faultless rows m → i < k → k < 4 → IsOldFacet rows m i f → IsOldFacet rows m k g
+found_glued : (rows : List Row) (m : Move) (i k : ℕ) (f g : Facet) → IsTable rows → IsCore m.core → HasNoFault rows m → i < k → k < 4 → IsOldFacet rows m i f → IsOldFacet rows m k g
     → glue rows (opposite f k) ≡ Some (record { tet = g.tet; perm = label_by_label f g })
 found_glued rows m i k f g table core no_fault less small F G =
     let low = F.old_label in
@@ -205,14 +119,14 @@ found_glued rows m i k f g table core no_fault less small F G =
     let gm = G.missing_is in
     let among : Among {A = ℕ × ℕ} (i, k) (filter (λ p. nat_lt p.0 p.1) (pairs_of (found_labels m) (found_labels m))) =
     Among-filter (λ p. nat_lt p.0 p.1) (i, k) (pairs_of (found_labels m) (found_labels m))
-    (Among-pairs i k (found_labels m) (found_labels m) (among_found m i core low (omega arith)) (among_found m k core (omega arith) small)) (lt-ltb i k less) in
+    (Among-pairs i k (found_labels m) (found_labels m) (found_label (length m.core) i (core_few m.core core) low (omega arith)) (found_label (length m.core) k (core_few m.core core) (omega arith) small)) (lt-ltb i k less) in
     let none : pair_fault rows (facet rows m i) (facet rows m k) ≡ None =
     first_some-none (λ p. pair_fault rows (facet rows m p.0) (facet rows m p.1)) (i, k) (filter (λ p. nat_lt p.0 p.1) (pairs_of (found_labels m) (found_labels m))) no_fault.pairs among in
     let there : pair_fault rows (Some f) (Some g) ≡ None = ap (λ o. pair_fault rows (Some f) o) (sym G.found) ∙ ap (λ o. pair_fault rows o (facet rows m k)) (sym F.found) ∙ none in
     ap (λ l. glue rows (opposite f l)) (sym gm)
     ∙ matched_by rows f g table F.labelled G.labelled (λ e. absurd (omega arith)) (glue rows (opposite f g.missing)) refl (pair_matched rows f g there)
 
-glued_below : (rows : List Row) (m : Move) (i k : ℕ) (f g : Facet) → IsTable rows → IsCore m.core → Faultless rows m → i < k → IsOldFacet rows m i f → IsOldFacet rows m k g
+glued_below : (rows : List Row) (m : Move) (i k : ℕ) (f g : Facet) → IsTable rows → IsCore m.core → HasNoFault rows m → i < k → IsOldFacet rows m i f → IsOldFacet rows m k g
     → (glue rows (opposite f k) ≡ Some (record { tet = g.tet; perm = label_by_label f g })) × (glue rows (opposite g i) ≡ Some (record { tet = f.tet; perm = label_by_label g f }))
 glued_below rows m i k f g table core no_fault less F G = by_last (cases_eq k 4)
   where
@@ -243,8 +157,8 @@ legal_from rows m table core none = record {
   inner = λ i k f g F G d. pick_inner i k f g F G d (cases_lt i k);
 }
   where
-    no_fault : Faultless rows m
-    no_fault = faultless rows m none
+    no_fault : HasNoFault rows m
+    no_fault = without_fault rows m none
 
     at : (i : ℕ) → length m.core ≤ i → i < 5 → (f : Facet) × IsOldFacet rows m i f
     at i low high = by_last (cases_eq i 4)
@@ -253,16 +167,16 @@ legal_from rows m table core none = record {
         by_last (inl e) = (own_facet m, subst (λ j. IsOldFacet rows m j (own_facet m)) (sym e) (own_old rows m core no_fault))
         by_last (inr d) =
             let small : i < 4 = grind arith in
-            let s = some_facet rows m i (facet rows m i) (fault_at rows m i core no_fault low small) in
+            let s = old_facet rows m i no_fault core low high in
             (s.0, behind_old rows m i s.0 table core low small s.1)
 
     pick_apart : (i k : ℕ) (f g : Facet) → IsOldFacet rows m i f → IsOldFacet rows m k g → f.tet ≡ g.tet → (i < k) ⊎ (k ≤ i) → i ≡ k
-    pick_apart i k f g F G e (inl l) = absurd (apart_below rows m i k f g core no_fault l F G e)
+    pick_apart i k f g F G e (inl l) = absurd (apart_before rows m no_fault core i k f g F.old_label l (label_in rows m k g G) F.found G.found e)
     pick_apart i k f g F G e (inr l) = further (cases_eq i k)
       where
         further : (i ≡ k) ⊎ (i ≢ k) → i ≡ k
         further (inl s) = s
-        further (inr d) = let less : k < i = grind arith in absurd (apart_below rows m k i g f core no_fault less G F (sym e))
+        further (inr d) = let less : k < i = grind arith in absurd (apart_before rows m no_fault core k i g f G.old_label less (label_in rows m i f F) G.found F.found (sym e))
 
     pick_inner : (i k : ℕ) (f g : Facet) → IsOldFacet rows m i f → IsOldFacet rows m k g → i ≢ k → (i < k) ⊎ (k ≤ i) → glue rows (opposite f k) ≡ Some (record { tet = g.tet; perm = label_by_label f g })
     pick_inner i k f g F G d (inl l) = (glued_below rows m i k f g table core no_fault l F G).0

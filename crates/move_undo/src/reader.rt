@@ -11,7 +11,7 @@ use pachner_moves::{Core, Move};
 use text_io::{LexFault, Lexer};
 
 /// A line of a script.
-#[derive(Clone, Copy, Debug, PartialEq, Eq)]
+#[derive(Clone, Copy)]
 pub enum Step {
     /// A move is played.
     Play(Move),

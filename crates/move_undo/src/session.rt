@@ -2,9 +2,8 @@
 
 ghost use Rattle.std.specs.Prelude.{◌≡◌, ◌≢◌, ◌<◌, ◌≤◌, [], ◌∷◌, ◌++◌, Some, None, length, take, slice_get, vec_capacity, OnOk, OnErr, IfOk, IfErr};
 ghost use Rattle.std.specs.Bool.{OnTrue, OnFalse};
-ghost use Rattle.table_definitions.specs.Table.{IsTable};
 ghost use Rattle.move_definitions.specs.Moves as moves;
-ghost use Rattle.move_definitions.specs.Moves.{Plays, play_fault};
+ghost use Rattle.move_definitions.specs.Moves.{play_fault};
 ghost use Rattle.move_definitions.specs.Undos as undos;
 ghost use Rattle.move_definitions.specs.Sessions as sessions;
 ghost use Rattle.move_undo.specs.Records.{IsPlayed};
@@ -17,7 +16,7 @@ use std::alloc::{AllocError, Global};
 use std::marker::Model;
 
 /// Why a move is not played.
-#[derive(Clone, Copy, Debug, PartialEq, Eq)]
+#[derive(Clone, Copy)]
 pub enum PlayFault {
     NoMemory,
     /// The move can't be made on the session's table.

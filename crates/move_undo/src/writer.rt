@@ -1,6 +1,6 @@
 //! Moves in text.
 
-ghost use Rattle.std.specs.Prelude.{◌≡◌, ◌<◌, ◌++◌, [], ◌∷◌, length, filter, codes, IfOk, OnOk, OnErr};
+ghost use Rattle.std.specs.Prelude.{◌≡◌, ◌<◌, ◌++◌, [], ◌∷◌, filter, IfOk, OnOk, OnErr};
 ghost use Rattle.std.specs.List.{flat_map};
 ghost use Rattle.table_definitions.specs.Permutation.{four, digits_of};
 ghost use Rattle.move_definitions.specs.MoveText.{move_text, core_words};

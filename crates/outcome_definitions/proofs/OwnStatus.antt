@@ -22,7 +22,7 @@ use Rattle.vector_definitions.specs.Answers.{Description}
 use Rattle.sum_definitions.specs.declared.AddFault.TheVariants as adding
 use Rattle.sum_definitions.specs.declared.AddFault.TheVariants.{ZeroTimes, NotEqual}
 use Rattle.cover_definitions.specs.Cover.{cover_fault}
-use Rattle.cover_definitions.specs.declared.CoverFault.{CoverFault}
+use Rattle.cover_definitions.specs.declared.LargeCover.{LargeCover}
 use Rattle.group_definitions.specs.Groups.{HasGroup}
 use Rattle.vector_definitions.specs.declared.Refusal.{Refusal}
 use Rattle.vector_definitions.specs.declared.Refusal.TheVariants.{Unfit, LargeSum, TooManyPieces, LargeLift, NoLift}
@@ -135,7 +135,7 @@ addup_own : (told : Result (List (Unit {0})) (ℕ × SumRefusal)) → IsOwnStatu
 addup_own (Ok accepted) = tt
 addup_own (Err p) = sum_refusal_own p.0 p.1
 
-cover_own : (fault : Option CoverFault) (rows : List Row) (o : Outcome) → MatchOption fault (IsCoverTold rows o) (λ _. o ≡ large_cover_outcome) → IsOwnStatus o.status
+cover_own : (fault : Option LargeCover) (rows : List Row) (o : Outcome) → MatchOption fault (IsCoverTold rows o) (λ _. o ≡ large_cover_outcome) → IsOwnStatus o.status
 cover_own None rows o h = is_own o _ h.2 tt
 cover_own (Some fault) rows o h = is_own o _ h tt
 

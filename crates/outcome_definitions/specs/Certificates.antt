@@ -1,5 +1,5 @@
 -- What `check` and `descend` are to answer: whether moves certify a table as a sphere, or why not; and the moves of a table's descent.
-use Rattle.std.specs.Prelude.{◌≡◌, ℕ, Bool, true, false, List, [], ◌++◌, length, codes, decimal, Ok, Err}
+use Rattle.std.specs.Prelude.{◌≡◌, ℕ, Bool, true, false, List, ◌++◌, length, codes, decimal, Ok, Err}
 use Rattle.std.specs.List.{flat_map}
 use Rattle.table_definitions.specs.Table.{Row}
 use Rattle.table_definitions.specs.TableText.{table_text}

@@ -8,7 +8,7 @@ use sum_definitions::AddFault;
 use surface_definitions::VectorFault;
 
 /// How a run ends. The number is the exit status of the program.
-#[derive(Clone, Copy, Debug, PartialEq, Eq)]
+#[derive(Clone, Copy, PartialEq, Eq)]
 pub enum Status {
     /// 0: the whole answer was written.
     Done,
@@ -29,7 +29,7 @@ pub enum Status {
 }
 
 /// Why a vector isn't told as a sum, or a given sum isn't accepted.
-#[derive(Clone, Copy, Debug, PartialEq, Eq)]
+#[derive(Clone, Copy)]
 pub enum SumRefusal {
     /// The vector is no admissible solution.
     Unfit { fault: VectorFault },

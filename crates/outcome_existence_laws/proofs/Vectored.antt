@@ -14,8 +14,7 @@ use Rattle.vector_definitions.specs.declared.Properties.{Properties}
 use Rattle.vector_definitions.specs.declared.Sum.{Sum}
 use Rattle.vector_definitions.specs.declared.LiftFault.{LiftFault}
 use Rattle.vector_definitions.specs.declared.LiftFault.TheVariants as lift_faults
-use Rattle.vector_definitions.specs.declared.PiecesFault.{PiecesFault}
-use Rattle.vector_definitions.specs.declared.PiecesFault.TheVariants as pieces_faults
+use Rattle.vector_definitions.specs.declared.ManyPieces.{ManyPieces}
 use Rattle.vector_definitions.specs.declared.Refusal.{Refusal}
 use Rattle.vector_definitions.specs.declared.Refusal.TheVariants.{Unfit, LargeSum, TooManyPieces, LargeLift, NoLift}
 use Rattle.vector_definitions.specs.Properties.{first_large, AreProperties}
@@ -84,11 +83,11 @@ module _ (s : Skeleton) (k : IsSkeleton s) (coords : Coords) (triangles : coords
   are_properties : (xs : List ℕ) → AreProperties s coords xs (properties xs)
   are_properties xs = record { points = refl; arcs = refl; pieces = refl; euler = refl; linking = refl; boundary = refl }
 
-  by_pieces : (xs : List ℕ) → IsFit coords s.rows equations xs → first_large limit s coords xs ≡ None → (a : Result (List Component) PiecesFault)
+  by_pieces : (xs : List ℕ) → IsFit coords s.rows equations xs → first_large limit s coords xs ≡ None → (a : Result (List Component) ManyPieces)
       → IsPiecesAnswer s.rows coords xs a → Told xs
   by_pieces xs fit none (Ok components) h =
       (Ok (record { vector = xs; properties = properties xs; components = components }), (fit, refl, (none, are_properties xs), h))
-  by_pieces xs fit none (Err (pieces_faults.TooManyPieces n)) h = (Err (TooManyPieces n), (fit, none, h))
+  by_pieces xs fit none (Err many) h = (Err (TooManyPieces many.count), (fit, none, h))
 
   by_sums : (xs : List ℕ) → IsFit coords s.rows equations xs → (o : Option Sum) → first_large limit s coords xs ≡ o → Told xs
   by_sums xs fit (Some large) e = (Err (LargeSum large), (fit, e))

@@ -5,9 +5,8 @@ use Rattle.std.proofs.lemmas.Bool.{cases_lt, lt-ltb, le-ltb, false≢true}
 use Rattle.table_definitions.specs.Table.{max_tets, Row, IsTable}
 use Rattle.table_definitions.specs.Places.{whole, SameComponent, IsConnected}
 use Rattle.table_definitions.proofs.ChainLaws.{joined_sym, joined_trans}
-use Rattle.cover_definitions.specs.declared.CoverFault.{CoverFault}
-use Rattle.cover_definitions.specs.declared.CoverFault.TheVariants.{TooMany}
-use Rattle.cover_definitions.specs.Cover.{cover, cover_fault}
+use Rattle.cover_definitions.specs.declared.LargeCover.{LargeCover}
+use Rattle.cover_definitions.specs.Cover.{cover, too_large, cover_fault}
 use Rattle.cover_laws.proofs.Covered.{cover_is_table}
 use Rattle.cover_laws.proofs.Deciding.{all_or_one, decide_joined}
 use Rattle.outcome_definitions.specs.Outcomes.{Outcome}
@@ -21,7 +20,7 @@ one_told rows o p h k = h.2 ∙ ap (λ (b : Bool). done (cover_text rows b)) (sa
 pub one_cover : (rows : List Row) (o p : Outcome) → IsCoverAnswer rows o → IsCoverAnswer rows p → o ≡ p
 one_cover rows o p h k = by_fault (cover_fault rows) h k
   where
-    by_fault : (fault : Option CoverFault) → MatchOption fault (IsCoverTold rows o) (λ _. o ≡ large_cover_outcome) → MatchOption fault (IsCoverTold rows p) (λ _. p ≡ large_cover_outcome) → o ≡ p
+    by_fault : (fault : Option LargeCover) → MatchOption fault (IsCoverTold rows o) (λ _. o ≡ large_cover_outcome) → MatchOption fault (IsCoverTold rows p) (λ _. p ≡ large_cover_outcome) → o ≡ p
     by_fault None a b = one_told rows o p a b
     by_fault (Some f) a b = a ∙ sym b
 
@@ -58,7 +57,7 @@ some_cover rows table = elim (cases_lt max_tets (2 * length rows)) [
 ]
   where
     many : nat_lt max_tets (2 * length rows) ≡ true → IsCoverAnswer rows large_cover_outcome
-    many e = subst (λ (b : Bool). MatchOption (if b then Some TooMany else None) (IsCoverTold rows large_cover_outcome) (λ _. large_cover_outcome ≡ large_cover_outcome)) (sym e) refl
+    many e = subst (λ (b : Bool). MatchOption (if b then Some too_large else None) (IsCoverTold rows large_cover_outcome) (λ _. large_cover_outcome ≡ large_cover_outcome)) (sym e) refl
 
     few_enough : (o : Outcome) → IsCoverTold rows o → nat_lt max_tets (2 * length rows) ≡ false → IsCoverAnswer rows o
-    few_enough o t e = subst (λ (b : Bool). MatchOption (if b then Some TooMany else None) (IsCoverTold rows o) (λ _. o ≡ large_cover_outcome)) (sym e) t
+    few_enough o t e = subst (λ (b : Bool). MatchOption (if b then Some too_large else None) (IsCoverTold rows o) (λ _. o ≡ large_cover_outcome)) (sym e) t

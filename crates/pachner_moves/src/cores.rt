@@ -20,7 +20,7 @@ const SIZES: [u8; 16] = [0, 1, 1, 2, 1, 2, 2, 3, 1, 2, 2, 3, 2, 3, 3, 4];
 const LAST: [u8; 5] = [15, 15, 14, 12, 8];
 
 /// Some of the vertices of a tetrahedron, at least one. Contracts see it as the list of its vertices, ascending.
-#[derive(Clone, Copy, Debug, PartialEq, Eq)]
+#[derive(Clone, Copy)]
 pub struct Core {
     // bit v stands for vertex v
     mask: u8,
@@ -123,7 +123,7 @@ impl Core {
 }
 
 /// A move, by a tetrahedron and a core of it.
-#[derive(Clone, Copy, Debug, PartialEq, Eq)]
+#[derive(Clone, Copy)]
 pub struct Move {
     pub tet: u32,
     pub core: Core,

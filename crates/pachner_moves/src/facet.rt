@@ -12,7 +12,7 @@ use perm_four::Perm4;
 use std::marker::Model;
 
 /// A tetrahedron that stands for the facet of a 4-simplex that lacks one label, with the label of each vertex.
-#[derive(Clone, Copy, Debug, Default, PartialEq, Eq)]
+#[derive(Clone, Copy, Default)]
 pub struct Facet {
     pub tet: u32,
     pub missing: u8,

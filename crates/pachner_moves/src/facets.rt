@@ -1,12 +1,12 @@
 //! The facets that a move puts in, and what stands for the old faces.
 
-ghost use Rattle.std.specs.Prelude.{◌≡◌, ◌≢◌, ◌<◌, ◌≤◌, length, filter, find, not, ◌==◌, map, IfSome, All};
+ghost use Rattle.std.specs.Prelude.{◌≡◌, ◌≢◌, ◌<◌, ◌≤◌, length, filter, find, not, ◌==◌, map, All};
 ghost use Rattle.table_definitions.specs.Lists.{below, closed_up, in_place_of};
-ghost use Rattle.table_definitions.specs.Permutation.{IsPermutationOfFour, image, preimage, identity};
+ghost use Rattle.table_definitions.specs.Permutation.{IsPermutationOfFour, identity};
 ghost use Rattle.table_definitions.specs.Table.{max_tets, IsTable};
 ghost use Rattle.table_definitions.specs.Relabelling.{gluing_under};
 ghost use Rattle.move_definitions.specs.Moves as moves;
-ghost use Rattle.move_laws.specs.Facets.{IsFacet, IsOldFacet, AreOldFacets};
+ghost use Rattle.move_laws.specs.Facets.{IsFacet, AreOldFacets};
 
 use crate::facet::{replace_label, vertex_of};
 use crate::{Facet, Move};

@@ -2,7 +2,6 @@
 
 ghost use Rattle.std.specs.Prelude.{◌≡◌, ◌<◌, ◌≤◌, ◌∷◌, length, map, Some, None, All, IfOk, IfErr, OnOk};
 ghost use Rattle.table_definitions.specs.Lists.{has};
-ghost use Rattle.table_definitions.specs.Table.{IsTable};
 ghost use Rattle.move_definitions.specs.Moves as moves;
 ghost use Rattle.move_laws.specs.Faults.{verdict, first_facet_fault, found_facets, pairs_fault, IsPattern, facets_below};
 

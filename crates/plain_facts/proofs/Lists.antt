@@ -1,7 +1,7 @@
 -- Facts of lists.
-use Rattle.std.proofs.Common.{◌≡◌, Bool, true, false, cond, List, [], ◌∷◌, Some, refl, sym, ap, ◌∙◌, ◌≢◌, take, get_or, get_or-take, length-take, ⊎_elim, arith, ℕ, ◌+◌, ◌++◌, length, zero, ◌≤◌}
+use Rattle.std.proofs.Common.{◌≡◌, Bool, true, false, cond, List, [], ◌∷◌, Some, refl, sym, ap, ◌∙◌, ◌≢◌, take, get_or, get_or-take, length-take, ⊎_elim, inl, inr, AllPairs, arith, ℕ, ◌+◌, ◌++◌, length, zero, ◌<◌, ◌≤◌}
 use Rattle.std.specs.Prelude.{find}
-use Rattle.std.proofs.lemmas.Bool.{cases_lt}
+use Rattle.std.proofs.lemmas.Bool.{cases_lt, cases_order}
 use Rattle.std.proofs.lemmas.List.{get_or_past}
 use Rattle.std.specs.List.{AllZip}
 
@@ -22,6 +22,14 @@ no_items (x ∷ xs) h = absurd (omega arith)
 pub take_none : {A : Type 0} (xs : List A) → take zero xs ≡ []
 take_none [] = refl
 take_none (x ∷ xs) = refl
+
+-- in a list of different items each stands at one place
+pub one_place : {A : Type 0} (xs : List A) → AllPairs (λ x y. x ≢ y) xs → (i j : ℕ) (d : A) → i < length xs → j < length xs → get_or xs i d ≡ get_or xs j d → i ≡ j
+one_place xs apart i j d i_in j_in same = elim (cases_order i j) [
+  | inl e ↦ e
+  | inr (inl less) ↦ absurd (apart i j d less j_in same)
+  | inr (inr more) ↦ absurd (apart j i d more i_in (sym same))
+]
 
 -- an entry of the first ones, but the last of them
 pub take_other : (x : List ℕ) (i column : ℕ) → column ≢ i → get_or (take (i + 1) x) column 0 ≡ get_or (take i x) column 0

@@ -10,7 +10,8 @@ use Rattle.surface_definitions.specs.Coordinates.{columns, columns_each, triangl
 use Rattle.surface_definitions.specs.declared.Coords.{Coords}
 use Rattle.surface_definitions.specs.declared.Coords.TheVariants.{Standard, Quad, Octagon}
 use Rattle.double_description.specs.Clashes.{AreClashes, IsInUnion, IsClashFree}
-use Rattle.quad_condition.specs.Partners.{is_clash, partners}
+use Rattle.coordinate_laws.specs.ClashPairs.{is_clash}
+use Rattle.quad_condition.specs.Partners.{partners}
 use Rattle.quad_condition.specs.Bits.{IsOfEither, IsMarkedIn, HasTwo}
 use Rattle.quad_condition.specs.Marks.{is_marked, AreMarks, AreNear, AreMasks, HasNear}
 use Rattle.quad_condition.proofs.Pairs.{Pairs, IsPrefix, prefix_by, pairs_prefix, partners_before, partners_more, pairs_before, all_pairs}

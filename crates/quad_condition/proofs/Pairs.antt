@@ -12,7 +12,8 @@ use Rattle.table_definitions.specs.Lists.{below}
 use Rattle.surface_definitions.specs.Coordinates.{columns, clash_test, clash_list}
 use Rattle.surface_definitions.specs.declared.Coords.{Coords}
 use Rattle.surface_definitions.specs.Verdict.{both_nonzero}
-use Rattle.quad_condition.specs.Partners.{is_clash, partners}
+use Rattle.coordinate_laws.specs.ClashPairs.{is_clash}
+use Rattle.quad_condition.specs.Partners.{partners}
 
 abbrev pub Pairs : Type 0
 Pairs = List (ℕ × ℕ)

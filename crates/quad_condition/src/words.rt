@@ -1,7 +1,6 @@
 //! Columns as bits of 64-bit words: column i is bit i modulo 64 of word i / 64.
 
-ghost use Rattle.std.specs.Prelude.{◌≡◌, ℕ, ◌+◌, ◌/◌, ◌<◌, ◌≤◌, ◌↔◌, ◌≢◌, true, length, IsTrue};
-ghost use Rattle.support_bits.specs.Words.{bit_of};
+ghost use Rattle.std.specs.Prelude.{◌≡◌, ◌+◌, ◌<◌, ◌≤◌, ◌↔◌, true, length, IsTrue};
 ghost use Rattle.quad_condition.specs.Bits.{word_of_either, word_ahead, HasPairAhead, HasTwo, HasTwoBits, HasFrom};
 
 /// The word of the columns of `a` or of `b`; none past the end.

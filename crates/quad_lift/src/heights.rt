@@ -1,7 +1,7 @@
 //! Heights of vertices: across each gluing the height and the quads there add up to the same. They are spread from one
 //! vertex of each class, where they begin so high that none falls below 0.
 
-ghost use Rattle.std.specs.Prelude.{◌≡◌, ◌≢◌, ℕ, ◌+◌, ◌*◌, ◌%◌, ◌<◌, ◌≤◌, Bool, true, false, List, [], length, take, sum, slice_set, slice_index_or, IfOk, OnOk};
+ghost use Rattle.std.specs.Prelude.{◌≡◌, ℕ, ◌+◌, ◌*◌, ◌<◌, ◌≤◌, Bool, true, false, List, [], length, sum, slice_index_or, IfOk, OnOk};
 ghost use Rattle.text_definitions.specs.Written.{limit};
 ghost use Rattle.walk_laws.specs.Search.{IsMarked, IsClosed, IsSearch, IsTurn, work_left};
 ghost use Rattle.skeleton_definitions.specs.Skeleton.{IsSkeleton};

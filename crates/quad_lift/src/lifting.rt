@@ -1,12 +1,12 @@
 //! The lift of a quad vector, and the quads of a standard vector.
 
-ghost use Rattle.std.specs.Prelude.{◌≡◌, ◌+◌, ◌*◌, ◌<◌, ◌≤◌, ◌^◌, length, sum, slice_index, Result, Ok, Err, ℕ, IfOk, IfErr};
+ghost use Rattle.std.specs.Prelude.{◌≡◌, ◌+◌, ◌*◌, ◌<◌, length, slice_index, Result, Ok, Err, ℕ, IfOk, IfErr};
 ghost use Rattle.no_memory.specs.Failures.{IfFault};
 ghost use Rattle.text_definitions.specs.Written.{limit};
 ghost use Rattle.skeleton_definitions.specs.Skeleton.{IsSkeleton};
 ghost use Rattle.surface_definitions.specs.declared.Coords.TheVariants.{Standard, Quad as QuadCoords};
 ghost use Rattle.surface_definitions.specs.Coordinates as coordinates;
-ghost use Rattle.surface_definitions.specs.Lift.{projected, IsLift};
+ghost use Rattle.surface_definitions.specs.Lift.{projected};
 ghost use Rattle.vector_definitions.specs.Lifting.{IsLiftAnswer};
 ghost use Rattle.surface_laws.specs.LiftLaws.{IsSurfaceOver};
 ghost use Rattle.quad_lift.specs.Agreements.{AreLeastHeights, lifted_entry};

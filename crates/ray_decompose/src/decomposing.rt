@@ -1,6 +1,6 @@
 // A solution as a sum of listed rays.
 
-ghost use Rattle.std.specs.Prelude.{◌≡◌, ℕ, ◌≤◌, IfOk, IfErr, slice_index};
+ghost use Rattle.std.specs.Prelude.{ℕ, ◌≤◌, IfOk, IfErr, slice_index};
 ghost use Rattle.no_memory.specs.Failures.{IfFault};
 ghost use Rattle.cone_core.specs.declared.numbers.TheConstants.{MAX_ENTRY};
 ghost use Rattle.sum_definitions.specs.Sums.{HasRays, IsSum, IsLargeTurn};

@@ -9,7 +9,7 @@ use crate::columns::is_inside;
 use cone_core::gcd;
 
 /// A fraction of two whole numbers.
-#[derive(Clone, Copy, Debug, PartialEq, Eq)]
+#[derive(Clone, Copy)]
 pub struct Fraction {
     pub numerator: u128,
     pub denominator: u128,

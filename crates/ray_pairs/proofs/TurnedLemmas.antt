@@ -1,6 +1,5 @@
 -- What the pairs give with all signs turned is what they give.
 use Rattle.std.proofs.Common.{◌≡◌, ℕ, inl, inr, ⊎_elim, List, [], ◌∷◌, All, map, length, slice_index_or, subst, sym, ◌∙◌, ap, ap₂, refl, arith}
-use Rattle.std.specs.Int.{IsGcd}
 use Rattle.std.proofs.Math.Nat.{add_comm}
 use Rattle.std.proofs.Math.ListN.{get_or-map}
 use Rattle.std.proofs.lemmas.List.{length-map}

@@ -1,15 +1,16 @@
 //! A census of tables.
 
-ghost use Rattle.std.specs.Prelude.{◌≡◌, ◌≢◌, ◌<◌, ◌+◌, ◌^◌, ℕ, List, [], length, IfOk, IfErr, OnOk, OnErr};
+ghost use Rattle.std.specs.Prelude.{◌≡◌, ◌<◌, ◌+◌, ◌^◌, ℕ, List, [], length, IfOk, IfErr, OnOk, OnErr};
+ghost use Rattle.no_memory.specs.Failures.{IfFault};
 ghost use Rattle.table_definitions.specs.Places.{IsConnected, IsLeastUnreached};
 ghost use Rattle.signature_definitions.specs.Spelling.{IsSignature};
 ghost use Rattle.signature_definitions.specs.Census.{signature_in, IsPlaced};
 ghost use Rattle.signature_census.specs.Texts.{texts_of};
 
-use canonical_labelling::{WalkFault, signature};
+use canonical_labelling::{NotConnected, signature};
 use gluing_table::Table;
 use indexmap::IndexSet;
-use no_memory::NoMemory;
+use no_memory::{Failure, NoMemory};
 use std::alloc::Global;
 use std::marker::Model;
 
@@ -69,13 +70,13 @@ impl Census {
 
     /// The class of a table: the place of its signature, which is put last where it has none. What isn't connected is
     /// refused, and then the census stays.
-    pub fn add(&mut self, table: &Table) -> Result<u32, WalkFault>
+    pub fn add(&mut self, table: &Table) -> Result<u32, Failure<NotConnected>>
         requires { length self.old + 1 < 2 ^ 32 }
         ensures class { IfOk result (λ class. (text : List ℕ) × IsSignature table.now text × IsPlaced self.old text class self.new) }
         ensures in_range { IfOk result (λ class. class < length self.new) }
         ensures signature { IfOk result (λ class. IsSignature table.now (signature_in self.new class)) }
         ensures connected { OnOk result (IsConnected table.now) }
-        ensures fault { IfErr result (λ e. e ≢ WalkFault.NoMemory → (t : ℕ) × (e ≡ WalkFault.NotConnected t) × IsLeastUnreached table.now t) }
+        ensures fault { IfErr result (λ e. IfFault e (λ f. IsLeastUnreached table.now f.tet)) }
         ensures kept { OnErr result (self.new ≡ self.old) }
     {
         let text = signature(self.alloc, table)?;

@@ -4,5 +4,5 @@
 
 mod census;
 
-pub use canonical_labelling::WalkFault;
+pub use canonical_labelling::NotConnected;
 pub use census::Census;

@@ -15,8 +15,10 @@ use Rattle.signature_codec.specs.declared.types.Types.{Types}
 use Rattle.signature_codec.specs.declared.parts.Parts.{Parts}
 use Rattle.signature_codec.specs.declared.joining.Joining.{Joining}
 use Rattle.signature_codec.specs.declared.walk.Walk.{Walk}
-use Rattle.signature_codec.specs.declared.faults.SpellFault.{SpellFault}
-use Rattle.signature_codec.specs.declared.faults.SpellFault.TheVariants.{NoMemory, NotOrdered}
+use Rattle.signature_codec.specs.declared.walk.NotOrdered.{NotOrdered}
+use Rattle.no_memory.specs.declared.Failure.{Failure}
+use Rattle.no_memory.specs.declared.Failure.TheVariants.{NoMemory, Fault}
+use Rattle.no_memory.specs.Failures.{IfFault}
 
 -- the fault of a number that is out of range
 abbrev pub fault_of_part : Part → ℕ → SigFault
@@ -49,10 +51,10 @@ abbrev pub walk_shown : Walk → Walking
 walk_shown w = record { seen = w.seen; types = w.types.items; gluings = w.gluings.items }
 
 -- a call takes the face, or answers that it isn't in order
-abbrev pub Takes : {X : Type 0} → Walking → Face → Result X SpellFault → Option Walking → Type 0
+abbrev pub Takes : {X : Type 0} → Walking → Face → Result X (Failure NotOrdered) → Option Walking → Type 0
 Takes new x (Ok u) taken = taken ≡ Some new
 Takes new x (Err NoMemory) taken = Unit {0}
-Takes new x (Err (NotOrdered tet face)) taken = (taken ≡ None) × (tet ≡ x.tet) × (face ≡ x.face)
+Takes new x (Err (Fault f)) taken = (taken ≡ None) × (f.face ≡ x)
 
 -- the walk through all faces
 pub record IsWholeWalk (rows : List Row) (w : Walk) : Type 0 where
@@ -61,6 +63,5 @@ pub record IsWholeWalk (rows : List Row) (w : Walk) : Type 0 where
   pub gluings : w.gluings.items ≡ seen_gluings rows
 
 -- the face is the first that isn't in order
-abbrev pub StopsAt : List Row → SpellFault → Type 0
-StopsAt rows NoMemory = Unit {0}
-StopsAt rows (NotOrdered tet face) = first_unordered rows ≡ Some (record { tet = tet; face = face })
+abbrev pub StopsAt : List Row → Failure NotOrdered → Type 0
+StopsAt rows failure = IfFault failure (λ f. first_unordered rows ≡ Some f.face)

@@ -1,12 +1,12 @@
 //! The faces of a table, joined in order.
 
-ghost use Rattle.std.specs.Prelude.{◌≡◌, ◌<◌, ◌≤◌, ◌+◌, ◌*◌, ℕ, length, drop, slice_set, is_some, Some, None, unwrap_or, OnOk, IfOk};
+ghost use Rattle.std.specs.Prelude.{◌≡◌, ◌<◌, ◌≤◌, ◌+◌, ◌*◌, length, drop, slice_set, is_some, Some, None, unwrap_or, OnOk, IfOk};
 ghost use Rattle.table_definitions.specs.Table as gluings;
 ghost use Rattle.table_definitions.specs.Table.{face_number};
 ghost use Rattle.signature_definitions.specs.SignatureText as signatures;
 ghost use Rattle.signature_text_laws.specs.Faults.{Reads, Leaves};
 ghost use Rattle.signature_text_laws.specs.Slots as slots;
-ghost use Rattle.signature_text_laws.specs.Slots.{IsSlots, IsTaking, face_at, meet_at, slots_begun};
+ghost use Rattle.signature_text_laws.specs.Slots.{IsSlots, IsTaking, meet_at, slots_begun};
 ghost use Rattle.signature_codec.specs.Shown.{slots_shown, parts_shown};
 
 use crate::SigFault;

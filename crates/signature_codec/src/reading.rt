@@ -1,6 +1,6 @@
 //! The table of a text.
 
-ghost use Rattle.std.specs.Prelude.{◌≡◌, IfOk, IfErr};
+ghost use Rattle.std.specs.Prelude.{IfOk, IfErr};
 ghost use Rattle.signature_definitions.specs.Spelling.{Spells};
 ghost use Rattle.table_definitions.specs.Table.{IsTable};
 ghost use Rattle.signature_definitions.specs.SignatureText.{signature_table};

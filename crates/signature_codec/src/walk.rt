@@ -8,8 +8,8 @@ ghost use Rattle.table_definitions.specs.Table.{max_tets, IsTable};
 ghost use Rattle.signature_text_laws.specs.Walks as walks;
 ghost use Rattle.signature_codec.specs.Shown.{walk_shown, Takes, IsWholeWalk, StopsAt};
 
-use crate::SpellFault;
 use gluing_table::{Face, Glue, Table};
+use no_memory::Failure;
 use perm_four::{Perm4, perm_at};
 use std::alloc::Global;
 
@@ -21,6 +21,12 @@ pub struct Walk {
     pub gluings: Vec<Glue>,
 }
 
+/// The first face at which a table isn't walk-ordered.
+#[derive(Clone, Copy)]
+pub struct NotOrdered {
+    pub face: Face,
+}
+
 fn is_identity(perm: Perm4) -> bool
     ensures { result ≡ same_list perm identity }
 {
@@ -28,7 +34,7 @@ fn is_identity(perm: Perm4) -> bool
 }
 
 /// Takes a face that is glued, if it is in order.
-fn take_glued(walk: &mut Walk, face: Face, glue: Glue) -> Result<(), SpellFault>
+fn take_glued(walk: &mut Walk, face: Face, glue: Glue) -> Result<(), Failure<NotOrdered>>
     requires a_face { face.face < 4 }
     requires few { walk.old.seen ≤ max_tets }
     ensures takes { Takes (walk_shown walk.new) face result (walks.take_glued face glue (walk_shown walk.old)) }
@@ -46,24 +52,18 @@ fn take_glued(walk: &mut Walk, face: Face, glue: Glue) -> Result<(), SpellFault>
         walk.seen += 1;
         return Ok(());
     }
-    Err(SpellFault::NotOrdered {
-        tet: face.tet,
-        face: face.face,
-    })
+    Err(Failure::Fault(NotOrdered { face }))
 }
 
 /// Takes a face, if it is in order.
-fn take_face(walk: &mut Walk, table: &Table, face: Face) -> Result<(), SpellFault>
+fn take_face(walk: &mut Walk, table: &Table, face: Face) -> Result<(), Failure<NotOrdered>>
     requires a_face { face.face < 4 }
     requires in_range { face.tet < length table.now }
     requires few { walk.old.seen ≤ max_tets }
     ensures takes { Takes (walk_shown walk.new) face result (walks.take_face table.now face (walk_shown walk.old)) }
 {
     if face.tet >= walk.seen {
-        return Err(SpellFault::NotOrdered {
-            tet: face.tet,
-            face: face.face,
-        });
+        return Err(Failure::Fault(NotOrdered { face }));
     }
     let Some(glue) = table.glue(face) else {
         walk.types.push(0)?;
@@ -73,7 +73,7 @@ fn take_face(walk: &mut Walk, table: &Table, face: Face) -> Result<(), SpellFaul
 }
 
 /// The walk through all faces.
-pub fn walk_of(alloc: Global, table: &Table) -> Result<Walk, SpellFault>
+pub fn walk_of(alloc: Global, table: &Table) -> Result<Walk, Failure<NotOrdered>>
     requires { IsTable table.now }
     ensures whole { IfOk result (IsWholeWalk table.now) }
     ensures stops { IfErr result (StopsAt table.now) }

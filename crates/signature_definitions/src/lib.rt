@@ -14,7 +14,7 @@ use table_definitions::TextFault;
 use text_definitions::LexFault;
 
 /// Why a text is no signature. Places count characters from 0.
-#[derive(Clone, Copy, Debug, PartialEq, Eq)]
+#[derive(Clone, Copy)]
 pub enum SigFault {
     NoMemory,
     /// A character that is not of the alphabet.
@@ -58,7 +58,7 @@ impl<T: Drop> From<AllocFailed<T>> for SigFault {
 }
 
 /// Why an input is no document of its kind.
-#[derive(Clone, Copy, Debug, PartialEq, Eq)]
+#[derive(Clone, Copy)]
 pub enum InputFault {
     NoMemory,
     /// A line hasn't the form that is wanted, or its rows are no table. It is never want of memory.

@@ -15,12 +15,14 @@ use Rattle.signature_definitions.specs.SignatureText as signatures
 use Rattle.signature_definitions.specs.SignatureText.{faces_of_type}
 use Rattle.table_definitions.proofs.ListFacts.{list_all-below}
 use Rattle.table_definitions.proofs.Permutations.{image_below, words_at}
-use Rattle.signature_text_laws.specs.Slots.{Slots, face_at, slot, meet_at, slot_boundary, slot_glued, slot_type, with_types, slot_next, slot_face, slot_faces}
+use Rattle.table_definitions.specs.Places.{face_of}
+use Rattle.table_definitions.proofs.Faces.{number-face_of}
+use Rattle.signature_text_laws.specs.Slots.{Slots, slot, meet_at, slot_boundary, slot_glued, slot_type, with_types, slot_next, slot_face, slot_faces}
 use Rattle.signature_text_laws.specs.Walks.{Walking, take_face, IsWalk}
 use Rattle.signature_text_laws.proofs.ReadLaws.{next_ok}
 use Rattle.signature_text_laws.proofs.Simulation.{faces-places}
 use Rattle.signature_text_laws.proofs.WalkLaws.{takes_on, takes_off, list_all-map}
-use Rattle.signature_text_laws.proofs.Stepping.{free, place-face_at}
+use Rattle.signature_text_laws.proofs.Stepping.{free}
 use Rattle.signature_text_laws.proofs.Joined.{met_count, bound_count}
 use Rattle.signature_text_laws.proofs.Walked.{before_at}
 use Rattle.signature_text_laws.proofs.SpelledReads.{unless_of}
@@ -35,7 +37,7 @@ gluing_at rows x = seen_gluing rows x (glue rows x)
 
 -- the faces from a place on
 abbrev pub faces_from : ℕ → ℕ → List Face
-faces_from k m = map face_at (range_with_len k m)
+faces_from k m = map face_of (range_with_len k m)
 
 abbrev pub values_of : List (ℕ × ℕ) → List ℕ
 values_of ps = map (λ (p : ℕ × ℕ). p.0) ps
@@ -75,19 +77,19 @@ next_stays : (x : Face) (ts : List ℕ) (s : Slots) → is_some (slot s.met x) �
 next_stays x [] s e = refl
 next_stays x (t ∷ ts) s e = rw e refl
 
-face_goes : (k : ℕ) (s : Slots) → k / 4 < s.seen → slot_face (face_at k) s ≡ slot_next (face_at k) s.parts.types s
-face_goes k s l = unless_of (nat_le s.seen (k / 4)) sig_faults.Unreached (slot_next (face_at k) s.parts.types s) (not_le s.seen (k / 4) l)
+face_goes : (k : ℕ) (s : Slots) → k / 4 < s.seen → slot_face (face_of k) s ≡ slot_next (face_of k) s.parts.types s
+face_goes k s l = unless_of (nat_le s.seen (k / 4)) sig_faults.Unreached (slot_next (face_of k) s.parts.types s) (not_le s.seen (k / 4) l)
   where
     not_le : (a b : ℕ) → b < a → nat_le a b ≡ false
     not_le a b h = grind arith
 
-slot_here : (k : ℕ) (s : Slots) (o : Option (Option Gluing)) → get_or s.met k None ≡ o → slot s.met (face_at k) ≡ o
-slot_here k s o e = ap (λ p. get_or s.met p None) (place-face_at k) ∙ e
+slot_here : (k : ℕ) (s : Slots) (o : Option (Option Gluing)) → get_or s.met k None ≡ o → slot s.met (face_of k) ≡ o
+slot_here k s o e = ap (λ p. get_or s.met p None) (number-face_of k) ∙ e
 
-type_goes : (k type : ℕ) (ts : List ℕ) (s : Slots) → k / 4 < s.seen → get_or s.met k None ≡ None → s.parts.types ≡ type ∷ ts → slot_face (face_at k) s ≡ slot_type (face_at k) type (with_types ts s)
+type_goes : (k type : ℕ) (ts : List ℕ) (s : Slots) → k / 4 < s.seen → get_or s.met k None ≡ None → s.parts.types ≡ type ∷ ts → slot_face (face_of k) s ≡ slot_type (face_of k) type (with_types ts s)
 type_goes k type ts s l e types =
-    face_goes k s l ∙ ap (λ us. slot_next (face_at k) us s) types
-    ∙ if_false (is_some (slot s.met (face_at k))) (Ok s) (slot_type (face_at k) type (with_types ts s)) (ap is_some (slot_here k s None e))
+    face_goes k s l ∙ ap (λ us. slot_next (face_of k) us s) types
+    ∙ if_false (is_some (slot s.met (face_of k))) (Ok s) (slot_type (face_of k) type (with_types ts s)) (ap is_some (slot_here k s None e))
 
 times-behind : (type : ℕ) (ts : List ℕ) → times_in (ts ++ type ∷ []) 1 ≡ times_in ts 1 + (if type == 1 then 1 else 0)
 times-behind type ts = let a = sum_by-append (λ m. cond (m == 1) 1 0) ts (type ∷ []) in let b = sum_by-cons (λ m. cond (m == 1) 1 0) type [] in omega (arith, a, b)
@@ -98,7 +100,7 @@ faces-behind type ts = let a = sum_by-append faces_of_type ts (type ∷ []) in l
 -- what is answered at one face
 pub record Step (rows : List Row) (k m : ℕ) (v : Walking) (s : Slots) : Type 0 where
   pub to : Slots
-  pub goes : slot_face (face_at k) s ≡ Ok to
+  pub goes : slot_face (face_of k) s ≡ Ok to
   pub follows : Follows rows (k + 1) v to
   pub rest : Rest rows (k + 1) m to
 
@@ -109,9 +111,9 @@ follow_step rows k m w v s table l walk f r hx (took_none e same) =
     let met = f.met in
     let size = met.size in
     let seen = f.seen in
-    let type : type_at rows (face_at k) ≡ Some 0 = ap (type_of rows (face_at k)) e in
-    let none : gluing_at rows (face_at k) ≡ None = ap (seen_gluing rows (face_at k)) e in
-    let types : s.parts.types ≡ 0 ∷ ts = r.types ∙ filter_some (type_at rows) (face_at k) xs 0 type in
+    let type : type_at rows (face_of k) ≡ Some 0 = ap (type_of rows (face_of k)) e in
+    let none : gluing_at rows (face_of k) ≡ None = ap (seen_gluing rows (face_of k)) e in
+    let types : s.parts.types ≡ 0 ∷ ts = r.types ∙ filter_some (type_at rows) (face_of k) xs 0 type in
     let unmet : get_or s.met k None ≡ None = met.unmet k (omega arith) l (λ h glued. absurd (let c = sym e ∙ glued in cc)) in
     let count = bound_count s.met k (omega (arith, size, l)) unmet in
     let old = f.count in
@@ -119,9 +121,9 @@ follow_step rows k m w v s table l walk f r hx (took_none e same) =
     let ones = f.ones in
     let times = times-behind 0 w.types in
     record {
-      to = slot_boundary (face_at k) (with_types ts s);
+      to = slot_boundary (face_of k) (with_types ts s);
       goes = type_goes k 0 ts s (omega (arith, seen, hx)) unmet types;
-      follows = subst (λ (u : Walking). Follows rows (k + 1) u (slot_boundary (face_at k) (with_types ts s))) same (record {
+      follows = subst (λ (u : Walking). Follows rows (k + 1) u (slot_boundary (face_of k) (with_types ts s))) same (record {
         met = bound_follows rows k s.met table l met e;
         seen = f.seen;
         count = omega (arith, count, old, more);
@@ -129,27 +131,27 @@ follow_step rows k m w v s table l walk f r hx (took_none e same) =
       });
       rest = record {
         types = refl;
-        destinations = r.destinations ∙ ap (map (λ (g : Gluing). g.tet)) (filter_none (gluing_at rows) (face_at k) xs none);
-        gluings = r.gluings ∙ ap (map (λ (g : Gluing). index g.perm)) (filter_none (gluing_at rows) (face_at k) xs none);
+        destinations = r.destinations ∙ ap (map (λ (g : Gluing). g.tet)) (filter_none (gluing_at rows) (face_of k) xs none);
+        gluings = r.gluings ∙ ap (map (λ (g : Gluing). index g.perm)) (filter_none (gluing_at rows) (face_of k) xs none);
       };
     }
 follow_step rows k m w v s table l walk f r hx (took_met g e early same) =
     let xs : List Face = faces_from (k + 1) m in
     let met = f.met in
     let seen = f.seen in
-    let face = image_below g.perm (table.permutes (face_at k) g e) (k % 4) (omega arith) in
-    let before : is_face_before (other_side (face_at k) g) (face_at k) ≡ true = before_at k g face ∙ lt-ltb (face_number (other_side (face_at k) g)) k early in
-    let type : type_at rows (face_at k) ≡ None = ap (type_of rows (face_at k)) e ∙ rw before refl in
-    let none : gluing_at rows (face_at k) ≡ None = ap (seen_gluing rows (face_at k)) e ∙ rw before refl in
+    let face = image_below g.perm (table.permutes (face_of k) g e) (k % 4) (omega arith) in
+    let before : is_face_before (other_side (face_of k) g) (face_of k) ≡ true = before_at k g face ∙ lt-ltb (face_number (other_side (face_of k) g)) k early in
+    let type : type_at rows (face_of k) ≡ None = ap (type_of rows (face_of k)) e ∙ rw before refl in
+    let none : gluing_at rows (face_of k) ≡ None = ap (seen_gluing rows (face_of k)) e ∙ rw before refl in
     let here : get_or s.met k None ≡ Some (Some g) = met.partner k g (omega arith) l e early in
     record {
       to = s;
-      goes = face_goes k s (omega (arith, seen, hx)) ∙ next_stays (face_at k) s.parts.types s (ap is_some (slot_here k s (Some (Some g)) here));
+      goes = face_goes k s (omega (arith, seen, hx)) ∙ next_stays (face_of k) s.parts.types s (ap is_some (slot_here k s (Some (Some g)) here));
       follows = subst (λ (u : Walking). Follows rows (k + 1) u s) same (record { met = met_follows rows k g s.met table l met e early; seen = f.seen; count = f.count; ones = f.ones });
       rest = record {
-        types = r.types ∙ filter_none (type_at rows) (face_at k) xs type;
-        destinations = r.destinations ∙ ap (map (λ (g : Gluing). g.tet)) (filter_none (gluing_at rows) (face_at k) xs none);
-        gluings = r.gluings ∙ ap (map (λ (g : Gluing). index g.perm)) (filter_none (gluing_at rows) (face_at k) xs none);
+        types = r.types ∙ filter_none (type_at rows) (face_of k) xs type;
+        destinations = r.destinations ∙ ap (map (λ (g : Gluing). g.tet)) (filter_none (gluing_at rows) (face_of k) xs none);
+        gluings = r.gluings ∙ ap (map (λ (g : Gluing). index g.perm)) (filter_none (gluing_at rows) (face_of k) xs none);
       };
     }
 follow_step rows k m w v s table l walk f r hx (took_old g e late old same) =
@@ -157,17 +159,17 @@ follow_step rows k m w v s table l walk f r hx (took_old g e late old same) =
     let ts : List ℕ = filter_map (type_at rows) xs in
     let met = f.met in
     let seen = f.seen in
-    let face = image_below g.perm (table.permutes (face_at k) g e) (k % 4) (omega arith) in
-    let before : is_face_before (other_side (face_at k) g) (face_at k) ≡ false = before_at k g face ∙ le-ltb (face_number (other_side (face_at k) g)) k late in
-    let is_old : is_seen rows (face_at k) g.tet ≡ true = walk.seen g.tet ∙ lt-ltb g.tet w.seen old in
-    let type : type_at rows (face_at k) ≡ Some 2 = ap (type_of rows (face_at k)) e ∙ rw (before, is_old) refl in
-    let some : gluing_at rows (face_at k) ≡ Some g = ap (seen_gluing rows (face_at k)) e ∙ rw (before, is_old) refl in
-    let types : s.parts.types ≡ 2 ∷ ts = r.types ∙ filter_some (type_at rows) (face_at k) xs 2 type in
+    let face = image_below g.perm (table.permutes (face_of k) g e) (k % 4) (omega arith) in
+    let before : is_face_before (other_side (face_of k) g) (face_of k) ≡ false = before_at k g face ∙ le-ltb (face_number (other_side (face_of k) g)) k late in
+    let is_old : is_seen rows (face_of k) g.tet ≡ true = walk.seen g.tet ∙ lt-ltb g.tet w.seen old in
+    let type : type_at rows (face_of k) ≡ Some 2 = ap (type_of rows (face_of k)) e ∙ rw (before, is_old) refl in
+    let some : gluing_at rows (face_of k) ≡ Some g = ap (seen_gluing rows (face_of k)) e ∙ rw (before, is_old) refl in
+    let types : s.parts.types ≡ 2 ∷ ts = r.types ∙ filter_some (type_at rows) (face_of k) xs 2 type in
     let b = both_unmet rows k g s.met table l met e late in
-    let ds = pairs_front s.parts.destinations g.tet (map (λ (g : Gluing). g.tet) (filter_map (gluing_at rows) xs)) (r.destinations ∙ ap (map (λ (g : Gluing). g.tet)) (filter_some (gluing_at rows) (face_at k) xs g some)) in
-    let gs = pairs_front s.parts.gluings (index g.perm) (map (λ (g : Gluing). index g.perm) (filter_map (gluing_at rows) xs)) (r.gluings ∙ ap (map (λ (g : Gluing). index g.perm)) (filter_some (gluing_at rows) (face_at k) xs g some)) in
+    let ds = pairs_front s.parts.destinations g.tet (map (λ (g : Gluing). g.tet) (filter_map (gluing_at rows) xs)) (r.destinations ∙ ap (map (λ (g : Gluing). g.tet)) (filter_some (gluing_at rows) (face_of k) xs g some)) in
+    let gs = pairs_front s.parts.gluings (index g.perm) (map (λ (g : Gluing). index g.perm) (filter_map (gluing_at rows) xs)) (r.gluings ∙ ap (map (λ (g : Gluing). index g.perm)) (filter_some (gluing_at rows) (face_of k) xs g some)) in
     let rest : signatures.Parts = record { types = ts; destinations = drop 1 s.parts.destinations; gluings = drop 1 s.parts.gluings } in
-    let t : Slots = record { met = meet_at s.met (face_at k) g; seen = s.seen; parts = rest } in
+    let t : Slots = record { met = meet_at s.met (face_of k) g; seen = s.seen; parts = rest } in
     let count = met_count s.met k g b in
     let total = f.count in
     let more = faces-behind 2 w.types in
@@ -176,23 +178,23 @@ follow_step rows k m w v s table l walk f r hx (took_old g e late old same) =
     record {
       to = t;
       goes = type_goes k 2 ts s (omega (arith, seen, hx)) b.free_here types
-          ∙ glued_goes k (signatures.first_pair s.parts.destinations) (signatures.first_pair s.parts.gluings) g s.met s.seen rest ds.0 (gs.0) (table.permutes (face_at k) g e) (omega (arith, seen, old)) b.apart b.free_other;
+          ∙ glued_goes k (signatures.first_pair s.parts.destinations) (signatures.first_pair s.parts.gluings) g s.met s.seen rest ds.0 (gs.0) (table.permutes (face_of k) g e) (omega (arith, seen, old)) b.apart b.free_other;
       follows = subst (λ (u : Walking). Follows rows (k + 1) u t) same (record { met = both_follows rows k g s.met table met e b; seen = f.seen; count = omega (arith, count, total, more); ones = omega (arith, ones, times) });
       rest = record { types = refl; destinations = ds.1; gluings = gs.1 };
     }
   where
     glued_goes : (k : ℕ) (d i : ℕ × ℕ) (g : Gluing) (met : List (Option (Option Gluing))) (seen : ℕ) (parts : signatures.Parts) → d.0 ≡ g.tet → i.0 ≡ index g.perm → IsPermutationOfFour g.perm → g.tet < seen
-        → same_face (other_side (face_at k) g) (face_at k) ≡ false → get_or met (face_number (other_side (face_at k) g)) None ≡ None
-        → slot_glued (face_at k) d i (record { met = met; seen = seen; parts = parts }) ≡ Ok (record { met = meet_at met (face_at k) g; seen = seen; parts = parts })
+        → same_face (other_side (face_of k) g) (face_of k) ≡ false → get_or met (face_number (other_side (face_of k) g)) None ≡ None
+        → slot_glued (face_of k) d i (record { met = met; seen = seen; parts = parts }) ≡ Ok (record { met = meet_at met (face_of k) g; seen = seen; parts = parts })
     glued_goes k d i g met seen parts hd hi permutes lt apart free_other =
         let h : Gluing = record { tet = d.0; perm = slice_index_or words i.0 [] } in
         let perm : slice_index_or words i.0 [] ≡ g.perm = ap (λ m. slice_index_or words m []) hi ∙ words_at g.perm permutes in
         let same : g ≡ h = λ j. record { tet = sym hd j; perm = sym perm j } in
-        let P : Gluing → Type 0 = λ x. signatures.unless {A = Slots} (nat_le seen x.tet) (sig_faults.Destination d.1) (signatures.unless {A = Slots} (same_face (other_side (face_at k) x) (face_at k) || is_some (slot met (other_side (face_at k) x))) (sig_faults.FaceTaken i.1)
-        (Ok (record { met = meet_at met (face_at k) x; seen = seen; parts = parts }))) ≡ Ok (record { met = meet_at met (face_at k) g; seen = seen; parts = parts }) in
+        let P : Gluing → Type 0 = λ x. signatures.unless {A = Slots} (nat_le seen x.tet) (sig_faults.Destination d.1) (signatures.unless {A = Slots} (same_face (other_side (face_of k) x) (face_of k) || is_some (slot met (other_side (face_of k) x))) (sig_faults.FaceTaken i.1)
+        (Ok (record { met = meet_at met (face_of k) x; seen = seen; parts = parts }))) ≡ Ok (record { met = meet_at met (face_of k) g; seen = seen; parts = parts }) in
         subst P same
         (unless_of (nat_le seen g.tet) (sig_faults.Destination d.1) _ (not_le seen g.tet lt)
-        ∙ unless_of (same_face (other_side (face_at k) g) (face_at k) || is_some (slot met (other_side (face_at k) g))) (sig_faults.FaceTaken i.1) _ (or_from _ _ apart (ap is_some free_other)))
+        ∙ unless_of (same_face (other_side (face_of k) g) (face_of k) || is_some (slot met (other_side (face_of k) g))) (sig_faults.FaceTaken i.1) _ (or_from _ _ apart (ap is_some free_other)))
       where
         not_le : (a b : ℕ) → b < a → nat_le a b ≡ false
         not_le a b h = grind arith
@@ -201,14 +203,14 @@ follow_step rows k m w v s table l walk f r hx (took_new g e late same_tet id sa
     let ts : List ℕ = filter_map (type_at rows) xs in
     let met = f.met in
     let seen = f.seen in
-    let face = image_below g.perm (table.permutes (face_at k) g e) (k % 4) (omega arith) in
-    let before : is_face_before (other_side (face_at k) g) (face_at k) ≡ false = before_at k g face ∙ le-ltb (face_number (other_side (face_at k) g)) k late in
-    let is_new : is_seen rows (face_at k) g.tet ≡ false = walk.seen g.tet ∙ le-ltb g.tet w.seen (omega (arith, same_tet)) in
-    let type : type_at rows (face_at k) ≡ Some 1 = ap (type_of rows (face_at k)) e ∙ rw (before, is_new) refl in
-    let none : gluing_at rows (face_at k) ≡ None = ap (seen_gluing rows (face_at k)) e ∙ rw (before, is_new) refl in
-    let types : s.parts.types ≡ 1 ∷ ts = r.types ∙ filter_some (type_at rows) (face_at k) xs 1 type in
+    let face = image_below g.perm (table.permutes (face_of k) g e) (k % 4) (omega arith) in
+    let before : is_face_before (other_side (face_of k) g) (face_of k) ≡ false = before_at k g face ∙ le-ltb (face_number (other_side (face_of k) g)) k late in
+    let is_new : is_seen rows (face_of k) g.tet ≡ false = walk.seen g.tet ∙ le-ltb g.tet w.seen (omega (arith, same_tet)) in
+    let type : type_at rows (face_of k) ≡ Some 1 = ap (type_of rows (face_of k)) e ∙ rw (before, is_new) refl in
+    let none : gluing_at rows (face_of k) ≡ None = ap (seen_gluing rows (face_of k)) e ∙ rw (before, is_new) refl in
+    let types : s.parts.types ≡ 1 ∷ ts = r.types ∙ filter_some (type_at rows) (face_of k) xs 1 type in
     let b = both_unmet rows k g s.met table l met e late in
-    let t : Slots = record { met = meet_at s.met (face_at k) g; seen = s.seen + 1; parts = record s.parts { types = ts } } in
+    let t : Slots = record { met = meet_at s.met (face_of k) g; seen = s.seen + 1; parts = record s.parts { types = ts } } in
     let h : Gluing = record { tet = s.seen; perm = identity } in
     let made : h ≡ g = (let tet : s.seen ≡ g.tet = seen ∙ sym same_tet in λ i. record { tet = tet i; perm = sym id i }) in
     let count = met_count s.met k g b in
@@ -218,25 +220,25 @@ follow_step rows k m w v s table l walk f r hx (took_new g e late same_tet id sa
     let times = times-behind 1 w.types in
     record {
       to = t;
-      goes = type_goes k 1 ts s (omega (arith, seen, hx)) b.free_here types ∙ ap (λ (x : Gluing). Ok (record { met = meet_at s.met (face_at k) x; seen = s.seen + 1; parts = record s.parts { types = ts } })) made;
+      goes = type_goes k 1 ts s (omega (arith, seen, hx)) b.free_here types ∙ ap (λ (x : Gluing). Ok (record { met = meet_at s.met (face_of k) x; seen = s.seen + 1; parts = record s.parts { types = ts } })) made;
       follows = subst (λ (u : Walking). Follows rows (k + 1) u t) same (record { met = both_follows rows k g s.met table met e b; seen = ap (λ q. q + 1) f.seen; count = omega (arith, count, total, more); ones = omega (arith, ones, times) });
       rest = record {
         types = refl;
-        destinations = r.destinations ∙ ap (map (λ (g : Gluing). g.tet)) (filter_none (gluing_at rows) (face_at k) xs none);
-        gluings = r.gluings ∙ ap (map (λ (g : Gluing). index g.perm)) (filter_none (gluing_at rows) (face_at k) xs none);
+        destinations = r.destinations ∙ ap (map (λ (g : Gluing). g.tet)) (filter_none (gluing_at rows) (face_of k) xs none);
+        gluings = r.gluings ∙ ap (map (λ (g : Gluing). index g.perm)) (filter_none (gluing_at rows) (face_of k) xs none);
       };
     }
 
 -- each face of a walk-ordered table is taken
-pub ordered_at : (rows : List Row) (k : ℕ) → IsWalkOrdered rows → k < 4 * length rows → is_ordered_at rows (face_at k) ≡ true
+pub ordered_at : (rows : List Row) (k : ℕ) → IsWalkOrdered rows → k < 4 * length rows → is_ordered_at rows (face_of k) ≡ true
 ordered_at rows k ordered l =
-    list_all-below (λ m. is_ordered_at rows (face_at m)) (4 * length rows)
-    (sym (list_all-map (is_ordered_at rows) face_at (below (4 * length rows))) ∙ ap (list_all (is_ordered_at rows)) (sym (faces-places (length rows))) ∙ ordered) k l
+    list_all-below (λ m. is_ordered_at rows (face_of m)) (4 * length rows)
+    (sym (list_all-map (is_ordered_at rows) face_of (below (4 * length rows))) ∙ ap (list_all (is_ordered_at rows)) (sym (faces-places (length rows))) ∙ ordered) k l
 
-taken_at : (rows : List Row) (k : ℕ) (w : Walking) → IsWalkOrdered rows → k < 4 * length rows → IsWalk rows k w → (v : Walking) × (take_face rows (face_at k) w ≡ Some v)
-taken_at rows k w ordered l walk = cases (take_face rows (face_at k) w) refl
+taken_at : (rows : List Row) (k : ℕ) (w : Walking) → IsWalkOrdered rows → k < 4 * length rows → IsWalk rows k w → (v : Walking) × (take_face rows (face_of k) w ≡ Some v)
+taken_at rows k w ordered l walk = cases (take_face rows (face_of k) w) refl
   where
-    cases : (o : Option Walking) → take_face rows (face_at k) w ≡ o → (v : Walking) × (take_face rows (face_at k) w ≡ Some v)
+    cases : (o : Option Walking) → take_face rows (face_of k) w ≡ o → (v : Walking) × (take_face rows (face_of k) w ≡ Some v)
     cases None e = absurd (let a = takes_off rows k w l walk e in let b = ordered_at rows k ordered l in let c = sym a ∙ b in cc)
     cases (Some v) e = (v, e)
 
@@ -259,4 +261,4 @@ follow rows (suc m) k w s table ordered e walk f r =
     let t = took rows k w v.0 table v.1 in
     let step = follow_step rows k m w v.0 s table l walk f r t.0 t.1 in
     let rest = follow rows m (k + 1) v.0 step.to table ordered (omega arith) (takes_on rows k w v.0 table l walk v.1) step.follows step.rest in
-    record { to = rest.to; walk = rest.walk; goes = next_ok (slot_face (face_at k) s) step.to (λ u. slot_faces m (k + 1) u) step.goes ∙ rest.goes; walked = rest.walked; follows = rest.follows }
+    record { to = rest.to; walk = rest.walk; goes = next_ok (slot_face (face_of k) s) step.to (λ u. slot_faces m (k + 1) u) step.goes ∙ rest.goes; walked = rest.walked; follows = rest.follows }

@@ -10,35 +10,35 @@ use Rattle.table_definitions.specs.Permutation.{identity, image, IsPermutationOf
 use Rattle.table_definitions.specs.Table.{Gluing, Row, IsTable, glue, other_side, way_back, same_face, is_face_before, face_number}
 use Rattle.table_definitions.proofs.ListFacts.{same_list-true}
 use Rattle.table_definitions.proofs.Permutations.{image_below}
-use Rattle.signature_text_laws.specs.Slots.{face_at, meet_at}
+use Rattle.signature_text_laws.specs.Slots.{meet_at}
 use Rattle.signature_text_laws.specs.Walks.{Walking, with_type, take_glued, take_entry, take_face}
 use Rattle.signature_text_laws.proofs.WalkLaws.{some_same}
-use Rattle.signature_text_laws.proofs.Stepping.{place-face_at, face_at-place}
 use Rattle.signature_text_laws.proofs.Joined.{BothMet, met_here, met_elsewhere, met_other, met_kept, bound_here, bound_elsewhere, bound_kept, other_face}
 use Rattle.signature_text_laws.proofs.Walked.{before_at}
 use Rattle.table_definitions.proofs.Kept.{not_true}
-use Rattle.table_definitions.proofs.Faces.{there_and_back, back_again}
+use Rattle.table_definitions.proofs.Faces.{there_and_back, back_again, number-face_of, face_of-number}
+use Rattle.table_definitions.specs.Places.{face_of}
 
 -- what the walk does at a face
 pub data Took (rows : List Row) (k : ℕ) (w v : Walking) : Type 0 where
-  took_none : glue rows (face_at k) ≡ None → with_type 0 w ≡ v → Took rows k w v
-  took_met : (g : Gluing) → glue rows (face_at k) ≡ Some g → face_number (other_side (face_at k) g) < k → w ≡ v → Took rows k w v
-  took_old : (g : Gluing) → glue rows (face_at k) ≡ Some g → k ≤ face_number (other_side (face_at k) g) → g.tet < w.seen → record w { types = w.types ++ 2 ∷ []; gluings = w.gluings ++ g ∷ [] } ≡ v → Took rows k w v
-  took_new : (g : Gluing) → glue rows (face_at k) ≡ Some g → k ≤ face_number (other_side (face_at k) g) → g.tet ≡ w.seen → g.perm ≡ identity → record w { seen = w.seen + 1; types = w.types ++ 1 ∷ [] } ≡ v → Took rows k w v
+  took_none : glue rows (face_of k) ≡ None → with_type 0 w ≡ v → Took rows k w v
+  took_met : (g : Gluing) → glue rows (face_of k) ≡ Some g → face_number (other_side (face_of k) g) < k → w ≡ v → Took rows k w v
+  took_old : (g : Gluing) → glue rows (face_of k) ≡ Some g → k ≤ face_number (other_side (face_of k) g) → g.tet < w.seen → record w { types = w.types ++ 2 ∷ []; gluings = w.gluings ++ g ∷ [] } ≡ v → Took rows k w v
+  took_new : (g : Gluing) → glue rows (face_of k) ≡ Some g → k ≤ face_number (other_side (face_of k) g) → g.tet ≡ w.seen → g.perm ≡ identity → record w { seen = w.seen + 1; types = w.types ++ 1 ∷ [] } ≡ v → Took rows k w v
 
-pub took : (rows : List Row) (k : ℕ) (w v : Walking) → IsTable rows → take_face rows (face_at k) w ≡ Some v → (k / 4 < w.seen) × Took rows k w v
+pub took : (rows : List Row) (k : ℕ) (w v : Walking) → IsTable rows → take_face rows (face_of k) w ≡ Some v → (k / 4 < w.seen) × Took rows k w v
 took rows k w v table e = by_bool (nat_lt (k / 4) w.seen)
-    (λ seen. (ltb-true (k / 4) w.seen seen, entry (glue rows (face_at k)) refl (sym (if_true (nat_lt (k / 4) w.seen) (take_entry (face_at k) (glue rows (face_at k)) w) None seen) ∙ e)))
-    (λ unseen. absurd (let never = sym (if_false (nat_lt (k / 4) w.seen) (take_entry (face_at k) (glue rows (face_at k)) w) None unseen) ∙ e in cc))
+    (λ seen. (ltb-true (k / 4) w.seen seen, entry (glue rows (face_of k)) refl (sym (if_true (nat_lt (k / 4) w.seen) (take_entry (face_of k) (glue rows (face_of k)) w) None seen) ∙ e)))
+    (λ unseen. absurd (let never = sym (if_false (nat_lt (k / 4) w.seen) (take_entry (face_of k) (glue rows (face_of k)) w) None unseen) ∙ e in cc))
   where
-    glued : (g : Gluing) → glue rows (face_at k) ≡ Some g → take_glued (face_at k) g w ≡ Some v → Took rows k w v
+    glued : (g : Gluing) → glue rows (face_of k) ≡ Some g → take_glued (face_of k) g w ≡ Some v → Took rows k w v
     glued g h f =
-        let face = image_below g.perm (table.permutes (face_at k) g h) (k % 4) (omega arith) in
+        let face = image_below g.perm (table.permutes (face_of k) g h) (k % 4) (omega arith) in
         let test = before_at k g face in
-        by_bool (is_face_before (other_side (face_at k) g) (face_at k))
-        (λ before. took_met g h (ltb-true (face_number (other_side (face_at k) g)) k (sym test ∙ before)) (some_same w v (sym (if_true _ _ _ before) ∙ f)))
+        by_bool (is_face_before (other_side (face_of k) g) (face_of k))
+        (λ before. took_met g h (ltb-true (face_number (other_side (face_of k) g)) k (sym test ∙ before)) (some_same w v (sym (if_true _ _ _ before) ∙ f)))
         (λ later.
-        let late : k ≤ face_number (other_side (face_at k) g) = ltb-false (face_number (other_side (face_at k) g)) k (sym test ∙ later) in
+        let late : k ≤ face_number (other_side (face_of k) g) = ltb-false (face_number (other_side (face_of k) g)) k (sym test ∙ later) in
         let rest = sym (if_false _ _ _ later) ∙ f in
         by_bool (nat_lt g.tet w.seen)
         (λ old. took_old g h late (ltb-true g.tet w.seen old) (some_same _ v (sym (if_true _ _ _ old) ∙ rest)))
@@ -49,66 +49,66 @@ took rows k w v table e = by_bool (nat_lt (k / 4) w.seen)
         took_new g h late (eqb-true g.tet w.seen parts.0) (same_list-true g.perm identity parts.1) (some_same _ v (sym (if_true _ _ _ next) ∙ last)))
         (λ none. absurd (let never = sym (if_false _ _ _ none) ∙ last in cc))))
 
-    entry : (o : Option Gluing) → glue rows (face_at k) ≡ o → take_entry (face_at k) o w ≡ Some v → Took rows k w v
+    entry : (o : Option Gluing) → glue rows (face_of k) ≡ o → take_entry (face_of k) o w ≡ Some v → Took rows k w v
     entry None h f = took_none h (some_same (with_type 0 w) v f)
     entry (Some g) h f = glued g h f
 
 -- the faces before place k, and those that they lead to, are met and glued as in the table
 pub record FollowsMet (rows : List Row) (k : ℕ) (met : List (Option (Option Gluing))) : Type 0 where
   pub size : length met ≡ 4 * length rows
-  pub before : (p : ℕ) → p < k → get_or met p None ≡ Some (glue rows (face_at p))
-  pub partner : (p : ℕ) (g : Gluing) → k ≤ p → p < 4 * length rows → glue rows (face_at p) ≡ Some g → face_number (other_side (face_at p) g) < k → get_or met p None ≡ Some (Some g)
-  pub unmet : (p : ℕ) → k ≤ p → p < 4 * length rows → ((g : Gluing) → glue rows (face_at p) ≡ Some g → k ≤ face_number (other_side (face_at p) g)) → get_or met p None ≡ None
+  pub before : (p : ℕ) → p < k → get_or met p None ≡ Some (glue rows (face_of p))
+  pub partner : (p : ℕ) (g : Gluing) → k ≤ p → p < 4 * length rows → glue rows (face_of p) ≡ Some g → face_number (other_side (face_of p) g) < k → get_or met p None ≡ Some (Some g)
+  pub unmet : (p : ℕ) → k ≤ p → p < 4 * length rows → ((g : Gluing) → glue rows (face_of p) ≡ Some g → k ≤ face_number (other_side (face_of p) g)) → get_or met p None ≡ None
 
 -- the two sides of a face
 pub record Paired (rows : List Row) (p k : ℕ) (h : Gluing) : Type 0 where
-  pub glued : glue rows (face_at k) ≡ Some (way_back (face_at p) h)
-  pub place : face_number (other_side (face_at k) (way_back (face_at p) h)) ≡ p
-  pub back : way_back (face_at k) (way_back (face_at p) h) ≡ h
+  pub glued : glue rows (face_of k) ≡ Some (way_back (face_of p) h)
+  pub place : face_number (other_side (face_of k) (way_back (face_of p) h)) ≡ p
+  pub back : way_back (face_of k) (way_back (face_of p) h) ≡ h
 
-paired : (rows : List Row) (p k : ℕ) (h : Gluing) → IsTable rows → glue rows (face_at p) ≡ Some h → face_number (other_side (face_at p) h) ≡ k → Paired rows p k h
+paired : (rows : List Row) (p k : ℕ) (h : Gluing) → IsTable rows → glue rows (face_of p) ≡ Some h → face_number (other_side (face_of p) h) ≡ k → Paired rows p k h
 paired rows p k h table e same =
-    let permutes = table.permutes (face_at p) h e in
-    let there : face_at k ≡ other_side (face_at p) h = ap face_at (sym same) ∙ face_at-place (other_side (face_at p) h) (other_face p h permutes) in
+    let permutes = table.permutes (face_of p) h e in
+    let there : face_of k ≡ other_side (face_of p) h = ap face_of (sym same) ∙ face_of-number (other_side (face_of p) h) (other_face p h permutes) in
     record {
-      glued = ap (glue rows) there ∙ table.leads_back (face_at p) h e;
-      place = ap (λ y. face_number (other_side y (way_back (face_at p) h))) there ∙ ap face_number (there_and_back (face_at p) h permutes (omega arith)) ∙ place-face_at p;
-      back = ap (λ y. way_back y (way_back (face_at p) h)) there ∙ back_again (face_at p) h permutes;
+      glued = ap (glue rows) there ∙ table.leads_back (face_of p) h e;
+      place = ap (λ y. face_number (other_side y (way_back (face_of p) h))) there ∙ ap face_number (there_and_back (face_of p) h permutes (omega arith)) ∙ number-face_of p;
+      back = ap (λ y. way_back y (way_back (face_of p) h)) there ∙ back_again (face_of p) h permutes;
     }
 
 pub gluing_same : (g h : Gluing) → Some g ≡ Some h → g ≡ h
 gluing_same g h e = cc
 
 -- a face that is met already
-pub met_follows : (rows : List Row) (k : ℕ) (g : Gluing) (met : List (Option (Option Gluing))) → IsTable rows → k < 4 * length rows → FollowsMet rows k met → glue rows (face_at k) ≡ Some g → face_number (other_side (face_at k) g) < k
+pub met_follows : (rows : List Row) (k : ℕ) (g : Gluing) (met : List (Option (Option Gluing))) → IsTable rows → k < 4 * length rows → FollowsMet rows k met → glue rows (face_of k) ≡ Some g → face_number (other_side (face_of k) g) < k
     → FollowsMet rows (k + 1) met
 met_follows rows k g met table l f e early = record {
   size = f.size;
-  before = λ p m. ⊎_elim (λ (same : p ≡ k). ap (λ q. get_or met q None) same ∙ f.partner k g (omega arith) l e early ∙ ap Some (sym e) ∙ ap (λ q. Some (glue rows (face_at q))) (sym same)) (λ (a : p ≡ k → ⊥). f.before p (omega arith)) (cases_eq p k);
+  before = λ p m. ⊎_elim (λ (same : p ≡ k). ap (λ q. get_or met q None) same ∙ f.partner k g (omega arith) l e early ∙ ap Some (sym e) ∙ ap (λ q. Some (glue rows (face_of q))) (sym same)) (λ (a : p ≡ k → ⊥). f.before p (omega arith)) (cases_eq p k);
   partner = λ p h low high glued m. ⊎_elim
-      (λ (same : face_number (other_side (face_at p) h) ≡ k).
+      (λ (same : face_number (other_side (face_of p) h) ≡ k).
       let q = paired rows p k h table glued same in
-      let back : way_back (face_at p) h ≡ g = gluing_same (way_back (face_at p) h) g (sym q.glued ∙ e) in
-      let there : face_number (other_side (face_at k) g) ≡ p = ap (λ x. face_number (other_side (face_at k) x)) (sym back) ∙ q.place in
+      let back : way_back (face_of p) h ≡ g = gluing_same (way_back (face_of p) h) g (sym q.glued ∙ e) in
+      let there : face_number (other_side (face_of k) g) ≡ p = ap (λ x. face_number (other_side (face_of k) x)) (sym back) ∙ q.place in
       absurd (omega (arith, there)))
-      (λ (a : face_number (other_side (face_at p) h) ≡ k → ⊥). f.partner p h (omega arith) high glued (omega arith))
-      (cases_eq (face_number (other_side (face_at p) h)) k);
+      (λ (a : face_number (other_side (face_of p) h) ≡ k → ⊥). f.partner p h (omega arith) high glued (omega arith))
+      (cases_eq (face_number (other_side (face_of p) h)) k);
   unmet = λ p low high far. f.unmet p (omega arith) high (λ h glued. let m = far h glued in omega (arith, m));
 }
 
 -- a boundary face
-pub bound_follows : (rows : List Row) (k : ℕ) (met : List (Option (Option Gluing))) → IsTable rows → k < 4 * length rows → FollowsMet rows k met → glue rows (face_at k) ≡ None
-    → FollowsMet rows (k + 1) (slice_set met (face_number (face_at k)) (Some None))
+pub bound_follows : (rows : List Row) (k : ℕ) (met : List (Option (Option Gluing))) → IsTable rows → k < 4 * length rows → FollowsMet rows k met → glue rows (face_of k) ≡ None
+    → FollowsMet rows (k + 1) (slice_set met (face_number (face_of k)) (Some None))
 bound_follows rows k met table l f e = record {
-  size = length-set met (face_number (face_at k)) (Some None) ∙ f.size;
+  size = length-set met (face_number (face_of k)) (Some None) ∙ f.size;
   before = λ p m. ⊎_elim
-      (λ (same : p ≡ k). ap (λ q. get_or (slice_set met (face_number (face_at k)) (Some None)) q None) same ∙ bound_here met k inside ∙ ap Some (sym e) ∙ ap (λ q. Some (glue rows (face_at q))) (sym same))
-      (λ (a : p ≡ k → ⊥). bound_kept met k free_k p (glue rows (face_at p)) (f.before p (omega arith)))
+      (λ (same : p ≡ k). ap (λ q. get_or (slice_set met (face_number (face_of k)) (Some None)) q None) same ∙ bound_here met k inside ∙ ap Some (sym e) ∙ ap (λ q. Some (glue rows (face_of q))) (sym same))
+      (λ (a : p ≡ k → ⊥). bound_kept met k free_k p (glue rows (face_of p)) (f.before p (omega arith)))
       (cases_eq p k);
   partner = λ p h low high glued m. ⊎_elim
-      (λ (same : face_number (other_side (face_at p) h) ≡ k). absurd (let q = paired rows p k h table glued same in let c = sym e ∙ q.glued in cc))
-      (λ (a : face_number (other_side (face_at p) h) ≡ k → ⊥). bound_kept met k free_k p (Some h) (f.partner p h (omega arith) high glued (omega arith)))
-      (cases_eq (face_number (other_side (face_at p) h)) k);
+      (λ (same : face_number (other_side (face_of p) h) ≡ k). absurd (let q = paired rows p k h table glued same in let c = sym e ∙ q.glued in cc))
+      (λ (a : face_number (other_side (face_of p) h) ≡ k → ⊥). bound_kept met k free_k p (Some h) (f.partner p h (omega arith) high glued (omega arith)))
+      (cases_eq (face_number (other_side (face_of p) h)) k);
   unmet = λ p low high far. bound_elsewhere met k p (λ same. absurd (omega arith)) ∙ f.unmet p (omega arith) high (λ h glued. let m = far h glued in omega (arith, m));
 }
   where
@@ -119,57 +119,57 @@ bound_follows rows k met table l f e = record {
     free_k = f.unmet k (omega arith) l (λ h glued. absurd (let c = sym e ∙ glued in cc))
 
 -- a face both sides of which are met now
-pub both_unmet : (rows : List Row) (k : ℕ) (g : Gluing) (met : List (Option (Option Gluing))) → IsTable rows → k < 4 * length rows → FollowsMet rows k met → glue rows (face_at k) ≡ Some g → k ≤ face_number (other_side (face_at k) g)
+pub both_unmet : (rows : List Row) (k : ℕ) (g : Gluing) (met : List (Option (Option Gluing))) → IsTable rows → k < 4 * length rows → FollowsMet rows k met → glue rows (face_of k) ≡ Some g → k ≤ face_number (other_side (face_of k) g)
     → BothMet met k g
 both_unmet rows k g met table l f e late = record {
   inside = let size = f.size in omega (arith, size);
   inside_other = let size = f.size in omega (arith, size, in_range, face);
   permutes = permutes;
-  free_here = f.unmet k (omega arith) l (λ h glued. let same = gluing_same g h (sym e ∙ glued) in subst (λ (x : Gluing). k ≤ face_number (other_side (face_at k) x)) same late);
-  free_other = f.unmet (face_number (other_side (face_at k) g)) late (omega (arith, in_range, face)) far;
-  apart = not_true (same_face (other_side (face_at k) g) (face_at k)) (table.apart (face_at k) g e);
+  free_here = f.unmet k (omega arith) l (λ h glued. let same = gluing_same g h (sym e ∙ glued) in subst (λ (x : Gluing). k ≤ face_number (other_side (face_of k) x)) same late);
+  free_other = f.unmet (face_number (other_side (face_of k) g)) late (omega (arith, in_range, face)) far;
+  apart = not_true (same_face (other_side (face_of k) g) (face_of k)) (table.apart (face_of k) g e);
 }
   where
     permutes : IsPermutationOfFour g.perm
-    permutes = table.permutes (face_at k) g e
+    permutes = table.permutes (face_of k) g e
 
     in_range : g.tet < length rows
-    in_range = table.in_range (face_at k) g e
+    in_range = table.in_range (face_of k) g e
 
     face : image g.perm (k % 4) < 4
-    face = image_below g.perm (table.permutes (face_at k) g e) (k % 4) (omega arith)
+    face = image_below g.perm (table.permutes (face_of k) g e) (k % 4) (omega arith)
 
-    far : (h : Gluing) → glue rows (face_at (face_number (other_side (face_at k) g))) ≡ Some h → k ≤ face_number (other_side (face_at (face_number (other_side (face_at k) g))) h)
+    far : (h : Gluing) → glue rows (face_of (face_number (other_side (face_of k) g))) ≡ Some h → k ≤ face_number (other_side (face_of (face_number (other_side (face_of k) g))) h)
     far h glued =
-        let q = paired rows k (face_number (other_side (face_at k) g)) g table e refl in
-        let same = gluing_same (way_back (face_at k) g) h (sym q.glued ∙ glued) in
+        let q = paired rows k (face_number (other_side (face_of k) g)) g table e refl in
+        let same = gluing_same (way_back (face_of k) g) h (sym q.glued ∙ glued) in
         let there = q.place in
-        let P : Gluing → Type 0 = λ x. k ≤ face_number (other_side (face_at (face_number (other_side (face_at k) g))) x) in
+        let P : Gluing → Type 0 = λ x. k ≤ face_number (other_side (face_of (face_number (other_side (face_of k) g))) x) in
         subst P same (omega (arith, there))
 
-pub both_follows : (rows : List Row) (k : ℕ) (g : Gluing) (met : List (Option (Option Gluing))) → IsTable rows → FollowsMet rows k met → glue rows (face_at k) ≡ Some g → BothMet met k g
-    → FollowsMet rows (k + 1) (meet_at met (face_at k) g)
+pub both_follows : (rows : List Row) (k : ℕ) (g : Gluing) (met : List (Option (Option Gluing))) → IsTable rows → FollowsMet rows k met → glue rows (face_of k) ≡ Some g → BothMet met k g
+    → FollowsMet rows (k + 1) (meet_at met (face_of k) g)
 both_follows rows k g met table f e b = record {
   size = length-set _ _ _ ∙ length-set _ _ _ ∙ f.size;
   before = λ p m. ⊎_elim
-      (λ (same : p ≡ k). ap (λ q. get_or (meet_at met (face_at k) g) q None) same ∙ met_here met k g b ∙ ap Some (sym e) ∙ ap (λ q. Some (glue rows (face_at q))) (sym same))
-      (λ (a : p ≡ k → ⊥). met_kept met k g b p (glue rows (face_at p)) (f.before p (omega arith)))
+      (λ (same : p ≡ k). ap (λ q. get_or (meet_at met (face_of k) g) q None) same ∙ met_here met k g b ∙ ap Some (sym e) ∙ ap (λ q. Some (glue rows (face_of q))) (sym same))
+      (λ (a : p ≡ k → ⊥). met_kept met k g b p (glue rows (face_of p)) (f.before p (omega arith)))
       (cases_eq p k);
   partner = λ p h low high glued m. ⊎_elim
-      (λ (same : face_number (other_side (face_at p) h) ≡ k).
+      (λ (same : face_number (other_side (face_of p) h) ≡ k).
       let q = paired rows p k h table glued same in
-      let back : way_back (face_at p) h ≡ g = gluing_same (way_back (face_at p) h) g (sym q.glued ∙ e) in
-      let there : face_number (other_side (face_at k) g) ≡ p = ap (λ x. face_number (other_side (face_at k) x)) (sym back) ∙ q.place in
-      let home : way_back (face_at k) g ≡ h = ap (way_back (face_at k)) (sym back) ∙ q.back in
-      ap (λ m. get_or (meet_at met (face_at k) g) m None) (sym there) ∙ met_other met k g b ∙ ap (λ x. Some (Some x)) home)
-      (λ (a : face_number (other_side (face_at p) h) ≡ k → ⊥). met_kept met k g b p (Some h) (f.partner p h (omega arith) high glued (omega arith)))
-      (cases_eq (face_number (other_side (face_at p) h)) k);
+      let back : way_back (face_of p) h ≡ g = gluing_same (way_back (face_of p) h) g (sym q.glued ∙ e) in
+      let there : face_number (other_side (face_of k) g) ≡ p = ap (λ x. face_number (other_side (face_of k) x)) (sym back) ∙ q.place in
+      let home : way_back (face_of k) g ≡ h = ap (way_back (face_of k)) (sym back) ∙ q.back in
+      ap (λ m. get_or (meet_at met (face_of k) g) m None) (sym there) ∙ met_other met k g b ∙ ap (λ x. Some (Some x)) home)
+      (λ (a : face_number (other_side (face_of p) h) ≡ k → ⊥). met_kept met k g b p (Some h) (f.partner p h (omega arith) high glued (omega arith)))
+      (cases_eq (face_number (other_side (face_of p) h)) k);
   unmet = λ p low high far. met_elsewhere met k g p (λ same. absurd (omega arith)) (λ same. absurd (at_other p same far)) ∙ f.unmet p (omega arith) high (λ h glued. let m = far h glued in omega (arith, m));
 }
   where
-    at_other : (p : ℕ) → p ≡ face_number (other_side (face_at k) g) → ((h : Gluing) → glue rows (face_at p) ≡ Some h → k + 1 ≤ face_number (other_side (face_at p) h)) → ⊥
+    at_other : (p : ℕ) → p ≡ face_number (other_side (face_of k) g) → ((h : Gluing) → glue rows (face_of p) ≡ Some h → k + 1 ≤ face_number (other_side (face_of p) h)) → ⊥
     at_other p same far =
         let q = paired rows k p g table e (sym same) in
-        let m = far (way_back (face_at k) g) q.glued in
+        let m = far (way_back (face_of k) g) q.glued in
         let there = q.place in
         omega (arith, m, there)

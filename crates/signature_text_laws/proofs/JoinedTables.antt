@@ -8,11 +8,12 @@ use Rattle.std.proofs.lemmas.List.FromFn.{get_or-map-range_with_len, length-map-
 use Rattle.std.proofs.lemmas.List.Elements.{All-from_get_or}
 use Rattle.table_definitions.specs.Permutation.{four}
 use Rattle.table_definitions.specs.Table.{Gluing, Face, Row, IsTable, glue, other_side, way_back, faces}
+use Rattle.table_definitions.specs.Places.{face_of}
 use Rattle.signature_definitions.specs.declared.SigFault.{SigFault}
 use Rattle.signature_definitions.specs.SignatureText as signatures
 use Rattle.signature_definitions.specs.SignatureText.{join_faces, Joining}
 use Rattle.text_definitions.proofs.Readers.{bind_ok}
-use Rattle.signature_text_laws.specs.Slots.{Slots, face_at, slot_face, slots_begun, IsSlots}
+use Rattle.signature_text_laws.specs.Slots.{Slots, slot_face, slots_begun, IsSlots}
 use Rattle.signature_text_laws.proofs.SlotLaws.{ok_same, face_kept}
 use Rattle.signature_text_laws.proofs.Simulation.{known_in, glued-known, Agree, Agrees, face_step, begun_agrees, faces-places}
 use Rattle.signature_text_laws.proofs.SoundJoins.{IsSound, face_sound}
@@ -23,7 +24,7 @@ agrees_back n (Ok t) (Err f) v a e = absurd a
 agrees_back n (Err f) (Ok w) v a e = absurd a
 agrees_back n (Err f) (Err g) v a e = absurd cc
 
-faces_sound : (n m k : ℕ) (s : Slots) (j u : Joining) → Agree n s j → (0 < m → IsSlots n s) → IsSound j.met j.seen → k + m ≤ 4 * n → join_faces (map face_at (range_with_len k m)) j ≡ Ok u
+faces_sound : (n m k : ℕ) (s : Slots) (j u : Joining) → Agree n s j → (0 < m → IsSlots n s) → IsSound j.met j.seen → k + m ≤ 4 * n → join_faces (map face_of (range_with_len k m)) j ≡ Ok u
     → IsSound u.met u.seen × (IsSlots n s → u.seen ≤ n)
 unfolding join_faces
 faces_sound n zero k s j u a h sound l e =
@@ -31,13 +32,13 @@ faces_sound n zero k s j u a h sound l e =
     let P : Joining → Type 0 = λ v. IsSound v.met v.seen × (IsSlots n s → v.seen ≤ n) in
     subst P same (sound, λ fit. let r = fit.room in let q = a.seen in omega (arith, r, q))
 faces_sound n (suc m) k s j u a h sound l e =
-    let ht : (face_at k).tet < n = omega arith in
-    let hf : (face_at k).face < 4 = omega arith in
+    let ht : (face_of k).tet < n = omega arith in
+    let hf : (face_of k).face < 4 = omega arith in
     let slots : IsSlots n s = h (omega arith) in
-    let first = bind_ok (signatures.join_face (face_at k) j) (λ v. join_faces (map face_at (range_with_len (k + 1) m)) v) u e in
-    let other = agrees_back n (slot_face (face_at k) s) (signatures.join_face (face_at k) j) first.0 (face_step n (face_at k) s j a slots ht hf) first.1 in
-    let kept = face_kept n (face_at k) s other.0 slots other.1 in
-    let rest = faces_sound n m (k + 1) other.0 first.0 u other.2 (λ some. kept) (face_sound n (face_at k) s j first.0 a.parts slots hf sound first.1) (omega arith) first.2 in
+    let first = bind_ok (signatures.join_face (face_of k) j) (λ v. join_faces (map face_of (range_with_len (k + 1) m)) v) u e in
+    let other = agrees_back n (slot_face (face_of k) s) (signatures.join_face (face_of k) j) first.0 (face_step n (face_of k) s j a slots ht hf) first.1 in
+    let kept = face_kept n (face_of k) s other.0 slots other.1 in
+    let rest = faces_sound n m (k + 1) other.0 first.0 u other.2 (λ some. kept) (face_sound n (face_of k) s j first.0 a.parts slots hf sound first.1) (omega arith) first.2 in
     (rest.0, λ fit. rest.1 kept)
 
 begun_sound : IsSound [] 1

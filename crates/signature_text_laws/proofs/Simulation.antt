@@ -16,7 +16,8 @@ use Rattle.signature_definitions.specs.declared.SigFault.TheVariants as sig_faul
 use Rattle.signature_definitions.specs.SignatureText as signatures
 use Rattle.signature_definitions.specs.SignatureText.{join_faces}
 use Rattle.table_definitions.proofs.Permutations.{image_below, words_permute}
-use Rattle.signature_text_laws.specs.Slots.{Slots, face_at, slot, meet_at, slot_glued, slot_type, with_types, slot_next, slot_face, slot_faces, slots_begun, slot_row, slot_rows, IsSlots, IsTaking}
+use Rattle.table_definitions.specs.Places.{face_of}
+use Rattle.signature_text_laws.specs.Slots.{Slots, slot, meet_at, slot_glued, slot_type, with_types, slot_next, slot_face, slot_faces, slots_begun, slot_row, slot_rows, IsSlots, IsTaking}
 use Rattle.signature_text_laws.proofs.SlotLaws.{face_kept, times-same}
 
 -- what a list of the faces met knows of a face
@@ -177,36 +178,36 @@ face_step n x s j a h ht hf =
 
 -- so many faces from a place on
 faces_agree : (n m k : ℕ) (s : Slots) (j : signatures.Joining) → Agree n s j → (0 < m → IsSlots n s) → k + m ≤ 4 * n
-    → Agrees n (slot_faces m k s) (join_faces (map face_at (range_with_len k m)) j)
+    → Agrees n (slot_faces m k s) (join_faces (map face_of (range_with_len k m)) j)
 unfolding slot_faces join_faces
 faces_agree n zero k s j a h l = a
 faces_agree n (suc m) k s j a h l =
-    let ht : (face_at k).tet < n = omega arith in
-    let hf : (face_at k).face < 4 = omega arith in
+    let ht : (face_of k).tet < n = omega arith in
+    let hf : (face_of k).face < 4 = omega arith in
     let slots : IsSlots n s = h (omega arith) in
-    bind_agrees n (slot_face (face_at k) s) (signatures.join_face (face_at k) j) (λ t. slot_faces m (k + 1) t) (λ u. join_faces (map face_at (range_with_len (k + 1) m)) u)
-    (face_step n (face_at k) s j a slots ht hf)
-    (λ t u made b. let kept = face_kept n (face_at k) s t slots made in faces_agree n m (k + 1) t u b (λ some. kept) (omega arith))
+    bind_agrees n (slot_face (face_of k) s) (signatures.join_face (face_of k) j) (λ t. slot_faces m (k + 1) t) (λ u. join_faces (map face_of (range_with_len (k + 1) m)) u)
+    (face_step n (face_of k) s j a slots ht hf)
+    (λ t u made b. let kept = face_kept n (face_of k) s t slots made in faces_agree n m (k + 1) t u b (λ some. kept) (omega arith))
 
 -- the faces of all tetrahedra stand at their places
 four_same : (w x y z w' x' y' z' : Face) (rest rest' : List Face) → w ≡ w' → x ≡ x' → y ≡ y' → z ≡ z' → rest ≡ rest' → w ∷ x ∷ y ∷ z ∷ rest ≡ w' ∷ x' ∷ y' ∷ z' ∷ rest'
 four_same w x y z w' x' y' z' rest rest' a b c d e = cc
 
-face_same : (a f k : ℕ) → f < 4 → k ≡ 4 * a + f → record { tet = a; face = f } ≡ face_at k
+face_same : (a f k : ℕ) → f < 4 → k ≡ 4 * a + f → record { tet = a; face = f } ≡ face_of k
 face_same a f k l e =
     let t : a ≡ k / 4 = omega arith in
     let g : f ≡ k % 4 = omega arith in
     λ i. record { tet = t i; face = g i }
 
 faces_from : (a n k m : ℕ) → k ≡ 4 * a → m ≡ 4 * n
-    → map (λ (p : ℕ × ℕ). let y : Face = record { tet = p.0; face = p.1 } in y) (pairs_of (range_with_len a n) four) ≡ map face_at (range_with_len k m)
+    → map (λ (p : ℕ × ℕ). let y : Face = record { tet = p.0; face = p.1 } in y) (pairs_of (range_with_len a n) four) ≡ map face_of (range_with_len k m)
 faces_from a zero k m e f = let none : m ≡ 0 = omega arith in rw none refl
 faces_from a (suc n) k m e f =
     let more : m ≡ suc (suc (suc (suc (4 * n)))) = omega arith in
     rw more (four_same _ _ _ _ _ _ _ _ _ _ (face_same a 0 k (omega arith) (omega arith)) (face_same a 1 (k + 1) (omega arith) (omega arith))
     (face_same a 2 (k + 1 + 1) (omega arith) (omega arith)) (face_same a 3 (k + 1 + 1 + 1) (omega arith) (omega arith)) (faces_from (a + 1) n (k + 1 + 1 + 1 + 1) (4 * n) (omega arith) refl))
 
-pub faces-places : (n : ℕ) → faces n ≡ map face_at (below (4 * n))
+pub faces-places : (n : ℕ) → faces n ≡ map face_of (below (4 * n))
 faces-places n = faces_from 0 n 0 (4 * n) refl refl
 
 -- the rows

@@ -10,11 +10,12 @@ use Rattle.std.proofs.lemmas.List.FromFn.{map-range_with_len_more}
 use Rattle.table_definitions.specs.Lists.{times_in}
 use Rattle.table_definitions.specs.Permutation.{identity, words}
 use Rattle.table_definitions.specs.Table.{Gluing, Face, other_side, same_face, face_number}
+use Rattle.table_definitions.specs.Places.{face_of}
 use Rattle.signature_definitions.specs.declared.SigFault.TheVariants as sig_faults
 use Rattle.signature_definitions.specs.SignatureText as signatures
 use Rattle.signature_definitions.specs.declared.SigFault.{SigFault}
 use Rattle.signature_text_laws.specs.Faults.{Fails, Leaves}
-use Rattle.signature_text_laws.specs.Slots.{Slots, face_at, slot, meet_at, slot_boundary, slot_new, slot_glued, slot_type, with_types, slot_next, slot_face, slot_faces, slot_row, slot_rows, IsSlots, IsTaking}
+use Rattle.signature_text_laws.specs.Slots.{Slots, slot, meet_at, slot_boundary, slot_new, slot_glued, slot_type, with_types, slot_next, slot_face, slot_faces, slot_row, slot_rows, IsSlots, IsTaking}
 use Rattle.signature_text_laws.proofs.ReadLaws.{fails_on, next_ok}
 
 -- how often a number stands in a list with one more in front
@@ -106,20 +107,20 @@ taken_kept n x (suc (suc (suc type))) s t h e = absurd (let small : suc (suc (su
 
 -- one more face
 
-pub slot_faces-more : (j k p : ℕ) (s t : Slots) → j ≡ suc k → slot_face (face_at p) s ≡ Ok t → slot_faces k (p + 1) t ≡ slot_faces j p s
+pub slot_faces-more : (j k p : ℕ) (s t : Slots) → j ≡ suc k → slot_face (face_of p) s ≡ Ok t → slot_faces k (p + 1) t ≡ slot_faces j p s
 unfolding slot_faces
 slot_faces-more j k p s t e h =
-    sym (ap (λ m. slot_faces m p s) e ∙ next_ok (slot_face (face_at p) s) t (λ t. slot_faces k (p + 1) t) h)
+    sym (ap (λ m. slot_faces m p s) e ∙ next_ok (slot_face (face_of p) s) t (λ t. slot_faces k (p + 1) t) h)
 
 pub slot_faces-end : (j p : ℕ) (s : Slots) → j ≡ 0 → slot_faces j p s ≡ Ok s
 unfolding slot_faces
 slot_faces-end j p s e = ap (λ m. slot_faces m p s) e
 
-pub slot_faces-wrong : (j k p : ℕ) (s : Slots) (e : SigFault) → j ≡ suc k → Fails e (slot_face (face_at p) s) → Fails e (slot_faces j p s)
+pub slot_faces-wrong : (j k p : ℕ) (s : Slots) (e : SigFault) → j ≡ suc k → Fails e (slot_face (face_of p) s) → Fails e (slot_faces j p s)
 unfolding slot_faces
 slot_faces-wrong j k p s e same h =
     let P : ℕ → Type 0 = λ m. Fails e (slot_faces m p s) in
-    subst P (sym same) (fails_on e (slot_face (face_at p) s) (λ t. slot_faces k (p + 1) t) h)
+    subst P (sym same) (fails_on e (slot_face (face_of p) s) (λ t. slot_faces k (p + 1) t) h)
 
 -- one more row
 pub slot_rows-more : (t : ℕ) (met : List (Option (Option Gluing))) → slot_rows (t + 1) met ≡ slot_rows t met ++ slot_row met t ∷ []

@@ -16,11 +16,12 @@ use Rattle.signature_definitions.specs.Spelling.{character, in_values, head_valu
 use Rattle.signature_definitions.specs.SignatureText as signatures
 use Rattle.signature_definitions.specs.SignatureText.{Head, Parts, numbers_in, types_from, signature_table, faces_of_type}
 use Rattle.table_definitions.proofs.Permutations.{index_below}
+use Rattle.table_definitions.specs.Places.{face_of}
 use Rattle.signature_definitions.specs.declared.SigFault.{SigFault}
 use Rattle.signature_definitions.specs.declared.SigFault.TheVariants.{NoMemory}
 use Rattle.signature_text_laws.specs.Faults.{Fails, Reads, SpellsNothing}
 use Rattle.signature_text_laws.specs.Parts.{parts_of, types_begun}
-use Rattle.signature_text_laws.specs.Slots.{Slots, face_at, slot, slot_faces, slots_begun, slot_row, slot_rows, IsSlots}
+use Rattle.signature_text_laws.specs.Slots.{Slots, slot, slot_faces, slots_begun, slot_row, slot_rows, IsSlots}
 use Rattle.signature_text_laws.specs.Walks.{Walking, walk_begun, IsWalk}
 use Rattle.signature_text_laws.proofs.ReadLaws.{next_ok}
 use Rattle.signature_text_laws.proofs.TypeLaws.{signature_table-joined}
@@ -141,12 +142,12 @@ pub record CountsAll (rows : List Row) : Type 0 where
 last_seen : (rows : List Row) (q : ℕ) (w : Walking) → length rows ≡ suc q → IsWalkOrdered rows → IsWalk rows (4 * length rows) w → q < w.seen
 last_seen rows q w long ordered walk =
     let l : 4 * q < 4 * length rows = omega (arith, long) in
-    let parts = and_parts (is_seen rows (record { tet = 4 * q / 4; face = 0 }) (4 * q / 4)) (is_ordered_gluing rows (face_at (4 * q)) (glue rows (face_at (4 * q)))) (ordered_at rows (4 * q) ordered l) in
+    let parts = and_parts (is_seen rows (record { tet = 4 * q / 4; face = 0 }) (4 * q / 4)) (is_ordered_gluing rows (face_of (4 * q)) (glue rows (face_of (4 * q)))) (ordered_at rows (4 * q) ordered l) in
     let zeroth : 0 ≡ 4 * q % 4 = omega arith in
-    let here : is_seen rows (face_at (4 * q)) (4 * q / 4) ≡ true = ap (λ f. is_seen rows (record { tet = 4 * q / 4; face = f }) (4 * q / 4)) (sym zeroth) ∙ parts.0 in
+    let here : is_seen rows (face_of (4 * q)) (4 * q / 4) ≡ true = ap (λ f. is_seen rows (record { tet = 4 * q / 4; face = f }) (4 * q / 4)) (sym zeroth) ∙ parts.0 in
     let end : 4 * q + 4 ≡ 4 * length rows = omega (arith, long) in
     let later = is_seen-later rows (4 * q) 4 (4 * q / 4) (omega (arith, long)) here in
-    let at_end : is_seen rows (face_at (4 * length rows)) (4 * q / 4) ≡ true = subst (λ (k : ℕ). is_seen rows (face_at k) (4 * q / 4) ≡ true) end later in
+    let at_end : is_seen rows (face_of (4 * length rows)) (4 * q / 4) ≡ true = subst (λ (k : ℕ). is_seen rows (face_of k) (4 * q / 4) ≡ true) end later in
     let seen = ltb-true (4 * q / 4) w.seen (sym (walk.seen (4 * q / 4)) ∙ at_end) in
     omega (arith, seen)
 
@@ -156,7 +157,7 @@ counts_all rows table ordered =
     let f = r.follows in
     let met = f.met in
     let size = met.size in
-    let none : sum_by free r.to.met ≡ 0 = all_met r.to.met (λ p l. (glue rows (face_at p), met.before p (omega (arith, size)))) in
+    let none : sum_by free r.to.met ≡ 0 = all_met r.to.met (λ p l. (glue rows (face_of p), met.before p (omega (arith, size)))) in
     let types = walk_types rows (4 * length rows) r.walk refl r.walked in
     let count = f.count in
     let total = ap (sum_by faces_of_type) types in
@@ -172,7 +173,7 @@ counts_all rows table ordered =
         omega (arith, last, most, long, ones, times)
 
 -- the rows that are joined
-pub joined_rows : (rows : List Row) (t : Slots) → IsTable rows → ((p : ℕ) → p < 4 * length rows → get_or t.met p None ≡ Some (glue rows (face_at p))) → slot_rows (length rows) t.met ≡ rows
+pub joined_rows : (rows : List Row) (t : Slots) → IsTable rows → ((p : ℕ) → p < 4 * length rows → get_or t.met p None ≡ Some (glue rows (face_of p))) → slot_rows (length rows) t.met ≡ rows
 joined_rows rows t table met = ext_get_or [] (slot_rows (length rows) t.met) rows long (λ i l. get_or-map-range_with_len (slot_row t.met) 0 (length rows) i i [] (omega (arith, long, l)) (omega arith) ∙ row_same i (omega (arith, long, l)))
   where
     long : length (slot_rows (length rows) t.met) ≡ length rows

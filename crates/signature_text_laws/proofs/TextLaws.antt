@@ -1,12 +1,12 @@
 -- The parts of a text, one character after the other.
 use Rattle.std.proofs.Common.{◌≡◌, ℕ, zero, suc, ◌+◌, ◌*◌, ◌/◌, ◌%◌, ◌<◌, ◌≤◌, List, [], ◌∷◌, ◌++◌, length, drop, get_or, map, refl, sym, ap, ◌∙◌, arith, append_assoc, append-nil}
 use Rattle.std.proofs.lemmas.List.FromFn.{length-map-range_with_len}
-use Rattle.signature_text_laws.specs.Slots.{face_at}
 use Rattle.signature_text_laws.proofs.Simulation.{faces-places}
 use Rattle.std.specs.Prelude.{Bool, true, false, All, slice_index, filter_map, Option, Some, None, if◌then◌else◌}
 use Rattle.std.proofs.lemmas.List.{map-append, get_or-drop, length-drop}
 use Rattle.table_definitions.specs.Permutation.{index}
 use Rattle.table_definitions.specs.Table.{Gluing, Row, Face, glue, other_side, faces, is_face_before}
+use Rattle.table_definitions.specs.Places.{face_of}
 use Rattle.signature_definitions.specs.Spelling.{character, in_values, packed, joined, head_values, width, type_of, face_types, seen_gluings, spelling, spelling_values}
 use Rattle.signature_definitions.specs.WalkOrder.{is_seen}
 use Rattle.signature_text_laws.specs.Texts.{number_text, destinations_text, indices_text}
@@ -91,7 +91,7 @@ filter_map-short {A} F (x ∷ xs) = cases (F x) (filter_map-short F xs)
         by_case (Some y) e = rw e (omega arith)
 
 pub few_types : (rows : List Row) → length (face_types rows) ≤ 4 * length rows
-few_types rows = let h = filter_map-short (λ x. type_of rows x (glue rows x)) (faces (length rows)) in let e = ap (λ (xs : List Face). length xs) (faces-places (length rows)) in let f = length-map-range_with_len face_at 0 (4 * length rows) in omega (arith, h, e, f)
+few_types rows = let h = filter_map-short (λ x. type_of rows x (glue rows x)) (faces (length rows)) in let e = ap (λ (xs : List Face). length xs) (faces-places (length rows)) in let f = length-map-range_with_len face_of 0 (4 * length rows) in omega (arith, h, e, f)
 
 -- the whole text
 pub whole_text : (rows : List Row) (types : List ℕ) (gs : List Gluing) (n : ℕ) → n ≡ length rows → types ≡ face_types rows → gs ≡ seen_gluings rows

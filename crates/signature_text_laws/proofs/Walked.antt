@@ -15,21 +15,23 @@ use Rattle.signature_definitions.specs.Spelling.{face_types, seen_gluings}
 use Rattle.signature_definitions.specs.SignatureText as signatures
 use Rattle.signature_definitions.specs.SignatureText.{faces_of_type}
 use Rattle.table_definitions.proofs.Permutations.{image_below, words_permute, index-words}
-use Rattle.signature_text_laws.specs.Slots.{Slots, face_at, slot, slot_face, slot_faces, slots_begun, slot_row, slot_rows, IsSlots}
+use Rattle.table_definitions.specs.Places.{face_of}
+use Rattle.table_definitions.proofs.Faces.{number-face_of, face_of-number}
+use Rattle.signature_text_laws.specs.Slots.{Slots, slot, slot_face, slot_faces, slots_begun, slot_row, slot_rows, IsSlots}
 use Rattle.signature_text_laws.specs.Walks.{Walking, with_type, take_entry, take_face, walk_begun, IsWalk}
 use Rattle.signature_text_laws.proofs.SlotLaws.{ok_same, face_kept}
 use Rattle.signature_text_laws.proofs.SeenLaws.{before_places}
 use Rattle.signature_text_laws.proofs.WalkLaws.{takes_on, walk_begins, walk_ordered, walk_types, walk_gluings}
 use Rattle.text_definitions.proofs.Readers.{bind_ok}
-use Rattle.signature_text_laws.proofs.Stepping.{free, IsJoined, Stepped, stays, bounds, reaches, glues, place-face_at, face_at-place, stepped}
+use Rattle.signature_text_laws.proofs.Stepping.{free, IsJoined, Stepped, stays, bounds, reaches, glues, stepped}
 use Rattle.signature_text_laws.proofs.Joined.{met_here, new_met, glues_met, bound_here, joined_on, kept_on, joined_begun}
 
 -- what the rows are glued to at a place
-pub glue-slot_rows : (n : ℕ) (met : List (Option (Option Gluing))) (p : ℕ) → p < 4 * n → glue (slot_rows n met) (face_at p) ≡ unwrap_or (get_or met p None) None
+pub glue-slot_rows : (n : ℕ) (met : List (Option (Option Gluing))) (p : ℕ) → p < 4 * n → glue (slot_rows n met) (face_of p) ≡ unwrap_or (get_or met p None) None
 glue-slot_rows n met p l =
     ap (λ (row : Row). get_or row (p % 4) None) (get_or-map-range_with_len (slot_row met) 0 n (p / 4) (p / 4) [] (omega arith) (omega arith))
     ∙ get_or-map-range_with_len (λ f. unwrap_or (slot met (record { tet = p / 4; face = f })) None) 0 4 (p % 4) (p % 4) None (omega arith) (omega arith)
-    ∙ ap (λ q. unwrap_or (get_or met q None) None) (place-face_at p)
+    ∙ ap (λ q. unwrap_or (get_or met q None) None) (number-face_of p)
 
 -- what is left of the parts where the walk has come so far
 pub record Parted (parts : signatures.Parts) (w : Walking) (s : Slots) : Type 0 where
@@ -38,32 +40,32 @@ pub record Parted (parts : signatures.Parts) (w : Walking) (s : Slots) : Type 0 
   pub destinations : map (λ (d : ℕ × ℕ). d.0) parts.destinations ≡ map (λ (g : Gluing). g.tet) w.gluings ++ map (λ (d : ℕ × ℕ). d.0) s.parts.destinations
   pub gluings : map (λ (d : ℕ × ℕ). d.0) parts.gluings ≡ map (λ (g : Gluing). index g.perm) w.gluings ++ map (λ (d : ℕ × ℕ). d.0) s.parts.gluings
 
-pub before_at : (k : ℕ) (g : Gluing) → image g.perm (k % 4) < 4 → is_face_before (other_side (face_at k) g) (face_at k) ≡ nat_lt (face_number (other_side (face_at k) g)) k
-before_at k g h = ap (λ y. is_face_before y (face_at k)) (sym (face_at-place (other_side (face_at k) g) h)) ∙ before_places (face_number (other_side (face_at k) g)) k
+pub before_at : (k : ℕ) (g : Gluing) → image g.perm (k % 4) < 4 → is_face_before (other_side (face_of k) g) (face_of k) ≡ nat_lt (face_number (other_side (face_of k) g)) k
+before_at k g h = ap (λ y. is_face_before y (face_of k)) (sym (face_of-number (other_side (face_of k) g) h)) ∙ before_places (face_number (other_side (face_of k) g)) k
 
-taken : (rows : List Row) (k : ℕ) (w v : Walking) (o : Option Gluing) → k / 4 < w.seen → glue rows (face_at k) ≡ o → take_entry (face_at k) o w ≡ Some v → take_face rows (face_at k) w ≡ Some v
-taken rows k w v o l e f = if_true (nat_lt (k / 4) w.seen) (take_entry (face_at k) (glue rows (face_at k)) w) None (lt-ltb (k / 4) w.seen l) ∙ ap (λ q. take_entry (face_at k) q w) e ∙ f
+taken : (rows : List Row) (k : ℕ) (w v : Walking) (o : Option Gluing) → k / 4 < w.seen → glue rows (face_of k) ≡ o → take_entry (face_of k) o w ≡ Some v → take_face rows (face_of k) w ≡ Some v
+taken rows k w v o l e f = if_true (nat_lt (k / 4) w.seen) (take_entry (face_of k) (glue rows (face_of k)) w) None (lt-ltb (k / 4) w.seen l) ∙ ap (λ q. take_entry (face_of k) q w) e ∙ f
 
 more_types : (parts : signatures.Parts) (w : Walking) (type : ℕ) (ts xs : List ℕ) → parts.types ≡ w.types ++ xs → xs ≡ type ∷ ts → parts.types ≡ (w.types ++ type ∷ []) ++ ts
 more_types parts w type ts xs e f = e ∙ ap (λ ys. w.types ++ ys) f ∙ sym (append_assoc w.types (type ∷ []) ts)
 
 -- one more face
 walk_step : (n k : ℕ) (rows : List Row) (parts : signatures.Parts) (s t : Slots) (w : Walking) → IsTable rows → k < 4 * n → IsJoined n k s → k / 4 < s.seen → Stepped k s t → Parted parts w s
-    → ((p : ℕ) (o : Option Gluing) → p < 4 * n → get_or t.met p None ≡ Some o → glue rows (face_at p) ≡ o) → (v : Walking) × (take_face rows (face_at k) w ≡ Some v) × Parted parts v t
+    → ((p : ℕ) (o : Option Gluing) → p < 4 * n → get_or t.met p None ≡ Some o → glue rows (face_of p) ≡ o) → (v : Walking) × (take_face rows (face_of k) w ≡ Some v) × Parted parts v t
 walk_step n k rows parts s t w table l j hx (stays o e same) h fin =
     ⊎_elim
     (λ (never : k < k). absurd (omega arith))
-    (λ (m : (g : Gluing) × (o ≡ Some g) × (face_number (other_side (face_at k) g) < k)).
+    (λ (m : (g : Gluing) × (o ≡ Some g) × (face_number (other_side (face_of k) g) < k)).
     let seen = h.seen in
-    let here : glue rows (face_at k) ≡ Some m.0 = fin k o l (ap (λ (u : Slots). get_or u.met k None) (sym same) ∙ e) ∙ m.1 in
-    let face = image_below m.0.perm (table.permutes (face_at k) m.0 here) (k % 4) (omega arith) in
-    let before = before_at k m.0 face ∙ lt-ltb (face_number (other_side (face_at k) m.0)) k m.2 in
-    (w, taken rows k w w (Some m.0) (omega (arith, seen, hx)) here (if_true (is_face_before (other_side (face_at k) m.0) (face_at k)) _ _ before), subst (Parted parts w) same h))
+    let here : glue rows (face_of k) ≡ Some m.0 = fin k o l (ap (λ (u : Slots). get_or u.met k None) (sym same) ∙ e) ∙ m.1 in
+    let face = image_below m.0.perm (table.permutes (face_of k) m.0 here) (k % 4) (omega arith) in
+    let before = before_at k m.0 face ∙ lt-ltb (face_number (other_side (face_of k) m.0)) k m.2 in
+    (w, taken rows k w w (Some m.0) (omega (arith, seen, hx)) here (if_true (is_face_before (other_side (face_of k) m.0) (face_of k)) _ _ before), subst (Parted parts w) same h))
     (j.origin k o e)
 walk_step n k rows parts s t w table l j hx (bounds ts none types same) h fin =
     let seen = h.seen in
     let inside : k < length s.met = (let f = j.fit in let size = f.size in omega (arith, size)) in
-    let here : glue rows (face_at k) ≡ None = fin k None l (ap (λ (u : Slots). get_or u.met k None) (sym same) ∙ bound_here s.met k inside) in (
+    let here : glue rows (face_of k) ≡ None = fin k None l (ap (λ (u : Slots). get_or u.met k None) (sym same) ∙ bound_here s.met k inside) in (
       with_type 0 w,
       taken rows k w (with_type 0 w) None (omega (arith, seen, hx)) here refl,
       subst (Parted parts (with_type 0 w)) same (record { seen = h.seen; types = more_types parts w 0 ts s.parts.types h.types types; destinations = h.destinations; gluings = h.gluings }),
@@ -73,15 +75,15 @@ walk_step n k rows parts s t w table l j hx (reaches ts none types same) h fin =
     let g : Gluing = record { tet = s.seen; perm = identity } in
     let v : Walking = record w { seen = w.seen + 1; types = w.types ++ 1 ∷ [] } in
     let b = new_met n k s ts l j hx none types in
-    let here : glue rows (face_at k) ≡ Some g = fin k (Some g) l (ap (λ (u : Slots). get_or u.met k None) (sym same) ∙ met_here s.met k g b) in
+    let here : glue rows (face_of k) ≡ Some g = fin k (Some g) l (ap (λ (u : Slots). get_or u.met k None) (sym same) ∙ met_here s.met k g b) in
     let face = image_below identity (words_permute 0 (omega arith)) (k % 4) (omega arith) in
-    let late : k ≤ face_number (other_side (face_at k) g) = omega arith in
-    let before = before_at k g face ∙ le-ltb (face_number (other_side (face_at k) g)) k late in
+    let late : k ≤ face_number (other_side (face_of k) g) = omega arith in
+    let before = before_at k g face ∙ le-ltb (face_number (other_side (face_of k) g)) k late in
     let new : nat_lt s.seen w.seen ≡ false = le-ltb s.seen w.seen (omega (arith, seen)) in
     let next : ((s.seen == w.seen) && same_list identity identity) ≡ true = and_from (s.seen == w.seen) (same_list identity identity) (eq-eqb s.seen w.seen (sym seen)) refl in (
       v,
       taken rows k w v (Some g) (omega (arith, seen, hx)) here
-          (if_false (is_face_before (other_side (face_at k) g) (face_at k)) _ _ before ∙ if_false (nat_lt s.seen w.seen) _ _ new ∙ if_true ((s.seen == w.seen) && same_list identity identity) _ _ next),
+          (if_false (is_face_before (other_side (face_of k) g) (face_of k)) _ _ before ∙ if_false (nat_lt s.seen w.seen) _ _ new ∙ if_true ((s.seen == w.seen) && same_list identity identity) _ _ next),
       subst (Parted parts v) same (record { seen = ap (λ m. m + 1) h.seen; types = more_types parts w 1 ts s.parts.types h.types types; destinations = h.destinations; gluings = h.gluings }),
     )
 walk_step n k rows parts s t w table l j hx (glues ts d i ds gs none types dests gls small late apart free' same) h fin =
@@ -92,14 +94,14 @@ walk_step n k rows parts s t w table l j hx (glues ts d i ds gs none types dests
     let room = old.room in
     let permutes = words_permute i.0 small in
     let b = glues_met n k s g l old (omega (arith, late, room)) permutes none free' apart in
-    let here : glue rows (face_at k) ≡ Some g = fin k (Some g) l (ap (λ (u : Slots). get_or u.met k None) (sym same) ∙ met_here s.met k g b) in
+    let here : glue rows (face_of k) ≡ Some g = fin k (Some g) l (ap (λ (u : Slots). get_or u.met k None) (sym same) ∙ met_here s.met k g b) in
     let face = image_below g.perm permutes (k % 4) (omega arith) in
-    let unmet : k ≤ face_number (other_side (face_at k) g) = not_before (face_number (other_side (face_at k) g)) free' in
-    let before = before_at k g face ∙ le-ltb (face_number (other_side (face_at k) g)) k unmet in
+    let unmet : k ≤ face_number (other_side (face_of k) g) = not_before (face_number (other_side (face_of k) g)) free' in
+    let before = before_at k g face ∙ le-ltb (face_number (other_side (face_of k) g)) k unmet in
     let lt : d.0 < w.seen = omega (arith, seen, late) in (
       v,
       taken rows k w v (Some g) (omega (arith, seen, hx)) here
-          (if_false (is_face_before (other_side (face_at k) g) (face_at k)) _ _ before ∙ if_true (nat_lt d.0 w.seen) _ _ (lt-ltb d.0 w.seen lt)),
+          (if_false (is_face_before (other_side (face_of k) g) (face_of k)) _ _ before ∙ if_true (nat_lt d.0 w.seen) _ _ (lt-ltb d.0 w.seen lt)),
       subst (Parted parts v) same (record {
         seen = h.seen;
         types = more_types parts w 2 ts s.parts.types h.types types;
@@ -118,7 +120,7 @@ walk_step n k rows parts s t w table l j hx (glues ts d i ds gs none types dests
 
 -- all faces
 walk_on : (n m k : ℕ) (rows : List Row) (parts : signatures.Parts) (s t : Slots) (w : Walking) → IsTable rows → length rows ≡ n → k + m ≡ 4 * n → IsJoined n k s → slot_faces m k s ≡ Ok t
-    → IsWalk rows k w → Parted parts w s → ((p : ℕ) (o : Option Gluing) → p < 4 * n → get_or t.met p None ≡ Some o → glue rows (face_at p) ≡ o)
+    → IsWalk rows k w → Parted parts w s → ((p : ℕ) (o : Option Gluing) → p < 4 * n → get_or t.met p None ≡ Some o → glue rows (face_of p) ≡ o)
     → (v : Walking) × IsWalk rows (4 * n) v × Parted parts v t × IsJoined n (4 * n) t
 unfolding slot_faces
 walk_on n zero k rows parts s t w table long e j h walk part fin =
@@ -126,10 +128,10 @@ walk_on n zero k rows parts s t w table long e j h walk part fin =
     let end : k ≡ 4 * n = omega arith in
     (w, subst (λ (q : ℕ). IsWalk rows q w) end walk, subst (Parted parts w) same part, subst (λ (q : ℕ). IsJoined n q t) end (subst (IsJoined n k) same j))
 walk_on n (suc m) k rows parts s t w table long e j h walk part fin =
-    let a = bind_ok (slot_face (face_at k) s) (λ u. slot_faces m (k + 1) u) t h in
+    let a = bind_ok (slot_face (face_of k) s) (λ u. slot_faces m (k + 1) u) t h in
     let l : k < 4 * n = omega arith in
     let step = stepped n k s a.0 l j a.1 in
-    let on = joined_on n k s a.0 l j step.0 (face_kept n (face_at k) s a.0 j.fit a.1) step.1 in
+    let on = joined_on n k s a.0 l j step.0 (face_kept n (face_of k) s a.0 j.fit a.1) step.1 in
     let kept = kept_on n m (k + 1) a.0 t (omega arith) on.0 a.2 in
     let v = walk_step n k rows parts s a.0 w table l j step.0 step.1 part (λ p o q f. fin p o q (kept p o f)) in
     let inside : k < 4 * length rows = omega (arith, long) in
@@ -165,7 +167,7 @@ pub joined_parts : (n : ℕ) (parts : signatures.Parts) (t : Slots) → IsSlots 
 joined_parts n parts t fit sum table h =
     let rows : List Row = slot_rows n t.met in
     let long : length rows ≡ n = length-map-range_with_len (slot_row t.met) 0 n in
-    let fin : (p : ℕ) (o : Option Gluing) → p < 4 * n → get_or t.met p None ≡ Some o → glue rows (face_at p) ≡ o = λ p o l e. glue-slot_rows n t.met p l ∙ ap (λ q. unwrap_or q None) e in
+    let fin : (p : ℕ) (o : Option Gluing) → p < 4 * n → get_or t.met p None ≡ Some o → glue rows (face_of p) ≡ o = λ p o l e. glue-slot_rows n t.met p l ∙ ap (λ q. unwrap_or q None) e in
     let begun : Parted parts walk_begun (slots_begun n parts) = record { seen = refl; types = refl; destinations = refl; gluings = refl } in
     let w = walk_on n (4 * n) 0 rows parts (slots_begun n parts) t walk_begun table long (omega arith) (joined_begun n parts fit sum) h (walk_begins rows) begun fin in
     let end : 4 * n ≡ 4 * length rows = omega (arith, long) in

@@ -1,10 +1,11 @@
 -- Joining the faces of a table in order, with what each is glued to at its place, four places for each tetrahedron.
-use Rattle.std.specs.Prelude.{◌≡◌, ℕ, zero, suc, ◌+◌, ◌*◌, ◌/◌, ◌%◌, ◌<◌, ◌≤◌, ◌||◌, List, [], ◌∷◌, length, map, drop, replicate, slice_set, ◌==◌, nat_le, Option, Some, None, is_some, unwrap_or, Result, Ok, if◌then◌else◌, All}
+use Rattle.std.specs.Prelude.{◌≡◌, ℕ, zero, suc, ◌+◌, ◌*◌, ◌<◌, ◌≤◌, ◌||◌, List, [], ◌∷◌, length, map, drop, replicate, slice_set, ◌==◌, nat_le, Option, Some, None, is_some, unwrap_or, Result, Ok, if◌then◌else◌, All}
 use Rattle.std.specs.List.{slice_index_or}
 use Rattle.text_definitions.specs.Reading.{◌>>=◌}
 use Rattle.table_definitions.specs.Lists.{below, times_in}
 use Rattle.table_definitions.specs.Permutation.{four, identity, words}
 use Rattle.table_definitions.specs.Table.{max_tets, Gluing, Row, Face, other_side, way_back, same_face, face_number}
+use Rattle.table_definitions.specs.Places.{face_of}
 use Rattle.signature_definitions.specs.declared.SigFault.{SigFault}
 use Rattle.signature_definitions.specs.declared.SigFault.TheVariants as sig_faults
 use Rattle.signature_definitions.specs.SignatureText as signatures
@@ -14,9 +15,6 @@ pub record Slots : Type 0 where
   pub met : List (Option (Option Gluing))
   pub seen : ℕ
   pub parts : signatures.Parts
-
-abbrev pub face_at : ℕ → Face
-face_at k = record { tet = k / 4; face = k % 4 }
 
 -- what is known of a face: nothing where it isn't met
 abbrev pub slot : List (Option (Option Gluing)) → Face → Option (Option Gluing)
@@ -61,7 +59,7 @@ slot_face x s = signatures.unless (nat_le s.seen x.tet) sig_faults.Unreached (sl
 unfoldable pub slot_faces : ℕ → ℕ → Slots → Result Slots SigFault
 slot_faces zero k s = Ok s
 slot_faces (suc m) k s = do
-  t ← slot_face (face_at k) s
+  t ← slot_face (face_of k) s
   slot_faces m (k + 1) t
 
 -- no face is met yet

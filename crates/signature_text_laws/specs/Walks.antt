@@ -3,9 +3,9 @@ use Rattle.std.specs.Prelude.{◌≡◌, ℕ, ◌+◌, ◌<◌, ◌≤◌, ◌&&
 use Rattle.table_definitions.specs.Lists.{below, same_list}
 use Rattle.table_definitions.specs.Permutation.{identity}
 use Rattle.table_definitions.specs.Table.{Gluing, Row, Face, glue, other_side, is_face_before}
+use Rattle.table_definitions.specs.Places.{face_of}
 use Rattle.signature_definitions.specs.WalkOrder.{is_seen, is_ordered_at}
 use Rattle.signature_definitions.specs.Spelling.{type_of, seen_gluing}
-use Rattle.signature_text_laws.specs.Slots.{face_at}
 
 -- the number of tetrahedra seen, the types of the faces that were taken, and the gluings of those of type 2
 pub record Walking : Type 0 where
@@ -36,8 +36,8 @@ walk_begun = record { seen = 1; types = []; gluings = [] }
 
 -- the faces before a place are in order, and the walk has what is known of them
 pub record IsWalk (rows : List Row) (k : ℕ) (w : Walking) : Type 0 where
-  pub seen : (u : ℕ) → is_seen rows (face_at k) u ≡ nat_lt u w.seen
-  pub ordered : (m : ℕ) → m < k → is_ordered_at rows (face_at m) ≡ true
-  pub types : w.types ≡ filter_map (λ x. type_of rows x (glue rows x)) (map face_at (below k))
-  pub gluings : w.gluings ≡ filter_map (λ x. seen_gluing rows x (glue rows x)) (map face_at (below k))
+  pub seen : (u : ℕ) → is_seen rows (face_of k) u ≡ nat_lt u w.seen
+  pub ordered : (m : ℕ) → m < k → is_ordered_at rows (face_of m) ≡ true
+  pub types : w.types ≡ filter_map (λ x. type_of rows x (glue rows x)) (map face_of (below k))
+  pub gluings : w.gluings ≡ filter_map (λ x. seen_gluing rows x (glue rows x)) (map face_of (below k))
   pub most : 0 < length rows → w.seen ≤ length rows

@@ -1,7 +1,6 @@
 //! Corners, and walks round edges.
 
-ghost use Rattle.std.specs.Prelude.{◌≡◌, ◌*◌, ◌<◌, ◌≤◌, ℕ, length, slice_index, IfOk, map, []};
-ghost use Rattle.std.specs.List.{slice_index_or};
+ghost use Rattle.std.specs.Prelude.{◌≡◌, ◌*◌, ◌<◌, ℕ, length, slice_index, IfOk, map, []};
 ghost use Rattle.table_definitions.specs.Permutation.{IsPermutationOfFour};
 ghost use Rattle.table_definitions.specs.Table.{IsTable};
 ghost use Rattle.walk_laws.specs.Walks.{IsInjectiveBelow, step_of};
@@ -18,7 +17,7 @@ use std::marker::Model;
 
 /// The edge ab of a tetrahedron, and the faces c and d that meet in it: the walk comes through face d and leaves
 /// through face c.
-#[derive(Clone, Copy, Debug, PartialEq, Eq)]
+#[derive(Clone, Copy)]
 pub struct Corner {
     pub tet: u32,
     pub a: u8,

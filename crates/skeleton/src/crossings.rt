@@ -1,8 +1,8 @@
 //! What lies across the faces of a tetrahedron.
 
-ghost use Rattle.std.specs.Prelude.{◌≡◌, ◌*◌, ◌<◌, ◌≤◌, length, IfSome, ℕ};
+ghost use Rattle.std.specs.Prelude.{◌≡◌, ◌*◌, ◌<◌, ◌≤◌, length, IfSome};
 ghost use Rattle.table_definitions.specs.Table as gluings;
-ghost use Rattle.table_definitions.specs.Table.{max_tets, IsTable, Gluing};
+ghost use Rattle.table_definitions.specs.Table.{max_tets, IsTable};
 ghost use Rattle.class_laws.specs.Crossings.{crossed_vertex, crossed_face};
 
 use gluing_table::{Face, Glue, Table};

@@ -1,6 +1,6 @@
 //! Degrees of classes.
 
-ghost use Rattle.std.specs.Prelude.{◌≡◌, ◌<◌, ◌^◌, ℕ, length, slice_index, IfOk, All};
+ghost use Rattle.std.specs.Prelude.{◌<◌, ◌^◌, ℕ, length, slice_index, IfOk};
 ghost use Rattle.skeleton.specs.Parts.{AreDegrees};
 
 use no_memory::NoMemory;

@@ -1,6 +1,6 @@
 //! Tables of neighbours.
 
-ghost use Rattle.std.specs.Prelude.{◌≡◌, ◌*◌, ◌<◌, ◌≤◌, length, IfOk, ℕ};
+ghost use Rattle.std.specs.Prelude.{◌≡◌, ◌*◌, ◌<◌, ◌≤◌, length, IfOk};
 ghost use Rattle.table_definitions.specs.Table.{IsTable};
 ghost use Rattle.class_laws.specs.Neighbours.{AreNeighbours, row_at};
 ghost use Rattle.class_laws.specs.Numberings.{per_tet, crossing};

@@ -1,6 +1,6 @@
 //! Classes of things under gluing.
 
-ghost use Rattle.std.specs.Prelude.{◌≡◌, ◌<◌, ◌^◌, length, IfOk, ℕ};
+ghost use Rattle.std.specs.Prelude.{◌<◌, ◌^◌, length, IfOk};
 ghost use Rattle.table_definitions.specs.Table.{IsTable};
 ghost use Rattle.class_laws.specs.Numberings.{AreClassesOf, AreFirsts, IsOrdered};
 ghost use Rattle.class_laws.specs.declared.Kind.TheVariants.{Vertices, Edges, Directions, Faces};

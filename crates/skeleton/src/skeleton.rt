@@ -1,10 +1,10 @@
 //! Skeletons of gluing tables.
 
-ghost use Rattle.std.specs.Prelude.{◌≡◌, ◌+◌, ◌*◌, ◌<◌, ◌≤◌, ◌↔◌, ℕ, length, slice_index, false, IsTrue, IfOk, OnOk};
+ghost use Rattle.std.specs.Prelude.{◌≡◌, ◌+◌, ◌*◌, ◌<◌, ◌≤◌, ◌↔◌, length, slice_index, false, IsTrue, IfOk};
 ghost use Rattle.std.specs.Option.{option_copied};
 ghost use Rattle.table_definitions.specs.Classes as numbers;
 ghost use Rattle.table_definitions.specs.Places as places;
-ghost use Rattle.table_definitions.specs.Table.{max_tets, IsTable};
+ghost use Rattle.table_definitions.specs.Table.{max_tets};
 ghost use Rattle.skeleton_definitions.specs.Skeleton.{IsSkeleton, IsValidClass, IsDirection, IsFirstInvalid, IsOrientation, IsAround};
 
 use crate::boundary::is_closed;

@@ -3,7 +3,7 @@
 #![tactic(auto)]
 
 /// What a link is.
-#[derive(Clone, Copy, Debug, PartialEq, Eq)]
+#[derive(Clone, Copy)]
 pub enum LinkKind {
     /// Closed, of Euler characteristic 2.
     Sphere,
@@ -17,7 +17,7 @@ pub enum LinkKind {
 }
 
 /// The link of a vertex class: a triangle for each member.
-#[derive(Clone, Copy, Debug, PartialEq, Eq)]
+#[derive(Clone, Copy)]
 pub struct Link {
     pub triangles: u32,
     pub edges: u32,

@@ -15,21 +15,21 @@ const MOST_STARTS: usize = 128;
 
 /// The blocks of columns that a row names, as bits, and how many terms it has. Blocks 64 apart share a bit: that may lead
 /// to another order, and each will do.
-#[derive(Clone, Copy, Debug, PartialEq, Eq)]
+#[derive(Clone, Copy)]
 struct RowBlocks {
     blocks: u64,
     terms: usize,
 }
 
 /// How a row stands among those that are left: by the blocks that it would be the first to name, and then by its terms.
-#[derive(Clone, Copy, Debug, PartialEq, Eq)]
+#[derive(Clone, Copy)]
 struct Rank {
     fresh: u32,
     terms: usize,
 }
 
 /// The blocks that are named so far, and the sum over the rows so far of the square of how many there were.
-#[derive(Clone, Copy, Debug, PartialEq, Eq)]
+#[derive(Clone, Copy)]
 struct Walk {
     seen: u64,
     cost: u64,

@@ -14,7 +14,7 @@ use std::alloc::Global;
 const ROUNDS: u32 = 20;
 
 /// At how many columns two rows have the same coefficient, opposite ones, and any.
-#[derive(Clone, Copy, Debug, PartialEq, Eq)]
+#[derive(Clone, Copy)]
 struct Shared {
     same: usize,
     opposite: usize,

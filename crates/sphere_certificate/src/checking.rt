@@ -8,7 +8,7 @@ ghost use Rattle.move_definitions.specs.Certificates.{IsStandard, IsCertificate}
 ghost use Rattle.certificate_definitions.specs.Answers.{IsChecked, sphere_text};
 ghost use Rattle.sphere_certificate.specs.Checks.{told};
 
-use canonical_labelling::{WalkFault, signature};
+use canonical_labelling::{NotConnected, signature};
 use gluing_table::Table;
 use no_memory::Failure;
 use pachner_moves::{Move, apply};
@@ -51,10 +51,10 @@ fn judge(alloc: Global, last: &Table) -> Result<(), Failure<CheckFault>>
     match signature(alloc, last) {
         Ok(text) if is_sphere(&text) => Ok(()),
         Ok(signature) => Err(Failure::Fault(CheckFault::NotStandard { signature })),
-        Err(WalkFault::NotConnected { tet }) => Err(Failure::Fault(CheckFault::NotConnected {
-            tet,
-        })),
-        Err(WalkFault::NoMemory) => Err(Failure::NoMemory),
+        Err(Failure::Fault(NotConnected { tet })) => {
+            Err(Failure::Fault(CheckFault::NotConnected { tet }))
+        }
+        Err(Failure::NoMemory) => Err(Failure::NoMemory),
     }
 }
 

@@ -1,6 +1,7 @@
 //! Descents: moves that lessen a table, up to the standard sphere or to a table that has none.
 
-ghost use Rattle.std.specs.Prelude.{◌≡◌, ◌≢◌, ◌≤◌, ◌+◌, ◌⊎◌, ◌↔◌, ℕ, true, length, Some, None, MatchOption, IsTrue, IfOk, IfErr, OnOk};
+ghost use Rattle.std.specs.Prelude.{◌≡◌, ◌≤◌, ◌+◌, ◌⊎◌, ◌↔◌, true, length, Some, None, MatchOption, IsTrue, IfOk, IfErr, OnOk};
+ghost use Rattle.no_memory.specs.Failures.{IfFault};
 ghost use Rattle.table_definitions.specs.Places.{IsConnected, IsLeastUnreached};
 ghost use Rattle.move_definitions.specs.Moves.{Plays, play_fault};
 ghost use Rattle.move_definitions.specs.Certificates as certificates;
@@ -9,9 +10,9 @@ ghost use Rattle.certificate_definitions.specs.Answers.{IsDescended};
 
 use crate::accepted::{first_accepted, vertices};
 use crate::checking::is_sphere;
-use canonical_labelling::{WalkFault, signature};
+use canonical_labelling::{NotConnected, signature};
 use gluing_table::Table;
-use no_memory::NoMemory;
+use no_memory::{Failure, NoMemory};
 use pachner_moves::{Core, Move, apply};
 use std::alloc::Global;
 
@@ -32,8 +33,8 @@ fn is_standard(alloc: Global, table: &Table) -> Result<bool, NoMemory>
     }
     match signature(alloc, table) {
         Ok(text) => Ok(is_sphere(&text)),
-        Err(WalkFault::NotConnected { .. }) => Ok(false),
-        Err(WalkFault::NoMemory) => Err(NoMemory),
+        Err(Failure::Fault(_)) => Ok(false),
+        Err(Failure::NoMemory) => Err(NoMemory),
     }
 }
 
@@ -91,15 +92,15 @@ fn descent_of(alloc: Global, table: &Table) -> Result<Descent, NoMemory>
 /// The descent of a connected table: while it isn't a relabelling of the standard sphere, the first accepted move 4-1 is
 /// played, by tetrahedron and vertex, else the first accepted 3-2, by tetrahedron and edge. It ends where the table is standard,
 /// or has neither move. `NotConnected` names the least tetrahedron of the table that isn't reached.
-pub fn descend(alloc: Global, table: &Table) -> Result<Descent, WalkFault>
+pub fn descend(alloc: Global, table: &Table) -> Result<Descent, Failure<NotConnected>>
     ensures descent { IfOk result (λ d. IsDescended table.now (record { reached = d.reached; moves = d.moves.items; table = d.table })) }
     ensures certificate { IfOk result (λ d. d.reached ≡ true → IsCertificate table.now d.moves.items) }
     ensures fewer { IfOk result (λ d. length d.table + length d.moves.items ≤ length table.now) }
     ensures connected { OnOk result (IsConnected table.now) }
-    ensures fault { IfErr result (λ e. e ≢ WalkFault.NoMemory → (t : ℕ) × (e ≡ WalkFault.NotConnected t) × IsLeastUnreached table.now t) }
+    ensures fault { IfErr result (λ e. IfFault e (λ f. IsLeastUnreached table.now f.tet)) }
 {
     if let Some(tet) = table.unreached(alloc)? {
-        return Err(WalkFault::NotConnected { tet });
+        return Err(Failure::Fault(NotConnected { tet }));
     }
     let descent = descent_of(alloc, table)?;
     Ok(descent)

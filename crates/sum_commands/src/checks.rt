@@ -1,5 +1,5 @@
 // The checks of vectors and terms by the equations of their table.
-ghost use Rattle.std.specs.Prelude.{◌≡◌, ◌<◌, ◌^◌, length, IsOk};
+ghost use Rattle.std.specs.Prelude.{◌≡◌, ◌<◌, length};
 ghost use Rattle.surface_definitions.specs.Coordinates as coordinates;
 ghost use Rattle.outcome_definitions.specs.Sums.{IsVerdict, IsTermVerdict};
 ghost use Rattle.command_answers.specs.Reads.{all_entries};
@@ -13,7 +13,7 @@ use surface_answers::check;
 use surface_definitions::{Coords, VectorFault};
 
 /// The first of a list at which something is wrong, by its number, which counts from 0.
-#[derive(Clone, Copy, Debug, PartialEq, Eq)]
+#[derive(Clone, Copy)]
 pub struct FirstFault<F> {
     pub number: usize,
     pub fault: F,

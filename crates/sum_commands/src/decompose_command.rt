@@ -1,6 +1,5 @@
 // The command `decompose`: vectors as sums of the vertex surfaces of their table.
 ghost use Rattle.std.specs.Prelude.{◌≡◌, ℕ, ◌≤◌, length, IfOk, slice_index};
-ghost use Rattle.std.specs.List.{All};
 ghost use Rattle.text_definitions.specs.Text.{max_text};
 ghost use Rattle.cone_core.specs.declared.numbers.TheConstants.{MAX_ENTRY};
 ghost use Rattle.surface_definitions.specs.Coordinates.{columns};

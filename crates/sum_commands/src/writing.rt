@@ -1,9 +1,6 @@
 // Sums as blocks of lines.
-ghost use Rattle.std.specs.Prelude.{◌≡◌, ◌++◌, codes, decimal, length, OnOk};
+ghost use Rattle.std.specs.Prelude.{◌≡◌, ◌++◌, OnOk};
 ghost use Rattle.std.specs.List.{flat_map};
-ghost use Rattle.text_definitions.specs.Written.{spaced};
-ghost use Rattle.cone_text_definitions.specs.VectorText.{entries_text};
-ghost use Rattle.sum_definitions.specs.Sums.{Term as Taken};
 ghost use Rattle.document_definitions.specs.Blocks as blocks;
 
 use no_memory::NoMemory;

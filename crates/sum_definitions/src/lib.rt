@@ -10,14 +10,14 @@ pub struct Term<V> {
 
 /// Why a solution isn't told as a sum: at this turn, counted from 0, an entry of it, taken so many times, passes the limit, and
 /// first at this column.
-#[derive(Clone, Copy, Debug, PartialEq, Eq)]
+#[derive(Clone, Copy)]
 pub struct LargeTurn {
     pub turn: u32,
     pub column: u32,
 }
 
 /// Why given terms don't add up to a vector.
-#[derive(Clone, Copy, Debug, PartialEq, Eq)]
+#[derive(Clone, Copy)]
 pub enum AddFault {
     /// The vector is taken no times.
     ZeroTimes,

@@ -1,14 +1,16 @@
 -- The equations of a table are one list.
-use Rattle.std.proofs.Common.{◌≡◌, ◌≢◌, ℕ, zero, suc, ◌+◌, ◌*◌, ◌<◌, cond, List, [], ◌∷◌, length, map, get_or, ◌⊎◌, inl, inr, ⊎_elim, refl, sym, ap, ◌∙◌, subst, subst₂, arith, zero-add}
-use Rattle.std.specs.Prelude.{ℤ, pos, ◌-ℤ◌, ◌==◌, Option, Some, None, ⊤, if◌then◌else◌}
+use Rattle.std.proofs.Common.{◌≡◌, ℕ, ◌+◌, ◌*◌, cond, List, [], ◌∷◌, length, map, ◌⊎◌, inl, inr, ⊎_elim, refl, sym, ap, ◌∙◌, subst, subst₂, arith, zero-add}
+use Rattle.std.specs.Prelude.{ℤ, pos, ◌-ℤ◌, ◌==◌, Option, Some, None, if◌then◌else◌}
 use Rattle.std.specs.List.{AllZip, filter_map}
 use Rattle.std.proofs.lemmas.List.Sums.{sum_by-cons}
-use Rattle.std.proofs.lemmas.List.{get_or_default}
 use Rattle.table_definitions.specs.Lists.{below, times_in}
 use Rattle.table_definitions.specs.Table.{Row}
 use Rattle.table_definitions.specs.Classes.{IsNumbering, least}
 use Rattle.table_definitions.specs.Places.{SameEdge}
 use Rattle.table_definitions.proofs.ClassLaws.{one_count}
+use Rattle.table_definitions.proofs.TableLaws.{Among}
+use Rattle.table_definitions.proofs.Listed.{among_contains, contains_among}
+use Rattle.table_definitions.proofs.DistinctLists.{AreApart, apart_from}
 use Rattle.skeleton_definitions.specs.Corners.{Corner, AreCorners, first_corner, inner_edges}
 use Rattle.cone_definitions.specs.Rows.{Row as EquationRow}
 use Rattle.surface_definitions.specs.Coordinates.{columns}
@@ -17,32 +19,6 @@ use Rattle.surface_definitions.specs.declared.Coords.TheVariants.{Standard, Quad
 use Rattle.surface_definitions.specs.Equations.{Equation, row_of}
 use Rattle.surface_definitions.specs.QuadEquations.{quad_equation, IsQuadRow, AreQuadRows, AreQuadEquations, AreEquations}
 use Rattle.skeleton_definitions.proofs.OneSkeleton.{one_classes}
-
--- a corner stands in a list; no corner stands in it twice
-abbrev Among : Corner → List Corner → Type 0
-Among k [] = ⊥
-Among k (l ∷ ls) = (k ≡ l) ⊎ Among k ls
-
-abbrev AreApart : List Corner → Type 0
-AreApart [] = ⊤
-AreApart (k ∷ ks) = (Among k ks → ⊥) × AreApart ks
-
-among_at : (ks : List Corner) (k : Corner) (i : ℕ) → i < length ks → get_or ks i k ≡ k → Among k ks
-among_at [] k i l e = absurd (omega arith)
-among_at (m ∷ ms) k zero l e = inl (sym e)
-among_at (m ∷ ms) k (suc i) l e = inr (among_at ms k i (omega arith) e)
-
-place_of : (ks : List Corner) (k : Corner) → Among k ks → (i : ℕ) × (i < length ks) × (get_or ks i k ≡ k)
-place_of [] k h = absurd h
-place_of (m ∷ ms) k (inl e) = let l : 0 < length (m ∷ ms) = omega arith in (0, l, sym e)
-place_of (m ∷ ms) k (inr h) = let r = place_of ms k h in let l : suc r.0 < length (m ∷ ms) = omega (arith, r.1) in (suc r.0, l, r.2)
-
-apart_from : (first : Corner) (ks : List Corner) → ((i j : ℕ) → i < j → j < length ks → get_or ks i first ≢ get_or ks j first) → AreApart ks
-apart_from first [] once = tt
-apart_from first (k ∷ ks) once = (
-  (λ a. let r = place_of ks k a in once 0 (suc r.0) (omega arith) (omega (arith, r.1)) (sym (get_or_default ks r.0 first k r.1 ∙ r.2))),
-  apart_from first ks (λ i j l m. once (suc i) (suc j) (omega arith) (omega arith)),
-)
 
 -- a list without one of its corners
 record IsWithout (y : Corner) (ys zs : List Corner) : Type 0 where
@@ -101,8 +77,8 @@ same_counts (k ∷ ks) ys a b to back f x =
 
 corners_count : (rows : List Row) (first : Corner) (xs ys : List Corner) → AreCorners rows first xs → AreCorners rows first ys → (f : Corner → ℕ) (x : ℕ) → times_in (map f xs) x ≡ times_in (map f ys) x
 corners_count rows first xs ys a b = same_counts xs ys (apart_from first xs a.once) (apart_from first ys b.once)
-    (λ k h. let c = (b.reached k).1 ((a.reached k).0 (place_of xs k h)) in among_at ys k c.0 c.1 c.2)
-    (λ k h. let c = (a.reached k).1 ((b.reached k).0 (place_of ys k h)) in among_at xs k c.0 c.1 c.2)
+    (λ k h. among_contains k ys ((b.reached k).1 ((a.reached k).0 (contains_among k xs h))))
+    (λ k h. among_contains k xs ((a.reached k).1 ((b.reached k).0 (contains_among k ys h))))
 
 -- an equation's row is known by how often each column stands on both sides
 abbrev term_by : ℕ → ℕ → ℕ → Option (ℕ × ℤ)

@@ -1,5 +1,5 @@
 -- The Euler characteristic of a surface: points less arcs plus pieces. Coordinates are standard or octagons.
-use Rattle.std.specs.Prelude.{ℕ, ◌+◌, ◌/◌, ◌%◌, Bool, ◌&&◌, not, ℤ, pos, ◌-ℤ◌, List, [], ◌∷◌, length, map, filter, ◌==◌, nat_lt, sum_by, slice_index, if◌then◌else◌}
+use Rattle.std.specs.Prelude.{ℕ, ◌+◌, ◌/◌, ◌%◌, Bool, ◌&&◌, not, ℤ, pos, ◌-ℤ◌, List, [], ◌∷◌, length, map, filter, ◌==◌, nat_lt, sum_by, slice_index}
 use Rattle.std.specs.List.{list_all, list_any}
 use Rattle.table_definitions.specs.Lists.{below}
 use Rattle.table_definitions.specs.Table.{Row, Face, glue, faces}

@@ -7,23 +7,15 @@ ghost use Rattle.surface_definitions.specs.Laws.{VectorLinesAreRead, VerdictsAre
 
 /// Standard coordinates count triangles and quads, quad coordinates quads alone, octagon coordinates octagons
 /// too (Haken; Tollefson; Rubinstein and Thompson).
-#[derive(Clone, Copy, Debug, PartialEq, Eq)]
+#[derive(Clone, Copy, PartialEq, Eq)]
 pub enum Coords {
     Standard,
     Quad,
     Octagon,
 }
 
-/// A triangle round a vertex; a quad or an octagon of a type, 0 for 01/23, 1 for 02/13 and 2 for 03/12.
-#[derive(Clone, Copy, Debug, PartialEq, Eq)]
-pub enum Piece {
-    Tri(u8),
-    Quad(u8),
-    Oct(u8),
-}
-
 /// Why a vector is no admissible solution.
-#[derive(Clone, Copy, Debug, PartialEq, Eq)]
+#[derive(Clone, Copy)]
 pub enum VectorFault {
     /// The vector has so many entries, and the coordinates have another number of columns.
     Length { got: usize },

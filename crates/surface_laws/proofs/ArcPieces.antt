@@ -25,44 +25,48 @@ in_width xs c k l = elim (cases_lt c (length xs)) [
   | inr past ↦ absurd (let z : slice_index xs c ≡ 0 = get_or_past xs c 0 past in omega arith)
 ]
 
+-- a number counted from one end or the other of so many
+abbrev pub from_end : ℕ → Bool → ℕ → ℕ
+from_end count b j = if b then j else count - 1 - j
+
+pub from_end_below : (count : ℕ) (b : Bool) (j : ℕ) → j < count → from_end count b j < count
+from_end_below count true j l = l
+from_end_below count false j l = omega arith
+
+pub from_end_twice : (count : ℕ) (b : Bool) (j : ℕ) → j < count → from_end count b (from_end count b j) ≡ j
+from_end_twice count true j l = refl
+from_end_twice count false j l = omega arith
+
 module _ (coords : Coords) (n : ℕ) (xs : List ℕ) (triangles : HasTriangles coords) (admissible : IsAdmissible (clash_list coords n) xs) where
   module _ (t f v : ℕ) (lt : t < n) (lf : f < 4) (lv : v < 4) (off : v ≡ f → ⊥) where
-    abbrev tri : ℕ
+    abbrev pub tri : ℕ
     tri = tri_column coords t v
 
-    abbrev behind : ℕ
+    abbrev pub behind : ℕ
     behind = first_nonzero xs (octagon_arcs coords t f v) (quad_column coords t (keeping v f))
 
     -- the arcs round the vertex in any vector with no more columns than this one
-    arcs_are : (ys : List ℕ) → ((c : ℕ) → slice_index xs c ≡ 0 → slice_index ys c ≡ 0) → arcs_round coords ys t f v ≡ slice_index ys tri + slice_index ys behind
+    pub arcs_are : (ys : List ℕ) → ((c : ℕ) → slice_index xs c ≡ 0 → slice_index ys c ≡ 0) → arcs_round coords ys t f v ≡ slice_index ys tri + slice_index ys behind
     arcs_are ys inside =
         let further : slice_index ys (quad_column coords t (keeping v f)) + sum_by (slice_index ys) (octagon_arcs coords t f v) ≡ slice_index ys behind =
         one_further xs ys inside (quad_column coords t (keeping v f)) (octagon_arcs coords t f v) (further_one coords n xs t f v triangles admissible lt lf lv off) in
         omega (arith, sum_by-cons (slice_index ys) tri (quad_column coords t (keeping v f) ∷ octagon_arcs coords t f v), sum_by-cons (slice_index ys) (quad_column coords t (keeping v f)) (octagon_arcs coords t f v))
 
-    -- a number counted from one end or the other
-    abbrev from_end : Bool → ℕ → ℕ
-    from_end b j = if b then j else slice_index xs behind - 1 - j
-
-    abbrev by_zero : Bool
+    abbrev pub by_zero : Bool
     by_zero = keeps_by_zero (type_in coords behind) v
 
     piece_if : ℕ → Bool → SurfacePiece
     piece_if k b = if b then piece_at tri k else further_piece xs behind (k - slice_index xs tri) by_zero
 
-    triangle_piece : (k : ℕ) → k < slice_index xs tri → piece_of coords xs (arc_at t f v k) ≡ piece_at tri k
+    pub triangle_piece : (k : ℕ) → k < slice_index xs tri → piece_of coords xs (arc_at t f v k) ≡ piece_at tri k
     unfolding piece_if
     triangle_piece k l = ap (piece_if k) (lt-ltb k (slice_index xs tri) l)
 
-    behind_piece : (j : ℕ) → piece_of coords xs (arc_at t f v (slice_index xs tri + j)) ≡ piece_at behind (from_end by_zero j)
+    pub behind_piece : (j : ℕ) → piece_of coords xs (arc_at t f v (slice_index xs tri + j)) ≡ piece_at behind (from_end (slice_index xs behind) by_zero j)
     unfolding piece_if
     behind_piece j =
         let less : slice_index xs tri + j - slice_index xs tri ≡ j = omega arith in
         ap (piece_if (slice_index xs tri + j)) (le-ltb (slice_index xs tri + j) (slice_index xs tri) (omega arith)) ∙ ap (λ i. further_piece xs behind i by_zero) less
-
-    from_end_below : (b : Bool) (j : ℕ) → j < slice_index xs behind → from_end b j < slice_index xs behind
-    from_end_below true j l = l
-    from_end_below false j l = omega arith
 
     -- an arc is one of a piece
     pub arc_piece : (k : ℕ) → k < arcs_round coords xs t f v → IsPieceOf xs (piece_of coords xs (arc_at t f v k))
@@ -72,12 +76,12 @@ module _ (coords : Coords) (n : ℕ) (xs : List ℕ) (triangles : HasTriangles c
           let whole : arcs_round coords xs t f v ≡ slice_index xs tri + slice_index xs behind = arcs_are xs (λ c z. z) in
           let lj : j < slice_index xs behind = omega arith in
           let again : slice_index xs tri + j ≡ k = omega arith in
-          let inside : from_end by_zero j < slice_index xs behind = from_end_below by_zero j lj in
-          subst (IsPieceOf xs) (sym (behind_piece j) ∙ ap (λ i. piece_of coords xs (arc_at t f v i)) again) (record { column = in_width xs behind (from_end by_zero j) inside; number = inside }))
+          let inside : from_end (slice_index xs behind) by_zero j < slice_index xs behind = from_end_below (slice_index xs behind) by_zero j lj in
+          subst (IsPieceOf xs) (sym (behind_piece j) ∙ ap (λ i. piece_of coords xs (arc_at t f v i)) again) (record { column = in_width xs behind (from_end (slice_index xs behind) by_zero j) inside; number = inside }))
     ]
 
     module _ (components : List ℕ) (one_each : length components ≡ length (pieces_of xs)) (i : ℕ) where
-      either_way : (b : Bool) → sum_by (λ j. belongs xs components i (piece_at behind (from_end b j))) (below (slice_index xs behind)) ≡ in_column xs components i behind
+      either_way : (b : Bool) → sum_by (λ j. belongs xs components i (piece_at behind (from_end (slice_index xs behind) b j))) (below (slice_index xs behind)) ≡ in_column xs components i behind
       either_way true = refl
       either_way false = sum_back (λ j. belongs xs components i (piece_at behind j)) (slice_index xs behind)
 
@@ -93,7 +97,7 @@ module _ (coords : Coords) (n : ℕ) (xs : List ℕ) (triangles : HasTriangles c
           let low : sum_by h (below m) ≡ in_column xs components i tri =
           sum_by_same h (λ j. belongs xs components i (piece_at tri j)) (below m) (λ k a. ap (belongs xs components i) (triangle_piece k (below-among k m a))) in
           let high : sum_by (λ j. h (m + j)) (below e) ≡ in_column xs components i behind =
-          sum_by_same (λ j. h (m + j)) (λ j. belongs xs components i (piece_at behind (from_end by_zero j))) (below e) (λ j a. ap (belongs xs components i) (behind_piece j)) ∙ either_way by_zero in
+          sum_by_same (λ j. h (m + j)) (λ j. belongs xs components i (piece_at behind (from_end (slice_index xs behind) by_zero j))) (below e) (λ j a. ap (belongs xs components i) (behind_piece j)) ∙ either_way by_zero in
           let split : sum_by h (below (arcs_round coords xs t f v)) ≡ sum_by h (below m) + sum_by (λ j. h (m + j)) (below e) = ap (λ k. sum_by h (below k)) all ∙ below_sum h m e in
           let tris : slice_index ys tri ≡ in_column xs components i tri = component_count xs components one_each i tri in
           let rest : slice_index ys behind ≡ in_column xs components i behind = component_count xs components one_each i behind in

@@ -148,7 +148,7 @@ lowest classes c h (suc bound) = go (lowest classes c h bound) (cases_eq (slice_
       })
     ]
 
-triangles_at : (ys : List ℕ) (t v : ℕ) → v < 4 → triangle_at ys (vertex_number t v) ≡ slice_index ys (tri_column Standard t v)
+pub triangles_at : (ys : List ℕ) (t v : ℕ) → v < 4 → triangle_at ys (vertex_number t v) ≡ slice_index ys (tri_column Standard t v)
 triangles_at ys t v l =
     let d : vertex_number t v / 4 ≡ t = omega arith in
     let m : vertex_number t v % 4 ≡ v = omega arith in

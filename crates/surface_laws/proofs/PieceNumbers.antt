@@ -9,7 +9,7 @@ use Rattle.table_definitions.specs.Lists.{below}
 use Rattle.table_definitions.proofs.TableLaws.{Among, Among-map, Among-below}
 use Rattle.surface_definitions.specs.Pieces.{SurfacePiece, pieces_of, piece_number}
 use Rattle.surface_laws.specs.PieceLaws.{IsPieceOf}
-use Rattle.surface_laws.proofs.DistinctLists.{AreApart, apart_append, map_apart, apart_below}
+use Rattle.table_definitions.proofs.DistinctLists.{AreApart, apart_append, map_apart, apart_below}
 use Rattle.table_definitions.proofs.Listed.{contains_among, among_contains, Among-flat_map, map-among, flat_map-among, range-among}
 
 abbrev pub piece_at : ℕ → ℕ → SurfacePiece

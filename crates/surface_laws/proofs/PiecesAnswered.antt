@@ -10,8 +10,7 @@ use Rattle.table_definitions.proofs.Listed.{below-among}
 use Rattle.surface_definitions.specs.declared.Coords.{Coords}
 use Rattle.surface_definitions.specs.Pieces.{keeps_sides, component_vector, AreComponents, IsTwoSided, IsOrientableComponent}
 use Rattle.vector_definitions.specs.Components.{most_pieces, Component, IsComponent, IsPiecesAnswer}
-use Rattle.vector_definitions.specs.declared.PiecesFault.{PiecesFault}
-use Rattle.vector_definitions.specs.declared.PiecesFault.TheVariants.{TooManyPieces}
+use Rattle.vector_definitions.specs.declared.ManyPieces.{ManyPieces}
 use Rattle.surface_laws.specs.PieceLaws.{IsSurface, HasComponents}
 use Rattle.surface_laws.proofs.ComponentsFound.{components_found}
 use Rattle.surface_laws.proofs.Signs.{signs_decided}
@@ -41,9 +40,9 @@ module _ (rows : List Row) (coords : Coords) (xs : List ℕ) (s : IsSurface rows
         let o : IsToldBy (IsOrientableComponent rows coords xs components i) = told_by (IsOrientableComponent rows coords xs components i) (signs_decided rows coords xs s (stays_oriented rows coords xs s) (orientation_back rows coords xs s) components count are i l) in
         (record { vector = component_vector xs components i; two_sided = t.truth; orientable = o.truth }, record { vector = refl; two_sided = t.is; orientable = o.is })
 
-  pub pieces_answer : (a : Result (List Component) PiecesFault) × IsPiecesAnswer rows coords xs a
+  pub pieces_answer : (a : Result (List Component) ManyPieces) × IsPiecesAnswer rows coords xs a
   pieces_answer = elim (cases_lt most_pieces (sum xs)) [
-    | inl many ↦ (Err (TooManyPieces (sum xs)), (many, refl))
+    | inl many ↦ (Err (record { count = sum xs }), (many, refl))
     | inr few ↦ (let c : HasComponents rows coords xs = components_found rows coords xs s in
         let l : (cs : List Component) × AllZip (IsComponent rows coords xs c.components) (below c.count) cs =
         listed_each (IsComponent rows coords xs c.components) (below c.count) (λ i m. component_told c.components c.count c.are i (below-among i c.count m)) in

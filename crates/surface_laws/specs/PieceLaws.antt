@@ -10,7 +10,7 @@ use Rattle.surface_definitions.specs.declared.Coords.{Coords}
 use Rattle.surface_definitions.specs.Equations.{matching_rows}
 use Rattle.surface_definitions.specs.Pieces.{SurfacePiece, pieces_of, piece_number, Arc, arc_across, piece_of, Meets, SamePiece, AreComponents, component_vector}
 use Rattle.vector_definitions.specs.Components.{Component, IsPiecesAnswer}
-use Rattle.vector_definitions.specs.declared.PiecesFault.{PiecesFault}
+use Rattle.vector_definitions.specs.declared.ManyPieces.{ManyPieces}
 use Rattle.walk_laws.specs.Joined.{IsJoined, IsSymmetric, HasNeighboursBelow}
 use Rattle.surface_laws.specs.MatchingLaws.{HasTriangles}
 
@@ -109,7 +109,7 @@ ComponentsExist = (rows : List Row) (coords : Coords) (xs : List ℕ) → IsSurf
 
 -- so something is told of the pieces of each surface
 abbrev pub PiecesAnswersExist : Type 0
-PiecesAnswersExist = (rows : List Row) (coords : Coords) (xs : List ℕ) → IsSurface rows coords xs → (a : Result (List Component) PiecesFault) × IsPiecesAnswer rows coords xs a
+PiecesAnswersExist = (rows : List Row) (coords : Coords) (xs : List ℕ) → IsSurface rows coords xs → (a : Result (List Component) ManyPieces) × IsPiecesAnswer rows coords xs a
 
 -- the first of these columns that isn't 0, or else q
 abbrev pub first_nonzero : List ℕ → List ℕ → ℕ → ℕ

@@ -1,18 +1,17 @@
 -- Round a vertex of a face a piece has at most one arc: that of its number, or that of the place from which its number is counted.
 use Rattle.std.proofs.Common.{◌≡◌, ℕ, zero, suc, ◌+◌, ◌-◌, ◌/◌, ◌%◌, ◌<◌, ◌≤◌, Bool, true, false, not, cond, List, [], ◌∷◌, length, map, filter, inl, inr, refl, sym, ap, ◌∙◌, subst, arith}
-use Rattle.std.specs.Prelude.{◌==◌, nat_lt, slice_index, sum_by, if◌then◌else◌}
+use Rattle.std.specs.Prelude.{◌==◌, nat_lt, slice_index}
 use Rattle.std.specs.List.{AllByRecursion, position_or_len, slice_index_or}
-use Rattle.std.proofs.lemmas.Bool.{cases_lt, lt-ltb, le-ltb}
-use Rattle.std.proofs.lemmas.List.Sums.{sum_by-cons}
+use Rattle.std.proofs.lemmas.Bool.{cases_lt}
 use Rattle.cone_definitions.specs.Surfaces.{IsAdmissible}
 use Rattle.surface_definitions.specs.Coordinates.{columns_each, tri_column, quad_column, oct_column, keeping, three, octagon_arcs, clash_list}
 use Rattle.surface_definitions.specs.declared.Coords.{Coords}
 use Rattle.surface_definitions.specs.declared.Coords.TheVariants.{Standard, Quad, Octagon}
-use Rattle.surface_definitions.specs.Pieces.{SurfacePiece, Arc, arcs_round, type_in, keeps_by_zero, further_piece, piece_of}
+use Rattle.surface_definitions.specs.Pieces.{SurfacePiece, Arc, arcs_round, type_in, keeps_by_zero, piece_of}
 use Rattle.surface_laws.specs.MatchingLaws.{HasTriangles}
 use Rattle.surface_laws.proofs.MeetingArcs.{arc_at}
 use Rattle.surface_laws.proofs.Turns.{keeping_below}
-use Rattle.surface_laws.proofs.FurtherArcs.{one_further, further_one}
+use Rattle.surface_laws.proofs.ArcPieces.{from_end, from_end_below, from_end_twice, arcs_are, triangle_piece, behind_piece}
 use Rattle.surface_laws.proofs.PieceNumbers.{piece_at}
 use Rattle.table_definitions.specs.Table.{Row}
 use Rattle.surface_definitions.specs.Coordinates.{columns}
@@ -67,39 +66,11 @@ module _ (coords : Coords) (n : ℕ) (xs : List ℕ) (triangles : HasTriangles c
       let same : tri % columns_each coords ≡ behind % columns_each coords = ap (λ c. c % columns_each coords) e in
       omega arith
 
-  arcs_are : arcs_round coords xs t f v ≡ slice_index xs tri + slice_index xs behind
-  arcs_are =
-      let further : slice_index xs (quad_column coords t (keeping v f)) + sum_by (slice_index xs) (octagon_arcs coords t f v) ≡ slice_index xs behind =
-      one_further xs xs (λ c z. z) (quad_column coords t (keeping v f)) (octagon_arcs coords t f v) (further_one coords n xs t f v triangles admissible lt lf lv off) in
-      omega (arith, sum_by-cons (slice_index xs) tri (quad_column coords t (keeping v f) ∷ octagon_arcs coords t f v), sum_by-cons (slice_index xs) (quad_column coords t (keeping v f)) (octagon_arcs coords t f v))
-
-  -- a number counted from one end or the other
-  abbrev pub from_end : Bool → ℕ → ℕ
-  from_end b j = if b then j else slice_index xs behind - 1 - j
-
-  abbrev pub by_zero : Bool
+  abbrev by_zero : Bool
   by_zero = keeps_by_zero (type_in coords behind) v
 
-  piece_if : ℕ → Bool → SurfacePiece
-  piece_if k b = if b then piece_at tri k else further_piece xs behind (k - slice_index xs tri) by_zero
-
-  pub triangle_piece : (k : ℕ) → k < slice_index xs tri → piece_of coords xs (arc_at t f v k) ≡ piece_at tri k
-  unfolding piece_if
-  triangle_piece k l = ap (piece_if k) (lt-ltb k (slice_index xs tri) l)
-
-  pub behind_piece : (j : ℕ) → piece_of coords xs (arc_at t f v (slice_index xs tri + j)) ≡ piece_at behind (from_end by_zero j)
-  unfolding piece_if
-  behind_piece j =
-      let less : slice_index xs tri + j - slice_index xs tri ≡ j = omega arith in
-      ap (piece_if (slice_index xs tri + j)) (le-ltb (slice_index xs tri + j) (slice_index xs tri) (omega arith)) ∙ ap (λ i. further_piece xs behind i by_zero) less
-
-  from_end_below : (b : Bool) (j : ℕ) → j < slice_index xs behind → from_end b j < slice_index xs behind
-  from_end_below true j l = l
-  from_end_below false j l = omega arith
-
-  from_end_twice : (b : Bool) (j : ℕ) → j < slice_index xs behind → from_end b (from_end b j) ≡ j
-  from_end_twice true j l = refl
-  from_end_twice false j l = omega arith
+  all_arcs : arcs_round coords xs t f v ≡ slice_index xs tri + slice_index xs behind
+  all_arcs = arcs_are coords n xs triangles admissible t f v lt lf lv off xs (λ c z. z)
 
   column_is : (p q : SurfacePiece) → p ≡ q → p.column ≡ q.column
   column_is p q e = ap (λ (r : SurfacePiece). r.column) e
@@ -124,36 +95,36 @@ module _ (coords : Coords) (n : ℕ) (xs : List ℕ) (triangles : HasTriangles c
             tet = here;
             face = refl;
             vertex = refl;
-            there = omega (arith, arcs_are);
-            piece = triangle_piece p.number low ∙ same;
+            there = omega (arith, all_arcs);
+            piece = triangle_piece coords n xs triangles admissible t f v lt lf lv off p.number low ∙ same;
           },
           same_arc p.number (λ i l d. elim (cases_lt i (slice_index xs tri)) [
-            | inl less ↦ number_is (piece_at tri i) p (sym (triangle_piece i less) ∙ d)
+            | inl less ↦ number_is (piece_at tri i) p (sym (triangle_piece coords n xs triangles admissible t f v lt lf lv off i less) ∙ d)
             | inr more ↦ (let j : ℕ = i - slice_index xs tri in
                 let again : slice_index xs tri + j ≡ i = omega arith in
-                absurd (apart (sym e ∙ sym (column_is (piece_at behind (from_end by_zero j)) p (sym (behind_piece j) ∙ ap (λ k. piece_of coords xs (arc_at t f v k)) again ∙ d)))))
+                absurd (apart (sym e ∙ sym (column_is (piece_at behind (from_end (slice_index xs behind) by_zero j)) p (sym (behind_piece coords n xs triangles admissible t f v lt lf lv off j) ∙ ap (λ k. piece_of coords xs (arc_at t f v k)) again ∙ d)))))
           ]),
         )
 
-    pub further_arc : p.column ≡ behind → IsOnlyArcOf coords xs p f v (arc_at t f v (slice_index xs tri + from_end by_zero p.number))
+    pub further_arc : p.column ≡ behind → IsOnlyArcOf coords xs p f v (arc_at t f v (slice_index xs tri + from_end (slice_index xs behind) by_zero p.number))
     further_arc e =
         let low : p.number < slice_index xs behind = subst (λ c. p.number < slice_index xs c) e some in
         let same : piece_at behind p.number ≡ p = ap (λ c. piece_at c p.number) (sym e) in
-        let inside : from_end by_zero p.number < slice_index xs behind = from_end_below by_zero p.number low in (
+        let inside : from_end (slice_index xs behind) by_zero p.number < slice_index xs behind = from_end_below (slice_index xs behind) by_zero p.number low in (
           record {
             tet = here;
             face = refl;
             vertex = refl;
-            there = omega (arith, arcs_are);
-            piece = behind_piece (from_end by_zero p.number) ∙ ap (piece_at behind) (from_end_twice by_zero p.number low) ∙ same;
+            there = omega (arith, all_arcs);
+            piece = behind_piece coords n xs triangles admissible t f v lt lf lv off (from_end (slice_index xs behind) by_zero p.number) ∙ ap (piece_at behind) (from_end_twice (slice_index xs behind) by_zero p.number low) ∙ same;
           },
-          same_arc (slice_index xs tri + from_end by_zero p.number) (λ i l d. elim (cases_lt i (slice_index xs tri)) [
-            | inl less ↦ absurd (apart (column_is (piece_at tri i) p (sym (triangle_piece i less) ∙ d) ∙ e))
+          same_arc (slice_index xs tri + from_end (slice_index xs behind) by_zero p.number) (λ i l d. elim (cases_lt i (slice_index xs tri)) [
+            | inl less ↦ absurd (apart (column_is (piece_at tri i) p (sym (triangle_piece coords n xs triangles admissible t f v lt lf lv off i less) ∙ d) ∙ e))
             | inr more ↦ (let j : ℕ = i - slice_index xs tri in
                 let again : slice_index xs tri + j ≡ i = omega arith in
-                let lj : j < slice_index xs behind = omega (arith, arcs_are) in
-                let number : from_end by_zero j ≡ p.number = number_is (piece_at behind (from_end by_zero j)) p (sym (behind_piece j) ∙ ap (λ k. piece_of coords xs (arc_at t f v k)) again ∙ d) in
-                let back : j ≡ from_end by_zero p.number = sym (from_end_twice by_zero j lj) ∙ ap (from_end by_zero) number in
+                let lj : j < slice_index xs behind = omega (arith, all_arcs) in
+                let number : from_end (slice_index xs behind) by_zero j ≡ p.number = number_is (piece_at behind (from_end (slice_index xs behind) by_zero j)) p (sym (behind_piece coords n xs triangles admissible t f v lt lf lv off j) ∙ ap (λ k. piece_of coords xs (arc_at t f v k)) again ∙ d) in
+                let back : j ≡ from_end (slice_index xs behind) by_zero p.number = sym (from_end_twice (slice_index xs behind) by_zero j lj) ∙ ap (from_end (slice_index xs behind) by_zero) number in
                 omega arith)
           ]),
         )

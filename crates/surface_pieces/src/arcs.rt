@@ -1,10 +1,9 @@
 //! The piece of an arc, and the arc of a piece.
 
-ghost use Rattle.std.specs.Prelude.{◌≡◌, ◌≢◌, ◌+◌, ◌-◌, ◌*◌, ◌<◌, ◌≤◌, length, sum, IfSome, IfNone, if◌then◌else◌};
+ghost use Rattle.std.specs.Prelude.{◌≡◌, ◌≢◌, ◌+◌, ◌-◌, ◌<◌, ◌≤◌, length, sum, IfSome, IfNone, if◌then◌else◌};
 ghost use Rattle.table_definitions.specs.Table.{max_tets};
 ghost use Rattle.surface_definitions.specs.Coordinates as coordinates;
 ghost use Rattle.surface_definitions.specs.Pieces as pieces;
-ghost use Rattle.table_definitions.specs.Table as gluings;
 ghost use Rattle.vector_definitions.specs.Components.{most_pieces};
 ghost use Rattle.surface_laws.specs.PieceLaws.{IsSurface, IsPieceOf};
 ghost use Rattle.surface_pieces.specs.Arcs.{IsOnlyArcOf, HasNoArc};

@@ -1,6 +1,6 @@
 //! The entries of a vector, and its pieces in their order.
 
-ghost use Rattle.std.specs.Prelude.{◌≡◌, ◌≢◌, ◌+◌, ◌*◌, ◌<◌, ◌≤◌, ◌^◌, ◌++◌, length, map, sum, IfOk, OnOk};
+ghost use Rattle.std.specs.Prelude.{◌≡◌, ◌+◌, ◌*◌, ◌<◌, ◌≤◌, ◌^◌, ◌++◌, length, map, sum, IfOk, OnOk};
 ghost use Rattle.text_definitions.specs.Written.{limit};
 ghost use Rattle.table_definitions.specs.Lists.{below};
 ghost use Rattle.surface_definitions.specs.Pieces as pieces;

@@ -12,4 +12,4 @@ mod vectors;
 
 pub use no_memory::Failure;
 pub use pieces::Pieces;
-pub use vector_definitions::PiecesFault;
+pub use vector_definitions::ManyPieces;

@@ -20,7 +20,7 @@ use skeleton::Skeleton;
 use std::alloc::{AllocError, Global};
 use std::marker::Model;
 use surface_definitions::Coords;
-use vector_definitions::PiecesFault;
+use vector_definitions::ManyPieces;
 
 /// The components of a surface, numbered by their least pieces: the vector of each, whether it is two-sided, and
 /// whether it is orientable.
@@ -90,13 +90,13 @@ impl Pieces {
     /// The components of a surface: of an admissible solution in standard or octagon coordinates whose entries add up
     /// to at most 2^127 - 1. (Haken.)
     ///
-    /// `TooManyPieces` with the number of pieces where there are more than 100,000.
+    /// `ManyPieces` with the number of pieces where there are more than 100,000.
     pub fn build(
         alloc: Global,
         skeleton: &Skeleton,
         coords: Coords,
         x: &[u128],
-    ) -> Result<Pieces, Failure<PiecesFault>>
+    ) -> Result<Pieces, Failure<ManyPieces>>
         requires surface { IsSurface skeleton.now.rows coords x.now }
         requires fits { sum x.now ≤ limit }
         ensures pieces { IfOk result (λ p. IsPiecesAnswer skeleton.now.rows coords x.now (Ok p)) }
@@ -104,7 +104,7 @@ impl Pieces {
     {
         let count = total(x);
         if count > MOST_PIECES {
-            return Err(Failure::Fault(PiecesFault::TooManyPieces { count }));
+            return Err(Failure::Fault(ManyPieces { count }));
         }
         let entries = entries_of(alloc, x)?;
         let pieces = built(alloc, skeleton.table(), coords, &entries)?;

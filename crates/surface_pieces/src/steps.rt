@@ -1,6 +1,6 @@
 //! What lies across an arc of a piece.
 
-ghost use Rattle.std.specs.Prelude.{◌≡◌, ◌≢◌, ◌+◌, ◌*◌, ◌<◌, ◌≤◌, ℕ, length, sum, IfSome, IfNone, if◌then◌else◌, not};
+ghost use Rattle.std.specs.Prelude.{◌≡◌, ◌≢◌, ◌+◌, ◌*◌, ◌<◌, ◌≤◌, ℕ, sum, IfSome, IfNone, if◌then◌else◌, not};
 ghost use Rattle.table_definitions.specs.Permutation.{IsPermutationOfFour};
 ghost use Rattle.surface_definitions.specs.Pieces as pieces;
 ghost use Rattle.vector_definitions.specs.Components.{most_pieces};
@@ -16,7 +16,7 @@ use gluing_table::{Face, Glue, Table};
 use surface_definitions::Coords;
 
 /// What numbers a search joins: those of pieces, or those of pieces with a sign, which is kept where a test passes.
-#[derive(Clone, Copy, PartialEq, Eq)]
+#[derive(Clone, Copy)]
 pub enum Joining {
     Pieces,
     Sides,

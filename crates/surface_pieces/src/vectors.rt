@@ -1,6 +1,6 @@
 //! The vectors of the components.
 
-ghost use Rattle.std.specs.Prelude.{◌≡◌, ◌≢◌, ◌+◌, ◌*◌, ◌<◌, ◌≤◌, ◌^◌, ℕ, length, replicate, slice_set, slice_index, IfOk};
+ghost use Rattle.std.specs.Prelude.{◌≡◌, ◌+◌, ◌<◌, ◌≤◌, ◌^◌, ℕ, length, replicate, slice_set, slice_index, IfOk};
 ghost use Rattle.surface_definitions.specs.Pieces as pieces;
 ghost use Rattle.vector_definitions.specs.Components.{most_pieces};
 ghost use Rattle.vector_definitions.specs.Held.{all_entries};

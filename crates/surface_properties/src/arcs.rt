@@ -1,6 +1,6 @@
 //! The arcs in which a surface meets the faces.
 
-ghost use Rattle.std.specs.Prelude.{◌≡◌, ◌≢◌, ◌+◌, ◌*◌, ◌<◌, length, slice_index};
+ghost use Rattle.std.specs.Prelude.{◌≡◌, ◌≢◌, ◌+◌, ◌<◌, length, slice_index};
 ghost use Rattle.table_definitions.specs.Permutation.{others};
 ghost use Rattle.table_definitions.specs.Table as gluings;
 ghost use Rattle.skeleton_definitions.specs.Links.{is_first_side as is_first};
@@ -9,7 +9,7 @@ ghost use Rattle.surface_definitions.specs.Coordinates.{columns};
 ghost use Rattle.surface_definitions.specs.Pieces as pieces;
 ghost use Rattle.surface_definitions.specs.Characteristic as characteristic;
 ghost use Rattle.surface_properties.specs.Capped.{capped};
-ghost use Rattle.surface_properties.specs.Counted.{counted as counted_at, counted_in};
+ghost use Rattle.surface_properties.specs.Counted.{counted as counted_at};
 
 use crate::sums::{add, sum_at};
 use gluing_table::{Face, Table};

@@ -1,6 +1,6 @@
 //! The points in which a surface meets the edges.
 
-ghost use Rattle.std.specs.Prelude.{◌≡◌, ◌≢◌, ◌+◌, ◌*◌, ◌<◌, length, sum_by, slice_index};
+ghost use Rattle.std.specs.Prelude.{◌≡◌, ◌≢◌, ◌+◌, ◌<◌, length, sum_by, slice_index};
 ghost use Rattle.table_definitions.specs.Table.{max_tets};
 ghost use Rattle.table_definitions.specs.Places.{ends};
 ghost use Rattle.surface_definitions.specs.Coordinates.{columns};

@@ -1,6 +1,6 @@
 //! All properties of a surface at once.
 
-ghost use Rattle.std.specs.Prelude.{◌≡◌, ◌≢◌, ◌+◌, ◌*◌, ◌<◌, ◌≤◌, true, false, length, slice_index, None, IsTrue, pos, ◌-ℤ◌};
+ghost use Rattle.std.specs.Prelude.{◌≡◌, ◌≢◌, ◌*◌, ◌<◌, ◌≤◌, true, false, length, slice_index, None, IsTrue, pos, ◌-ℤ◌};
 ghost use Rattle.table_definitions.specs.Table as gluings;
 ghost use Rattle.text_definitions.specs.Written.{limit};
 ghost use Rattle.table_definitions.specs.Table.{IsTable};

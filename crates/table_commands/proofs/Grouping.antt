@@ -1,5 +1,5 @@
 -- What is known of tables goes on to one more.
-use Rattle.std.proofs.Common.{◌≡◌, ◌≢◌, ℕ, ◌+◌, ◌<◌, ◌≤◌, inl, inr, ⊎_elim, ◌⊎◌, List, [], ◌∷◌, ◌++◌, length, length-append, Option, Some, None, Vec, vec_len, sym, ap, subst, arith}
+use Rattle.std.proofs.Common.{◌≡◌, ℕ, ◌+◌, ◌<◌, ◌≤◌, inl, inr, ⊎_elim, ◌⊎◌, List, [], ◌∷◌, ◌++◌, length, length-append, Option, Some, None, Vec, vec_len, sym, ap, subst, arith}
 use Rattle.std.specs.declared.alloc.Global.{Global}
 use Rattle.std.proofs.Math.ListN.{get_or-append}
 use Rattle.std.proofs.Math.Seq.{get_or-append_seam}
@@ -10,7 +10,6 @@ use Rattle.signature_definitions.specs.Spelling.{IsSignature}
 use Rattle.signature_definitions.specs.Census.{table_in, IsCensus, IsPlaced}
 use Rattle.signature_definitions.proofs.CensusLaws.{census_goes_on}
 use Rattle.labelling_laws.proofs.Told.{tells_tables}
-use Rattle.canonical_labelling.specs.declared.walks.WalkFault.TheVariants as faults
 use Rattle.table_commands.specs.declared.groups.NotConnected.{NotConnected}
 use Rattle.table_commands.specs.declared.groups.Groups.{Groups}
 use Rattle.table_commands.specs.Groups.{AreConnected, AreClassed, IsFirstFound, AreGroupedBy, AreGrouped}
@@ -72,9 +71,9 @@ module _ (tables : List (List Row)) (a : List Row) where
 
   -- the first that isn't connected
   pub found_first : (before : Groups) (census : List (List ℕ)) (table tet : ℕ) → before.found ≡ None → census ≡ before.census → table ≡ vec_len before.classes
-      → (faults.NotConnected tet ≢ faults.NoMemory → (t : ℕ) × (faults.NotConnected tet ≡ faults.NotConnected t) × IsLeastUnreached a t) → IsTable a → AreGrouped tables before
+      → IsLeastUnreached a tet → IsTable a → AreGrouped tables before
       → AreGrouped more (record { census = census; classes = before.classes; found = Some (record { table = table; tet = tet }) })
-  found_first before census table tet none kept counted fault is_table g = record {
+  found_first before census table tet none kept counted least is_table g = record {
     are_tables = each_more IsTable g.are_tables is_table;
     few_classes = let few = g.few_classes in omega (arith, one_more);
     few_signatures = let few = g.few_signatures in omega (arith, one_more, ap length kept);
@@ -90,12 +89,6 @@ module _ (tables : List (List Row)) (a : List Row) where
 
       place : table ≡ length tables
       place = let n = so_far.census.numbering.one_each in omega (arith, before.classes.ok.0)
-
-      least : IsLeastUnreached a tet
-      least =
-          let f = fault (λ e. cc) in
-          let same : tet ≡ f.0 = (let e : faults.NotConnected tet ≡ faults.NotConnected f.0 = f.1 in cc) in
-          subst (IsLeastUnreached a) (sym same) f.2
 
   -- behind it nothing more is to be known
   pub still_found : (before : Groups) (found : NotConnected) → before.found ≡ Some found → IsTable a → AreGrouped tables before → AreGrouped more before

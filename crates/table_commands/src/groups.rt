@@ -1,21 +1,20 @@
 // Tables that are read and sorted into classes, and not kept.
-ghost use Rattle.std.specs.Prelude.{◌≡◌, ◌<◌, ◌≤◌, ◌+◌, ◌++◌, ◌^◌, ℕ, List, [], ◌∷◌, None, length, OnOk};
+ghost use Rattle.std.specs.Prelude.{◌≡◌, ◌<◌, ◌≤◌, ◌+◌, ◌++◌, ◌^◌, List, [], ◌∷◌, None, length, OnOk};
 ghost use Rattle.text_definitions.specs.Text.{max_text};
 ghost use Rattle.table_definitions.specs.Table as gluings;
 ghost use Rattle.signature_definitions.specs.SignatureText.{any_table_at};
 ghost use Rattle.document_definitions.specs.Documents.{tables_from, tables_document};
 ghost use Rattle.table_commands.specs.Groups.{AreGrouped, GivesOneMore, GivesGroups, GivesGroupsDocument};
 
-use canonical_labelling::WalkFault;
 use gluing_table::Table;
-use no_memory::NoMemory;
+use no_memory::{Failure, NoMemory};
 use signature_census::Census;
 use signature_codec::{InputFault, read_any};
 use std::alloc::Global;
 use text_io::Lexer;
 
 /// A table, counted from 0, and its least tetrahedron that no chain joins to the first.
-#[derive(Clone, Copy, Debug, PartialEq, Eq)]
+#[derive(Clone, Copy)]
 pub struct NotConnected {
     pub table: u32,
     pub tet: u32,
@@ -52,12 +51,13 @@ fn classify(groups: &mut Groups, table: &Table) -> Result<(), NoMemory>
             groups.classes.push(class)?;
             Ok(())
         }
-        Err(WalkFault::NotConnected { tet }) => {
+        Err(Failure::Fault(fault)) => {
             let table = groups.classes.len() as u32;
+            let tet = fault.tet;
             groups.found = Some(NotConnected { table, tet });
             Ok(())
         }
-        Err(WalkFault::NoMemory) => Err(NoMemory),
+        Err(Failure::NoMemory) => Err(NoMemory),
     }
 }
 

@@ -2,12 +2,11 @@
 ghost use Rattle.std.specs.Prelude.{◌≡◌, ◌≤◌, ◌++◌, length, IfOk, OnOk};
 ghost use Rattle.text_definitions.specs.Text.{max_text};
 ghost use Rattle.table_definitions.specs.Relabelling.{stand_in};
-ghost use Rattle.signature_definitions.specs.Labellings.{IsLeastRelabelling};
 ghost use Rattle.document_definitions.specs.Documents.{two_tables_document};
 ghost use Rattle.outcome_definitions.specs.Outcomes.{IsReadOutcome};
 ghost use Rattle.outcome_definitions.specs.Information.{classes_text};
 ghost use Rattle.outcome_definitions.specs.Canonical as canonical;
-ghost use Rattle.outcome_definitions.specs.Canonical.{done, IsCompared, IsSameAnswer};
+ghost use Rattle.outcome_definitions.specs.Canonical.{done, IsSameAnswer};
 
 use canonical_labelling::{SameFault, same as least_relabelling};
 use command_answers::{Outcome, fault_outcome, not_connected_outcome, read_two_tables};

@@ -5,12 +5,12 @@ ghost use Rattle.document_definitions.specs.Documents.{table_document};
 ghost use Rattle.outcome_definitions.specs.Outcomes.{IsReadOutcome};
 ghost use Rattle.outcome_definitions.specs.Canonical.{IsSignatureAnswer};
 
-use canonical_labelling::{WalkFault, signature};
+use canonical_labelling::signature;
 use command_answers::{
     Outcome, fault_outcome, line_outcome, not_connected_outcome, read_table_document,
 };
 use gluing_table::Table;
-use no_memory::NoMemory;
+use no_memory::{Failure, NoMemory};
 use std::alloc::Global;
 
 // The answer to a table.
@@ -19,8 +19,8 @@ fn answer(alloc: Global, table: &Table) -> Result<Outcome, NoMemory>
 {
     match signature(alloc, table) {
         Ok(text) => line_outcome(text),
-        Err(WalkFault::NotConnected { tet }) => not_connected_outcome(alloc, 0, tet),
-        Err(WalkFault::NoMemory) => Err(NoMemory),
+        Err(Failure::Fault(fault)) => not_connected_outcome(alloc, 0, fault.tet),
+        Err(Failure::NoMemory) => Err(NoMemory),
     }
 }
 

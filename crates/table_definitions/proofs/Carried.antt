@@ -13,7 +13,7 @@ use Rattle.table_definitions.specs.Lists.{below}
 use Rattle.table_definitions.specs.Permutation.{IsPermutationOfFour, image, preimage, inverse, compose}
 use Rattle.table_definitions.specs.Table.{Gluing, Row, Face, glue, other_side, way_back, same_face, IsTable}
 use Rattle.table_definitions.specs.Relabelling.{Relabelling, IsRelabelling, Carries, stand_in, face_under, gluing_under}
-use Rattle.table_definitions.proofs.Permutations.{image_below, preimage_below, image-preimage, preimage-image, image-inverse, inverse_permutes, inverse-inverse, inverse-of-compose, compose_permutes, compose-compose, image-compose}
+use Rattle.table_definitions.proofs.Permutations.{image_below, preimage_below, image-preimage, preimage-image, image-inverse, inverse_permutes, inverse-inverse, inverse-of-compose, inverse-compose, compose_permutes, compose-compose, compose-identity, identity-compose, image-compose}
 use Rattle.table_definitions.proofs.Bijections.{below_contains, IsDistinct-from_before, get_or-any, flips}
 use Rattle.table_definitions.proofs.TableLaws.{glued_tet, glued_face}
 use Rattle.table_definitions.proofs.ListFacts.{both_true}
@@ -83,6 +83,18 @@ carried_back s r p hs hr hp =
     let e2 = inverse-of-compose p (inverse s) hp qs in
     let e3 = inverse-inverse s hs in
     sym (e1 ∙ ap (λ q. compose q (inverse r)) (e2 ∙ ap (λ q. compose q (inverse p)) e3) ∙ compose-compose s (inverse p) (inverse r) hs qp qr)
+
+-- and carried back it is as it was
+pub carried_and_back : (s r p : List ℕ) → IsPermutationOfFour s → IsPermutationOfFour r → IsPermutationOfFour p
+    → compose (inverse r) (compose (compose r (compose p (inverse s))) (inverse (inverse s))) ≡ p
+carried_and_back s r p hs hr hp =
+    let qs = inverse_permutes s hs in
+    let qr = inverse_permutes r hr in
+    let ps = compose_permutes p (inverse s) hp qs in
+    let ends : compose (compose p (inverse s)) s ≡ p = compose-compose p (inverse s) s hp qs hs ∙ ap (compose p) (inverse-compose s hs) ∙ compose-identity p hp in
+    ap (λ q. compose (inverse r) (compose (compose r (compose p (inverse s))) q)) (inverse-inverse s hs)
+    ∙ ap (compose (inverse r)) (compose-compose r (compose p (inverse s)) s hr ps hs ∙ ap (compose r) ends)
+    ∙ sym (compose-compose (inverse r) r p qr hr hp) ∙ ap (λ q. compose q p) (inverse-compose r hr) ∙ identity-compose p hp
 
 -- a face of the new table, by the face of the old one that it stands for
 

@@ -8,6 +8,7 @@ pub mod TableLaws
 pub mod ReadingLaws
 pub mod Tests
 pub mod Listed
+pub mod DistinctLists
 pub mod InPlace
 pub mod WrittenWords
 pub mod WrittenLines

@@ -374,3 +374,10 @@ carried_twice s r t u p hs hr ht hu hp =
     let ha = compose_permutes p (inverse s) hp qs in
     ap (compose u) (compose-compose r a (inverse t) hr ha qt) ∙ sym (compose-compose u r (compose a (inverse t)) hu hr (compose_permutes a (inverse t) ha qt))
     ∙ ap (compose (compose u r)) (compose-compose p (inverse s) (inverse t) hp qs qt ∙ ap (compose p) (sym (inverse-of-compose t s ht hs)))
+
+-- what goes before can be taken away
+pub taken_away : (r s a : List ℕ) → IsPermutationOfFour r → IsPermutationOfFour s → IsPermutationOfFour a → compose r a ≡ compose s a → r ≡ s
+taken_away r s a hr hs ha e = sym (alone r hr) ∙ ap (λ q. compose q (inverse a)) e ∙ alone s hs
+  where
+    alone : (q : List ℕ) → IsPermutationOfFour q → compose (compose q a) (inverse a) ≡ q
+    alone q hq = compose-compose q a (inverse a) hq ha (inverse_permutes a ha) ∙ ap (compose q) (compose-inverse a ha) ∙ compose-identity q hq

@@ -14,7 +14,7 @@ use std::alloc::{AllocError, AllocFailed};
 use text_definitions::LexFault;
 
 /// Why rows are no table.
-#[derive(Clone, Copy, Debug, PartialEq, Eq)]
+#[derive(Clone, Copy)]
 pub enum TableFault {
     NoMemory,
     /// More rows than a table may have.
@@ -36,7 +36,7 @@ impl From<AllocError> for TableFault {
 }
 
 /// Why a text is no table in the form `tri`.
-#[derive(Clone, Copy, Debug, PartialEq, Eq)]
+#[derive(Clone, Copy)]
 pub enum TextFault {
     NoMemory,
     /// A line or a word hasn't the form that is wanted.

@@ -1,7 +1,7 @@
 // What stands first on the rest of a line.
 ghost use Rattle.std.specs.Prelude.{◌≡◌, ◌+◌, ◌<◌, ◌≤◌, ◌^◌, length};
 ghost use Rattle.std.specs.List.{prefix_len};
-ghost use Rattle.text_definitions.specs.Text.{is_blank, is_word_byte};
+ghost use Rattle.text_definitions.specs.Text.{is_word_byte};
 ghost use Rattle.text_io.specs.Front.{drop_blanks, IsFront};
 
 /// What stands first, past spaces and tabs: nothing, a byte that is none of words, or a word with what follows it.

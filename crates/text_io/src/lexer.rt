@@ -1,8 +1,9 @@
 // One cursor over the bytes of an input.
-ghost use Rattle.std.specs.Prelude.{◌≡◌, ◌↔◌, ◌^◌, ◌<◌, ◌≤◌, [], length, IsTrue, Ok};
+ghost use Rattle.std.specs.Prelude.{◌≡◌, ◌↔◌, ◌<◌, ◌≤◌, [], length, IsTrue, Ok};
 ghost use Rattle.std.specs.Bool.{OnTrue, OnFalse};
 ghost use Rattle.text_definitions.specs.declared.LexKind.TheVariants.{BadWord};
-ghost use Rattle.text_definitions.specs.Reading.{Gives, Moves, start_of, need_line_at, word_at, number_at, signed_at, end_line_at, word_fault, fault_at, number_up_to};
+ghost use Rattle.text_definitions.specs.Reading.{Gives, Moves, start_of, need_line_at, word_at, number_at, signed_at, end_line_at, word_fault, fault_at, number_up_to, magnitude, is_negative};
+ghost use Rattle.text_definitions.specs.Signed.{signed_bound};
 ghost use Rattle.text_definitions.specs.Text.{max_text, decimal_value};
 
 use crate::decimals::{is_decimal_word, value_up_to};
@@ -123,15 +124,15 @@ impl<'a> Lexer<'a> {
     /// The next word of the line, as a decimal up to `max` in magnitude, with one `-` in front or none.
     #[tactic(auto, unfolding(text_definitions::specs::Reading::signed_at))]
     pub fn signed(&mut self, max: u32) -> Result<i32, LexFault>
-        requires { max < 2 ^ 31 }
+        requires { max < signed_bound }
         ensures { Gives (λ n. n) result self.new (signed_at max self.old) }
     {
         let word = self.word()?;
-        if let [b'-', digits @ ..] = word {
-            let value = self.value_of(digits, u128::from(max))?;
+        let (negative, digits) = split_sign(word);
+        let value = self.value_of(digits, u128::from(max))?;
+        if negative {
             return Ok(-(value as i32));
         }
-        let value = self.value_of(word, u128::from(max))?;
         Ok(value as i32)
     }
 
@@ -186,4 +187,15 @@ impl<'a> Lexer<'a> {
             kind: LexKind::NumberTooWide,
         })
     }
+}
+
+// Whether a `-` stands in front of a word, and what stands behind it, or else the word.
+fn split_sign(word: &[u8]) -> (bool, &[u8])
+    ensures negative { result.0 ≡ is_negative word.now }
+    ensures digits { result.1.now ≡ magnitude word.now }
+{
+    if let [b'-', digits @ ..] = word {
+        return (true, digits);
+    }
+    (false, word)
 }

@@ -22,6 +22,7 @@ impl<R> Model for StdSource<R> {
 }
 
 impl<R: Read + Drop> StdSource<R> {
+    /// The source over this reader, of which no error is counted yet.
     pub fn new(input: R) -> StdSource<R>
         ensures { result ≡ 0 }
     {
@@ -68,6 +69,7 @@ impl<W> Model for StdSink<W> {
 }
 
 impl<W: Write + Drop> StdSink<W> {
+    /// The sink over this writer, of which no error is counted yet.
     pub fn new(output: W) -> StdSink<W>
         ensures { result ≡ 0 }
     {

@@ -12,7 +12,7 @@ const FEWEST_ASKED: usize = 4096;
 const MOST_ASKED: usize = 65536;
 
 /// Why not all bytes of a source were read.
-#[derive(Clone, Copy, Debug, PartialEq, Eq)]
+#[derive(Clone, Copy)]
 pub enum ReadEnd {
     /// The source failed.
     Failed,

@@ -1,5 +1,5 @@
 -- The relabelling by which a step is carried back, by what stands for each tetrahedron.
-use Rattle.std.proofs.Common.{◌≡◌, ℕ, ◌<◌, false, List, [], ◌∷◌, ◌++◌, length, map, Option, Some, None, Result, Ok, Err, IfOk, refl, sym, ap, ◌∙◌, subst, arith}
+use Rattle.std.proofs.Common.{◌≡◌, ℕ, ◌<◌, false, List, [], ◌∷◌, ◌++◌, length, map, Option, Some, None, refl, sym, ap, ◌∙◌, subst, arith}
 use Rattle.std.specs.Prelude.{slice_index}
 use Rattle.std.proofs.lemmas.List.Elements.{All-from_get_or}
 use Rattle.table_definitions.specs.Lists.{below}
@@ -175,8 +175,3 @@ gone_back old step now on back m before after end by b k e moves plays one =
       carried = subst (λ (r : Relabelling). IsCarriedBack old step.played now (move_back old step.played on) on r) (sym same) l.carried;
       carries = subst (λ (r : Relabelling). Carries r old end) (sym same) (subst (λ (t : List Row). Carries l.by old t) (sym ends) l.carries);
     }
-
--- what holds of a value holds of another
-pub ok_goes : {A E : Type 0} {P Q : A → Type 0} (r : Result A E) → ((a : A) → P a → Q a) → IfOk r P → IfOk r Q
-ok_goes (Ok a) f h = f a h
-ok_goes (Err e) f h = tt

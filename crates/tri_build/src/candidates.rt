@@ -1,6 +1,6 @@
 //! The moves from which one is drawn.
 
-ghost use Rattle.std.specs.Prelude.{◌≡◌, ◌∷◌, ◌++◌, ◌<◌, [], length, map, filter, IfOk, OnOk};
+ghost use Rattle.std.specs.Prelude.{◌≡◌, ◌++◌, ◌<◌, [], length, map, filter, IfOk, OnOk};
 ghost use Rattle.table_definitions.specs.Permutation.{four, others};
 ghost use Rattle.move_definitions.specs.Certificates as certificates;
 ghost use Rattle.move_definitions.specs.Certificates.{moves_at, moves_with};

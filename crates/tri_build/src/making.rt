@@ -1,6 +1,6 @@
 //! Tables that are made, each with its certificate.
 
-ghost use Rattle.std.specs.Prelude.{◌≡◌, ◌≤◌, length, IfOk};
+ghost use Rattle.std.specs.Prelude.{◌≤◌, length, IfOk};
 ghost use Rattle.move_definitions.specs.Certificates.{IsCertificate, IsMaking};
 ghost use Rattle.certificate_definitions.specs.Makings.{IsMade};
 ghost use Rattle.tri_build.specs.Steps.{AreSteps, moves_of};

@@ -1,6 +1,6 @@
 //! The steps of a making.
 
-ghost use Rattle.std.specs.Prelude.{◌≡◌, [], length, None, IfOk, IfSome, IfNone, OnOk};
+ghost use Rattle.std.specs.Prelude.{◌≡◌, [], None, IfOk, IfSome, IfNone};
 ghost use Rattle.move_definitions.specs.Moves as moves;
 ghost use Rattle.move_definitions.specs.Moves.{play_fault};
 ghost use Rattle.move_definitions.specs.Certificates as certificates;

@@ -1,10 +1,9 @@
 //! The way back from a table that was made: for each step its inverse, carried to the table to which the later ones led.
 
-ghost use Rattle.std.specs.Prelude.{◌≡◌, ◌∷◌, ◌++◌, ◌<◌, ◌≤◌, ◌^◌, List, [], length, All, IfOk, OnOk};
+ghost use Rattle.std.specs.Prelude.{◌≡◌, ◌<◌, ◌≤◌, List, [], All, IfOk, OnOk};
 ghost use Rattle.table_definitions.specs.Table.{max_tets, Row};
 ghost use Rattle.table_definitions.specs.Permutation.{identity};
 ghost use Rattle.table_definitions.specs.Relabelling as labels;
-ghost use Rattle.table_definitions.specs.Relabelling.{IsRelabelling};
 ghost use Rattle.certificate_definitions.specs.CarriedBack as ways;
 ghost use Rattle.certificate_definitions.specs.CarriedBack.{AreCarriedBack};
 ghost use Rattle.tri_build.specs.Steps.{AreSteps, moves_of, IsBefore, CanGoBack, GoesBack};

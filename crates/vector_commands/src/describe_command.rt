@@ -1,10 +1,9 @@
 // The command `describe`: what is counted of each vector, and its components.
-ghost use Rattle.std.specs.Prelude.{◌≡◌, ◌≢◌, ◌≤◌, ◌++◌, length, IfOk, codes, decimal};
+ghost use Rattle.std.specs.Prelude.{◌≡◌, ◌≢◌, ◌≤◌, length, IfOk};
 ghost use Rattle.text_definitions.specs.Text.{max_text};
 ghost use Rattle.surface_definitions.specs.Coordinates.{columns};
 ghost use Rattle.surface_definitions.specs.QuadEquations.{AreEquations};
 ghost use Rattle.surface_definitions.specs.Verdict.{solution};
-ghost use Rattle.table_definitions.specs.Table.{IsTable};
 ghost use Rattle.skeleton_definitions.specs.Skeleton.{IsSkeleton};
 ghost use Rattle.document_definitions.specs.Documents.{vectors_document};
 ghost use Rattle.command_answers.specs.Reads.{all_entries};
@@ -26,7 +25,7 @@ use outcome_definitions::Status;
 use skeleton::Skeleton;
 use std::alloc::Global;
 use surface_answers::check;
-use surface_pieces::{Pieces, PiecesFault};
+use surface_pieces::{ManyPieces, Pieces};
 use surface_properties::{Properties, PropertyFault, properties_of};
 use vector_definitions::Refusal;
 
@@ -60,7 +59,7 @@ fn describe_fit(
     };
     match Pieces::build(alloc, skeleton, coords, x) {
         Ok(pieces) => Ok(Described { properties, pieces }),
-        Err(Failure::Fault(PiecesFault::TooManyPieces { count })) => {
+        Err(Failure::Fault(ManyPieces { count })) => {
             Err(Failure::Fault(Refusal::TooManyPieces { count }))
         }
         Err(Failure::NoMemory) => Err(Failure::NoMemory),

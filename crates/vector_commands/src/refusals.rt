@@ -13,7 +13,7 @@ use text_io::append;
 use vector_definitions::{Refusal, Sum};
 
 /// The first vector of a document that is refused, by its number from 0, and why.
-#[derive(Clone, Copy, Debug, PartialEq, Eq)]
+#[derive(Clone, Copy)]
 pub struct FirstRefused {
     pub vector: usize,
     pub refusal: Refusal,

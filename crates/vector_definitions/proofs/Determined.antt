@@ -10,8 +10,7 @@ use Rattle.table_definitions.proofs.ClassLaws.{numberings_agree}
 use Rattle.surface_definitions.specs.declared.Coords.{Coords}
 use Rattle.surface_definitions.specs.Pieces.{pieces_of, SamePiece}
 use Rattle.vector_definitions.specs.Components.{Component, IsComponent, AreListedComponents, IsPiecesAnswer}
-use Rattle.vector_definitions.specs.declared.PiecesFault.{PiecesFault}
-use Rattle.vector_definitions.specs.declared.PiecesFault.TheVariants.{TooManyPieces}
+use Rattle.vector_definitions.specs.declared.ManyPieces.{ManyPieces}
 
 module _ (n : ℕ) (Same : ℕ → ℕ → Type 0) where
   no_more : (one other : List ℕ) (k m : ℕ) → IsNumbering n Same one k → IsNumbering n Same other m → k < m → ⊥
@@ -65,8 +64,8 @@ one_listing rows coords xs cs ds f g =
     subst (λ (k : ℕ). AllZip (IsComponent rows coords xs f.classes) (below k) ds) (sym counts) (subst (λ (l : List ℕ). AllZip (IsComponent rows coords xs l) (below g.count) ds) (sym classes) g.each) in
     one_list (IsComponent rows coords xs f.classes) (one_component rows coords xs f.classes) (below f.count) cs ds f.each again
 
-pub one_answer : (rows : List Row) (coords : Coords) (xs : List ℕ) (a b : Result (List Component) PiecesFault) → IsPiecesAnswer rows coords xs a → IsPiecesAnswer rows coords xs b → a ≡ b
+pub one_answer : (rows : List Row) (coords : Coords) (xs : List ℕ) (a b : Result (List Component) ManyPieces) → IsPiecesAnswer rows coords xs a → IsPiecesAnswer rows coords xs b → a ≡ b
 one_answer rows coords xs (Ok cs) (Ok ds) f g = ap Ok (one_listing rows coords xs cs ds f.1 g.1)
-one_answer rows coords xs (Ok cs) (Err (TooManyPieces m)) f g = absurd (omega (arith, f.0, g.0))
-one_answer rows coords xs (Err (TooManyPieces n)) (Ok ds) f g = absurd (omega (arith, f.0, g.0))
-one_answer rows coords xs (Err (TooManyPieces n)) (Err (TooManyPieces m)) f g = ap (λ k. Err (TooManyPieces k)) (f.1 ∙ sym g.1)
+one_answer rows coords xs (Ok cs) (Err m) f g = absurd (omega (arith, f.0, g.0))
+one_answer rows coords xs (Err n) (Ok ds) f g = absurd (omega (arith, f.0, g.0))
+one_answer rows coords xs (Err n) (Err m) f g = ap (λ (k : ℕ). Err (let many : ManyPieces = record { count = k } in many)) (f.1 ∙ sym g.1)

@@ -10,7 +10,6 @@ use Rattle.table_definitions.proofs.Tables.{sphere, table_jj}
 use Rattle.surface_definitions.specs.declared.Coords.TheVariants.{Standard}
 use Rattle.surface_definitions.specs.Pieces.{Arc, Meets, SamePiece, IsTwoSided, IsOrientableComponent}
 use Rattle.vector_definitions.specs.Components.{IsComponent, IsPiecesAnswer}
-use Rattle.vector_definitions.specs.declared.PiecesFault.TheVariants.{TooManyPieces}
 
 abbrev one_quad : List ℕ
 one_quad = 0 ∷ 0 ∷ 0 ∷ 0 ∷ 0 ∷ 1 ∷ 0 ∷ []
@@ -81,6 +80,6 @@ one_component = (
   },
 )
 
-too_many : IsPiecesAnswer sphere Standard (25001 ∷ 25001 ∷ 25001 ∷ 25001 ∷ 0 ∷ 0 ∷ 0 ∷ []) (Err (TooManyPieces 100004))
+too_many : IsPiecesAnswer sphere Standard (25001 ∷ 25001 ∷ 25001 ∷ 25001 ∷ 0 ∷ 0 ∷ 0 ∷ []) (Err (record { count = 100004 }))
 unfolding computed
 too_many = (ltb-true 100000 100004 refl, refl)

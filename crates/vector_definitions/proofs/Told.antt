@@ -13,7 +13,7 @@ use Rattle.vector_definitions.specs.Properties.{AreProperties, IsPropertyAnswer}
 use Rattle.vector_definitions.specs.declared.Properties.{Properties}
 use Rattle.vector_definitions.specs.declared.PropertyFault.{PropertyFault}
 use Rattle.vector_definitions.specs.declared.PropertyFault.TheVariants.{Large}
-use Rattle.vector_definitions.specs.declared.PiecesFault.{PiecesFault}
+use Rattle.vector_definitions.specs.declared.ManyPieces.{ManyPieces}
 use Rattle.vector_definitions.specs.Components.{most_pieces, Component}
 use Rattle.vector_definitions.specs.Answers.{Description, verdict_in, IsDescription, IsFirstRefused, AreTold}
 use Rattle.vector_definitions.specs.declared.Refusal.{Refusal}
@@ -80,7 +80,7 @@ one_property_answer max s coords xs (Ok p) (Err (Large t)) f g = absurd (let z :
 one_property_answer max s coords xs (Err (Large t)) (Ok q) f g = absurd (let z : None ≡ Some t = sym g.0 ∙ f in cc)
 one_property_answer max s coords xs (Err (Large t)) (Err (Large u)) f g = (let z : Some t ≡ Some u = sym f ∙ g in let same : t ≡ u = cc in ap (λ k. Err (Large k)) same)
 
-same_lists : (cs ds : List Component) → (let r : Result (List Component) PiecesFault = Ok cs in r ≡ Ok ds) → cs ≡ ds
+same_lists : (cs ds : List Component) → (let r : Result (List Component) ManyPieces = Ok cs in r ≡ Ok ds) → cs ≡ ds
 same_lists cs ds e = cc
 
 same_properties : (p q : Properties) → (let r : Result Properties PropertyFault = Ok p in r ≡ Ok q) → p ≡ q

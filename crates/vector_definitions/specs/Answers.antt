@@ -17,7 +17,6 @@ use Rattle.vector_definitions.specs.Lifting.{IsLiftAnswer}
 use Rattle.vector_definitions.specs.declared.Properties.{Properties}
 use Rattle.vector_definitions.specs.declared.PropertyFault.TheVariants as property_faults
 use Rattle.vector_definitions.specs.declared.LiftFault.TheVariants as lift_faults
-use Rattle.vector_definitions.specs.declared.PiecesFault.TheVariants as pieces_faults
 use Rattle.vector_definitions.specs.declared.Refusal.{Refusal}
 use Rattle.vector_definitions.specs.declared.Refusal.TheVariants.{Unfit, LargeSum, TooManyPieces, LargeLift, NoLift}
 
@@ -45,7 +44,7 @@ IsDescription s coords equations xs (Ok d) =
 IsDescription s coords equations xs (Err (Unfit f)) = IsUnfit coords s.rows equations xs f
 IsDescription s coords equations xs (Err (LargeSum sum)) = IsFit coords s.rows equations xs × IsPropertyAnswer limit s coords xs (Err (property_faults.Large sum))
 IsDescription s coords equations xs (Err (TooManyPieces n)) =
-    IsFit coords s.rows equations xs × (first_large limit s coords xs ≡ None) × IsPiecesAnswer s.rows coords xs (Err (pieces_faults.TooManyPieces n))
+    IsFit coords s.rows equations xs × (first_large limit s coords xs ≡ None) × IsPiecesAnswer s.rows coords xs (Err (record { count = n }))
 IsDescription s coords equations xs (Err LargeLift) = ⊥
 IsDescription s coords equations xs (Err (NoLift c)) = ⊥
 

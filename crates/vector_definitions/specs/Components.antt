@@ -4,8 +4,7 @@ use Rattle.std.specs.List.{AllZip}
 use Rattle.table_definitions.specs.Lists.{below}
 use Rattle.table_definitions.specs.Table.{Row}
 use Rattle.surface_definitions.specs.declared.Coords.{Coords}
-use Rattle.vector_definitions.specs.declared.PiecesFault.{PiecesFault}
-use Rattle.vector_definitions.specs.declared.PiecesFault.TheVariants.{TooManyPieces}
+use Rattle.vector_definitions.specs.declared.ManyPieces.{ManyPieces}
 use Rattle.surface_definitions.specs.Pieces.{AreComponents, component_vector, IsTwoSided, IsOrientableComponent}
 
 -- so many pieces are looked at
@@ -31,6 +30,6 @@ pub record AreListedComponents (rows : List Row) (coords : Coords) (xs : List �
   pub each : AllZip (IsComponent rows coords xs classes) (below count) listed
 
 -- what is told of a vector: its components, and of more pieces than are looked at their number
-abbrev pub IsPiecesAnswer : List Row → Coords → List ℕ → Result (List Component) PiecesFault → Type 0
+abbrev pub IsPiecesAnswer : List Row → Coords → List ℕ → Result (List Component) ManyPieces → Type 0
 IsPiecesAnswer rows coords xs (Ok listed) = (sum xs ≤ most_pieces) × AreListedComponents rows coords xs listed
-IsPiecesAnswer rows coords xs (Err (TooManyPieces count)) = (most_pieces < sum xs) × (count ≡ sum xs)
+IsPiecesAnswer rows coords xs (Err many) = (most_pieces < sum xs) × (many.count ≡ sum xs)

@@ -4,7 +4,7 @@ use Rattle.table_definitions.specs.Table.{Row}
 use Rattle.surface_definitions.specs.declared.Coords.{Coords}
 use Rattle.vector_definitions.specs.declared.Properties.{Properties}
 use Rattle.vector_definitions.specs.declared.PropertyFault.{PropertyFault}
-use Rattle.vector_definitions.specs.declared.PiecesFault.{PiecesFault}
+use Rattle.vector_definitions.specs.declared.ManyPieces.{ManyPieces}
 use Rattle.skeleton_definitions.specs.Skeleton.{Skeleton}
 use Rattle.vector_definitions.specs.Properties.{IsPropertyAnswer}
 use Rattle.vector_definitions.specs.Components.{Component, IsPiecesAnswer}
@@ -19,7 +19,7 @@ OnePropertyAnswer =
 
 abbrev pub OnePiecesAnswer : Type 0
 OnePiecesAnswer =
-    (rows : List Row) (coords : Coords) (xs : List ℕ) (a b : Result (List Component) PiecesFault)
+    (rows : List Row) (coords : Coords) (xs : List ℕ) (a b : Result (List Component) ManyPieces)
     → IsPiecesAnswer rows coords xs a → IsPiecesAnswer rows coords xs b → a ≡ b
 
 -- so is what is told of all vectors of a document

@@ -8,7 +8,7 @@ ghost use Rattle.vector_definitions.specs.Laws.{OnePropertyAnswer, OnePiecesAnsw
 use surface_definitions::VectorFault;
 
 /// What is counted of a surface.
-#[derive(Clone, Copy, Debug, PartialEq, Eq)]
+#[derive(Clone, Copy)]
 pub struct Properties {
     /// The points in which the surface meets edges.
     pub points: u128,
@@ -25,7 +25,7 @@ pub struct Properties {
 }
 
 /// A sum of a surface.
-#[derive(Clone, Copy, Debug, PartialEq, Eq)]
+#[derive(Clone, Copy)]
 pub enum Sum {
     Points,
     Arcs,
@@ -33,14 +33,14 @@ pub enum Sum {
 }
 
 /// Why no properties of a vector are told.
-#[derive(Clone, Copy, Debug, PartialEq, Eq)]
+#[derive(Clone, Copy)]
 pub enum PropertyFault {
     /// This sum is the first that passes the maximum.
     Large { sum: Sum },
 }
 
 /// Why no lift of a quad vector is told.
-#[derive(Clone, Copy, Debug, PartialEq, Eq)]
+#[derive(Clone, Copy)]
 pub enum LiftFault {
     /// Four times the sum of the entries passes the maximum.
     Large,
@@ -48,15 +48,14 @@ pub enum LiftFault {
     NoLift { class: u32 },
 }
 
-/// Why the pieces of a vector are not built.
-#[derive(Clone, Copy, Debug, PartialEq, Eq)]
-pub enum PiecesFault {
-    /// There are more than 100,000 pieces: this many.
-    TooManyPieces { count: u128 },
+/// Why the pieces of a vector are not built: there are more than 100,000, this many.
+#[derive(Clone, Copy)]
+pub struct ManyPieces {
+    pub count: u128,
 }
 
 /// Why a vector of a document is refused.
-#[derive(Clone, Copy, Debug, PartialEq, Eq)]
+#[derive(Clone, Copy)]
 pub enum Refusal {
     /// It is no admissible solution.
     Unfit { fault: VectorFault },

@@ -3,7 +3,8 @@ use Rattle.std.proofs.Common.{◌≡◌, ◌≢◌, ℕ, suc, ◌+◌, ◌-◌, 
 use Rattle.std.proofs.lemmas.Bool.{cases_order, cases_lt}
 use Rattle.walk_laws.specs.Walks.{after, Reaches, IsInjectiveBelow, IsSource, GoesOn, IsOrbit, last_of}
 use Rattle.walk_laws.specs.Laws.{HasOrbit, HasReturn, HasEnd}
-use Rattle.walk_laws.proofs.Places.{one_place, place_of}
+use Rattle.plain_facts.proofs.Lists.{one_place}
+use Rattle.walk_laws.proofs.Places.{place_of}
 use Rattle.walk_laws.proofs.Steps.{after_below, after_both, after_end, meet}
 use Rattle.walk_laws.proofs.OrbitLemmas.{after_walk, at_length, orbit_exists, orbit_holds_reached}
 
@@ -66,7 +67,7 @@ module _ (n : ℕ) (step : ℕ → Option ℕ) (start : ℕ) (h : IsInjectiveBel
     first_return k back first places o = elim (cases_lt (suc k) (length places)) [
       | inl inside ↦ absurd (let e : Some (slice_index places (suc k)) ≡ Some start = sym (after_walk step start places o.walk (suc k) inside) ∙ back in
           let s : slice_index places (suc k) ≡ slice_index places 0 = let t : slice_index places (suc k) ≡ start = cc in t ∙ sym o.walk.first in
-          let z : suc k ≡ 0 = one_place places (suc k) 0 o.walk.distinct inside o.walk.some s in omega arith)
+          let z : suc k ≡ 0 = one_place places o.walk.distinct (suc k) 0 0 inside o.walk.some s in omega arith)
       | inr beyond ↦ elim o.last [
         | inr none ↦ absurd (let one : 1 ≤ length places = o.walk.some in
             let e : None ≡ Some start = sym (after_end step start (length places - 1) (suc k) (last_of places) (last_there step start places o) none (omega arith)) ∙ back in cc)

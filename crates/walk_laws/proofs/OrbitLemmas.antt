@@ -10,7 +10,8 @@ use Rattle.plain_facts.proofs.Members.{contains_at}
 use Rattle.plain_facts.proofs.Options.{none_or_some}
 use Rattle.walk_laws.specs.Walks.{after, Reaches, IsInjectiveBelow, IsWalk, IsOrbit, last_of}
 use Rattle.walk_laws.specs.Laws.{HasOrbit}
-use Rattle.walk_laws.proofs.Places.{place_of, one_place}
+use Rattle.plain_facts.proofs.Lists.{one_place}
+use Rattle.walk_laws.proofs.Places.{place_of}
 use Rattle.walk_laws.proofs.Repeats.{distinct_below}
 use Rattle.walk_laws.proofs.Steps.{after_before, after_below}
 
@@ -30,7 +31,7 @@ module _ (step : ℕ → Option ℕ) (start : ℕ) where
 
   -- two numbers of a walk that come after the same number of steps
   at_start : (places : List ℕ) → IsWalk step start places → (k : ℕ) → k < length places → slice_index places k ≡ start → k ≡ 0
-  at_start places w k l e = one_place places k 0 w.distinct l w.some (e ∙ sym w.first)
+  at_start places w k l e = one_place places w.distinct k 0 0 l w.some (e ∙ sym w.first)
 
   pub at_length : (places : List ℕ) → IsWalk step start places → after step start (length places) ≡ step (last_of places)
   at_length places w = let one : 1 ≤ length places = w.some in
@@ -51,7 +52,7 @@ module _ (step : ℕ → Option ℕ) (start : ℕ) where
         let f : slice_index places (suc k) ≡ y = get_or_default places (suc k) 0 d l ∙ e in
         let same : slice_index places k ≡ last_of places = h.injective (slice_index places k) (last_of places) y
         (walk_below places w k 0 p) (walk_below places w (length places - 1) 0 q) (w.steps k l ∙ ap Some f) s in
-        let at : k ≡ length places - 1 = one_place places k (length places - 1) w.distinct p q same in
+        let at : k ≡ length places - 1 = one_place places w.distinct k (length places - 1) 0 p q same in
         absurd (omega arith)
 
     pub walk_more : (places : List ℕ) → IsWalk step start places → (y : ℕ) → step (last_of places) ≡ Some y → y ≢ start → IsWalk step start (places ++ y ∷ [])

@@ -1,4 +1,5 @@
-ghost use Rattle.std.specs.Prelude.{◌≡◌, ◌≢◌, ◌+◌, ◌<◌, ◌≤◌, ◌^◌, ◌↔◌, length, IsTrue, IfOk};
+ghost use Rattle.std.specs.Prelude.{◌≡◌, ◌≢◌, ◌+◌, ◌<◌, ◌≤◌, ◌↔◌, length, IsTrue};
+ghost use Rattle.text_definitions.specs.Text.{max_text};
 ghost use Rattle.double_description.specs.Clashes.{AreClashes, IsClashFree, IsInUnion};
 ghost use Rattle.double_description.specs.Orders.{ChoosesBy};
 
@@ -22,7 +23,7 @@ fn rays_are(
     vectors: &[&[u128]],
     rows: &[u32],
 ) -> Result<bool, Fail>
-    requires text { length text.now ≤ 2 ^ 31 }
+    requires text { length text.now ≤ max_text }
     requires named { order ≢ Order.Free }
     requires some_limit { 1 ≤ limit }
     requires most_limit { limit ≤ MAX_ENTRY }
@@ -108,7 +109,7 @@ fn surfaces_are<G: Fn(&System, &[u32]) -> usize>(
     vectors: &[&[u128]],
     rows: &[u32],
 ) -> Result<u64, Fail>
-    requires text { length text.now ≤ 2 ^ 31 }
+    requires text { length text.now ≤ max_text }
     requires chooses { ChoosesBy picker.now.order (G.pre picker.now.choose) (G.post picker.now.choose) }
 {
     let system = cone(rt, alloc, text)?;

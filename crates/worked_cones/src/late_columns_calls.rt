@@ -1,4 +1,5 @@
-ghost use Rattle.std.specs.Prelude.{◌≤◌, ◌^◌, length};
+ghost use Rattle.std.specs.Prelude.{◌≤◌, length};
+ghost use Rattle.text_definitions.specs.Text.{max_text};
 
 use crate::sample_cones::{are_rays, cone};
 use cone_core::Ray;
@@ -11,7 +12,7 @@ use support_bits::Support;
 
 // Without clashing pairs.
 fn rays_of(rt: &impl Abort, alloc: Global, text: &[u8]) -> Result<Option<Vec<Ray>>, Fail>
-    requires text { length text.now ≤ 2 ^ 31 }
+    requires text { length text.now ≤ max_text }
 {
     let system = cone(rt, alloc, text)?;
     let permit = Permit::new(

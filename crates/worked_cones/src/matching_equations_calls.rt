@@ -1,11 +1,10 @@
-use crate::sample_cones::{SPHERE, are_rows, entries};
+use crate::sample_cones::{SPHERE, are_rows, entries, read_table};
 use matching_equations::{Coords, equations};
-use signature_codec::read_signature;
 use std::test::Fail;
 
 #[test]
 fn a_sphere_has_six_rows(rt: HostRuntime) -> Result<(), Fail> {
-    let table = read_signature(rt.alloc(), SPHERE)?;
+    let table = read_table(rt.alloc(), SPHERE)?;
     let standard = equations(rt.alloc(), &table, Coords::Standard)?;
     assert_eq!(rt; standard.columns(), 7);
     are_rows(
@@ -25,7 +24,7 @@ fn a_sphere_has_six_rows(rt: HostRuntime) -> Result<(), Fail> {
 
 #[test]
 fn octagons_stand_in_the_same_rows(rt: HostRuntime) -> Result<(), Fail> {
-    let table = read_signature(rt.alloc(), SPHERE)?;
+    let table = read_table(rt.alloc(), SPHERE)?;
     let octagon = equations(rt.alloc(), &table, Coords::Octagon)?;
     assert_eq!(rt; octagon.len(), 6);
     assert_eq!(rt;
@@ -37,7 +36,7 @@ fn octagons_stand_in_the_same_rows(rt: HostRuntime) -> Result<(), Fail> {
 
 #[test]
 fn a_sphere_has_two_rows_in_quads(rt: HostRuntime) -> Result<(), Fail> {
-    let table = read_signature(rt.alloc(), SPHERE)?;
+    let table = read_table(rt.alloc(), SPHERE)?;
     let quad = equations(rt.alloc(), &table, Coords::Quad)?;
     assert_eq!(rt; quad.columns(), 3);
     are_rows(&rt, &quad, &[&[(1, -1), (2, 1)], &[(1, 1), (2, -1)]]);

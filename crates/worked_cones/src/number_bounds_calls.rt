@@ -25,6 +25,6 @@ fn columns_by_themselves(rt: HostRuntime) {
     let one = SparseRow::new(alloc, &[(0, 2), (2, -3)]).expect(&rt, "a row");
     system.push_row(one).expect(&rt, "room");
     // size 5, weights 2, 0 and 3
-    assert_eq!(&rt; columns_fit(alloc, &system, 180), Ok(true));
-    assert_eq!(&rt; columns_fit(alloc, &system, 179), Ok(false));
+    assert_eq!(&rt; columns_fit(alloc, &system, 180).ok(), Some(true));
+    assert_eq!(&rt; columns_fit(alloc, &system, 179).ok(), Some(false));
 }

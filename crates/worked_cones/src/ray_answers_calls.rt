@@ -9,7 +9,7 @@ fn writes_the_rays_of_a_cone(rt: HostRuntime) -> Result<(), Fail> {
     let alloc = rt.alloc();
     let mut lexer = Lexer::new(b"cone 3 1\n1 1 -2");
     assert!(rt; lexer.next_line());
-    let system = read_cone(alloc, &mut lexer)?;
+    let system = read_cone(alloc, &mut lexer).ok().ok_or("no cone")?;
     let mut out = Vec::from_slice(alloc, b"# rays 2\n")?;
     match rays(alloc, &system, Order::Given, MAX_ENTRY) {
         Ok(found) => write_list(alloc, &found.list, &mut out)?,

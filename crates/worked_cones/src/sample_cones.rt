@@ -1,7 +1,9 @@
 //! The cones, and the tables of small signatures, that several calls are tried on.
-ghost use Rattle.std.specs.Prelude.{◌≤◌, ◌^◌, length};
+ghost use Rattle.std.specs.Prelude.{◌≤◌, length};
+ghost use Rattle.text_definitions.specs.Text.{max_text};
 
-use cone_core::{ConeFault, Ray, System, read_cone};
+use cone_core::{Ray, System, read_cone};
+use gluing_table::Table;
 use signature_codec::read_signature;
 use skeleton::Skeleton;
 use std::alloc::Global;
@@ -13,17 +15,22 @@ use text_io::Lexer;
 pub const SPHERE: &[u8] = b"bkaagj";
 
 /// The system of a text.
-pub fn cone(rt: &impl Abort, alloc: Global, text: &[u8]) -> Result<System, ConeFault>
-    requires { length text.now ≤ 2 ^ 31 }
+pub fn cone(rt: &impl Abort, alloc: Global, text: &[u8]) -> Result<System, Fail>
+    requires { length text.now ≤ max_text }
 {
     let mut lexer = Lexer::new(text);
     assert!(rt; lexer.next_line());
-    read_cone(alloc, &mut lexer)
+    Ok(read_cone(alloc, &mut lexer).ok().ok_or("no cone")?)
+}
+
+/// The table of a signature.
+pub fn read_table(alloc: Global, signature: &[u8]) -> Result<Table, Fail> {
+    Ok(read_signature(alloc, signature).ok().ok_or("no signature")?)
 }
 
 /// The skeleton of the table of a signature.
 pub fn skeleton_of(alloc: Global, signature: &[u8]) -> Result<Skeleton, Fail> {
-    let table = read_signature(alloc, signature)?;
+    let table = read_table(alloc, signature)?;
     Ok(Skeleton::of(alloc, &table)?)
 }
 

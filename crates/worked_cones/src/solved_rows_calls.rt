@@ -10,7 +10,7 @@ fn solves_rows(rt: HostRuntime) -> Result<(), Fail> {
         alloc,
         b"cone 5 4\n1 -1 0 2 0\n0 1 1 0 -1\n-1 1 0 0 5\n0 0 0 0 0",
     )?;
-    let solved = solve(alloc, &system, 1, &[0, 1])?;
+    let solved = solve(alloc, &system, 1, &[0, 1]).ok().ok_or("not solved")?;
     assert_eq!(rt; solved.columns(), 5);
     are_rows(
         &rt,
@@ -34,7 +34,9 @@ fn solves_a_sphere(rt: HostRuntime) -> Result<(), Fail> {
         alloc,
         b"cone 7 6\n-1 1 0 0 0 0 0\n0 0 0 0 0 1 -1\n0 0 0 0 0 -1 1\n1 -1 0 0 0 0 0\n0 1 -1 0 -1 0 1\n-1 0 0 1 1 0 -1",
     )?;
-    let solved = solve(alloc, &system, 7, &[0, 1, 2, 3])?;
+    let solved = solve(alloc, &system, 7, &[0, 1, 2, 3])
+        .ok()
+        .ok_or("not solved")?;
     are_rows(
         &rt,
         &solved,
@@ -57,7 +59,7 @@ fn makes_rows_sparser(rt: HostRuntime) -> Result<(), Fail> {
         alloc,
         b"cone 6 3\n1 0 0 0 -1 0\n1 1 1 1 0 0\n1 1 0 0 0 0",
     )?;
-    let solved = solve(alloc, &system, 2, &[])?;
+    let solved = solve(alloc, &system, 2, &[]).ok().ok_or("not solved")?;
     are_rows(
         &rt,
         &solved,
@@ -70,13 +72,11 @@ fn makes_rows_sparser(rt: HostRuntime) -> Result<(), Fail> {
 fn a_great_coefficient_passes(rt: HostRuntime) -> Result<(), Fail> {
     let alloc = rt.alloc();
     let system = cone(&rt, alloc, b"cone 3 2\n1 1000 0\n1001 0 1")?;
-    assert_eq!(rt;
-        solve(alloc, &system, 1, &[0]).err(),
-        Some(SolveFault::Passed)
-    );
+    let passed = solve(alloc, &system, 1, &[0]);
+    assert!(rt; matches!(passed, Err(SolveFault::Passed)));
     are_rows(
         &rt,
-        &solve(alloc, &system, 1, &[1, 2])?,
+        &solve(alloc, &system, 1, &[1, 2]).ok().ok_or("not solved")?,
         &[&[(0, 1), (1, 1000)], &[(0, 1001), (2, 1)]],
     );
     Ok(())

@@ -1,10 +1,9 @@
 ghost use Rattle.std.specs.Prelude.{◌≤◌};
 
-use crate::sample_cones::{SPHERE, are_rays};
+use crate::sample_cones::{SPHERE, are_rays, read_table};
 use cone_core::MAX_ENTRY;
 use double_description::Order;
 use matching_equations::Coords;
-use signature_codec::read_signature;
 use std::alloc::Global;
 use std::process::Abort;
 use std::test::Fail;
@@ -21,7 +20,7 @@ fn are_surfaces(
     requires some_limit { 1 ≤ limit }
     requires most_limit { limit ≤ MAX_ENTRY }
 {
-    let table = read_signature(alloc, signature)?;
+    let table = read_table(alloc, signature)?;
     match surfaces(alloc, &table, coords, Order::Given, limit) {
         Ok(rays) => {
             are_rays(rt, &rays, vectors);

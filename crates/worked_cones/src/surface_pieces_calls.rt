@@ -8,9 +8,13 @@ use surface_pieces::Pieces;
 #[test]
 fn pieces_that_meet_none_are_components(rt: HostRuntime) -> Result<(), Fail> {
     let alloc = rt.alloc();
-    let table = Table::from_rows(alloc, &[[None, None, None, None]]).expect(&rt, "a table");
+    let Ok(table) = Table::from_rows(alloc, &[[None, None, None, None]]) else {
+        panic!(rt; "a table was expected");
+    };
     let skeleton = Skeleton::of(alloc, &table).expect(&rt, "memory");
-    let pieces = Pieces::build(alloc, &skeleton, Coords::Standard, &[1, 0, 0, 0, 2, 0, 0])?;
+    let pieces = Pieces::build(alloc, &skeleton, Coords::Standard, &[1, 0, 0, 0, 2, 0, 0])
+        .ok()
+        .ok_or("no pieces")?;
     assert_eq!(rt; pieces.components(), 3);
     assert_eq!(rt; pieces.vector(0), [1, 0, 0, 0, 0, 0, 0].as_slice());
     assert_eq!(rt; pieces.vector(2), [0, 0, 0, 0, 1, 0, 0].as_slice());

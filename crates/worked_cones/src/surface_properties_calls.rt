@@ -8,11 +8,10 @@ fn surfaces_of_a_sphere_are_counted(rt: HostRuntime) -> Result<(), Fail> {
     let skeleton = skeleton_of(rt.alloc(), SPHERE)?;
     assert_eq!(rt; skeleton.table().len(), 1);
     let torus = properties_of(&skeleton, Coords::Standard, &[1, 1, 0, 0, 1, 0, 0]);
-    assert_eq!(rt; torus.expect(&rt, "properties").euler, 0);
-    let octagon = properties_of(&skeleton, Coords::Octagon, &[0, 0, 1, 1, 0, 0, 0, 1, 0, 0]).expect(
-        &rt,
-        "properties",
-    );
+    assert_eq!(rt; torus.ok().expect(&rt, "properties").euler, 0);
+    let octagon = properties_of(&skeleton, Coords::Octagon, &[0, 0, 1, 1, 0, 0, 0, 1, 0, 0])
+        .ok()
+        .expect(&rt, "properties");
     assert_eq!(rt; octagon.points, 6);
     assert_eq!(rt; octagon.arcs, 7);
     assert_eq!(rt; octagon.pieces, 3);
@@ -23,8 +22,7 @@ fn surfaces_of_a_sphere_are_counted(rt: HostRuntime) -> Result<(), Fail> {
         &skeleton,
         Coords::Standard,
         &[most, most, most, most, 0, 0, 0],
-    )
-    .err();
-    assert_eq!(rt; large, Some(PropertyFault::Large { sum: Sum::Points }));
+    );
+    assert!(rt; matches!(large, Err(PropertyFault::Large { sum: Sum::Points })));
     Ok(())
 }

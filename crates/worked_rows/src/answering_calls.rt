@@ -28,7 +28,7 @@ fn a_run_without_disturbance_ends(rt: HostRuntime) -> Result<(), NoMemory> {
     words.push("surfaces")?;
     let mut input = Vec::new(alloc);
     append(&mut input, b"sig bkaagj\n")?;
-    assert_eq!(rt; run_steadily(alloc, &words, input), Status::Done);
-    assert_eq!(rt; run_steadily(alloc, &words, Vec::new(alloc)), Status::Input);
+    assert!(rt; run_steadily(alloc, &words, input) == Status::Done);
+    assert!(rt; run_steadily(alloc, &words, Vec::new(alloc)) == Status::Input);
     Ok(())
 }

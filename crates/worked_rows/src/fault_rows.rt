@@ -146,7 +146,7 @@ fn each_read_fails(rt: &impl Abort, alloc: Global, row: &Row) -> Result<(), Fail
             is_answered = true;
             break;
         }
-        assert_eq!(rt; answer.status, Status::ReadFault);
+        assert!(rt; answer.status == Status::ReadFault);
         assert_eq!(rt; answer.text.as_slice(), b"refused: read\n".as_slice());
     }
     assert!(rt; is_answered);
@@ -158,13 +158,13 @@ fn each_write_fails(rt: &impl Abort, alloc: Global, row: &Row) -> Result<(), Fai
     for held in 0..row.text.len() {
         if held % 5 == 0 {
             let answer = answered(alloc, row.words, row.input, STEADY, held as u64 / 5 + 1, 5)?;
-            assert_eq!(rt; answer.status, Status::WriteFault);
+            assert!(rt; answer.status == Status::WriteFault);
             assert_eq!(rt; answer.text.as_slice(), &row.text[..held]);
         }
     }
     let behind = row.text.len() as u64 / 5 + 2;
     let answer = answered(alloc, row.words, row.input, STEADY, behind, 5)?;
-    assert_eq!(rt; answer.status, row.status);
+    assert!(rt; answer.status == row.status);
     assert_eq!(rt; answer.text.as_slice(), row.text);
     Ok(())
 }

@@ -9,7 +9,7 @@ const INPUT: &[u8] = b"tri 1\n0:1023 0:1023 0:1230 0:3012\nvec 1 1 0 0 1 0 0\nve
 #[test]
 fn the_sink_stands_before_the_source(rt: HostRuntime) -> Result<(), Fail> {
     let answer = answered(rt.alloc(), &["verify"], INPUT, 1, 1, 7)?;
-    assert_eq!(rt; answer.status, Status::WriteFault);
+    assert!(rt; answer.status == Status::WriteFault);
     assert!(rt; answer.text.is_empty());
     Ok(())
 }
@@ -19,7 +19,7 @@ fn long_inputs_are_refused(rt: HostRuntime) -> Result<(), Fail> {
     let input = vec![in rt.alloc(); b'\n'; 1_048_577]?;
     for words in [&["verify"], &["surfaces"], &["info"]] {
         let answer = answered(rt.alloc(), words, &input, STEADY, STEADY, 1 << 20)?;
-        assert_eq!(rt; answer.status, Status::Input);
+        assert!(rt; answer.status == Status::Input);
         assert_eq!(rt;
             answer.text.as_slice(),
             b"refused: input too-long\n".as_slice()
@@ -33,7 +33,7 @@ fn long_inputs_are_refused(rt: HostRuntime) -> Result<(), Fail> {
         STEADY,
         1 << 20,
     )?;
-    assert_eq!(rt; answer.status, Status::Input);
+    assert!(rt; answer.status == Status::Input);
     assert_eq!(rt;
         answer.text.as_slice(),
         b"refused: input 1048577 1 missing-word\n".as_slice()
@@ -74,7 +74,7 @@ fn inputs_may_be_cut_at_every_byte(rt: HostRuntime) -> Result<(), Fail> {
             } else {
                 Status::Done
             };
-            assert_eq!(rt; answer.status, status);
+            assert!(rt; answer.status == status);
             assert_eq!(rt; answer.text.as_slice(), line);
         }
     }

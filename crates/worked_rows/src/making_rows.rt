@@ -75,9 +75,9 @@ fn made_tables_are_accepted(rt: HostRuntime) -> Result<(), Fail> {
     let alloc = rt.alloc();
     let making = ["make", "--seed", "7", "--moves", "200"];
     let made = answered(alloc, &making, b"", STEADY, STEADY, 1 << 16)?;
-    assert_eq!(rt; made.status, Status::Done);
+    assert!(rt; made.status == Status::Done);
     let checked = answered(alloc, &["check"], &made.text, STEADY, STEADY, 1 << 16)?;
-    assert_eq!(rt; checked.status, Status::Done);
+    assert!(rt; checked.status == Status::Done);
     assert_eq!(rt; checked.text.as_slice(), b"accepted\n".as_slice());
     Ok(())
 }
@@ -89,7 +89,7 @@ fn bulk_answers_alike(rt: HostRuntime) -> Result<(), Fail> {
     let words = ["bulk", "--seed", "5", "--moves", "5"];
     let first = answered(alloc, &words, b"", STEADY, STEADY, 1 << 16)?;
     let second = answered(alloc, &words, b"", STEADY, STEADY, 1 << 16)?;
-    assert_eq!(rt; first.status, Status::Done);
+    assert!(rt; first.status == Status::Done);
     assert_eq!(rt; first.text.as_slice(), second.text.as_slice());
     let begin = b"seed 5\nmoves 5\n".as_slice();
     assert!(rt; first.text.as_slice().starts_with(begin));

@@ -171,7 +171,7 @@ fn is_played_on_loose(
     push_loose(&mut input, count)?;
     input.extend_from_slice(b"14 0\n")?;
     let answer = answered(alloc, &["play"], &input, STEADY, STEADY, 1 << 16)?;
-    assert_eq!(rt; answer.status, Status::Done);
+    assert!(rt; answer.status == Status::Done);
     assert_eq!(rt; answer.text.as_slice(), wanted);
     Ok(())
 }

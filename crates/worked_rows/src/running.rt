@@ -1,10 +1,11 @@
 // A run over memory.
 ghost use Rattle.std.specs.Prelude.{◌<◌};
 
+use memory_streams::{MemorySink, MemorySource};
 use std::alloc::Global;
 use std::process::Abort;
 use std::test::Fail;
-use text_io::{MemorySink, MemorySource, Words};
+use text_io::Words;
 use workbench::{Status, run};
 
 /// Words and an input, with the status and the text that are wanted.
@@ -55,7 +56,7 @@ pub fn answered(
 pub fn are_answered(rt: &impl Abort, alloc: Global, rows: &[Row]) -> Result<(), Fail> {
     for row in rows {
         let answer = answered(alloc, row.words, row.input, STEADY, STEADY, 1 << 16)?;
-        assert_eq!(rt; answer.status, row.status);
+        assert!(rt; answer.status == row.status);
         assert_eq!(rt; answer.text.as_slice(), row.text);
     }
     Ok(())

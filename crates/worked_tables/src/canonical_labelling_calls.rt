@@ -1,8 +1,9 @@
-use crate::sample_tables::BALL;
-use canonical_labelling::{SameFault, Start, WalkFault, lesser, same, signature};
-use gluing_table::{Probe, Table};
+use crate::sample_tables::{BALL, read_table, table_of};
+use canonical_labelling::{NotConnected, SameFault, Start, lesser, same, signature};
+use gluing_table::{Probe, Relabelling, Table};
+use no_memory::Failure;
 use perm_four::Perm4;
-use signature_codec::read_signature;
+use std::alloc::Global;
 use std::test::Fail;
 
 #[test]
@@ -15,43 +16,58 @@ fn worked_tables_have_their_signatures(rt: HostRuntime) -> Result<(), Fail> {
         (b"cPcbbbiht", b"cPcbbbiht"),
     ];
     for (text, least) in worked {
-        let table = read_signature(rt.alloc(), text)?;
-        assert_eq!(rt; signature(rt.alloc(), &table)?.as_slice(), least);
+        let table = read_table(rt.alloc(), text)?;
+        let text = signature(rt.alloc(), &table).ok().ok_or("no text")?;
+        assert_eq!(rt; text.as_slice(), least);
     }
     Ok(())
 }
 
+fn relabelling_of(
+    alloc: Global,
+    first: &Table,
+    second: &Table,
+) -> Result<Option<Relabelling>, Fail> {
+    Ok(same(alloc, first, second).ok().ok_or("no verdict")?)
+}
+
 #[test]
 fn the_first_relabelling_is_told(rt: HostRuntime) -> Result<(), Fail> {
-    let first = read_signature(rt.alloc(), b"bkaagn")?;
-    let second = read_signature(rt.alloc(), b"bkaagj")?;
-    let other = read_signature(rt.alloc(), b"bkaagb")?;
-    let empty = read_signature(rt.alloc(), b"a")?;
-    let by = same(rt.alloc(), &first, &second)?.expect(&rt, "a relabelling");
+    let first = read_table(rt.alloc(), b"bkaagn")?;
+    let second = read_table(rt.alloc(), b"bkaagj")?;
+    let other = read_table(rt.alloc(), b"bkaagb")?;
+    let empty = read_table(rt.alloc(), b"a")?;
+    let by = relabelling_of(rt.alloc(), &first, &second)?.expect(&rt, "a relabelling");
     assert_eq!(rt; by.len(), 1);
     assert_eq!(rt; by.image(0), 0);
     assert_eq!(rt; by.perm(0).word().as_slice(), b"0132".as_slice());
-    assert!(rt; same(rt.alloc(), &first, &other)?.is_none());
-    assert!(rt; same(rt.alloc(), &first, &empty)?.is_none());
-    assert!(rt; same(rt.alloc(), &empty, &empty)?.is_some());
+    assert!(rt; relabelling_of(rt.alloc(), &first, &other)?.is_none());
+    assert!(rt; relabelling_of(rt.alloc(), &first, &empty)?.is_none());
+    assert!(rt; relabelling_of(rt.alloc(), &empty, &empty)?.is_some());
     Ok(())
 }
 
 #[test]
 fn loose_tables_are_refused(rt: HostRuntime) -> Result<(), Fail> {
-    let loose = Table::from_rows(rt.alloc(), &[BALL, BALL])?;
-    let one = read_signature(rt.alloc(), b"bkaagj")?;
-    assert_eq!(rt;
-        signature(rt.alloc(), &loose).err(),
-        Some(WalkFault::NotConnected { tet: 1 })
+    let loose = table_of(&rt, rt.alloc(), &[BALL, BALL]);
+    let one = read_table(rt.alloc(), b"bkaagj")?;
+    assert!(rt;
+        matches!(
+            signature(rt.alloc(), &loose),
+            Err(Failure::Fault(NotConnected { tet: 1 }))
+        )
     );
-    assert_eq!(rt;
-        same(rt.alloc(), &loose, &one).err(),
-        Some(SameFault::First { tet: 1 })
+    assert!(rt;
+        matches!(
+            same(rt.alloc(), &loose, &one),
+            Err(SameFault::First { tet: 1 })
+        )
     );
-    assert_eq!(rt;
-        same(rt.alloc(), &one, &loose).err(),
-        Some(SameFault::Second { tet: 1 })
+    assert!(rt;
+        matches!(
+            same(rt.alloc(), &one, &loose),
+            Err(SameFault::Second { tet: 1 })
+        )
     );
     Ok(())
 }
@@ -71,7 +87,7 @@ fn walks_are_compared_with_a_bound(rt: HostRuntime) -> Result<(), Fail> {
         (b"cPcbbbiht", b"b", false, 0),
     ];
     for (text, bound, before, most) in compared {
-        let table = read_signature(rt.alloc(), text)?;
+        let table = read_table(rt.alloc(), text)?;
         assert!(rt; table.len() > 0);
         let mut probe = Probe::new(&table);
         let start = Start {

@@ -120,7 +120,7 @@ const REFUSED: [&[&str]; 21] = [
 #[test]
 fn accepted_words(rt: HostRuntime) {
     for (line, request) in &ACCEPTED {
-        assert!(rt; asked(rt.alloc(), line) == Ok(*request), "{line:?}");
+        assert!(rt; asked(rt.alloc(), line).ok() == Some(*request), "{line:?}");
     }
 }
 
@@ -128,7 +128,7 @@ fn accepted_words(rt: HostRuntime) {
 fn refused_words(rt: HostRuntime) {
     for line in &REFUSED {
         assert!(rt;
-            asked(rt.alloc(), line) == Err(WordsFault::Usage),
+            matches!(asked(rt.alloc(), line), Err(WordsFault::Usage)),
             "{line:?}"
         );
     }

@@ -1,5 +1,5 @@
 use crate::sample_tables::{BALL, skeleton_of, sphere_row, table_of, turned_row};
-use double_cover::{Cover, CoverFault, Failure};
+use double_cover::{Cover, Failure, LargeCover};
 use gluing_table::Row;
 use perm_four::Perm4;
 use skeleton::Skeleton;
@@ -7,7 +7,9 @@ use std::alloc::Global;
 use std::process::Abort;
 
 fn of(rt: &impl Abort, alloc: Global, rows: &[Row]) -> Cover {
-    Cover::of(alloc, &skeleton_of(rt, alloc, rows)).expect(rt, "a cover")
+    Cover::of(alloc, &skeleton_of(rt, alloc, rows))
+        .ok()
+        .expect(rt, "a cover")
 }
 
 #[test]
@@ -49,7 +51,7 @@ fn sheets_are_exchanged(rt: HostRuntime) {
     assert_eq!(rt; (cover.over(1), cover.sheet(1)), (0, 1));
     let exchange = cover.exchange(rt.alloc()).expect(&rt, "memory");
     assert_eq!(rt; (exchange.image(0), exchange.image(1)), (1, 0));
-    assert_eq!(rt; Some(exchange.perm(0)), Perm4::from_word(b"0123"));
+    assert!(rt; Some(exchange.perm(0)) == Perm4::from_word(b"0123"));
 }
 
 #[test]
@@ -60,6 +62,6 @@ fn too_many(rt: HostRuntime) {
     }
     let table = table_of(&rt, rt.alloc(), &rows);
     let skeleton = Skeleton::of(rt.alloc(), &table).expect(&rt, "memory");
-    let fault = Cover::of(rt.alloc(), &skeleton).err();
-    assert_eq!(rt; fault, Some(Failure::Fault(CoverFault::TooMany)));
+    let cover = Cover::of(rt.alloc(), &skeleton);
+    assert!(rt; matches!(cover, Err(Failure::Fault(LargeCover))));
 }

@@ -29,13 +29,15 @@ fn a_text_is_read(rt: HostRuntime) {
     let text = b" 1\n0:1023 0:1023 0:1230 0:3012\n";
     let mut lexer = Lexer::new(text);
     assert!(rt; lexer.next_line());
-    let table = read_rows(rt.alloc(), &mut lexer).expect(&rt, "a table");
+    let table = read_rows(rt.alloc(), &mut lexer)
+        .ok()
+        .expect(&rt, "a table");
     let sphere = table_of(&rt, rt.alloc(), &[sphere_row(0)]);
     assert!(rt; table.equals(&sphere));
     let mut many = Lexer::new(b"1001 x");
     assert!(rt; many.next_line());
-    let fault = read_rows(rt.alloc(), &mut many).err();
-    assert_eq!(rt; fault, Some(TextFault::Table(TableFault::TooMany)));
+    let read = read_rows(rt.alloc(), &mut many);
+    assert!(rt; matches!(read, Err(TextFault::Table(TableFault::TooMany))));
 }
 
 #[tactic(auto, using(table_definitions::proofs::Removing::can_remove_second))]
@@ -79,15 +81,15 @@ fn fault(alloc: Global, glue: Option<Glue>) -> Option<TableFault> {
 
 #[test]
 fn faults_are_found(rt: HostRuntime) {
-    let not_mutual = TableFault::NotMutual { tet: 0, face: 0 };
-    assert_eq!(rt; fault(rt.alloc(), by(0, b"1023")), Some(not_mutual));
-    let self_glued = TableFault::SelfGlued { tet: 0, face: 0 };
-    assert_eq!(rt; fault(rt.alloc(), by(0, b"0123")), Some(self_glued));
-    let no_such_tet = TableFault::NoSuchTet { tet: 0, face: 0 };
-    assert_eq!(rt; fault(rt.alloc(), by(1, b"0123")), Some(no_such_tet));
+    let not_mutual = fault(rt.alloc(), by(0, b"1023"));
+    assert!(rt; matches!(not_mutual, Some(TableFault::NotMutual { tet: 0, face: 0 })));
+    let self_glued = fault(rt.alloc(), by(0, b"0123"));
+    assert!(rt; matches!(self_glued, Some(TableFault::SelfGlued { tet: 0, face: 0 })));
+    let no_such_tet = fault(rt.alloc(), by(1, b"0123"));
+    assert!(rt; matches!(no_such_tet, Some(TableFault::NoSuchTet { tet: 0, face: 0 })));
     let rows = vec![in rt.alloc(); BALL; 1001].expect(&rt, "memory");
-    let too_many = Table::from_rows(rt.alloc(), &rows).err();
-    assert_eq!(rt; too_many, Some(TableFault::TooMany));
+    let too_many = Table::from_rows(rt.alloc(), &rows);
+    assert!(rt; matches!(too_many, Err(TableFault::TooMany)));
 }
 
 #[test]
@@ -96,8 +98,8 @@ fn faces_that_are_read_are_counted(rt: HostRuntime) {
     let mut probe = Probe::new(&table);
     assert_eq!(rt; probe.len(), 1);
     assert_eq!(rt; probe.taken(), 0);
-    assert_eq!(rt; probe.glue(Face { tet: 0, face: 2 }), by(0, b"1230"));
-    assert_eq!(rt; probe.glue(Face { tet: 0, face: 2 }), by(0, b"1230"));
+    assert!(rt; probe.glue(Face { tet: 0, face: 2 }) == by(0, b"1230"));
+    assert!(rt; probe.glue(Face { tet: 0, face: 2 }) == by(0, b"1230"));
     assert_eq!(rt; probe.taken(), 2);
 }
 
@@ -105,17 +107,19 @@ fn faces_that_are_read_are_counted(rt: HostRuntime) {
 fn images_are_looked_at_in_turn(rt: HostRuntime) {
     let turn = Perm4::new(1, 2, 3, 0).expect(&rt, "a permutation");
     let perms = [turn, turn, turn];
-    let swapped = Relabelling::new(rt.alloc(), &[1, 0, 2], &perms).expect(&rt, "a relabelling");
+    let swapped = Relabelling::new(rt.alloc(), &[1, 0, 2], &perms)
+        .ok()
+        .expect(&rt, "a relabelling");
     assert_eq!(rt; swapped.len(), 3);
     assert_eq!(rt;
         (swapped.image(0), swapped.image(1), swapped.image(2)),
         (1, 0, 2)
     );
-    assert_eq!(rt; swapped.perm(2), turn);
-    let twice = Relabelling::new(rt.alloc(), &[1, 1, 7], &perms).err();
-    assert_eq!(rt; twice, Some(RelabellingFault::NotBijection { position: 1 }));
-    let large = Relabelling::new(rt.alloc(), &[3, 1, 1], &perms).err();
-    assert_eq!(rt; large, Some(RelabellingFault::NotBijection { position: 0 }));
+    assert!(rt; swapped.perm(2) == turn);
+    let twice = Relabelling::new(rt.alloc(), &[1, 1, 7], &perms);
+    assert!(rt; matches!(twice, Err(RelabellingFault::NotBijection { position: 1 })));
+    let large = Relabelling::new(rt.alloc(), &[3, 1, 1], &perms);
+    assert!(rt; matches!(large, Err(RelabellingFault::NotBijection { position: 0 })));
 }
 
 #[test]
@@ -128,7 +132,9 @@ fn a_sphere_is_relabelled(rt: HostRuntime) {
     ];
     let table = table_of(&rt, rt.alloc(), &[other]);
     let turn = Perm4::new(0, 1, 3, 2).expect(&rt, "a permutation");
-    let to_sphere = Relabelling::new(rt.alloc(), &[0], &[turn]).expect(&rt, "a relabelling");
+    let to_sphere = Relabelling::new(rt.alloc(), &[0], &[turn])
+        .ok()
+        .expect(&rt, "a relabelling");
     assert_eq!(rt; to_sphere.len(), table.len());
     let new = table.relabel(rt.alloc(), &to_sphere).expect(&rt, "memory");
     let written = text_of(rt.alloc(), &new).expect(&rt, "memory");

@@ -19,7 +19,7 @@ fn session(rt: &impl Abort, alloc: Global) -> Session {
 fn a_move_is_undone_and_redone(rt: HostRuntime) -> Result<(), Fail> {
     let alloc = rt.alloc();
     let mut session = session(&rt, alloc);
-    assert_eq!(rt; session.play(move_at(&rt, 0, 15)), Ok(()));
+    assert!(rt; session.play(move_at(&rt, 0, 15)).is_ok());
     assert!(rt; session.undo());
     assert_eq!(rt; text_of(alloc, session.table())?.as_slice(), SPHERE);
     assert!(rt; session.redo());
@@ -31,12 +31,14 @@ fn a_move_is_undone_and_redone(rt: HostRuntime) -> Result<(), Fail> {
 #[test]
 fn a_refused_move_leaves_what_was_undone(rt: HostRuntime) {
     let mut session = session(&rt, rt.alloc());
-    assert_eq!(rt; session.play(move_at(&rt, 0, 15)), Ok(()));
+    assert!(rt; session.play(move_at(&rt, 0, 15)).is_ok());
     assert!(rt; session.undo() && !session.undo());
-    let repeated = MoveFault::Repeated { label: 3 };
-    assert_eq!(rt;
-        session.play(move_at(&rt, 0, 14)),
-        Err(PlayFault::Illegal(repeated))
+    let played = session.play(move_at(&rt, 0, 14));
+    assert!(rt;
+        matches!(
+            played,
+            Err(PlayFault::Illegal(MoveFault::Repeated { label: 3 }))
+        )
     );
     assert!(rt; session.redo() && !session.redo());
 }

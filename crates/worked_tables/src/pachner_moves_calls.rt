@@ -1,4 +1,4 @@
-use crate::sample_tables::{BALL, by, move_at, sphere_row, table_of};
+use crate::sample_tables::{BALL, by, move_at, sphere_row, table_of, told_move};
 use gluing_table::{Row, Table};
 use pachner_moves::{Move, MoveFault, apply, inverse_move, legal, take_back};
 use std::process::Abort;
@@ -42,17 +42,22 @@ fn worked_moves_are_told_apart(rt: HostRuntime) {
     let free = table_of(&rt, rt.alloc(), &[BALL]);
     let sphere = table_of(&rt, rt.alloc(), &[sphere_row(0)]);
     let four = table_of(&rt, rt.alloc(), &four());
-    let boundary = MoveFault::Boundary { label: 3 };
-    assert_eq!(rt; refusal(&rt, &free, 14), Some(boundary));
-    let repeated = MoveFault::Repeated { label: 3 };
-    assert_eq!(rt; refusal(&rt, &sphere, 14), Some(repeated));
-    assert_eq!(rt; refusal(&rt, &sphere, 15), None);
-    let not_matched = MoveFault::NotMatched {
-        first: 1,
-        second: 3,
-    };
-    assert_eq!(rt; refusal(&rt, &four, 1), Some(not_matched));
-    assert_eq!(rt; refusal(&rt, &four, 8), None);
+    let boundary = refusal(&rt, &free, 14);
+    assert!(rt; matches!(boundary, Some(MoveFault::Boundary { label: 3 })));
+    let repeated = refusal(&rt, &sphere, 14);
+    assert!(rt; matches!(repeated, Some(MoveFault::Repeated { label: 3 })));
+    assert!(rt; refusal(&rt, &sphere, 15).is_none());
+    let not_matched = refusal(&rt, &four, 1);
+    assert!(rt;
+        matches!(
+            not_matched,
+            Some(MoveFault::NotMatched {
+                first: 1,
+                second: 3
+            })
+        )
+    );
+    assert!(rt; refusal(&rt, &four, 8).is_none());
 }
 
 #[test]
@@ -60,29 +65,40 @@ fn refused_moves_leave_the_table(rt: HostRuntime) {
     let mut table = table_of(&rt, rt.alloc(), &four());
     let four = table_of(&rt, rt.alloc(), &four());
     let fault = apply(&mut table, move_at(&rt, 4, 15)).err();
-    assert_eq!(rt; fault, Some(MoveFault::NoSuchTet));
-    let not_matched = MoveFault::NotMatched {
-        first: 1,
-        second: 3,
-    };
+    assert!(rt; matches!(fault, Some(MoveFault::NoSuchTet)));
     let fault = apply(&mut table, move_at(&rt, 0, 1)).err();
-    assert_eq!(rt; fault, Some(not_matched));
+    assert!(rt;
+        matches!(
+            fault,
+            Some(MoveFault::NotMatched {
+                first: 1,
+                second: 3
+            })
+        )
+    );
     assert!(rt; table.equals(&four));
     let loose = vec![in rt.alloc(); BALL; 998].expect(&rt, "memory");
     let mut table = table_of(&rt, rt.alloc(), &loose);
     let fault = apply(&mut table, move_at(&rt, 0, 15)).err();
-    assert_eq!(rt; fault, Some(MoveFault::TooMany));
-    assert_eq!(rt; table.rows(), loose.as_slice());
+    assert!(rt; matches!(fault, Some(MoveFault::TooMany)));
+    assert!(rt; table.rows() == loose.as_slice());
 }
 
 #[test]
 fn a_sphere_is_parted_and_joined(rt: HostRuntime) {
     let four = table_of(&rt, rt.alloc(), &four());
     let mut table = table_of(&rt, rt.alloc(), &[sphere_row(0)]);
-    let parted = apply(&mut table, move_at(&rt, 0, 15)).expect(&rt, "a legal move");
+    let parted = apply(&mut table, move_at(&rt, 0, 15))
+        .ok()
+        .expect(&rt, "a legal move");
     assert!(rt; table.equals(&four));
-    assert_eq!(rt; inverse_move(&parted), move_at(&rt, 0, 8));
-    let joined = apply(&mut table, move_at(&rt, 0, 8)).expect(&rt, "a legal move");
+    assert_eq!(rt;
+        told_move(inverse_move(&parted)),
+        (0, [false, false, false, true])
+    );
+    let joined = apply(&mut table, move_at(&rt, 0, 8))
+        .ok()
+        .expect(&rt, "a legal move");
     let other = [[
         by(0, b"3120"),
         by(0, b"1230"),
@@ -91,7 +107,10 @@ fn a_sphere_is_parted_and_joined(rt: HostRuntime) {
     ]];
     let other = table_of(&rt, rt.alloc(), &other);
     assert!(rt; table.equals(&other));
-    assert_eq!(rt; inverse_move(&joined), move_at(&rt, 0, 15));
+    assert_eq!(rt;
+        told_move(inverse_move(&joined)),
+        (0, [true, true, true, true])
+    );
 }
 
 /// Plays a move and takes it back; answers whether it was legal.

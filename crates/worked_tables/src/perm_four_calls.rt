@@ -12,7 +12,7 @@ fn words_have_their_worked_places(rt: HostRuntime) {
     ] {
         let perm = Perm4::from_word(word).expect(&rt, "a permutation");
         assert_eq!(rt; perm.index(), index, "index");
-        assert_eq!(rt; Perm4::of_index(index), Some(perm), "of {index}");
+        assert!(rt; Perm4::of_index(index) == Some(perm), "of {index}");
         assert_eq!(rt; perm.word().as_slice(), word.as_slice(), "word");
     }
 }
@@ -36,8 +36,8 @@ fn other_words_are_refused(rt: HostRuntime) {
         b"0124".as_slice(),
         b"/012".as_slice(),
     ] {
-        assert_eq!(rt; Perm4::from_word(word), None, "refused");
+        assert!(rt; Perm4::from_word(word).is_none(), "refused");
     }
-    assert_eq!(rt; Perm4::new(0, 1, 2, 2), None);
-    assert_eq!(rt; Perm4::of_index(24), None);
+    assert!(rt; Perm4::new(0, 1, 2, 2).is_none());
+    assert!(rt; Perm4::of_index(24).is_none());
 }

@@ -3,9 +3,11 @@ use gluing_table::{Glue, Row, Table, write_table};
 use no_memory::NoMemory;
 use pachner_moves::{Core, Move};
 use perm_four::Perm4;
+use signature_codec::read_signature;
 use skeleton::Skeleton;
 use std::alloc::Global;
 use std::process::Abort;
+use std::test::Fail;
 
 /// The gluing to a tetrahedron by the permutation of a word.
 pub fn by(tet: u32, word: &[u8]) -> Option<Glue> {
@@ -63,7 +65,12 @@ pub fn figure_eight() -> [Row; 2] {
 
 /// The table of these rows.
 pub fn table_of(rt: &impl Abort, alloc: Global, rows: &[Row]) -> Table {
-    Table::from_rows(alloc, rows).expect(rt, "a table")
+    Table::from_rows(alloc, rows).ok().expect(rt, "a table")
+}
+
+/// The table of a signature.
+pub fn read_table(alloc: Global, text: &[u8]) -> Result<Table, Fail> {
+    Ok(read_signature(alloc, text).ok().ok_or("no signature")?)
 }
 
 /// The skeleton of the table of these rows.
@@ -82,4 +89,10 @@ pub fn text_of(alloc: Global, table: &Table) -> Result<Vec<u8>, NoMemory> {
 pub fn move_at(rt: &impl Abort, tet: u32, mask: u8) -> Move {
     let core = Core::new(mask).expect(rt, "a core");
     Move { tet, core }
+}
+
+/// A move by its tetrahedron, and by which vertices are in its core.
+pub fn told_move(m: Move) -> (u32, [bool; 4]) {
+    let core = m.core;
+    (m.tet, [core.has(0), core.has(1), core.has(2), core.has(3)])
 }

@@ -1,7 +1,6 @@
-use crate::sample_tables::BALL;
-use gluing_table::Table;
-use signature_census::{Census, WalkFault};
-use signature_codec::read_signature;
+use crate::sample_tables::{BALL, read_table, table_of};
+use no_memory::Failure;
+use signature_census::{Census, NotConnected};
 use std::test::Fail;
 
 #[test]
@@ -15,9 +14,9 @@ fn classes_are_numbered_as_they_are_met(rt: HostRuntime) -> Result<(), Fail> {
         (b"bkaagb", 1),
     ];
     for (text, class) in worked {
-        let table = read_signature(rt.alloc(), text)?;
+        let table = read_table(rt.alloc(), text)?;
         assert!(rt; census.len() <= 3);
-        assert_eq!(rt; census.add(&table)?, class);
+        assert_eq!(rt; census.add(&table).ok(), Some(class));
     }
     assert_eq!(rt; census.len(), 3);
     assert_eq!(rt; census.signature_of(0), b"bkaagj".as_slice());
@@ -29,11 +28,9 @@ fn classes_are_numbered_as_they_are_met(rt: HostRuntime) -> Result<(), Fail> {
 #[test]
 fn loose_tables_are_refused(rt: HostRuntime) -> Result<(), Fail> {
     let mut census = Census::new(rt.alloc());
-    let loose = Table::from_rows(rt.alloc(), &[BALL, BALL])?;
-    assert_eq!(rt;
-        census.add(&loose).err(),
-        Some(WalkFault::NotConnected { tet: 1 })
-    );
+    let loose = table_of(&rt, rt.alloc(), &[BALL, BALL]);
+    let added = census.add(&loose);
+    assert!(rt; matches!(added, Err(Failure::Fault(NotConnected { tet: 1 }))));
     assert_eq!(rt; census.len(), 0);
     Ok(())
 }

@@ -1,13 +1,13 @@
-use crate::sample_tables::text_of;
-use gluing_table::{Glue, Table};
-use perm_four::Perm4;
-use signature_codec::{SigFault, SpellFault, read_any, read_signature, spell};
+use crate::sample_tables::{by, read_table, table_of, text_of};
+use gluing_table::Face;
+use no_memory::Failure;
+use signature_codec::{NotOrdered, SigFault, read_any, read_signature, spell};
 use std::alloc::Global;
 use std::test::Fail;
 use text_io::Lexer;
 
 fn table_text(alloc: Global, text: &[u8]) -> Result<Vec<u8>, Fail> {
-    let table = read_signature(alloc, text)?;
+    let table = read_table(alloc, text)?;
     Ok(text_of(alloc, &table)?)
 }
 
@@ -27,50 +27,72 @@ fn worked_texts_are_read_and_spelled(rt: HostRuntime) -> Result<(), Fail> {
     ];
     for (text, written) in worked {
         assert_eq!(rt; table_text(rt.alloc(), text)?.as_slice(), written);
-        let table = read_signature(rt.alloc(), text)?;
-        assert_eq!(rt; spell(rt.alloc(), &table)?.as_slice(), text);
+        let table = read_table(rt.alloc(), text)?;
+        let spelled = spell(rt.alloc(), &table).ok().ok_or("no text")?;
+        assert_eq!(rt; spelled.as_slice(), text);
     }
     Ok(())
 }
 
+// What is wrong, and the place that the fault has, or 0.
+fn told(fault: SigFault) -> (&'static str, usize) {
+    match fault {
+        SigFault::NoMemory => ("no memory", 0),
+        SigFault::BadChar { at } => ("bad char", at),
+        SigFault::Short { at } => ("short", at),
+        SigFault::BadType { at } => ("bad type", at),
+        SigFault::Leftover { at } => ("leftover", at),
+        SigFault::Destination { at } => ("destination", at),
+        SigFault::Gluing { at } => ("gluing", at),
+        SigFault::FaceTaken { at } => ("face taken", at),
+        SigFault::Trailing { at } => ("trailing", at),
+        SigFault::TooMany => ("too many", 0),
+        SigFault::Unreached => ("unreached", 0),
+        SigFault::Width { at } => ("width", at),
+    }
+}
+
 #[test]
 fn the_first_fault_is_answered(rt: HostRuntime) {
-    let faults: [(&[u8], SigFault); 20] = [
-        (b"", SigFault::Short { at: 0 }),
-        (b"bkaag", SigFault::Short { at: 5 }),
-        (b"bkaagjx", SigFault::Trailing { at: 6 }),
-        (b"blaagj", SigFault::BadType { at: 1 }),
-        (b"bAaagj", SigFault::Leftover { at: 1 }),
-        (b"bkbagj", SigFault::Destination { at: 2 }),
-        (b"bkaayj", SigFault::Gluing { at: 4 }),
-        (b"bkaaga", SigFault::FaceTaken { at: 5 }),
-        (b"cQc", SigFault::Unreached),
-        (b"b.aagj", SigFault::BadChar { at: 1 }),
-        (b"-", SigFault::Short { at: 1 }),
-        (b"-a", SigFault::Width { at: 1 }),
-        (b"-b", SigFault::Short { at: 2 }),
-        (b"-b9", SigFault::Width { at: 1 }),
-        (b"-cba", SigFault::Width { at: 1 }),
-        (b"-c-a", SigFault::Width { at: 1 }),
-        (b"-d", SigFault::TooMany),
-        (b"-c+p", SigFault::TooMany),
-        (b"-cOp", SigFault::Short { at: 4 }),
-        (b"-b-", SigFault::Short { at: 3 }),
+    let faults: [(&[u8], (&str, usize)); 20] = [
+        (b"", ("short", 0)),
+        (b"bkaag", ("short", 5)),
+        (b"bkaagjx", ("trailing", 6)),
+        (b"blaagj", ("bad type", 1)),
+        (b"bAaagj", ("leftover", 1)),
+        (b"bkbagj", ("destination", 2)),
+        (b"bkaayj", ("gluing", 4)),
+        (b"bkaaga", ("face taken", 5)),
+        (b"cQc", ("unreached", 0)),
+        (b"b.aagj", ("bad char", 1)),
+        (b"-", ("short", 1)),
+        (b"-a", ("width", 1)),
+        (b"-b", ("short", 2)),
+        (b"-b9", ("width", 1)),
+        (b"-cba", ("width", 1)),
+        (b"-c-a", ("width", 1)),
+        (b"-d", ("too many", 0)),
+        (b"-c+p", ("too many", 0)),
+        (b"-cOp", ("short", 4)),
+        (b"-b-", ("short", 3)),
     ];
     for (text, fault) in faults {
-        assert_eq!(rt; read_signature(rt.alloc(), text).err(), Some(fault));
+        let told = read_signature(rt.alloc(), text).err().map(told);
+        assert_eq!(rt; told, Some(fault));
     }
 }
 
 #[test]
 fn tables_in_another_order_are_not_spelled(rt: HostRuntime) {
-    let to = |tet: u32| Perm4::from_word(b"1023").map(|perm| Glue { tet, perm });
-    let rows = [[to(1), None, None, None], [None, to(0), None, None]];
-    let table = Table::from_rows(rt.alloc(), &rows).expect(&rt, "a table");
-    assert_eq!(rt;
-        spell(rt.alloc(), &table).err(),
-        Some(SpellFault::NotOrdered { tet: 0, face: 0 })
-    );
+    let rows = [
+        [by(1, b"1023"), None, None, None],
+        [None, by(0, b"1023"), None, None],
+    ];
+    let table = table_of(&rt, rt.alloc(), &rows);
+    let Err(Failure::Fault(NotOrdered { face })) = spell(rt.alloc(), &table) else {
+        panic!(rt; "it is spelled");
+    };
+    assert_eq!(rt; (face.tet, face.face), (0, 0));
 }
 
 #[test]
@@ -81,15 +103,16 @@ fn a_long_text_is_read_and_spelled(rt: HostRuntime) -> Result<(), Fail> {
         text.push(b'e')?;
     }
     text.extend_from_slice(b"aa")?;
-    let table = read_signature(rt.alloc(), &text)?;
+    let table = read_table(rt.alloc(), &text)?;
     assert_eq!(rt; table.len(), 63);
-    assert_eq!(rt; spell(rt.alloc(), &table)?.as_slice(), text.as_slice());
+    let spelled = spell(rt.alloc(), &table).ok().ok_or("no text")?;
+    assert_eq!(rt; spelled.as_slice(), text.as_slice());
     Ok(())
 }
 
 fn next_table(alloc: Global, lexer: &mut Lexer<'_>) -> Result<Vec<u8>, Fail> {
-    lexer.need_line()?;
-    let table = read_any(alloc, lexer)?;
+    lexer.need_line().ok().ok_or("no line")?;
+    let table = read_any(alloc, lexer).ok().ok_or("no table")?;
     Ok(text_of(alloc, &table)?)
 }
 

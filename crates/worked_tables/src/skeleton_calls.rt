@@ -1,5 +1,4 @@
 use crate::sample_tables::{figure_eight, reversed_row, skeleton_of, sphere_row, turned_row};
-use skeleton::Corner;
 
 #[test]
 fn the_figure_eight_complement(rt: HostRuntime) {
@@ -52,17 +51,18 @@ fn classes_of_a_tetrahedron(rt: HostRuntime) {
 fn the_walks_of_a_sphere(rt: HostRuntime) {
     let skeleton = skeleton_of(&rt, rt.alloc(), &[sphere_row(0)]);
     assert_eq!(rt; skeleton.edges(), 2);
-    let corner = |a: u8, b: u8, c: u8, d: u8| Corner { tet: 0, a, b, c, d };
-    assert_eq!(rt;
-        skeleton.around(0),
-        [
-            corner(0, 1, 2, 3),
-            corner(1, 2, 0, 3),
-            corner(0, 2, 3, 1),
-            corner(3, 1, 0, 2),
-            corner(3, 0, 2, 1),
-        ]
-        .as_slice()
-    );
+    let labels = [
+        [0, 1, 2, 3],
+        [1, 2, 0, 3],
+        [0, 2, 3, 1],
+        [3, 1, 0, 2],
+        [3, 0, 2, 1],
+    ];
+    let corners = skeleton.around(0);
+    assert_eq!(rt; corners.len(), labels.len());
+    for (corner, labels) in corners.iter().zip(&labels) {
+        assert_eq!(rt; corner.tet, 0);
+        assert_eq!(rt; [corner.a, corner.b, corner.c, corner.d], *labels);
+    }
     assert_eq!(rt; skeleton.around(1).len(), 1);
 }

@@ -1,7 +1,6 @@
-use crate::sample_tables::move_at;
+use crate::sample_tables::{move_at, read_table, told_move};
 use no_memory::Failure;
 use pachner_moves::{MoveFault, apply};
-use signature_codec::read_signature;
 use sphere_certificate::{CheckFault, check, descend, standard};
 use std::test::Fail;
 
@@ -9,7 +8,7 @@ use std::test::Fail;
 fn the_sphere_is_certified_without_moves(rt: HostRuntime) -> Result<(), Fail> {
     let alloc = rt.alloc();
     let sphere = standard(alloc)?;
-    assert!(rt; sphere.equals(&read_signature(alloc, b"bkaagj")?));
+    assert!(rt; sphere.equals(&read_table(alloc, b"bkaagj")?));
     assert!(rt; check(alloc, &sphere, &[]).is_ok());
     Ok(())
 }
@@ -23,7 +22,7 @@ fn moves_are_refused_by_their_step(rt: HostRuntime) -> Result<(), Fail> {
     match check(alloc, &sphere, &moves) {
         Err(Failure::Fault(CheckFault::Illegal { step, fault })) => {
             assert_eq!(rt; step, 3);
-            assert_eq!(rt; fault, MoveFault::Repeated { label: 3 });
+            assert!(rt; matches!(fault, MoveFault::Repeated { label: 3 }));
         }
         _ => assert!(rt; false, "not refused"),
     }
@@ -33,7 +32,7 @@ fn moves_are_refused_by_their_step(rt: HostRuntime) -> Result<(), Fail> {
 #[test]
 fn other_tables_have_another_signature(rt: HostRuntime) -> Result<(), Fail> {
     let alloc = rt.alloc();
-    let table = read_signature(alloc, b"bkaagb")?;
+    let table = read_table(alloc, b"bkaagb")?;
     match check(alloc, &table, &[]) {
         Err(Failure::Fault(CheckFault::NotStandard { signature })) => {
             assert_eq!(rt; signature.as_slice(), b"bkaagb".as_slice());
@@ -50,9 +49,10 @@ fn a_parted_sphere_is_reached(rt: HostRuntime) -> Result<(), Fail> {
     let parting = move_at(&rt, 0, 15);
     let joining = move_at(&rt, 0, 8);
     assert!(rt; apply(&mut table, parting).is_ok());
-    let descent = descend(alloc, &table)?;
+    let descent = descend(alloc, &table).ok().ok_or("no descent")?;
     assert!(rt; descent.reached);
-    assert_eq!(rt; descent.moves.as_slice(), [joining].as_slice());
+    assert_eq!(rt; descent.moves.len(), 1);
+    assert_eq!(rt; told_move(descent.moves[0]), told_move(joining));
     assert_eq!(rt; descent.table.len(), 1);
     Ok(())
 }
@@ -60,8 +60,8 @@ fn a_parted_sphere_is_reached(rt: HostRuntime) -> Result<(), Fail> {
 #[test]
 fn descents_end_at_other_tables(rt: HostRuntime) -> Result<(), Fail> {
     let alloc = rt.alloc();
-    let table = read_signature(alloc, b"bkaagb")?;
-    let descent = descend(alloc, &table)?;
+    let table = read_table(alloc, b"bkaagb")?;
+    let descent = descend(alloc, &table).ok().ok_or("no descent")?;
     assert!(rt; !descent.reached);
     assert!(rt; descent.moves.is_empty());
     assert!(rt; descent.table.equals(&table));

@@ -1,10 +1,11 @@
 ghost use Rattle.std.specs.Prelude.{◌<◌, length};
 
+use memory_streams::{MemorySink, MemorySource};
 use std::alloc::Global;
 use std::test::Fail;
 use text_io::{
-    Failed, LexFault, LexKind, Lexer, MemorySink, MemorySource, NullSink, Place, ReadEnd, StdSink,
-    StdSource, SteadySource, Words, read_all, write_all,
+    Failed, LexFault, LexKind, Lexer, NullSink, ReadEnd, StdSink, StdSource, SteadySource, Words,
+    read_all, write_all,
 };
 
 const INPUT: &[u8] = b"sig bkaagj\n";
@@ -21,46 +22,42 @@ fn at_first_line(bytes: &[u8]) -> Lexer<'_>
 }
 
 #[test]
-fn words_are_read_in_turn(rt: HostRuntime) -> Result<(), Fail> {
+fn words_are_read_in_turn(rt: HostRuntime) {
     let mut lexer = at_first_line(b"# \xff\n\t tri  0012 \r\n\n \n");
-    assert_eq!(rt; lexer.word()?, b"tri".as_slice());
+    let word = lexer.word().ok().expect(&rt, "a word");
+    assert_eq!(rt; word, b"tri".as_slice());
     assert!(rt; !lexer.at_end());
-    assert_eq!(rt; lexer.number(12)?, 12);
+    assert_eq!(rt; lexer.number(12).ok(), Some(12));
     assert!(rt; lexer.at_end());
-    Ok(())
 }
 
 #[test]
-fn signed_numbers_are_read(rt: HostRuntime) -> Result<(), Fail> {
+fn signed_numbers_are_read(rt: HostRuntime) {
     let mut lexer = at_first_line(b"-7 -0 8");
     let numbers = [
-        lexer.signed(7)?,
-        lexer.signed(0)?,
-        lexer.signed(2147483647)?,
+        lexer.signed(7).ok(),
+        lexer.signed(0).ok(),
+        lexer.signed(2147483647).ok(),
     ];
-    assert_eq!(rt; numbers, [-7, 0, 8]);
-    assert_eq!(rt; lexer.bad_word(), fault(1, 7, LexKind::BadWord));
-    Ok(())
+    assert_eq!(rt; numbers, [Some(-7), Some(0), Some(8)]);
+    assert!(rt; told(lexer.bad_word()) == (1, 7, LexKind::BadWord));
 }
 
 #[test]
-fn lines_follow_each_other(rt: HostRuntime) -> Result<(), Fail> {
+fn lines_follow_each_other(rt: HostRuntime) {
     let mut lexer = at_first_line(b"tri\n\n \n ab\n#");
-    let _first = lexer.word()?;
-    lexer.end_line()?;
-    lexer.need_line()?;
-    assert_eq!(rt; lexer.word()?, b"ab".as_slice());
+    assert!(rt; lexer.word().is_ok());
+    assert!(rt; lexer.end_line().is_ok() && lexer.need_line().is_ok());
+    let word = lexer.word().ok().expect(&rt, "a word");
+    assert_eq!(rt; word, b"ab".as_slice());
     assert!(rt; !lexer.next_line());
-    assert_eq!(rt;
-        lexer.need_line().err(),
-        Some(fault(5, 2, LexKind::MissingWord))
-    );
-    Ok(())
+    let fault = lexer.need_line().err().map(told);
+    assert!(rt; fault == Some((5, 2, LexKind::MissingWord)));
 }
 
-fn fault(line: u32, column: u32, kind: LexKind) -> LexFault {
-    let place = Place { line, column };
-    LexFault { place, kind }
+// The line and the column of a fault, and its kind.
+fn told(fault: LexFault) -> (u32, u32, LexKind) {
+    (fault.place.line, fault.place.column, fault.kind)
 }
 
 // What is asked of the first line of an input.
@@ -73,17 +70,17 @@ enum Wanted {
     End,
 }
 
-// The line and the column of the fault, and its kind.
+// The fault of what is asked of the first line.
 fn fault_of(bytes: &[u8], wanted: Wanted) -> Option<(u32, u32, LexKind)> {
     if bytes.len() > 1000 {
         return None;
     }
     let mut lexer = Lexer::new(bytes);
-    let told = lexer
+    let fault = lexer
         .need_line()
         .and_then(|()| ask(&mut lexer, wanted))
         .err()?;
-    Some((told.place.line, told.place.column, told.kind))
+    Some(told(fault))
 }
 
 fn ask(lexer: &mut Lexer, wanted: Wanted) -> Result<(), LexFault> {
@@ -171,7 +168,7 @@ const CASES: [(&[u8], Wanted, Option<(u32, u32, LexKind)>); 26] = [
 #[test]
 fn each_fault_has_its_place(rt: HostRuntime) {
     for (bytes, wanted, expected) in &CASES {
-        assert_eq!(rt; fault_of(bytes, *wanted), *expected);
+        assert!(rt; fault_of(bytes, *wanted) == *expected, "{bytes:?}");
     }
 }
 
@@ -187,11 +184,17 @@ fn read_of(alloc: Global, failing: &[u64], limit: u64) -> Result<Result<Vec<u8>,
 fn all_is_read(rt: HostRuntime) -> Result<(), Fail> {
     let alloc = rt.alloc();
     let mut steady = SteadySource::new(INPUT.to_vec(alloc)?);
-    let read = read_all(alloc, &mut steady, INPUT.len() as u64).expect(&rt, "steady");
+    let read = read_all(alloc, &mut steady, INPUT.len() as u64)
+        .ok()
+        .expect(&rt, "steady");
     assert_eq!(rt; read.as_slice(), INPUT);
-    let read = read_all(alloc, &mut StdSource::new(INPUT), 1000).expect(&rt, "standard");
+    let read = read_all(alloc, &mut StdSource::new(INPUT), 1000)
+        .ok()
+        .expect(&rt, "standard");
     assert_eq!(rt; read.as_slice(), INPUT);
-    let read = read_of(alloc, &[4], INPUT.len() as u64)?.expect(&rt, "late");
+    let read = read_of(alloc, &[4], INPUT.len() as u64)?
+        .ok()
+        .expect(&rt, "late");
     assert_eq!(rt; read.as_slice(), INPUT);
     Ok(())
 }
@@ -199,11 +202,11 @@ fn all_is_read(rt: HostRuntime) -> Result<(), Fail> {
 #[test]
 fn the_cause_of_a_failed_read_is_told(rt: HostRuntime) -> Result<(), Fail> {
     let length = INPUT.len() as u64;
-    let long = read_of(rt.alloc(), &[], length - 1)?.err();
-    assert_eq!(rt; long, Some(ReadEnd::TooLong));
+    let long = read_of(rt.alloc(), &[], length - 1)?;
+    assert!(rt; matches!(long, Err(ReadEnd::TooLong)));
     for call in 1..4 {
-        let failed = read_of(rt.alloc(), &[call], length)?.err();
-        assert_eq!(rt; failed, Some(ReadEnd::Failed));
+        let failed = read_of(rt.alloc(), &[call], length)?;
+        assert!(rt; matches!(failed, Err(ReadEnd::Failed)));
     }
     Ok(())
 }
@@ -224,7 +227,7 @@ fn a_prefix_is_written_before_a_failure(rt: HostRuntime) -> Result<(), Fail> {
 #[test]
 fn a_full_sink_has_a_prefix(rt: HostRuntime) -> Result<(), Fail> {
     let mut small = MemorySink::new(rt.alloc(), 10, Vec::new(rt.alloc()), 100)?;
-    assert_eq!(rt; write_all(&mut small, ANSWER), Err(Failed));
+    assert!(rt; matches!(write_all(&mut small, ANSWER), Err(Failed)));
     assert_eq!(rt; small.bytes(), &ANSWER[..10]);
     Ok(())
 }
@@ -232,24 +235,22 @@ fn a_full_sink_has_a_prefix(rt: HostRuntime) -> Result<(), Fail> {
 #[test]
 fn bytes_that_go_nowhere_are_counted(rt: HostRuntime) {
     let mut null = NullSink::new();
-    assert_eq!(rt; write_all(&mut null, ANSWER), Ok(()));
+    assert!(rt; write_all(&mut null, ANSWER).is_ok());
     assert_eq!(rt; null.taken(), ANSWER.len() as u64);
 }
 
 #[test]
 fn a_standard_sink_has_all(rt: HostRuntime) {
     let mut held = Vec::new(rt.alloc());
-    assert_eq!(rt; write_all(&mut StdSink::new(&mut held), ANSWER), Ok(()));
+    assert!(rt; write_all(&mut StdSink::new(&mut held), ANSWER).is_ok());
     assert_eq!(rt; held.as_slice(), ANSWER);
 }
 
 #[test]
 fn a_full_standard_sink_has_a_prefix(rt: HostRuntime) {
     let mut ten = [0; 10];
-    assert_eq!(rt;
-        write_all(&mut StdSink::new(&mut ten[..]), ANSWER),
-        Err(Failed)
-    );
+    let written = write_all(&mut StdSink::new(&mut ten[..]), ANSWER);
+    assert!(rt; matches!(written, Err(Failed)));
     assert_eq!(rt; ten.as_slice(), &ANSWER[..10]);
 }
 

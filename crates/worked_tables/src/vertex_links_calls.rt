@@ -11,53 +11,73 @@ fn links_of(rt: &impl Abort, alloc: Global, rows: &[Row]) -> Vec<Link> {
 #[test]
 fn the_figure_eight_complement_has_a_torus(rt: HostRuntime) {
     let found = links_of(&rt, rt.alloc(), &figure_eight());
-    let torus = Link {
-        triangles: 8,
-        edges: 12,
-        vertices: 4,
-        euler: 0,
-        closed: true,
-        orientable: true,
-        kind: LinkKind::Torus,
-    };
-    assert_eq!(rt; found.as_slice(), [torus].as_slice());
+    assert_eq!(rt; found.len(), 1);
+    assert!(rt;
+        matches!(
+            found[0],
+            Link {
+                triangles: 8,
+                edges: 12,
+                vertices: 4,
+                euler: 0,
+                closed: true,
+                orientable: true,
+                kind: LinkKind::Torus,
+            }
+        )
+    );
 }
 
 #[test]
 fn the_gieseking_manifold_has_a_klein_bottle(rt: HostRuntime) {
     let found = links_of(&rt, rt.alloc(), &[turned_row(0)]);
-    let klein = Link {
-        triangles: 4,
-        edges: 6,
-        vertices: 2,
-        euler: 0,
-        closed: true,
-        orientable: false,
-        kind: LinkKind::Klein,
-    };
-    assert_eq!(rt; found.as_slice(), [klein].as_slice());
+    assert_eq!(rt; found.len(), 1);
+    assert!(rt;
+        matches!(
+            found[0],
+            Link {
+                triangles: 4,
+                edges: 6,
+                vertices: 2,
+                euler: 0,
+                closed: true,
+                orientable: false,
+                kind: LinkKind::Klein,
+            }
+        )
+    );
 }
 
 #[test]
 fn two_discs(rt: HostRuntime) {
     let found = links_of(&rt, rt.alloc(), &[reversed_row()]);
-    let first = Link {
-        triangles: 2,
-        edges: 5,
-        vertices: 4,
-        euler: 1,
-        closed: false,
-        orientable: true,
-        kind: LinkKind::Disc,
-    };
-    let second = Link {
-        triangles: 2,
-        edges: 4,
-        vertices: 3,
-        euler: 1,
-        closed: false,
-        orientable: true,
-        kind: LinkKind::Disc,
-    };
-    assert_eq!(rt; found.as_slice(), [first, second].as_slice());
+    assert_eq!(rt; found.len(), 2);
+    assert!(rt;
+        matches!(
+            found[0],
+            Link {
+                triangles: 2,
+                edges: 5,
+                vertices: 4,
+                euler: 1,
+                closed: false,
+                orientable: true,
+                kind: LinkKind::Disc,
+            }
+        )
+    );
+    assert!(rt;
+        matches!(
+            found[1],
+            Link {
+                triangles: 2,
+                edges: 4,
+                vertices: 3,
+                euler: 1,
+                closed: false,
+                orientable: true,
+                kind: LinkKind::Disc,
+            }
+        )
+    );
 }

@@ -18,6 +18,7 @@ use Rattle.surface_definitions.specs.Equations.{matching, Holds}
 use Rattle.surface_definitions.specs.Lift.{IsLiftAt}
 use Rattle.surface_laws.specs.LiftLaws.{IsLiftOf, triangle_at}
 use Rattle.surface_laws.proofs.Glued.{IsGlued, glued_is}
+use Rattle.surface_laws.proofs.Heights.{triangles_at}
 use Rattle.surface_laws.proofs.Lifts.{lift_matched}
 use Rattle.surface_laws.proofs.Quads.{projected_at}
 use Rattle.surface_laws.proofs.Turns.{keeping_below}
@@ -28,12 +29,6 @@ use Rattle.quad_lift_laws.proofs.SideLists.{member_listed}
 use Rattle.written_answer_laws.specs.Lifts.{LiftsAreWithin}
 use Rattle.surface_laws.proofs.ThreeSums.{three_of}
 use Rattle.written_answer_laws.proofs.Besides.{beside, one_of_three, apart_sum, all_beside}
-
-height_is : (ys : List ℕ) (t v : ℕ) → v < 4 → triangle_at ys (vertex_number t v) ≡ slice_index ys (tri_column Standard t v)
-height_is ys t v l =
-    let tet : vertex_number t v / 4 ≡ t = omega arith in
-    let vertex : vertex_number t v % 4 ≡ v = omega arith in
-    λ i. slice_index ys (tri_column Standard (tet i) (vertex i))
 
 -- what falls by one number rises by at most the other
 risen : (y y' q q' h h' b : ℕ) → 0 + y + q ≡ 0 + y' + q' → h ≡ y → h' ≡ y' → q' ≤ b → h ≤ h' + b
@@ -60,7 +55,7 @@ module _ (s : Skeleton) (c : ℕ) (z : IsVertexClass s c) (xs ys : List ℕ) (l 
       (subst (λ t. slice_index xs (3 * g.tet + keeping w (image g.perm k.c)) ≤ three_of xs t) (sym tet) (one_of_three xs g.tet (keeping w (image g.perm k.c)) lk)) in
       risen (slice_index ys (tri_column Standard k.tet k.a)) (slice_index ys (tri_column Standard g.tet w))
       (slice_index ys (quad_column Standard k.tet (keeping k.a k.c))) (slice_index ys (quad_column Standard g.tet (keeping w (image g.perm k.c))))
-      (triangle_at ys (triangle_of k)) (triangle_at ys (vertex_number g.tet w)) (beside xs (vertex_number g.tet w)) holds (height_is ys k.tet k.a f.a) (height_is ys g.tet w lw) low
+      (triangle_at ys (triangle_of k)) (triangle_at ys (vertex_number g.tet w)) (beside xs (vertex_number g.tet w)) holds (triangles_at ys k.tet k.a f.a) (triangles_at ys g.tet w lw) low
 
   module _ (root : ℕ) (start : triangle_at ys root ≡ 0) where
     -- a height and the quads beside it are at most the quads beside all that was seen
@@ -121,7 +116,7 @@ module _ (s : Skeleton) (xs ys : List ℕ) (k : IsSkeleton s) (width : length xs
     | inr past ↦ (let none : slice_index ys column ≡ 0 = entry_past ys (7 * length s.rows) column lift.width past in omega arith)
     | inl within ↦ elim (cases_lt (column % 7) 4) [
       | inl triangle ↦ (let at : tri_column Standard (column / 7) (column % 7) ≡ column = omega arith in
-          subst (λ j. slice_index ys j ≤ 4 * sum xs) at (subst (λ n. n ≤ 4 * sum xs) (height_is ys (column / 7) (column % 7) triangle) (triangle_within (vertex_number (column / 7) (column % 7)) (omega arith))))
+          subst (λ j. slice_index ys j ≤ 4 * sum xs) at (subst (λ n. n ≤ 4 * sum xs) (triangles_at ys (column / 7) (column % 7) triangle) (triangle_within (vertex_number (column / 7) (column % 7)) (omega arith))))
       | inr quad ↦ (let at : quad_column Standard (column / 7) (column % 7 - 4) ≡ column = omega arith in
           subst (λ j. slice_index ys j ≤ 4 * sum xs) at (quad_within (column / 7) (column % 7 - 4) (omega arith) (omega arith)))
     ]

@@ -1,8 +1,11 @@
 -- Each entry by its lemma.
-use Rattle.std.proofs.Common.{◌≡◌, ◌<◌, ℕ, Vec, Global, None, Some, length, ap, ◌∙◌, arith}
+use Rattle.std.proofs.Common.{◌≡◌, ◌<◌, ℕ, Vec, Global, None, Some, length, ap, subst, ◌∙◌, arith}
 use Rattle.std.specs.List.{slice_index_or}
+use Rattle.std.proofs.lemmas.List.{take_all}
+use Rattle.walk_laws.specs.Joined.{present}
+use Rattle.finite_walks.specs.Rows.{IsRowMarked}
 use Rattle.walk_laws.proofs.Rows.{present_contains}
-use Rattle.finite_walks.proofs.RowMarks.{marks_one, passes_one, skips_one}
+use Rattle.finite_walks.proofs.RowMarks.{none_done, marks_one, passes_one, skips_one}
 use Rattle.finite_walks.proofs.mark_row.Goals as goal
 use Rattle.finite_walks.proofs.mark_row.Goals.{in-Some+then-not-marked-other+in_ok-push, in-Some+else-not-marked-other, in_default}
 
@@ -29,3 +32,10 @@ loop-neighbour-preserved c = elim c.match-neighbour.branch [
   where
     below : (other : ℕ) → slice_index_or c.args.row.now c.loop-neighbour.neighbour-index None ≡ Some other → other < length c.loop-neighbour.marked
     below other e = omega (arith, c.loop-neighbour.invariant.size, c.requires other (present_contains c.args.row.now c.loop-neighbour.neighbour-index other e))
+
+pub loop-neighbour-init : goal.loop-neighbour-init
+loop-neighbour-init c = none_done (present c.args.row.now) c.args.marked.now c.args.pending.now.items
+
+pub returns : goal.returns
+returns c = subst (λ row. IsRowMarked (present c.args.row.now) (present row) c.args.marked.now c.loop-neighbour.marked c.args.pending.now.items c.loop-neighbour.pending.items)
+    (take_all c.loop-neighbour.neighbour-index c.args.row.now c.loop-neighbour-test.false) c.loop-neighbour.invariant

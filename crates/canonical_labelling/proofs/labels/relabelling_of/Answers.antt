@@ -1,4 +1,4 @@
-use Rattle.std.proofs.Common.{ℕ, List, length, sym, subst, ◌∙◌}
+use Rattle.std.proofs.Common.{length, sym, subst, ◌∙◌}
 use Rattle.std.specs.Prelude.{IsPermutation}
 use Rattle.table_definitions.specs.Lists.{below}
 use Rattle.table_definitions.specs.Relabelling.{Relabelling, IsRelabelling}

@@ -1,6 +1,6 @@
 -- An input has few moves, and the fault that was answered is that of the input.
 use Rattle.std.proofs.Common.{length, ap, arith}
-use Rattle.command_answers.proofs.Results.{if_ok}
+use Rattle.std.proofs.lemmas.Result.{IfOk-weaker}
 use Rattle.command_answers.proofs.RefusalLines.{input_refused}
 use Rattle.certificate_commands.proofs.MoveLines.{few_moves}
 use Rattle.certificate_commands.proofs.check_command.check.Goals as goal
@@ -9,4 +9,4 @@ pub answer-requires : goal.answer-requires
 answer-requires c = omega (arith, few_moves c.args.bytes.now _ c.in-Ok.document.moves.items c.in-Ok.ensures, ap length c.deref.ensures.value, c.requires)
 
 pub returns-in-Err : goal.returns-in-Err
-returns-in-Err c = record { answer = if_ok c.fault_outcome.result _ _ (λ o h. input_refused _ c.in-Err.fault _ o c.in-Err.ensures h) c.fault_outcome.ensures }
+returns-in-Err c = record { answer = IfOk-weaker c.fault_outcome.result _ _ (λ o h. input_refused _ c.in-Err.fault _ o c.in-Err.ensures h) c.fault_outcome.ensures }

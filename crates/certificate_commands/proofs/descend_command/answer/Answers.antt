@@ -1,12 +1,11 @@
 -- What is told of the descent is the answer.
 use Rattle.std.proofs.Common.{Ok, Err}
-use Rattle.command_answers.proofs.Results.{if_ok}
-use Rattle.certificate_commands.proofs.TellingLaws.{named_unreached}
+use Rattle.std.proofs.lemmas.Result.{IfOk-weaker}
 use Rattle.certificate_commands.proofs.descend_command.answer.Goals as goal
 
 pub returns-in-Ok : goal.returns-in-Ok
 returns-in-Ok c =
-    if_ok c.told.result _ _
+    IfOk-weaker c.told.result _ _
     (λ o e. record {
       told = Ok (record { reached = c.in-Ok.descent.reached; moves = c.in-Ok.descent.moves.items; table = c.in-Ok.descent.table });
       descended = (c.in-Ok.ensures.connected, c.in-Ok.ensures.descent);
@@ -14,12 +13,12 @@ returns-in-Ok c =
     })
     c.told.ensures
 
-pub returns-in-Err-NotConnected : goal.returns-in-Err-NotConnected
-returns-in-Err-NotConnected c =
-    if_ok c.not_connected_outcome.result _ _
+pub returns-in-Err-Fault : goal.returns-in-Err-Fault
+returns-in-Err-Fault c =
+    IfOk-weaker c.not_connected_outcome.result _ _
     (λ o e. record {
-      told = Err c.in-Err-NotConnected.tet;
-      descended = named_unreached c.args.table.now c.in-Err-NotConnected.field-0 c.in-Err-NotConnected.tet c.in-Err-NotConnected.field-0-is c.in-Err-NotConnected.ensures.fault;
+      told = Err c.in-Err-Fault.fault.tet;
+      descended = rw c.in-Err-Fault.field-0-is at c.in-Err-Fault.ensures.fault;
       outcome = e;
     })
     c.not_connected_outcome.ensures

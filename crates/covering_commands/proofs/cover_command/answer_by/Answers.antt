@@ -1,11 +1,11 @@
 -- The cover, or that it would have too many tetrahedra.
-use Rattle.command_answers.proofs.Results.{if_ok}
+use Rattle.std.proofs.lemmas.Result.{IfOk-weaker}
 use Rattle.covering_commands.proofs.Telling.{cover_answer, large_answer}
 use Rattle.covering_commands.proofs.cover_command.answer_by.Goals as goal
 
 pub returns-in-Ok : goal.returns-in-Ok
-returns-in-Ok c = if_ok c.told.result _ _ (λ o t. cover_answer c.args.skeleton.now.rows _ o c.in-Ok.ensures.cover c.in-Ok.ensures.fits t) c.told.ensures
+returns-in-Ok c = IfOk-weaker c.told.result _ _ (λ o t. cover_answer c.args.skeleton.now.rows _ o c.in-Ok.ensures.cover c.in-Ok.ensures.fits t) c.told.ensures
 
-pub returns-in-Err-Fault-TooMany : goal.returns-in-Err-Fault-TooMany
-returns-in-Err-Fault-TooMany c = if_ok c.too_many.result _ _ (λ o t. large_answer c.args.skeleton.now.rows c.in-Err-Fault-TooMany.field-0 c.in-Err-Fault-TooMany.field-0-0 o
-    c.in-Err-Fault-TooMany.field-0-is c.in-Err-Fault-TooMany.ensures.fault t) c.too_many.ensures
+pub returns-in-Err-Fault : goal.returns-in-Err-Fault
+returns-in-Err-Fault c = IfOk-weaker c.too_many.result _ _ (λ o t. large_answer c.args.skeleton.now.rows c.in-Err-Fault.field-0 c.in-Err-Fault.field-0-0 o
+    c.in-Err-Fault.field-0-is c.in-Err-Fault.ensures.fault t) c.too_many.ensures

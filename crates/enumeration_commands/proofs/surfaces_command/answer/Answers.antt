@@ -2,15 +2,15 @@
 use Rattle.std.proofs.Common.{ℕ, List, ap, ◌∙◌}
 use Rattle.std.specs.Prelude.{codes}
 use Rattle.outcome_definitions.specs.Enumerations.{list_outcome, large_outcome}
-use Rattle.command_answers.proofs.Results.{if_ok}
+use Rattle.std.proofs.lemmas.Result.{IfOk-weaker}
 use Rattle.enumeration_commands.proofs.Answering.{table_listed, table_large}
 use Rattle.enumeration_commands.proofs.surfaces_command.answer.Goals as goal
 
 pub returns-in-Ok : goal.returns-in-Ok
-returns-in-Ok c = if_ok c.list_outcome.result _ _
+returns-in-Ok c = IfOk-weaker c.list_outcome.result _ _
     (λ o same. table_listed _ _ _ _ c.in-Ok.surfaces.items o c.in-Ok.ensures.ok (same ∙ ap (list_outcome (codes "surfaces")) c.deref.ensures.value)) c.list_outcome.ensures
 
 pub returns-in-Err-Large : goal.returns-in-Err-Large
-returns-in-Err-Large c = let refused = rw c.in-Err-Large.field-0-is at c.in-Err-Large.ensures.err in if_ok c.large_outcome.result _ _
+returns-in-Err-Large c = let refused = rw c.in-Err-Large.field-0-is at c.in-Err-Large.ensures.err in IfOk-weaker c.large_outcome.result _ _
     (λ o same. table_large _ _ _ _ c.in-Err-Large.order c.in-Err-Large.kind o refused
     (same ∙ ap (λ (taken : List ℕ). large_outcome taken c.in-Err-Large.kind) c.deref-in-Err-Large.ensures.value)) c.large_outcome.ensures

@@ -1,3 +1,5 @@
+use Rattle.std.proofs.Common.{ap, ◌∙◌, take_all}
+use Rattle.gluing_table.specs.Neighbours.{all_behind}
 use Rattle.gluing_table.proofs.Chains.{behind_none, behind_more}
 use Rattle.gluing_table.proofs.joined.rows_behind.Goals as goal
 
@@ -8,3 +10,6 @@ pub loop-row-preserved : goal.loop-row-preserved
 loop-row-preserved c =
     behind_more c.args.rows.now c.loop-row.row-index c.row-item.result c.loop-row.all.items _ c.row_behind.result c.loop-row-test.true c.row-item.is c.loop-row.invariant c.row_behind.ensures
     c.in_ok-push.ensures.items
+
+pub returns : goal.returns
+returns c = c.loop-row.invariant ∙ ap all_behind (take_all c.loop-row.row-index c.args.rows.now c.loop-row-test.false)

@@ -1,4 +1,4 @@
-use Rattle.std.proofs.Common.{◌+◌, ◌<◌, [], length, subst, sym, ◌∙◌, arith}
+use Rattle.std.proofs.Common.{◌+◌, ◌<◌, [], length, subst, sym, ap, ◌∙◌}
 use Rattle.std.proofs.lemmas.Bool.{false≢true}
 use Rattle.std.proofs.lemmas.List.{get_or_default}
 use Rattle.support_bits.specs.Columns.{IsUnion}
@@ -13,7 +13,7 @@ loop-column-preserved c =
     let partners = c.args.partners.now in
     let support = c.args.support.now in
     let joined = c.loop-column.joined in
-    let within : n < length partners = omega (arith, c.requires.count, c.columns-column-end.ensures, c.loop-column-test.true) in
+    let within : n < length partners = subst (λ m. n < m) (c.columns-column-end.ensures ∙ sym c.requires.count) c.loop-column-test.true in
     elim c.if-contains.branch [
       | then-contains w ↦
           subst (IsJoinedBelow (n + 1) partners support) (sym w.joined-is)
@@ -23,3 +23,14 @@ loop-column-preserved c =
           subst (IsJoinedBelow (n + 1) partners support) (sym w.joined-is)
           (joined_skip n partners support joined c.loop-column.invariant (λ has. false≢true (sym w.if-contains.false ∙ c.contains.ensures.1 has)))
     ]
+
+pub contains-requires : goal.contains-requires
+contains-requires c = subst (λ m. c.loop-column.column < m) c.columns-column-end.ensures c.loop-column-test.true
+
+pub bounds-partners-column : goal.bounds-partners-column
+bounds-partners-column c = subst (λ m. c.loop-column.column < m) (c.columns-column-end.ensures ∙ sym c.requires.count) c.loop-column-test.true
+
+pub add-requires : goal.add-requires
+add-requires c =
+    let within = subst (λ m. c.loop-column.column < m) (c.columns-column-end.ensures ∙ sym c.requires.count) c.loop-column-test.true in
+    ap length c.index-partners-column.is ∙ c.requires.widths c.loop-column.column c.index-partners-column.result within ∙ sym c.loop-column.invariant.count

@@ -1,5 +1,6 @@
-use Rattle.std.proofs.Common.{◌≡◌, ℕ, ◌+◌, ◌<◌, List, length, get_or, subst, subst₂, sym, ◌∙◌, ap, arith}
+use Rattle.std.proofs.Common.{rules, ◌≡◌, ℕ, ◌+◌, ◌<◌, List, length, get_or, subst, subst₂, sym, ◌∙◌, ap, arith}
 use Rattle.std.specs.Prelude.{IfSome}
+use Rattle.std.proofs.lemmas.Result.{err_from_is_err_and}
 use Rattle.std.proofs.lemmas.List.Elements.{All-push}
 use Rattle.std.proofs.lemmas.Bool.{false≢true}
 use Rattle.cone_definitions.specs.Vectors.{ray_at}
@@ -15,6 +16,7 @@ use Rattle.double_description.proofs.PairLemmas.{the_pair, no_pair}
 use Rattle.double_description.proofs.PlaceLemmas.{taken_none, taken_more, made_at, made_end}
 use Rattle.double_description.proofs.RivalLemmas.{width_read}
 use Rattle.double_description.proofs.NearLemmas.{near_taken}
+use Rattle.double_description.proofs.ReadLemmas.{place_within, place_of_kept, place_next, fewer_left, sign_bounds, read_width}
 use Rattle.ray_pairs.proofs.JoinLemmas.{joined_width}
 use Rattle.ray_pairs.proofs.search.combine_with.Goals as goal
 use Rattle.ray_pairs.proofs.search.combine_with.Goals.{in-Negative+in_ok-is_face+then-branch+in_ok-kept+in_ok-push, in-Negative+in_ok-is_face+else-branch, in_default}
@@ -113,3 +115,152 @@ returns-clause-made g c =
     (let n = length-rays_of c.args.kepts.now in omega (arith, c.requires.count))
     (made_end MAX_ENTRY c.args.permit.now.clashes.items (rays_of c.args.kepts.now) signs c.args.i c.loop-m.m taken.up_to c.args.negatives.now.places.items (rays_of c.loop-m.made.items)
     c.requires.negatives.places (let n = ap length c.as_slice-places.ensures.value in omega arith) taken.reached taken.so_far)
+
+pub bounds-kepts-i : goal.bounds-kepts-i
+bounds-kepts-i g c = c.requires.in_range
+
+pub bounds-places-m : goal.bounds-places-m
+bounds-places-m g c = c.loop-m-test.true
+
+pub bounds : goal.bounds
+bounds g c = place_within c.args.signs.now c.args.negatives.now.places.items c.as_slice-places.result.now c.loop-m.m c.requires.negatives.places c.as_slice-places.ensures.value c.loop-m-test.true
+
+pub offset_bounds-signs-j : goal.offset_bounds-signs-j
+offset_bounds-signs-j g c =
+    let within = place_within c.args.signs.now c.args.negatives.now.places.items c.as_slice-places.result.now c.loop-m.m c.requires.negatives.places c.as_slice-places.ensures.value c.loop-m-test.true in
+    search (rules, c.well_formed)
+
+pub bounds-signs-j : goal.bounds-signs-j
+bounds-signs-j g c = place_within c.args.signs.now c.args.negatives.now.places.items c.as_slice-places.result.now c.loop-m.m c.requires.negatives.places c.as_slice-places.ensures.value c.loop-m-test.true
+
+pub is_face-requires-clause-decides : goal.is_face-requires-clause-decides
+is_face-requires-clause-decides g c = c.requires.decides
+
+pub is_face-requires-clause-widths : goal.is_face-requires-clause-widths
+is_face-requires-clause-widths g c = c.requires.widths
+
+pub is_face-requires-clause-first : goal.is_face-requires-clause-first
+is_face-requires-clause-first g c = c.requires.in_range
+
+pub is_face-requires-clause-second : goal.is_face-requires-clause-second
+is_face-requires-clause-second g c =
+    place_of_kept c.args.signs.now c.args.kepts.now c.args.negatives.now.places.items c.as_slice-places.result.now c.loop-m.m c.requires.count c.requires.negatives.places c.as_slice-places.ensures.value c.loop-m-test.true
+
+pub is_face-requires-clause-singles : goal.is_face-requires-clause-singles
+is_face-requires-clause-singles g c = c.requires.singles
+
+pub offset_bounds-kepts-j : goal.offset_bounds-kepts-j
+offset_bounds-kepts-j g c =
+    let within = place_of_kept c.args.signs.now c.args.kepts.now c.args.negatives.now.places.items c.as_slice-places.result.now c.loop-m.m c.requires.count c.requires.negatives.places c.as_slice-places.ensures.value c.loop-m-test.true in
+    search (rules, c.well_formed)
+
+pub bounds-kepts-j : goal.bounds-kepts-j
+bounds-kepts-j g c =
+    place_of_kept c.args.signs.now c.args.kepts.now c.args.negatives.now.places.items c.as_slice-places.result.now c.loop-m.m c.requires.count c.requires.negatives.places c.as_slice-places.ensures.value c.loop-m-test.true
+
+pub combine_pair-requires-clause-lengths : goal.combine_pair-requires-clause-lengths
+combine_pair-requires-clause-lengths g c =
+    let kepts = c.args.kepts.now in
+    let places = c.as_slice-places.result.now in
+    let columns = c.args.permit.now.columns in
+    let within = place_of_kept c.args.signs.now kepts c.args.negatives.now.places.items places c.loop-m.m c.requires.count c.requires.negatives.places c.as_slice-places.ensures.value c.loop-m-test.true in
+    read_width kepts c.args.i columns c.index-kepts-i.result c.requires.in_range c.index-kepts-i.is c.requires.widths
+    ∙ sym (read_width kepts (get_or places c.loop-m.m 0) columns c.index-kepts-j.result within c.index-kepts-j.is c.requires.widths)
+
+pub combine_pair-requires-clause-some_u : goal.combine_pair-requires-clause-some_u
+combine_pair-requires-clause-some_u g c =
+    let within = subst (λ n. c.args.i < n) (sym c.requires.count) c.requires.in_range in
+    (sign_bounds MAX_ENTRY c.args.signs.now c.args.i _ c.requires.bounded within c.requires.positive).0
+
+pub combine_pair-requires-clause-most_u : goal.combine_pair-requires-clause-most_u
+combine_pair-requires-clause-most_u g c =
+    let within = subst (λ n. c.args.i < n) (sym c.requires.count) c.requires.in_range in
+    (sign_bounds MAX_ENTRY c.args.signs.now c.args.i _ c.requires.bounded within c.requires.positive).1
+
+pub combine_pair-requires-clause-some_w : goal.combine_pair-requires-clause-some_w
+combine_pair-requires-clause-some_w g c =
+    let places = c.as_slice-places.result.now in
+    let within = place_within c.args.signs.now c.args.negatives.now.places.items places c.loop-m.m c.requires.negatives.places c.as_slice-places.ensures.value c.loop-m-test.true in
+    (sign_bounds MAX_ENTRY c.args.signs.now (get_or places c.loop-m.m 0) _ c.requires.bounded within c.in-Negative.is).0
+
+pub combine_pair-requires-clause-most_w : goal.combine_pair-requires-clause-most_w
+combine_pair-requires-clause-most_w g c =
+    let places = c.as_slice-places.result.now in
+    let within = place_within c.args.signs.now c.args.negatives.now.places.items places c.loop-m.m c.requires.negatives.places c.as_slice-places.ensures.value c.loop-m-test.true in
+    (sign_bounds MAX_ENTRY c.args.signs.now (get_or places c.loop-m.m 0) _ c.requires.bounded within c.in-Negative.is).1
+
+pub first_near-m-requires-in-loop-m-clause-start : goal.first_near-m-requires-in-loop-m-clause-start
+first_near-m-requires-in-loop-m-clause-start g c =
+    place_next (rays_of c.args.kepts.now) c.args.permit.now.columns c.args.negatives.now.places.items c.as_slice-places.result.now c.args.negatives.now.table c.loop-m.m
+    c.requires.negatives.table c.as_slice-places.ensures.value c.loop-m-test.true
+
+pub first_near-m-requires-in-loop-m-clause-first : goal.first_near-m-requires-in-loop-m-clause-first
+first_near-m-requires-in-loop-m-clause-first g c =
+    let kepts = c.args.kepts.now in
+    width_read c.index-kepts-i.result _ c.args.permit.now.columns _ (ray_read kepts c.args.i c.index-kepts-i.result c.requires.in_range c.index-kepts-i.is)
+    (ray_width kepts c.args.i c.args.permit.now.columns c.requires.in_range c.requires.widths) c.requires.negatives.table.width
+
+pub loop-m-smaller : goal.loop-m-smaller
+loop-m-smaller g c = fewer_left c.args.negatives.now.places.items c.as_slice-places.result.now c.loop-m.m c.first_near-m-in-loop-m.result c.as_slice-places.ensures.value c.loop-m-test.true c.first_near-m-in-loop-m.ensures.least
+
+pub is_face-requires-clause-joined : goal.is_face-requires-clause-joined
+is_face-requires-clause-joined g c = c.in_ok-columns.ensures
+
+pub is_face-requires-clause-rivals : goal.is_face-requires-clause-rivals
+is_face-requires-clause-rivals g c = c.loop-m.invariant.rivals
+
+pub joined_at-requires-clause-partners : goal.joined_at-requires-clause-partners
+joined_at-requires-clause-partners g c = c.requires.partners
+
+pub joined_at-requires-clause-widths : goal.joined_at-requires-clause-widths
+joined_at-requires-clause-widths g c = c.requires.widths
+
+pub joined_at-requires-clause-in_range : goal.joined_at-requires-clause-in_range
+joined_at-requires-clause-in_range g c = c.requires.in_range
+
+pub first_near-m-requires-in-loop-m-clause-second : goal.first_near-m-requires-in-loop-m-clause-second
+first_near-m-requires-in-loop-m-clause-second g c =
+    joined_width c.args.permit.now.clashes.items c.args.kepts.now c.args.i c.args.permit.now.columns c.in_ok-columns.columns c.requires.in_range c.requires.widths c.in_ok-columns.ensures
+    ∙ sym c.requires.negatives.table.width
+
+pub returns-in_err-columns-clause-made : goal.returns-in_err-columns-clause-made
+returns-in_err-columns-clause-made g c = let p = err_from_is_err_and c.from_residual.result c.from_residual.ensures.1 in rw p.1 tt
+
+pub returns-in_err-columns-clause-widths : goal.returns-in_err-columns-clause-widths
+returns-in_err-columns-clause-widths g c = let p = err_from_is_err_and c.from_residual.result c.from_residual.ensures.1 in rw p.1 tt
+
+pub returns-in_err-columns-clause-rivals : goal.returns-in_err-columns-clause-rivals
+returns-in_err-columns-clause-rivals g c = let p = err_from_is_err_and c.from_residual.result c.from_residual.ensures.1 in rw p.1 tt
+
+pub returns-in_err-is_face-clause-made : goal.returns-in_err-is_face-clause-made
+returns-in_err-is_face-clause-made g c = let p = err_from_is_err_and c.from_residual-in_err-is_face.result c.from_residual-in_err-is_face.ensures.1 in rw p.1 tt
+
+pub returns-in_err-is_face-clause-widths : goal.returns-in_err-is_face-clause-widths
+returns-in_err-is_face-clause-widths g c = let p = err_from_is_err_and c.from_residual-in_err-is_face.result c.from_residual-in_err-is_face.ensures.1 in rw p.1 tt
+
+pub returns-in_err-is_face-clause-rivals : goal.returns-in_err-is_face-clause-rivals
+returns-in_err-is_face-clause-rivals g c = let p = err_from_is_err_and c.from_residual-in_err-is_face.result c.from_residual-in_err-is_face.ensures.1 in rw p.1 tt
+
+pub returns-in_err-kept-clause-made : goal.returns-in_err-kept-clause-made
+returns-in_err-kept-clause-made g c = let p = err_from_is_err_and c.from_residual-in_err-kept.result c.from_residual-in_err-kept.ensures.1 in rw p.1 tt
+
+pub returns-in_err-kept-clause-widths : goal.returns-in_err-kept-clause-widths
+returns-in_err-kept-clause-widths g c = let p = err_from_is_err_and c.from_residual-in_err-kept.result c.from_residual-in_err-kept.ensures.1 in rw p.1 tt
+
+pub returns-in_err-kept-clause-rivals : goal.returns-in_err-kept-clause-rivals
+returns-in_err-kept-clause-rivals g c = let p = err_from_is_err_and c.from_residual-in_err-kept.result c.from_residual-in_err-kept.ensures.1 in rw p.1 tt
+
+pub returns-in_err-push-clause-made : goal.returns-in_err-push-clause-made
+returns-in_err-push-clause-made g c = let p = err_from_is_err_and c.from_residual-in_err-push.result c.from_residual-in_err-push.ensures.1 in rw p.1 tt
+
+pub returns-in_err-push-clause-widths : goal.returns-in_err-push-clause-widths
+returns-in_err-push-clause-widths g c = let p = err_from_is_err_and c.from_residual-in_err-push.result c.from_residual-in_err-push.ensures.1 in rw p.1 tt
+
+pub returns-in_err-push-clause-rivals : goal.returns-in_err-push-clause-rivals
+returns-in_err-push-clause-rivals g c = let p = err_from_is_err_and c.from_residual-in_err-push.result c.from_residual-in_err-push.ensures.1 in rw p.1 tt
+
+pub returns-clause-widths : goal.returns-clause-widths
+returns-clause-widths g c = c.loop-m.invariant.widths
+
+pub returns-clause-rivals : goal.returns-clause-rivals
+returns-clause-rivals g c = c.loop-m.invariant.rivals

@@ -1,14 +1,14 @@
 -- The first vector that is refused is told, or the sums by the list of the vertex surfaces, or the step past the limit.
 use Rattle.std.proofs.Common.{ℕ, List, sym, ap, ◌∙◌, subst}
 use Rattle.outcome_definitions.specs.Enumerations.{large_outcome}
-use Rattle.command_answers.proofs.Results.{if_ok}
+use Rattle.std.proofs.lemmas.Result.{IfOk-weaker}
 use Rattle.command_answers.specs.Reads.{all_entries}
 use Rattle.sum_commands.specs.Telling.{HaveRays, TellsList}
 use Rattle.sum_commands.proofs.Decomposed.{have_rays, unfit_told, sums_told, past_told}
 use Rattle.sum_commands.proofs.decompose_command.answer_by.Goals as goal
 
 pub returns-in-Err : goal.returns-in-Err
-returns-in-Err c = if_ok c.refusal_outcome.result _ _
+returns-in-Err c = IfOk-weaker c.refusal_outcome.result _ _
     (λ o e. unfit_told c.args.coords c.args.table.now c.args.system.now.rows c.requires.equations c.args.limit (all_entries c.args.vectors.now)
     c.in-Err.first.number c.in-Err.first.fault o c.in-Err.ensures e)
     c.refusal_outcome.ensures
@@ -20,14 +20,14 @@ summed-requires-clause-rays c =
     c.args.system.now.columns c.in-Ok.list.items (all_entries c.args.vectors.now) c.requires.columns c.in-Ok.ensures.ok c.in_default.ensures)
 
 pub returns-in-Ok : goal.returns-in-Ok
-returns-in-Ok c = if_ok c.summed.result _ _
+returns-in-Ok c = IfOk-weaker c.summed.result _ _
     (λ o t. sums_told c.args.coords c.args.table.now c.args.system.now.rows c.requires.equations c.args.limit
     c.in-Ok.list.items (all_entries c.args.vectors.now) o c.in-Ok.ensures.ok c.in_default.ensures
     (subst (λ (list : List (List ℕ)). TellsList c.args.limit list c.args.table.now (all_entries c.args.vectors.now) o) c.deref.ensures.value t))
     c.summed.ensures
 
 pub returns-in-Err-Large : goal.returns-in-Err-Large
-returns-in-Err-Large c = let refused = rw c.in-Err-Large.field-0-is at c.in-Err-Large.ensures.err in if_ok c.large_outcome.result _ _
+returns-in-Err-Large c = let refused = rw c.in-Err-Large.field-0-is at c.in-Err-Large.ensures.err in IfOk-weaker c.large_outcome.result _ _
     (λ o e. past_told c.args.coords c.args.table.now c.args.system.now.rows c.requires.equations c.args.limit
     c.in-Err-Large.order c.in-Err-Large.kind (all_entries c.args.vectors.now) o refused c.in_default.ensures
     (e ∙ ap (λ (taken : List ℕ). large_outcome taken c.in-Err-Large.kind) c.deref-in-Err-Large.ensures.value))

@@ -1,7 +1,7 @@
 -- The sums are told, or the first that gets too large.
 use Rattle.std.proofs.Common.{Ok, Err, ℕ, List, ap, ◌∙◌, subst}
 use Rattle.no_memory.specs.declared.Failure.{Failure}
-use Rattle.command_answers.proofs.Results.{if_ok}
+use Rattle.std.proofs.lemmas.Result.{IfOk-weaker}
 use Rattle.command_answers.specs.Reads.{all_entries}
 use Rattle.outcome_definitions.specs.declared.Status.TheVariants.{Done}
 use Rattle.sum_definitions.specs.declared.LargeTurn.{LargeTurn}
@@ -13,7 +13,7 @@ pub returns-in-Ok : goal.returns-in-Ok
 returns-in-Ok c = (Ok c.in-Ok.ensures.told, c.in-Ok.ensures.sums, c.built.ensures ∙ ap (λ (t : List ℕ). record { status = Done; text = t }) c.in-Ok.ensures.lines)
 
 pub returns-in-Err-Fault : goal.returns-in-Err-Fault
-returns-in-Err-Fault c = if_ok c.refusal_outcome.result _ _
+returns-in-Err-Fault c = IfOk-weaker c.refusal_outcome.result _ _
     (λ o e. (
       Err (c.in-Err-Fault.first.number, (c.in-Err-Fault.first.fault.turn, c.in-Err-Fault.first.fault.column)),
       subst (λ (f : Failure (FirstFault LargeTurn)). TellsSums c.args.limit c.args.list.now c.args.table.now (all_entries c.args.vectors.now) (Err f)) c.in-Err-Fault.field-0-is c.in-Err-Fault.ensures,

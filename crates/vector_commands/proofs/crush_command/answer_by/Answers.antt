@@ -1,15 +1,15 @@
 -- The crushed table is told, or why the vector is refused.
 use Rattle.std.proofs.Common.{sym}
-use Rattle.command_answers.proofs.Results.{if_ok}
+use Rattle.std.proofs.lemmas.Result.{IfOk-weaker}
 use Rattle.vector_commands.proofs.CrushAnswers.{crushed_told, unfit_told}
 use Rattle.vector_commands.proofs.crush_command.answer_by.Goals as goal
 
 pub returns-in-Ok : goal.returns-in-Ok
-returns-in-Ok c = if_ok c.crushed.result _ _
+returns-in-Ok c = IfOk-weaker c.crushed.result _ _
     (λ o h. crushed_told c.args.table.now c.args.system.now.rows c.args.x.now o c.requires.equations (sym c.in-Ok.ensures.verdict) h)
     c.crushed.ensures
 
 pub returns-in-Err : goal.returns-in-Err
-returns-in-Err c = if_ok c.refusal_outcome.result _ _
+returns-in-Err c = IfOk-weaker c.refusal_outcome.result _ _
     (λ o h. unfit_told c.args.table.now c.args.system.now.rows c.args.x.now o c.requires.equations c.in-Err.fault (sym c.in-Err.ensures.verdict) h)
     c.refusal_outcome.ensures

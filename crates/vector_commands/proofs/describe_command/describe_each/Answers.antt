@@ -5,7 +5,7 @@ use Rattle.vector_definitions.specs.Answers.{IsDescription}
 use Rattle.vector_definitions.specs.Texts.{description_text}
 use Rattle.vector_commands.specs.Telling.{TellsEach}
 use Rattle.vector_commands.specs.declared.refusals.FirstRefused.{FirstRefused}
-use Rattle.command_answers.proofs.Results.{if_ok}
+use Rattle.std.proofs.lemmas.Result.{IfOk-weaker}
 use Rattle.command_answers.specs.Reads.{all_entries}
 use Rattle.vector_commands.proofs.DescribeAnswers.{described_told, describe_refused}
 use Rattle.vector_commands.proofs.describe_command.describe_each.Goals as goal
@@ -17,7 +17,7 @@ returns-in-Ok c =
 
 pub returns-in-Err-Fault : goal.returns-in-Err-Fault
 returns-in-Err-Fault c =
-    if_ok c.refusal_outcome.result _ _
+    IfOk-weaker c.refusal_outcome.result _ _
     (λ o h. describe_refused c.args.skeleton.now c.args.coords c.args.system.now.rows (all_entries c.args.vectors.now) o
     c.requires.equations c.in-Err-Fault.first.vector c.in-Err-Fault.first.refusal
     (subst (λ (e : Failure FirstRefused). TellsEach (IsDescription c.args.skeleton.now c.args.coords c.args.system.now.rows) (description_text c.args.skeleton.now c.args.coords) (all_entries c.args.vectors.now) (Err e)) c.in-Err-Fault.field-0-is c.in-Err-Fault.ensures) h)

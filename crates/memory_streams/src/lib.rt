@@ -1,10 +1,13 @@
-// A source and a sink over memory, which fail where they are told to, and a source that never fails.
-ghost use Rattle.std.specs.Prelude.{◌≡◌, ◌↔◌, ◌⊎◌, ◌+◌, ◌-◌, ◌<◌, ◌≤◌, ℕ, List, [], ◌++◌, length, take, drop, min, Some, Contains, IfOk, OnErr, IsErr, IsOk};
+//! A source and a sink over memory, which fail where they are told to: for tests.
+#![tactic(auto)]
+
+ghost use Rattle.std.specs.Prelude.{◌≡◌, ◌↔◌, ◌⊎◌, ◌-◌, ◌<◌, ◌≤◌, [], ◌++◌, length, take, drop, min, Some, Contains, IfOk, OnErr, IsErr};
 ghost use Rattle.text_io.specs.Causes.{next_count};
 
-use crate::{Failed, NoMemory, Sink, Source};
+use no_memory::NoMemory;
 use std::alloc::Global;
 use std::marker::Model;
+use text_io::{Failed, Sink, Source, copy_front};
 
 /// A source over memory. It fails at the calls whose numbers are listed, from 1, and gives at most `most` bytes a call.
 #[derive(Drop)]
@@ -19,7 +22,7 @@ pub struct MemorySource {
 
 impl Model for MemorySource {
     ghost use Rattle.std.specs.Prelude.{◌<◌, ◌≤◌, drop, length};
-    ghost use Rattle.text_io.specs.Memory.{MemoryInput};
+    ghost use Rattle.memory_streams.specs.Memory.{MemoryInput};
 
     ghost Value = { MemoryInput };
 
@@ -29,6 +32,8 @@ impl Model for MemorySource {
 }
 
 impl MemorySource {
+    /// The source of these bytes. It fails at the calls of these numbers, counted from 1, and gives at most `most` bytes a
+    /// call.
     pub fn new(bytes: Vec<u8>, failing: Vec<u64>, most: usize) -> MemorySource
         requires { 0 < most }
         ensures { result ≡ record { left = bytes.items; failing = failing.items; most = most; calls = 0; faults = 0 } }
@@ -70,60 +75,6 @@ impl Source for MemorySource {
     }
 }
 
-/// A source over memory that never fails.
-#[derive(Drop)]
-pub struct SteadySource {
-    bytes: Vec<u8>,
-    at: usize,
-}
-
-impl Model for SteadySource {
-    ghost use Rattle.std.specs.Prelude.{◌≤◌, ℕ, List, drop, length};
-
-    ghost Value = { List ℕ };
-
-    ghost view = { λ s. drop s.at s.bytes.items };
-
-    ghost invariant = { λ s. s.at ≤ length s.bytes.items };
-}
-
-impl SteadySource {
-    pub fn new(bytes: Vec<u8>) -> SteadySource
-        ensures { result ≡ bytes.items }
-    {
-        SteadySource { bytes, at: 0 }
-    }
-}
-
-impl Source for SteadySource {
-    ghost left = { λ s. Some s };
-
-    ghost faults = { λ _. 0 };
-
-    fn read(&mut self, buf: &mut [u8]) -> Result<usize, Failed>
-        requires { 0 < length buf.old }
-        ensures never { IsOk result }
-        ensures gives { IfOk result (λ n. n ≡ min (length buf.old) (length self.old)) }
-        ensures bytes { IfOk result (λ n. take n buf.new ≡ take n self.old) }
-        ensures rest { IfOk result (λ n. self.new ≡ drop n self.old) }
-        ensures end { IfOk result (λ n. (n ≡ 0) ↔ (self.old ≡ [])) }
-    {
-        let count = copy_front(&self.bytes[self.at..], buf, usize::MAX);
-        self.at += count;
-        Ok(count)
-    }
-}
-
-// Copies the first bytes, at most `most`, into the front of the buffer.
-fn copy_front(bytes: &[u8], buf: &mut [u8], most: usize) -> usize
-    ensures count { result ≡ min (min (length buf.old) most) (length bytes.now) }
-    ensures copied { take result buf.new ≡ take result bytes.now }
-{
-    let count = buf.len().min(most).min(bytes.len());
-    buf[..count].copy_from_slice(&bytes[..count]);
-    count
-}
-
 /// A sink over memory. It fails at the calls whose numbers are listed, from 1, and where no room is left, and takes at
 /// most `most` bytes a call. Its room is taken when it is made.
 #[derive(Drop)]
@@ -138,7 +89,7 @@ pub struct MemorySink {
 
 impl Model for MemorySink {
     ghost use Rattle.std.specs.Prelude.{◌<◌, ◌≤◌, length, vec_capacity};
-    ghost use Rattle.text_io.specs.Memory.{MemoryOutput};
+    ghost use Rattle.memory_streams.specs.Memory.{MemoryOutput};
 
     ghost Value = { MemoryOutput };
 
@@ -148,6 +99,8 @@ impl Model for MemorySink {
 }
 
 impl MemorySink {
+    /// An empty sink with room for so many bytes. It fails at the calls of these numbers, counted from 1, and takes at most
+    /// `most` bytes a call.
     pub fn new(
         alloc: Global,
         room: usize,
@@ -167,6 +120,7 @@ impl MemorySink {
         })
     }
 
+    /// The bytes that it took.
     pub fn bytes(&self) -> &[u8]
         ensures { result.now ≡ self.now.held }
     {

@@ -3,7 +3,7 @@ use Rattle.cone_core.specs.declared.numbers.TheConstants.{MAX_ENTRY}
 use Rattle.double_description.specs.Kepts.{rays_of, AreOfWidth}
 use Rattle.double_description.specs.Signs.{IsMadeUpTo}
 use Rattle.double_description.specs.Rivals.{HaveRivals}
-use Rattle.ray_pairs.proofs.made.made_in_turn.Given as goal
+use Rattle.ray_pairs.proofs.made.combine_all.Given as goal
 
 abbrev pub invariant-loop-i : goal.invariant-loop-i
 invariant-loop-i g l = record {
