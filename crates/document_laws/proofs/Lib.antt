@@ -38,7 +38,8 @@ pub mod MoveWays
 pub mod FirstMoves
 pub mod HaveText
 pub mod BlockReading
-pub mod BlockFinding
+pub mod Chains
+pub mod Links
 pub mod SumDocuments
 pub mod BlockWays
 pub mod FirstBlocks
