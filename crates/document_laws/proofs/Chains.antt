@@ -1,7 +1,7 @@
 -- Readers that are written out as a chain of calls: where one is refused, no more is seen than what stands before the fault and the
 -- sign there, and what stands before it can be gone on with. A law for each link of a chain, and no form as data.
-use Rattle.std.proofs.Common.{◌≡◌, ℕ, List, [], Result, Ok, refl, ap, ◌∙◌, subst}
-use Rattle.std.specs.Prelude.{⊤}
+use Rattle.std.proofs.Common.{◌≡◌, ℕ, List, [], Result, Ok, Err, refl, ap, ◌∙◌, subst}
+use Rattle.std.specs.Prelude.{⊤, codes}
 use Rattle.text_definitions.specs.Written.{limit}
 use Rattle.text_definitions.specs.declared.LexKind.{LexKind}
 use Rattle.text_definitions.specs.declared.LexFault.{LexFault}
@@ -12,9 +12,9 @@ use Rattle.document_definitions.specs.Signs.{Sign}
 use Rattle.document_laws.proofs.Local.{shows, Goes, goes_chained, goes_pure, alone, alone_bind}
 use Rattle.document_laws.proofs.LocalWords.{as_is, word_with, ending, goes_word, goes_end}
 use Rattle.document_laws.proofs.LocalLines.{next_line, goes_line}
-use Rattle.document_laws.proofs.LocalForms.{exact_test, exact_word, goes_number, goes_numbers}
+use Rattle.document_laws.proofs.LocalForms.{exact_test, exact_word, exactly, plain_test, number_word, goes_numbers}
 use Rattle.document_laws.proofs.Ways.{Sat, From, Well, WellOpen, Alike, alike_goes, line_before, again_from, sat_both, well_free, well_goes, well_open, well_behind, from_sat, sat_mapped, well_mapped, well_open_mapped}
-use Rattle.document_laws.proofs.WordWays.{free_word, sat_word, well_word, sat_end, well_end, free_line, well_line, free_number, sat_number, well_number}
+use Rattle.document_laws.proofs.WordWays.{free_word, sat_word, well_word, sat_end, well_end, free_line, well_line, naught_passes}
 use Rattle.document_laws.proofs.VectorWays.{well_numbers_in}
 
 abbrev pub Reader : Type 0 → Type 0
@@ -52,27 +52,16 @@ module _ {A B : Type 0} (test : List ℕ → Result A LexKind) (w : List ℕ) (x
     well = λ Aim k none a c. well_free as_is (word_with test) s Aim alike c (free_word test c) (well_word test (behind_word Aim) c (sat_first Aim k none a)) (λ y d e. (g y).well Aim k none a d);
   }
 
+-- so of readers that read a word with a test
+pub ends_tested : {A B : Type 0} (test : List ℕ → Result A LexKind) (r : Reader A) → ((c : Reading) → word_with test c ≡ r c) → (w : List ℕ) (x : A) → test w ≡ Ok x → (s : A → Reader B) → ((y : A) → Ends (s y)) → Ends (λ c. r c >>= λ (y : A × Reading). s y.0 y.1)
+ends_tested {A} {B} test r same w x passes s g = subst (λ (q : Reader B). Ends q) (λ i c. same c i >>= λ (y : A × Reading). s y.0 y.1) (ends_word test w x passes s g)
+
 pub ends_named : {A : Type 0} (w : List ℕ) (r : Reader A) → exact_test w w ≡ Ok tt → Ends r → Ends (λ c. exactly_at w c >>= r)
-ends_named {A} w r passes g =
-    subst (λ (q : Reader A). Ends q)
-    (λ i c. (ap (λ (q : Result (⊤ × Reading) LexFault). q >>= λ (u : ⊤ × Reading). r u.1) (exact_word w c) ∙ alone_bind (exactly_at w c) r) i)
-    (ends_word (exact_test w) w tt passes (λ u. r) (λ u. g))
+ends_named {A} w r passes g = subst (λ (q : Reader A). Ends q) (λ i c. alone_bind (exactly_at w c) r i) (ends_tested (exact_test w) (exactly w) (exact_word w) w tt passes (λ u. r) (λ u. g))
 
 -- a number, of which 0 is one
-module _ {A : Type 0} (max : ℕ) (s : ℕ → Reader A) (g : (n : ℕ) → Ends (s n)) where
-  abbrev behind_number : Aims A → Aims ℕ
-  behind_number Aim n ss = From (s n) Aim ss
-
-  alike_behind : (n : ℕ) → Alike (s n)
-  alike_behind n = alike_goes (s n) (g n).goes
-
-  pub ends_number : Ends (λ c. number_at max c >>= λ (n : ℕ × Reading). s n.0 n.1)
-  ends_number = record {
-    goes = λ c. goes_chained (number_at max) s c (goes_number max c) (λ n d e. (g n).goes d);
-    sat = λ Aim k none a. (let z = (g 0).sat Aim k none a in sat_both as_is (number_at max) s Aim alike_behind (sat_number max (behind_number Aim) z.start (from_sat (s 0) Aim z)));
-    well = λ Aim k none a c. (let z = (g 0).sat Aim k none a in
-        well_free as_is (number_at max) s Aim alike_behind c (free_number max c) (well_number max (behind_number Aim) c z.start (from_sat (s 0) Aim z)) (λ n d e. (g n).well Aim k none a d));
-  }
+pub ends_number : {A : Type 0} (max : ℕ) (s : ℕ → Reader A) → ((n : ℕ) → Ends (s n)) → Ends (λ c. number_at max c >>= λ (n : ℕ × Reading). s n.0 n.1)
+ends_number max s g = ends_tested (plain_test max) (number_at max) (number_word max) (codes "0") 0 (naught_passes max) s g
 
 pub ends_numbers : Ends (numbers_at limit)
 ends_numbers = record {
@@ -129,6 +118,11 @@ module _ {A B : Type 0} (make : A → B) (r : Reader A) where
         (record { start = s.0.start; value = make s.0.value; next = s.0.next; reads = ap (λ (q : Result (A × Reading) LexFault). q >>= λ (y : A × Reading). Ok (make y.0, y.1)) s.0.reads; aim = s.0.aim }, s.1));
     well = λ Aim k none a c. well_open_mapped r make Aim c (f.well (λ x ss. Aim (make x) ss) k none (λ x. a (make x)) c);
   }
+
+-- readers one after another, in whatever brackets
+pub bind_bind : {A B C E : Type 0} (r : Result A E) (f : A → Result B E) (g : B → Result C E) → ((r >>= f) >>= g) ≡ (r >>= λ (x : A). f x >>= g)
+bind_bind (Ok x) f g = refl
+bind_bind (Err e) f g = refl
 
 -- one after another on further lines
 abbrev pub join : {A B C : Type 0} → (A → B → C) → Reader A → Reader B → Reader C

@@ -119,7 +119,7 @@ well_line Aim c k a f e =
     (h.0, at_front.0, at_front.1)
 
 -- a number up to a limit, of which 0 is one
-naught_passes : (max : ℕ) → plain_test max (codes "0") ≡ Ok 0
+pub naught_passes : (max : ℕ) → plain_test max (codes "0") ≡ Ok 0
 unfolding number_test
 naught_passes max = ap (λ (b : Bool). if◌then◌else◌ {A = Result ℕ LexKind} b (Err NumberTooWide) (Ok 0)) (le-ltb max 0 (omega arith))
 
