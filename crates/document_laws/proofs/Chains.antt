@@ -71,15 +71,21 @@ ends_numbers = record {
 }
 
 -- the end of a line; the next line
-pub ends_line : {A : Type 0} (r : Reader A) → Opens r → Ends (λ c. end_line_at c >>= r)
-ends_line {A} r g =
+pub ends_ending : Ends ending
+ends_ending = record { goes = goes_end; sat = λ Aim k none a. sat_end Aim k none (a tt); well = λ Aim k none a c. well_end Aim c (sat_end Aim k none (a tt)) }
+
+pub ends_lines : {A : Type 0} (r : Reader A) → Opens r → Ends (λ c. ending c >>= λ (u : ⊤ × Reading). r u.1)
+ends_lines {A} r g =
     let end : (Aim : Aims A) (k : Reading) → k.current.tokens ≡ [] → ((x : A) → Aim x (shows k)) → Sat ending (λ u ss. From r Aim ss) =
     λ Aim k none a. (let t = g.sat Aim k none a in sat_end (λ u ss. From r Aim ss) t.0.start t.1 (from_sat r Aim t.0)) in
-    subst (λ (q : Reader A). Ends q) (λ i c. alone_bind (end_line_at c) r i) (record {
+    record {
       goes = λ c. goes_chained ending (λ u. r) c (goes_end c) (λ u d e. g.goes d);
       sat = λ Aim k none a. sat_both as_is ending (λ u. r) Aim (λ u. alike_goes r g.goes) (end Aim k none a);
       well = λ Aim k none a c. well_goes as_is ending (λ u. r) Aim (λ u. alike_goes r g.goes) c (goes_end c) (well_end (λ u ss. From r Aim ss) c (end Aim k none a)) (λ u d e. g.well Aim k none a d);
-    })
+    }
+
+pub ends_line : {A : Type 0} (r : Reader A) → Opens r → Ends (λ c. end_line_at c >>= r)
+ends_line {A} r g = subst (λ (q : Reader A). Ends q) (λ i c. alone_bind (end_line_at c) r i) (ends_lines r g)
 
 next_sat : {A : Type 0} (r : Reader A) (Aim : Aims A) → Sat r Aim → (s : Sat (λ c. next_line c >>= λ (u : ⊤ × Reading). r u.1) Aim) × (s.start.current.tokens ≡ [])
 unfolding line_before
@@ -88,13 +94,16 @@ next_sat r Aim s = (
   refl,
 )
 
-pub opens_line : {A : Type 0} (r : Reader A) → Ends r → Opens (λ c. need_line_at c >>= r)
-opens_line {A} r g = subst (λ (q : Reader A). Opens q) (λ i c. alone_bind (need_line_at c) r i) (record {
+pub opens_next : {A : Type 0} (r : Reader A) → Ends r → Opens (λ c. next_line c >>= λ (u : ⊤ × Reading). r u.1)
+opens_next r g = record {
   goes = λ c. goes_chained next_line (λ u. r) c (goes_line c) (λ u d e. g.goes d);
   sat = λ Aim k none a. next_sat r Aim (g.sat Aim k none a);
   well = λ Aim k none a c. (let s = g.sat Aim k none a in
       well_behind as_is next_line (λ u. r) Aim (λ u. alike_goes r g.goes) c (free_line c) (well_line (λ u ss. From r Aim ss) c s.start (from_sat r Aim s)) (λ u d e. g.well Aim k none a d));
-})
+}
+
+pub opens_line : {A : Type 0} (r : Reader A) → Ends r → Opens (λ c. need_line_at c >>= r)
+opens_line {A} r g = subst (λ (q : Reader A). Opens q) (λ i c. alone_bind (need_line_at c) r i) (opens_next r g)
 
 -- a value; what is made of one
 pub opens_pure : {A : Type 0} (x : A) → Opens (λ c. Ok (x, c))
@@ -165,3 +174,10 @@ module _ {A B C : Type 0} (make : A → B → C) (r : Reader A) (s : Reader B) (
     well = λ Aim k none a c. (let b = between Aim k none a in
         well_open as_is r second Aim alike_second c (f.goes c) (f.well (Between Aim) b.0 b.1 b.2 c) (λ x d p. (opens_made (make x) s g).well Aim k none a d));
   }
+
+whole : {A : Type 0} (r : Result (A × Reading) LexFault) → (r >>= λ (y : A × Reading). Ok (y.0, y.1)) ≡ r
+whole (Ok y) = refl
+whole (Err e) = refl
+
+pub opens_both : {A B : Type 0} (r : Reader A) (s : Reader B) → Opens s → Opens r → Opens (λ c. r c >>= λ (x : A × Reading). s x.1)
+opens_both {A} {B} r s g f = subst (λ (q : Reader B). Opens q) (λ i c. r c >>= λ (x : A × Reading). whole (s x.1) i) (opens_join (λ x y. y) r s g f)

@@ -28,7 +28,7 @@ use Rattle.document_laws.proofs.Ways.{Sat, From, Alike, alike_goes, Well, WellOp
 use Rattle.document_laws.proofs.WordWays.{free_line, well_line}
 use Rattle.document_laws.proofs.BlockWays.{ends_vector}
 use Rattle.document_laws.proofs.TextReaders.{Read, next_text, left_only, shown_only, copy_alone, copy_same, copy_worded, FaultsAs, faults_bind, copy_next_table}
-use Rattle.document_laws.proofs.TextWays.{SatBehind, in_next_line, goes_next_text, well_next_text}
+use Rattle.document_laws.proofs.TextWays.{SatBehind, in_next_line, opens_next_text}
 use Rattle.document_laws.proofs.TextGrammar.{text_blocks, begins, next_found}
 use Rattle.document_laws.proofs.TextEnds.{closing, Any, closing_none, none_closing, alike_closing, well_closing, alike_chained, nothing}
 use Rattle.document_laws.proofs.FirstFaults.{left_first, stands_first}
@@ -98,7 +98,7 @@ well_vector_behind c =
 
 well_read : (c : Reading) → WellOpen as_is read Any c
 well_read c =
-    well_open as_is next_text (λ u. vector_line) Any (λ u. alike_line) c (goes_next_text c) (well_next_text (λ u ss. From vector_line Any ss) sat_line.sat.start sat_line.none (from_sat vector_line Any sat_line.sat) c)
+    well_open as_is next_text (λ u. vector_line) Any (λ u. alike_line) c (opens_next_text.goes c) (opens_next_text.well (λ u ss. From vector_line Any ss) sat_line.sat.start sat_line.none (λ u. from_sat vector_line Any sat_line.sat) c)
     (λ u d e. well_vector_behind d)
 
 abbrev Given : (Reading → Read) → Reading → Type 0
