@@ -5,14 +5,13 @@ use Rattle.std.specs.List.{AllZip}
 use Rattle.text_definitions.specs.Text.{Line}
 use Rattle.text_definitions.specs.Written.{limit}
 use Rattle.text_definitions.specs.Reading.{Reading, numbers_at}
-use Rattle.plain_facts.proofs.Options.{ok_value}
 use Rattle.table_definitions.specs.Grammar.{AreWords, IsNumber}
 use Rattle.surface_definitions.specs.Grammar.{IsVectorLine}
 use Rattle.cone_text_definitions.specs.VectorText.{vector_at}
 use Rattle.sum_definitions.specs.Sums.{Term}
 use Rattle.document_definitions.specs.Blocks.{Block, most_terms, term_at, terms_at, times_at, block_at, IsTermLine, IsTimesLine, AreBlockLines}
 use Rattle.document_laws.proofs.Chains.{made}
-use Rattle.document_laws.proofs.Links.{OnLine, Below, ReadsOn, ReadsBelow, below_as, on_named, on_number, on_numbers, on_end, on_join, on_made, below_line, below_join, below_made}
+use Rattle.document_laws.proofs.Links.{AreLines, below_none, below_more, OnLine, Below, ReadsOn, ReadsBelow, below_as, on_named, on_number, on_numbers, on_end, on_join, on_made, below_line, below_made}
 
 abbrev IsTerm : Below Term
 IsTerm term ls rest = (l : Line) × (ls ≡ l ∷ rest) × IsTermLine l term
@@ -31,30 +30,12 @@ below_term =
 
 -- so many lines of terms
 abbrev AreTerms : ℕ → Below (List Term)
-AreTerms n terms ls rest = (lines : List Line) × (ls ≡ lines ++ rest) × AllZip IsTermLine lines terms × (length terms ≡ n)
-
-none_found : (terms : List Term) (c : Reading) (rest : List Line) → AreTerms 0 terms c.later rest → (d : Reading) × (terms_at 0 c ≡ Ok (terms, d)) × (d.later ≡ rest)
-unfolding terms_at
-none_found [] c rest ([], split, z, many) = (c, refl, split)
-none_found [] c rest (l ∷ lines, split, z, many) = absurd z
-none_found (term ∷ terms) c rest (lines, split, z, many) = absurd cc
-
-one_more : (n : ℕ) (terms : List Term) (ls rest : List Line) → AreTerms (suc n) terms ls rest → (x : Term) × (xs : List Term) × (middle : List Line) × (x ∷ xs ≡ terms) × IsTerm x ls middle × AreTerms n xs middle rest
-one_more n [] ls rest (lines, split, z, many) = absurd cc
-one_more n (x ∷ xs) ls rest ([], split, z, many) = absurd z
-one_more n (x ∷ xs) ls rest (l ∷ lines, split, z, many) = (x, xs, lines ++ rest, refl, (l, split, z.0), (lines, refl, z.1, cc))
+AreTerms n terms ls rest = AreLines IsTermLine n terms ls rest
 
 below_terms : (n : ℕ) → ReadsBelow (terms_at n) (AreTerms n)
 unfolding terms_at
-below_terms zero = record {
-  sound = λ c x d e. subst (λ (q : List Term × Reading). AreTerms 0 q.0 c.later q.1.later) (sym (ok_value ([], c) (x, d) e)) ([], refl, tt, refl);
-  complete = λ c terms rest h. none_found terms c rest h;
-}
-below_terms (suc n) =
-    below_as (terms_at (suc n)) _ (AreTerms (suc n))
-    (λ terms ls rest (x, xs, middle, same, (l, split, h), (lines, t, z, many)).
-    subst (λ (ts : List Term). AreTerms (suc n) ts ls rest) same (l ∷ lines, split ∙ ap (λ (ks : List Line). l ∷ ks) t, (h, z), ap suc many))
-    (one_more n) (below_join (λ x xs. x ∷ xs) term_at (terms_at n) IsTerm (AreTerms n) below_term (below_terms n))
+below_terms zero = below_none IsTermLine
+below_terms (suc n) = below_more IsTermLine n term_at (terms_at n) below_term (below_terms n)
 
 -- a line `times S T` and its terms
 abbrev AreTimes : Below (ℕ × List Term)

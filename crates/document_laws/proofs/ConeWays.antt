@@ -20,13 +20,13 @@ naught_signed = refl
 
 -- so many coefficients, and what reads behind them
 module _ {B : Type 0} where
-  abbrev behind : ℕ → (List ℤ → Reader B) → Reader B
+  abbrev pub behind : ℕ → (List ℤ → Reader B) → Reader B
   behind n more c = coefficients_at n c >>= λ (r : Row). more r.0 r.1
 
-  abbrev behind_first : ℕ → (List ℤ → Reader B) → ℤ → Reader B
+  abbrev pub behind_first : ℕ → (List ℤ → Reader B) → ℤ → Reader B
   behind_first n more z c = behind n (λ r. more (z ∷ r)) c
 
-  one_first : (n : ℕ) (more : List ℤ → Reader B) (c : Reading) → (signed_at 1000000 c >>= λ (z : ℤ × Reading). behind_first n more z.0 z.1) ≡ behind (suc n) more c
+  pub one_first : (n : ℕ) (more : List ℤ → Reader B) (c : Reading) → (signed_at 1000000 c >>= λ (z : ℤ × Reading). behind_first n more z.0 z.1) ≡ behind (suc n) more c
   unfolding coefficients_at
   one_first n more c =
       ap (λ (h : ℤ → Reader B). signed_at 1000000 c >>= λ (z : ℤ × Reading). h z.0 z.1) (λ i z d. sym (bind_bind (coefficients_at n d) (λ (r : Row). Ok (z ∷ r.0, r.1)) (λ (r : Row). more r.0 r.1)) i)
@@ -52,7 +52,7 @@ opens_cone_rows : (columns n : ℕ) → Opens (rows_of_cone_at columns n)
 opens_cone_rows zero n = opens_pure (replicate n [])
 opens_cone_rows (suc columns) n = opens_rows n (suc columns)
 
-abbrev cone_of : ℕ → List (List ℤ) → Cone
+abbrev pub cone_of : ℕ → List (List ℤ) → Cone
 cone_of columns rows = record { columns = columns; rows = rows }
 
 pub ends_cone : Ends cone_at

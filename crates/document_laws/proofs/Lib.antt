@@ -3,7 +3,6 @@ pub mod LineLaws
 pub mod SignedLaws
 pub mod ConeSteps
 pub mod ConeReading
-pub mod ConeFinding
 pub mod Blocks
 pub mod Cones
 pub mod Tables

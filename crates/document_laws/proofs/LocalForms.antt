@@ -58,9 +58,6 @@ signed_word max c =
     (λ (w : List ℕ × Reading). number_up_to max (decimal_value (magnitude w.0)) w.1 >>= λ (n : ℕ × Reading). Ok (with_sign (is_negative w.0) n.0, n.1))
     (λ w. number_tested (λ n. with_sign (is_negative w.0) n) max (decimal_value (magnitude w.0)) w.1)
 
-pub goes_signed : (max : ℕ) (c : Reading) → Goes (signed_at max) c
-goes_signed max c = goes_same (word_with (signed_test max)) (signed_at max) (signed_word max) c (goes_word (signed_test max) c)
-
 -- a word that has to stand there
 unfoldable pub exact_test : List ℕ → List ℕ → Result ⊤ LexKind
 exact_test wanted w = if same_word w wanted then Ok tt else Err BadWord
@@ -80,9 +77,6 @@ exact_word wanted c = by_word (word_at c)
         ≡ alone (r >>= λ (w : List ℕ × Reading). if same_word w.0 wanted then Ok w.1 else Err (word_fault w.1 BadWord))
     by_word (Ok w) = by_test w (same_word w.0 wanted)
     by_word (Err f) = refl
-
-pub goes_exactly : (wanted : List ℕ) (c : Reading) → Goes (exactly wanted) c
-goes_exactly wanted c = goes_same (word_with (exact_test wanted)) (exactly wanted) (exact_word wanted) c (goes_word (exact_test wanted) c)
 
 -- numbers to the end of a line
 abbrev pub others_with : ℕ → ℕ → Reading → Result Numbers LexFault
