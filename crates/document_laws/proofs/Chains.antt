@@ -1,5 +1,5 @@
 -- Readers that are written out as a chain of calls: where one is refused, no more is seen than what stands before the fault and the
--- sign there, and what stands before it can be gone on with. A law for each link of a chain, and no form as data.
+-- sign there, and what stands before it can be gone on with. There is a law for each call of a chain.
 use Rattle.std.proofs.Common.{◌≡◌, ℕ, List, [], Result, Ok, Err, refl, ap, ◌∙◌, subst}
 use Rattle.std.specs.Prelude.{⊤, codes}
 use Rattle.text_definitions.specs.Written.{limit}
