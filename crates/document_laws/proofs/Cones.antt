@@ -10,8 +10,7 @@ use Rattle.document_definitions.specs.ConeGrammar.{AreConeLines}
 use Rattle.document_definitions.specs.Documents.{cone_document, no_line_at}
 use Rattle.table_definitions.proofs.LineLaws.{BeginsLine, line_begun}
 use Rattle.document_laws.specs.ConeLaws.{ReadsCone}
-use Rattle.document_laws.proofs.ConeReading.{ConeRead, cone_read}
-use Rattle.document_laws.proofs.ConeFinding.{ReadsLines, cone_found}
+use Rattle.document_laws.proofs.ConeReading.{ConeRead, cone_read, ReadsLines, cone_found}
 use Rattle.document_laws.proofs.Blocks.{ReadsBlocks, ReadsEnd, document_sound, closed_complete}
 
 -- a cone on the next lines

@@ -9,7 +9,7 @@ use Rattle.document_definitions.specs.TextForms.{AreTableAndStepsText, AreTableA
 use Rattle.document_laws.specs.FormLaws.{FaultsStandFirst}
 use Rattle.document_laws.specs.FaultLaws.{StepsFaultsLeaveFirst, MovesFaultsLeaveFirst}
 use Rattle.document_laws.proofs.Blocks.{ReadsLine}
-use Rattle.document_laws.proofs.MoveWays.{goes_move, well_move, goes_step, well_step}
+use Rattle.document_laws.proofs.MoveWays.{ends_move, ends_step}
 use Rattle.document_laws.proofs.FirstLines.{lines_faults_stand_first, lines_faults_leave_first}
 
 pub reads_moves : ReadsLine move_at IsMoveLine
@@ -25,13 +25,13 @@ reads_steps = record {
 }
 
 pub steps_faults_stand_first : FaultsStandFirst steps_document AreTableAndStepsText
-steps_faults_stand_first bytes f e = lines_faults_stand_first step_at IsStepLine reads_steps goes_step well_step bytes f e
+steps_faults_stand_first bytes f e = lines_faults_stand_first step_at IsStepLine reads_steps ends_step.goes ends_step.well bytes f e
 
 pub moves_faults_stand_first : FaultsStandFirst moves_document AreTableAndMovesText
-moves_faults_stand_first bytes f e = lines_faults_stand_first move_at IsMoveLine reads_moves goes_move well_move bytes f e
+moves_faults_stand_first bytes f e = lines_faults_stand_first move_at IsMoveLine reads_moves ends_move.goes ends_move.well bytes f e
 
 pub steps_faults_leave_first : StepsFaultsLeaveFirst
-steps_faults_leave_first bytes rows d f table e = lines_faults_leave_first step_at IsStepLine reads_steps goes_step well_step bytes rows d f table e
+steps_faults_leave_first bytes rows d f table e = lines_faults_leave_first step_at IsStepLine reads_steps ends_step.goes ends_step.well bytes rows d f table e
 
 pub moves_faults_leave_first : MovesFaultsLeaveFirst
-moves_faults_leave_first bytes rows d f table e = lines_faults_leave_first move_at IsMoveLine reads_moves goes_move well_move bytes rows d f table e
+moves_faults_leave_first bytes rows d f table e = lines_faults_leave_first move_at IsMoveLine reads_moves ends_move.goes ends_move.well bytes rows d f table e

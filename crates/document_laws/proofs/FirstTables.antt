@@ -21,7 +21,7 @@ use Rattle.document_laws.proofs.LocalLines.{by_lines}
 use Rattle.document_laws.proofs.LocalTables.{in_text}
 use Rattle.document_laws.proofs.Ways.{From, Alike, alike_goes, Well, WellOpen, well_open, from_sat}
 use Rattle.document_laws.proofs.TextReaders.{Read, text_at, next_text, left_only, Copies, copy_bind, copy_then, FaultsAs, faults_bind, copy_table, copy_next_table}
-use Rattle.document_laws.proofs.TextWays.{SatBehind, behind_both, goes_text, goes_next_text, well_text, well_next_text, sat_next_text}
+use Rattle.document_laws.proofs.TextWays.{SatBehind, behind_both, ends_text, opens_next_text}
 use Rattle.document_laws.proofs.TextGrammar.{text_taken, text_given, text_blocks}
 use Rattle.document_laws.proofs.TextEnds.{first_fault, closed_from, closing, Any, closing_none, none_closing, alike_closing, well_closing, alike_chained, AtEnd, nothing, each_from, well_each, each_sound, each_complete}
 use Rattle.document_laws.proofs.FirstFaults.{stands_first}
@@ -67,10 +67,10 @@ pub from_closing : From closing Any (shows nothing)
 from_closing = record { start = nothing; there = refl; value = tt; next = nothing; reads = refl; aim = tt }
 
 pub alike_one : Alike one_text
-alike_one = alike_chained next_text (λ u. closing) (alike_goes next_text goes_next_text) (λ u. alike_closing)
+alike_one = alike_chained next_text (λ u. closing) (alike_goes next_text opens_next_text.goes) (λ u. alike_closing)
 
 pub well_one : (c : Reading) → WellOpen as_is one_text Any c
-well_one c = well_open as_is next_text (λ u. closing) Any (λ u. alike_closing) c (goes_next_text c) (well_next_text ThenClosing nothing refl from_closing c) (λ u d e. well_closing d)
+well_one c = well_open as_is next_text (λ u. closing) Any (λ u. alike_closing) c (opens_next_text.goes c) (opens_next_text.well ThenClosing nothing refl (λ u. from_closing) c) (λ u d e. well_closing d)
 
 pub one_faults : {X : Type 0} (x : X) (c : Reading) → FaultsAs {X = X × List Row} in_text (next_table_at c >>= λ (s : List Row × Reading). end_at s.1 >>= λ (last : Reading). Ok (x, s.0)) (one_text c)
 one_faults {X} x c =
@@ -102,11 +102,11 @@ two_sound o u next e a =
     (t.0, (b.0).1.later, t.1, t.2, one_sound (b.0).1 u next b.2 a)
 
 sat_one : SatBehind one_text Any
-sat_one = behind_both next_text closing Any alike_closing (sat_next_text ThenClosing nothing refl from_closing)
+sat_one = behind_both next_text closing Any alike_closing (let s = opens_next_text.sat ThenClosing nothing refl (λ u. from_closing) in record { sat = s.0; none = s.1 })
 
 well_two : (c : Reading) → WellOpen as_is two_texts Any c
 well_two c =
-    well_open as_is next_text (λ u. one_text) Any (λ u. alike_one) c (goes_next_text c) (well_next_text (λ u ss. From one_text Any ss) sat_one.sat.start sat_one.none (from_sat one_text Any sat_one.sat) c) (λ u d e. well_one d)
+    well_open as_is next_text (λ u. one_text) Any (λ u. alike_one) c (opens_next_text.goes c) (opens_next_text.well (λ u ss. From one_text Any ss) sat_one.sat.start sat_one.none (λ u. from_sat one_text Any sat_one.sat) c) (λ u d e. well_one d)
 
 pub two_tables_faults_stand_first : FaultsStandFirst two_tables_document AreTwoTablesText
 unfolding two_tables_document
@@ -155,7 +155,7 @@ next_table b (zero, h) = absurd cc
 next_table b (suc n, h) = first_table b n h.0 h.1 h.2 h.3 h.4
 
 pub well_line_text : (Aim : ⊤ → List Sign → Type 0) (k : Reading) → k.current.tokens ≡ [] → ((x : ⊤) → Aim x (shows k)) → (c : Reading) → Well as_is text_at Aim c
-well_line_text Aim k none a c = well_text Aim k none (a tt) c
+well_line_text Aim k none a c = ends_text.well Aim k none a c
 
 pub many_sound : (most : List Line) (o : Reading) (u : ⊤) (next : Reading) → many_texts most o ≡ Ok (u, next) → AtEnd u (shows next) → AreTablesText o.later
 many_sound most o u next e a = each_sound text_at AreTablesText (0, refl) one_table most o u next e (a next refl)
@@ -165,7 +165,7 @@ unfolding tables_document
 tables_faults_stand_first bytes f e =
     let most : List Line = lines_of bytes in
     stands_first (many_texts most) AtEnd AreTablesText (each_complete text_at AreTablesText next_table most) (many_sound most) bytes f.place
-    (well_each text_at goes_text well_line_text most (start_of bytes) f
+    (well_each text_at ends_text.goes well_line_text most (start_of bytes) f
     (copied (tables_from most (start_of bytes)) (many_texts most (start_of bytes)) (copy_tables most (start_of bytes)) e))
   where
     copied : (r : Result Tables InputFault) (s : Read) → Copies in_text left_only r s → ◌≡◌ {A = Result (List (List Row)) InputFault} (r >>= λ (ts : Tables). Ok ts.0) (Err (in_text f)) → s ≡ Err f

@@ -23,13 +23,12 @@ use Rattle.document_laws.proofs.Documents.{reads_vectors, end_at}
 use Rattle.document_laws.proofs.Local.{shows}
 use Rattle.document_laws.proofs.LocalWords.{as_is}
 use Rattle.document_laws.proofs.LocalLines.{next_line, goes_line}
-use Rattle.document_laws.proofs.LocalForms.{goes_vector}
 use Rattle.document_laws.proofs.LocalTables.{in_text}
 use Rattle.document_laws.proofs.Ways.{Sat, From, Alike, alike_goes, Well, WellOpen, well_goes, well_open, well_behind, from_sat}
 use Rattle.document_laws.proofs.WordWays.{free_line, well_line}
-use Rattle.document_laws.proofs.VectorWays.{well_vector}
+use Rattle.document_laws.proofs.BlockWays.{ends_vector}
 use Rattle.document_laws.proofs.TextReaders.{Read, next_text, left_only, shown_only, copy_alone, copy_same, copy_worded, FaultsAs, faults_bind, copy_next_table}
-use Rattle.document_laws.proofs.TextWays.{SatBehind, in_next_line, goes_next_text, well_next_text}
+use Rattle.document_laws.proofs.TextWays.{SatBehind, in_next_line, opens_next_text}
 use Rattle.document_laws.proofs.TextGrammar.{text_blocks, begins, next_found}
 use Rattle.document_laws.proofs.TextEnds.{closing, Any, closing_none, none_closing, alike_closing, well_closing, alike_chained, nothing}
 use Rattle.document_laws.proofs.FirstFaults.{left_first, stands_first}
@@ -39,14 +38,11 @@ use Rattle.document_laws.proofs.FirstTables.{closing_faults, from_closing}
 use Rattle.document_laws.proofs.FirstLines.{lines_faults_stand_first, lines_faults_leave_first}
 use Rattle.document_laws.proofs.Given.{Numbers}
 
-well_vector_line : (Aim : List ℕ → List Sign → Type 0) (k : Reading) → k.current.tokens ≡ [] → ((xs : List ℕ) → Aim xs (shows k)) → (c : Reading) → Well as_is vector_at Aim c
-well_vector_line Aim k none a c = well_vector k none Aim a c
-
 pub vectors_faults_stand_first : FaultsStandFirst vectors_document AreTableAndVectorsText
-vectors_faults_stand_first bytes f e = lines_faults_stand_first vector_at IsVectorLine reads_vectors goes_vector well_vector_line bytes f e
+vectors_faults_stand_first bytes f e = lines_faults_stand_first vector_at IsVectorLine reads_vectors ends_vector.goes ends_vector.well bytes f e
 
 pub vectors_faults_leave_first : VectorsFaultsLeaveFirst
-vectors_faults_leave_first bytes rows d f table e = lines_faults_leave_first vector_at IsVectorLine reads_vectors goes_vector well_vector_line bytes rows d f table e
+vectors_faults_leave_first bytes rows d f table e = lines_faults_leave_first vector_at IsVectorLine reads_vectors ends_vector.goes ends_vector.well bytes rows d f table e
 
 -- one vector, and nothing more
 abbrev last_vector : Reading → Read
@@ -59,7 +55,7 @@ abbrev read : Reading → Read
 read c = next_text c >>= λ (u : ⊤ × Reading). vector_line u.1
 
 alike_last : Alike last_vector
-alike_last = alike_chained vector_at (λ v. closing) (alike_goes vector_at goes_vector) (λ v. alike_closing)
+alike_last = alike_chained vector_at (λ v. closing) (alike_goes vector_at ends_vector.goes) (λ v. alike_closing)
 
 alike_line : Alike vector_line
 alike_line = alike_chained next_line (λ u. last_vector) (alike_goes next_line goes_line) (λ u. alike_last)
@@ -68,7 +64,7 @@ abbrev ThenClosing : List ℕ → List Sign → Type 0
 ThenClosing v ss = From closing Any ss
 
 well_last : (c : Reading) → Well as_is last_vector Any c
-well_last c = well_goes as_is vector_at (λ v. closing) Any (λ v. alike_closing) c (goes_vector c) (well_vector nothing refl ThenClosing (λ v. from_closing) c) (λ v d e. well_closing d)
+well_last c = well_goes as_is vector_at (λ v. closing) Any (λ v. alike_closing) c (ends_vector.goes c) (ends_vector.well ThenClosing nothing refl (λ v. from_closing) c) (λ v d e. well_closing d)
 
 -- the line `vec`
 empty_vector : Reading
@@ -102,7 +98,7 @@ well_vector_behind c =
 
 well_read : (c : Reading) → WellOpen as_is read Any c
 well_read c =
-    well_open as_is next_text (λ u. vector_line) Any (λ u. alike_line) c (goes_next_text c) (well_next_text (λ u ss. From vector_line Any ss) sat_line.sat.start sat_line.none (from_sat vector_line Any sat_line.sat) c)
+    well_open as_is next_text (λ u. vector_line) Any (λ u. alike_line) c (opens_next_text.goes c) (opens_next_text.well (λ u ss. From vector_line Any ss) sat_line.sat.start sat_line.none (λ u. from_sat vector_line Any sat_line.sat) c)
     (λ u d e. well_vector_behind d)
 
 abbrev Given : (Reading → Read) → Reading → Type 0

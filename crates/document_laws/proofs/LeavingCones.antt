@@ -16,12 +16,11 @@ use Rattle.document_laws.proofs.Cones.{closed_cone, cone_on, cone_document_found
 use Rattle.document_laws.proofs.Local.{shows, opening, plain-append, GoesOn, StopsAt, bind_err, stops_early, stops_late, alone, alone_bind}
 use Rattle.document_laws.proofs.LocalWords.{ending, StopsHere, stops_end_here}
 use Rattle.document_laws.proofs.LocalLines.{by_lines, in_line, rest_here, line_split, behind_line as behind_rest, no_input_end}
-use Rattle.document_laws.proofs.LocalForms.{goes_cone}
 use Rattle.document_laws.proofs.Leaving.{StopsBehind, behind_end, behind_line, start_with, leaves, none_stop, no_line_alone}
 use Rattle.document_laws.proofs.LeavingDocuments.{no_line, no_line_ends, cone_by_line}
 use Rattle.document_laws.proofs.Ways.{Way, graft}
 use Rattle.document_laws.proofs.WordWays.{opens_rest}
-use Rattle.document_laws.proofs.ConeWays.{last_signs, IsLast, sat_cone, well_cone}
+use Rattle.document_laws.proofs.ConeWays.{last_signs, IsLast, ends_cone, sat_cone, well_cone}
 
 -- what is shown doesn't depend on the place where the input ends
 pub same_line : (n : ℕ) (ts : List Token) (end : ℕ) (xs ys : List Placed) → plain xs ≡ plain ys → plain (line_signs n ts end xs) ≡ plain (line_signs n ts end ys)
@@ -151,7 +150,7 @@ first_in bytes (l ∷ ls) split f e = by_case (bind_err (cone_at b) (λ (x : Con
 
     by_case : (cone_at b ≡ Err f) ⊎ ((y : Cone × Reading) × (cone_at b ≡ Ok y) × (closed_cone y.0 y.1 ≡ Err f)) → First bytes f.place
     by_case (inl p) = first_of_cone bytes l ls f.place split (well_cone b f p)
-    by_case (inr (y, p, q)) = first_past_cone bytes l ls f.place y.0 y.1 split (goes_cone b y.0 y.1 p) (past_cone y.0 y.1 f (no_end y.0 (no_line_at y.1) f q))
+    by_case (inr (y, p, q)) = first_past_cone bytes l ls f.place y.0 y.1 split (ends_cone.goes b y.0 y.1 p) (past_cone y.0 y.1 f (no_end y.0 (no_line_at y.1) f q))
 
 pub cone_faults_leave : ConeFaultsLeave
 unfolding cone_document

@@ -3,7 +3,6 @@ pub mod LineLaws
 pub mod SignedLaws
 pub mod ConeSteps
 pub mod ConeReading
-pub mod ConeFinding
 pub mod Blocks
 pub mod Cones
 pub mod Tables
@@ -38,7 +37,8 @@ pub mod MoveWays
 pub mod FirstMoves
 pub mod HaveText
 pub mod BlockReading
-pub mod BlockFinding
+pub mod Chains
+pub mod Links
 pub mod SumDocuments
 pub mod BlockWays
 pub mod FirstBlocks

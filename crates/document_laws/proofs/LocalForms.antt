@@ -1,20 +1,16 @@
--- Numbers, vectors and cones: their readers see no more than they take and the next sign.
-use Rattle.std.proofs.Common.{◌≡◌, ℕ, zero, suc, ℤ, Bool, true, false, List, [], ◌∷◌, Option, Some, None, Result, Ok, Err, refl, sym, ap, ◌∙◌}
-use Rattle.std.specs.Prelude.{⊤, nat_lt, if◌then◌else◌, codes, replicate}
+-- Numbers and words that have to stand there: their readers see no more than they take and the next sign.
+use Rattle.std.proofs.Common.{◌≡◌, ℕ, ℤ, Bool, true, false, List, [], ◌∷◌, Option, Some, None, Result, Ok, Err, refl, sym, ap, ◌∙◌}
+use Rattle.std.specs.Prelude.{⊤, nat_lt, if◌then◌else◌}
 use Rattle.text_definitions.specs.declared.LexKind.{LexKind}
 use Rattle.text_definitions.specs.declared.LexKind.TheVariants.{BadWord, NumberTooWide}
 use Rattle.text_definitions.specs.declared.LexFault.{LexFault}
 use Rattle.text_definitions.specs.Text.{Token, word, decimal_value}
-use Rattle.text_definitions.specs.Written.{limit}
-use Rattle.text_definitions.specs.Reading.{Reading, ◌>>=◌, word_at, number_up_to, number_at, signed_at, magnitude, is_negative, with_sign, exactly_at, same_word, numbers_from, numbers_at, need_line_at, end_line_at, word_fault}
-use Rattle.cone_text_definitions.specs.VectorText.{vector_at}
-use Rattle.cone_text_definitions.specs.ConeText.{Cone, coefficients_at, cone_row_at, cone_rows_at, rows_of_cone_at, cone_at}
+use Rattle.text_definitions.specs.Reading.{Reading, ◌>>=◌, word_at, number_up_to, number_at, signed_at, magnitude, is_negative, with_sign, exactly_at, same_word, numbers_from, numbers_at, word_fault}
 use Rattle.table_definitions.proofs.ReadingLaws.{TakesNumber, number_read}
-use Rattle.document_laws.proofs.ConeSteps.{closed_row, row_on}
-use Rattle.document_laws.proofs.Local.{Goes, goes_chained, goes_pure, goes_same, alone, goes_moved}
-use Rattle.document_laws.proofs.LocalWords.{tested, word_with, goes_word, goes_end}
-use Rattle.document_laws.proofs.LocalLines.{goes_line, by_end, by_ends, goes_by_end}
-use Rattle.document_laws.proofs.Given.{Numbers, Row, Rows}
+use Rattle.document_laws.proofs.Local.{Goes, goes_chained, goes_pure, goes_same, alone}
+use Rattle.document_laws.proofs.LocalWords.{tested, word_with, goes_word}
+use Rattle.document_laws.proofs.LocalLines.{by_end, by_ends, goes_by_end}
+use Rattle.document_laws.proofs.Given.{Numbers}
 
 -- a number up to max, of which f is made
 unfoldable pub number_test : {A : Type 0} → (ℕ → A) → ℕ → Option ℕ → Result A LexKind
@@ -62,9 +58,6 @@ signed_word max c =
     (λ (w : List ℕ × Reading). number_up_to max (decimal_value (magnitude w.0)) w.1 >>= λ (n : ℕ × Reading). Ok (with_sign (is_negative w.0) n.0, n.1))
     (λ w. number_tested (λ n. with_sign (is_negative w.0) n) max (decimal_value (magnitude w.0)) w.1)
 
-pub goes_signed : (max : ℕ) (c : Reading) → Goes (signed_at max) c
-goes_signed max c = goes_same (word_with (signed_test max)) (signed_at max) (signed_word max) c (goes_word (signed_test max) c)
-
 -- a word that has to stand there
 unfoldable pub exact_test : List ℕ → List ℕ → Result ⊤ LexKind
 exact_test wanted w = if same_word w wanted then Ok tt else Err BadWord
@@ -84,9 +77,6 @@ exact_word wanted c = by_word (word_at c)
         ≡ alone (r >>= λ (w : List ℕ × Reading). if same_word w.0 wanted then Ok w.1 else Err (word_fault w.1 BadWord))
     by_word (Ok w) = by_test w (same_word w.0 wanted)
     by_word (Err f) = refl
-
-pub goes_exactly : (wanted : List ℕ) (c : Reading) → Goes (exactly wanted) c
-goes_exactly wanted c = goes_same (word_with (exact_test wanted)) (exactly wanted) (exact_word wanted) c (goes_word (exact_test wanted) c)
 
 -- numbers to the end of a line
 abbrev pub others_with : ℕ → ℕ → Reading → Result Numbers LexFault
@@ -129,61 +119,3 @@ module _ (max : ℕ) where
 
   pub goes_numbers : (c : Reading) → Goes (numbers_at max) c
   goes_numbers c = goes_numbers_in c.current.tokens c refl
-
--- vectors
-pub goes_vector : (c : Reading) → Goes vector_at c
-unfolding vector_at
-goes_vector c = goes_moved (exactly_at (codes "vec")) (numbers_at limit) c (goes_exactly (codes "vec") c) (λ d e. goes_numbers limit d)
-
--- coefficients, rows and cones
-pub goes_coefficients : (n : ℕ) (c : Reading) → Goes (coefficients_at n) c
-unfolding coefficients_at
-goes_coefficients zero c = goes_pure [] c
-goes_coefficients (suc n) c =
-    goes_chained (signed_at 1000000) (λ z d. coefficients_at n d >>= λ (r : Row). Ok (z ∷ r.0, r.1)) c (goes_signed 1000000 c)
-    (λ z d e. goes_chained (coefficients_at n) (λ r d'. Ok (z ∷ r, d')) d (goes_coefficients n d) (λ r last q. goes_pure (z ∷ r) last))
-
-pub goes_closed : (r : List ℤ) (d : Reading) → Goes (closed_row r) d
-goes_closed r d = goes_moved end_line_at (λ end. Ok (r, end)) d (goes_end d) (λ end e. goes_pure r end)
-
-pub goes_row : (columns : ℕ) (c : Reading) → Goes (cone_row_at columns) c
-unfolding cone_row_at
-goes_row columns c = goes_moved need_line_at (row_on columns) c (goes_line c) (λ d e. goes_chained (coefficients_at columns) closed_row d (goes_coefficients columns d) (λ r d' q. goes_closed r d'))
-
-pub goes_rows : (n columns : ℕ) (c : Reading) → Goes (cone_rows_at n columns) c
-unfolding cone_rows_at
-goes_rows zero columns c = goes_pure [] c
-goes_rows (suc n) columns c =
-    goes_chained (cone_row_at columns) (λ r d. cone_rows_at n columns d >>= λ (rs : Rows). Ok (r ∷ rs.0, rs.1)) c (goes_row columns c)
-    (λ r d e. goes_chained (cone_rows_at n columns) (λ rs d'. Ok (r ∷ rs, d')) d (goes_rows n columns d) (λ rs last q. goes_pure (r ∷ rs) last))
-
-pub goes_cone_rows : (columns n : ℕ) (c : Reading) → Goes (rows_of_cone_at columns n) c
-goes_cone_rows zero n c = goes_pure (replicate n []) c
-goes_cone_rows (suc columns) n c = goes_rows n (suc columns) c
-
-abbrev Read : Type 0
-Read = Result (Cone × Reading) LexFault
-
-abbrev pub cone_of : ℕ → List (List ℤ) → Cone
-cone_of columns rows = record { columns = columns; rows = rows }
-
-abbrev pub after_end : ℕ → ℕ → Reading → Read
-after_end columns n d = rows_of_cone_at columns n d >>= λ (rows : Rows). Ok (cone_of columns rows.0, rows.1)
-
-abbrev pub after_count : ℕ → ℕ → Reading → Read
-after_count columns n d = end_line_at d >>= after_end columns n
-
-abbrev pub after_columns : ℕ → Reading → Read
-after_columns columns d = number_at 10000 d >>= λ (n : ℕ × Reading). after_count columns n.0 n.1
-
-abbrev pub after_name : Reading → Read
-after_name d = number_at 10000 d >>= λ (n : ℕ × Reading). after_columns n.0 n.1
-
-pub goes_cone : (c : Reading) → Goes cone_at c
-unfolding cone_at
-goes_cone c =
-    goes_moved (exactly_at (codes "cone")) after_name c (goes_exactly (codes "cone") c)
-    (λ d1 e1. goes_chained (number_at 10000) after_columns d1 (goes_number 10000 d1)
-    (λ columns d2 e2. goes_chained (number_at 10000) (after_count columns) d2 (goes_number 10000 d2)
-    (λ n d3 e3. goes_moved end_line_at (after_end columns n) d3 (goes_end d3)
-    (λ d4 e4. goes_chained (rows_of_cone_at columns n) (λ rows d. Ok (cone_of columns rows, d)) d4 (goes_cone_rows columns n d4) (λ rows last q. goes_pure (cone_of columns rows) last)))))

@@ -13,7 +13,7 @@ use Rattle.document_laws.proofs.Local.{shows}
 use Rattle.document_laws.proofs.LocalTables.{in_text}
 use Rattle.document_laws.proofs.Tables.{TableLines, table_read, TableFound, table_found}
 use Rattle.document_laws.proofs.TextReaders.{Read, next_text, left_only, Copies, copy_next_table}
-use Rattle.document_laws.proofs.TextWays.{well_next_text}
+use Rattle.document_laws.proofs.TextWays.{opens_next_text}
 use Rattle.document_laws.proofs.TextGrammar.{text_blocks}
 use Rattle.document_laws.proofs.TextEnds.{Any, nothing}
 use Rattle.document_laws.proofs.FirstFaults.{left_first}
@@ -39,4 +39,4 @@ refused_too (Err g) s f c e = (let same : g ≡ in_text f = cc in c f same)
 
 pub any_table_faults_stand_first : AnyTableFaultsStandFirst
 any_table_faults_stand_first c f none e =
-    left_first next_text Any BeginWithTableText complete sound c none f.place (well_next_text Any nothing refl tt c f (refused_too (next_table_at c) (next_text c) f (copy_next_table c) e))
+    left_first next_text Any BeginWithTableText complete sound c none f.place (opens_next_text.well Any nothing refl (λ u. tt) c f (refused_too (next_table_at c) (next_text c) f (copy_next_table c) e))

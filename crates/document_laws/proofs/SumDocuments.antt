@@ -13,8 +13,7 @@ use Rattle.document_definitions.specs.Documents.{worded, next_table_at}
 use Rattle.document_definitions.specs.Blocks.{Block, block_at, blocks_on, blocks_from, blocks_document, AreBlockLines, AreBlocks, AreTableAndBlocks}
 use Rattle.table_definitions.proofs.ReadingLaws.{ok_parts}
 use Rattle.document_laws.proofs.Tables.{worded_ok, worded_with, table_blocks}
-use Rattle.document_laws.proofs.BlockReading.{BlockRead, block_read}
-use Rattle.document_laws.proofs.BlockFinding.{BlockFound, block_found}
+use Rattle.document_laws.proofs.BlockReading.{BlockRead, block_read, BlockFound, block_found}
 use Rattle.document_laws.proofs.Given.{Whole, Blocks, Table}
 use Rattle.plain_facts.proofs.Lists.{no_items}
 

@@ -1,21 +1,18 @@
--- Vectors: what stands before a fault can be gone on with to a vector line.
+-- Numbers to the end of a line: what stands before a fault can be gone on with to such numbers.
 use Rattle.std.proofs.Common.{◌≡◌, ◌≢◌, ℕ, List, [], ◌∷◌, Result, Ok, Err, refl, sym, ap, ◌∙◌, subst}
-use Rattle.std.specs.Prelude.{⊤, codes}
 use Rattle.text_definitions.specs.declared.Place.{Place}
-use Rattle.text_definitions.specs.declared.LexKind.{LexKind}
 use Rattle.text_definitions.specs.declared.LexFault.{LexFault}
 use Rattle.text_definitions.specs.Text.{Token}
 use Rattle.text_definitions.specs.Written.{limit}
-use Rattle.text_definitions.specs.Reading.{Reading, ◌>>=◌, word_at, number_at, exactly_at, numbers_from, numbers_at}
-use Rattle.cone_text_definitions.specs.VectorText.{vector_at}
+use Rattle.text_definitions.specs.Reading.{Reading, ◌>>=◌, word_at, number_at, numbers_from, numbers_at}
 use Rattle.document_definitions.specs.Signs.{Sign, Placed}
 use Rattle.table_definitions.proofs.ReadingLaws.{with_tokens}
-use Rattle.document_laws.proofs.Local.{shows, StopsAt, Goes, goes_chained, goes_pure, alone_bind}
-use Rattle.document_laws.proofs.LocalWords.{as_is, word_with}
+use Rattle.document_laws.proofs.Local.{shows, StopsAt, Goes, goes_chained, goes_pure}
+use Rattle.document_laws.proofs.LocalWords.{as_is}
 use Rattle.document_laws.proofs.LocalLines.{by_end, by_ends, end_stop}
-use Rattle.document_laws.proofs.LocalForms.{exact_test, exact_word, exactly, goes_numbers, others_with, one_more, numbers_stepped, tokens_after}
-use Rattle.document_laws.proofs.Ways.{From, alike_each, Way, Well, well_free, well_mapped, free_same, well_same}
-use Rattle.document_laws.proofs.WordWays.{free_word, sat_word, well_word, free_number, well_number}
+use Rattle.document_laws.proofs.LocalForms.{goes_numbers, others_with, one_more, numbers_stepped, tokens_after}
+use Rattle.document_laws.proofs.Ways.{From, alike_each, Way, Well, well_free, well_mapped}
+use Rattle.document_laws.proofs.WordWays.{free_number, well_number}
 use Rattle.document_laws.proofs.Given.{Numbers}
 
 -- no number is read at the end of a line
@@ -60,25 +57,3 @@ module _ (k : Reading) (none : k.current.tokens ≡ []) where
       well_stepped Aim c u us first
       (well_free as_is (number_at limit) (others_with limit) Aim (alike_each (others_with limit) goes_others) c (free_number limit c) (well_number limit (λ n ss. From (others_with limit n) Aim ss) c k (from_numbers 0 Aim (a (0 ∷ []))))
       (λ n d e. well_mapped (numbers_at limit) (λ xs. n ∷ xs) Aim d (well_numbers_in us d (sym (tokens_after limit c u us n d first e)) (λ xs. Aim (n ∷ xs)) (λ xs. a (n ∷ xs)))))
-
-  -- a vector line
-  abbrev named : List ℕ → Result ⊤ LexKind
-  named w = exact_test (codes "vec") w
-
-  vec_named : named (codes "vec") ≡ Ok tt
-  unfolding exact_test
-  vec_named = refl
-
-  vector_by_name : (c : Reading) → (exactly (codes "vec") c >>= λ (u : ⊤ × Reading). numbers_at limit u.1) ≡ vector_at c
-  unfolding vector_at
-  vector_by_name c = alone_bind (exactly_at (codes "vec") c) (λ d. numbers_at limit d)
-
-  pub well_vector : (Aim : List ℕ → List Sign → Type 0) → ((xs : List ℕ) → Aim xs (shows k)) → (c : Reading) → Well as_is vector_at Aim c
-  well_vector Aim a c =
-      let from : From (numbers_at limit) Aim (shows k) = record { start = k; there = refl; value = []; next = k; reads = no_numbers k none; aim = a [] } in
-      well_same as_is (λ d. exactly (codes "vec") d >>= λ (u : ⊤ × Reading). numbers_at limit u.1) vector_at Aim vector_by_name c
-      (well_free as_is (exactly (codes "vec")) (λ u d. numbers_at limit d) Aim (alike_each (λ (u : ⊤) d. numbers_at limit d) (λ u d. goes_numbers limit d)) c
-      (free_same (word_with named) (exactly (codes "vec")) (exact_word (codes "vec")) c (free_word named c))
-      (well_same as_is (word_with named) (exactly (codes "vec")) (λ u ss. From (numbers_at limit) Aim ss) (exact_word (codes "vec")) c
-      (well_word named (λ u ss. From (numbers_at limit) Aim ss) c (sat_word named (codes "vec") tt vec_named (λ u ss. From (numbers_at limit) Aim ss) k from)))
-      (λ u d e. well_numbers_in d.current.tokens d refl Aim a))

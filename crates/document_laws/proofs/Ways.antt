@@ -5,10 +5,9 @@ use Rattle.text_definitions.specs.declared.Place.{Place}
 use Rattle.text_definitions.specs.declared.LexFault.{LexFault}
 use Rattle.text_definitions.specs.Text.{Token, word, stray, Line}
 use Rattle.text_definitions.specs.Reading.{Reading, ◌>>=◌}
-use Rattle.text_definitions.proofs.Readers.{bind_ok}
 use Rattle.document_definitions.specs.Signs.{Sign, line_end, input_end, Placed, token_sign, line_signs, signs_of, plain}
-use Rattle.table_definitions.proofs.ReadingLaws.{ok_parts, with_tokens}
-use Rattle.document_laws.proofs.Local.{left_signs, shows, opening, opening_more, plain-append, shows_split, GoesOn, StopsAt, Goes, regrouped, chained, goes_joined, bind_err, stops_late, stops_early}
+use Rattle.table_definitions.proofs.ReadingLaws.{with_tokens}
+use Rattle.document_laws.proofs.Local.{left_signs, shows, opening, opening_more, plain-append, shows_split, GoesOn, StopsAt, Goes, bind_err, stops_late, stops_early}
 use Rattle.document_laws.proofs.LocalWords.{as_is}
 
 -- readings that can be read with an aim: from somewhere, where certain signs are shown, and behind certain signs
@@ -243,42 +242,12 @@ module _ {A B E : Type 0} (lexical : LexFault → E) (first : Reading → Result
           (stops_early first second c f.place u.0, way.0, ap (λ (r : Reading). opening (shows r)) way.1 ∙ u.2)
       by_case (inr (y, p, q)) = late y.0 y.1 (g y.0 y.1 p) (w2 y.0 y.1 p f q)
 
--- two readers that don't look ahead
-module _ {A B E : Type 0} (first : Reading → Result (A × Reading) E) (second : A → Reading → Result (B × Reading) E) where
-  free_joined : (c : Reading) (x : A) (d : Reading) (y : B) (last : Reading) → FreeOn first c x d → FreeOn (second x) d y last → FreeOn (chained first second) c y last
-  free_joined c x d y last g h = record {
-    goes = goes_joined first second c x d y last g.goes h.goes;
-    same =
-        λ o k e. (let gr : (m : Reading) × (shows m ≡ plain h.goes.front ++ shows k) = graft d h.goes.front last h.goes.split k in
-        let n : (next : Reading) × (first o ≡ Ok (x, next)) × (shows next ≡ shows gr.0) = g.same o gr.0 (regrouped g.goes.front h.goes.front (shows k) o e ∙ ap (λ (ss : List Sign). plain g.goes.front ++ ss) (sym gr.1)) in
-        let m : (next : Reading) × (second x n.0 ≡ Ok (y, next)) × (shows next ≡ shows k) = h.same n.0 k (n.2 ∙ gr.1) in
-        (m.0, ap (λ (r : Result (A × Reading) E). r >>= λ (z : A × Reading). second z.0 z.1) n.1 ∙ m.1, m.2));
-  }
-
-  pub free_chained : (c : Reading) → Free first c → ((x : A) (d : Reading) → first c ≡ Ok (x, d) → Free (second x) d) → Free (chained first second) c
-  free_chained c g h z last e =
-      let b : (y : A × Reading) × (first c ≡ Ok y) × (second y.0 y.1 ≡ Ok (z, last)) = bind_ok (first c) (λ (y : A × Reading). second y.0 y.1) (z, last) e in
-      free_joined c (b.0).0 (b.0).1 z last (g (b.0).0 (b.0).1 b.1) (h (b.0).0 (b.0).1 b.1 z last b.2)
-
-pub free_pure : {A E : Type 0} (x : A) (c : Reading) → Free {A = A} {E = E} (λ d. Ok (x, d)) c
-free_pure {A} {E} x c y d e =
-    let parts : (x ≡ y) × (c ≡ d) = ok_parts (x, c) (y, d) e in
-    subst (λ (z : A). FreeOn {A = A} {E = E} (λ d. Ok (x, d)) c z d) parts.0
-    (subst (λ (r : Reading). FreeOn {A = A} {E = E} (λ d. Ok (x, d)) c x r) parts.1
-    (record { goes = record { front = []; split = refl; same = λ other more s o. (other, refl, s) }; same = λ o k s. (o, refl, s) }))
-
 -- readers that give the same everywhere
 pub free_same : {A E : Type 0} (r s : Reading → Result (A × Reading) E) → ((c : Reading) → r c ≡ s c) → (c : Reading) → Free r c → Free s c
 free_same {A} {E} r s e c g = subst (λ (q : Reading → Result (A × Reading) E). Free q c) (λ i d. e d i) g
 
-pub sat_same : {A E : Type 0} (r s : Reading → Result (A × Reading) E) (Aim : A → List Sign → Type 0) → ((c : Reading) → r c ≡ s c) → Sat r Aim → Sat s Aim
-sat_same {A} {E} r s Aim e g = subst (λ (q : Reading → Result (A × Reading) E). Sat q Aim) (λ i d. e d i) g
-
 pub well_same : {A E : Type 0} (lexical : LexFault → E) (r s : Reading → Result (A × Reading) E) (Aim : A → List Sign → Type 0) → ((c : Reading) → r c ≡ s c) → (c : Reading) → Well lexical r Aim c → Well lexical s Aim c
 well_same {A} {E} lexical r s Aim e c g = subst (λ (q : Reading → Result (A × Reading) E). Well lexical q Aim c) (λ i d. e d i) g
-
-pub well_open_same : {A E : Type 0} (lexical : LexFault → E) (r s : Reading → Result (A × Reading) E) (Aim : A → List Sign → Type 0) → ((c : Reading) → r c ≡ s c) → (c : Reading) → WellOpen lexical r Aim c → WellOpen lexical s Aim c
-well_open_same {A} {E} lexical r s Aim e c g = subst (λ (q : Reading → Result (A × Reading) E). WellOpen lexical q Aim c) (λ i d. e d i) g
 
 pub from_sat : {A E : Type 0} (read : Reading → Result (A × Reading) E) (Aim : A → List Sign → Type 0) (s : Sat read Aim) → From read Aim (shows s.start)
 from_sat read Aim s = record { start = s.start; there = refl; value = s.value; next = s.next; reads = s.reads; aim = s.aim }

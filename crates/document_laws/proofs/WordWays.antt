@@ -13,7 +13,7 @@ use Rattle.table_definitions.proofs.LineLaws.{line_found}
 use Rattle.document_laws.proofs.Local.{shows, opening, plain-append, alone}
 use Rattle.document_laws.proofs.LocalWords.{as_is, tested, word_with, at_word, again, StopsHere, stops_here, ending, ends_again, stops_end_here}
 use Rattle.document_laws.proofs.LocalLines.{rest_of_line, line_split, rest_here, split_line, further, Further, no_input_end, next_line, StopsAfterLine, stops_line_in, ends_shown}
-use Rattle.document_laws.proofs.Ways.{Sat, Way, Well, WellOpen, FreeOn, Free, free_same, sat_same, well_same}
+use Rattle.document_laws.proofs.Ways.{Sat, Way, Well, WellOpen, FreeOn, Free, free_same, well_same}
 use Rattle.document_laws.proofs.LocalForms.{number_test, plain_test, number_word}
 
 way_here : {A E : Type 0} (read : Reading → Result (A × Reading) E) (Aim : A → List Sign → Type 0) (front : List Placed) → front ≡ [] → Sat read Aim → Way read front Aim
@@ -119,15 +119,12 @@ well_line Aim c k a f e =
     (h.0, at_front.0, at_front.1)
 
 -- a number up to a limit, of which 0 is one
-naught_passes : (max : ℕ) → plain_test max (codes "0") ≡ Ok 0
+pub naught_passes : (max : ℕ) → plain_test max (codes "0") ≡ Ok 0
 unfolding number_test
 naught_passes max = ap (λ (b : Bool). if◌then◌else◌ {A = Result ℕ LexKind} b (Err NumberTooWide) (Ok 0)) (le-ltb max 0 (omega arith))
 
 pub free_number : (max : ℕ) (c : Reading) → Free (number_at max) c
 free_number max c = free_same (word_with (plain_test max)) (number_at max) (number_word max) c (free_word (plain_test max) c)
-
-pub sat_number : (max : ℕ) (Aim : ℕ → List Sign → Type 0) (k : Reading) → Aim 0 (shows k) → Sat (number_at max) Aim
-sat_number max Aim k a = sat_same (word_with (plain_test max)) (number_at max) Aim (number_word max) (sat_word (plain_test max) (codes "0") 0 (naught_passes max) Aim k a)
 
 pub well_number : (max : ℕ) (Aim : ℕ → List Sign → Type 0) (c k : Reading) → Aim 0 (shows k) → Well as_is (number_at max) Aim c
 well_number max Aim c k a =
