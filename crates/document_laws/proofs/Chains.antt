@@ -23,6 +23,10 @@ Reader A = Reading → Result (A × Reading) LexFault
 abbrev pub Aims : Type 0 → Type 1
 Aims A = A → List Sign → Type 0
 
+-- a reading that can be read with an aim, at the end of a line
+abbrev pub SatBehind : {A : Type 0} → Reader A → Aims A → Type 0
+SatBehind r Aim = (s : Sat r Aim) × (s.start.current.tokens ≡ [])
+
 -- readers to the end of a line, and readers from there on
 pub record Ends {A : Type 0} (r : Reader A) : Type 1 where
   pub goes : (c : Reading) → Goes r c
@@ -31,7 +35,7 @@ pub record Ends {A : Type 0} (r : Reader A) : Type 1 where
 
 pub record Opens {A : Type 0} (r : Reader A) : Type 1 where
   pub goes : (c : Reading) → Goes r c
-  pub sat : (Aim : Aims A) (k : Reading) → k.current.tokens ≡ [] → ((x : A) → Aim x (shows k)) → (s : Sat r Aim) × (s.start.current.tokens ≡ [])
+  pub sat : (Aim : Aims A) (k : Reading) → k.current.tokens ≡ [] → ((x : A) → Aim x (shows k)) → SatBehind r Aim
   pub well : (Aim : Aims A) (k : Reading) → k.current.tokens ≡ [] → ((x : A) → Aim x (shows k)) → (c : Reading) → WellOpen as_is r Aim c
 
 -- a word that is put to a test, and what reads behind it
@@ -84,9 +88,10 @@ ends_lines {A} r g =
 pub ends_line : {A : Type 0} (r : Reader A) → Opens r → Ends (λ c. end_line_at c >>= r)
 ends_line {A} r g = subst (λ (q : Reader A). Ends q) (λ i c. alone_bind (end_line_at c) r i) (ends_lines r g)
 
-next_sat : {A : Type 0} (r : Reader A) (Aim : Aims A) → Sat r Aim → (s : Sat (λ c. next_line c >>= λ (u : ⊤ × Reading). r u.1) Aim) × (s.start.current.tokens ≡ [])
+-- the line of a reading is begun behind an empty line
+pub in_next_line : {A : Type 0} (r : Reader A) (Aim : Aims A) → Sat r Aim → SatBehind (λ c. next_line c >>= λ (u : ⊤ × Reading). r u.1) Aim
 unfolding line_before
-next_sat r Aim s = (
+in_next_line r Aim s = (
   record { start = line_before s.start; value = s.value; next = s.next; reads = ap (λ (q : Result Reading LexFault). alone q >>= λ (u : ⊤ × Reading). r u.1) (line_found (line_before s.start) s.start.current s.start.later refl) ∙ s.reads; aim = s.aim },
   refl,
 )
@@ -94,7 +99,7 @@ next_sat r Aim s = (
 pub opens_next : {A : Type 0} (r : Reader A) → Ends r → Opens (λ c. next_line c >>= λ (u : ⊤ × Reading). r u.1)
 opens_next r g = record {
   goes = λ c. goes_chained next_line (λ u. r) c (goes_line c) (λ u d e. g.goes d);
-  sat = λ Aim k none a. next_sat r Aim (g.sat Aim k none a);
+  sat = λ Aim k none a. in_next_line r Aim (g.sat Aim k none a);
   well = λ Aim k none a c. (let s = g.sat Aim k none a in
       well_behind as_is next_line (λ u. r) Aim (λ u. alike_goes r g.goes) c (free_line c) (well_line (Then (λ u. r) Aim) c s.start (from_sat r Aim s)) (λ u d e. g.well Aim k none a d));
 }
@@ -130,6 +135,11 @@ pub bind_bind : {A B C E : Type 0} (r : Result A E) (f : A → Result B E) (g : 
 bind_bind (Ok x) f g = refl
 bind_bind (Err e) f g = refl
 
+pub behind_both : {A B : Type 0} (first : Reader A) (second : A → Reader B) (Aim : Aims B) → ((x : A) → Alike (second x)) → SatBehind first (Then second Aim) → SatBehind (λ c. first c >>= λ (x : A × Reading). second x.0 x.1) Aim
+behind_both {A} first second Aim alike s =
+    let n = again_from (second s.0.value) Aim (alike s.0.value) (shows s.0.next) s.0.aim s.0.next refl in
+    (record { start = s.0.start; value = n.0; next = n.1; reads = ap (λ (q : Result (A × Reading) LexFault). q >>= λ (x : A × Reading). second x.0 x.1) s.0.reads ∙ n.2; aim = n.3 }, s.1)
+
 -- one after another on further lines
 abbrev pub join : {A B C : Type 0} → (A → B → C) → Reader A → Reader B → Reader C
 join {A} make r s c = r c >>= λ (x : A × Reading). made (make x.0) s x.1
@@ -161,10 +171,7 @@ module _ {A B C : Type 0} (make : A → B → C) (r : Reader A) (s : Reader B) (
   pub opens_join : Opens r → Opens (join make r s)
   opens_join f = record {
     goes = goes_join f.goes;
-    sat = λ Aim k none a. (let b = between Aim k none a in
-        let u = f.sat (Then second Aim) b.0 b.1 b.2 in
-        let n = again_from (second u.0.value) Aim (alike_second u.0.value) (shows u.0.next) u.0.aim u.0.next refl in
-        (record { start = u.0.start; value = n.0; next = n.1; reads = ap (λ (q : Result (A × Reading) LexFault). q >>= λ (x : A × Reading). second x.0 x.1) u.0.reads ∙ n.2; aim = n.3 }, u.1));
+    sat = λ Aim k none a. (let b = between Aim k none a in behind_both r second Aim alike_second (f.sat (Then second Aim) b.0 b.1 b.2));
     well = λ Aim k none a c. (let b = between Aim k none a in
         well_open as_is r second Aim alike_second c (f.goes c) (f.well (Then second Aim) b.0 b.1 b.2 c) (λ x d p. (opens_made (make x) s g).well Aim k none a d));
   }

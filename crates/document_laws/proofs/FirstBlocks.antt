@@ -22,7 +22,7 @@ use Rattle.document_laws.proofs.Local.{shows}
 use Rattle.document_laws.proofs.LocalWords.{as_is}
 use Rattle.document_laws.proofs.LocalLines.{by_lines}
 use Rattle.document_laws.proofs.LocalTables.{in_text}
-use Rattle.document_laws.proofs.Ways.{From, WellOpen, well_open}
+use Rattle.document_laws.proofs.Ways.{Then, WellOpen, well_open}
 use Rattle.document_laws.proofs.TextReaders.{Read, next_text, left_only, Copies, copy_bind, copy_then, copy_same, copy_worded, FaultsAs, faults_bind, copy_next_table}
 use Rattle.document_laws.proofs.TextWays.{opens_next_text}
 use Rattle.document_laws.proofs.TextGrammar.{text_blocks}
@@ -75,7 +75,7 @@ sound most o u next e a =
 well_read : (most : List Line) (c : Reading) → WellOpen as_is (read most) AtEnd c
 well_read most c =
     well_open as_is next_text (λ u. each_from block_at most) AtEnd (λ u. alike_each_from block_at ends_block.goes most) c (opens_next_text.goes c)
-    (opens_next_text.well (λ u ss. From (each_from block_at most) AtEnd ss) nothing refl (λ u. from_nothing block_at ends_block.goes most) c) (λ u d e. well_each block_at ends_block.goes ends_block.well most d)
+    (opens_next_text.well (Then (λ u. each_from block_at most) AtEnd) nothing refl (λ u. from_nothing block_at ends_block.goes most) c) (λ u d e. well_each block_at ends_block.goes ends_block.well most d)
 
 copy_blocks : (most : List Line) (c : Reading) → Copies as_is left_only (blocks_from most c) (each_from block_at most c)
 unfolding blocks_from each_from

@@ -20,7 +20,7 @@ use Rattle.document_laws.proofs.Tables.{table_blocks, table_read}
 use Rattle.document_laws.proofs.Local.{shows, Goes}
 use Rattle.document_laws.proofs.LocalWords.{as_is}
 use Rattle.document_laws.proofs.LocalTables.{in_text}
-use Rattle.document_laws.proofs.Ways.{From, Well, WellOpen, well_open}
+use Rattle.document_laws.proofs.Ways.{Then, Well, WellOpen, well_open}
 use Rattle.document_laws.proofs.TextReaders.{Read, next_text, left_only, Copies, copy_known, copy_then, copy_same, copy_worded, FaultsAs, faults_bind, copy_next_table}
 use Rattle.document_laws.proofs.TextWays.{opens_next_text}
 use Rattle.document_laws.proofs.TextGrammar.{text_blocks}
@@ -120,7 +120,7 @@ module _ {A : Type 0} (form : Reading → Result (A × Reading) LexFault) (Form 
     well_read : (most : List Line) (c : Reading) → WellOpen as_is (read most) AtEnd c
     well_read most c =
         well_open as_is next_text (λ u. each_from form most) AtEnd (λ u. alike_each_from form goes most) c (opens_next_text.goes c)
-        (opens_next_text.well (λ u ss. From (each_from form most) AtEnd ss) nothing refl (λ u. from_nothing form goes most) c) (λ u d e. well_each form goes well most d)
+        (opens_next_text.well (Then (λ u. each_from form most) AtEnd) nothing refl (λ u. from_nothing form goes most) c) (λ u d e. well_each form goes well most d)
 
     pub lines_faults_stand_first : (bytes : List ℕ) (f : LexFault) → table_and_lines form bytes ≡ Err (in_text f) → FirstLeavesAt (λ (lines : List Line). AreTextAndLines Value lines) (end_of bytes) (lines_of bytes) f.place
     lines_faults_stand_first bytes f e =

@@ -19,9 +19,10 @@ use Rattle.document_laws.proofs.Local.{shows}
 use Rattle.document_laws.proofs.LocalWords.{as_is}
 use Rattle.document_laws.proofs.LocalLines.{by_lines}
 use Rattle.document_laws.proofs.LocalTables.{in_text}
-use Rattle.document_laws.proofs.Ways.{From, Alike, alike_goes, Well, WellOpen, well_open, from_sat}
+use Rattle.document_laws.proofs.Ways.{From, Then, Alike, alike_goes, Well, WellOpen, well_open, from_sat}
+use Rattle.document_laws.proofs.Chains.{SatBehind, behind_both}
 use Rattle.document_laws.proofs.TextReaders.{Read, text_at, next_text, left_only, Copies, copy_bind, copy_then, FaultsAs, faults_bind, copy_table, copy_next_table}
-use Rattle.document_laws.proofs.TextWays.{SatBehind, behind_both, ends_text, opens_next_text}
+use Rattle.document_laws.proofs.TextWays.{ends_text, opens_next_text}
 use Rattle.document_laws.proofs.TextGrammar.{text_taken, text_given, text_blocks}
 use Rattle.document_laws.proofs.TextEnds.{first_fault, closed_from, closing, Any, closing_none, none_closing, alike_closing, well_closing, alike_chained, AtEnd, nothing, each_from, well_each, each_sound, each_complete}
 use Rattle.document_laws.proofs.FirstFaults.{stands_first}
@@ -60,9 +61,6 @@ one_sound o u next e a =
     let whole : o.later ≡ t.0 = t.1 ∙ ap (λ (ls : List Line). t.0 ++ ls) (none_closing (b.0).1 u next b.2).0 ∙ append-nil t.0 in
     subst AreTableText (sym whole) t.2
 
-abbrev pub ThenClosing : ⊤ → List Sign → Type 0
-ThenClosing u ss = From closing Any ss
-
 pub from_closing : From closing Any (shows nothing)
 from_closing = record { start = nothing; there = refl; value = tt; next = nothing; reads = refl; aim = tt }
 
@@ -70,7 +68,7 @@ pub alike_one : Alike one_text
 alike_one = alike_chained next_text (λ u. closing) (alike_goes next_text opens_next_text.goes) (λ u. alike_closing)
 
 pub well_one : (c : Reading) → WellOpen as_is one_text Any c
-well_one c = well_open as_is next_text (λ u. closing) Any (λ u. alike_closing) c (opens_next_text.goes c) (opens_next_text.well ThenClosing nothing refl (λ u. from_closing) c) (λ u d e. well_closing d)
+well_one c = well_open as_is next_text (λ u. closing) Any (λ u. alike_closing) c (opens_next_text.goes c) (opens_next_text.well (Then (λ u. closing) Any) nothing refl (λ u. from_closing) c) (λ u d e. well_closing d)
 
 pub one_faults : {X : Type 0} (x : X) (c : Reading) → FaultsAs {X = X × List Row} in_text (next_table_at c >>= λ (s : List Row × Reading). end_at s.1 >>= λ (last : Reading). Ok (x, s.0)) (one_text c)
 one_faults {X} x c =
@@ -102,11 +100,11 @@ two_sound o u next e a =
     (t.0, (b.0).1.later, t.1, t.2, one_sound (b.0).1 u next b.2 a)
 
 sat_one : SatBehind one_text Any
-sat_one = behind_both next_text closing Any alike_closing (let s = opens_next_text.sat ThenClosing nothing refl (λ u. from_closing) in record { sat = s.0; none = s.1 })
+sat_one = behind_both next_text (λ u. closing) Any (λ u. alike_closing) (opens_next_text.sat (Then (λ u. closing) Any) nothing refl (λ u. from_closing))
 
 well_two : (c : Reading) → WellOpen as_is two_texts Any c
 well_two c =
-    well_open as_is next_text (λ u. one_text) Any (λ u. alike_one) c (opens_next_text.goes c) (opens_next_text.well (λ u ss. From one_text Any ss) sat_one.sat.start sat_one.none (λ u. from_sat one_text Any sat_one.sat) c) (λ u d e. well_one d)
+    well_open as_is next_text (λ u. one_text) Any (λ u. alike_one) c (opens_next_text.goes c) (opens_next_text.well (Then (λ u. one_text) Any) sat_one.0.start sat_one.1 (λ u. from_sat one_text Any sat_one.0) c) (λ u d e. well_one d)
 
 pub two_tables_faults_stand_first : FaultsStandFirst two_tables_document AreTwoTablesText
 unfolding two_tables_document

@@ -14,7 +14,6 @@ use Rattle.signature_definitions.specs.declared.InputFault.{InputFault}
 use Rattle.signature_definitions.specs.Grammar.{AreTableLines}
 use Rattle.document_definitions.specs.Grammar.{AreTableAndLines}
 use Rattle.document_definitions.specs.Documents.{worded, next_table_at, vectors_document, vector_document}
-use Rattle.document_definitions.specs.Signs.{Sign}
 use Rattle.document_definitions.specs.TextForms.{AreTableText, IsVectorText, AreTableAndVectorsText, AreTableAndVectorText}
 use Rattle.document_laws.specs.FormLaws.{FaultsStandFirst}
 use Rattle.document_laws.specs.FaultLaws.{SomeTableAndVector, VectorsFaultsLeaveFirst, VectorFaultsLeaveFirst}
@@ -24,11 +23,12 @@ use Rattle.document_laws.proofs.Local.{shows}
 use Rattle.document_laws.proofs.LocalWords.{as_is}
 use Rattle.document_laws.proofs.LocalLines.{next_line, goes_line}
 use Rattle.document_laws.proofs.LocalTables.{in_text}
-use Rattle.document_laws.proofs.Ways.{Sat, From, Alike, alike_goes, Well, WellOpen, well_goes, well_open, well_behind, from_sat}
+use Rattle.document_laws.proofs.Ways.{Sat, Then, Alike, alike_goes, Well, WellOpen, well_goes, well_open, well_behind, from_sat}
 use Rattle.document_laws.proofs.WordWays.{free_line, well_line}
 use Rattle.document_laws.proofs.BlockWays.{ends_vector}
+use Rattle.document_laws.proofs.Chains.{SatBehind, in_next_line}
 use Rattle.document_laws.proofs.TextReaders.{Read, next_text, left_only, shown_only, copy_alone, copy_same, copy_worded, FaultsAs, faults_bind, copy_next_table}
-use Rattle.document_laws.proofs.TextWays.{SatBehind, in_next_line, opens_next_text}
+use Rattle.document_laws.proofs.TextWays.{opens_next_text}
 use Rattle.document_laws.proofs.TextGrammar.{text_blocks, begins, next_found}
 use Rattle.document_laws.proofs.TextEnds.{closing, Any, closing_none, none_closing, alike_closing, well_closing, alike_chained, nothing}
 use Rattle.document_laws.proofs.FirstFaults.{left_first, stands_first}
@@ -60,11 +60,8 @@ alike_last = alike_chained vector_at (λ v. closing) (alike_goes vector_at ends_
 alike_line : Alike vector_line
 alike_line = alike_chained next_line (λ u. last_vector) (alike_goes next_line goes_line) (λ u. alike_last)
 
-abbrev ThenClosing : List ℕ → List Sign → Type 0
-ThenClosing v ss = From closing Any ss
-
 well_last : (c : Reading) → Well as_is last_vector Any c
-well_last c = well_goes as_is vector_at (λ v. closing) Any (λ v. alike_closing) c (ends_vector.goes c) (ends_vector.well ThenClosing nothing refl (λ v. from_closing) c) (λ v d e. well_closing d)
+well_last c = well_goes as_is vector_at (λ v. closing) Any (λ v. alike_closing) c (ends_vector.goes c) (ends_vector.well (Then (λ v. closing) Any) nothing refl (λ v. from_closing) c) (λ v d e. well_closing d)
 
 -- the line `vec`
 empty_vector : Reading
@@ -94,11 +91,11 @@ sat_line = in_next_line last_vector Any sat_last
 
 well_vector_behind : (c : Reading) → WellOpen as_is vector_line Any c
 well_vector_behind c =
-    well_behind as_is next_line (λ u. last_vector) Any (λ u. alike_last) c (free_line c) (well_line (λ u ss. From last_vector Any ss) c sat_last.start (from_sat last_vector Any sat_last)) (λ u d e. well_last d)
+    well_behind as_is next_line (λ u. last_vector) Any (λ u. alike_last) c (free_line c) (well_line (Then (λ u. last_vector) Any) c sat_last.start (from_sat last_vector Any sat_last)) (λ u d e. well_last d)
 
 well_read : (c : Reading) → WellOpen as_is read Any c
 well_read c =
-    well_open as_is next_text (λ u. vector_line) Any (λ u. alike_line) c (opens_next_text.goes c) (opens_next_text.well (λ u ss. From vector_line Any ss) sat_line.sat.start sat_line.none (λ u. from_sat vector_line Any sat_line.sat) c)
+    well_open as_is next_text (λ u. vector_line) Any (λ u. alike_line) c (opens_next_text.goes c) (opens_next_text.well (Then (λ u. vector_line) Any) sat_line.0.start sat_line.1 (λ u. from_sat vector_line Any sat_line.0) c)
     (λ u d e. well_vector_behind d)
 
 abbrev Given : (Reading → Read) → Reading → Type 0

@@ -1,18 +1,11 @@
 -- The text of a table: what stands before a fault can be gone on with to the text of one.
-use Rattle.std.proofs.Common.{◌≡◌, ℕ, zero, suc, Bool, true, false, List, [], None, Result, Ok, refl, ap, ◌∙◌}
-use Rattle.std.specs.Prelude.{⊤, codes}
+use Rattle.std.proofs.Common.{◌≡◌, ℕ, zero, suc, Bool, true, false, List, None, Result, Ok, refl}
+use Rattle.std.specs.Prelude.{codes}
 use Rattle.text_definitions.specs.declared.LexKind.{LexKind}
-use Rattle.text_definitions.specs.declared.LexFault.{LexFault}
-use Rattle.text_definitions.specs.Reading.{Reading, ◌>>=◌}
 use Rattle.table_definitions.specs.Table.{max_tets}
-use Rattle.table_definitions.proofs.LineLaws.{line_found}
-use Rattle.document_definitions.specs.Signs.{Sign}
-use Rattle.document_laws.proofs.Local.{shows, alone}
 use Rattle.document_laws.proofs.LocalWords.{ending}
-use Rattle.document_laws.proofs.LocalLines.{next_line}
 use Rattle.document_laws.proofs.LocalTables.{entry_test, any_text, name_test}
-use Rattle.document_laws.proofs.Ways.{Sat, From, Alike, again_from, line_before}
-use Rattle.document_laws.proofs.TextReaders.{Read, words_at, row_text, row_line, rows_text, counted_text, text_named, text_at, next_text}
+use Rattle.document_laws.proofs.TextReaders.{words_at, row_text, row_line, rows_text, counted_text, text_named, text_at, next_text}
 use Rattle.document_laws.proofs.TextGrammar.{tri_passes}
 use Rattle.document_laws.proofs.Chains.{Ends, Opens, ends_word, ends_number, ends_ending, ends_lines, opens_next, opens_pure, opens_both}
 
@@ -46,31 +39,3 @@ ends_text = ends_word name_test (codes "tri") true tri_passes text_named ends_na
 
 pub opens_next_text : Opens next_text
 opens_next_text = opens_next text_at ends_text
-
--- a reading that can be read with an aim, at the end of a line
-pub record SatBehind (read : Reading → Read) (Aim : ⊤ → List Sign → Type 0) : Type 0 where
-  pub sat : Sat read Aim
-  pub none : sat.start.current.tokens ≡ []
-
--- the line of a reading is begun behind an empty line
-pub in_next_line : (read : Reading → Read) (Aim : ⊤ → List Sign → Type 0) → Sat read Aim → SatBehind (λ c. next_line c >>= λ (u : ⊤ × Reading). read u.1) Aim
-unfolding line_before
-in_next_line read Aim s = record {
-  sat = record {
-    start = line_before s.start;
-    value = s.value;
-    next = s.next;
-    reads = ap (λ (r : Result Reading LexFault). alone r >>= λ (u : ⊤ × Reading). read u.1) (line_found (line_before s.start) s.start.current s.start.later refl) ∙ s.reads;
-    aim = s.aim;
-  };
-  none = refl;
-}
-
--- one reader after another
-pub behind_both : (first second : Reading → Read) (Aim : ⊤ → List Sign → Type 0) → Alike second → SatBehind first (λ u ss. From second Aim ss) → SatBehind (λ c. first c >>= λ (u : ⊤ × Reading). second u.1) Aim
-behind_both first second Aim alike s =
-    let n : (y : ⊤) × (e : Reading) × (second s.sat.next ≡ Ok (y, e)) × Aim y (shows e) = again_from second Aim alike (shows s.sat.next) s.sat.aim s.sat.next refl in
-    record {
-      sat = record { start = s.sat.start; value = n.0; next = n.1; reads = ap (λ (q : Read). q >>= λ (u : ⊤ × Reading). second u.1) s.sat.reads ∙ n.2; aim = n.3 };
-      none = s.none;
-    }
