@@ -2,7 +2,6 @@
 use Rattle.std.proofs.Common.{ℕ, ℤ, List, Option}
 use Rattle.text_definitions.specs.Reading.{Reading}
 use Rattle.table_definitions.specs.Table.{Gluing, Row as TableRow}
-use Rattle.sum_definitions.specs.Sums.{Term}
 use Rattle.document_definitions.specs.Blocks.{Block}
 
 abbrev pub Numbers : Type 0
@@ -18,17 +17,11 @@ Table = List TableRow × Reading
 abbrev pub Tables : Type 0
 Tables = List (List TableRow) × Reading
 
--- the coefficients of a row, and the rows of a cone
+-- the coefficients of a row
 abbrev pub Row : Type 0
 Row = List ℤ × Reading
 
-abbrev pub Rows : Type 0
-Rows = List (List ℤ) × Reading
-
--- the terms of a block, a block, and blocks
-abbrev pub Terms : Type 0
-Terms = List Term × Reading
-
+-- a block, and blocks
 abbrev pub Whole : Type 0
 Whole = Block × Reading
 
