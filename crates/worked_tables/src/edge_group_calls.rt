@@ -20,7 +20,9 @@ fn turned(generator: u32) -> Letter {
 fn the_figure_eight_complement(rt: HostRuntime) {
     let rows = figure_eight();
     let skeleton = skeleton_of(&rt, rt.alloc(), &rows);
-    let group = Group::of(rt.alloc(), &skeleton).ok().expect(&rt, "a group");
+    let Ok(group) = Group::of(rt.alloc(), &skeleton) else {
+        panic!(rt; "a group was expected");
+    };
     assert_eq!(rt; group.generators(), 3);
     assert_eq!(rt;
         (group.face_of(1), group.face_of(2), group.face_of(3)),

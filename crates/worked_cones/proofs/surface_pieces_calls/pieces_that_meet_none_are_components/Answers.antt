@@ -6,7 +6,7 @@ use Rattle.worked_cones.proofs.surface_pieces_calls.pieces_that_meet_none_are_co
 
 pub build-requires-clause-surface : goal.build-requires-clause-surface
 build-requires-clause-surface g c =
-    let made : (c.expect.result).rows ≡ c.in-Ok.table = search rules in
+    let made : (c.expect-skeleton.result).rows ≡ c.in-Ok.table = search rules in
     let given : c.in-Ok.table ≡ free = search rules in
     let table : IsTable free = search rules in
     free_surface _ (made ∙ given) (subst IsTable (sym (made ∙ given)) table)
