@@ -6,7 +6,8 @@ ghost use Rattle.document_definitions.specs.Documents.{vectors_document, verdict
 ghost use Rattle.command_answers.specs.Reads.{all_entries};
 ghost use Rattle.surface_definitions.specs.Verdict.{verdict_text};
 ghost use Rattle.outcome_definitions.specs.Outcomes.{IsReadOutcome};
-ghost use Rattle.outcome_definitions.specs.Answers.{IsVerdictsAnswer, verdict_on};
+ghost use Rattle.vector_definitions.specs.Answers.{verdict_in};
+ghost use Rattle.outcome_definitions.specs.Answers.{IsVerdictsAnswer};
 
 use command_answers::{Outcome, append_checked, fault_outcome, read_table_and_vectors};
 use cone_core::System;
@@ -27,7 +28,7 @@ fn append_verdict(
     vector: &[u128],
 ) -> Result<(), NoMemory>
     requires { system.now.columns ≡ coordinates.columns coords (length table.now) }
-    ensures { OnOk result (out.new.items ≡ out.old.items ++ verdict_text (verdict_on coords table.now system.now.rows vector.now)) }
+    ensures { OnOk result (out.new.items ≡ out.old.items ++ verdict_text (verdict_in coords table.now system.now.rows vector.now)) }
 {
     let checked = check_vector(coords, table.len(), system, vector);
     append_checked(alloc, out, checked)
@@ -42,7 +43,7 @@ fn verdicts(
     vectors: &[Vec<u128>],
 ) -> Result<Vec<u8>, NoMemory>
     requires { system.now.columns ≡ coordinates.columns coords (length table.now) }
-    ensures { IfOk result (λ text. text.items ≡ verdicts_text (map (verdict_on coords table.now system.now.rows) (all_entries vectors.now))) }
+    ensures { IfOk result (λ text. text.items ≡ verdicts_text (map (verdict_in coords table.now system.now.rows) (all_entries vectors.now))) }
 {
     let mut text = Vec::new(alloc);
     for vector in vectors {

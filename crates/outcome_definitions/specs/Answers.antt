@@ -1,13 +1,11 @@
 -- What a run is to answer to words and to the bytes of an input.
 use Rattle.std.specs.Prelude.{◌≡◌, ℕ, Bool, ◌&&◌, List, map, length, Option, Some, None, nat_lt, codes}
 use Rattle.std.specs.Bool.{MatchBool}
-use Rattle.text_definitions.specs.Written.{limit}
 use Rattle.table_definitions.specs.Table.{Row}
 use Rattle.cone_definitions.specs.Rows.{Row as EquationRow}
-use Rattle.surface_definitions.specs.Coordinates.{columns, clash_list}
 use Rattle.surface_definitions.specs.declared.Coords.{Coords}
 use Rattle.surface_definitions.specs.QuadEquations.{AreEquations}
-use Rattle.surface_definitions.specs.Verdict.{Verdict, verdict}
+use Rattle.vector_definitions.specs.Answers.{verdict_in}
 use Rattle.document_definitions.specs.Documents.{worded, table_document, two_tables_document, tables_document, vectors_document, vector_document, steps_document, moves_document, cone_document, verdicts_text}
 use Rattle.document_definitions.specs.Blocks.{blocks_document}
 use Rattle.command_definitions.specs.declared.Request.{Request}
@@ -32,13 +30,9 @@ use Rattle.outcome_definitions.specs.Canonical.{IsSignatureAnswer, IsSameAnswer,
 abbrev pub most_bytes : ℕ
 most_bytes = 1048576
 
--- the verdict on a vector under the equations of a table
-abbrev pub verdict_on : Coords → List Row → List EquationRow → List ℕ → Verdict
-verdict_on coords rows equations x = verdict limit (columns coords (length rows)) equations (clash_list coords (length rows)) x
-
 -- a verdict on each vector
 abbrev pub verify_outcome : Coords → List Row → List EquationRow → List (List ℕ) → Outcome
-verify_outcome coords rows equations vectors = record { status = Done; text = verdicts_text (map (verdict_on coords rows equations) vectors) }
+verify_outcome coords rows equations vectors = record { status = Done; text = verdicts_text (map (verdict_in coords rows equations) vectors) }
 
 -- the answer to a table and vectors: a verdict on each vector, under the equations of the table
 abbrev pub IsVerdictsAnswer : Coords → List Row × List (List ℕ) → Outcome → Type 0

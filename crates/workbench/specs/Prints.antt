@@ -12,13 +12,14 @@ use Rattle.cone_text_definitions.specs.ConeText.{Cone as ConeText, system_of}
 use Rattle.surface_definitions.specs.Coordinates.{columns, clash_list}
 use Rattle.surface_definitions.specs.declared.Coords.{Coords}
 use Rattle.surface_definitions.specs.QuadEquations.{AreEquations}
+use Rattle.vector_definitions.specs.Answers.{verdict_in}
 use Rattle.document_definitions.specs.Documents.{worded, table_document, vectors_document, cone_document, verdicts_text}
 use Rattle.surface_definitions.specs.TableSurfaces.{table_enumeration}
 use Rattle.outcome_definitions.specs.declared.Status.{Status}
 use Rattle.outcome_definitions.specs.declared.Status.TheVariants.{Done, Large, ReadFault, WriteFault, NoMemory}
 use Rattle.outcome_definitions.specs.Outcomes.{Outcome}
 use Rattle.outcome_definitions.specs.Enumerations.{listing, large_outcome, ray_enumeration}
-use Rattle.outcome_definitions.specs.Answers.{verdict_on, most_bytes}
+use Rattle.outcome_definitions.specs.Answers.{most_bytes}
 
 -- The input spells a table, and exactly the primitive vectors that lie on extreme rays of the solution cone of its
 -- equations and meet the quadrilateral condition were printed, each once, in lexicographic order.
@@ -46,7 +47,7 @@ pub record PrintsVerdicts (coords : Coords) (bytes : List ℕ) (before now : Opt
   pub spelled : vectors_document bytes ≡ Ok (rows, vectors)
   pub equations : List EquationRow
   pub of_table : AreEquations coords rows equations
-  pub printed : Grows before now (verdicts_text (map (verdict_on coords rows equations) vectors))
+  pub printed : Grows before now (verdicts_text (map (verdict_in coords rows equations) vectors))
 
 -- The vertex surfaces of a table were printed: exactly the primitive vectors that lie on extreme rays of the solution cone of
 -- its equations and meet the quadrilateral condition, each once, in lexicographic order.

@@ -14,11 +14,12 @@ use Rattle.surface_definitions.specs.declared.VectorFault.TheVariants.{Large}
 use Rattle.surface_definitions.specs.Laws.{HasPartsUpTo}
 use Rattle.surface_definitions.specs.QuadEquations.{AreEquations}
 use Rattle.surface_definitions.specs.Verdict.{solution}
+use Rattle.vector_definitions.specs.Answers.{verdict_in}
 use Rattle.document_definitions.specs.Documents.{table_document, vectors_document}
 use Rattle.command_definitions.specs.declared.Request.TheVariants.{Surfaces, Verify}
 use Rattle.outcome_definitions.specs.declared.Status.TheVariants.{Done}
 use Rattle.outcome_definitions.specs.Outcomes.{Outcome}
-use Rattle.outcome_definitions.specs.Answers.{verdict_on, verify_outcome}
+use Rattle.outcome_definitions.specs.Answers.{verify_outcome}
 use Rattle.answer_laws.specs.Asked.{IsOutcomeTo}
 
 -- all vertex surfaces of a table, by its equations
@@ -47,8 +48,8 @@ pub record IsFirstLarge (equations : List EquationRow) (x : List ℕ) (row : ℕ
 
 -- the verdict on x is that it is a solution where no part passes the limit, and else the first equation of which one does
 abbrev pub IsSolutionUnlessLarge : Coords → List Row → List EquationRow → List ℕ → Type 0
-IsSolutionUnlessLarge coords rows equations x = (All (HasPartsUpTo limit x) equations × (verdict_on coords rows equations x ≡ solution))
-    ⊎ ((row : ℕ) × IsFirstLarge equations x row × (verdict_on coords rows equations x ≡ Err (Large row)))
+IsSolutionUnlessLarge coords rows equations x = (All (HasPartsUpTo limit x) equations × (verdict_in coords rows equations x ≡ solution))
+    ⊎ ((row : ℕ) × IsFirstLarge equations x row × (verdict_in coords rows equations x ≡ Err (Large row)))
 
 -- this is the verdict on a vertex surface
 abbrev pub SurfacesAreSolutions : Type 0
