@@ -22,7 +22,8 @@ use Rattle.outcome_definitions.specs.declared.SumRefusal.TheVariants.{Unfit, Lar
 use Rattle.outcome_definitions.specs.declared.Status.TheVariants.{Done}
 use Rattle.outcome_definitions.specs.Outcomes.{Outcome}
 use Rattle.outcome_definitions.specs.Canonical.{done}
-use Rattle.outcome_definitions.specs.Sums.{IsFirstRefused, sum_refusal_outcome, IsVerdict, IsSummed, IsPastTold, AreFit, accepted_outcome}
+use Rattle.outcome_definitions.specs.Enumerations.{IsPastTold}
+use Rattle.outcome_definitions.specs.Sums.{IsFirstRefused, sum_refusal_outcome, IsVerdict, IsSummed, AreFit, accepted_outcome}
 use Rattle.equation_bounds_laws.specs.Few.{most_tetrahedra}
 use Rattle.answer_laws.specs.Asked.{Means}
 

@@ -42,7 +42,7 @@ listed_told n rows list greatest o a g same =
 
 -- a number passes the limit
 pub large_told : (n : Numbers) (rows : List Row) (taken : Vec ℕ Global) (kind : Named) (o : Outcome) → IsTableRefused limit Standard rows Given (Large taken kind) → o ≡ large_outcome taken.items kind → IsSummary n rows o
-large_told n rows taken kind o a same = record { equations = a.0; of_table = a.1; told = inr (record { taken = taken.items; kind = kind; past = a.2; outcome = same }) }
+large_told n rows taken kind o a same = record { equations = a.0; of_table = a.1; told = inr (taken.items, kind, a.2, same) }
 
 -- a summary of the table that was made
 pub bulk_told : (seed moves : ℕ) (table : List Row) (certificate : List Move) (n : Numbers) (o : Outcome) → IsMade seed moves table certificate → IsCertificate table certificate

@@ -151,7 +151,7 @@ same_parts_own pair o (inr h) = is_own o _ h.1 tt
 bulk_own : (seed moves : ℕ) (o : Outcome) → IsBulkAnswer seed moves o → IsOwnStatus o.status
 bulk_own seed moves o h = elim h.summary.told [
   | inl g ↦ is_own o _ g.outcome tt
-  | inr g ↦ is_own o _ g.outcome tt
+  | inr g ↦ is_own o _ g.3 tt
 ]
 
 pub answer_own : (request : Request) (bytes : List ℕ) (o : Outcome) → IsAnswerTo request bytes o → IsOwnStatus o.status

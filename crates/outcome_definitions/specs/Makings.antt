@@ -3,8 +3,7 @@
 use Rattle.std.specs.Prelude.{◌≡◌, ◌⊎◌, ℕ, ◌≤◌, List, ◌++◌, length, codes, decimal, count_by, All}
 use Rattle.std.specs.List.{flat_map}
 use Rattle.cone_definitions.specs.Rows.{Row as EquationRow}
-use Rattle.cone_definitions.specs.Elimination.{Named}
-use Rattle.cone_definitions.specs.Listings.{Enumeration, IsListed, IsPastLimit}
+use Rattle.cone_definitions.specs.Listings.{Enumeration, IsListed}
 use Rattle.cone_definitions.specs.declared.Order.TheVariants.{Given}
 use Rattle.text_definitions.specs.Written.{limit, line}
 use Rattle.table_definitions.specs.Table.{Row}
@@ -19,7 +18,7 @@ use Rattle.move_definitions.specs.Certificates.{IsCertificate}
 use Rattle.certificate_definitions.specs.Makings.{IsMade}
 use Rattle.outcome_definitions.specs.declared.Status.TheVariants.{Done}
 use Rattle.outcome_definitions.specs.Outcomes.{Outcome}
-use Rattle.outcome_definitions.specs.Enumerations.{large_outcome}
+use Rattle.outcome_definitions.specs.Enumerations.{IsPastTold}
 
 -- the rows of the table, and a line for each move of the certificate
 abbrev pub made_text : List Row → List Move → List ℕ
@@ -73,18 +72,11 @@ pub record AreSummedUp (n : Numbers) (e : Enumeration) (o : Outcome) : Type 0 wh
   pub is_greatest : IsGreatestEntry list greatest
   pub outcome : o ≡ summary_outcome n list greatest
 
--- a number passes the limit before they are
-pub record ArePastLimit (e : Enumeration) (o : Outcome) : Type 0 where
-  pub taken : List ℕ
-  pub kind : Named
-  pub past : IsPastLimit e taken kind
-  pub outcome : o ≡ large_outcome taken kind
-
--- what is told of the vertex surfaces of a table in standard coordinates
+-- what is told of the vertex surfaces of a table in standard coordinates, unless a number passes the limit
 pub record IsSummary (n : Numbers) (table : List Row) (o : Outcome) : Type 0 where
   pub equations : List EquationRow
   pub of_table : AreEquations Standard table equations
-  pub told : AreSummedUp n (table_enumeration Standard Given limit table equations) o ⊎ ArePastLimit (table_enumeration Standard Given limit table equations) o
+  pub told : AreSummedUp n (table_enumeration Standard Given limit table equations) o ⊎ IsPastTold (table_enumeration Standard Given limit table equations) o
 
 -- the answer of `bulk` to a seed and a number of moves: a table is made, its certificate is one, and its surfaces are summed up
 pub record IsBulkAnswer (seed moves : ℕ) (o : Outcome) : Type 0 where

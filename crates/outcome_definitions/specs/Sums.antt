@@ -3,8 +3,7 @@ use Rattle.std.specs.Prelude.{◌≡◌, ◌⊎◌, ℕ, List, ◌∷◌, ◌++�
 use Rattle.std.specs.List.{All, AllZip}
 use Rattle.text_definitions.specs.Written.{limit, line}
 use Rattle.cone_definitions.specs.Rows.{Row as EquationRow}
-use Rattle.cone_definitions.specs.Elimination.{Named}
-use Rattle.cone_definitions.specs.Listings.{Enumeration, IsListed, IsPastLimit}
+use Rattle.cone_definitions.specs.Listings.{Enumeration, IsListed}
 use Rattle.cone_definitions.specs.declared.Order.TheVariants.{Given}
 use Rattle.table_definitions.specs.Table.{Row}
 use Rattle.table_definitions.specs.TableText.{table_text}
@@ -25,7 +24,7 @@ use Rattle.outcome_definitions.specs.declared.Status.{Status}
 use Rattle.outcome_definitions.specs.declared.Status.TheVariants as statuses
 use Rattle.outcome_definitions.specs.Lines.{accepted_text}
 use Rattle.outcome_definitions.specs.Outcomes.{Outcome}
-use Rattle.outcome_definitions.specs.Enumerations.{large_outcome}
+use Rattle.outcome_definitions.specs.Enumerations.{IsPastTold}
 
 -- number v of a list is the first that is refused, and this is why
 pub record IsFirstRefused {A B E : Type 0} (IsTold : A → Result B E → Type 0) (list : List A) (v : ℕ) (refusal : E) : Type 0 where
@@ -95,10 +94,6 @@ pub record AreSums (most : ℕ) (e : Enumeration) (rows : List Row) (vectors : L
   pub told : Result (List Block) (ℕ × (ℕ × ℕ))
   pub sums : AreTold (IsSummed most list) vectors told
   pub outcome : o ≡ sums_outcome rows told
-
--- the first step of an enumeration of which a number passes the limit is told
-abbrev pub IsPastTold : Enumeration → Outcome → Type 0
-IsPastTold e o = (taken : List ℕ) × (kind : Named) × IsPastLimit e taken kind × (o ≡ large_outcome taken kind)
 
 -- vectors that pass the check are told as sums of the vertex surfaces, unless a number of the enumeration passes the limit
 abbrev pub IsDecomposed : ℕ → Enumeration → List Row → List (List ℕ) → Result (List (Unit {0})) (ℕ × VectorFault) → Outcome → Type 0

@@ -14,8 +14,8 @@ use Rattle.certificate_laws.proofs.Made.{tables_are_made_lem, made_are_certified
 use Rattle.cone_laws.proofs.Ended.{enumeration_ends}
 use Rattle.skeleton_laws.proofs.Equated.{some_equations}
 use Rattle.outcome_definitions.specs.Outcomes.{Outcome}
-use Rattle.outcome_definitions.specs.Enumerations.{large_outcome}
-use Rattle.outcome_definitions.specs.Makings.{AreUpTo, IsGreatestEntry, Numbers, summary_outcome, AreSummedUp, ArePastLimit, IsSummary, IsBulkAnswer}
+use Rattle.outcome_definitions.specs.Enumerations.{IsPastTold, large_outcome}
+use Rattle.outcome_definitions.specs.Makings.{AreUpTo, IsGreatestEntry, Numbers, summary_outcome, AreSummedUp, IsSummary, IsBulkAnswer}
 use Rattle.coordinate_laws.proofs.ClashPairs.{clashes_apart}
 
 -- the greatest entry of a vector
@@ -73,12 +73,12 @@ some_greatest (x ∷ list) =
       )
     ]
 
-summed_up : (n : Numbers) (e : Enumeration) → PairsAreApart e.pairs → (o : Outcome) × (AreSummedUp n e o ⊎ ArePastLimit e o)
+summed_up : (n : Numbers) (e : Enumeration) → PairsAreApart e.pairs → (o : Outcome) × (AreSummedUp n e o ⊎ IsPastTold e o)
 summed_up n e apart = elim (enumeration_ends e apart) [
   | inl l ↦
       let g = some_greatest l.1 in
       (summary_outcome n l.1 g.0, inl (record { taken = l.0; list = l.1; listed = l.2; greatest = g.0; is_greatest = g.1; outcome = refl }))
-  | inr past ↦ (large_outcome past.0 past.1, inr (record { taken = past.0; kind = past.1; past = past.2; outcome = refl }))
+  | inr past ↦ (large_outcome past.0 past.1, inr (past.0, past.1, past.2, refl))
 ]
 
 some_summary : (n : Numbers) (rows : List Row) → IsTable rows → (o : Outcome) × IsSummary n rows o

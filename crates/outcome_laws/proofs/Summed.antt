@@ -7,7 +7,7 @@ use Rattle.cone_definitions.specs.Rows.{Row as EquationRow}
 use Rattle.cone_definitions.specs.Listings.{Enumeration}
 use Rattle.cone_definitions.specs.declared.Order.TheVariants.{Given, Free}
 use Rattle.cone_definitions.proofs.Next.{one_surface_list_lem}
-use Rattle.cone_definitions.proofs.PastLimit.{one_past, none_past}
+use Rattle.cone_definitions.proofs.PastLimit.{none_past}
 use Rattle.table_definitions.specs.Table.{Row}
 use Rattle.surface_definitions.specs.declared.Coords.{Coords}
 use Rattle.surface_definitions.specs.declared.VectorFault.{VectorFault}
@@ -23,9 +23,9 @@ use Rattle.document_definitions.specs.Blocks.{Block}
 use Rattle.outcome_definitions.specs.declared.SumRefusal.{SumRefusal}
 use Rattle.outcome_definitions.specs.declared.SumRefusal.TheVariants.{Unfit, UnfitTerm, LargeTimes, NoSum}
 use Rattle.outcome_definitions.specs.Outcomes.{Outcome}
-use Rattle.outcome_definitions.specs.Enumerations.{large_outcome}
-use Rattle.outcome_definitions.specs.Sums.{IsFirstRefused, AreTold, IsVerdict, IsTermVerdict, IsAddedUp, IsSummed, AreSums, IsPastTold, IsDecomposed, IsDecomposeAnswer, IsAddupAnswer, sums_outcome, addup_outcome}
+use Rattle.outcome_definitions.specs.Sums.{IsFirstRefused, AreTold, IsVerdict, IsTermVerdict, IsAddedUp, IsSummed, AreSums, IsDecomposed, IsDecomposeAnswer, IsAddupAnswer, sums_outcome, addup_outcome}
 use Rattle.surface_definitions.proofs.OneSystem.{one_equations}
+use Rattle.outcome_laws.proofs.Enumerated.{one_past_told}
 
 -- vectors whose verdicts are all told as accepted are fit
 pub verdicts_fit : (coords : Coords) (rows : List Row) (equations : List EquationRow) (vectors : List (List ℕ)) (passed : List (Unit {0}))
@@ -130,9 +130,6 @@ one_list_of_sums most e rows vectors o p h k =
     let lists : h.list ≡ k.list = one_surface_list_lem e.system.columns e.system.rows e.system.rows e.pairs h.list k.list (IsPermutation-refl e.system.rows) h.listed.surfaces k.listed.surfaces in
     let there : AreTold (IsSummed most h.list) vectors k.told = subst (λ (list : List (List ℕ)). AreTold (IsSummed most list) vectors k.told) (sym lists) k.sums in
     h.outcome ∙ ap (sums_outcome rows) (told_once (IsSummed most h.list) (one_sum most h.list) vectors h.told k.told h.sums there) ∙ sym k.outcome
-
-one_past_told : (e : Enumeration) (o p : Outcome) → e.order ≢ Free → IsPastTold e o → IsPastTold e p → o ≡ p
-one_past_told e o p some h k = (let both = one_past e h.0 k.0 h.1 k.1 some h.2 k.2 in h.3 ∙ ap₂ large_outcome both.0 both.1 ∙ sym k.3)
 
 one_decomposed : (most : ℕ) (e : Enumeration) (rows : List Row) (vectors : List (List ℕ)) (checked : Result (List (Unit {0})) (ℕ × VectorFault)) (o p : Outcome) → e.order ≢ Free
     → IsDecomposed most e rows vectors checked o → IsDecomposed most e rows vectors checked p → o ≡ p
