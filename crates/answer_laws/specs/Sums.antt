@@ -1,12 +1,11 @@
 -- What `decompose` and `addup` answer: vectors as sums of vertex surfaces, and whether terms add up.
-use Rattle.std.specs.Prelude.{◌≡◌, ◌↔◌, ◌⊎◌, ◌≤◌, ℕ, List, ◌++◌, length}
+use Rattle.std.specs.Prelude.{◌≡◌, ◌↔◌, ◌⊎◌, ◌≤◌, ℕ, List, length}
 use Rattle.std.specs.List.{All, AllZip}
 use Rattle.text_definitions.specs.Written.{limit}
 use Rattle.cone_definitions.specs.Rows.{Row as EquationRow}
 use Rattle.cone_definitions.specs.Surfaces.{IsSurfaceList}
 use Rattle.cone_definitions.specs.declared.Order.TheVariants.{Given}
 use Rattle.table_definitions.specs.Table.{Row}
-use Rattle.table_definitions.specs.TableText.{table_text}
 use Rattle.surface_definitions.specs.Coordinates.{columns, clash_list}
 use Rattle.surface_definitions.specs.declared.Coords.{Coords}
 use Rattle.surface_definitions.specs.declared.VectorFault.{VectorFault}
@@ -16,14 +15,14 @@ use Rattle.vector_definitions.specs.Answers.{IsFit}
 use Rattle.sum_definitions.specs.Adding.{AddsUp}
 use Rattle.sum_laws.specs.Laws.{IsSumOfRays}
 use Rattle.document_definitions.specs.Documents.{vectors_document}
-use Rattle.document_definitions.specs.Blocks.{Block, blocks_text, blocks_document}
+use Rattle.document_definitions.specs.Blocks.{Block, blocks_document}
 use Rattle.command_definitions.specs.declared.Request.TheVariants.{Decompose, Addup}
 use Rattle.outcome_definitions.specs.declared.SumRefusal.TheVariants.{Unfit, LargeTimes}
 use Rattle.outcome_definitions.specs.declared.Status.TheVariants.{Done}
 use Rattle.outcome_definitions.specs.Outcomes.{Outcome}
 use Rattle.outcome_definitions.specs.Canonical.{done}
 use Rattle.outcome_definitions.specs.Enumerations.{IsPastTold}
-use Rattle.outcome_definitions.specs.Sums.{IsFirstRefused, sum_refusal_outcome, IsVerdict, IsSummed, AreFit, accepted_outcome}
+use Rattle.outcome_definitions.specs.Sums.{IsFirstRefused, sum_refusal_outcome, IsVerdict, IsSummed, AreFit, accepted_outcome, sums_text}
 use Rattle.equation_bounds_laws.specs.Few.{most_tetrahedra}
 use Rattle.answer_laws.specs.Asked.{Means}
 
@@ -36,7 +35,7 @@ pub record IsSumOfSurfaces (surfaces : List (List ℕ)) (most : ℕ) (x : List �
 pub record AreSumsOfSurfaces (surfaces : List (List ℕ)) (most : ℕ) (rows : List Row) (vectors : List (List ℕ)) (o : Outcome) : Type 0 where
   pub blocks : List Block
   pub sums : AllZip (IsSumOfSurfaces surfaces most) vectors blocks
-  pub outcome : o ≡ done (table_text rows ++ blocks_text blocks)
+  pub outcome : o ≡ done (sums_text rows blocks)
 
 -- the first vector is told whose sum gets too large, with the turn and the column
 pub record IsFirstLargeTold (surfaces : List (List ℕ)) (most : ℕ) (vectors : List (List ℕ)) (o : Outcome) : Type 0 where

@@ -81,9 +81,13 @@ abbrev pub IsSummed : ℕ → List (List ℕ) → List ℕ → Result Block (ℕ
 IsSummed most list x (Ok block) = (block.vector ≡ x) × IsSum most list x block.times block.terms
 IsSummed most list x (Err large) = IsLargeTurn most list x large.0 large.1
 
+-- a table, with blocks behind it
+abbrev pub sums_text : List Row → List Block → List ℕ
+sums_text rows blocks = table_text rows ++ blocks_text blocks
+
 -- the table and a block for each vector, or the first whose sum gets too large
 abbrev pub sums_outcome : List Row → Result (List Block) (ℕ × (ℕ × ℕ)) → Outcome
-sums_outcome rows (Ok blocks) = record { status = statuses.Done; text = table_text rows ++ blocks_text blocks }
+sums_outcome rows (Ok blocks) = record { status = statuses.Done; text = sums_text rows blocks }
 sums_outcome rows (Err large) = sum_refusal_outcome large.0 (LargeTimes (large.1).0 (large.1).1)
 
 -- the vertex surfaces are listed, and vectors are told as sums of them

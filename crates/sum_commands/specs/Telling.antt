@@ -7,12 +7,11 @@ use Rattle.no_memory.specs.declared.Failure.TheVariants.{NoMemory, Fault}
 use Rattle.text_definitions.specs.Written.{limit}
 use Rattle.cone_definitions.specs.Systems.{Cone}
 use Rattle.table_definitions.specs.Table.{Row}
-use Rattle.table_definitions.specs.TableText.{table_text}
 use Rattle.sum_definitions.specs.Sums.{HasRays, IsLargeTurn}
 use Rattle.sum_definitions.specs.declared.LargeTurn.{LargeTurn}
-use Rattle.document_definitions.specs.Blocks.{Block, block_text, blocks_text}
+use Rattle.document_definitions.specs.Blocks.{Block, block_text}
 use Rattle.outcome_definitions.specs.Outcomes.{Outcome}
-use Rattle.outcome_definitions.specs.Sums.{IsFirstRefused, IsSummed, AreTold, sums_outcome}
+use Rattle.outcome_definitions.specs.Sums.{IsFirstRefused, IsSummed, AreTold, sums_text, sums_outcome}
 use Rattle.sum_commands.specs.declared.checks.FirstFault.{FirstFault}
 
 -- no entry of the vectors passes the greatest number of a document
@@ -33,7 +32,7 @@ TellsSum most list x before now (Err NoMemory) = Unit {0}
 pub record AreSummedIn (most : ℕ) (list : List (List ℕ)) (rows : List Row) (vectors : List (List ℕ)) (text : List ℕ) : Type 0 where
   pub told : List Block
   pub sums : AllZip (λ x block. IsSummed most list x (Ok block)) vectors told
-  pub lines : text ≡ table_text rows ++ blocks_text told
+  pub lines : text ≡ sums_text rows told
 
 -- the table and the blocks of all vectors, or the first whose sum gets too large
 abbrev pub TellsSums : ℕ → List (List ℕ) → List Row → List (List ℕ) → Result (Vec ℕ Global) (Failure (FirstFault LargeTurn)) → Type 0

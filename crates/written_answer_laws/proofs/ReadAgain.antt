@@ -26,10 +26,10 @@ use Rattle.document_laws.proofs.SumDocuments.{blocks_document_read}
 use Rattle.written_laws.proofs.WrittenTables.{BeginsWithTable, table_lines}
 use Rattle.outcome_definitions.specs.declared.Status.TheVariants as statuses
 use Rattle.outcome_definitions.specs.Outcomes.{Outcome, IsReadOutcome}
-use Rattle.outcome_definitions.specs.Sums.{IsVerdict, IsSummed, AreTold, IsDecomposed, IsDecomposeAnswer, IsAddupAnswer, unfit_status, sums_outcome}
+use Rattle.outcome_definitions.specs.Sums.{IsVerdict, IsSummed, AreTold, IsDecomposed, IsDecomposeAnswer, IsAddupAnswer, unfit_status, sums_text, sums_outcome}
 use Rattle.outcome_laws.proofs.Summed.{verdicts_fit}
 use Rattle.outcome_laws.proofs.ReadPairs.{next_read}
-use Rattle.written_answer_laws.specs.Sums.{sums_text, AreToldAsSums, DecomposedAreTold, WrittenSumsAreRead, IsReadAgain, IsAcceptedUnlessLarge, DecomposedAreReadAgain}
+use Rattle.written_answer_laws.specs.Sums.{AreToldAsSums, DecomposedAreTold, WrittenSumsAreRead, IsReadAgain, IsAcceptedUnlessLarge, DecomposedAreReadAgain}
 use Rattle.written_answer_laws.proofs.WrittenBlocks.{FitsBlock, only_blocks}
 use Rattle.written_answer_laws.proofs.SmallNumbers.{block_fits}
 use Rattle.written_answer_laws.proofs.AddedUp.{fit_has_rays, of_each, sums_accepted}

@@ -8,7 +8,6 @@ use Rattle.cone_definitions.specs.Elimination.{HasLargePart}
 use Rattle.cone_definitions.specs.Listings.{IsListed}
 use Rattle.cone_definitions.specs.declared.Order.TheVariants.{Given}
 use Rattle.table_definitions.specs.Table.{Row, IsTable}
-use Rattle.table_definitions.specs.TableText.{table_text}
 use Rattle.surface_definitions.specs.declared.Coords.{Coords}
 use Rattle.surface_definitions.specs.declared.VectorFault.TheVariants.{Large}
 use Rattle.surface_definitions.specs.QuadEquations.{AreEquations}
@@ -17,15 +16,11 @@ use Rattle.surface_definitions.specs.Laws.{HasPartsUpTo}
 use Rattle.vector_definitions.specs.Answers.{IsFit}
 use Rattle.sum_definitions.specs.Sums.{Term}
 use Rattle.document_definitions.specs.Documents.{vectors_document}
-use Rattle.document_definitions.specs.Blocks.{Block, blocks_text, blocks_document}
+use Rattle.document_definitions.specs.Blocks.{Block, blocks_document}
 use Rattle.outcome_definitions.specs.declared.SumRefusal.TheVariants.{UnfitTerm}
 use Rattle.outcome_definitions.specs.declared.Status.TheVariants.{Done}
 use Rattle.outcome_definitions.specs.Outcomes.{Outcome, IsReadOutcome}
-use Rattle.outcome_definitions.specs.Sums.{IsSummed, IsDecomposeAnswer, IsAddupAnswer, sum_refusal_outcome, accepted_outcome}
-
--- a table, with blocks behind it
-abbrev pub sums_text : List Row → List Block → List ℕ
-sums_text rows blocks = table_text rows ++ blocks_text blocks
+use Rattle.outcome_definitions.specs.Sums.{IsSummed, IsDecomposeAnswer, IsAddupAnswer, sum_refusal_outcome, accepted_outcome, sums_text}
 
 -- the vectors are admissible solutions, and each block is the sum of its vector by the list of vertex surfaces
 pub record AreSumsOf (coords : Coords) (most : ℕ) (rows : List Row) (equations : List EquationRow) (vectors : List (List ℕ)) (blocks : List Block) : Type 0 where
