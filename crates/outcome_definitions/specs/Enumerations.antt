@@ -1,5 +1,5 @@
 -- What a run that lists rays or surfaces is to answer: the list, or the first step of which a number passes the limit.
-use Rattle.std.specs.Prelude.{◌≡◌, ℕ, ◌-◌, List, ◌++◌, length, codes, decimal, ◌⊎◌, slice_index}
+use Rattle.std.specs.Prelude.{◌≡◌, ℕ, ◌-◌, ◌≤◌, List, ◌++◌, length, codes, decimal, ◌⊎◌, slice_index, All}
 use Rattle.cone_definitions.specs.Rows.{Row as EquationRow}
 use Rattle.cone_definitions.specs.Elimination.{Named}
 use Rattle.cone_definitions.specs.Listings.{Enumeration, IsListed, IsPastLimit, without_pairs}
@@ -14,6 +14,10 @@ use Rattle.surface_definitions.specs.TableSurfaces.{table_enumeration}
 use Rattle.text_definitions.specs.Written.{line}
 use Rattle.outcome_definitions.specs.declared.Status.TheVariants.{Done, Large}
 use Rattle.outcome_definitions.specs.Outcomes.{Outcome}
+
+-- no entry of the vectors is above this
+abbrev pub AreUpTo : ℕ → List (List ℕ) → Type 0
+AreUpTo most list = All (λ (x : List ℕ). All (λ entry. entry ≤ most) x) list
 
 -- the number of vectors, and a line for each
 abbrev pub listing : List ℕ → List (List ℕ) → List ℕ

@@ -1,6 +1,6 @@
 -- What `make` and `bulk` are to answer, which read nothing: a table that is made with its certificate, and what is told of its
 -- surfaces.
-use Rattle.std.specs.Prelude.{◌≡◌, ◌⊎◌, ℕ, ◌≤◌, List, ◌++◌, length, codes, decimal, count_by, All}
+use Rattle.std.specs.Prelude.{◌≡◌, ◌⊎◌, ℕ, ◌≤◌, List, ◌++◌, length, codes, decimal, count_by}
 use Rattle.std.specs.List.{flat_map}
 use Rattle.cone_definitions.specs.Rows.{Row as EquationRow}
 use Rattle.cone_definitions.specs.Listings.{Enumeration, IsListed}
@@ -18,7 +18,7 @@ use Rattle.move_definitions.specs.Certificates.{IsCertificate}
 use Rattle.certificate_definitions.specs.Makings.{IsMade}
 use Rattle.outcome_definitions.specs.declared.Status.TheVariants.{Done}
 use Rattle.outcome_definitions.specs.Outcomes.{Outcome}
-use Rattle.outcome_definitions.specs.Enumerations.{IsPastTold}
+use Rattle.outcome_definitions.specs.Enumerations.{AreUpTo, IsPastTold}
 
 -- the rows of the table, and a line for each move of the certificate
 abbrev pub made_text : List Row → List Move → List ℕ
@@ -33,10 +33,6 @@ pub record IsMakeAnswer (seed moves : ℕ) (o : Outcome) : Type 0 where
   pub certificate : List Move
   pub made : IsMade seed moves table certificate
   pub outcome : o ≡ make_outcome table certificate
-
--- no entry of the vectors is above this
-abbrev pub AreUpTo : ℕ → List (List ℕ) → Type 0
-AreUpTo most list = All (λ (x : List ℕ). All (λ entry. entry ≤ most) x) list
 
 -- the greatest entry of vectors, which is 0 where there are none
 pub record IsGreatestEntry (list : List (List ℕ)) (greatest : ℕ) : Type 0 where

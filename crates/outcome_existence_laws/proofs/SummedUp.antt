@@ -14,8 +14,8 @@ use Rattle.certificate_laws.proofs.Made.{tables_are_made_lem, made_are_certified
 use Rattle.cone_laws.proofs.Ended.{enumeration_ends}
 use Rattle.skeleton_laws.proofs.Equated.{some_equations}
 use Rattle.outcome_definitions.specs.Outcomes.{Outcome}
-use Rattle.outcome_definitions.specs.Enumerations.{IsPastTold, large_outcome}
-use Rattle.outcome_definitions.specs.Makings.{AreUpTo, IsGreatestEntry, Numbers, summary_outcome, AreSummedUp, IsSummary, IsBulkAnswer}
+use Rattle.outcome_definitions.specs.Enumerations.{AreUpTo, IsPastTold, large_outcome}
+use Rattle.outcome_definitions.specs.Makings.{IsGreatestEntry, Numbers, summary_outcome, AreSummedUp, IsSummary, IsBulkAnswer}
 use Rattle.coordinate_laws.proofs.ClashPairs.{clashes_apart}
 
 -- the greatest entry of a vector

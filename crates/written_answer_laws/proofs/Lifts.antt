@@ -28,10 +28,10 @@ use Rattle.cone_text_definitions.specs.VectorText.{vector_at}
 use Rattle.command_definitions.specs.declared.Request.TheVariants.{Lift, Verify}
 use Rattle.outcome_definitions.specs.declared.Status.TheVariants.{Done}
 use Rattle.outcome_definitions.specs.Outcomes.{Outcome}
+use Rattle.outcome_definitions.specs.Enumerations.{AreUpTo}
 use Rattle.outcome_definitions.specs.Vectors.{refusal_status, lift_outcome, IsLiftsAnswer}
 use Rattle.outcome_definitions.specs.Answers.{verify_outcome, IsVerdictsAnswer}
 use Rattle.outcome_laws.proofs.Certified.{table_with_lines}
-use Rattle.written_laws.specs.Laws.{AreWithinLimit}
 use Rattle.written_laws.proofs.WrittenTables.{BeginsWithTable, table_lines}
 use Rattle.written_laws.proofs.WrittenVectors.{only_vectors}
 use Rattle.answer_laws.proofs.Asked.{answer_to, answer_to_value}
@@ -41,7 +41,7 @@ use Rattle.written_answer_laws.proofs.Verdicts.{solutions_are_told}
 use Rattle.written_answer_laws.proofs.LiftEntries.{lifts_within}
 
 -- a table with vectors behind it is read as them
-vectors_read : (rows : List Row) (list : List (List ℕ)) → IsTable rows → AreWithinLimit list → vectors_document (table_text rows ++ list_text list) ≡ Ok (rows, list)
+vectors_read : (rows : List Row) (list : List (List ℕ)) → IsTable rows → AreUpTo limit list → vectors_document (table_text rows ++ list_text list) ≡ Ok (rows, list)
 vectors_read rows list table within =
     let b : BeginsWithTable rows table (table_text rows ++ list_text list) (list_text list) = table_lines rows table (list_text list) in
     (vectors_document_read (table_text rows ++ list_text list) rows list).1 (b.lines, lines_from (2 + length rows) (pieces (list_text list)), b.split, inl b.are, only_vectors (2 + length rows) list within)
@@ -76,7 +76,7 @@ module _ (s : Skeleton) (k : IsSkeleton s) (equations : List EquationRow) where
         },
       )
 
-  all_lifts : (vectors lifts : List (List ℕ)) → AllZip (λ xs ys. IsLifted s equations xs (Ok ys)) vectors lifts → AllZip (IsLiftOf s) vectors lifts × AreWithinLimit lifts × All (IsSurface s.rows Standard) lifts
+  all_lifts : (vectors lifts : List (List ℕ)) → AllZip (λ xs ys. IsLifted s equations xs (Ok ys)) vectors lifts → AllZip (IsLiftOf s) vectors lifts × AreUpTo limit lifts × All (IsSurface s.rows Standard) lifts
   all_lifts [] [] t = (tt, All-nil (λ (x : List ℕ). All (λ entry. entry ≤ limit) x), All-nil (IsSurface s.rows Standard))
   all_lifts [] (y ∷ ys) t = absurd t
   all_lifts (x ∷ xs) [] t = absurd t

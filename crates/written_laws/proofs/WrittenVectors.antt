@@ -8,7 +8,7 @@ use Rattle.text_definitions.specs.Written.{limit}
 use Rattle.table_definitions.specs.Grammar.{IsNumber}
 use Rattle.cone_text_definitions.specs.VectorText.{vector_text, list_text}
 use Rattle.surface_definitions.specs.Grammar.{IsVectorLine}
-use Rattle.written_laws.specs.Laws.{AreWithinLimit}
+use Rattle.outcome_definitions.specs.Enumerations.{AreUpTo}
 use Rattle.text_definitions.proofs.Decimals.{decimal_value-decimal}
 use Rattle.table_definitions.proofs.WrittenWords.{IsText, behind_spaces, decimal_is_text}
 use Rattle.table_definitions.proofs.WrittenLines.{written_line, line_words, BeginsWith, each_line}
@@ -46,12 +46,12 @@ within_limit [] h = tt
 within_limit (x ∷ list) h = (recursion_from_All (λ entry. entry ≤ limit) x h.0, within_limit list h.1)
 
 -- the lines of a list begin with a line for each vector
-pub vector_lines : (n : ℕ) (list : List (List ℕ)) (rest : List ℕ) → AreWithinLimit list → BeginsWith IsVectorLine n (list_text list ++ rest) list rest
+pub vector_lines : (n : ℕ) (list : List (List ℕ)) (rest : List ℕ) → AreUpTo limit list → BeginsWith IsVectorLine n (list_text list ++ rest) list rest
 vector_lines n list rest h =
     each_line IsVectorLine vector_text AreEntries vector_line n list rest (within_limit list (recursion_from_All (λ (x : List ℕ). All (λ entry. entry ≤ limit) x) list h))
 
 -- from line n on there is nothing else
-pub only_vectors : (n : ℕ) (list : List (List ℕ)) → AreWithinLimit list → AllZip IsVectorLine (lines_from n (pieces (list_text list))) list
+pub only_vectors : (n : ℕ) (list : List (List ℕ)) → AreUpTo limit list → AllZip IsVectorLine (lines_from n (pieces (list_text list))) list
 unfolding lines_from
 only_vectors n list h =
     let b : BeginsWith IsVectorLine n (list_text list ++ []) list [] = vector_lines n list [] h in
@@ -59,5 +59,5 @@ only_vectors n list h =
     ap (λ (bytes : List ℕ). lines_from n (pieces bytes)) (sym (append-nil (list_text list))) ∙ b.split ∙ append-nil b.lines in
     subst (λ (ls : List Line). AllZip IsVectorLine ls list) (sym all) b.are
 
-pub written_vectors : (list : List (List ℕ)) → AreWithinLimit list → AllZip IsVectorLine (lines_of (list_text list)) list
+pub written_vectors : (list : List (List ℕ)) → AreUpTo limit list → AllZip IsVectorLine (lines_of (list_text list)) list
 written_vectors list h = only_vectors 1 list h

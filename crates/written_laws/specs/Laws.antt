@@ -1,5 +1,5 @@
 -- The laws of what is written: it is read again as the same value.
-use Rattle.std.specs.Prelude.{◌≡◌, ℕ, ◌≤◌, List, [], ◌∷◌, ◌++◌, length, codes, decimal, Ok, All}
+use Rattle.std.specs.Prelude.{◌≡◌, ℕ, List, ◌++◌, codes, Ok}
 use Rattle.std.specs.List.{AllZip}
 use Rattle.text_definitions.specs.Text.{lines_of}
 use Rattle.text_definitions.specs.Written.{limit}
@@ -9,6 +9,7 @@ use Rattle.table_definitions.specs.Grammar.{AreTriLines}
 use Rattle.surface_definitions.specs.Grammar.{IsVectorLine}
 use Rattle.document_definitions.specs.Documents.{table_document, vectors_document}
 use Rattle.cone_text_definitions.specs.VectorText.{list_text}
+use Rattle.outcome_definitions.specs.Enumerations.{AreUpTo, listing}
 
 -- what is written for a table is the table's lines
 abbrev pub WrittenTablesAreLines : Type 0
@@ -18,19 +19,11 @@ WrittenTablesAreLines = (rows : List Row) → IsTable rows → AreTriLines (line
 abbrev pub WrittenTablesAreRead : Type 0
 WrittenTablesAreRead = (rows : List Row) → IsTable rows → table_document (table_text rows) ≡ Ok rows
 
--- no entry is above the greatest number of a document
-abbrev pub AreWithinLimit : List (List ℕ) → Type 0
-AreWithinLimit list = All (λ (x : List ℕ). All (λ entry. entry ≤ limit) x) list
-
--- what is written for a list of vectors is a line for each
+-- what is written for a list of vectors is a line for each, where no entry is above the greatest number of a document
 abbrev pub WrittenVectorsAreLines : Type 0
-WrittenVectorsAreLines = (list : List (List ℕ)) → AreWithinLimit list → AllZip IsVectorLine (lines_of (list_text list)) list
+WrittenVectorsAreLines = (list : List (List ℕ)) → AreUpTo limit list → AllZip IsVectorLine (lines_of (list_text list)) list
 
--- the answer of `surfaces`: a comment with the number of vectors, and the vectors
-abbrev pub surfaces_text : List (List ℕ) → List ℕ
-surfaces_text list = ((codes "# surfaces " ++ decimal (length list)) ++ 10 ∷ []) ++ list_text list
-
--- what is written for a table, with such an answer behind it, is read as the table and the vectors
+-- what is written for a table, with an answer of `surfaces` behind it, is read as the table and the vectors
 abbrev pub WrittenAnswersAreRead : Type 0
 WrittenAnswersAreRead =
-    (rows : List Row) (list : List (List ℕ)) → IsTable rows → AreWithinLimit list → vectors_document (table_text rows ++ surfaces_text list) ≡ Ok (rows, list)
+    (rows : List Row) (list : List (List ℕ)) → IsTable rows → AreUpTo limit list → vectors_document (table_text rows ++ listing (codes "surfaces") list) ≡ Ok (rows, list)
