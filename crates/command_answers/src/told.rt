@@ -1,16 +1,17 @@
-// Truth values, counts and whole answers in lines.
+// Truth values, numbers and whole answers in lines.
 ghost use Rattle.std.specs.Prelude.{◌≡◌, ◌++◌, IfOk, OnOk};
 ghost use Rattle.outcome_definitions.specs.Information as information;
 ghost use Rattle.text_definitions.specs.Written as written;
 ghost use Rattle.text_definitions.specs.Written.{line};
+ghost use Rattle.outcome_definitions.specs.Lines.{number_line};
 ghost use Rattle.outcome_definitions.specs.Canonical.{done};
 ghost use Rattle.outcome_definitions.specs.Sums.{accepted_outcome};
 
-use crate::{Outcome, append_numbered};
+use crate::Outcome;
 use no_memory::NoMemory;
 use outcome_definitions::Status;
 use std::alloc::Global;
-use text_io::append;
+use text_io::{append, append_decimal};
 
 /// A truth value as a word.
 pub fn yes_or_no(value: bool) -> &'static [u8]
@@ -29,16 +30,19 @@ pub fn append_told(text: &mut Vec<u8>, name: &[u8], value: bool) -> Result<(), N
     Ok(())
 }
 
-/// A name and a count, as a line.
-pub fn append_counted(
+/// A name and a number, as a line.
+pub fn append_numbered(
     alloc: Global,
     text: &mut Vec<u8>,
     name: &[u8],
-    count: u32,
+    number: u128,
 ) -> Result<(), NoMemory>
-    ensures { OnOk result (text.new.items ≡ text.old.items ++ information.counted name.now count) }
+    ensures { OnOk result (text.new.items ≡ text.old.items ++ number_line name.now number) }
 {
-    append_numbered(alloc, text, name, u128::from(count))
+    append(text, name)?;
+    append_decimal(alloc, text, number)?;
+    append(text, b"\n")?;
+    Ok(())
 }
 
 /// The outcome of an answer of one line.

@@ -3,25 +3,11 @@ ghost use Rattle.std.specs.Prelude.{◌≡◌, ◌++◌, codes, decimal, OnOk};
 ghost use Rattle.text_definitions.specs.Written.{line};
 ghost use Rattle.surface_definitions.specs.Verdict.{verdict_text};
 
+use crate::append_numbered;
 use no_memory::NoMemory;
 use std::alloc::Global;
 use surface_definitions::VectorFault;
 use text_io::{append, append_decimal};
-
-/// A line of a word and a number.
-pub fn append_numbered(
-    alloc: Global,
-    out: &mut Vec<u8>,
-    word: &[u8],
-    number: u128,
-) -> Result<(), NoMemory>
-    ensures { OnOk result (out.new.items ≡ out.old.items ++ line (word.now ++ decimal number)) }
-{
-    append(out, word)?;
-    append_decimal(alloc, out, number)?;
-    append(out, b"\n")?;
-    Ok(())
-}
 
 // A line of a clash.
 fn append_clash(alloc: Global, out: &mut Vec<u8>, first: u32, second: u32) -> Result<(), NoMemory>

@@ -6,7 +6,7 @@ ghost use Rattle.outcome_definitions.specs.Information.{classes_text};
 ghost use Rattle.outcome_definitions.specs.Presented as presented;
 ghost use Rattle.outcome_definitions.specs.Presented.{letter_text, generator_line, relator_line, generator_text, relator_text};
 
-use command_answers::{append_counted, yes_or_no};
+use command_answers::{append_numbered, yes_or_no};
 use edge_group::{Group, Letter};
 use no_memory::NoMemory;
 use std::alloc::Global;
@@ -105,9 +105,19 @@ pub fn presentation_text(alloc: Global, group: &Group) -> Result<Vec<u8>, NoMemo
     ensures { IfOk result (λ text. text.items ≡ presented.presentation_text group.now.presentation) }
 {
     let mut text = Vec::new(alloc);
-    append_counted(alloc, &mut text, b"generators ", group.generators())?;
+    append_numbered(
+        alloc,
+        &mut text,
+        b"generators ",
+        u128::from(group.generators()),
+    )?;
     append_generators(alloc, &mut text, group)?;
-    append_counted(alloc, &mut text, b"relators ", group.relators())?;
+    append_numbered(
+        alloc,
+        &mut text,
+        b"relators ",
+        u128::from(group.relators()),
+    )?;
     append_relators(alloc, &mut text, group)?;
     Ok(text)
 }

@@ -13,9 +13,10 @@ use Rattle.surface_list.specs.Surfaces.{AreTableSurfaces, IsTableRefused}
 use Rattle.move_definitions.specs.Moves.{Move}
 use Rattle.move_definitions.specs.Certificates.{IsCertificate}
 use Rattle.certificate_definitions.specs.Makings.{IsMade}
+use Rattle.outcome_definitions.specs.Lines.{number_line}
 use Rattle.outcome_definitions.specs.Outcomes.{Outcome}
 use Rattle.outcome_definitions.specs.Enumerations.{large_outcome}
-use Rattle.outcome_definitions.specs.Makings.{IsGreatestEntry, Numbers, number_line, summary_text, summary_outcome, IsSummary, IsBulkAnswer}
+use Rattle.outcome_definitions.specs.Makings.{IsGreatestEntry, Numbers, summary_text, summary_outcome, IsSummary, IsBulkAnswer}
 
 seven_lines : (t0 t1 t2 t3 t4 t5 t6 t7 a b c d e f g : List ℕ) → t0 ≡ [] → t1 ≡ t0 ++ a → t2 ≡ t1 ++ b → t3 ≡ t2 ++ c → t4 ≡ t3 ++ d → t5 ≡ t4 ++ e → t6 ≡ t5 ++ f → t7 ≡ t6 ++ g
     → t7 ≡ a ++ b ++ c ++ d ++ e ++ f ++ g

@@ -12,6 +12,7 @@ use Rattle.skeleton_definitions.specs.declared.Link.{Link}
 use Rattle.skeleton_definitions.specs.Skeleton.{Skeleton, IsSkeleton, IsValidClass, AreLinks}
 use Rattle.text_definitions.specs.Written.{line, yes_or_no}
 use Rattle.outcome_definitions.specs.declared.Status.TheVariants.{Done}
+use Rattle.outcome_definitions.specs.Lines.{number_line}
 use Rattle.outcome_definitions.specs.Outcomes.{Outcome}
 
 -- the skeleton of a table, the links of its vertex classes, which edge classes are valid, and whether the table is connected and orientable
@@ -40,9 +41,6 @@ pub record IsInformation (rows : List Row) (i : Information) : Type 0 where
   pub connected : IsTrue i.connected ↔ IsConnected rows
   pub orientable : IsTrue i.orientable ↔ IsOrientable rows
 
-abbrev pub counted : List ℕ → ℕ → List ℕ
-counted name n = line (name ++ decimal n)
-
 abbrev pub told : List ℕ → Bool → List ℕ
 told name b = line (name ++ yes_or_no b)
 
@@ -63,11 +61,11 @@ characteristic s = pos (s.vertices.count + s.faces.count) -ℤ pos (s.edges.coun
 
 abbrev pub flags_text : Skeleton → Bool → Bool → List ℕ
 flags_text s connected orientable =
-    counted (codes "tetrahedra ") (length s.rows) ++ told (codes "connected ") connected ++ told (codes "orientable ") orientable ++ told (codes "closed ") (is_closed s.rows)
+    number_line (codes "tetrahedra ") (length s.rows) ++ told (codes "connected ") connected ++ told (codes "orientable ") orientable ++ told (codes "closed ") (is_closed s.rows)
 
 abbrev pub counts_text : Skeleton → List ℕ
 counts_text s =
-    counted (codes "vertices ") s.vertices.count ++ counted (codes "edges ") s.edges.count ++ counted (codes "faces ") s.faces.count
+    number_line (codes "vertices ") s.vertices.count ++ number_line (codes "edges ") s.edges.count ++ number_line (codes "faces ") s.faces.count
     ++ line (codes "euler " ++ signed_decimal (characteristic s))
 
 -- a vertex class: its degree, and the Euler characteristic and kind of its link

@@ -1,4 +1,4 @@
--- The one line that is written for each refusal.
+-- A number with its name as a line, and the one line that is written for each refusal.
 use Rattle.std.specs.Prelude.{List, ℕ, [], ◌++◌, codes, decimal}
 use Rattle.text_definitions.specs.declared.LexKind.{LexKind}
 use Rattle.text_definitions.specs.declared.LexKind.TheVariants.{BadByte, MissingWord, NumberTooWide, ExtraWord, BadWord}
@@ -16,6 +16,10 @@ use Rattle.signature_definitions.specs.declared.SigFault.TheVariants as sig_faul
 use Rattle.signature_definitions.specs.declared.SigFault.TheVariants.{BadChar, Short, BadType, Leftover, Destination, Gluing, FaceTaken, Trailing, Unreached, Width}
 use Rattle.signature_definitions.specs.declared.InputFault.{InputFault}
 use Rattle.signature_definitions.specs.declared.InputFault.TheVariants.{NoMemory, Text, Signature}
+
+-- a number with its name
+abbrev pub number_line : List ℕ → ℕ → List ℕ
+number_line name number = line (name ++ decimal number)
 
 abbrev pub kind_text : LexKind → List ℕ
 kind_text BadByte = codes "bad-byte"

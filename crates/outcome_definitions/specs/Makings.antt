@@ -1,11 +1,11 @@
 -- What `make` and `bulk` are to answer, which read nothing: a table that is made with its certificate, and what is told of its
 -- surfaces.
-use Rattle.std.specs.Prelude.{◌≡◌, ◌⊎◌, ℕ, ◌≤◌, List, ◌++◌, length, codes, decimal, count_by}
+use Rattle.std.specs.Prelude.{◌≡◌, ◌⊎◌, ℕ, ◌≤◌, List, ◌++◌, length, codes, count_by}
 use Rattle.std.specs.List.{flat_map}
 use Rattle.cone_definitions.specs.Rows.{Row as EquationRow}
 use Rattle.cone_definitions.specs.Listings.{Enumeration, IsListed}
 use Rattle.cone_definitions.specs.declared.Order.TheVariants.{Given}
-use Rattle.text_definitions.specs.Written.{limit, line}
+use Rattle.text_definitions.specs.Written.{limit}
 use Rattle.table_definitions.specs.Table.{Row}
 use Rattle.table_definitions.specs.TableText.{table_text}
 use Rattle.surface_definitions.specs.declared.Coords.TheVariants.{Standard}
@@ -17,6 +17,7 @@ use Rattle.move_definitions.specs.MoveText.{move_text}
 use Rattle.move_definitions.specs.Certificates.{IsCertificate}
 use Rattle.certificate_definitions.specs.Makings.{IsMade}
 use Rattle.outcome_definitions.specs.declared.Status.TheVariants.{Done}
+use Rattle.outcome_definitions.specs.Lines.{number_line}
 use Rattle.outcome_definitions.specs.Outcomes.{Outcome}
 use Rattle.outcome_definitions.specs.Enumerations.{AreUpTo, IsPastTold}
 
@@ -44,10 +45,6 @@ pub record Numbers : Type 0 where
   pub seed : ℕ
   pub moves : ℕ
   pub tetrahedra : ℕ
-
--- a number with its name
-abbrev pub number_line : List ℕ → ℕ → List ℕ
-number_line name number = line (name ++ decimal number)
 
 -- the numbers, how many surfaces there are, their greatest entry, and how many of them have no quads
 unfoldable pub summary_text : Numbers → List (List ℕ) → ℕ → List ℕ

@@ -8,8 +8,9 @@ use Rattle.group_definitions.specs.declared.Letter.{Letter}
 use Rattle.group_definitions.specs.Presentations.{Presentation, IsPresentation}
 use Rattle.group_definitions.specs.Groups.{HasGroup}
 use Rattle.text_definitions.specs.Written.{line, yes_or_no}
+use Rattle.outcome_definitions.specs.Lines.{number_line}
 use Rattle.outcome_definitions.specs.Outcomes.{Outcome}
-use Rattle.outcome_definitions.specs.Information.{counted, classes_text}
+use Rattle.outcome_definitions.specs.Information.{classes_text}
 use Rattle.outcome_definitions.specs.Canonical.{done, IsNotConnected}
 use Rattle.outcome_definitions.specs.Vectors.{IsInvalidTold}
 
@@ -37,8 +38,8 @@ relator_text p r = relator_line (slice_index p.edges r) (slice_index_or p.relato
 
 abbrev pub presentation_text : Presentation → List ℕ
 presentation_text p =
-    counted (codes "generators ") (length p.generators) ++ classes_text (generator_text p) (length p.generators)
-    ++ counted (codes "relators ") (length p.relators) ++ classes_text (relator_text p) (length p.relators)
+    number_line (codes "generators ") (length p.generators) ++ classes_text (generator_text p) (length p.generators)
+    ++ number_line (codes "relators ") (length p.relators) ++ classes_text (relator_text p) (length p.relators)
 
 -- the presentation of a table is told
 abbrev pub IsPresented : Skeleton → Outcome → Type 0

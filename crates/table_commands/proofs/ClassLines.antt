@@ -3,7 +3,8 @@ use Rattle.std.proofs.Common.{◌≡◌, ℕ, ◌+◌, ◌<◌, List, [], ◌∷
 use Rattle.std.specs.Prelude.{IsTrue, is_some, codes, ◌↔◌}
 use Rattle.std.specs.List.{slice_index_or}
 use Rattle.skeleton_definitions.specs.declared.Link.{Link}
-use Rattle.outcome_definitions.specs.Information.{counted, told, edge_line, vertex_line, AreValid, Information, IsInformation, information_text, IsInformationAnswer}
+use Rattle.outcome_definitions.specs.Information.{told, edge_line, vertex_line, AreValid, Information, IsInformation, information_text, IsInformationAnswer}
+use Rattle.outcome_definitions.specs.Lines.{number_line}
 use Rattle.outcome_definitions.specs.Outcomes.{Outcome}
 use Rattle.outcome_definitions.specs.declared.Status.TheVariants.{Done}
 use Rattle.table_definitions.specs.Table.{Row}
@@ -59,8 +60,8 @@ four_pieces t t₁ t₂ t₃ t₄ a b c d e f g h =
     h ∙ ap (λ (u : List ℕ). u ++ d) three ∙ append_assoc t ((a ++ b) ++ c) d
 
 -- the lines of the whole table, one after the other
-pub flags_written : (t t₁ t₂ t₃ t₄ : List ℕ) (n m : ℕ) (x y z w : Bool) → t₁ ≡ t ++ counted (codes "tetrahedra ") n → t₂ ≡ t₁ ++ told (codes "connected ") x
+pub flags_written : (t t₁ t₂ t₃ t₄ : List ℕ) (n m : ℕ) (x y z w : Bool) → t₁ ≡ t ++ number_line (codes "tetrahedra ") n → t₂ ≡ t₁ ++ told (codes "connected ") x
     → t₃ ≡ t₂ ++ told (codes "orientable ") y → t₄ ≡ t₃ ++ told (codes "closed ") z → n ≡ m → z ≡ w
-    → t₄ ≡ t ++ (counted (codes "tetrahedra ") m ++ told (codes "connected ") x ++ told (codes "orientable ") y ++ told (codes "closed ") w)
+    → t₄ ≡ t ++ (number_line (codes "tetrahedra ") m ++ told (codes "connected ") x ++ told (codes "orientable ") y ++ told (codes "closed ") w)
 flags_written t t₁ t₂ t₃ t₄ n m x y z w e f g h size same =
-    four_pieces t t₁ t₂ t₃ t₄ _ _ _ _ (e ∙ ap (λ (k : ℕ). t ++ counted (codes "tetrahedra ") k) size) f g (h ∙ ap (λ (b : Bool). t₃ ++ told (codes "closed ") b) same)
+    four_pieces t t₁ t₂ t₃ t₄ _ _ _ _ (e ∙ ap (λ (k : ℕ). t ++ number_line (codes "tetrahedra ") k) size) f g (h ∙ ap (λ (b : Bool). t₃ ++ told (codes "closed ") b) same)

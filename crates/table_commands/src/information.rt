@@ -5,7 +5,7 @@ ghost use Rattle.text_definitions.specs.Written.{line};
 ghost use Rattle.outcome_definitions.specs.Information as information;
 ghost use Rattle.outcome_definitions.specs.Information.{classes_text};
 
-use command_answers::{append_counted, append_told, yes_or_no};
+use command_answers::{append_numbered, append_told, yes_or_no};
 use no_memory::NoMemory;
 use skeleton::Skeleton;
 use std::alloc::Global;
@@ -138,7 +138,12 @@ fn append_flags(
 ) -> Result<(), NoMemory>
     ensures { OnOk result (text.new.items ≡ text.old.items ++ information.flags_text skeleton.now connected orientable) }
 {
-    append_counted(alloc, text, b"tetrahedra ", tetrahedra(skeleton))?;
+    append_numbered(
+        alloc,
+        text,
+        b"tetrahedra ",
+        u128::from(tetrahedra(skeleton)),
+    )?;
     append_told(text, b"connected ", connected)?;
     append_told(text, b"orientable ", orientable)?;
     append_told(text, b"closed ", skeleton.is_closed())?;
@@ -149,9 +154,14 @@ fn append_flags(
 fn append_counts(alloc: Global, text: &mut Vec<u8>, skeleton: &Skeleton) -> Result<(), NoMemory>
     ensures { OnOk result (text.new.items ≡ text.old.items ++ information.counts_text skeleton.now) }
 {
-    append_counted(alloc, text, b"vertices ", skeleton.vertices())?;
-    append_counted(alloc, text, b"edges ", skeleton.edges())?;
-    append_counted(alloc, text, b"faces ", skeleton.faces())?;
+    append_numbered(
+        alloc,
+        text,
+        b"vertices ",
+        u128::from(skeleton.vertices()),
+    )?;
+    append_numbered(alloc, text, b"edges ", u128::from(skeleton.edges()))?;
+    append_numbered(alloc, text, b"faces ", u128::from(skeleton.faces()))?;
     append_euler(alloc, text, characteristic(skeleton))?;
     Ok(())
 }

@@ -1,9 +1,10 @@
 -- One line after the other.
+use Rattle.std.proofs.Common.{◌∙◌}
 use Rattle.table_commands.proofs.ClassLines.{flags_written}
 use Rattle.table_commands.proofs.information.append_flags.Goals as goal
 
 pub returns : goal.returns
 returns c =
-    flags_written c.args.text.now.items c.append_counted.new.text.items c.append_told.new.text.items c.append_told-2.new.text.items c.append_told-3.new.text.items c.tetrahedra.result _
-    c.args.connected c.args.orientable c.is_closed.result _ c.in_ok-append_counted.ensures c.in_ok-append_told.ensures c.in_ok-append_told-2.ensures c.in_ok-append_told-3.ensures
-    c.tetrahedra.ensures c.is_closed.ensures
+    flags_written c.args.text.now.items c.append_numbered.new.text.items c.append_told.new.text.items c.append_told-2.new.text.items c.append_told-3.new.text.items c.from.result _
+    c.args.connected c.args.orientable c.is_closed.result _ c.in_ok-append_numbered.ensures c.in_ok-append_told.ensures c.in_ok-append_told-2.ensures c.in_ok-append_told-3.ensures
+    (c.from.ensures ∙ c.tetrahedra.ensures) c.is_closed.ensures
