@@ -29,12 +29,13 @@ use Rattle.outcome_definitions.specs.Sums.{IsFirstRefused, AreTold, IsTermVerdic
 use Rattle.outcome_laws.proofs.Summed.{one_addup}
 use Rattle.written_answer_laws.specs.Sums.{AreSumsOf, IsSmallTerm, IsSmallBlock, IsLargeBlock, AreLarge, IsAcceptedUnlessLarge, SumsAreAcceptedUnlessLarge, WholeSumsAreAccepted}
 use Rattle.written_answer_laws.proofs.SmallNumbers.{second_factor, each_term}
-use Rattle.written_answer_laws.proofs.TermVerdicts.{IsSurface, small_is_fit, large_is_unfit, small_or_large}
+use Rattle.written_answer_laws.proofs.Verdicts.{IsAdmissibleSolution, small_is_fit, large_is_unfit}
+use Rattle.written_answer_laws.proofs.TermVerdicts.{blocks_or_large}
 
 -- a block of a vector that is fit, whose terms are surfaces and add up
 pub record IsSumBlock (coords : Coords) (rows : List Row) (equations : List EquationRow) (block : Block) : Type 0 where
   pub vector : IsFit coords rows equations block.vector
-  pub terms : AllByRecursion (λ (term : Term). IsSurface coords rows equations term.vector) block.terms
+  pub terms : AllByRecursion (λ (term : Term). IsAdmissibleSolution coords rows equations term.vector) block.terms
   pub adds_up : add_fault limit block.vector block.times block.terms ≡ None
 
 -- what holds of all holds in front of an item, and of it
@@ -44,7 +45,7 @@ parted P (x ∷ before) value after h = (let more = parted P before value after 
 
 module _ (coords : Coords) (rows : List Row) (equations : List EquationRow) where
   abbrev IsTermSurface : Term → Type 0
-  IsTermSurface term = IsSurface coords rows equations term.vector
+  IsTermSurface term = IsAdmissibleSolution coords rows equations term.vector
 
   abbrev IsTermFit : Term → Type 0
   IsTermFit term = IsFit coords rows equations term.vector
@@ -111,7 +112,7 @@ module _ (coords : Coords) (rows : List Row) (equations : List EquationRow) wher
     refused_there e v at f = record { equations = equations; of_table = e; told = Err (v, UnfitTerm at.0 (Large at.1)); added = refused_told v at f; outcome = refl }
 
     answer_found : AreEquations coords rows equations → (o : Outcome) → IsAddupAnswer coords (rows, blocks) o → IsAcceptedUnlessLarge equations blocks o
-    answer_found e o h = elim (small_or_large equations blocks) [
+    answer_found e o h = elim (blocks_or_large equations blocks) [
       | inl small ↦ inl (small, one_addup coords (rows, blocks) o accepted_outcome h (accepted_there e small))
       | inr f ↦ inr (f.0, f.1, f.2, one_addup coords (rows, blocks) o (sum_refusal_outcome f.0 (UnfitTerm (f.1).0 (Large (f.1).1))) h (refused_there e f.0 f.1 f.2))
     ]
@@ -139,13 +140,13 @@ module _ (coords : Coords) (most : ℕ) (rows : List Row) (equations : List Equa
       let a : IsAccepted limit (columns coords (length rows)) equations (clash_list coords (length rows)) x = accepted_by limit (columns coords (length rows)) equations (clash_list coords (length rows)) x fit in
       surfaces_are_rays_lem (columns coords (length rows)) equations (clash_list coords (length rows)) list x surfaces a.solves a.admissible
 
-  listed_surface : (v : List ℕ) → Contains list v → IsSurface coords rows equations v
+  listed_surface : (v : List ℕ) → Contains list v → IsAdmissibleSolution coords rows equations v
   listed_surface v c =
       let s : IsVertexSurface (columns coords (length rows)) equations (clash_list coords (length rows)) v =
       All-contains (IsVertexSurface (columns coords (length rows)) equations (clash_list coords (length rows))) list v surfaces.vertex_surfaces c in
       record { solves = s.extreme.solution; admissible = s.admissible }
 
-  listed_surfaces : (terms : List Term) → AllByRecursion (λ (term : Term). Contains list term.vector) terms → AllByRecursion (λ (term : Term). IsSurface coords rows equations term.vector) terms
+  listed_surfaces : (terms : List Term) → AllByRecursion (λ (term : Term). Contains list term.vector) terms → AllByRecursion (λ (term : Term). IsAdmissibleSolution coords rows equations term.vector) terms
   listed_surfaces [] h = tt
   listed_surfaces (term ∷ terms) h = (listed_surface term.vector h.0, listed_surfaces terms h.1)
 

@@ -1,75 +1,109 @@
 -- The verdict on a vertex surface: a solution, or the first equation of which a part passes the limit.
-use Rattle.std.proofs.Common.{◌≡◌, ◌⊎◌, ℕ, zero, suc, ◌+◌, ◌<◌, Bool, true, List, [], ◌∷◌, length, Option, Err, inl, inr, ap, ◌∙◌, arith, slice_index_or}
-use Rattle.std.specs.Prelude.{All, ◌==◌, nat_lt, ◌||◌, find, if◌then◌else◌}
-use Rattle.std.proofs.lemmas.Bool.{eq-eqb, lt-ltb, or_left, or_right}
-use Rattle.std.proofs.lemmas.List.Elements.{All-nil, All-cons}
+use Rattle.std.proofs.Common.{◌≡◌, ◌⊎◌, ℕ, suc, ◌+◌, ◌<◌, inl, inr, List, [], ◌∷◌, ◌++◌, length, refl, sym, ap, ◌∙◌, subst, arith, slice_index_or}
+use Rattle.std.specs.List.{All}
+use Rattle.std.proofs.Math.Seq.{get_or-append_seam}
+use Rattle.std.proofs.lemmas.List.{get_or_append_left, length-append}
+use Rattle.std.proofs.lemmas.List.Elements.{All-cons, All-get_or, All-nil}
 use Rattle.text_definitions.specs.Written.{limit}
-use Rattle.cone_definitions.specs.Rows.{Row as EquationRow, plus_part, minus_part, IsZeroAt, IsSolution}
+use Rattle.cone_definitions.specs.Rows.{Row as EquationRow, IsZeroAt, IsSolution}
 use Rattle.cone_definitions.specs.Elimination.{HasLargePart}
 use Rattle.cone_definitions.specs.Surfaces.{IsAdmissible}
 use Rattle.cone_definitions.proofs.Decided.{parts_or_large}
 use Rattle.table_definitions.specs.Table.{Row}
 use Rattle.surface_definitions.specs.Coordinates.{columns, clash_list}
 use Rattle.surface_definitions.specs.declared.Coords.{Coords}
-use Rattle.surface_definitions.specs.declared.VectorFault.{VectorFault}
-use Rattle.surface_definitions.specs.declared.VectorFault.TheVariants.{Length, Large}
+use Rattle.surface_definitions.specs.declared.VectorFault.TheVariants.{Large}
 use Rattle.surface_definitions.specs.Laws.{HasPartsUpTo}
-use Rattle.surface_definitions.specs.Verdict.{both_nonzero, Verdict, or_else, row_fault, rows_verdict, clash_verdict, verdict}
-use Rattle.surface_definitions.proofs.VerdictLaws.{none-row_fault, fault_by, accepted-verdict}
-use Rattle.written_answer_laws.specs.Surfaces.{IsFirstLarge, IsSolutionUnlessLarge, SurfacesAreSolutions}
+use Rattle.surface_definitions.proofs.VerdictLaws.{accepted-verdict}
+use Rattle.coordinate_laws.specs.Laws.{IsMet}
+use Rattle.coordinate_laws.proofs.FirstFaults.{large_told}
+use Rattle.vector_definitions.specs.Answers.{IsFit, IsUnfit}
+use Rattle.written_answer_laws.specs.Firsts.{IsFirst, IsFirstLarge}
+use Rattle.written_answer_laws.specs.Surfaces.{IsSolutionUnlessLarge, SurfacesAreSolutions}
+
+-- all items pass, or there is a first that fails, with what tells of it
+module _ {A W : Type 0} (Passes : A → Type 0) (Fails : W → A → Type 0) (decide : (x : A) → Passes x ⊎ ((w : W) × Fails w x)) where
+  abbrev FirstOf : List A → Type 0
+  FirstOf list = (number : ℕ) × (w : W) × IsFirst Passes (Fails w) list number
+
+  pub all_or_first : (list : List A) → All Passes list ⊎ FirstOf list
+  all_or_first [] = inl (All-nil Passes)
+  all_or_first (x ∷ xs) = elim (decide x) [
+    | inr f ↦ inr (0, f.0, record { before = []; value = x; after = xs; stands = refl; number_is = refl; passed = All-nil Passes; fails = f.1 })
+    | inl p ↦ elim (all_or_first xs) [
+      | inl all ↦ inl (All-cons Passes x xs p all)
+      | inr f ↦ let first = f.2 in
+          inr (
+            suc f.0,
+            f.1,
+            record {
+              before = x ∷ first.before;
+              value = first.value;
+              after = first.after;
+              stands = ap (λ (ys : List A). x ∷ ys) first.stands;
+              number_is = ap suc first.number_is;
+              passed = All-cons Passes x first.before p first.passed;
+              fails = first.fails;
+            },
+          )
+    ]
+  ]
 
 -- no part passes the limit, or there is a first equation of which one does
-small_or_large : (equations : List EquationRow) (x : List ℕ) → All (HasPartsUpTo limit x) equations ⊎ ((row : ℕ) × IsFirstLarge equations x row)
-small_or_large [] x = inl (All-nil (HasPartsUpTo limit x))
-small_or_large (equation ∷ equations) x = elim (parts_or_large limit equation x) [
-  | inr large ↦ inr (0, record { in_range = omega arith; large = large; before = λ i l. absurd (omega arith) })
-  | inl parts ↦ elim (small_or_large equations x) [
-    | inl all ↦ inl (All-cons (HasPartsUpTo limit x) equation equations parts all)
-    | inr f ↦ inr (suc f.0, record { in_range = (let l = (f.1).in_range in omega arith); large = (f.1).large; before = earlier parts f.0 f.1 })
-  ]
+pub small_or_large : (equations : List EquationRow) (x : List ℕ) → All (HasPartsUpTo limit x) equations ⊎ ((row : ℕ) × IsFirstLarge equations x row)
+small_or_large equations x = elim (all_or_first (HasPartsUpTo limit x) (λ (w : Unit {0}) (equation : EquationRow). HasLargePart limit equation x) decide equations) [
+  | inl all ↦ inl all
+  | inr f ↦ inr (f.0, f.2)
 ]
   where
-    earlier : HasPartsUpTo limit x equation → (row : ℕ) → IsFirstLarge equations x row → (i : ℕ) → i < suc row → HasPartsUpTo limit x (slice_index_or (equation ∷ equations) i [])
-    earlier parts row f zero l = parts
-    earlier parts row f (suc i) l = f.before i (omega arith)
+    decide : (equation : EquationRow) → HasPartsUpTo limit x equation ⊎ ((w : Unit {0}) × HasLargePart limit equation x)
+    decide equation = elim (parts_or_large limit equation x) [
+      | inl parts ↦ inl parts
+      | inr large ↦ inr (tt, large)
+    ]
 
-large_fault : (i : ℕ) (equation : EquationRow) (x : List ℕ) → HasLargePart limit equation x → row_fault limit i equation x ≡ fault_by i true (plus_part equation x == minus_part equation x)
-large_fault i equation x h = ap (λ l. fault_by i l (plus_part equation x == minus_part equation x)) (tested h)
-  where
-    tested : HasLargePart limit equation x → (nat_lt limit (plus_part equation x) || nat_lt limit (minus_part equation x)) ≡ true
-    tested (inl l) = or_left (nat_lt limit (plus_part equation x)) (nat_lt limit (minus_part equation x)) (lt-ltb limit (plus_part equation x) l)
-    tested (inr l) = or_right (nat_lt limit (plus_part equation x)) (nat_lt limit (minus_part equation x)) (lt-ltb limit (minus_part equation x) l)
+-- an admissible solution, whatever its parts
+pub record IsAdmissibleSolution (coords : Coords) (rows : List Row) (equations : List EquationRow) (x : List ℕ) : Type 0 where
+  pub solves : IsSolution (columns coords (length rows)) equations x
+  pub admissible : IsAdmissible (clash_list coords (length rows)) x
 
--- the verdict names the first such equation
-large_verdict : (i : ℕ) (equations : List EquationRow) (x : List ℕ) (v : Verdict) (row : ℕ) → All (λ (equation : EquationRow). IsZeroAt equation x) equations → IsFirstLarge equations x row
-    → rows_verdict limit i equations x v ≡ Err (Large (i + row))
-large_verdict i [] x v row z f = absurd (let l = f.in_range in omega arith)
-large_verdict i (equation ∷ equations) x v zero z f =
-    let same : i ≡ i + 0 = omega arith in
-    ap (λ (o : Option VectorFault). or_else o (rows_verdict limit (i + 1) equations x v)) (large_fault i equation x f.large) ∙ ap (λ n. Err (Large n)) same
-large_verdict i (equation ∷ equations) x v (suc row) z f =
-    let same : i + 1 + row ≡ i + suc row = omega arith in
-    let later : IsFirstLarge equations x row = record { in_range = (let l = f.in_range in omega arith); large = f.large; before = λ k l. f.before (suc k) (omega arith) } in
-    ap (λ (o : Option VectorFault). or_else o (rows_verdict limit (i + 1) equations x v)) (none-row_fault limit i equation x (z 0 equation (omega arith)) (f.before 0 (omega arith)))
-    ∙ large_verdict (i + 1) equations x v row (λ k d l. z (suc k) d (omega arith)) later
-    ∙ ap (λ n. Err (Large n)) same
+module _ (coords : Coords) (rows : List Row) (equations : List EquationRow) (x : List ℕ) (s : IsAdmissibleSolution coords rows equations x) where
+  pub small_is_fit : All (HasPartsUpTo limit x) equations → IsFit coords rows equations x
+  small_is_fit within = accepted-verdict limit (columns coords (length rows)) equations (clash_list coords (length rows)) x (record { solves = s.solves; admissible = s.admissible; within = within })
 
-large_is_told : (n : ℕ) (equations : List EquationRow) (pairs : List (ℕ × ℕ)) (x : List ℕ) (row : ℕ) → length x ≡ n → All (λ (equation : EquationRow). IsZeroAt equation x) equations
-    → IsFirstLarge equations x row → verdict limit n equations pairs x ≡ Err (Large row)
-unfolding verdict
-large_is_told n equations pairs x row width z f =
-    let same : 0 + row ≡ row = omega arith in
-    ap (λ (b : Bool). if b then rows_verdict limit 0 equations x (clash_verdict (find (both_nonzero x) pairs)) else Err (Length (length x))) (eq-eqb (length x) n width)
-    ∙ large_verdict 0 equations x (clash_verdict (find (both_nonzero x) pairs)) row z f
-    ∙ ap (λ n. Err (Large n)) same
+  pub large_is_unfit : (row : ℕ) → IsFirstLarge equations x row → IsUnfit coords rows equations x (Large row)
+  large_is_unfit row f = large_told limit (columns coords (length rows)) equations (clash_list coords (length rows)) x row s.solves.width in_range
+      (λ j l. met j (let e = f.number_is in omega arith)) past
+    where
+      in_range : row < length equations
+      in_range =
+          let e : length equations ≡ length (f.before ++ f.value ∷ f.after) = ap (λ (es : List EquationRow). length es) f.stands in
+          let l : length (f.before ++ f.value ∷ f.after) ≡ length f.before + length (f.value ∷ f.after) = length-append f.before (f.value ∷ f.after) in
+          let n = f.number_is in omega arith
 
--- so of each admissible solution
+      past : HasLargePart limit (slice_index_or equations row []) x
+      past = subst (λ (equation : EquationRow). HasLargePart limit equation x) (sym (ap (λ (es : List EquationRow). slice_index_or es row []) f.stands
+          ∙ ap (λ n. slice_index_or (f.before ++ f.value ∷ f.after) n []) f.number_is ∙ get_or-append_seam f.before f.value f.after [])) f.fails
+
+      met : (j : ℕ) → j < length f.before → IsMet limit x (slice_index_or equations j [])
+      met j l =
+          let same : slice_index_or equations j [] ≡ slice_index_or f.before j [] =
+          ap (λ (es : List EquationRow). slice_index_or es j []) f.stands ∙ get_or_append_left f.before (f.value ∷ f.after) [] j l in
+          let parts : HasPartsUpTo limit x (slice_index_or f.before j []) = All-get_or (HasPartsUpTo limit x) f.before j [] l f.passed in
+          let here : j < length equations = (let n = f.number_is in let r = in_range in omega arith) in
+          let zero : IsZeroAt (slice_index_or equations j []) x = All-get_or (λ (equation : EquationRow). IsZeroAt equation x) equations j [] here s.solves.zero in
+          (subst (HasPartsUpTo limit x) (sym same) parts, zero)
+
+-- such a solution is told to be one, or the first equation of which a part passes the limit
 pub solutions_are_told : (coords : Coords) (rows : List Row) (equations : List EquationRow) (x : List ℕ) → IsSolution (columns coords (length rows)) equations x
     → IsAdmissible (clash_list coords (length rows)) x → IsSolutionUnlessLarge coords rows equations x
 solutions_are_told coords rows equations x solves admissible = elim (small_or_large equations x) [
-  | inl small ↦ inl (small, accepted-verdict limit (columns coords (length rows)) equations (clash_list coords (length rows)) x (record { solves = solves; admissible = admissible; within = small }))
-  | inr f ↦ inr (f.0, f.1, large_is_told (columns coords (length rows)) equations (clash_list coords (length rows)) x f.0 solves.width solves.zero f.1)
+  | inl small ↦ inl (small, small_is_fit coords rows equations x surface small)
+  | inr f ↦ inr (f.0, f.1, large_is_unfit coords rows equations x surface f.0 f.1)
 ]
+  where
+    surface : IsAdmissibleSolution coords rows equations x
+    surface = record { solves = solves; admissible = admissible }
 
 pub surfaces_are_solutions : SurfacesAreSolutions
 surfaces_are_solutions coords rows equations x h = solutions_are_told coords rows equations x h.extreme.solution h.admissible

@@ -1,3 +1,4 @@
+pub mod Firsts
 pub mod Entries
 pub mod Surfaces
 pub mod Lifts

@@ -1,10 +1,9 @@
 -- The laws of sums that are written: what `decompose` answers is read again by `addup`, and accepted, unless a part of an
 -- equation at a listed surface passes the limit.
-use Rattle.std.specs.Prelude.{◌≡◌, ◌↔◌, ◌⊎◌, ℕ, ◌≤◌, List, ◌∷◌, ◌++◌, length, Ok}
+use Rattle.std.specs.Prelude.{◌≡◌, ◌↔◌, ◌⊎◌, ℕ, ◌≤◌, List, length, Ok}
 use Rattle.std.specs.List.{All, AllZip}
 use Rattle.text_definitions.specs.Written.{limit}
 use Rattle.cone_definitions.specs.Rows.{Row as EquationRow}
-use Rattle.cone_definitions.specs.Elimination.{HasLargePart}
 use Rattle.cone_definitions.specs.Listings.{IsListed}
 use Rattle.cone_definitions.specs.declared.Order.TheVariants.{Given}
 use Rattle.table_definitions.specs.Table.{Row, IsTable}
@@ -21,6 +20,7 @@ use Rattle.outcome_definitions.specs.declared.SumRefusal.TheVariants.{UnfitTerm}
 use Rattle.outcome_definitions.specs.declared.Status.TheVariants.{Done}
 use Rattle.outcome_definitions.specs.Outcomes.{Outcome, IsReadOutcome}
 use Rattle.outcome_definitions.specs.Sums.{IsSummed, IsDecomposeAnswer, IsAddupAnswer, sum_refusal_outcome, accepted_outcome, sums_text}
+use Rattle.written_answer_laws.specs.Firsts.{IsFirst, IsFirstLarge}
 
 -- the vectors are admissible solutions, and each block is the sum of its vector by the list of vertex surfaces
 pub record AreSumsOf (coords : Coords) (most : ℕ) (rows : List Row) (equations : List EquationRow) (vectors : List (List ℕ)) (blocks : List Block) : Type 0 where
@@ -49,16 +49,6 @@ WrittenSumsAreRead =
     (coords : Coords) (most : ℕ) (rows : List Row) (equations : List EquationRow) (vectors : List (List ℕ)) (blocks : List Block) → IsTable rows → most ≤ limit
     → AreSumsOf coords most rows equations vectors blocks → blocks_document (sums_text rows blocks) ≡ Ok (rows, blocks)
 
--- the item of this number is the first that fails
-pub record IsFirst {A : Type 0} (Passes Fails : A → Type 0) (list : List A) (number : ℕ) : Type 0 where
-  pub before : List A
-  pub value : A
-  pub after : List A
-  pub stands : list ≡ before ++ value ∷ after
-  pub number_is : number ≡ length before
-  pub passed : All Passes before
-  pub fails : Fails value
-
 -- no part of an equation passes the limit at the term, and at none of the block's terms
 abbrev pub IsSmallTerm : List EquationRow → Term → Type 0
 IsSmallTerm equations term = All (HasPartsUpTo limit term.vector) equations
@@ -68,7 +58,7 @@ IsSmallBlock equations block = All (IsSmallTerm equations) block.terms
 
 -- the first equation of which a part passes the limit at the term; the first such term of a block; the first such block
 abbrev pub IsLargeTerm : List EquationRow → ℕ → Term → Type 0
-IsLargeTerm equations row term = IsFirst (HasPartsUpTo limit term.vector) (λ equation. HasLargePart limit equation term.vector) equations row
+IsLargeTerm equations row term = IsFirstLarge equations term.vector row
 
 abbrev pub IsLargeBlock : List EquationRow → ℕ × ℕ → Block → Type 0
 IsLargeBlock equations at block = IsFirst (IsSmallTerm equations) (IsLargeTerm equations at.1) block.terms at.0

@@ -1,10 +1,8 @@
 -- What `surfaces` answers, behind its table, is a document of `verify`, `describe` and `decompose`.
-use Rattle.std.specs.Prelude.{◌≡◌, ◌⊎◌, ℕ, ◌<◌, List, [], ◌++◌, length, Ok, Err, All}
-use Rattle.std.specs.List.{slice_index_or}
+use Rattle.std.specs.Prelude.{◌≡◌, ◌⊎◌, ℕ, List, ◌++◌, length, Ok, Err, All}
 use Rattle.text_definitions.specs.Written.{limit}
 use Rattle.cone_definitions.specs.Rows.{Row as EquationRow}
 use Rattle.cone_definitions.specs.Surfaces.{IsVertexSurface, IsSurfaceList}
-use Rattle.cone_definitions.specs.Elimination.{HasLargePart}
 use Rattle.cone_definitions.specs.declared.Order.{Order}
 use Rattle.table_definitions.specs.Table.{Row}
 use Rattle.table_definitions.specs.TableText.{table_text}
@@ -21,6 +19,7 @@ use Rattle.outcome_definitions.specs.declared.Status.TheVariants.{Done}
 use Rattle.outcome_definitions.specs.Outcomes.{Outcome}
 use Rattle.outcome_definitions.specs.Answers.{verify_outcome}
 use Rattle.answer_laws.specs.Asked.{IsOutcomeTo}
+use Rattle.written_answer_laws.specs.Firsts.{IsFirstLarge}
 
 -- all vertex surfaces of a table, by its equations
 pub record AreVertexSurfaces (coords : Coords) (rows : List Row) (equations : List EquationRow) (list : List (List ℕ)) : Type 0 where
@@ -39,12 +38,6 @@ abbrev pub SurfacesAreRead : Type 0
 SurfacesAreRead =
     (words : List (List ℕ)) (bytes : List ℕ) (o : Outcome) (coords : Coords) (order : Order) (most : ℕ) (rows : List Row) → IsOutcomeTo (Surfaces coords order most) words bytes o
     → table_document bytes ≡ Ok rows → o.status ≡ Done → IsReadAsSurfaces coords rows o.text
-
--- the first equation of which a part passes the limit at x
-pub record IsFirstLarge (equations : List EquationRow) (x : List ℕ) (row : ℕ) : Type 0 where
-  pub in_range : row < length equations
-  pub large : HasLargePart limit (slice_index_or equations row []) x
-  pub before : (i : ℕ) → i < row → HasPartsUpTo limit x (slice_index_or equations i [])
 
 -- the verdict on x is that it is a solution where no part passes the limit, and else the first equation of which one does
 abbrev pub IsSolutionUnlessLarge : Coords → List Row → List EquationRow → List ℕ → Type 0
