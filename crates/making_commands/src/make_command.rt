@@ -1,6 +1,7 @@
 // The command `make`: a table that is made, and its certificate.
 ghost use Rattle.std.specs.Prelude.{◌≡◌, IfOk};
-ghost use Rattle.outcome_definitions.specs.Makings.{IsMakeAnswer, made_text};
+ghost use Rattle.outcome_definitions.specs.Certificates.{moves_behind};
+ghost use Rattle.outcome_definitions.specs.Makings.{IsMakeAnswer};
 
 use command_answers::Outcome;
 use gluing_table::write_table;
@@ -11,8 +12,9 @@ use std::alloc::Global;
 use tri_build::Made;
 
 // The table, and the moves of its certificate.
+#[tactic(auto, unfolding(outcome_definitions::specs::Certificates::moves_text))]
 fn text_of(alloc: Global, made: &Made) -> Result<Vec<u8>, NoMemory>
-    ensures { IfOk result (λ text. text.items ≡ made_text made.now.table made.now.certificate.items) }
+    ensures { IfOk result (λ text. text.items ≡ moves_behind made.now.table made.now.certificate.items) }
 {
     let mut text = Vec::new(alloc);
     write_table(alloc, &made.table, &mut text)?;

@@ -1,2 +1,3 @@
 pub mod MoveLines
+pub mod WrittenMoves
 pub mod MadeTexts

@@ -36,6 +36,10 @@ pub record IsCheckAnswer (d : List Row × List Move) (o : Outcome) : Type 0 wher
 unfoldable pub moves_text : List Move → List ℕ
 moves_text moves = flat_map move_text moves
 
+-- a table, with a line for each of some moves behind it
+abbrev pub moves_behind : List Row → List Move → List ℕ
+moves_behind rows moves = table_text rows ++ moves_text moves
+
 -- whether a descent reached the standard sphere, and its number of moves
 abbrev pub descent_word : Bool → List ℕ
 descent_word true = codes "reached "

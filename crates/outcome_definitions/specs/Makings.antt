@@ -1,32 +1,27 @@
 -- What `make` and `bulk` are to answer, which read nothing: a table that is made with its certificate, and what is told of its
 -- surfaces.
 use Rattle.std.specs.Prelude.{◌≡◌, ◌⊎◌, ℕ, ◌≤◌, List, ◌++◌, length, codes, count_by}
-use Rattle.std.specs.List.{flat_map}
 use Rattle.cone_definitions.specs.Rows.{Row as EquationRow}
 use Rattle.cone_definitions.specs.Listings.{Enumeration, IsListed}
 use Rattle.cone_definitions.specs.declared.Order.TheVariants.{Given}
 use Rattle.text_definitions.specs.Written.{limit}
 use Rattle.table_definitions.specs.Table.{Row}
-use Rattle.table_definitions.specs.TableText.{table_text}
 use Rattle.surface_definitions.specs.declared.Coords.TheVariants.{Standard}
 use Rattle.surface_definitions.specs.Characteristic.{is_linking}
 use Rattle.surface_definitions.specs.QuadEquations.{AreEquations}
 use Rattle.surface_definitions.specs.TableSurfaces.{table_enumeration}
 use Rattle.move_definitions.specs.Moves.{Move}
-use Rattle.move_definitions.specs.MoveText.{move_text}
 use Rattle.move_definitions.specs.Certificates.{IsCertificate}
 use Rattle.certificate_definitions.specs.Makings.{IsMade}
 use Rattle.outcome_definitions.specs.declared.Status.TheVariants.{Done}
 use Rattle.outcome_definitions.specs.Lines.{number_line}
 use Rattle.outcome_definitions.specs.Outcomes.{Outcome}
 use Rattle.outcome_definitions.specs.Enumerations.{AreUpTo, IsPastTold}
+use Rattle.outcome_definitions.specs.Certificates.{moves_behind}
 
--- the rows of the table, and a line for each move of the certificate
-abbrev pub made_text : List Row → List Move → List ℕ
-made_text table certificate = table_text table ++ flat_map move_text certificate
-
+-- the table, with the moves of its certificate behind it
 abbrev pub make_outcome : List Row → List Move → Outcome
-make_outcome table certificate = record { status = Done; text = made_text table certificate }
+make_outcome table certificate = record { status = Done; text = moves_behind table certificate }
 
 -- the answer of `make` to a seed and a number of moves
 pub record IsMakeAnswer (seed moves : ℕ) (o : Outcome) : Type 0 where

@@ -11,13 +11,13 @@ use Rattle.document_definitions.specs.Documents.{moves_document}
 use Rattle.outcome_definitions.specs.Outcomes.{Outcome, IsReadOutcome}
 use Rattle.outcome_definitions.specs.Canonical.{done}
 use Rattle.outcome_definitions.specs.Lines.{accepted_text}
-use Rattle.outcome_definitions.specs.Certificates.{check_outcome, IsCheckAnswer}
+use Rattle.outcome_definitions.specs.Certificates.{check_outcome, moves_behind, IsCheckAnswer}
 use Rattle.outcome_definitions.specs.declared.Status.TheVariants.{Done, Refused}
 use Rattle.certificate_definitions.specs.declared.CheckFault.{CheckFault}
 use Rattle.certificate_definitions.specs.Answers.{CheckAnswer, IsChecked}
 use Rattle.outcome_laws.proofs.Certified.{one_check}
-use Rattle.written_answer_laws.specs.Certificates.{moves_behind, AcceptedAreCertificates, CertificatesAreAccepted, ReachedDescentsAreAccepted, MadeTablesAreAccepted}
-use Rattle.written_answer_laws.proofs.WrittenMoves.{written_moves_read}
+use Rattle.written_answer_laws.specs.Certificates.{AcceptedAreCertificates, CertificatesAreAccepted, ReachedDescentsAreAccepted, MadeTablesAreAccepted}
+use Rattle.making_laws.proofs.WrittenMoves.{written_moves_read}
 
 accepted_there : (rows : List Row) (moves : List Move) (o : Outcome) → IsCertificate rows moves → o ≡ done accepted_text → IsCheckAnswer (rows, moves) o
 accepted_there rows moves o c e = record { told = Ok tt; checked = c; outcome = e }

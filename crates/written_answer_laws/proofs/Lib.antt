@@ -6,7 +6,6 @@ pub mod LiftEntries
 pub mod Lifts
 pub mod Tables
 pub mod Covers
-pub mod WrittenMoves
 pub mod Accepted
 pub mod WrittenBlocks
 pub mod SmallNumbers

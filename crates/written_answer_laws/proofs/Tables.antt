@@ -20,7 +20,7 @@ use Rattle.outcome_definitions.specs.Certificates.{descend_outcome, IsDescendAns
 use Rattle.outcome_laws.proofs.Certified.{table_alone}
 use Rattle.outcome_laws.proofs.ReadPairs.{table_with_vector}
 use Rattle.written_laws.proofs.WrittenDocuments.{written_table_read}
-use Rattle.written_answer_laws.proofs.WrittenMoves.{written_moves_read}
+use Rattle.making_laws.proofs.WrittenMoves.{written_moves_read}
 use Rattle.written_answer_laws.proofs.Accepted.{reached_accepted}
 use Rattle.answer_laws.proofs.Asked.{answer_to, answer_to_value}
 use Rattle.crushing_laws.proofs.Linking.{nothing_else_is_crushed}

@@ -1,8 +1,7 @@
--- The laws of certificates that are written: each is read again, and `check` accepts it.
-use Rattle.std.specs.Prelude.{◌≡◌, ◌↔◌, ℕ, true, List, ◌++◌, Ok}
+-- The laws of certificates that are written: `check` accepts each.
+use Rattle.std.specs.Prelude.{◌≡◌, ◌↔◌, ℕ, true, List}
 use Rattle.table_definitions.specs.Table.{Row, IsTable}
-use Rattle.table_definitions.specs.TableText.{table_text}
-use Rattle.move_definitions.specs.Moves.{Move, PlaysAll}
+use Rattle.move_definitions.specs.Moves.{Move}
 use Rattle.move_definitions.specs.Certificates.{IsCertificate}
 use Rattle.certificate_definitions.specs.Makings.{IsMade}
 use Rattle.certificate_definitions.specs.Answers.{Descended, IsDescended}
@@ -10,15 +9,7 @@ use Rattle.document_definitions.specs.Documents.{moves_document}
 use Rattle.outcome_definitions.specs.Outcomes.{Outcome, IsReadOutcome}
 use Rattle.outcome_definitions.specs.Canonical.{done}
 use Rattle.outcome_definitions.specs.Lines.{accepted_text}
-use Rattle.outcome_definitions.specs.Certificates.{moves_text, IsCheckAnswer}
-
--- a table, with a line for each of some moves behind it
-abbrev pub moves_behind : List Row → List Move → List ℕ
-moves_behind rows moves = table_text rows ++ moves_text moves
-
--- what is written for a table and moves that lead from it is read as them
-abbrev pub WrittenMovesAreRead : Type 0
-WrittenMovesAreRead = (rows : List Row) (moves : List Move) (last : List Row) → IsTable rows → PlaysAll rows moves last → moves_document (moves_behind rows moves) ≡ Ok (rows, moves)
+use Rattle.outcome_definitions.specs.Certificates.{moves_behind, IsCheckAnswer}
 
 -- `check` answers that moves are accepted exactly where they are a certificate
 abbrev pub AcceptedAreCertificates : Type 0

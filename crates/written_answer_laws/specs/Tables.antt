@@ -9,10 +9,10 @@ use Rattle.command_definitions.specs.declared.Request.TheVariants.{Crush, Descen
 use Rattle.outcome_definitions.specs.declared.Status.TheVariants.{Done}
 use Rattle.outcome_definitions.specs.Outcomes.{Outcome}
 use Rattle.outcome_definitions.specs.Canonical.{done}
-use Rattle.outcome_definitions.specs.Certificates.{descent_text}
+use Rattle.outcome_definitions.specs.Certificates.{moves_behind, descent_text}
 use Rattle.answer_laws.specs.Asked.{IsOutcomeTo}
 use Rattle.crushing_laws.specs.Laws.{HasNoQuads}
-use Rattle.written_answer_laws.specs.Certificates.{moves_behind, IsAccepted}
+use Rattle.written_answer_laws.specs.Certificates.{IsAccepted}
 
 -- the text is read as the crushed table, which is the table itself where the vector has no quads
 pub record IsReadAsCrushed (rows : List Row) (xs text : List ℕ) : Type 0 where

@@ -7,7 +7,7 @@ ghost use Rattle.written_answer_laws.specs.Surfaces.{SurfacesAreRead, SurfacesAr
 ghost use Rattle.written_answer_laws.specs.Lifts.{LiftsAreWithin, LiftsAreRead, LiftsAreVerified};
 ghost use Rattle.written_answer_laws.specs.Tables.{CrushedAreRead, DescentsAreRead};
 ghost use Rattle.written_answer_laws.specs.Covers.{CoversAreRead};
-ghost use Rattle.written_answer_laws.specs.Certificates.{WrittenMovesAreRead, AcceptedAreCertificates, CertificatesAreAccepted, ReachedDescentsAreAccepted, MadeTablesAreAccepted};
+ghost use Rattle.written_answer_laws.specs.Certificates.{AcceptedAreCertificates, CertificatesAreAccepted, ReachedDescentsAreAccepted, MadeTablesAreAccepted};
 ghost use Rattle.written_answer_laws.specs.Sums.{DecomposedAreTold, WrittenSumsAreRead, SumsAreAcceptedUnlessLarge, WholeSumsAreAccepted, DecomposedAreReadAgain};
 
 /// What `surfaces` lists, behind what is written for its table, is read as the table and all its vertex surfaces: no entry of
@@ -47,11 +47,6 @@ pub fn descents_are_read()
 /// What is told of a cover is read as the cover's table, so it is a document of `info`.
 pub fn covers_are_read()
     ensures { CoversAreRead }
-{}
-
-/// What is written for a table and moves that lead from it is read as them.
-pub fn certificates_are_read()
-    ensures { WrittenMovesAreRead }
 {}
 
 /// Moves are accepted exactly where they are a certificate.

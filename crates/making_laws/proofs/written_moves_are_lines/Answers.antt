@@ -1,4 +1,4 @@
-use Rattle.making_laws.proofs.MadeTexts.{written_moves_are_lines_lem}
+use Rattle.making_laws.proofs.WrittenMoves.{written_moves_are_lines_lem}
 use Rattle.making_laws.proofs.written_moves_are_lines.Goals as goal
 
 pub returns : goal.returns
