@@ -11,7 +11,7 @@ use crate::generator::drawn;
 use arrayvec::ArrayVec;
 use gluing_table::Table;
 use no_memory::NoMemory;
-use pachner_moves::{Facet, Move, apply_legal, legal};
+use pachner_moves::{Facet, Move, apply_legal, inverse_move, legal};
 use std::alloc::Global;
 use std::marker::Model;
 
@@ -36,11 +36,7 @@ impl Step {
     pub fn inverse(&self) -> Move
         ensures { result ≡ moves.inverse_move self.now.tets self.now.played }
     {
-        let taken = 5 - u32::from(self.played.core.size());
-        Move {
-            tet: self.tets.saturating_sub(taken),
-            core: self.played.core.opposite(),
-        }
+        inverse_move(self.tets, self.played)
     }
 }
 

@@ -15,7 +15,7 @@ use crate::standing::{Back, stands_at};
 use crate::steps::Step;
 use gluing_table::{Relabelling, Table};
 use no_memory::NoMemory;
-use pachner_moves::{Move, apply, legal};
+use pachner_moves::{Move, apply, kept, legal};
 use perm_four::Perm4;
 use std::alloc::Global;
 
@@ -53,7 +53,7 @@ fn back_of(step: &Step, now: &Table, on: &Relabelling) -> Back
     match legal(now, played) {
         Ok(pattern) => Back {
             played,
-            kept: now.len().saturating_sub(5 - u32::from(played.core.size())),
+            kept: kept(now.len(), played.core),
             facets: pattern.facets,
             labels: labels_back(step, on),
         },
