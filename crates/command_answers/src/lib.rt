@@ -15,5 +15,5 @@ pub use document::{
 pub use outcome::Outcome;
 pub use refusals::{fault_outcome, invalid_edge_outcome, not_connected_outcome, refused_vector};
 pub use told::{accepted_outcome, append_numbered, append_told, line_outcome, yes_or_no};
-pub use vectors::{LIMIT, read_numbers, read_vector};
+pub use vectors::{read_numbers, read_vector};
 pub use verdicts::append_checked;

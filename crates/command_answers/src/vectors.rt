@@ -8,10 +8,7 @@ ghost use Rattle.command_answers.specs.Reads.{entries_of};
 
 use gluing_table::TextFault;
 use std::alloc::Global;
-use text_io::Lexer;
-
-/// The greatest number that a document may name.
-pub const LIMIT: u128 = 170141183460469231731687303715884105727;
+use text_io::{LIMIT, Lexer};
 
 /// The decimals to the end of the line.
 pub fn read_numbers(alloc: Global, lexer: &mut Lexer<'_>) -> Result<Vec<u128>, TextFault>

@@ -8,10 +8,7 @@ ghost use Rattle.command_words.specs.Requests.{texts_of, request_among};
 use command_definitions::Request;
 use cone_definitions::Order;
 use surface_definitions::Coords;
-use text_io::{is_decimal_word, value_up_to};
-
-/// The greatest number that an option may name.
-const LIMIT: u128 = 170_141_183_460_469_231_731_687_303_715_884_105_727;
+use text_io::{LIMIT, is_decimal_word, value_up_to};
 
 /// What stands for each option, where it is named.
 #[derive(Clone, Copy)]

@@ -9,7 +9,7 @@ use crate::digits::number_of_digits;
 use crate::{Glue, MAX_TETS, Row, Table, TableFault, TextFault};
 use perm_four::Perm4;
 use std::alloc::Global;
-use text_io::{LexFault, LexKind, Lexer, is_decimal_word};
+use text_io::{LIMIT, LexFault, LexKind, Lexer, is_decimal_word};
 
 /// The position of the first colon, or the length.
 fn colon_in(word: &[u8]) -> usize
@@ -106,9 +106,6 @@ fn read_counted(alloc: Global, lexer: &mut Lexer<'_>, count: u32) -> Result<Tabl
     let table = Table::from_read_rows(alloc, rows)?;
     Ok(table)
 }
-
-/// The greatest number that a document may name.
-const LIMIT: u128 = 170141183460469231731687303715884105727;
 
 /// The table that follows the word `tri`: its number of rows, and a line for each. The first fault is answered, and
 /// more than 1,000 rows are one before the rest of the line is read.

@@ -143,10 +143,7 @@ fn read_edge(lexer: &mut Lexer<'_>) -> Result<Core, LexFault>
 fn all_vertices() -> Core
     ensures { result ≡ four }
 {
-    match Core::new(15) {
-        Some(core) => core,
-        None => unreachable!(),
-    }
+    Core::of_mask(15)
 }
 
 // The core of a move of this kind.

@@ -4,6 +4,7 @@ ghost use Rattle.std.specs.Prelude.{◌≡◌, ◌<◌, ◌≤◌, ◌-◌, ◌�
 ghost use Rattle.table_definitions.specs.Lists.{has};
 ghost use Rattle.table_definitions.specs.Permutation.{four, IsPermutationOfFour, inverse};
 ghost use Rattle.table_definitions.specs.Places.{edge_ends};
+ghost use Rattle.move_definitions.specs.Moves as moves;
 ghost use Rattle.move_definitions.specs.Moves.{IsCore, vertices_by_label};
 ghost use Rattle.pachner_moves.specs.Cores.{core_of};
 
@@ -137,4 +138,21 @@ impl Model for Move {
     ghost view = { λ m. record { tet = m.tet; core = m.core } };
 
     ghost inverse = { λ m. record { tet = m.tet; core = m.core } };
+}
+
+/// The number of tetrahedra, of so many, that a move with this core keeps.
+pub fn kept(tets: u32, core: Core) -> u32
+    ensures { result ≡ tets - (5 - length core) }
+{
+    tets.saturating_sub(5 - u32::from(core.size()))
+}
+
+/// The move that leads back, up to relabelling, from where a move on so many tetrahedra leads.
+pub fn inverse_move(tets: u32, m: Move) -> Move
+    ensures { result ≡ moves.inverse_move tets m }
+{
+    Move {
+        tet: kept(tets, m.core),
+        core: m.core.opposite(),
+    }
 }

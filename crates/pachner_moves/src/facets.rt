@@ -8,6 +8,7 @@ ghost use Rattle.table_definitions.specs.Relabelling.{gluing_under};
 ghost use Rattle.move_definitions.specs.Moves as moves;
 ghost use Rattle.move_laws.specs.Facets.{IsFacet, AreOldFacets};
 
+use crate::cores::kept;
 use crate::facet::{replace_label, vertex_of};
 use crate::{Facet, Move};
 use gluing_table::{Face, Glue, Table};
@@ -31,13 +32,13 @@ pub fn other_labels(label: u8) -> [u8; 4]
     OTHERS[label as usize]
 }
 
-/// The number of tetrahedra that a move keeps.
-pub fn kept(table: &Table, m: &Move) -> u32
+/// The number of tetrahedra of a table that a move keeps.
+pub fn kept_in(table: &Table, m: &Move) -> u32
     ensures value { result ≡ moves.kept table.now m.now }
     ensures few { result ≤ max_tets }
     ensures is_table { IsTable table.now }
 {
-    (table.rows().len() as u32).saturating_sub(5 - m.core.size() as u32)
+    kept(table.len(), m.core)
 }
 
 /// The facet that is put in for a label.
@@ -46,7 +47,7 @@ pub fn new_facet(table: &Table, m: &Move, label: u8) -> Facet
     ensures { result ≡ moves.new_facet table.now m.now label }
 {
     Facet {
-        tet: kept(table, m) + label as u32,
+        tet: kept_in(table, m) + label as u32,
         missing: label,
         labels: other_labels(label),
     }

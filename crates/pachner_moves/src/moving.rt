@@ -10,8 +10,9 @@ ghost use Rattle.move_definitions.specs.Undos.{CanTakeBack, IsTakenBack};
 ghost use Rattle.move_laws.specs.Faults.{IsPattern};
 ghost use Rattle.move_laws.specs.Facets.{IsOldFacet, AreOldFacets, CanPlay, outer_gluing, fresh_gluing, put_row, put_rows, exchange};
 
+use crate::cores::kept;
 use crate::facet::{glue_opposite, vertex_of};
-use crate::facets::{kept, label_by_label, moved_glue, new_facet, other_labels};
+use crate::facets::{kept_in, label_by_label, moved_glue, new_facet, other_labels};
 use crate::legality::is_of_facet;
 use crate::{Facet, Move, MoveFault, Pattern, legal};
 use arrayvec::ArrayVec;
@@ -105,7 +106,7 @@ fn fresh_rows(table: &Table, m: &Move, facets: &[Facet]) -> ArrayVec<(u32, Row),
     ensures { result.items ≡ put_rows table.now m.now }
 {
     let mut rows = ArrayVec::new();
-    let first = kept(table, m);
+    let first = kept_in(table, m);
     for label in 0..m.core.size() {
         rows.push((first + label as u32, fresh_row(table, m, facets, label)));
     }
@@ -173,7 +174,7 @@ pub fn keeps_limit(table: &Table, m: Move) -> bool
     ensures core { IsCore m.core }
     ensures is_table { IsTable table.now }
 {
-    kept(table, &m) + m.core.size() as u32 <= MAX_TETS
+    kept_in(table, &m) + m.core.size() as u32 <= MAX_TETS
 }
 
 /// Plays a legal move by the facets that it takes out, and keeps what takes it back. It is refused where it doesn't keep
@@ -204,16 +205,6 @@ pub fn apply(table: &mut Table, m: Move) -> Result<Undo, MoveFault>
     apply_legal(table, m, &pattern)
 }
 
-/// The move that leads back, up to relabelling.
-pub fn inverse_move(undo: &Undo) -> Move
-    ensures { result ≡ moves.inverse_move undo.now.tets undo.now.played }
-{
-    Move {
-        tet: undo.kept(),
-        core: undo.played.core.opposite(),
-    }
-}
-
 /// The numbers of the tetrahedra that a move put in.
 fn put_numbers(undo: &Undo) -> ArrayVec<u32, 4>
     requires few { undo.now.tets ≤ max_tets }
@@ -232,7 +223,7 @@ impl Undo {
     fn kept(&self) -> u32
         ensures { result ≡ self.now.tets - (5 - length self.now.played.core) }
     {
-        self.tets.saturating_sub(5 - self.played.core.size() as u32)
+        kept(self.tets, self.played.core)
     }
 }
 

@@ -3,8 +3,7 @@
 ghost use Rattle.std.specs.Prelude.{◌≡◌, ◌*◌, ◌<◌, ◌≤◌, IfNone, IfSome, sum};
 ghost use Rattle.text_definitions.specs.Written.{limit};
 
-/// The greatest entry of a vector.
-const MAX_ENTRY: u128 = 170_141_183_460_469_231_731_687_303_715_884_105_727;
+use text_io::LIMIT;
 
 /// Four times the sum of the entries, where it is an entry.
 pub fn four_times(x: &[u128]) -> Option<u128>
@@ -12,7 +11,7 @@ pub fn four_times(x: &[u128]) -> Option<u128>
     ensures fits { IfSome result (λ s. 4 * sum x.now ≤ limit) }
     ensures large { IfNone result (limit < 4 * sum x.now) }
 {
-    let most = MAX_ENTRY / 4;
+    let most = LIMIT / 4;
     let mut sum: u128 = 0;
     for entry in x {
         if *entry > most - sum {

@@ -8,8 +8,8 @@ use Rattle.signature_definitions.specs.WalkOrder.{first_unordered, IsWalkOrdered
 use Rattle.signature_definitions.specs.Spelling.{face_types, seen_gluings}
 use Rattle.signature_text_laws.specs.Slots.{Slots}
 use Rattle.signature_text_laws.specs.Walks.{Walking}
-use Rattle.signature_codec.specs.declared.numbers.Part.{Part}
-use Rattle.signature_codec.specs.declared.numbers.Part.TheVariants.{Destinations, Gluings}
+use Rattle.signature_codec.specs.declared.numbers.Segment.{Segment}
+use Rattle.signature_codec.specs.declared.numbers.Segment.TheVariants.{Destinations, Gluings}
 use Rattle.signature_codec.specs.declared.heads.Head.{Head}
 use Rattle.signature_codec.specs.declared.types.Types.{Types}
 use Rattle.signature_codec.specs.declared.parts.Parts.{Parts}
@@ -21,9 +21,9 @@ use Rattle.no_memory.specs.declared.Failure.TheVariants.{NoMemory, Fault}
 use Rattle.no_memory.specs.Failures.{IfFault}
 
 -- the fault of a number that is out of range
-abbrev pub fault_of_part : Part → ℕ → SigFault
-fault_of_part Destinations at = Destination at
-fault_of_part Gluings at = Gluing at
+abbrev pub fault_of_segment : Segment → ℕ → SigFault
+fault_of_segment Destinations at = Destination at
+fault_of_segment Gluings at = Gluing at
 
 abbrev pub head_shown : Head → signatures.Head
 head_shown h = record { count = h.count; width = h.width; next = h.next }

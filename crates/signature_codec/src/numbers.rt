@@ -3,29 +3,29 @@
 ghost use Rattle.std.specs.Prelude.{◌≡◌, ◌<◌, ◌≤◌, ◌+◌, ◌*◌, ◌^◌, length, IfOk, OnOk};
 ghost use Rattle.signature_definitions.specs.SignatureText as signatures;
 ghost use Rattle.signature_text_laws.specs.Faults.{Reads};
-ghost use Rattle.signature_codec.specs.Shown.{fault_of_part};
+ghost use Rattle.signature_codec.specs.Shown.{fault_of_segment};
 
 use crate::SigFault;
 use crate::characters::value_of;
 use std::alloc::Global;
 
-/// The two parts of a text that are numbers one after the other.
+/// The two segments of a text that are numbers one after the other.
 #[derive(Clone, Copy)]
-pub enum Part {
+pub enum Segment {
     Destinations,
     Gluings,
 }
 
-impl Part {
-    ghost use Rattle.signature_codec.specs.Shown.{fault_of_part};
+impl Segment {
+    ghost use Rattle.signature_codec.specs.Shown.{fault_of_segment};
 
     /// The fault of a number that is out of range.
     fn fault(self, at: usize) -> SigFault
-        ensures { result ≡ fault_of_part self at }
+        ensures { result ≡ fault_of_segment self at }
     {
         match self {
-            Part::Destinations => SigFault::Destination { at },
-            Part::Gluings => SigFault::Gluing { at },
+            Segment::Destinations => SigFault::Destination { at },
+            Segment::Gluings => SigFault::Gluing { at },
         }
     }
 }
@@ -65,7 +65,7 @@ pub fn number_in(text: &[u8], width: u32, at: usize) -> Result<u32, SigFault>
 pub fn numbers_in(
     alloc: Global,
     text: &[u8],
-    part: Part,
+    segment: Segment,
     many: u32,
     width: u32,
     bound: u32,
@@ -74,7 +74,7 @@ pub fn numbers_in(
     requires in_text { at ≤ length text.now }
     requires narrow { width ≤ 3 }
     requires few { many ≤ 4000 }
-    ensures reads { Reads (λ v. v.items) result (signatures.numbers_in many text.now width bound (fault_of_part part) at) }
+    ensures reads { Reads (λ v. v.items) result (signatures.numbers_in many text.now width bound (fault_of_segment segment) at) }
     ensures in_text { OnOk result (at + width * many ≤ length text.now) }
 {
     let mut numbers = Vec::new(alloc);
@@ -82,7 +82,7 @@ pub fn numbers_in(
         let next = at + (width * i) as usize;
         let value = number_in(text, width, next)?;
         if value >= bound {
-            return Err(part.fault(next));
+            return Err(segment.fault(next));
         }
         numbers.push((value, next))?;
     }

@@ -9,7 +9,7 @@ ghost use Rattle.signature_text_laws.specs.Parts.{parts_of};
 
 use crate::SigFault;
 use crate::heads::Head;
-use crate::numbers::{Part, numbers_in};
+use crate::numbers::{Segment, numbers_in};
 use crate::types::Types;
 use std::alloc::Global;
 
@@ -45,9 +45,9 @@ pub fn read_parts(alloc: Global, text: &[u8], head: Head, types: Types) -> Resul
         return Err(SigFault::Unreached);
     }
     let (width, at) = (head.width, types.next);
-    let destinations = numbers_in(alloc, text, Part::Destinations, twos, width, head.count, at)?;
+    let destinations = numbers_in(alloc, text, Segment::Destinations, twos, width, head.count, at)?;
     let gluings_at = at + (width * twos) as usize;
-    let gluings = numbers_in(alloc, text, Part::Gluings, twos, 1, 24, gluings_at)?;
+    let gluings = numbers_in(alloc, text, Segment::Gluings, twos, 1, 24, gluings_at)?;
     let end = gluings_at + twos as usize;
     if end < text.len() {
         return Err(SigFault::Trailing { at: end });

@@ -7,12 +7,12 @@ ghost use Rattle.document_definitions.specs.Blocks.{blocks_document, blocks_from
 ghost use Rattle.ray_decompose.specs.Sums.{term_of};
 ghost use Rattle.sum_commands.specs.Blocks.{block_of, blocks_of, sum_of, given_terms};
 
-use command_answers::{LIMIT, read_numbers, read_table, read_vector};
+use command_answers::{read_numbers, read_table, read_vector};
 use gluing_table::{Table, TextFault};
 use ray_decompose::Given;
 use signature_codec::InputFault;
 use std::alloc::Global;
-use text_io::Lexer;
+use text_io::{LIMIT, Lexer};
 
 /// The most terms of a block.
 const MOST_TERMS: u128 = 10000;
@@ -50,8 +50,8 @@ fn read_term(alloc: Global, lexer: &mut Lexer<'_>) -> Result<Given, TextFault>
         return Err(TextFault::Lex(lexer.bad_word()));
     }
     let count = lexer.number(LIMIT)?;
-    let entries = read_numbers(alloc, lexer)?;
-    Ok(Given { count, entries })
+    let vector = read_numbers(alloc, lexer)?;
+    Ok(Given { count, vector })
 }
 
 // So many terms.

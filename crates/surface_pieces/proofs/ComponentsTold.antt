@@ -17,8 +17,8 @@ use Rattle.surface_laws.proofs.ComponentSurfaces.{piece_there}
 use Rattle.table_definitions.proofs.Listed.{below-among}
 use Rattle.surface_laws.proofs.MeetingPieces.{join_components}
 use Rattle.surface_laws.proofs.PieceNumbers.{no_piece, IsFound, piece_found, number-piece}
-use Rattle.surface_pieces.specs.declared.steps.Joining.TheVariants.{Pieces, Sides, Orientation}
-use Rattle.surface_pieces.specs.Joinings.{LeadsTo, ArePieceRows, AreSigned}
+use Rattle.surface_pieces.specs.declared.steps.SearchKind.TheVariants.{Pieces, Sides, Orientation}
+use Rattle.surface_pieces.specs.Searches.{LeadsTo, ArePieceRows, AreSigned}
 use Rattle.surface_pieces.specs.Vectors.{AreVectors}
 use Rattle.surface_pieces.specs.Told.{component_at, all_components, no_component}
 

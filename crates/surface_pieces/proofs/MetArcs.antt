@@ -15,9 +15,9 @@ use Rattle.surface_laws.proofs.MeetingArcs.{meets_back}
 use Rattle.surface_laws.proofs.ComponentSurfaces.{piece_there}
 use Rattle.surface_laws.proofs.PieceNumbers.{piece_found}
 use Rattle.surface_laws.proofs.Offsets.{piece_numbers}
-use Rattle.surface_pieces.specs.declared.steps.Joining.{Joining}
-use Rattle.surface_pieces.specs.declared.steps.Joining.TheVariants.{Pieces, Sides, Orientation}
-use Rattle.surface_pieces.specs.Joinings.{stays_at, number_with, LeadsAt}
+use Rattle.surface_pieces.specs.declared.steps.SearchKind.{SearchKind}
+use Rattle.surface_pieces.specs.declared.steps.SearchKind.TheVariants.{Pieces, Sides, Orientation}
+use Rattle.surface_pieces.specs.Searches.{stays_at, number_with, LeadsAt}
 use Rattle.surface_pieces.specs.Arcs.{IsArcOf, IsOnlyArcOf, HasNoArc}
 use Rattle.surface_pieces.specs.Meetings.{IsInside, IsMeetingAt, HasNoMeeting}
 use Rattle.surface_pieces.proofs.ArcsOfPieces.{arc_in}
@@ -94,19 +94,19 @@ beq_is false true = refl
 beq_is false false = refl
 
 -- what is told of a sign that is kept where the code says so
-value_is : (joining : Joining) (coords : Coords) (xs : List ℕ) (a : Arc) (g : Gluing) (st sides odd : Bool) (i k : ℕ) → sides ≡ keeps_sides coords xs a g → odd ≡ is_odd g.perm
-    → (joining ≡ Sides → st ≡ sides) → (joining ≡ Orientation → st ≡ (if odd then sides else not sides))
-    → number_with joining i (turned_if st k) ≡ number_with joining i (turned_if (stays_at joining coords xs a g) k)
+value_is : (kind : SearchKind) (coords : Coords) (xs : List ℕ) (a : Arc) (g : Gluing) (st sides odd : Bool) (i k : ℕ) → sides ≡ keeps_sides coords xs a g → odd ≡ is_odd g.perm
+    → (kind ≡ Sides → st ≡ sides) → (kind ≡ Orientation → st ≡ (if odd then sides else not sides))
+    → number_with kind i (turned_if st k) ≡ number_with kind i (turned_if (stays_at kind coords xs a g) k)
 value_is Pieces coords xs a g st sides odd i k es eo hs ho = refl
 value_is Sides coords xs a g st sides odd i k es eo hs ho = ap (λ b. 2 * i + turned_if b k) (hs refl ∙ es)
 value_is Orientation coords xs a g st sides odd i k es eo hs ho = ap (λ b. 2 * i + turned_if b k) (ho refl ∙ (λ j. if eo j then es j else not (es j)))
 
-pub step_is : (joining : Joining) (rows : List Row) (coords : Coords) (xs : List ℕ) (p : SurfacePiece) (slot : ℕ) (a b : Arc) (odd la lb st : Bool) (number k l : ℕ) → IsMeetingAt rows coords xs p slot a b odd
+pub step_is : (kind : SearchKind) (rows : List Row) (coords : Coords) (xs : List ℕ) (p : SurfacePiece) (slot : ℕ) (a b : Arc) (odd la lb st : Bool) (number k l : ℕ) → IsMeetingAt rows coords xs p slot a b odd
     → la ≡ looks_positive coords xs a → lb ≡ looks_positive coords xs b → number ≡ piece_number xs (piece_of coords xs b)
-    → (joining ≡ Sides → st ≡ beq la lb) → (joining ≡ Orientation → st ≡ (if odd then beq la lb else not (beq la lb)))
-    → l ≡ number_with joining number (turned_if st k)
-    → LeadsAt joining rows coords xs p k slot l × ((m : ℕ) → LeadsAt joining rows coords xs p k slot m → m ≡ l)
-step_is joining rows coords xs p slot a b odd la lb st number k l m ea eb en hs ho el = (
+    → (kind ≡ Sides → st ≡ beq la lb) → (kind ≡ Orientation → st ≡ (if odd then beq la lb else not (beq la lb)))
+    → l ≡ number_with kind number (turned_if st k)
+    → LeadsAt kind rows coords xs p k slot l × ((m : ℕ) → LeadsAt kind rows coords xs p k slot m → m ≡ l)
+step_is kind rows coords xs p slot a b odd la lb st number k l m ea eb en hs ho el = (
   (record { arc = a; gluing = g; meets = m.meets; one = m.one; other = sym told }, m.face, m.vertex),
   λ n d. (let o : (d.0.arc ≡ a) × (d.0.gluing ≡ g) = m.only d.0.arc d.0.gluing d.0.meets d.1 d.2 d.0.one in
       sym d.0.other ∙ (λ i. value (o.0 i) (o.1 i)) ∙ sym told),
@@ -116,11 +116,11 @@ step_is joining rows coords xs p slot a b odd la lb st number k l m ea eb en hs 
     g = m.gluing
 
     value : Arc → Gluing → ℕ
-    value c h = number_with joining (piece_number xs (piece_of coords xs (arc_across h c))) (turned_if (stays_at joining coords xs c h) k)
+    value c h = number_with kind (piece_number xs (piece_of coords xs (arc_across h c))) (turned_if (stays_at kind coords xs c h) k)
 
     sides : beq la lb ≡ keeps_sides coords xs a g
     sides = beq_is la lb ∙ (λ i. if ea i then eb i else not (eb i)) ∙ ap (λ (c : Arc). if looks_positive coords xs a then looks_positive coords xs c else not (looks_positive coords xs c)) m.other
 
     told : l ≡ value a g
-    told = el ∙ ap (λ i. number_with joining i (turned_if st k)) (en ∙ ap (λ (c : Arc). piece_number xs (piece_of coords xs c)) m.other)
-        ∙ value_is joining coords xs a g st (beq la lb) odd (piece_number xs (piece_of coords xs (arc_across g a))) k sides m.parity hs ho
+    told = el ∙ ap (λ i. number_with kind i (turned_if st k)) (en ∙ ap (λ (c : Arc). piece_number xs (piece_of coords xs c)) m.other)
+        ∙ value_is kind coords xs a g st (beq la lb) odd (piece_number xs (piece_of coords xs (arc_across g a))) k sides m.parity hs ho

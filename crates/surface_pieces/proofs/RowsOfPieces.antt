@@ -14,8 +14,8 @@ use Rattle.table_definitions.proofs.Listed.{among_contains, flat_map-among, map-
 use Rattle.surface_laws.proofs.PieceNumbers.{piece_at, no_piece, of_column}
 use Rattle.walk_laws.specs.Joined.{present}
 use Rattle.walk_laws.proofs.Rows.{present_contains}
-use Rattle.surface_pieces.specs.declared.steps.Joining.{Joining}
-use Rattle.surface_pieces.specs.Joinings.{LeadsAt, IsRow}
+use Rattle.surface_pieces.specs.declared.steps.SearchKind.{SearchKind}
+use Rattle.surface_pieces.specs.Searches.{LeadsAt, IsRow}
 use Rattle.surface_pieces.specs.Meetings.{IsInside}
 use Rattle.surface_pieces.proofs.MetArcs.{arc_inside}
 
@@ -27,41 +27,41 @@ present_place (Some m ∷ row) l (inl e) = (0, omega arith, ap Some (sym e))
 present_place (Some m ∷ row) l (inr h) = let p = present_place row l h in (suc p.0, (let k = p.1 in omega arith), p.2)
 
 -- the entries at the slots before this one
-pub record IsRowUpTo (joining : Joining) (rows : List Row) (coords : Coords) (xs : List ℕ) (p : SurfacePiece) (k slot : ℕ) (row : List (Option ℕ)) : Type 0 where
+pub record IsRowUpTo (kind : SearchKind) (rows : List Row) (coords : Coords) (xs : List ℕ) (p : SurfacePiece) (k slot : ℕ) (row : List (Option ℕ)) : Type 0 where
   pub size : length row ≡ 16
-  pub each : (s m : ℕ) → s < slot → slice_index_or row s None ≡ Some m → LeadsAt joining rows coords xs p k s m
-  pub all : (s m : ℕ) → s < slot → LeadsAt joining rows coords xs p k s m → slice_index_or row s None ≡ Some m
+  pub each : (s m : ℕ) → s < slot → slice_index_or row s None ≡ Some m → LeadsAt kind rows coords xs p k s m
+  pub all : (s m : ℕ) → s < slot → LeadsAt kind rows coords xs p k s m → slice_index_or row s None ≡ Some m
 
 -- what is said of one slot
-abbrev pub IsEntry : Joining → List Row → Coords → List ℕ → SurfacePiece → ℕ → ℕ → Option ℕ → Type 0
-IsEntry joining rows coords xs p k slot o =
-    IfSome o (λ l. LeadsAt joining rows coords xs p k slot l × ((m : ℕ) → LeadsAt joining rows coords xs p k slot m → m ≡ l))
-    × IfNone o ((m : ℕ) → LeadsAt joining rows coords xs p k slot m → ⊥)
+abbrev pub IsEntry : SearchKind → List Row → Coords → List ℕ → SurfacePiece → ℕ → ℕ → Option ℕ → Type 0
+IsEntry kind rows coords xs p k slot o =
+    IfSome o (λ l. LeadsAt kind rows coords xs p k slot l × ((m : ℕ) → LeadsAt kind rows coords xs p k slot m → m ≡ l))
+    × IfNone o ((m : ℕ) → LeadsAt kind rows coords xs p k slot m → ⊥)
 
-module _ (joining : Joining) (rows : List Row) (coords : Coords) (xs : List ℕ) (p : SurfacePiece) (k : ℕ) where
-  entry_each : (slot m : ℕ) (o : Option ℕ) → IsEntry joining rows coords xs p k slot o → o ≡ Some m → LeadsAt joining rows coords xs p k slot m
+module _ (kind : SearchKind) (rows : List Row) (coords : Coords) (xs : List ℕ) (p : SurfacePiece) (k : ℕ) where
+  entry_each : (slot m : ℕ) (o : Option ℕ) → IsEntry kind rows coords xs p k slot o → o ≡ Some m → LeadsAt kind rows coords xs p k slot m
   entry_each slot m None h e = absurd (let q : None ≡ Some m = e in cc)
-  entry_each slot m (Some l) h e = subst (LeadsAt joining rows coords xs p k slot) (let q : Some l ≡ Some m = e in cc) h.0.0
+  entry_each slot m (Some l) h e = subst (LeadsAt kind rows coords xs p k slot) (let q : Some l ≡ Some m = e in cc) h.0.0
 
-  entry_all : (slot m : ℕ) (o : Option ℕ) → IsEntry joining rows coords xs p k slot o → LeadsAt joining rows coords xs p k slot m → o ≡ Some m
+  entry_all : (slot m : ℕ) (o : Option ℕ) → IsEntry kind rows coords xs p k slot o → LeadsAt kind rows coords xs p k slot m → o ≡ Some m
   entry_all slot m None h d = absurd (h.1 m d)
   entry_all slot m (Some l) h d = ap Some (sym (h.0.1 m d))
 
-  pub row_next : (slot : ℕ) (row : List (Option ℕ)) (o : Option ℕ) → slot < 16 → IsRowUpTo joining rows coords xs p k slot row → IsEntry joining rows coords xs p k slot o
-      → IsRowUpTo joining rows coords xs p k (slot + 1) (set row slot o)
+  pub row_next : (slot : ℕ) (row : List (Option ℕ)) (o : Option ℕ) → slot < 16 → IsRowUpTo kind rows coords xs p k slot row → IsEntry kind rows coords xs p k slot o
+      → IsRowUpTo kind rows coords xs p k (slot + 1) (set row slot o)
   row_next slot row o l u h = record {
     size = length-set row slot o ∙ u.size;
     each = λ s m ls e. elim (cases_eq s slot) [
-      | inl same ↦ subst (λ t. LeadsAt joining rows coords xs p k t m) (sym same) (entry_each slot m o h (sym (get_or-set_same row slot o None (omega (arith, u.size))) ∙ ap (λ t. slice_index_or (set row slot o) t None) (sym same) ∙ e))
+      | inl same ↦ subst (λ t. LeadsAt kind rows coords xs p k t m) (sym same) (entry_each slot m o h (sym (get_or-set_same row slot o None (omega (arith, u.size))) ∙ ap (λ t. slice_index_or (set row slot o) t None) (sym same) ∙ e))
       | inr apart ↦ u.each s m (omega arith) (sym (get_or-set_other row slot s o None apart) ∙ e)
     ];
     all = λ s m ls d. elim (cases_eq s slot) [
-      | inl same ↦ ap (λ t. slice_index_or (set row slot o) t None) same ∙ get_or-set_same row slot o None (omega (arith, u.size)) ∙ entry_all slot m o h (subst (λ t. LeadsAt joining rows coords xs p k t m) same d)
+      | inl same ↦ ap (λ t. slice_index_or (set row slot o) t None) same ∙ get_or-set_same row slot o None (omega (arith, u.size)) ∙ entry_all slot m o h (subst (λ t. LeadsAt kind rows coords xs p k t m) same d)
       | inr apart ↦ get_or-set_other row slot s o None apart ∙ u.all s m (omega arith) d
     ];
   }
 
-  pub row_done : (s : IsSurface rows coords xs) (slot : ℕ) (row : List (Option ℕ)) → 16 ≤ slot → IsRowUpTo joining rows coords xs p k slot row → IsRow joining rows coords xs p k row
+  pub row_done : (s : IsSurface rows coords xs) (slot : ℕ) (row : List (Option ℕ)) → 16 ≤ slot → IsRowUpTo kind rows coords xs p k slot row → IsRow kind rows coords xs p k row
   row_done s slot row l u m = (
     (λ c. (let q : (t : ℕ) × (t < length row) × (slice_index_or row t None ≡ Some m) = present_place row m (among_contains m (present row) c) in
         (u.each q.0 m (let b = q.1 in omega (arith, u.size)) q.2).0)),

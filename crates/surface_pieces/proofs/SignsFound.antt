@@ -12,23 +12,23 @@ use Rattle.surface_definitions.specs.Pieces.{Arc, arc_across, piece_of, pieces_o
 use Rattle.surface_laws.specs.PieceLaws.{IsSurface, face_of_arc, turned_if}
 use Rattle.surface_laws.proofs.PieceNumbers.{no_piece, number-piece}
 use Rattle.surface_laws.proofs.SignedSteps.{SignedStep, IsFreePiece, arc_found, sides_back, orientation_back, steps_below, steps_back, free_by_signs, signs_by_free}
-use Rattle.surface_pieces.specs.declared.steps.Joining.{Joining}
-use Rattle.surface_pieces.specs.declared.steps.Joining.TheVariants.{Pieces, Sides, Orientation}
-use Rattle.surface_pieces.specs.Joinings.{number_with, stays_at, LeadsTo, AreSignedRows, IsFree}
+use Rattle.surface_pieces.specs.declared.steps.SearchKind.{SearchKind}
+use Rattle.surface_pieces.specs.declared.steps.SearchKind.TheVariants.{Pieces, Sides, Orientation}
+use Rattle.surface_pieces.specs.Searches.{number_with, stays_at, LeadsTo, AreSignedRows, IsFree}
 
-signed_number : (joining : Joining) → joining ≢ Pieces → (i k : ℕ) → number_with joining i k ≡ 2 * i + k
+signed_number : (kind : SearchKind) → kind ≢ Pieces → (i k : ℕ) → number_with kind i k ≡ 2 * i + k
 signed_number Pieces out i k = absurd (out refl)
 signed_number Sides out i k = refl
 signed_number Orientation out i k = refl
 
 module _ (rows : List Row) (coords : Coords) (xs : List ℕ) (s : IsSurface rows coords xs) where
   -- whether signs stay is the same from either side of a gluing
-  stays_back : (joining : Joining) (a : Arc) (g : Gluing) → Meets rows coords xs a g → stays_at joining coords xs (arc_across g a) (way_back (face_of_arc a) g) ≡ stays_at joining coords xs a g
+  stays_back : (kind : SearchKind) (a : Arc) (g : Gluing) → Meets rows coords xs a g → stays_at kind coords xs (arc_across g a) (way_back (face_of_arc a) g) ≡ stays_at kind coords xs a g
   stays_back Pieces a g m = refl
   stays_back Sides a g m = sides_back rows coords xs s a g m
   stays_back Orientation a g m = orientation_back rows coords xs s a g m
 
-  module _ (joining : Joining) (with_signs : joining ≢ Pieces) (table : List (List (Option ℕ))) (are_rows : AreSignedRows joining rows coords xs table) where
+  module _ (kind : SearchKind) (with_signs : kind ≢ Pieces) (table : List (List (Option ℕ))) (are_rows : AreSignedRows kind rows coords xs table) where
     abbrev n : ℕ
     n = length (pieces_of xs)
 
@@ -36,7 +36,7 @@ module _ (rows : List Row) (coords : Coords) (xs : List ℕ) (s : IsSurface rows
     signed = neighbours_of table
 
     abbrev stays : Arc → Gluing → Bool
-    stays = stays_at joining coords xs
+    stays = stays_at kind coords xs
 
     abbrev piece : Arc → ℕ
     piece a = piece_number xs (piece_of coords xs a)
@@ -55,13 +55,13 @@ module _ (rows : List Row) (coords : Coords) (xs : List ℕ) (s : IsSurface rows
     step_of : (k l : ℕ) → Contains (signed k) l → SignedStep rows coords xs stays k l
     step_of k l c = elim (cases_lt k (2 * n)) [
       | inr past ↦ absurd (none_past k l past c)
-      | inl low ↦ (let d : LeadsTo joining rows coords xs (slice_index_or (pieces_of xs) (k / 2) no_piece) (k % 2) l = (are_rows.each k low l).0 c in
+      | inl low ↦ (let d : LeadsTo kind rows coords xs (slice_index_or (pieces_of xs) (k / 2) no_piece) (k % 2) l = (are_rows.each k low l).0 c in
           record {
             arc = d.arc;
             gluing = d.gluing;
             meets = d.meets;
             one = ap (piece_number xs) d.one ∙ number-piece xs (k / 2) no_piece (omega arith);
-            other = sym (signed_number joining with_signs (piece (arc_across d.gluing d.arc)) (turned_if (stays d.arc d.gluing) (k % 2))) ∙ d.other;
+            other = sym (signed_number kind with_signs (piece (arc_across d.gluing d.arc)) (turned_if (stays d.arc d.gluing) (k % 2))) ∙ d.other;
           })
     ]
 
@@ -75,22 +75,22 @@ module _ (rows : List Row) (coords : Coords) (xs : List ℕ) (s : IsSurface rows
           gluing = p.gluing;
           meets = p.meets;
           one = sym ((arc_found rows coords xs s p.arc p.gluing p.meets).there) ∙ ap (λ i. slice_index_or (pieces_of xs) i no_piece) p.one;
-          other = signed_number joining with_signs (piece (arc_across p.gluing p.arc)) (turned_if (stays p.arc p.gluing) (k % 2)) ∙ p.other;
+          other = signed_number kind with_signs (piece (arc_across p.gluing p.arc)) (turned_if (stays p.arc p.gluing) (k % 2)) ∙ p.other;
         })
 
     pub signed_below : HasNeighboursBelow (2 * n) signed
-    signed_below = steps_below rows coords xs s stays (stays_back joining) signed step_of of_step
+    signed_below = steps_below rows coords xs s stays (stays_back kind) signed step_of of_step
 
     pub signed_back : IsSymmetric signed
-    signed_back = steps_back rows coords xs s stays (stays_back joining) signed step_of of_step
+    signed_back = steps_back rows coords xs s stays (stays_back kind) signed step_of of_step
 
     module _ (classes : List ℕ) (number : ℕ) (numbered : IsNumbering (2 * n) (IsJoined signed) classes number)
         (components : List ℕ) (count : ℕ) (are : AreComponents rows coords xs components count) (i : ℕ) where
       pub free_is : i < count → IsFree classes components i ↔ HasSigns rows coords xs components i stays
       unfolding IsFreePiece
       free_is li = (
-        (λ h. signs_by_free rows coords xs s stays (stays_back joining) signed step_of of_step classes number numbered components count are i li
+        (λ h. signs_by_free rows coords xs s stays (stays_back kind) signed step_of of_step classes number numbered components count are i li
             (λ p lp e same. let z : 2 * p + 0 ≡ 2 * p = omega arith in h p (omega (arith, are.one_each)) e (sym (ap (slice_index classes) z) ∙ same))),
         (λ signs p lp e same. let z : 2 * p + 0 ≡ 2 * p = omega arith in
-            free_by_signs rows coords xs s stays (stays_back joining) signed step_of of_step classes number numbered components count are i signs p (omega (arith, are.one_each)) e (ap (slice_index classes) z ∙ same)),
+            free_by_signs rows coords xs s stays (stays_back kind) signed step_of of_step classes number numbered components count are i signs p (omega (arith, are.one_each)) e (ap (slice_index classes) z ∙ same)),
       )

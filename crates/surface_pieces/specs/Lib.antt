@@ -1,6 +1,6 @@
 pub mod Starts
 pub mod Arcs
-pub mod Joinings
+pub mod Searches
 pub mod Vectors
 pub mod Meetings
 pub mod Told

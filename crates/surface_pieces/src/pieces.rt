@@ -11,7 +11,7 @@ ghost use Rattle.surface_pieces.specs.Told.{no_component};
 use crate::counts::{all_pieces, entries_of, starts_of, total};
 use crate::rows::piece_rows;
 use crate::signs::signs_of;
-use crate::steps::Joining;
+use crate::steps::SearchKind;
 use crate::vectors::vectors_of;
 use finite_walks::classes;
 use gluing_table::Table;
@@ -67,7 +67,7 @@ fn built(alloc: Global, table: &Table, coords: Coords, x: &[u32]) -> Result<Piec
         &starts,
         &listed,
         &all,
-        Joining::Sides,
+        SearchKind::Sides,
     )?;
     let orientable = signs_of(
         alloc,
@@ -77,7 +77,7 @@ fn built(alloc: Global, table: &Table, coords: Coords, x: &[u32]) -> Result<Piec
         &starts,
         &listed,
         &all,
-        Joining::Orientation,
+        SearchKind::Orientation,
     )?;
     Ok(Pieces {
         vectors,

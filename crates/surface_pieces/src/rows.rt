@@ -5,10 +5,10 @@ ghost use Rattle.surface_definitions.specs.Pieces as pieces;
 ghost use Rattle.vector_definitions.specs.Components.{most_pieces};
 ghost use Rattle.surface_laws.specs.PieceLaws.{IsSurface, IsPieceOf};
 ghost use Rattle.surface_pieces.specs.Starts.{AreStarts};
-ghost use Rattle.surface_pieces.specs.Joinings.{IsRow, ArePieceRows, AreSignedRows};
+ghost use Rattle.surface_pieces.specs.Searches.{IsRow, ArePieceRows, AreSignedRows};
 
 use crate::counts::Piece;
-use crate::steps::{Joining, step_at};
+use crate::steps::{SearchKind, step_at};
 use gluing_table::Table;
 use std::alloc::{AllocError, Global};
 use surface_definitions::Coords;
@@ -19,7 +19,7 @@ fn row_of(
     coords: Coords,
     x: &[u32],
     starts: &[u32],
-    joining: Joining,
+    kind: SearchKind,
     piece: Piece,
     sign: u32,
 ) -> [Option<u32>; 16]
@@ -29,11 +29,11 @@ fn row_of(
     requires starts { AreStarts x.now starts.now }
     requires piece { IsPieceOf x.now piece }
     requires a_sign { sign < 2 }
-    ensures { IsRow joining table.now coords x.now piece sign result }
+    ensures { IsRow kind table.now coords x.now piece sign result }
 {
     let mut row = [None; 16];
     for slot in 0..16 {
-        row[slot as usize] = step_at(table, coords, x, starts, joining, piece, sign, slot);
+        row[slot as usize] = step_at(table, coords, x, starts, kind, piece, sign, slot);
     }
     row
 }
@@ -56,7 +56,7 @@ pub fn piece_rows(
 {
     let mut rows = Vec::with_capacity(alloc, listed.len())?;
     for piece in listed {
-        rows.push(row_of(table, coords, x, starts, Joining::Pieces, *piece, 0))?;
+        rows.push(row_of(table, coords, x, starts, SearchKind::Pieces, *piece, 0))?;
     }
     Ok(rows)
 }
@@ -69,20 +69,20 @@ pub fn signed_rows(
     x: &[u32],
     starts: &[u32],
     listed: &[Piece],
-    joining: Joining,
+    kind: SearchKind,
 ) -> Result<Vec<[Option<u32>; 16]>, AllocError>
     requires coords { coords ≢ Coords.Quad }
     requires surface { IsSurface table.now coords x.now }
     requires few { sum x.now ≤ most_pieces }
     requires starts { AreStarts x.now starts.now }
     requires listed { listed.now ≡ pieces.pieces_of x.now }
-    ensures { IfOk result (λ rows. AreSignedRows joining table.now coords x.now rows.items) }
+    ensures { IfOk result (λ rows. AreSignedRows kind table.now coords x.now rows.items) }
 {
     let mut rows = Vec::with_capacity(alloc, 2 * listed.len())?;
     for number in 0..2 * listed.len() {
         let piece = listed[number / 2];
         let sign = (number % 2) as u32;
-        rows.push(row_of(table, coords, x, starts, joining, piece, sign))?;
+        rows.push(row_of(table, coords, x, starts, kind, piece, sign))?;
     }
     Ok(rows)
 }

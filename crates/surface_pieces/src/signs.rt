@@ -6,11 +6,11 @@ ghost use Rattle.surface_definitions.specs.Pieces as pieces;
 ghost use Rattle.vector_definitions.specs.Components.{most_pieces};
 ghost use Rattle.surface_laws.specs.PieceLaws.{IsSurface};
 ghost use Rattle.surface_pieces.specs.Starts.{AreStarts};
-ghost use Rattle.surface_pieces.specs.Joinings.{IsFree, AreSigned};
+ghost use Rattle.surface_pieces.specs.Searches.{IsFree, AreSigned};
 
 use crate::counts::Piece;
 use crate::rows::signed_rows;
-use crate::steps::Joining;
+use crate::steps::SearchKind;
 use finite_walks::{Numbering, classes};
 use gluing_table::Table;
 use std::alloc::{AllocError, Global};
@@ -55,7 +55,7 @@ pub fn signs_of(
     starts: &[u32],
     listed: &[Piece],
     components: &Numbering,
-    joining: Joining,
+    kind: SearchKind,
 ) -> Result<Vec<bool>, AllocError>
     requires coords { coords ≢ Coords.Quad }
     requires surface { IsSurface table.now coords x.now }
@@ -63,10 +63,10 @@ pub fn signs_of(
     requires starts { AreStarts x.now starts.now }
     requires listed { listed.now ≡ pieces.pieces_of x.now }
     requires components { pieces.AreComponents table.now coords x.now components.now.classes.items components.now.count }
-    requires joining { joining ≢ Joining.Pieces }
-    ensures { IfOk result (λ signs. AreSigned joining table.now coords x.now components.now.classes.items components.now.count signs.items) }
+    requires kind { kind ≢ SearchKind.Pieces }
+    ensures { IfOk result (λ signs. AreSigned kind table.now coords x.now components.now.classes.items components.now.count signs.items) }
 {
-    let rows = signed_rows(alloc, table, coords, x, starts, listed, joining)?;
+    let rows = signed_rows(alloc, table, coords, x, starts, listed, kind)?;
     let signed = classes(alloc, &rows)?;
     let free = free_components(alloc, &signed.classes, components)?;
     Ok(free)

@@ -6,7 +6,7 @@ ghost use Rattle.surface_definitions.specs.Pieces as pieces;
 ghost use Rattle.vector_definitions.specs.Components.{most_pieces};
 ghost use Rattle.surface_laws.specs.PieceLaws.{IsSurface, IsPieceOf, turned_if};
 ghost use Rattle.surface_pieces.specs.Starts.{AreStarts};
-ghost use Rattle.surface_pieces.specs.Joinings.{LeadsAt, number_with};
+ghost use Rattle.surface_pieces.specs.Searches.{LeadsAt, number_with};
 ghost use Rattle.surface_pieces.specs.Meetings.{IsMeetingAt, HasNoMeeting};
 
 use crate::arcs::{arc_of, looks_positive, piece_of};
@@ -17,7 +17,7 @@ use surface_definitions::Coords;
 
 /// What numbers a search joins: those of pieces, or those of pieces with a sign, which is kept where a test passes.
 #[derive(Clone, Copy)]
-pub enum Joining {
+pub enum SearchKind {
     Pieces,
     Sides,
     Orientation,
@@ -41,23 +41,23 @@ fn across(glue: Glue, arc: SurfaceArc) -> SurfaceArc
 }
 
 /// Whether a sign is kept at an arc.
-fn stays(joining: Joining, sides: bool, odd: bool) -> bool
-    ensures sides { joining ≡ Joining.Sides → result ≡ sides }
-    ensures orientation { joining ≡ Joining.Orientation → result ≡ (if odd then sides else not sides) }
+fn stays(kind: SearchKind, sides: bool, odd: bool) -> bool
+    ensures sides { kind ≡ SearchKind.Sides → result ≡ sides }
+    ensures orientation { kind ≡ SearchKind.Orientation → result ≡ (if odd then sides else not sides) }
 {
-    match joining {
-        Joining::Orientation => odd == sides,
+    match kind {
+        SearchKind::Orientation => odd == sides,
         _ => sides,
     }
 }
 
 /// The number for the piece across an arc, which is told by its own number, or by that with a sign.
-fn joined(joining: Joining, piece: u32, sign: u32, stays: bool) -> u32
+fn joined(kind: SearchKind, piece: u32, sign: u32, stays: bool) -> u32
     requires few { piece ≤ most_pieces }
     requires a_sign { sign < 2 }
-    ensures { result ≡ number_with joining piece (turned_if stays sign) }
+    ensures { result ≡ number_with kind piece (turned_if stays sign) }
 {
-    if joining == Joining::Pieces {
+    if kind == SearchKind::Pieces {
         piece
     } else if stays {
         2 * piece + sign
@@ -110,7 +110,7 @@ pub fn step_at(
     coords: Coords,
     x: &[u32],
     starts: &[u32],
-    joining: Joining,
+    kind: SearchKind,
     piece: Piece,
     sign: u32,
     slot: u32,
@@ -122,11 +122,11 @@ pub fn step_at(
     requires piece { IsPieceOf x.now piece }
     requires a_sign { sign < 2 }
     requires a_slot { slot < 16 }
-    ensures some { IfSome result (λ l. LeadsAt joining table.now coords x.now piece sign slot l × ((m : ℕ) → LeadsAt joining table.now coords x.now piece sign slot m → m ≡ l)) }
-    ensures none { IfNone result ((m : ℕ) → LeadsAt joining table.now coords x.now piece sign slot m → ⊥) }
+    ensures some { IfSome result (λ l. LeadsAt kind table.now coords x.now piece sign slot l × ((m : ℕ) → LeadsAt kind table.now coords x.now piece sign slot m → m ≡ l)) }
+    ensures none { IfNone result ((m : ℕ) → LeadsAt kind table.now coords x.now piece sign slot m → ⊥) }
 {
     let meeting = meeting_at(table, coords, x, piece, slot)?;
     let number = number_of(x, starts, piece_of(coords, x, meeting.other));
     let sides = looks_positive(coords, x, meeting.arc) == looks_positive(coords, x, meeting.other);
-    Some(joined(joining, number, sign, stays(joining, sides, meeting.odd)))
+    Some(joined(kind, number, sign, stays(kind, sides, meeting.odd)))
 }

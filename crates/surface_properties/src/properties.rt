@@ -10,11 +10,12 @@ ghost use Rattle.vector_definitions.specs.Properties.{IsPropertyAnswer};
 
 use crate::arcs::{arcs, arcs_in};
 use crate::points::points;
-use crate::sums::{MAX_ENTRY, add, sum_of};
+use crate::sums::{add, sum_of};
 use gluing_table::{Face, Table};
 use normal_discs::{columns_each, triangles_each};
 use skeleton::Skeleton;
 use surface_definitions::Coords;
+use text_io::LIMIT;
 use vector_definitions::{Properties, PropertyFault, Sum};
 
 /// Whether a column of quads or octagons has pieces.
@@ -99,16 +100,16 @@ pub fn properties_of(
 {
     let table = skeleton.table();
     let points = points(skeleton, coords, x);
-    if points > MAX_ENTRY {
+    if points > LIMIT {
         return Err(PropertyFault::Large { sum: Sum::Points });
     }
     let arcs = arcs(table, coords, x);
-    if arcs > MAX_ENTRY {
+    if arcs > LIMIT {
         return Err(PropertyFault::Large { sum: Sum::Arcs });
     }
     let pieces = sum_of(x);
     let both = add(points, pieces);
-    if both > MAX_ENTRY {
+    if both > LIMIT {
         return Err(PropertyFault::Large {
             sum: Sum::PointsAndPieces,
         });

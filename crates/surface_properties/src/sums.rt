@@ -3,14 +3,13 @@
 ghost use Rattle.std.specs.Prelude.{◌≡◌, ◌+◌, ◌<◌, length, sum, sum_by, slice_index, All};
 ghost use Rattle.surface_properties.specs.Capped.{capped};
 
-/// The greatest entry of a vector.
-pub const MAX_ENTRY: u128 = 170_141_183_460_469_231_731_687_303_715_884_105_727;
+use text_io::LIMIT;
 
 /// The sum of two numbers.
 pub fn add(a: u128, b: u128) -> u128
     ensures { result ≡ capped (a + b) }
 {
-    a.saturating_add(b).min(MAX_ENTRY + 1)
+    a.saturating_add(b).min(LIMIT + 1)
 }
 
 /// The sum of the entries in these columns.

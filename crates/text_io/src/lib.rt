@@ -15,7 +15,7 @@ mod transfer;
 mod words;
 mod writing;
 
-pub use decimals::{is_decimal_word, value_up_to};
+pub use decimals::{LIMIT, is_decimal_word, value_up_to};
 pub use faults::Failed;
 pub use lexer::Lexer;
 pub use no_memory::NoMemory;

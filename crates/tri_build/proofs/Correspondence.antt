@@ -12,7 +12,7 @@ use Rattle.certificate_laws.proofs.Names.{named}
 use Rattle.certificate_laws.proofs.CarriedCores.{naming, label_under-named}
 use Rattle.certificate_laws.proofs.CarriedFacets.{IsCarried, perm_at, own_fine, naming_fine}
 use Rattle.certificate_laws.proofs.BackLabels.{IsSteppedOn, carried_inverse, back_labels, each_once, held}
-use Rattle.tri_build.specs.Steps.{Step}
+use Rattle.tri_build.specs.Steps.{PlayedMove}
 use Rattle.tri_build.specs.Standing.{inverse_label, label_back}
 
 -- by the labels of the inverse
@@ -30,7 +30,7 @@ inverse_label-renamed size l = refl
 five_same : (f g : ℕ → ℕ) → ((l : ℕ) → l < 5 → f l ≡ g l) → map f (below 5) ≡ map g (below 5)
 five_same f g same = λ i. same 0 (omega arith) i ∷ same 1 (omega arith) i ∷ same 2 (omega arith) i ∷ same 3 (omega arith) i ∷ same 4 (omega arith) i ∷ []
 
-pub labels_are : (old : List Row) (step : Step) (new now : List Row) (on : Relabelling) → IsSteppedOn old step.played new now on → step.tets ≡ length old → map (label_back step on) (below 5) ≡ back_labels old step.played on
+pub labels_are : (old : List Row) (step : PlayedMove) (new now : List Row) (on : Relabelling) → IsSteppedOn old step.played new now on → step.tets ≡ length old → map (label_back step on) (below 5) ≡ back_labels old step.played on
 labels_are old step new now on h tets = five_same (label_back step on) (λ l. named (naming (perm_at on inverse.tet) inverse.core) (renamed size l)) at
   where
     size : ℕ

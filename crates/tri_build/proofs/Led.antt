@@ -23,26 +23,26 @@ use Rattle.certificate_laws.proofs.BackLabels.{IsSteppedOn, carried_inverse, bac
 use Rattle.certificate_laws.proofs.StepBack.{IsLedBack, led_back_by}
 use Rattle.certificate_laws.proofs.CarriedWays.{stepped}
 use Rattle.certificate_laws.proofs.OneWay.{correspond_once}
-use Rattle.tri_build.specs.Steps.{Step, IsBefore, GoesBack}
+use Rattle.tri_build.specs.Steps.{PlayedMove, IsBefore, GoesBack}
 use Rattle.tri_build.specs.Standing.{Back, IsBack, number_without, put_in, stands_by, stands_at, CanStandBy, StandsFor}
 use Rattle.tri_build.proofs.Bijective.{are_of}
 use Rattle.tri_build.proofs.Found.{find_at, none_has, found_tet}
 use Rattle.tri_build.proofs.Correspondence.{back_corresponds, labels_are}
 
-abbrev stepped_on : (old : List Row) (step : Step) (now : List Row) (on : Relabelling) → (b : IsBefore old step now on) → IsSteppedOn old step.played b.new now on
+abbrev stepped_on : (old : List Row) (step : PlayedMove) (now : List Row) (on : Relabelling) → (b : IsBefore old step now on) → IsSteppedOn old step.played b.new now on
 stepped_on old step now on b = stepped old step.played b.new now on b.is_step.plays b.relabels b.carries
 
 -- the move back can be played
 
-pub back_is : (old : List Row) (step : Step) (now : List Row) (on : Relabelling) → IsBefore old step now on → move_under on (inverse_move step.tets step.played) ≡ move_back old step.played on
+pub back_is : (old : List Row) (step : PlayedMove) (now : List Row) (on : Relabelling) → IsBefore old step now on → move_under on (inverse_move step.tets step.played) ≡ move_back old step.played on
 back_is old step now on b = ap (λ n. move_under on (inverse_move n step.played)) b.is_step.tets
 
-pub back_plays : (old : List Row) (step : Step) (now : List Row) (on : Relabelling) → IsBefore old step now on → (end : List Row) × Plays now (move_under on (inverse_move step.tets step.played)) end
+pub back_plays : (old : List Row) (step : PlayedMove) (now : List Row) (on : Relabelling) → IsBefore old step now on → (end : List Row) × Plays now (move_under on (inverse_move step.tets step.played)) end
 back_plays old step now on b =
     let l : IsLedBack old step.played b.new now on = led_back_by old step.played b.new now on (stepped_on old step now on b) in
     (l.end, subst (λ (m : Move). Plays now m l.end) (sym (back_is old step now on b)) l.leads)
 
-pub inverse_in : (old : List Row) (step : Step) (now : List Row) (on : Relabelling) → IsBefore old step now on → (inverse_move step.tets step.played).tet < length on.images
+pub inverse_in : (old : List Row) (step : PlayedMove) (now : List Row) (on : Relabelling) → IsBefore old step now on → (inverse_move step.tets step.played).tet < length on.images
 inverse_in old step now on b =
     let k = carried_inverse old step.played b.new now on (stepped_on old step now on b) in
     let inside : (inverse_move (length old) step.played).tet < length b.new = k.fine.in_range in
@@ -50,7 +50,7 @@ inverse_in old step now on b =
     omega (arith, length-images (length b.new) on b.relabels)
 
 -- what it leads to
-pub record IsLed (old : List Row) (step : Step) (now : List Row) (on : Relabelling) (back : Back) : Type 0 where
+pub record IsLed (old : List Row) (step : PlayedMove) (now : List Row) (on : Relabelling) (back : Back) : Type 0 where
   pub end : List Row
   pub by : Relabelling
   pub plays : Plays now (move_back old step.played on) end
@@ -58,7 +58,7 @@ pub record IsLed (old : List Row) (step : Step) (now : List Row) (on : Relabelli
   pub carries : Carries by old end
   pub stands : StandsFor step back on by
 
-pub led : (old : List Row) (step : Step) (now : List Row) (on : Relabelling) (back : Back) → IsBefore old step now on → IsBack step now on back → IsLed old step now on back
+pub led : (old : List Row) (step : PlayedMove) (now : List Row) (on : Relabelling) (back : Back) → IsBefore old step now on → IsBack step now on back → IsLed old step now on back
 led old step now on back b k = record {
   end = l.end;
   by = l.by;
@@ -144,7 +144,7 @@ led old step now on back b k = record {
 
 -- the relabelling that is filled in is that one
 
-pub filled_in : (step : Step) (back : Back) (on by : Relabelling) (t : ℕ) (images : List ℕ) (perms : List (List ℕ)) → StandsFor step back on by → t ≡ step.tets
+pub filled_in : (step : PlayedMove) (back : Back) (on by : Relabelling) (t : ℕ) (images : List ℕ) (perms : List (List ℕ)) → StandsFor step back on by → t ≡ step.tets
     → images ≡ map (λ u. (stands_at step back on u).tet) (below t) → perms ≡ map (λ u. (stands_at step back on u).perm) (below t) → record { images = images; perms = perms } ≡ by
 filled_in step back on by t images perms s e i p =
     are_of step.tets (stands_at step back on) by images perms s.relabels s.stands
@@ -152,16 +152,16 @@ filled_in step back on by t images perms s e i p =
 
 -- so a step goes back
 
-pub played_is : (old : List Row) (step : Step) (now : List Row) (on : Relabelling) (back : Back) (m : Move) → IsBefore old step now on → IsBack step now on back → m ≡ back.played → m ≡ move_back old step.played on
+pub played_is : (old : List Row) (step : PlayedMove) (now : List Row) (on : Relabelling) (back : Back) (m : Move) → IsBefore old step now on → IsBack step now on back → m ≡ back.played → m ≡ move_back old step.played on
 played_is old step now on back m b k e = e ∙ k.played ∙ back_is old step now on b
 
-pub not_refused : (old : List Row) (step : Step) (now : List Row) (on : Relabelling) (back : Back) (m : Move) (fault : MoveFault) → IsBefore old step now on → IsBack step now on back → m ≡ back.played → play_fault now m ≡ Some fault → ⊥
+pub not_refused : (old : List Row) (step : PlayedMove) (now : List Row) (on : Relabelling) (back : Back) (m : Move) (fault : MoveFault) → IsBefore old step now on → IsBack step now on back → m ≡ back.played → play_fault now m ≡ Some fault → ⊥
 not_refused old step now on back m fault b k e f =
     let l : IsLed old step now on back = led old step now on back b k in
     let none : None ≡ Some fault = sym (ap (play_fault now) (played_is old step now on back m b k e) ∙ l.plays.accepted) ∙ f in
     cc
 
-pub gone_back : (old : List Row) (step : Step) (now : List Row) (on : Relabelling) (back : Back) (m : Move) (before after : List Move) (end : List Row) (by : Relabelling) → IsBefore old step now on → IsBack step now on back
+pub gone_back : (old : List Row) (step : PlayedMove) (now : List Row) (on : Relabelling) (back : Back) (m : Move) (before after : List Move) (end : List Row) (by : Relabelling) → IsBefore old step now on → IsBack step now on back
     → m ≡ back.played → after ≡ before ++ m ∷ [] → Plays now m end → ((other : Relabelling) → StandsFor step back on other → by ≡ other) → GoesBack old step now on before after end by
 gone_back old step now on back m before after end by b k e moves plays one =
     let l : IsLed old step now on back = led old step now on back b k in

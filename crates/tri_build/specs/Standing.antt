@@ -6,7 +6,7 @@ use Rattle.table_definitions.specs.Table.{Gluing, Row}
 use Rattle.table_definitions.specs.Relabelling.{Relabelling, IsRelabelling, stand_in}
 use Rattle.move_definitions.specs.Moves.{Move, Facet, old_facets, kept, inverse_move}
 use Rattle.certificate_definitions.specs.CarriedMoves.{move_under, label_under, by_labels}
-use Rattle.tri_build.specs.Steps.{Step}
+use Rattle.tri_build.specs.Steps.{PlayedMove}
 
 -- The label, in the inverse of a move whose core has so many vertices, of the vertices that have label l in the move. The
 -- facets that were taken out come first, and that of label 0 is the tetrahedron of the inverse.
@@ -14,7 +14,7 @@ abbrev pub inverse_label : ℕ → ℕ → ℕ
 inverse_label size l = if nat_lt l size then (if l == 0 then 4 else l + (4 - size)) else l - size
 
 -- the label, in the move back, to which label l of a step corresponds
-abbrev pub label_back : Step → Relabelling → ℕ → ℕ
+abbrev pub label_back : PlayedMove → Relabelling → ℕ → ℕ
 label_back step on l = label_under on (inverse_move step.tets step.played) (inverse_label (length step.played.core) l)
 
 -- the move back, how many tetrahedra it keeps, the facets that it takes out, and the labels to which those of the step correspond
@@ -24,7 +24,7 @@ pub record Back : Type 0 where
   pub facets : List Facet
   pub labels : List ℕ
 
-pub record IsBack (step : Step) (now : List Row) (on : Relabelling) (back : Back) : Type 0 where
+pub record IsBack (step : PlayedMove) (now : List Row) (on : Relabelling) (back : Back) : Type 0 where
   pub played : back.played ≡ move_under on (inverse_move step.tets step.played)
   pub kept : back.kept ≡ kept now back.played
   pub facets : back.facets ≡ old_facets now back.played
@@ -39,18 +39,18 @@ abbrev pub put_in : ℕ → ℕ → Facet
 put_in kept j = record { tet = kept + j; missing = j; labels = filter (λ l. not (l == j)) (below 5) }
 
 -- what stands for a tetrahedron that the step kept, and for one that it took out
-abbrev pub kept_stands : Step → Back → Relabelling → ℕ → Gluing
+abbrev pub kept_stands : PlayedMove → Back → Relabelling → ℕ → Gluing
 kept_stands step back on t =
     record { tet = number_without back.facets (stand_in on (number_without step.facets t)).tet; perm = (stand_in on (number_without step.facets t)).perm }
 
 abbrev pub facet_stands : Back → Facet → Gluing
 facet_stands back f = by_labels (slice_index back.labels) f (put_in back.kept (slice_index back.labels f.missing))
 
-abbrev pub stands_by : Step → Back → Relabelling → ℕ → Option Facet → Gluing
+abbrev pub stands_by : PlayedMove → Back → Relabelling → ℕ → Option Facet → Gluing
 stands_by step back on t None = kept_stands step back on t
 stands_by step back on t (Some f) = facet_stands back f
 
-abbrev pub stands_at : Step → Back → Relabelling → ℕ → Gluing
+abbrev pub stands_at : PlayedMove → Back → Relabelling → ℕ → Gluing
 stands_at step back on t = stands_by step back on t (find (λ (f : Facet). f.tet == t) step.facets)
 
 -- a facet whose labels correspond to those of another
@@ -59,15 +59,15 @@ pub record CanStand (back : Back) (f : Facet) : Type 0 where
   pub labels : All (λ l. l < 5) f.labels
   pub permutes : IsPermutationOfFour (facet_stands back f).perm
 
-abbrev pub CanStandBy : Step → Back → Relabelling → ℕ → Option Facet → Type 0
+abbrev pub CanStandBy : PlayedMove → Back → Relabelling → ℕ → Option Facet → Type 0
 CanStandBy step back on t None = number_without step.facets t < length on.images
 CanStandBy step back on t (Some f) = CanStand back f
 
-abbrev pub CanStandAt : Step → Back → Relabelling → ℕ → Type 0
+abbrev pub CanStandAt : PlayedMove → Back → Relabelling → ℕ → Type 0
 CanStandAt step back on t = CanStandBy step back on t (find (λ (f : Facet). f.tet == t) step.facets)
 
 -- the relabelling by which each tetrahedron goes to what stands for it
-pub record StandsFor (step : Step) (back : Back) (on : Relabelling) (by : Relabelling) : Type 0 where
+pub record StandsFor (step : PlayedMove) (back : Back) (on : Relabelling) (by : Relabelling) : Type 0 where
   pub relabels : IsRelabelling step.tets by
   pub can : (t : ℕ) → t < step.tets → CanStandAt step back on t
   pub stands : (t : ℕ) → t < step.tets → stand_in by t ≡ stands_at step back on t

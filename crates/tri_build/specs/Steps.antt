@@ -7,35 +7,35 @@ use Rattle.move_definitions.specs.Moves.{Move, Facet, old_facets, Plays}
 use Rattle.certificate_definitions.specs.CarriedBack.{IsCarriedBack, move_back}
 
 -- a move, the number of tetrahedra before it, and the facets that it took out
-pub record Step : Type 0 where
+pub record PlayedMove : Type 0 where
   pub played : Move
   pub tets : ℕ
   pub facets : List Facet
 
 -- the step led from the one table to the other
-pub record IsStep (old : List Row) (step : Step) (new : List Row) : Type 0 where
+pub record IsStep (old : List Row) (step : PlayedMove) (new : List Row) : Type 0 where
   pub plays : Plays old step.played new
   pub tets : step.tets ≡ length old
   pub facets : step.facets ≡ old_facets old step.played
 
-abbrev pub AreSteps : List Row → List Step → List Row → Type 0
+abbrev pub AreSteps : List Row → List PlayedMove → List Row → Type 0
 AreSteps first steps last = FoldsTo IsStep first steps last
 
-abbrev pub moves_of : List Step → List Move
-moves_of steps = map (λ (s : Step). s.played) steps
+abbrev pub moves_of : List PlayedMove → List Move
+moves_of steps = map (λ (s : PlayedMove). s.played) steps
 
 -- the step was made on a table, and a relabelling carries the table to which it led to this one
-pub record IsBefore (old : List Row) (step : Step) (now : List Row) (on : Relabelling) : Type 0 where
+pub record IsBefore (old : List Row) (step : PlayedMove) (now : List Row) (on : Relabelling) : Type 0 where
   pub new : List Row
   pub is_step : IsStep old step new
   pub relabels : IsRelabelling (length new) on
   pub carries : Carries on new now
 
-abbrev pub CanGoBack : Step → List Row → Relabelling → Type 0
+abbrev pub CanGoBack : PlayedMove → List Row → Relabelling → Type 0
 CanGoBack step now on = (old : List Row) × IsBefore old step now on
 
 -- the step is carried back: its move back is played, and stands behind the moves before
-pub record GoesBack (old : List Row) (step : Step) (now : List Row) (on : Relabelling) (before after : List Move) (end : List Row) (by : Relabelling) : Type 0 where
+pub record GoesBack (old : List Row) (step : PlayedMove) (now : List Row) (on : Relabelling) (before after : List Move) (end : List Row) (by : Relabelling) : Type 0 where
   pub moves : after ≡ before ++ move_back old step.played on ∷ []
   pub plays : Plays now (move_back old step.played on) end
   pub carried : IsCarriedBack old step.played now (move_back old step.played on) on by

@@ -30,10 +30,7 @@ fn core_under(perm: Perm4, core: Core) -> Core
         + bit_under(perm, core, 1)
         + bit_under(perm, core, 2)
         + bit_under(perm, core, 3);
-    match Core::new(mask) {
-        Some(core) => core,
-        None => unreachable!(),
-    }
+    Core::of_mask(mask)
 }
 
 /// The move that stands for another.

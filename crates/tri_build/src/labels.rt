@@ -6,7 +6,7 @@ ghost use Rattle.move_definitions.specs.Moves.{inverse_move};
 ghost use Rattle.tri_build.specs.Standing.{inverse_label, label_back};
 
 use crate::carrying::label_under;
-use crate::steps::Step;
+use crate::steps::PlayedMove;
 use gluing_table::Relabelling;
 
 /// The label, in the inverse of a move whose core has so many vertices, of the vertices with a label.
@@ -24,7 +24,7 @@ fn inverse_label(size: u8, label: u8) -> u8
 }
 
 /// The label of the move back to which a label of the step corresponds.
-fn label_back(step: &Step, on: &Relabelling, label: u8) -> u8
+fn label_back(step: &PlayedMove, on: &Relabelling, label: u8) -> u8
     requires in_range { (inverse_move step.now.tets step.now.played).tet < length on.now.images }
     requires a_label { label < 5 }
     ensures value { result ≡ label_back step.now on.now label }
@@ -35,7 +35,7 @@ fn label_back(step: &Step, on: &Relabelling, label: u8) -> u8
 }
 
 /// The label of the move back to which each label of the step corresponds.
-pub fn labels_back(step: &Step, on: &Relabelling) -> [u8; 5]
+pub fn labels_back(step: &PlayedMove, on: &Relabelling) -> [u8; 5]
     requires { (inverse_move step.now.tets step.now.played).tet < length on.now.images }
     ensures value { result ≡ map (label_back step.now on.now) (below 5) }
     ensures labels { All (λ l. l < 5) result }

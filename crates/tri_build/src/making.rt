@@ -6,7 +6,7 @@ ghost use Rattle.certificate_definitions.specs.Makings.{IsMade};
 ghost use Rattle.tri_build.specs.Steps.{AreSteps, moves_of};
 
 use crate::generator::next_state;
-use crate::steps::{Step, draw_step};
+use crate::steps::{PlayedMove, draw_step};
 use crate::way_back::way_back;
 use gluing_table::Table;
 use no_memory::NoMemory;
@@ -22,7 +22,7 @@ pub struct Made {
 }
 
 /// Plays up to so many moves, each drawn in the next state.
-fn play(alloc: Global, table: &mut Table, seed: u64, most: u32) -> Result<Vec<Step>, NoMemory>
+fn play(alloc: Global, table: &mut Table, seed: u64, most: u32) -> Result<Vec<PlayedMove>, NoMemory>
     ensures making { IfOk result (λ steps. IsMaking most seed table.old (moves_of steps.items) table.new) }
     ensures steps { IfOk result (λ steps. AreSteps table.old steps.items table.new) }
     ensures few { IfOk result (λ steps. length steps.items ≤ most) }

@@ -6,7 +6,7 @@ ghost use Rattle.table_definitions.specs.Lists.{below};
 ghost use Rattle.table_definitions.specs.Permutation.{preimage};
 ghost use Rattle.tri_build.specs.Standing.{CanStand, CanStandAt, number_without, put_in, kept_stands, facet_stands, stands_at};
 
-use crate::steps::Step;
+use crate::steps::PlayedMove;
 use arrayvec::ArrayVec;
 use gluing_table::{Glue, Relabelling};
 use pachner_moves::{Facet, Move, closed_number, facet_of};
@@ -44,7 +44,7 @@ fn vertex_without(missing: u8, label: u8) -> u8
 }
 
 /// What stands for a tetrahedron that the step kept.
-fn kept_stands(step: &Step, back: &Back, on: &Relabelling, tet: u32) -> Glue
+fn kept_stands(step: &PlayedMove, back: &Back, on: &Relabelling, tet: u32) -> Glue
     requires { number_without step.now.facets tet < length on.now.images }
     ensures { result ≡ kept_stands step.now back.now on.now tet }
 {
@@ -88,7 +88,7 @@ fn facet_stands(back: &Back, f: Facet) -> Glue
 }
 
 /// What stands for a tetrahedron.
-pub fn stands_at(step: &Step, back: &Back, on: &Relabelling, tet: u32) -> Glue
+pub fn stands_at(step: &PlayedMove, back: &Back, on: &Relabelling, tet: u32) -> Glue
     requires can { CanStandAt step.now back.now on.now tet }
     requires labels { All (λ l. l < 5) back.now.labels }
     requires few { back.now.kept ≤ max_tets }

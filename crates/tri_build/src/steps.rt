@@ -11,41 +11,37 @@ use crate::generator::drawn;
 use arrayvec::ArrayVec;
 use gluing_table::Table;
 use no_memory::NoMemory;
-use pachner_moves::{Facet, Move, apply_legal, legal};
+use pachner_moves::{Facet, Move, apply_legal, inverse_move, legal};
 use std::alloc::Global;
 use std::marker::Model;
 
 /// A move that was played, the number of tetrahedra before it, and the facets that it took out.
 #[derive(Drop)]
-pub struct Step {
+pub struct PlayedMove {
     pub played: Move,
     pub tets: u32,
     pub facets: ArrayVec<Facet, 4>,
 }
 
-impl Model for Step {
+impl Model for PlayedMove {
     ghost use Rattle.tri_build.specs.Steps as steps;
 
-    ghost Value = { steps.Step };
+    ghost Value = { steps.PlayedMove };
 
     ghost view = { λ s. record { played = s.played; tets = s.tets; facets = s.facets.items } };
 }
 
-impl Step {
+impl PlayedMove {
     /// The move that leads back, up to relabelling.
     pub fn inverse(&self) -> Move
         ensures { result ≡ moves.inverse_move self.now.tets self.now.played }
     {
-        let taken = 5 - u32::from(self.played.core.size());
-        Move {
-            tet: self.tets.saturating_sub(taken),
-            core: self.played.core.opposite(),
-        }
+        inverse_move(self.tets, self.played)
     }
 }
 
 /// Plays a move that can be played.
-fn play_step(table: &mut Table, m: Move) -> Step
+fn play_step(table: &mut Table, m: Move) -> PlayedMove
     requires { play_fault table.old m ≡ None }
     ensures played { result.played ≡ m }
     ensures is_step { IsStep table.old result table.new }
@@ -53,7 +49,7 @@ fn play_step(table: &mut Table, m: Move) -> Step
     let tets = table.len();
     match legal(table, m) {
         Ok(pattern) => match apply_legal(table, m, &pattern) {
-            Ok(_) => Step {
+            Ok(_) => PlayedMove {
                 played: m,
                 tets,
                 facets: pattern.facets,
@@ -65,7 +61,11 @@ fn play_step(table: &mut Table, m: Move) -> Step
 }
 
 /// Plays the move that is drawn in a state, where there is one.
-pub fn draw_step(alloc: Global, table: &mut Table, state: u64) -> Result<Option<Step>, NoMemory>
+pub fn draw_step(
+    alloc: Global,
+    table: &mut Table,
+    state: u64,
+) -> Result<Option<PlayedMove>, NoMemory>
     ensures drawn { IfOk result (λ r. IfSome r (λ s. certificates.drawn state (certificates.candidates table.old) ≡ Some s.played)) }
     ensures is_step { IfOk result (λ r. IfSome r (λ s. IsStep table.old s table.new)) }
     ensures none { IfOk result (λ r. IfNone r (certificates.candidates table.old ≡ [])) }

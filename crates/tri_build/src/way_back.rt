@@ -12,17 +12,17 @@ ghost use Rattle.tri_build.specs.Standing.{IsBack, StandsFor};
 use crate::carrying::move_under;
 use crate::labels::labels_back;
 use crate::standing::{Back, stands_at};
-use crate::steps::Step;
+use crate::steps::PlayedMove;
 use gluing_table::{Relabelling, Table};
 use no_memory::NoMemory;
-use pachner_moves::{Move, apply, legal};
+use pachner_moves::{Move, apply, kept, legal};
 use perm_four::Perm4;
 use std::alloc::Global;
 
 /// The relabelling by which each tetrahedron goes to what stands for it.
 fn carried_back(
     alloc: Global,
-    step: &Step,
+    step: &PlayedMove,
     back: &Back,
     on: &Relabelling,
 ) -> Result<Relabelling, NoMemory>
@@ -43,7 +43,7 @@ fn carried_back(
 }
 
 /// The move back of a step, with what it takes out.
-fn back_of(step: &Step, now: &Table, on: &Relabelling) -> Back
+fn back_of(step: &PlayedMove, now: &Table, on: &Relabelling) -> Back
     requires { CanGoBack step.now now.now on.now }
     ensures back { IsBack step.now now.now on.now result }
     ensures labels { All (λ l. l < 5) result.labels }
@@ -53,7 +53,7 @@ fn back_of(step: &Step, now: &Table, on: &Relabelling) -> Back
     match legal(now, played) {
         Ok(pattern) => Back {
             played,
-            kept: now.len().saturating_sub(5 - u32::from(played.core.size())),
+            kept: kept(now.len(), played.core),
             facets: pattern.facets,
             labels: labels_back(step, on),
         },
@@ -72,7 +72,7 @@ struct WayBack {
 
 impl WayBack {
     /// Plays the move back of a step.
-    fn go_back(&mut self, alloc: Global, step: &Step) -> Result<(), NoMemory>
+    fn go_back(&mut self, alloc: Global, step: &PlayedMove) -> Result<(), NoMemory>
         requires { CanGoBack step.now self.old.now self.old.on }
         ensures { OnOk result ((old : List Row) → IsBefore old step.now self.old.now self.old.on → GoesBack old step.now self.old.now self.old.on self.old.moves.items self.new.moves.items self.new.now self.new.on) }
     {
@@ -104,7 +104,11 @@ fn staying(alloc: Global, count: u32) -> Result<Relabelling, NoMemory>
 }
 
 /// The moves back of steps that led to a table, from the last step to the first.
-pub fn way_back(alloc: Global, table: &Table, mut steps: Vec<Step>) -> Result<Vec<Move>, NoMemory>
+pub fn way_back(
+    alloc: Global,
+    table: &Table,
+    mut steps: Vec<PlayedMove>,
+) -> Result<Vec<Move>, NoMemory>
     requires { (first : List Row) × AreSteps first steps.items table.now }
     ensures { IfOk result (λ moves. (first : List Row) → AreSteps first steps.items table.now → (end : List Row) × (by : labels.Relabelling) × AreCarriedBack first (moves_of steps.items) table.now moves.items end by) }
 {

@@ -9,14 +9,11 @@ use std::test::Fail;
 use sum_laws::worked_sums;
 
 fn given(alloc: Global, count: u128, entries: &[u128]) -> Result<Given, Fail>
-    ensures { IfOk result (λ given. given.entries.items ≡ entries.now) }
+    ensures { IfOk result (λ given. given.vector.items ≡ entries.now) }
 {
-    let mut kept = Vec::with_capacity(alloc, entries.len())?;
-    kept.extend_from_slice(entries)?;
-    Ok(Given {
-        count,
-        entries: kept,
-    })
+    let mut vector = Vec::with_capacity(alloc, entries.len())?;
+    vector.extend_from_slice(entries)?;
+    Ok(Given { count, vector })
 }
 
 #[test]

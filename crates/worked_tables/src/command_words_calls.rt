@@ -1,6 +1,6 @@
 use command_words::{Coords, Order, Request, WordsFault, read_words};
 use std::alloc::Global;
-use text_io::Words;
+use text_io::{LIMIT, Words};
 
 fn asked(alloc: Global, line: &[&str]) -> Result<Request, WordsFault> {
     let mut words = Words::new(alloc);
@@ -11,8 +11,6 @@ fn asked(alloc: Global, line: &[&str]) -> Result<Request, WordsFault> {
     }
     read_words(alloc, &words)
 }
-
-const LIMIT: u128 = 170_141_183_460_469_231_731_687_303_715_884_105_727;
 
 const DIGITS_45: &str = "000000000000000000000000000000000000000000007";
 

@@ -4,8 +4,8 @@ use memory_streams::{MemorySink, MemorySource};
 use std::alloc::Global;
 use std::test::Fail;
 use text_io::{
-    Failed, LexFault, LexKind, Lexer, NullSink, ReadEnd, StdSink, StdSource, SteadySource, Words,
-    read_all, write_all,
+    Failed, LIMIT, LexFault, LexKind, Lexer, NullSink, ReadEnd, StdSink, StdSource, SteadySource,
+    Words, read_all, write_all,
 };
 
 const INPUT: &[u8] = b"sig bkaagj\n";
@@ -94,8 +94,6 @@ fn ask(lexer: &mut Lexer, wanted: Wanted) -> Result<(), LexFault> {
     }
 }
 
-const MOST: u128 = 170141183460469231731687303715884105727;
-
 const CASES: [(&[u8], Wanted, Option<(u32, u32, LexKind)>); 26] = [
     (b"", Wanted::Word, Some((1, 1, LexKind::MissingWord))),
     (b" \t", Wanted::Word, Some((1, 3, LexKind::MissingWord))),
@@ -145,12 +143,12 @@ const CASES: [(&[u8], Wanted, Option<(u32, u32, LexKind)>); 26] = [
     ),
     (
         b"170141183460469231731687303715884105727",
-        Wanted::Number(MOST),
+        Wanted::Number(LIMIT),
         None,
     ),
     (
         b"170141183460469231731687303715884105728",
-        Wanted::Number(MOST),
+        Wanted::Number(LIMIT),
         Some((1, 1, LexKind::NumberTooWide)),
     ),
     (

@@ -8,11 +8,11 @@ use Rattle.command_answers.proofs.EachLine.{fault_lexed}
 use Rattle.command_answers.proofs.vectors.read_numbers.Goals as goal
 
 pub loop-lexer-smaller : goal.loop-lexer-smaller
-loop-lexer-smaller c = omega (arith, tokens-fewer _ _ (number_at-takes 170141183460469231731687303715884105727 c.loop-lexer.lexer _ c.in_ok-number.ensures))
+loop-lexer-smaller c = omega (arith, tokens-fewer _ _ (number_at-takes limit c.loop-lexer.lexer _ c.in_ok-number.ensures))
 
 pub loop-lexer-preserved : goal.loop-lexer-preserved
 loop-lexer-preserved c = rw c.in_ok-push.ensures.items
-    (with_front-more c.loop-lexer.numbers.items 170141183460469231731687303715884105727 c.loop-lexer.lexer _ c.in_ok-number.ensures ∙ c.loop-lexer.invariant)
+    (with_front-more c.loop-lexer.numbers.items limit c.loop-lexer.lexer _ c.in_ok-number.ensures ∙ c.loop-lexer.invariant)
 
 pub returns : goal.returns
 returns c = lexed_with _ _ (sym c.loop-lexer.invariant ∙ with_front-end _ _ c.loop-lexer.lexer (c.at_end.ensures.0 c.loop-lexer-test.false))

@@ -4,8 +4,8 @@ use Rattle.std.specs.List.{slice_index_or}
 use Rattle.std.proofs.lemmas.List.{length_push}
 use Rattle.surface_definitions.specs.Pieces.{SurfacePiece, pieces_of}
 use Rattle.surface_laws.proofs.PieceNumbers.{no_piece}
-use Rattle.surface_pieces.specs.Joinings.{IsRow}
-use Rattle.surface_pieces.specs.declared.steps.Joining.TheVariants.{Pieces}
+use Rattle.surface_pieces.specs.Searches.{IsRow}
+use Rattle.surface_pieces.specs.declared.steps.SearchKind.TheVariants.{Pieces}
 use Rattle.surface_pieces.proofs.RowsOfPieces.{item_is, item_piece, rows_push}
 use Rattle.surface_pieces.proofs.rows.piece_rows.Goals as goal
 

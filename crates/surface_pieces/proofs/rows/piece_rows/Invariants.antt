@@ -3,8 +3,8 @@ use Rattle.std.proofs.Common.{◌≡◌, ℕ, ◌<◌, [], length}
 use Rattle.std.specs.List.{slice_index_or}
 use Rattle.surface_definitions.specs.Pieces.{pieces_of}
 use Rattle.surface_laws.proofs.PieceNumbers.{no_piece}
-use Rattle.surface_pieces.specs.Joinings.{IsRow}
-use Rattle.surface_pieces.specs.declared.steps.Joining.TheVariants.{Pieces}
+use Rattle.surface_pieces.specs.Searches.{IsRow}
+use Rattle.surface_pieces.specs.declared.steps.SearchKind.TheVariants.{Pieces}
 use Rattle.surface_pieces.proofs.rows.piece_rows.Given as goal
 
 abbrev pub invariant-loop-piece : goal.invariant-loop-piece

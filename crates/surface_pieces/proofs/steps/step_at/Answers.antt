@@ -2,13 +2,13 @@
 use Rattle.std.proofs.Common.{◌≡◌, ℕ, ◌<◌, IfNone, sym, ap, ◌∙◌, subst, arith}
 use Rattle.std.specs.Prelude.{sum}
 use Rattle.surface_definitions.specs.Pieces.{SurfacePiece, piece_of, piece_number}
-use Rattle.surface_pieces.specs.Joinings.{LeadsAt}
+use Rattle.surface_pieces.specs.Searches.{LeadsAt}
 use Rattle.surface_pieces.proofs.MetArcs.{number_low, step_is}
 use Rattle.surface_pieces.proofs.steps.step_at.Goals as goal
 
 pub returns-in_err-meeting-clause-none : goal.returns-in_err-meeting-clause-none
 returns-in_err-meeting-clause-none c =
-    subst (λ o. IfNone o ((m : ℕ) → LeadsAt c.args.joining c.args.table.now c.args.coords c.args.x.now c.args.piece c.args.sign c.args.slot m → ⊥)) (sym c.from_residual.ensures)
+    subst (λ o. IfNone o ((m : ℕ) → LeadsAt c.args.kind c.args.table.now c.args.coords c.args.x.now c.args.piece c.args.sign c.args.slot m → ⊥)) (sym c.from_residual.ensures)
     (λ m d. c.in_err-meeting.ensures.none d.0.arc d.0.gluing d.0.meets d.1 d.2 d.0.one)
 
 pub joined-requires-clause-few : goal.joined-requires-clause-few
@@ -21,7 +21,7 @@ joined-requires-clause-few c =
 
 pub returns-clause-some : goal.returns-clause-some
 returns-clause-some c =
-    step_is c.args.joining c.args.table.now c.args.coords c.args.x.now c.args.piece c.args.slot c.in_ok-meeting.meeting.arc c.in_ok-meeting.meeting.other c.in_ok-meeting.meeting.odd
+    step_is c.args.kind c.args.table.now c.args.coords c.args.x.now c.args.piece c.args.slot c.in_ok-meeting.meeting.arc c.in_ok-meeting.meeting.other c.in_ok-meeting.meeting.odd
     c.looks_positive.result c.looks_positive-2.result c.stays.result c.number_of-number.result c.args.sign c.joined.result c.in_ok-meeting.ensures.some
     c.looks_positive.ensures c.looks_positive-2.ensures (c.number_of-number.ensures ∙ ap (λ (p : SurfacePiece). piece_number c.args.x.now p) c.piece_of.ensures)
     c.stays.ensures.sides c.stays.ensures.orientation c.joined.ensures

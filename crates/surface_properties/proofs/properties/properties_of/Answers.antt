@@ -13,19 +13,19 @@ use Rattle.surface_properties.proofs.CappedSums.{capped_small, large_is, small_i
 use Rattle.surface_properties.proofs.LargeSums.{large_points, large_arcs, large_both, none_large}
 use Rattle.surface_properties.proofs.properties.properties_of.Goals as goal
 
-pub returns-then-points-gt-MAX_ENTRY : goal.returns-then-points-gt-MAX_ENTRY
-returns-then-points-gt-MAX_ENTRY c = large_points limit _ _ _ (large_is _ (subst (λ n. limit < n) c.points-points.ensures c.if-points-gt-MAX_ENTRY.true))
+pub returns-then-points-gt-LIMIT : goal.returns-then-points-gt-LIMIT
+returns-then-points-gt-LIMIT c = large_points limit _ _ _ (large_is _ (subst (λ n. limit < n) c.points-points.ensures c.if-points-gt-LIMIT.true))
 
-pub returns-then-arcs-gt-MAX_ENTRY : goal.returns-then-arcs-gt-MAX_ENTRY
-returns-then-arcs-gt-MAX_ENTRY c =
-    large_arcs limit _ _ _ (small_is _ (subst (λ n. n ≤ limit) c.points-points.ensures c.if-points-gt-MAX_ENTRY.false))
-    (large_is _ (subst (λ n. limit < n) (c.arcs-arcs.ensures ∙ ap (λ (rs : List Row). capped (arcs rs c.args.coords c.args.x.now)) c.table-table.ensures.rows) c.if-arcs-gt-MAX_ENTRY.true))
+pub returns-then-arcs-gt-LIMIT : goal.returns-then-arcs-gt-LIMIT
+returns-then-arcs-gt-LIMIT c =
+    large_arcs limit _ _ _ (small_is _ (subst (λ n. n ≤ limit) c.points-points.ensures c.if-points-gt-LIMIT.false))
+    (large_is _ (subst (λ n. limit < n) (c.arcs-arcs.ensures ∙ ap (λ (rs : List Row). capped (arcs rs c.args.coords c.args.x.now)) c.table-table.ensures.rows) c.if-arcs-gt-LIMIT.true))
 
-pub returns-then-both-gt-MAX_ENTRY : goal.returns-then-both-gt-MAX_ENTRY
-returns-then-both-gt-MAX_ENTRY c =
-    large_both limit _ _ _ (small_is _ (subst (λ n. n ≤ limit) c.points-points.ensures c.if-points-gt-MAX_ENTRY.false))
-    (small_is _ (subst (λ n. n ≤ limit) (c.arcs-arcs.ensures ∙ ap (λ (rs : List Row). capped (arcs rs c.args.coords c.args.x.now)) c.table-table.ensures.rows) c.if-arcs-gt-MAX_ENTRY.false))
-    (large_is _ (subst (λ n. limit < n) (c.add-both.ensures ∙ capped_two _ _ c.points-points.result c.sum_of-pieces.result c.points-points.ensures c.sum_of-pieces.ensures) c.if-both-gt-MAX_ENTRY.true))
+pub returns-then-both-gt-LIMIT : goal.returns-then-both-gt-LIMIT
+returns-then-both-gt-LIMIT c =
+    large_both limit _ _ _ (small_is _ (subst (λ n. n ≤ limit) c.points-points.ensures c.if-points-gt-LIMIT.false))
+    (small_is _ (subst (λ n. n ≤ limit) (c.arcs-arcs.ensures ∙ ap (λ (rs : List Row). capped (arcs rs c.args.coords c.args.x.now)) c.table-table.ensures.rows) c.if-arcs-gt-LIMIT.false))
+    (large_is _ (subst (λ n. limit < n) (c.add-both.ensures ∙ capped_two _ _ c.points-points.result c.sum_of-pieces.result c.points-points.ensures c.sum_of-pieces.ensures) c.if-both-gt-LIMIT.true))
 
 pub returns : goal.returns
 returns c = (
@@ -56,13 +56,13 @@ returns c = (
     both_there = c.add-both.ensures ∙ capped_two P Q c.points-points.result c.sum_of-pieces.result c.points-points.ensures c.sum_of-pieces.ensures
 
     points_fit : P ≤ limit
-    points_fit = small_is P (subst (λ n. n ≤ limit) c.points-points.ensures c.if-points-gt-MAX_ENTRY.false)
+    points_fit = small_is P (subst (λ n. n ≤ limit) c.points-points.ensures c.if-points-gt-LIMIT.false)
 
     arcs_fit : A ≤ limit
-    arcs_fit = small_is A (subst (λ n. n ≤ limit) arcs_there c.if-arcs-gt-MAX_ENTRY.false)
+    arcs_fit = small_is A (subst (λ n. n ≤ limit) arcs_there c.if-arcs-gt-LIMIT.false)
 
     both_fit : P + Q ≤ limit
-    both_fit = small_is (P + Q) (subst (λ n. n ≤ limit) both_there c.if-both-gt-MAX_ENTRY.false)
+    both_fit = small_is (P + Q) (subst (λ n. n ≤ limit) both_there c.if-both-gt-LIMIT.false)
 
     p : c.points-points.result ≡ P
     p = c.points-points.ensures ∙ capped_small P points_fit

@@ -1,13 +1,13 @@
 -- What can stand for the tetrahedron is told by the facet that is found.
 use Rattle.std.proofs.Common.{ap, ◌∙◌, Some, None}
-use Rattle.tri_build.specs.Steps.{Step}
+use Rattle.tri_build.specs.Steps.{PlayedMove}
 use Rattle.tri_build.proofs.Found.{as_found}
 use Rattle.tri_build.proofs.standing.stands_at.Goals as goal
 
 pub facet_stands-requires-clause-can : goal.facet_stands-requires-clause-can
 facet_stands-requires-clause-can c =
-    as_found c.args.step.now c.args.back.now c.args.on.now c.args.tet c.deref.result.now (Some c.in-Some.facet) (c.deref.ensures.0 ∙ ap (λ (s : Step). s.facets) c.step.view_is) c.in-Some.ensures c.requires.can
+    as_found c.args.step.now c.args.back.now c.args.on.now c.args.tet c.deref.result.now (Some c.in-Some.facet) (c.deref.ensures.0 ∙ ap (λ (s : PlayedMove). s.facets) c.step.view_is) c.in-Some.ensures c.requires.can
 
 pub kept_stands-requires : goal.kept_stands-requires
 kept_stands-requires c =
-    as_found c.args.step.now c.args.back.now c.args.on.now c.args.tet c.deref.result.now None (c.deref.ensures.0 ∙ ap (λ (s : Step). s.facets) c.step.view_is) c.in-None.ensures c.requires.can
+    as_found c.args.step.now c.args.back.now c.args.on.now c.args.tet c.deref.result.now None (c.deref.ensures.0 ∙ ap (λ (s : PlayedMove). s.facets) c.step.view_is) c.in-None.ensures c.requires.can

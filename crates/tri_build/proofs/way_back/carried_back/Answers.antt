@@ -1,7 +1,7 @@
 -- What stands for the tetrahedra, one after another, is the relabelling.
 use Rattle.std.proofs.Common.{◌≡◌, ap, ◌∙◌, arith}
 use Rattle.table_definitions.specs.Table.{Gluing}
-use Rattle.tri_build.specs.Steps.{Step}
+use Rattle.tri_build.specs.Steps.{PlayedMove}
 use Rattle.tri_build.specs.Standing.{stands_at}
 use Rattle.tri_build.proofs.Bijective.{one_more, is_one}
 use Rattle.tri_build.proofs.Led.{filled_in}
@@ -17,12 +17,12 @@ loop-tet-preserved c =
 pub from_sound-requires : goal.from_sound-requires
 from_sound-requires c =
     let s = c.requires.some.1 in
-    let end : c.loop-tet.tet ≡ c.args.step.now.tets = omega (arith, ap (λ (x : Step). x.tets) c.step.view_is) in
+    let end : c.loop-tet.tet ≡ c.args.step.now.tets = omega (arith, ap (λ (x : PlayedMove). x.tets) c.step.view_is) in
     is_one c.args.step.now.tets c.requires.some.0 c.loop-tet.images.items c.loop-tet.perms.items s.relabels
     (filled_in c.args.step.now c.args.back.now c.args.on.now c.requires.some.0 c.loop-tet.tet c.loop-tet.images.items c.loop-tet.perms.items s end c.loop-tet.invariant.0 c.loop-tet.invariant.1)
 
 pub returns : goal.returns
 returns c =
-    let end : c.loop-tet.tet ≡ c.args.step.now.tets = omega (arith, ap (λ (x : Step). x.tets) c.step.view_is) in
+    let end : c.loop-tet.tet ≡ c.args.step.now.tets = omega (arith, ap (λ (x : PlayedMove). x.tets) c.step.view_is) in
     λ by s. c.from_sound.ensures
     ∙ filled_in c.args.step.now c.args.back.now c.args.on.now by c.loop-tet.tet c.loop-tet.images.items c.loop-tet.perms.items s end c.loop-tet.invariant.0 c.loop-tet.invariant.1
