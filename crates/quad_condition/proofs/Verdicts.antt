@@ -15,7 +15,7 @@ abbrev pub SparseRow : Type 0
 SparseRow = List (ℕ × ℤ)
 
 is_met : (max : ℕ) (x : List ℕ) (row : SparseRow) → IsMetAt max x row → IsMet max x row
-is_met max x row met = ((met.within.plus, met.within.minus), met.zero)
+is_met max x row met = (met.within, met.zero)
 
 pub length_answer : (max n : ℕ) (rows : List SparseRow) (pairs : List (ℕ × ℕ)) (x : List ℕ) → length x ≢ n → Err (Length (length x)) ≡ verdict max n rows pairs x
 length_answer max n rows pairs x ne = sym (length_told max n rows pairs x ne)
@@ -23,7 +23,7 @@ length_answer max n rows pairs x ne = sym (length_told max n rows pairs x ne)
 pub row_answer : (max n : ℕ) (rows : List SparseRow) (pairs : List (ℕ × ℕ)) (x : List ℕ) (fault : SolutionFault) → length x ≡ n → SolutionFails max rows x fault → Err (fault_of fault) ≡ verdict max n rows pairs x
 row_answer max n rows pairs x (Passed i) e h = sym (large_told max n rows pairs x i e h.in_range (λ j l. is_met max x _ (h.earlier j l)) h.past)
 row_answer max n rows pairs x (NotZero i) e h =
-    sym (failure_told max n rows pairs x i e h.in_range (λ j l. is_met max x _ (h.earlier j l)) (h.within.plus, h.within.minus) h.not_zero)
+    sym (failure_told max n rows pairs x i e h.in_range (λ j l. is_met max x _ (h.earlier j l)) h.within h.not_zero)
 
 pub clash_answer : (max n : ℕ) (rows : List SparseRow) (pairs : List (ℕ × ℕ)) (x : List ℕ) (found : Option (ℕ × ℕ)) → length x ≡ n → All (IsMetAt max x) rows → found ≡ find (both_nonzero x) pairs
     → clash_verdict found ≡ verdict max n rows pairs x

@@ -7,13 +7,12 @@ use Rattle.std.proofs.lemmas.List.{get_or_append_left, length-append}
 use Rattle.std.proofs.lemmas.List.Elements.{All-cons, All-get_or, All-nil}
 use Rattle.text_definitions.specs.Written.{limit}
 use Rattle.cone_definitions.specs.Rows.{Row as EquationRow, plus_part, minus_part, IsZeroAt, IsSolution}
-use Rattle.cone_definitions.specs.Elimination.{HasLargePart}
+use Rattle.cone_definitions.specs.Elimination.{HasLargePart, HasPartsWithin}
 use Rattle.cone_definitions.specs.Surfaces.{IsAdmissible}
 use Rattle.table_definitions.specs.Table.{Row}
 use Rattle.surface_definitions.specs.declared.Coords.{Coords}
 use Rattle.surface_definitions.specs.declared.VectorFault.TheVariants.{Large}
 use Rattle.surface_definitions.specs.Coordinates.{columns, clash_list}
-use Rattle.surface_definitions.specs.Laws.{HasPartsUpTo}
 use Rattle.surface_definitions.proofs.VerdictLaws.{accepted-verdict}
 use Rattle.coordinate_laws.specs.Laws.{IsMet}
 use Rattle.coordinate_laws.proofs.FirstFaults.{large_told}
@@ -51,7 +50,7 @@ module _ {A W : Type 0} (Passes : A → Type 0) (Fails : W → A → Type 0) (de
   ]
 
 -- one part passes the limit, or none does
-parts_or_large : (x : List ℕ) (equation : EquationRow) → HasPartsUpTo limit x equation ⊎ ((w : Unit {0}) × HasLargePart limit equation x)
+parts_or_large : (x : List ℕ) (equation : EquationRow) → HasPartsWithin limit equation x ⊎ ((w : Unit {0}) × HasLargePart limit equation x)
 parts_or_large x equation = elim (cases_lt limit (plus_part equation x)) [
   | inl l ↦ inr (tt, inl l)
   | inr p ↦ elim (cases_lt limit (minus_part equation x)) [
@@ -62,7 +61,7 @@ parts_or_large x equation = elim (cases_lt limit (plus_part equation x)) [
 
 module _ (equations : List EquationRow) where
   term_or_large : (term : Term) → IsSmallTerm equations term ⊎ ((row : ℕ) × IsLargeTerm equations row term)
-  term_or_large term = elim (all_or_first (HasPartsUpTo limit term.vector) (λ (w : Unit {0}) (equation : EquationRow). HasLargePart limit equation term.vector) (parts_or_large term.vector) equations) [
+  term_or_large term = elim (all_or_first (λ (equation : EquationRow). HasPartsWithin limit equation term.vector) (λ (w : Unit {0}) (equation : EquationRow). HasLargePart limit equation term.vector) (parts_or_large term.vector) equations) [
     | inl all ↦ inl all
     | inr f ↦ inr (f.0, f.2)
   ]
@@ -82,10 +81,10 @@ pub record IsSurface (coords : Coords) (rows : List Row) (equations : List Equat
   pub admissible : IsAdmissible (clash_list coords (length rows)) x
 
 module _ (coords : Coords) (rows : List Row) (equations : List EquationRow) (x : List ℕ) (s : IsSurface coords rows equations x) where
-  pub small_is_fit : All (HasPartsUpTo limit x) equations → IsFit coords rows equations x
+  pub small_is_fit : All (λ (equation : EquationRow). HasPartsWithin limit equation x) equations → IsFit coords rows equations x
   small_is_fit within = accepted-verdict limit (columns coords (length rows)) equations (clash_list coords (length rows)) x (record { solves = s.solves; admissible = s.admissible; within = within })
 
-  pub large_is_unfit : (row : ℕ) → IsFirst (HasPartsUpTo limit x) (λ equation. HasLargePart limit equation x) equations row → IsUnfit coords rows equations x (Large row)
+  pub large_is_unfit : (row : ℕ) → IsFirst (λ (equation : EquationRow). HasPartsWithin limit equation x) (λ equation. HasLargePart limit equation x) equations row → IsUnfit coords rows equations x (Large row)
   large_is_unfit row f = large_told limit (columns coords (length rows)) equations (clash_list coords (length rows)) x row s.solves.width in_range
       (λ j l. met j (let e = f.number_is in omega arith)) past
     where
@@ -103,7 +102,7 @@ module _ (coords : Coords) (rows : List Row) (equations : List EquationRow) (x :
       met j l =
           let same : slice_index_or equations j [] ≡ slice_index_or f.before j [] =
           ap (λ (es : List EquationRow). slice_index_or es j []) f.stands ∙ get_or_append_left f.before (f.value ∷ f.after) [] j l in
-          let parts : HasPartsUpTo limit x (slice_index_or f.before j []) = All-get_or (HasPartsUpTo limit x) f.before j [] l f.passed in
+          let parts : HasPartsWithin limit (slice_index_or f.before j []) x = All-get_or (λ (equation : EquationRow). HasPartsWithin limit equation x) f.before j [] l f.passed in
           let here : j < length equations = (let n = f.number_is in let r = in_range in omega arith) in
           let zero : IsZeroAt (slice_index_or equations j []) x = All-get_or (λ (equation : EquationRow). IsZeroAt equation x) equations j [] here s.solves.zero in
-          (subst (HasPartsUpTo limit x) (sym same) parts, zero)
+          (subst (λ (equation : EquationRow). HasPartsWithin limit equation x) (sym same) parts, zero)

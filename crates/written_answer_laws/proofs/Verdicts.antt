@@ -5,7 +5,7 @@ use Rattle.std.proofs.lemmas.Bool.{eq-eqb, lt-ltb, or_left, or_right}
 use Rattle.std.proofs.lemmas.List.Elements.{All-nil, All-cons}
 use Rattle.text_definitions.specs.Written.{limit}
 use Rattle.cone_definitions.specs.Rows.{Row as EquationRow, plus_part, minus_part, IsZeroAt, IsSolution}
-use Rattle.cone_definitions.specs.Elimination.{HasLargePart}
+use Rattle.cone_definitions.specs.Elimination.{HasLargePart, HasPartsWithin}
 use Rattle.cone_definitions.specs.Surfaces.{IsAdmissible}
 use Rattle.cone_definitions.proofs.Decided.{parts_or_large}
 use Rattle.table_definitions.specs.Table.{Row}
@@ -13,23 +13,22 @@ use Rattle.surface_definitions.specs.Coordinates.{columns, clash_list}
 use Rattle.surface_definitions.specs.declared.Coords.{Coords}
 use Rattle.surface_definitions.specs.declared.VectorFault.{VectorFault}
 use Rattle.surface_definitions.specs.declared.VectorFault.TheVariants.{Length, Large}
-use Rattle.surface_definitions.specs.Laws.{HasPartsUpTo}
 use Rattle.surface_definitions.specs.Verdict.{both_nonzero, Verdict, or_else, row_fault, rows_verdict, clash_verdict, verdict}
 use Rattle.surface_definitions.proofs.VerdictLaws.{none-row_fault, fault_by, accepted-verdict}
 use Rattle.written_answer_laws.specs.Surfaces.{IsFirstLarge, IsSolutionUnlessLarge, SurfacesAreSolutions}
 
 -- no part passes the limit, or there is a first equation of which one does
-small_or_large : (equations : List EquationRow) (x : List ℕ) → All (HasPartsUpTo limit x) equations ⊎ ((row : ℕ) × IsFirstLarge equations x row)
-small_or_large [] x = inl (All-nil (HasPartsUpTo limit x))
+small_or_large : (equations : List EquationRow) (x : List ℕ) → All (λ (equation : EquationRow). HasPartsWithin limit equation x) equations ⊎ ((row : ℕ) × IsFirstLarge equations x row)
+small_or_large [] x = inl (All-nil (λ (equation : EquationRow). HasPartsWithin limit equation x))
 small_or_large (equation ∷ equations) x = elim (parts_or_large limit equation x) [
   | inr large ↦ inr (0, record { in_range = omega arith; large = large; before = λ i l. absurd (omega arith) })
   | inl parts ↦ elim (small_or_large equations x) [
-    | inl all ↦ inl (All-cons (HasPartsUpTo limit x) equation equations parts all)
+    | inl all ↦ inl (All-cons (λ (equation : EquationRow). HasPartsWithin limit equation x) equation equations parts all)
     | inr f ↦ inr (suc f.0, record { in_range = (let l = (f.1).in_range in omega arith); large = (f.1).large; before = earlier parts f.0 f.1 })
   ]
 ]
   where
-    earlier : HasPartsUpTo limit x equation → (row : ℕ) → IsFirstLarge equations x row → (i : ℕ) → i < suc row → HasPartsUpTo limit x (slice_index_or (equation ∷ equations) i [])
+    earlier : HasPartsWithin limit equation x → (row : ℕ) → IsFirstLarge equations x row → (i : ℕ) → i < suc row → HasPartsWithin limit (slice_index_or (equation ∷ equations) i []) x
     earlier parts row f zero l = parts
     earlier parts row f (suc i) l = f.before i (omega arith)
 

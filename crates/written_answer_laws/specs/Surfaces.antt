@@ -4,14 +4,13 @@ use Rattle.std.specs.List.{slice_index_or}
 use Rattle.text_definitions.specs.Written.{limit}
 use Rattle.cone_definitions.specs.Rows.{Row as EquationRow}
 use Rattle.cone_definitions.specs.Surfaces.{IsVertexSurface, IsSurfaceList}
-use Rattle.cone_definitions.specs.Elimination.{HasLargePart}
+use Rattle.cone_definitions.specs.Elimination.{HasLargePart, HasPartsWithin}
 use Rattle.cone_definitions.specs.declared.Order.{Order}
 use Rattle.table_definitions.specs.Table.{Row}
 use Rattle.table_definitions.specs.TableText.{table_text}
 use Rattle.surface_definitions.specs.Coordinates.{columns, clash_list}
 use Rattle.surface_definitions.specs.declared.Coords.{Coords}
 use Rattle.surface_definitions.specs.declared.VectorFault.TheVariants.{Large}
-use Rattle.surface_definitions.specs.Laws.{HasPartsUpTo}
 use Rattle.surface_definitions.specs.QuadEquations.{AreEquations}
 use Rattle.surface_definitions.specs.Verdict.{solution}
 use Rattle.document_definitions.specs.Documents.{table_document, vectors_document}
@@ -43,11 +42,11 @@ SurfacesAreRead =
 pub record IsFirstLarge (equations : List EquationRow) (x : List ℕ) (row : ℕ) : Type 0 where
   pub in_range : row < length equations
   pub large : HasLargePart limit (slice_index_or equations row []) x
-  pub before : (i : ℕ) → i < row → HasPartsUpTo limit x (slice_index_or equations i [])
+  pub before : (i : ℕ) → i < row → HasPartsWithin limit (slice_index_or equations i []) x
 
 -- the verdict on x is that it is a solution where no part passes the limit, and else the first equation of which one does
 abbrev pub IsSolutionUnlessLarge : Coords → List Row → List EquationRow → List ℕ → Type 0
-IsSolutionUnlessLarge coords rows equations x = (All (HasPartsUpTo limit x) equations × (verdict_on coords rows equations x ≡ solution))
+IsSolutionUnlessLarge coords rows equations x = (All (λ equation. HasPartsWithin limit equation x) equations × (verdict_on coords rows equations x ≡ solution))
     ⊎ ((row : ℕ) × IsFirstLarge equations x row × (verdict_on coords rows equations x ≡ Err (Large row)))
 
 -- this is the verdict on a vertex surface
