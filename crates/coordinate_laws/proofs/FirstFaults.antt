@@ -5,15 +5,15 @@ use Rattle.std.specs.Prelude.{◌==◌, ◌||◌, ◌↔◌, nat_lt, if◌then�
 use Rattle.std.proofs.lemmas.Bool.{eq-eqb, ne_eqb, le-ltb, lt-ltb, or_from, or_right}
 use Rattle.cone_definitions.specs.Rows.{Row as EquationRow, plus_part, minus_part, IsZeroAt}
 use Rattle.cone_definitions.specs.Elimination.{HasLargePart, HasPartsWithin}
+use Rattle.cone_definitions.specs.Met.{IsMet, AreMetBefore}
 use Rattle.surface_definitions.specs.declared.VectorFault.{VectorFault}
 use Rattle.surface_definitions.specs.declared.VectorFault.TheVariants.{Length, Large, NotSolution}
 use Rattle.surface_definitions.specs.Verdict.{Verdict, solution, both_nonzero, row_fault, rows_verdict, or_else, clash_verdict, verdict}
 use Rattle.surface_definitions.specs.Laws.{IsAccepted}
 use Rattle.surface_definitions.proofs.VerdictLaws.{accepted_by, accepted-verdict, fault_by, none-row_fault}
-use Rattle.coordinate_laws.specs.Laws.{IsMet, AreMetBefore}
 
 fault_met : (max i : ℕ) (row : EquationRow) (x : List ℕ) → IsMet max x row → row_fault max i row x ≡ None
-fault_met max i row x met = none-row_fault max i row x met.1 met.0
+fault_met max i row x met = none-row_fault max i row x met.zero met.within
 
 fault_large : (max i : ℕ) (row : EquationRow) (x : List ℕ) → HasLargePart max row x → row_fault max i row x ≡ Some (Large i)
 fault_large max i row x h = ap (λ l. fault_by i l (plus_part row x == minus_part row x)) (test h)

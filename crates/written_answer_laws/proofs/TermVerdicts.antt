@@ -8,13 +8,13 @@ use Rattle.std.proofs.lemmas.List.Elements.{All-cons, All-get_or, All-nil}
 use Rattle.text_definitions.specs.Written.{limit}
 use Rattle.cone_definitions.specs.Rows.{Row as EquationRow, plus_part, minus_part, IsZeroAt, IsSolution}
 use Rattle.cone_definitions.specs.Elimination.{HasLargePart, HasPartsWithin}
+use Rattle.cone_definitions.specs.Met.{IsMet}
 use Rattle.cone_definitions.specs.Surfaces.{IsAdmissible}
 use Rattle.table_definitions.specs.Table.{Row}
 use Rattle.surface_definitions.specs.declared.Coords.{Coords}
 use Rattle.surface_definitions.specs.declared.VectorFault.TheVariants.{Large}
 use Rattle.surface_definitions.specs.Coordinates.{columns, clash_list}
 use Rattle.surface_definitions.proofs.VerdictLaws.{accepted-verdict}
-use Rattle.coordinate_laws.specs.Laws.{IsMet}
 use Rattle.coordinate_laws.proofs.FirstFaults.{large_told}
 use Rattle.vector_definitions.specs.Answers.{IsFit, IsUnfit}
 use Rattle.sum_definitions.specs.Sums.{Term}
@@ -105,4 +105,4 @@ module _ (coords : Coords) (rows : List Row) (equations : List EquationRow) (x :
           let parts : HasPartsWithin limit (slice_index_or f.before j []) x = All-get_or (λ (equation : EquationRow). HasPartsWithin limit equation x) f.before j [] l f.passed in
           let here : j < length equations = (let n = f.number_is in let r = in_range in omega arith) in
           let zero : IsZeroAt (slice_index_or equations j []) x = All-get_or (λ (equation : EquationRow). IsZeroAt equation x) equations j [] here s.solves.zero in
-          (subst (λ (equation : EquationRow). HasPartsWithin limit equation x) (sym same) parts, zero)
+          record { within = subst (λ (equation : EquationRow). HasPartsWithin limit equation x) (sym same) parts; zero = zero }
