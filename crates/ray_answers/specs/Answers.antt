@@ -1,7 +1,7 @@
 -- Why an enumeration gives no list.
 use Rattle.std.specs.Prelude.{ℕ, List, []}
 use Rattle.cone_definitions.specs.Surfaces.{IsSurfaceList}
-use Rattle.cone_definitions.specs.Systems.{Cone}
+use Rattle.cone_definitions.specs.Systems.{System}
 use Rattle.cone_definitions.specs.Listings.{Enumeration, IsPastLimit}
 use Rattle.double_description.specs.declared.engine.EnumFault.{EnumFault}
 use Rattle.double_description.specs.declared.engine.EnumFault.TheVariants.{Large, NoMemory}
@@ -13,6 +13,6 @@ AreRefused e (Large taken kind) = IsPastLimit e taken.items kind
 AreRefused e NoMemory = Unit {0}
 
 -- the surface list of a system with no pairs that clash, whose numbers are bounded by the limit
-pub record IsBoundedList (system : Cone) (limit : ℕ) (list : List (List ℕ)) : Type 0 where
+pub record IsBoundedList (system : System) (limit : ℕ) (list : List (List ℕ)) : Type 0 where
   pub bounded : AreColumnsBounded system limit
   pub surfaces : IsSurfaceList system.columns system.rows [] list

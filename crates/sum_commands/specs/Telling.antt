@@ -5,7 +5,7 @@ use Rattle.std.specs.List.{All, AllZip}
 use Rattle.no_memory.specs.declared.Failure.{Failure}
 use Rattle.no_memory.specs.declared.Failure.TheVariants.{NoMemory, Fault}
 use Rattle.text_definitions.specs.Written.{limit}
-use Rattle.cone_definitions.specs.Systems.{Cone}
+use Rattle.cone_definitions.specs.Systems.{System}
 use Rattle.table_definitions.specs.Table.{Row}
 use Rattle.table_definitions.specs.TableText.{table_text}
 use Rattle.sum_definitions.specs.Sums.{HasRays, IsLargeTurn}
@@ -20,7 +20,7 @@ abbrev pub AreInRange : List (List ℕ) → Type 0
 AreInRange vectors = All (λ x. (column : ℕ) → slice_index x column ≤ limit) vectors
 
 -- the list has the rays of each vector
-abbrev pub HaveRays : Cone → List (List ℕ) → List (List ℕ) → Type 0
+abbrev pub HaveRays : System → List (List ℕ) → List (List ℕ) → Type 0
 HaveRays system list vectors = All (HasRays system.columns system.rows list) vectors
 
 -- the block of a vector is appended, or its sum gets too large

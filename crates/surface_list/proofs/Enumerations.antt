@@ -8,7 +8,7 @@ use Rattle.surface_definitions.specs.declared.Coords.{Coords}
 use Rattle.surface_definitions.specs.QuadEquations.{AreEquations}
 use Rattle.surface_definitions.specs.TableSurfaces.{table_enumeration}
 use Rattle.cone_definitions.specs.Surfaces.{Clash, IsSurfaceList}
-use Rattle.cone_definitions.specs.Systems.{Cone}
+use Rattle.cone_definitions.specs.Systems.{System}
 use Rattle.cone_definitions.specs.Orders.{AreNamed}
 use Rattle.cone_definitions.specs.Listings.{Enumeration, IsListed, IsPastLimit}
 use Rattle.cone_definitions.specs.declared.Order.{Order}
@@ -28,13 +28,13 @@ use denote.Ref.{Bor}
 abbrev pub Listed : Enumeration → Rays → Type 0
 Listed e rays = IsListed e rays.order.items rays.list.items
 
-named_turns : (order : Order) (post : Bor Cone → Bor (List ℕ) → ℕ → Type 0) (system : Cone) (taken : List ℕ) → AreTaken order post system taken → AreNamed order system taken
+named_turns : (order : Order) (post : Bor System → Bor (List ℕ) → ℕ → Type 0) (system : System) (taken : List ℕ) → AreTaken order post system taken → AreNamed order system taken
 named_turns order post system taken h k l =
     let t = h k l in
     record { left = t.left; left_of = t.left_of; position = t.position; in_range = t.in_range; is = t.is; named = t.named }
 
 -- the pairs and the order of the engine are those that were asked for
-module _ (limit : ℕ) (system : Cone) (pairs others : List Clash) (order other : Order) (post : Bor Cone → Bor (List ℕ) → ℕ → Type 0) (same_pairs : pairs ≡ others) (same_order : order ≡ other) where
+module _ (limit : ℕ) (system : System) (pairs others : List Clash) (order other : Order) (post : Bor System → Bor (List ℕ) → ℕ → Type 0) (same_pairs : pairs ≡ others) (same_order : order ≡ other) where
   abbrev asked : List Clash → Order → Enumeration
   asked p o = record { system = system; pairs = p; order = o; limit = limit }
 
@@ -52,8 +52,8 @@ module _ (limit : ℕ) (system : Cone) (pairs others : List Clash) (order other 
       moved (λ e. AreRefused e (Large taken kind)) (record { step = h.step; count = h.count; named = named_turns order post system taken.items h.turns; large = h.large })
 
 -- the equations of a table are its system
-module _ (limit : ℕ) (coords : Coords) (rows : List Row) (system : Cone) (n : ℕ) (order : Order) (width : system.columns ≡ columns coords (length rows)) (equations : AreEquations coords rows system.rows) (count : n ≡ length rows) where
-  abbrev given : Cone → ℕ → Enumeration
+module _ (limit : ℕ) (coords : Coords) (rows : List Row) (system : System) (n : ℕ) (order : Order) (width : system.columns ≡ columns coords (length rows)) (equations : AreEquations coords rows system.rows) (count : n ≡ length rows) where
+  abbrev given : System → ℕ → Enumeration
   given s m = record { system = s; pairs = clash_list coords m; order = order; limit = limit }
 
   of_table : (P : Enumeration → Type 0) → P (given system n) → P (table_enumeration coords order limit rows system.rows)
