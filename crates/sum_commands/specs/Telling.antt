@@ -38,9 +38,9 @@ pub record AreSummedIn (most : ℕ) (list : List (List ℕ)) (rows : List Row) (
 -- the table and the blocks of all vectors, or the first whose sum gets too large
 abbrev pub TellsSums : ℕ → List (List ℕ) → List Row → List (List ℕ) → Result (Vec ℕ Global) (Failure (FirstFault LargeTurn)) → Type 0
 TellsSums most list rows vectors (Ok text) = AreSummedIn most list rows vectors text.items
-TellsSums most list rows vectors (Err (Fault first)) = IsFirstRefused (IsSummed most list) vectors first.number (first.fault.turn, first.fault.column)
+TellsSums most list rows vectors (Err (Fault first)) = IsFirstRefused (IsSummed most list) vectors first.number first.fault
 TellsSums most list rows vectors (Err NoMemory) = Unit {0}
 
 -- what is told of the vectors is the outcome
 abbrev pub TellsList : ℕ → List (List ℕ) → List Row → List (List ℕ) → Outcome → Type 0
-TellsList most list rows vectors o = (told : Result (List Block) (ℕ × (ℕ × ℕ))) × AreTold (IsSummed most list) vectors told × (o ≡ sums_outcome rows told)
+TellsList most list rows vectors o = (told : Result (List Block) (ℕ × LargeTurn)) × AreTold (IsSummed most list) vectors told × (o ≡ sums_outcome rows told)
