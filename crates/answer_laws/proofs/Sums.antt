@@ -17,6 +17,7 @@ use Rattle.surface_definitions.proofs.VerdictLaws.{accepted_by}
 use Rattle.vector_definitions.specs.Answers.{IsFit}
 use Rattle.sum_definitions.specs.Sums.{Term}
 use Rattle.sum_definitions.specs.Adding.{AddsUp, add_fault}
+use Rattle.sum_definitions.specs.declared.LargeTurn.{LargeTurn}
 use Rattle.sum_definitions.specs.declared.AddFault.TheVariants.{ZeroTimes, Large, NotEqual}
 use Rattle.sum_laws.proofs.Added.{no_fault_adds_up}
 use Rattle.sum_laws.proofs.Runs.{sum_is_right}
@@ -58,12 +59,12 @@ module _ (coords : Coords) (rows : List Row) (equations : List EquationRow) wher
     sums_of (x ∷ vectors) [] fit s = s
     sums_of (x ∷ vectors) (b ∷ blocks) fit s = (sum_of x b fit.0 s.0, sums_of vectors blocks fit.1 s.1)
 
-    told_sums : (vectors : List (List ℕ)) (o : Outcome) (told : Result (List Block) (ℕ × (ℕ × ℕ))) → AllByRecursion (IsFit coords rows equations) vectors
+    told_sums : (vectors : List (List ℕ)) (o : Outcome) (told : Result (List Block) (ℕ × LargeTurn)) → AllByRecursion (IsFit coords rows equations) vectors
         → AreTold (IsSummed most surfaces) vectors told → o ≡ sums_outcome rows told → AreSumsOfVertexSurfaces coords most rows equations vectors o
     told_sums vectors o (Ok blocks) fit s e =
         record { surfaces = surfaces; are_all = are_all; told = inl (record { blocks = blocks; sums = sums_of vectors blocks fit s; outcome = e }) }
     told_sums vectors o (Err large) fit s e =
-        record { surfaces = surfaces; are_all = are_all; told = inr (record { vector = large.0; turn = (large.1).0; column = (large.1).1; first = s; outcome = e }) }
+        record { surfaces = surfaces; are_all = are_all; told = inr (record { vector = large.0; large = large.1; first = s; outcome = e }) }
 
   decomposed : (most : ℕ) (vectors : List (List ℕ)) (o : Outcome) (checked : Result (List (Unit {0})) (ℕ × VectorFault)) → AreTold (IsVerdict coords rows equations) vectors checked
       → IsDecomposed most (table_enumeration coords Given most rows equations) rows vectors checked o → AreDecomposed coords most rows equations vectors o

@@ -13,6 +13,7 @@ use Rattle.surface_definitions.specs.QuadEquations.{AreEquations}
 use Rattle.surface_definitions.specs.TableSurfaces.{table_enumeration}
 use Rattle.vector_definitions.specs.Answers.{IsFit}
 use Rattle.sum_definitions.specs.Adding.{AddsUp}
+use Rattle.sum_definitions.specs.declared.LargeTurn.{LargeTurn}
 use Rattle.sum_laws.specs.Laws.{IsSumOfRays}
 use Rattle.document_definitions.specs.Documents.{vectors_document}
 use Rattle.document_definitions.specs.Blocks.{Block, blocks_document}
@@ -40,10 +41,9 @@ pub record AreSumsOfSurfaces (surfaces : List (List ℕ)) (most : ℕ) (rows : L
 -- the first vector is told whose sum gets too large, with the turn and the column
 pub record IsFirstLargeTold (surfaces : List (List ℕ)) (most : ℕ) (vectors : List (List ℕ)) (o : Outcome) : Type 0 where
   pub vector : ℕ
-  pub turn : ℕ
-  pub column : ℕ
-  pub first : IsFirstRefused (IsSummed most surfaces) vectors vector (turn, column)
-  pub outcome : o ≡ sum_refusal_outcome vector (LargeTimes turn column)
+  pub large : LargeTurn
+  pub first : IsFirstRefused (IsSummed most surfaces) vectors vector large
+  pub outcome : o ≡ sum_refusal_outcome vector (LargeTimes large.turn large.column)
 
 -- the sums are those of the vertex surfaces of the table
 pub record AreSumsOfVertexSurfaces (coords : Coords) (most : ℕ) (rows : List Row) (equations : List EquationRow) (vectors : List (List ℕ)) (o : Outcome) : Type 0 where

@@ -9,12 +9,12 @@ use Rattle.plain_facts.proofs.Numbers.{not_zero}
 use Rattle.text_definitions.specs.declared.LexFault.{LexFault}
 use Rattle.text_definitions.specs.declared.LexKind.TheVariants.{NumberTooWide}
 use Rattle.text_definitions.specs.Text.{decimal_value}
-use Rattle.cone_definitions.specs.Systems.{Cone}
+use Rattle.cone_definitions.specs.Systems.{System}
 use Rattle.cone_core.specs.declared.reader.ConeFault.{ConeFault}
 use Rattle.cone_core.specs.declared.reader.ConeFault.TheVariants.{Lex, NoMemory}
 use Rattle.text_definitions.specs.Reading.{end_line_at, exactly_at, same_word, Reading, ◌>>=◌, word_at, word_fault, number_up_to, number_at, signed_at, magnitude, is_negative, with_sign}
 use Rattle.text_definitions.proofs.Readers.{bind_ok}
-use Rattle.cone_text_definitions.specs.ConeText.{Cone as ConeText, is_zero, sparse, coefficients_at, cone_row_at, cone_rows_at, rows_of_cone_at, cone_at}
+use Rattle.cone_text_definitions.specs.ConeText.{Cone, is_zero, sparse, coefficients_at, cone_row_at, cone_rows_at, rows_of_cone_at, cone_at}
 use Rattle.cone_definitions.specs.Rows.{Row}
 use Rattle.cone_core.specs.Sparse.{IsSparse, IsInRange}
 use Rattle.cone_core.specs.ConeReads.{FailsHere, GivesCone, entries_of, sparse_row_at}
@@ -163,7 +163,7 @@ with_rows-fails front k count columns c (Lex fault) h e = with_rows-fault front 
 with_rows-fails front k count columns c NoMemory h e = tt
 
 -- a cone once its first line is read
-abbrev pub of_cone : ℕ → ℕ → Reading → Result (ConeText × Reading) LexFault
+abbrev pub of_cone : ℕ → ℕ → Reading → Result (Cone × Reading) LexFault
 of_cone columns count c = rows_of_cone_at columns count c >>= λ rows. Ok (record { columns = columns; rows = rows.0 }, rows.1)
 
 pub cone_at-is : (c : Reading) (w : List ℕ × Reading) (columns count : ℕ × Reading) (end : Reading) → word_at c ≡ Ok w → same_word w.0 (codes "cone") ≡ true →
@@ -176,7 +176,7 @@ map_replicate zero = refl
 map_replicate (suc n) = ap (λ xs. [] ∷ xs) (map_replicate n)
 
 -- a cone without columns
-pub cone_of_none : (columns count : ℕ) (c : Reading) (system : Cone) → columns ≡ 0 → system.columns ≡ 0 → system.rows ≡ replicate count [] →
+pub cone_of_none : (columns count : ℕ) (c : Reading) (system : System) → columns ≡ 0 → system.columns ≡ 0 → system.rows ≡ replicate count [] →
     GivesCone (Ok system) c (of_cone columns count c)
 cone_of_none columns count c system none same rows_are =
     (record { columns = 0; rows = replicate count [] }, rw none refl, ap₂ (λ n xs. record { columns = n; rows = xs }) same (rows_are ∙ sym (map_replicate count)))

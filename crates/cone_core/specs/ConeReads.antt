@@ -2,15 +2,15 @@
 use Rattle.std.specs.Prelude.{◌≡◌, ℕ, ℤ, List, [], ◌∷◌, map, if◌then◌else◌, Result, Ok, Err}
 use Rattle.text_definitions.specs.declared.LexFault.{LexFault}
 use Rattle.text_definitions.specs.Reading.{Reading, ◌>>=◌}
-use Rattle.cone_text_definitions.specs.ConeText.{Cone as ConeText, coefficients_at, cone_row_at, cone_rows_at, is_zero, sparse, system_of}
+use Rattle.cone_text_definitions.specs.ConeText.{Cone, coefficients_at, cone_row_at, cone_rows_at, is_zero, sparse, system_of}
 use Rattle.cone_definitions.specs.Rows.{Row}
-use Rattle.cone_definitions.specs.Systems.{Cone}
+use Rattle.cone_definitions.specs.Systems.{System}
 use Rattle.cone_core.specs.declared.reader.ConeFault.{ConeFault}
 use Rattle.cone_core.specs.declared.reader.ConeFault.TheVariants.{Lex, NoMemory}
 
 -- What a call answered and what it left is the cone that a reader gives, or its fault. At a fault nothing is said of what is left.
-abbrev pub GivesCone : Result Cone ConeFault → Reading → Result (ConeText × Reading) LexFault → Type 0
-GivesCone (Ok system) left read = (cone : ConeText) × (read ≡ Ok (cone, left)) × (system ≡ system_of cone)
+abbrev pub GivesCone : Result System ConeFault → Reading → Result (Cone × Reading) LexFault → Type 0
+GivesCone (Ok system) left read = (cone : Cone) × (read ≡ Ok (cone, left)) × (system ≡ system_of cone)
 GivesCone (Err (Lex fault)) left read = read ≡ Err fault
 GivesCone (Err NoMemory) left read = Unit {0}
 

@@ -1,7 +1,7 @@
 -- A named order of the rows is one, and so is what passes the limit in it.
 use Rattle.std.specs.Prelude.{◌≡◌, ◌≢◌, ℕ, ◌≤◌, List, length, take}
 use Rattle.cone_definitions.specs.Elimination.{Named}
-use Rattle.cone_definitions.specs.Systems.{Cone}
+use Rattle.cone_definitions.specs.Systems.{System}
 use Rattle.cone_definitions.specs.Orders.{AreNamed}
 use Rattle.cone_definitions.specs.Listings.{Enumeration, IsListed, IsPastLimit}
 use Rattle.cone_definitions.specs.declared.Order.{Order}
@@ -9,7 +9,7 @@ use Rattle.cone_definitions.specs.declared.Order.TheVariants.{Free}
 
 -- two lists of rows that an order names agree as far as both go
 abbrev pub OneNamedOrder : Type 0
-OneNamedOrder = (order : Order) (system : Cone) (xs ys : List ℕ) → order ≢ Free → AreNamed order system xs → AreNamed order system ys →
+OneNamedOrder = (order : Order) (system : System) (xs ys : List ℕ) → order ≢ Free → AreNamed order system xs → AreNamed order system ys →
     length xs ≤ length ys → xs ≡ take (length xs) ys
 
 -- at most one ray or pair is named where a number passes the limit, in one step

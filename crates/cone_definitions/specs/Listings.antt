@@ -4,23 +4,23 @@ use Rattle.std.specs.List.{range_with_len}
 use Rattle.std.specs.List.Sorted.{IsPermutation}
 use Rattle.cone_definitions.specs.Surfaces.{Clash, IsSurfaceList}
 use Rattle.cone_definitions.specs.Elimination.{in_order, step_at, IsWithin, Named, IsLarge}
-use Rattle.cone_definitions.specs.Systems.{Cone}
+use Rattle.cone_definitions.specs.Systems.{System}
 use Rattle.cone_definitions.specs.Orders.{AreNamed}
 use Rattle.cone_definitions.specs.declared.Order.{Order}
 
 -- no number of a step of the rows in this order passes the limit
-abbrev pub AreWithin : ℕ → Cone → List Clash → List ℕ → Type 0
+abbrev pub AreWithin : ℕ → System → List Clash → List ℕ → Type 0
 AreWithin limit system pairs taken = (k : ℕ) → k < length taken → IsWithin limit (step_at system.columns (in_order system.rows taken) pairs k)
 
 -- what an enumeration is of: the rows, the clashing pairs, the order in which the rows are taken, and the greatest number
 pub record Enumeration : Type 0 where
-  pub system : Cone
+  pub system : System
   pub pairs : List Clash
   pub order : Order
   pub limit : ℕ
 
 -- an enumeration with no clashing pairs, which is one of all rays
-abbrev pub without_pairs : Cone → Order → ℕ → Enumeration
+abbrev pub without_pairs : System → Order → ℕ → Enumeration
 without_pairs system order limit = record { system = system; pairs = []; order = order; limit = limit }
 
 -- the surface list, where in the order's own order of the rows no number of a step passes the limit

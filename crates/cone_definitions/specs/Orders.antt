@@ -2,7 +2,7 @@
 use Rattle.std.specs.Prelude.{◌≡◌, ℕ, ◌<◌, ◌↔◌, ◌&&◌, ◌||◌, ◌==◌, nat_lt, List, [], ◌∷◌, Bool, false, length, take, slice_index, slice_index_or, Contains}
 use Rattle.std.specs.List.{AllPairs, IsFirstBest}
 use Rattle.cone_definitions.specs.Rows.{Row}
-use Rattle.cone_definitions.specs.Systems.{Cone}
+use Rattle.cone_definitions.specs.Systems.{System}
 use Rattle.cone_definitions.specs.declared.Order.{Order}
 use Rattle.cone_definitions.specs.declared.Order.TheVariants.{Given, Short, Zeros, Free}
 
@@ -12,11 +12,11 @@ leading_zeros columns [] = columns
 leading_zeros columns (term ∷ _) = term.0
 
 -- the row of a number
-abbrev pub row_of : Cone → ℕ → Row
+abbrev pub row_of : System → ℕ → Row
 row_of system number = slice_index_or system.rows number []
 
 -- one row number comes before another: by the order's own measure, and then the lesser number
-abbrev pub prefers : Order → Cone → ℕ → ℕ → Bool
+abbrev pub prefers : Order → System → ℕ → ℕ → Bool
 prefers Given system a b = nat_lt a b
 prefers Short system a b =
     nat_lt (length (row_of system a)) (length (row_of system b)) || (length (row_of system a) == length (row_of system b) && nat_lt a b)
@@ -26,7 +26,7 @@ prefers Zeros system a b =
 prefers Free system a b = false
 
 -- the first position before whose row number none comes
-abbrev pub IsNamed : Order → Cone → List ℕ → ℕ → Type 0
+abbrev pub IsNamed : Order → System → List ℕ → ℕ → Type 0
 IsNamed Free system rows position = position < length rows
 IsNamed order system rows position = IsFirstBest (prefers order system) rows (length rows) position
 
@@ -36,7 +36,7 @@ pub record AreLeft (count : ℕ) (taken left : List ℕ) : Type 0 where
   pub members : (number : ℕ) → Contains left number ↔ ((number < count) × ¬ Contains taken number)
 
 -- the row is the one that the order names among those that aren't taken
-pub record IsNamedTurn (order : Order) (system : Cone) (taken : List ℕ) (number : ℕ) : Type 0 where
+pub record IsNamedTurn (order : Order) (system : System) (taken : List ℕ) (number : ℕ) : Type 0 where
   pub left : List ℕ
   pub left_of : AreLeft (length system.rows) taken left
   pub position : ℕ
@@ -45,5 +45,5 @@ pub record IsNamedTurn (order : Order) (system : Cone) (taken : List ℕ) (numbe
   pub named : IsNamed order system left position
 
 -- each row in turn is the one that the order names
-abbrev pub AreNamed : Order → Cone → List ℕ → Type 0
+abbrev pub AreNamed : Order → System → List ℕ → Type 0
 AreNamed order system taken = (k : ℕ) → k < length taken → IsNamedTurn order system (take k taken) (slice_index taken k)

@@ -5,7 +5,7 @@ use Rattle.std.proofs.lemmas.List.{length-take-le, get_or-take}
 use Rattle.cone_definitions.specs.Rows.{Row}
 use Rattle.cone_definitions.specs.Surfaces.{Clash, PairsAreApart}
 use Rattle.cone_definitions.specs.Elimination.{Step, in_order, IsWithin, Named, IsNamedAt, IsLarge}
-use Rattle.cone_definitions.specs.Systems.{Cone}
+use Rattle.cone_definitions.specs.Systems.{System}
 use Rattle.cone_definitions.specs.Orders.{IsNamedTurn, AreNamed}
 use Rattle.cone_definitions.specs.Listings.{Enumeration, IsListed, IsPastLimit}
 use Rattle.cone_definitions.specs.declared.Order.{Order}
@@ -14,7 +14,7 @@ use Rattle.cone_definitions.proofs.PastLimit.{take_shorter, step_same, length-in
 use Rattle.cone_laws.proofs.Taken.{some_rows_taken}
 
 -- the first turns
-named_fewer : (order : Order) (system : Cone) (taken : List ℕ) (n : ℕ) → n ≤ length taken → AreNamed order system taken → AreNamed order system (take n taken)
+named_fewer : (order : Order) (system : System) (taken : List ℕ) (n : ℕ) → n ≤ length taken → AreNamed order system taken → AreNamed order system (take n taken)
 named_fewer order system taken n within h k l =
     let size : length (take n taken) ≡ n = length-take-le n taken within in
     subst₂ (IsNamedTurn order system) (sym (take_shorter taken n k (omega arith) within)) (sym (get_or-take n taken k 0 (omega arith))) (h k (omega arith))

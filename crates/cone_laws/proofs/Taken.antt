@@ -7,26 +7,26 @@ use Rattle.std.proofs.lemmas.List.{get_or_default, get_or_append_left, get_or_pu
 use Rattle.std.proofs.lemmas.List.Edits.{length-remove}
 use Rattle.std.proofs.lemmas.List.MinMax.{IsFirstBest-from_best_of}
 use Rattle.std.proofs.lemmas.List.Sorted.{IsPermutation-more, IsPermutation-refl}
-use Rattle.cone_definitions.specs.Systems.{Cone}
+use Rattle.cone_definitions.specs.Systems.{System}
 use Rattle.cone_definitions.specs.Orders.{prefers, IsNamed, AreLeft, IsNamedTurn, AreNamed}
 use Rattle.cone_definitions.specs.declared.Order.{Order}
 use Rattle.cone_definitions.specs.declared.Order.TheVariants.{Given, Short, Zeros, Free}
 use Rattle.cone_laws.proofs.PrefersLemmas.{prefers_order}
 use Rattle.cone_laws.proofs.LeftRows.{left_none, left_more, all_taken}
 
-first_best : (order : Order) (system : Cone) (left : List ℕ) → 0 < length left → (p : ℕ) × IsFirstBest (prefers order system) left (length left) p
+first_best : (order : Order) (system : System) (left : List ℕ) → 0 < length left → (p : ℕ) × IsFirstBest (prefers order system) left (length left) p
 first_best order system [] l = absurd (omega arith)
 first_best order system (x ∷ xs) l = let b = IsFirstBest-from_best_of (prefers_order order system) x xs in (b.0, b.1)
 
 -- where rows are left, one of them is named
-some_position : (order : Order) (system : Cone) (left : List ℕ) → 0 < length left → (p : ℕ) × (p < length left) × IsNamed order system left p
+some_position : (order : Order) (system : System) (left : List ℕ) → 0 < length left → (p : ℕ) × (p < length left) × IsNamed order system left p
 some_position Given system left l = let b = first_best Given system left l in (b.0, b.1.0, b.1)
 some_position Short system left l = let b = first_best Short system left l in (b.0, b.1.0, b.1)
 some_position Zeros system left l = let b = first_best Zeros system left l in (b.0, b.1.0, b.1)
 some_position Free system left l = (0, l, l)
 
 -- the turns so far and one more
-pub named_more : (order : Order) (system : Cone) (taken : List ℕ) (number : ℕ) → AreNamed order system taken → IsNamedTurn order system taken number
+pub named_more : (order : Order) (system : System) (taken : List ℕ) (number : ℕ) → AreNamed order system taken → IsNamedTurn order system taken number
     → AreNamed order system (taken ++ number ∷ [])
 named_more order system taken number h turn k less = ⊎_elim
     (λ old. subst₂ (IsNamedTurn order system) (sym (take-append-le k taken (number ∷ []) (omega arith))) (sym (get_or_append_left taken (number ∷ []) 0 k old)) (h k old))
@@ -34,7 +34,7 @@ named_more order system taken number h turn k less = ⊎_elim
     subst₂ (IsNamedTurn order system) (sym (take-append-le k taken (number ∷ []) (omega arith) ∙ take_all k taken (omega arith))) (sym (get_or_push taken number 0 k (sym e))) turn)
     (cases_lt k (length taken))
 
-module _ (order : Order) (system : Cone) where
+module _ (order : Order) (system : System) where
   abbrev AllTaken : Type 0
   AllTaken = (taken : List ℕ) × IsPermutation (range_with_len 0 (length system.rows)) taken × AreNamed order system taken
 

@@ -4,14 +4,14 @@ use Rattle.std.specs.List.{range_with_len}
 use Rattle.std.specs.List.Sorted.{IsPermutation}
 use Rattle.cone_definitions.specs.Surfaces.{PairsAreApart}
 use Rattle.cone_definitions.specs.Elimination.{Named}
-use Rattle.cone_definitions.specs.Systems.{Cone}
+use Rattle.cone_definitions.specs.Systems.{System}
 use Rattle.cone_definitions.specs.Orders.{AreNamed}
 use Rattle.cone_definitions.specs.Listings.{Enumeration, IsListed, IsPastLimit}
 use Rattle.cone_definitions.specs.declared.Order.{Order}
 
 -- all rows can be taken, each as the order names it
 abbrev pub RowsAreTaken : Type 0
-RowsAreTaken = (order : Order) (system : Cone) → (taken : List ℕ) × IsPermutation (range_with_len 0 (length system.rows)) taken × AreNamed order system taken
+RowsAreTaken = (order : Order) (system : System) → (taken : List ℕ) × IsPermutation (range_with_len 0 (length system.rows)) taken × AreNamed order system taken
 
 -- where each pair is of two different columns, there is a list, or a number passes the limit
 abbrev pub EnumerationsEnd : Type 0

@@ -4,7 +4,7 @@ use Rattle.std.specs.List.{enumerate_from}
 use Rattle.text_definitions.specs.declared.LexFault.{LexFault}
 use Rattle.text_definitions.specs.Reading.{Reading, ◌>>=◌, need_line_at, end_line_at, number_at, signed_at, exactly_at}
 use Rattle.cone_definitions.specs.Rows.{Row}
-use Rattle.cone_definitions.specs.Systems.{Cone as System}
+use Rattle.cone_definitions.specs.Systems.{System}
 
 -- the number of columns, and the rows, each with a coefficient for every column or, where there are no columns, with none
 pub record Cone : Type 0 where

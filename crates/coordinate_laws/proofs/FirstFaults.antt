@@ -4,16 +4,16 @@ use Rattle.std.specs.List.{All, find}
 use Rattle.std.specs.Prelude.{◌==◌, ◌||◌, ◌↔◌, nat_lt, if◌then◌else◌, Result, Ok, Err, IsOk}
 use Rattle.std.proofs.lemmas.Bool.{eq-eqb, ne_eqb, le-ltb, lt-ltb, or_from, or_right}
 use Rattle.cone_definitions.specs.Rows.{Row as EquationRow, plus_part, minus_part, IsZeroAt}
-use Rattle.cone_definitions.specs.Elimination.{HasLargePart}
+use Rattle.cone_definitions.specs.Elimination.{HasLargePart, HasPartsWithin}
+use Rattle.cone_definitions.specs.Met.{IsMet, AreMetBefore}
 use Rattle.surface_definitions.specs.declared.VectorFault.{VectorFault}
 use Rattle.surface_definitions.specs.declared.VectorFault.TheVariants.{Length, Large, NotSolution}
 use Rattle.surface_definitions.specs.Verdict.{Verdict, solution, both_nonzero, row_fault, rows_verdict, or_else, clash_verdict, verdict}
-use Rattle.surface_definitions.specs.Laws.{HasPartsUpTo, IsAccepted}
+use Rattle.surface_definitions.specs.Laws.{IsAccepted}
 use Rattle.surface_definitions.proofs.VerdictLaws.{accepted_by, accepted-verdict, fault_by, none-row_fault}
-use Rattle.coordinate_laws.specs.Laws.{IsMet, AreMetBefore}
 
 fault_met : (max i : ℕ) (row : EquationRow) (x : List ℕ) → IsMet max x row → row_fault max i row x ≡ None
-fault_met max i row x met = none-row_fault max i row x met.1 met.0
+fault_met max i row x met = none-row_fault max i row x met.zero met.within
 
 fault_large : (max i : ℕ) (row : EquationRow) (x : List ℕ) → HasLargePart max row x → row_fault max i row x ≡ Some (Large i)
 fault_large max i row x h = ap (λ l. fault_by i l (plus_part row x == minus_part row x)) (test h)
@@ -22,7 +22,7 @@ fault_large max i row x h = ap (λ l. fault_by i l (plus_part row x == minus_par
     test (inl p) = ap (λ b. b || nat_lt max (minus_part row x)) (lt-ltb max (plus_part row x) p)
     test (inr m) = or_right (nat_lt max (plus_part row x)) (nat_lt max (minus_part row x)) (lt-ltb max (minus_part row x) m)
 
-fault_fails : (max i : ℕ) (row : EquationRow) (x : List ℕ) → HasPartsUpTo max x row → (IsZeroAt row x → ⊥) → row_fault max i row x ≡ Some (NotSolution i)
+fault_fails : (max i : ℕ) (row : EquationRow) (x : List ℕ) → HasPartsWithin max row x → (IsZeroAt row x → ⊥) → row_fault max i row x ≡ Some (NotSolution i)
 fault_fails max i row x within not_zero =
     let l : (nat_lt max (plus_part row x) || nat_lt max (minus_part row x)) ≡ false =
     or_from (nat_lt max (plus_part row x)) (nat_lt max (minus_part row x)) (le-ltb max (plus_part row x) within.0) (le-ltb max (minus_part row x) within.1) in
@@ -63,7 +63,7 @@ module _ (max n : ℕ) (rows : List EquationRow) (pairs : List (ℕ × ℕ)) (x 
   pub large_told : (i : ℕ) → length x ≡ n → i < length rows → AreMetBefore max rows x i → HasLargePart max (get_or rows i []) x → verdict max n rows pairs x ≡ Err (Large i)
   large_told i e l met large = fault_told i (Large i) e l met (fault_large max i (get_or rows i []) x large)
 
-  pub failure_told : (i : ℕ) → length x ≡ n → i < length rows → AreMetBefore max rows x i → HasPartsUpTo max x (get_or rows i []) → ¬ IsZeroAt (get_or rows i []) x → verdict max n rows pairs x ≡ Err (NotSolution i)
+  pub failure_told : (i : ℕ) → length x ≡ n → i < length rows → AreMetBefore max rows x i → HasPartsWithin max (get_or rows i []) x → ¬ IsZeroAt (get_or rows i []) x → verdict max n rows pairs x ≡ Err (NotSolution i)
   failure_told i e l met within not_zero = fault_told i (NotSolution i) e l met (fault_fails max i (get_or rows i []) x within not_zero)
 
   pub clash_told : (found : Option (ℕ × ℕ)) → length x ≡ n → All (IsMet max x) rows → found ≡ find (both_nonzero x) pairs → verdict max n rows pairs x ≡ clash_verdict found

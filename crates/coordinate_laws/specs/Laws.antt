@@ -2,27 +2,19 @@
 use Rattle.std.specs.Prelude.{◌≡◌, ℕ, ◌<◌, List, [], length, Err}
 use Rattle.std.specs.List.{slice_index_or}
 use Rattle.cone_definitions.specs.Rows.{Row as EquationRow, IsZeroAt}
-use Rattle.cone_definitions.specs.Elimination.{HasLargePart}
+use Rattle.cone_definitions.specs.Elimination.{HasLargePart, HasPartsWithin}
+use Rattle.cone_definitions.specs.Met.{AreMetBefore}
 use Rattle.cone_definitions.specs.Surfaces.{PairsAreApart}
 use Rattle.surface_definitions.specs.declared.Coords.{Coords}
 use Rattle.surface_definitions.specs.declared.VectorFault.TheVariants.{Large, NotSolution}
 use Rattle.surface_definitions.specs.Coordinates.{clash_list}
 use Rattle.surface_definitions.specs.Verdict.{verdict}
-use Rattle.surface_definitions.specs.Laws.{HasPartsUpTo}
 
 -- each clashing pair is of two different columns
 abbrev pub ClashesAreApart : Type 0
 ClashesAreApart = (coords : Coords) (n : ℕ) → PairsAreApart (clash_list coords n)
 
--- an equation is 0 at the vector, and no part of it passes the limit
-abbrev pub IsMet : ℕ → List ℕ → EquationRow → Type 0
-IsMet max x equation = HasPartsUpTo max x equation × IsZeroAt equation x
-
--- so are the first i equations
-abbrev pub AreMetBefore : ℕ → List EquationRow → List ℕ → ℕ → Type 0
-AreMetBefore max equations x i = (j : ℕ) → j < i → IsMet max x (slice_index_or equations j [])
-
--- where the next one has a part that passes the limit, the verdict tells it
+-- where the first i equations are met, and the next one has a part that passes the limit, the verdict tells it
 abbrev pub FirstLargeIsTold : Type 0
 FirstLargeIsTold =
     (max n : ℕ) (equations : List EquationRow) (pairs : List (ℕ × ℕ)) (x : List ℕ) (i : ℕ) → length x ≡ n → i < length equations → AreMetBefore max equations x i
@@ -32,4 +24,4 @@ FirstLargeIsTold =
 abbrev pub FirstFailureIsTold : Type 0
 FirstFailureIsTold =
     (max n : ℕ) (equations : List EquationRow) (pairs : List (ℕ × ℕ)) (x : List ℕ) (i : ℕ) → length x ≡ n → i < length equations → AreMetBefore max equations x i
-    → HasPartsUpTo max x (slice_index_or equations i []) → ¬ IsZeroAt (slice_index_or equations i []) x → verdict max n equations pairs x ≡ Err (NotSolution i)
+    → HasPartsWithin max (slice_index_or equations i []) x → ¬ IsZeroAt (slice_index_or equations i []) x → verdict max n equations pairs x ≡ Err (NotSolution i)

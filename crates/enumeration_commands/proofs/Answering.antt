@@ -1,12 +1,11 @@
 -- From what the parts of a command answered to its outcome.
-use Rattle.std.proofs.Common.{◌≡◌, ℕ, inl, inr, List, Result, Ok, Vec, sym, subst}
-use Rattle.std.specs.declared.alloc.Global.{Global}
+use Rattle.std.proofs.Common.{◌≡◌, ℕ, inl, inr, List, Result, Ok, sym, subst}
 use Rattle.std.specs.Prelude.{codes}
+use Rattle.no_memory.specs.declared.Failure.TheVariants.{Fault}
 use Rattle.table_definitions.specs.Table.{Row}
 use Rattle.surface_definitions.specs.declared.Coords.{Coords}
-use Rattle.cone_definitions.specs.Elimination.{Named}
 use Rattle.cone_definitions.specs.declared.Order.{Order}
-use Rattle.double_description.specs.declared.engine.EnumFault.TheVariants.{Large}
+use Rattle.double_description.specs.declared.engine.LargeStep.{LargeStep}
 use Rattle.surface_list.specs.Surfaces.{AreTableSurfaces, IsTableRefused}
 use Rattle.signature_definitions.specs.declared.InputFault.{InputFault}
 use Rattle.outcome_definitions.specs.Outcomes.{Outcome, IsReadOutcome}
@@ -17,8 +16,8 @@ module _ (limit : ℕ) (coords : Coords) (rows : List Row) (order : Order) where
   pub table_listed : (list : List (List ℕ)) (o : Outcome) → AreTableSurfaces limit coords rows order list → o ≡ list_outcome (codes "surfaces") list → IsSurfacesAnswer coords order limit rows o
   table_listed list o a same = (a.0, a.1, inl ((a.2).taken, list, (a.2).listed, same))
 
-  pub table_large : (taken : Vec ℕ Global) (kind : Named) (o : Outcome) → IsTableRefused limit coords rows order (Large taken kind) → o ≡ large_outcome taken.items kind → IsSurfacesAnswer coords order limit rows o
-  table_large taken kind o a same = (a.0, a.1, inr (taken.items, kind, a.2, same))
+  pub table_large : (large : LargeStep) (o : Outcome) → IsTableRefused limit coords rows order (Fault large) → o ≡ large_outcome large.order.items large.kind → IsSurfacesAnswer coords order limit rows o
+  table_large large o a same = (a.0, a.1, inr (large.order.items, large.kind, a.2, same))
 
   -- of a document's table
   pub document_listed : (read : Result (List Row) InputFault) (o : Outcome) → read ≡ Ok rows → IsSurfacesAnswer coords order limit rows o → IsReadOutcome read (IsSurfacesAnswer coords order limit) o

@@ -10,9 +10,9 @@ ghost use Rattle.enumeration_commands.specs.Cones.{GivesConeDocument};
 use crate::enumerations::list_outcome;
 use command_answers::{Outcome, end_document, fault_outcome};
 use cone_core::{ConeFault, MAX_ENTRY, System, read_cone};
-use double_description::{EnumFault, Order};
+use double_description::Order;
 use gluing_table::TextFault;
-use no_memory::NoMemory;
+use no_memory::{Failure, NoMemory};
 use signature_codec::InputFault;
 use std::alloc::Global;
 use surface_answers::large_outcome;
@@ -40,8 +40,8 @@ fn answer(alloc: Global, system: &System, order: Order, limit: u128) -> Result<O
 {
     match ray_answers::rays(alloc, system, order, limit) {
         Ok(rays) => list_outcome(alloc, b"rays", &rays.list),
-        Err(EnumFault::Large { order, kind }) => large_outcome(alloc, &order, &kind),
-        Err(EnumFault::NoMemory) => Err(NoMemory),
+        Err(Failure::Fault(large)) => large_outcome(alloc, &large.order, &large.kind),
+        Err(Failure::NoMemory) => Err(NoMemory),
     }
 }
 

@@ -8,10 +8,10 @@ ghost use Rattle.outcome_definitions.specs.Enumerations.{IsSurfacesAnswer};
 use crate::enumerations::list_outcome;
 use command_answers::{Outcome, fault_outcome, read_table_document};
 use cone_core::MAX_ENTRY;
-use double_description::{EnumFault, Order};
+use double_description::Order;
 use gluing_table::Table;
 use matching_equations::Coords;
-use no_memory::NoMemory;
+use no_memory::{Failure, NoMemory};
 use std::alloc::Global;
 use surface_answers::large_outcome;
 
@@ -30,8 +30,8 @@ fn answer(
 {
     match surface_list::surfaces(alloc, table, coords, order, limit) {
         Ok(surfaces) => list_outcome(alloc, b"surfaces", &surfaces),
-        Err(EnumFault::Large { order, kind }) => large_outcome(alloc, &order, &kind),
-        Err(EnumFault::NoMemory) => Err(NoMemory),
+        Err(Failure::Fault(large)) => large_outcome(alloc, &large.order, &large.kind),
+        Err(Failure::NoMemory) => Err(NoMemory),
     }
 }
 

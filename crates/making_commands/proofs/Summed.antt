@@ -1,11 +1,10 @@
 -- The lines of a summary, and what is told of a table.
-use Rattle.std.proofs.Common.{◌≡◌, ℕ, List, [], ◌++◌, length, Vec, inl, inr, ap, ◌∙◌, subst, append_assoc}
-use Rattle.std.specs.declared.alloc.Global.{Global}
+use Rattle.std.proofs.Common.{◌≡◌, ℕ, List, [], ◌++◌, length, inl, inr, ap, ◌∙◌, subst, append_assoc}
 use Rattle.std.specs.Prelude.{codes, count_by}
 use Rattle.text_definitions.specs.Written.{limit}
-use Rattle.cone_definitions.specs.Elimination.{Named}
 use Rattle.cone_definitions.specs.declared.Order.TheVariants.{Given}
-use Rattle.double_description.specs.declared.engine.EnumFault.TheVariants.{Large}
+use Rattle.double_description.specs.declared.engine.LargeStep.{LargeStep}
+use Rattle.no_memory.specs.declared.Failure.TheVariants.{Fault}
 use Rattle.table_definitions.specs.Table.{Row}
 use Rattle.surface_definitions.specs.declared.Coords.TheVariants.{Standard}
 use Rattle.surface_definitions.specs.Characteristic.{is_linking}
@@ -42,8 +41,8 @@ listed_told n rows list greatest o a g same =
     record { equations = a.0; of_table = a.1; told = inl (record { taken = (a.2).taken; list = list; listed = (a.2).listed; greatest = greatest; is_greatest = g; outcome = same }) }
 
 -- a number passes the limit
-pub large_told : (n : Numbers) (rows : List Row) (taken : Vec ℕ Global) (kind : Named) (o : Outcome) → IsTableRefused limit Standard rows Given (Large taken kind) → o ≡ large_outcome taken.items kind → IsSummary n rows o
-large_told n rows taken kind o a same = record { equations = a.0; of_table = a.1; told = inr (taken.items, kind, a.2, same) }
+pub large_told : (n : Numbers) (rows : List Row) (large : LargeStep) (o : Outcome) → IsTableRefused limit Standard rows Given (Fault large) → o ≡ large_outcome large.order.items large.kind → IsSummary n rows o
+large_told n rows large o a same = record { equations = a.0; of_table = a.1; told = inr (large.order.items, large.kind, a.2, same) }
 
 -- a summary of the table that was made
 pub bulk_told : (seed moves : ℕ) (table : List Row) (certificate : List Move) (n : Numbers) (o : Outcome) → IsMade seed moves table certificate → IsCertificate table certificate

@@ -7,7 +7,7 @@ ghost use Rattle.outcome_definitions.specs.Makings.{IsSummary, IsBulkAnswer};
 use crate::summaries::{Numbers, summary_outcome};
 use command_answers::Outcome;
 use cone_core::MAX_ENTRY;
-use double_description::{EnumFault, Order};
+use double_description::Order;
 use gluing_table::Table;
 use matching_equations::Coords;
 use no_memory::{Failure, NoMemory};
@@ -34,8 +34,8 @@ fn summed_up(alloc: Global, numbers: Numbers, table: &Table) -> Result<Outcome, 
 {
     match surface_list::surfaces(alloc, table, Coords::Standard, Order::Given, MAX_ENTRY) {
         Ok(surfaces) => summary_outcome(alloc, numbers, &surfaces),
-        Err(EnumFault::Large { order, kind }) => large_outcome(alloc, &order, &kind),
-        Err(EnumFault::NoMemory) => Err(NoMemory),
+        Err(Failure::Fault(large)) => large_outcome(alloc, &large.order, &large.kind),
+        Err(Failure::NoMemory) => Err(NoMemory),
     }
 }
 

@@ -21,6 +21,7 @@ use Rattle.surface_definitions.specs.declared.VectorFault.TheVariants as faults
 use Rattle.vector_definitions.specs.Answers.{Description}
 use Rattle.sum_definitions.specs.declared.AddFault.TheVariants as adding
 use Rattle.sum_definitions.specs.declared.AddFault.TheVariants.{ZeroTimes, NotEqual}
+use Rattle.sum_definitions.specs.declared.LargeTurn.{LargeTurn}
 use Rattle.cover_definitions.specs.Cover.{cover_fault}
 use Rattle.cover_definitions.specs.declared.LargeCover.{LargeCover}
 use Rattle.group_definitions.specs.Groups.{HasGroup}
@@ -118,7 +119,7 @@ sum_refusal_own v (NoSum ZeroTimes) = tt
 sum_refusal_own v (NoSum (adding.Large column)) = tt
 sum_refusal_own v (NoSum (NotEqual column)) = tt
 
-sums_own : (rows : List Row) (told : Result (List Block) (ℕ × (ℕ × ℕ))) → IsOwnStatus (sums_outcome rows told).status
+sums_own : (rows : List Row) (told : Result (List Block) (ℕ × LargeTurn)) → IsOwnStatus (sums_outcome rows told).status
 sums_own rows (Ok blocks) = tt
 sums_own rows (Err large) = tt
 

@@ -15,6 +15,7 @@ use Rattle.surface_definitions.specs.TableSurfaces.{table_enumeration}
 use Rattle.surface_definitions.specs.Verdict.{Verdict, verdict_text}
 use Rattle.vector_definitions.specs.Answers.{verdict_in, IsFit, IsUnfit}
 use Rattle.sum_definitions.specs.Sums.{Term, IsSum, IsLargeTurn}
+use Rattle.sum_definitions.specs.declared.LargeTurn.{LargeTurn}
 use Rattle.sum_definitions.specs.Adding.{add_fault}
 use Rattle.sum_definitions.specs.declared.AddFault.TheVariants.{ZeroTimes, Large, NotEqual}
 use Rattle.document_definitions.specs.Blocks.{Block, blocks_text}
@@ -77,25 +78,25 @@ abbrev pub IsVerdict : Coords → List Row → List EquationRow → List ℕ →
 IsVerdict coords rows equations x checked = verdict_in coords rows equations x ≡ checked
 
 -- the sum of a vector, or the first turn at which an entry, taken so many times, passes the limit, and the first such column
-abbrev pub IsSummed : ℕ → List (List ℕ) → List ℕ → Result Block (ℕ × ℕ) → Type 0
+abbrev pub IsSummed : ℕ → List (List ℕ) → List ℕ → Result Block LargeTurn → Type 0
 IsSummed most list x (Ok block) = (block.vector ≡ x) × IsSum most list x block.times block.terms
-IsSummed most list x (Err large) = IsLargeTurn most list x large.0 large.1
+IsSummed most list x (Err large) = IsLargeTurn most list x large.turn large.column
 
 -- a table, with blocks behind it
 abbrev pub sums_text : List Row → List Block → List ℕ
 sums_text rows blocks = table_text rows ++ blocks_text blocks
 
 -- the table and a block for each vector, or the first whose sum gets too large
-abbrev pub sums_outcome : List Row → Result (List Block) (ℕ × (ℕ × ℕ)) → Outcome
+abbrev pub sums_outcome : List Row → Result (List Block) (ℕ × LargeTurn) → Outcome
 sums_outcome rows (Ok blocks) = record { status = statuses.Done; text = sums_text rows blocks }
-sums_outcome rows (Err large) = sum_refusal_outcome large.0 (LargeTimes (large.1).0 (large.1).1)
+sums_outcome rows (Err large) = sum_refusal_outcome large.0 (LargeTimes large.1.turn large.1.column)
 
 -- the vertex surfaces are listed, and vectors are told as sums of them
 pub record AreSums (most : ℕ) (e : Enumeration) (rows : List Row) (vectors : List (List ℕ)) (o : Outcome) : Type 0 where
   pub taken : List ℕ
   pub list : List (List ℕ)
   pub listed : IsListed e taken list
-  pub told : Result (List Block) (ℕ × (ℕ × ℕ))
+  pub told : Result (List Block) (ℕ × LargeTurn)
   pub sums : AreTold (IsSummed most list) vectors told
   pub outcome : o ≡ sums_outcome rows told
 

@@ -10,6 +10,7 @@ use Rattle.surface_definitions.specs.declared.Coords.{Coords}
 use Rattle.surface_definitions.specs.declared.VectorFault.{VectorFault}
 use Rattle.surface_definitions.specs.TableSurfaces.{table_enumeration}
 use Rattle.vector_definitions.specs.Answers.{IsFit}
+use Rattle.sum_definitions.specs.declared.LargeTurn.{LargeTurn}
 use Rattle.surface_laws.proofs.FitSurfaces.{fit_accepted}
 use Rattle.sum_laws.specs.Laws.{Answer, sum, large, IsAnswer}
 use Rattle.sum_laws.proofs.Runs.{some_answer}
@@ -30,13 +31,13 @@ module _ (coords : Coords) (most : ℕ) (rows : List Row) (equations : List Equa
   abbrev enumeration : Enumeration
   enumeration = table_enumeration coords Given most rows equations
 
-  by_answer : (list : List (List ℕ)) (x : List ℕ) (a : Answer) → IsAnswer most list x a → (r : Result Block (ℕ × ℕ)) × IsSummed most list x r
+  by_answer : (list : List (List ℕ)) (x : List ℕ) (a : Answer) → IsAnswer most list x a → (r : Result Block LargeTurn) × IsSummed most list x r
   by_answer list x (sum times terms) h = (Ok (record { vector = x; times = times; terms = terms }), (refl, h))
-  by_answer list x (large turn column) h = (Err (turn, column), h)
+  by_answer list x (large turn column) h = (Err (record { turn = turn; column = column }), h)
 
   -- a vector that is fit is told as a sum of the listed surfaces
   summed : (list : List (List ℕ)) → IsSurfaceList (columns coords (length rows)) equations (clash_list coords (length rows)) list → (x : List ℕ) → IsFit coords rows equations x
-      → (r : Result Block (ℕ × ℕ)) × IsSummed most list x r
+      → (r : Result Block LargeTurn) × IsSummed most list x r
   summed list h x fit =
       let a = fit_accepted coords rows equations x fit in
       let rays = surfaces_are_rays_lem (columns coords (length rows)) equations (clash_list coords (length rows)) list x h a.solves a.admissible in

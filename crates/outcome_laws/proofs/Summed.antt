@@ -17,6 +17,7 @@ use Rattle.vector_definitions.specs.Answers.{verdict_in, IsFit}
 use Rattle.sum_definitions.specs.Sums.{Term}
 use Rattle.sum_definitions.specs.Adding.{add_fault}
 use Rattle.sum_definitions.specs.declared.AddFault.{AddFault}
+use Rattle.sum_definitions.specs.declared.LargeTurn.{LargeTurn}
 use Rattle.sum_laws.specs.Laws.{Answer, sum, large}
 use Rattle.sum_laws.proofs.Runs.{one_answer}
 use Rattle.document_definitions.specs.Blocks.{Block}
@@ -113,17 +114,17 @@ blocks_same x b c p q e =
     let vectors : b.vector ≡ c.vector = p ∙ sym q in
     λ i. record { vector = vectors i; times = times i; terms = terms i }
 
-turns_same : (p q : ℕ × ℕ) → (let a : Answer = large p.0 p.1 in a ≡ large q.0 q.1) → p ≡ q
+turns_same : (p q : LargeTurn) → (let a : Answer = large p.turn p.column in a ≡ large q.turn q.column) → p ≡ q
 turns_same p q e =
-    let turns : p.0 ≡ q.0 = cc in
-    let columns : p.1 ≡ q.1 = cc in
-    λ i. (turns i, columns i)
+    let turns : p.turn ≡ q.turn = cc in
+    let columns : p.column ≡ q.column = cc in
+    λ i. record { turn = turns i; column = columns i }
 
-one_sum : (most : ℕ) (list : List (List ℕ)) (x : List ℕ) (r s : Result Block (ℕ × ℕ)) → IsSummed most list x r → IsSummed most list x s → r ≡ s
+one_sum : (most : ℕ) (list : List (List ℕ)) (x : List ℕ) (r s : Result Block LargeTurn) → IsSummed most list x r → IsSummed most list x s → r ≡ s
 one_sum most list x (Ok b) (Ok c) h k = ap Ok (blocks_same x b c h.0 k.0 (one_answer most list x (sum b.times b.terms) (sum c.times c.terms) h.1 k.1))
-one_sum most list x (Ok b) (Err q) h k = (let e : (let a : Answer = sum b.times b.terms in a ≡ large q.0 q.1) = one_answer most list x (sum b.times b.terms) (large q.0 q.1) h.1 k in absurd cc)
-one_sum most list x (Err p) (Ok c) h k = (let e : (let a : Answer = large p.0 p.1 in a ≡ sum c.times c.terms) = one_answer most list x (large p.0 p.1) (sum c.times c.terms) h k.1 in absurd cc)
-one_sum most list x (Err p) (Err q) h k = ap Err (turns_same p q (one_answer most list x (large p.0 p.1) (large q.0 q.1) h k))
+one_sum most list x (Ok b) (Err q) h k = (let e : (let a : Answer = sum b.times b.terms in a ≡ large q.turn q.column) = one_answer most list x (sum b.times b.terms) (large q.turn q.column) h.1 k in absurd cc)
+one_sum most list x (Err p) (Ok c) h k = (let e : (let a : Answer = large p.turn p.column in a ≡ sum c.times c.terms) = one_answer most list x (large p.turn p.column) (sum c.times c.terms) h k.1 in absurd cc)
+one_sum most list x (Err p) (Err q) h k = ap Err (turns_same p q (one_answer most list x (large p.turn p.column) (large q.turn q.column) h k))
 
 one_list_of_sums : (most : ℕ) (e : Enumeration) (rows : List Row) (vectors : List (List ℕ)) (o p : Outcome) → AreSums most e rows vectors o → AreSums most e rows vectors p → o ≡ p
 one_list_of_sums most e rows vectors o p h k =

@@ -2,29 +2,26 @@
 use Rattle.std.proofs.Common.{◌≡◌, ◌≢◌, ℕ, ℤ, List, length, Option, sym}
 use Rattle.std.specs.List.{All, find}
 use Rattle.std.specs.Prelude.{Err}
+use Rattle.cone_definitions.specs.Met.{IsMet}
 use Rattle.surface_definitions.specs.Verdict.{both_nonzero, clash_verdict, verdict}
 use Rattle.surface_definitions.specs.declared.VectorFault.TheVariants.{Length}
-use Rattle.cone_core.specs.Faults.{IsMetAt, SolutionFails}
+use Rattle.cone_core.specs.Faults.{SolutionFails}
 use Rattle.cone_core.specs.declared.system.SolutionFault.{SolutionFault}
 use Rattle.cone_core.specs.declared.system.SolutionFault.TheVariants.{Passed, NotZero}
 use Rattle.quad_condition.specs.Faults.{fault_of}
-use Rattle.coordinate_laws.specs.Laws.{IsMet}
 use Rattle.coordinate_laws.proofs.FirstFaults.{length_told, large_told, failure_told, clash_told}
 
 abbrev pub SparseRow : Type 0
 SparseRow = List (ℕ × ℤ)
 
-is_met : (max : ℕ) (x : List ℕ) (row : SparseRow) → IsMetAt max x row → IsMet max x row
-is_met max x row met = ((met.within.plus, met.within.minus), met.zero)
-
 pub length_answer : (max n : ℕ) (rows : List SparseRow) (pairs : List (ℕ × ℕ)) (x : List ℕ) → length x ≢ n → Err (Length (length x)) ≡ verdict max n rows pairs x
 length_answer max n rows pairs x ne = sym (length_told max n rows pairs x ne)
 
 pub row_answer : (max n : ℕ) (rows : List SparseRow) (pairs : List (ℕ × ℕ)) (x : List ℕ) (fault : SolutionFault) → length x ≡ n → SolutionFails max rows x fault → Err (fault_of fault) ≡ verdict max n rows pairs x
-row_answer max n rows pairs x (Passed i) e h = sym (large_told max n rows pairs x i e h.in_range (λ j l. is_met max x _ (h.earlier j l)) h.past)
+row_answer max n rows pairs x (Passed i) e h = sym (large_told max n rows pairs x i e h.in_range h.earlier h.past)
 row_answer max n rows pairs x (NotZero i) e h =
-    sym (failure_told max n rows pairs x i e h.in_range (λ j l. is_met max x _ (h.earlier j l)) (h.within.plus, h.within.minus) h.not_zero)
+    sym (failure_told max n rows pairs x i e h.in_range h.earlier h.within h.not_zero)
 
-pub clash_answer : (max n : ℕ) (rows : List SparseRow) (pairs : List (ℕ × ℕ)) (x : List ℕ) (found : Option (ℕ × ℕ)) → length x ≡ n → All (IsMetAt max x) rows → found ≡ find (both_nonzero x) pairs
+pub clash_answer : (max n : ℕ) (rows : List SparseRow) (pairs : List (ℕ × ℕ)) (x : List ℕ) (found : Option (ℕ × ℕ)) → length x ≡ n → All (IsMet max x) rows → found ≡ find (both_nonzero x) pairs
     → clash_verdict found ≡ verdict max n rows pairs x
-clash_answer max n rows pairs x found e met f = sym (clash_told max n rows pairs x found e (λ j d l. is_met max x _ (met j d l)) f)
+clash_answer max n rows pairs x found e met f = sym (clash_told max n rows pairs x found e met f)

@@ -8,16 +8,21 @@ ghost use Rattle.ray_answers.specs.Answers.{AreRefused, IsBoundedList};
 
 use crate::row_order::rows_in_order;
 use cone_core::{MAX_ENTRY, Ray, System};
-use double_description::{EnumFault, Order, Permit, Picker, Rays, choice, enumerate};
+use double_description::{LargeStep, Order, Permit, Picker, Rays, choice, enumerate};
 use late_columns::vertex_surfaces;
-use no_memory::NoMemory;
+use no_memory::{Failure, NoMemory};
 use number_bounds::columns_fit;
 use solved_rows::{SolveFault, solve};
 use std::alloc::Global;
 use support_bits::Support;
 
 /// The rays, by elimination of the rows in a named order.
-fn walked(alloc: Global, system: &System, order: Order, limit: u128) -> Result<Rays, EnumFault>
+fn walked(
+    alloc: Global,
+    system: &System,
+    order: Order,
+    limit: u128,
+) -> Result<Rays, Failure<LargeStep>>
     requires named { order ≢ Order.Free }
     requires some_limit { 1 ≤ limit }
     requires most_limit { limit ≤ MAX_ENTRY }
@@ -74,7 +79,12 @@ fn found_where_bounded(
 }
 
 /// All rays of the cone of a system, ascending, its rows taken in a named order; refused where a number passes the limit.
-pub fn rays(alloc: Global, system: &System, order: Order, limit: u128) -> Result<Rays, EnumFault>
+pub fn rays(
+    alloc: Global,
+    system: &System,
+    order: Order,
+    limit: u128,
+) -> Result<Rays, Failure<LargeStep>>
     requires named { order ≢ Order.Free }
     requires some_limit { 1 ≤ limit }
     requires most_limit { limit ≤ MAX_ENTRY }

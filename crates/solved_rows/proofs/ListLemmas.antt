@@ -2,11 +2,11 @@
 use Rattle.std.proofs.Common.{◌≡◌, ℕ, List, subst}
 use Rattle.std.specs.Prelude.{Result, Ok, Err, Option, Some, None, IfOk, IfSome}
 use Rattle.cone_definitions.specs.Surfaces.{Clash, IsSurfaceList}
-use Rattle.cone_definitions.specs.Systems.{Cone}
+use Rattle.cone_definitions.specs.Systems.{System}
 use Rattle.row_operation_laws.specs.Solutions.{HaveSameSolutions}
 use Rattle.row_operation_laws.proofs.Kept.{list_kept}
 
-module _ (system solved : Cone) (pairs : List Clash) (width : solved.columns ≡ system.columns) (same : HaveSameSolutions system.columns system.rows solved.rows) where
+module _ (system solved : System) (pairs : List Clash) (width : solved.columns ≡ system.columns) (same : HaveSameSolutions system.columns system.rows solved.rows) where
   list_of : (list : List (List ℕ)) → IsSurfaceList solved.columns solved.rows pairs list → IsSurfaceList system.columns system.rows pairs list
   list_of list h = (list_kept system.columns system.rows solved.rows pairs list same).1 (subst (λ w. IsSurfaceList w solved.rows pairs list) width h)
 

@@ -1,16 +1,15 @@
 -- From the checks of vectors and the list of vertex surfaces to the answer of `decompose`.
-use Rattle.std.proofs.Common.{◌≡◌, ℕ, zero, suc, ◌≤◌, List, [], ◌∷◌, length, Vec, Ok, Err, inl, inr, sym, subst, arith}
-use Rattle.std.specs.declared.alloc.Global.{Global}
+use Rattle.std.proofs.Common.{◌≡◌, ℕ, zero, suc, ◌≤◌, List, [], ◌∷◌, length, Ok, Err, inl, inr, sym, subst, arith}
 use Rattle.std.specs.Prelude.{slice_index}
 use Rattle.std.specs.List.{All, AllZip, slice_index_or}
 use Rattle.std.proofs.lemmas.List.Elements.{All-cons}
+use Rattle.no_memory.specs.declared.Failure.TheVariants.{Fault}
 use Rattle.text_definitions.specs.Written.{limit}
 use Rattle.text_definitions.specs.Text.{Line}
 use Rattle.cone_definitions.specs.Rows.{Row as EquationRow}
-use Rattle.cone_definitions.specs.Elimination.{Named}
 use Rattle.cone_definitions.specs.Listings.{IsPastLimit}
 use Rattle.cone_definitions.specs.declared.Order.TheVariants.{Given}
-use Rattle.double_description.specs.declared.engine.EnumFault.TheVariants.{Large}
+use Rattle.double_description.specs.declared.engine.LargeStep.{LargeStep}
 use Rattle.table_definitions.specs.Table.{Row}
 use Rattle.table_definitions.specs.Grammar.{IsNumber}
 use Rattle.surface_definitions.specs.declared.Coords.{Coords}
@@ -91,14 +90,14 @@ module _ (coords : Coords) (rows : List Row) (equations : List EquationRow) (of_
       }
 
   -- the step past the limit, where all pass
-  pub past_told : (taken : Vec ℕ Global) (kind : Named) (vectors : List (List ℕ)) (o : Outcome) → IsTableRefused most coords rows Given (Large taken kind) → All Passes vectors
-      → o ≡ large_outcome taken.items kind → IsDecomposeAnswer coords most (rows, vectors) o
-  past_told taken kind vectors o r passed e =
+  pub past_told : (large : LargeStep) (vectors : List (List ℕ)) (o : Outcome) → IsTableRefused most coords rows Given (Fault large) → All Passes vectors
+      → o ≡ large_outcome large.order.items large.kind → IsDecomposeAnswer coords most (rows, vectors) o
+  past_told large vectors o r passed e =
       let checks = all_told (IsVerdict coords rows equations) vectors passed in
       record {
         equations = equations;
         of_table = of_table;
         checked = Ok checks.0;
         verdicts = checks.1;
-        told = inr (taken.items, kind, subst (λ (q : List EquationRow). IsPastLimit (table_enumeration coords Given most rows q) taken.items kind) (one_equations coords rows r.0 equations r.1 of_table) r.2, e);
+        told = inr (large.order.items, large.kind, subst (λ (q : List EquationRow). IsPastLimit (table_enumeration coords Given most rows q) large.order.items large.kind) (one_equations coords rows r.0 equations r.1 of_table) r.2, e);
       }

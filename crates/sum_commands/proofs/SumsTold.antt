@@ -5,6 +5,7 @@ use Rattle.std.proofs.lemmas.Grind.{flat_map-append}
 use Rattle.table_definitions.specs.Table.{Row}
 use Rattle.table_definitions.specs.TableText.{table_text}
 use Rattle.sum_definitions.specs.Sums.{IsLargeTurn}
+use Rattle.sum_definitions.specs.declared.LargeTurn.{LargeTurn}
 use Rattle.document_definitions.specs.Blocks.{Block, block_text, blocks_text}
 use Rattle.command_answers.specs.Reads.{all_entries}
 use Rattle.outcome_definitions.specs.Sums.{IsFirstRefused, IsSummed}
@@ -34,7 +35,7 @@ module _ (most : ℕ) (list : List (List ℕ)) (rows : List Row) where
         (more_summed (all_entries (take v vs)) x.items before now told (subst (λ (ys : List ℕ). TellsSum most list ys before now (Ok u)) same h))
 
     -- the sum of one more gets too large
-    pub large_told : (turn column : ℕ) → IsLargeTurn most list xs turn column → IsFirstRefused (IsSummed most list) (all_entries vs) v (turn, column)
-    large_told turn column h =
-        first_refused entries (IsSummed most list) vs v x (turn, column) l e (have_answers (IsSummed most list) (all_entries (take v vs)) told.told told.sums)
-        (subst (λ (ys : List ℕ). IsSummed most list ys (Err (turn, column))) same h)
+    pub large_told : (large : LargeTurn) → IsLargeTurn most list xs large.turn large.column → IsFirstRefused (IsSummed most list) (all_entries vs) v large
+    large_told large h =
+        first_refused entries (IsSummed most list) vs v x large l e (have_answers (IsSummed most list) (all_entries (take v vs)) told.told told.sums)
+        (subst (λ (ys : List ℕ). IsSummed most list ys (Err large)) same h)

@@ -5,7 +5,7 @@ use Rattle.std.specs.List.{All, AllZip}
 use Rattle.no_memory.specs.declared.Failure.{Failure}
 use Rattle.no_memory.specs.declared.Failure.TheVariants.{NoMemory, Fault}
 use Rattle.text_definitions.specs.Written.{limit}
-use Rattle.cone_definitions.specs.Systems.{Cone}
+use Rattle.cone_definitions.specs.Systems.{System}
 use Rattle.table_definitions.specs.Table.{Row}
 use Rattle.sum_definitions.specs.Sums.{HasRays, IsLargeTurn}
 use Rattle.sum_definitions.specs.declared.LargeTurn.{LargeTurn}
@@ -19,7 +19,7 @@ abbrev pub AreInRange : List (List ℕ) → Type 0
 AreInRange vectors = All (λ x. (column : ℕ) → slice_index x column ≤ limit) vectors
 
 -- the list has the rays of each vector
-abbrev pub HaveRays : Cone → List (List ℕ) → List (List ℕ) → Type 0
+abbrev pub HaveRays : System → List (List ℕ) → List (List ℕ) → Type 0
 HaveRays system list vectors = All (HasRays system.columns system.rows list) vectors
 
 -- the block of a vector is appended, or its sum gets too large
@@ -37,9 +37,9 @@ pub record AreSummedIn (most : ℕ) (list : List (List ℕ)) (rows : List Row) (
 -- the table and the blocks of all vectors, or the first whose sum gets too large
 abbrev pub TellsSums : ℕ → List (List ℕ) → List Row → List (List ℕ) → Result (Vec ℕ Global) (Failure (FirstFault LargeTurn)) → Type 0
 TellsSums most list rows vectors (Ok text) = AreSummedIn most list rows vectors text.items
-TellsSums most list rows vectors (Err (Fault first)) = IsFirstRefused (IsSummed most list) vectors first.number (first.fault.turn, first.fault.column)
+TellsSums most list rows vectors (Err (Fault first)) = IsFirstRefused (IsSummed most list) vectors first.number first.fault
 TellsSums most list rows vectors (Err NoMemory) = Unit {0}
 
 -- what is told of the vectors is the outcome
 abbrev pub TellsList : ℕ → List (List ℕ) → List Row → List (List ℕ) → Outcome → Type 0
-TellsList most list rows vectors o = (told : Result (List Block) (ℕ × (ℕ × ℕ))) × AreTold (IsSummed most list) vectors told × (o ≡ sums_outcome rows told)
+TellsList most list rows vectors o = (told : Result (List Block) (ℕ × LargeTurn)) × AreTold (IsSummed most list) vectors told × (o ≡ sums_outcome rows told)

@@ -16,7 +16,7 @@ use crate::refusals::refusal_outcome;
 use crate::writing::append_block;
 use command_answers::{Outcome, fault_outcome, read_table_and_vectors};
 use cone_core::{MAX_ENTRY, Ray, System};
-use double_description::{EnumFault, Order};
+use double_description::Order;
 use gluing_table::{Table, write_table};
 use matching_equations::{Coords, equations};
 use no_memory::{Failure, NoMemory};
@@ -126,8 +126,8 @@ fn answer_by(
     }
     match surfaces_by(alloc, table, system, coords, Order::Given, limit) {
         Ok(list) => summed(alloc, table, system, &list, vectors, limit),
-        Err(EnumFault::Large { order, kind }) => large_outcome(alloc, &order, &kind),
-        Err(EnumFault::NoMemory) => Err(NoMemory),
+        Err(Failure::Fault(large)) => large_outcome(alloc, &large.order, &large.kind),
+        Err(Failure::NoMemory) => Err(NoMemory),
     }
 }
 

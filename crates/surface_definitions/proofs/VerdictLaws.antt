@@ -3,10 +3,11 @@ use Rattle.std.proofs.Common.{◌≡◌, ℕ, zero, suc, ◌+◌, ◌<◌, ◌�
 use Rattle.std.specs.Prelude.{◌==◌, nat_lt, ◌||◌, if◌then◌else◌, All, find, slice_index}
 use Rattle.std.proofs.lemmas.Bool.{eqb-true, eq-eqb, ltb-false, le-ltb, or_parts, or_from, and_cases, and_left, and_right}
 use Rattle.cone_definitions.specs.Rows.{Row as EquationRow, plus_part, minus_part, IsZeroAt}
+use Rattle.cone_definitions.specs.Elimination.{HasPartsWithin}
 use Rattle.surface_definitions.specs.Verdict.{both_nonzero, Verdict, solution, row_fault, or_else, rows_verdict, clash_verdict, verdict}
 use Rattle.surface_definitions.specs.declared.VectorFault.{VectorFault}
 use Rattle.surface_definitions.specs.declared.VectorFault.TheVariants.{Length, Large, NotSolution}
-use Rattle.surface_definitions.specs.Laws.{HasPartsUpTo, IsAccepted}
+use Rattle.surface_definitions.specs.Laws.{IsAccepted}
 
 -- nothing is wrong at a row exactly where it is 0 and no part is large
 fault_test : (max i : ℕ) (row : EquationRow) (xs : List ℕ) (l e : Bool) → (if l then Some (Large i) else (if e then None else Some (NotSolution i))) ≡ None → (l ≡ false) × (e ≡ true)
@@ -14,7 +15,7 @@ fault_test max i row xs true e h = absurd cc
 fault_test max i row xs false true h = (refl, refl)
 fault_test max i row xs false false h = absurd cc
 
-row_fault-none : (max i : ℕ) (row : EquationRow) (xs : List ℕ) → row_fault max i row xs ≡ None → IsZeroAt row xs × HasPartsUpTo max xs row
+row_fault-none : (max i : ℕ) (row : EquationRow) (xs : List ℕ) → row_fault max i row xs ≡ None → IsZeroAt row xs × HasPartsWithin max row xs
 row_fault-none max i row xs h =
     let t : ((nat_lt max (plus_part row xs) || nat_lt max (minus_part row xs)) ≡ false) × ((plus_part row xs == minus_part row xs) ≡ true) =
     fault_test max i row xs (nat_lt max (plus_part row xs) || nat_lt max (minus_part row xs)) (plus_part row xs == minus_part row xs) h in
@@ -24,7 +25,7 @@ row_fault-none max i row xs h =
 abbrev pub fault_by : ℕ → Bool → Bool → Option VectorFault
 fault_by i l e = if l then Some (Large i) else (if e then None else Some (NotSolution i))
 
-pub none-row_fault : (max i : ℕ) (row : EquationRow) (xs : List ℕ) → IsZeroAt row xs → HasPartsUpTo max xs row → row_fault max i row xs ≡ None
+pub none-row_fault : (max i : ℕ) (row : EquationRow) (xs : List ℕ) → IsZeroAt row xs → HasPartsWithin max row xs → row_fault max i row xs ≡ None
 none-row_fault max i row xs z p =
     let l : (nat_lt max (plus_part row xs) || nat_lt max (minus_part row xs)) ≡ false = or_from (nat_lt max (plus_part row xs)) (nat_lt max (minus_part row xs)) (le-ltb max (plus_part row xs) p.0) (le-ltb max (minus_part row xs) p.1) in
     let e : (plus_part row xs == minus_part row xs) ≡ true = eq-eqb (plus_part row xs) (minus_part row xs) z in
@@ -38,20 +39,20 @@ no_solution max i row xs false false v h = absurd cc
 
 -- the verdict over the rows is a solution exactly where nothing is wrong at any and the rest is
 rows_solve : (max i : ℕ) (rows : List EquationRow) (xs : List ℕ) (v : Verdict) → rows_verdict max i rows xs v ≡ solution
-    → All (λ (row : EquationRow). IsZeroAt row xs) rows × All (HasPartsUpTo max xs) rows × (v ≡ solution)
+    → All (λ (row : EquationRow). IsZeroAt row xs) rows × All (λ (row : EquationRow). HasPartsWithin max row xs) rows × (v ≡ solution)
 rows_solve max i [] xs v h = ((λ k d l. absurd (omega arith)), (λ k d l. absurd (omega arith)), h)
 rows_solve max i (row ∷ rows) xs v h =
     let parts : (row_fault max i row xs ≡ None) × (rows_verdict max (i + 1) rows xs v ≡ solution) =
     no_solution max i row xs (nat_lt max (plus_part row xs) || nat_lt max (minus_part row xs)) (plus_part row xs == minus_part row xs) (rows_verdict max (i + 1) rows xs v) h in
-    let here : IsZeroAt row xs × HasPartsUpTo max xs row = row_fault-none max i row xs parts.0 in
-    let more : All (λ (r : EquationRow). IsZeroAt r xs) rows × All (HasPartsUpTo max xs) rows × (v ≡ solution) = rows_solve max (i + 1) rows xs v parts.1 in
-    (all_with (λ (r : EquationRow). IsZeroAt r xs) row rows here.0 more.0, all_with (HasPartsUpTo max xs) row rows here.1 more.1, more.2)
+    let here : IsZeroAt row xs × HasPartsWithin max row xs = row_fault-none max i row xs parts.0 in
+    let more : All (λ (r : EquationRow). IsZeroAt r xs) rows × All (λ (row : EquationRow). HasPartsWithin max row xs) rows × (v ≡ solution) = rows_solve max (i + 1) rows xs v parts.1 in
+    (all_with (λ (r : EquationRow). IsZeroAt r xs) row rows here.0 more.0, all_with (λ (row : EquationRow). HasPartsWithin max row xs) row rows here.1 more.1, more.2)
   where
     all_with : (P : EquationRow → Type 0) (r : EquationRow) (rs : List EquationRow) → P r → All P rs → All P (r ∷ rs)
     all_with P r rs p ps zero d l = p
     all_with P r rs p ps (suc k) d l = ps k d (omega arith)
 
-solve_rows : (max i : ℕ) (rows : List EquationRow) (xs : List ℕ) (v : Verdict) → All (λ (row : EquationRow). IsZeroAt row xs) rows → All (HasPartsUpTo max xs) rows → rows_verdict max i rows xs v ≡ v
+solve_rows : (max i : ℕ) (rows : List EquationRow) (xs : List ℕ) (v : Verdict) → All (λ (row : EquationRow). IsZeroAt row xs) rows → All (λ (row : EquationRow). HasPartsWithin max row xs) rows → rows_verdict max i rows xs v ≡ v
 solve_rows max i [] xs v z p = refl
 solve_rows max i (row ∷ rows) xs v z p =
     let first : 0 < length (row ∷ rows) = omega arith in
@@ -101,7 +102,7 @@ unfolding verdict
 accepted_by max n rows pairs xs h =
     let l : ((length xs == n) ≡ true) × (rows_verdict max 0 rows xs (clash_verdict (find (both_nonzero xs) pairs)) ≡ solution) =
     length_test (length xs == n) (rows_verdict max 0 rows xs (clash_verdict (find (both_nonzero xs) pairs))) (length xs) h in
-    let r : All (λ (row : EquationRow). IsZeroAt row xs) rows × All (HasPartsUpTo max xs) rows × (clash_verdict (find (both_nonzero xs) pairs) ≡ solution) =
+    let r : All (λ (row : EquationRow). IsZeroAt row xs) rows × All (λ (row : EquationRow). HasPartsWithin max row xs) rows × (clash_verdict (find (both_nonzero xs) pairs) ≡ solution) =
     rows_solve max 0 rows xs (clash_verdict (find (both_nonzero xs) pairs)) l.1 in
     record {
       solves = record { width = eqb-true (length xs) n l.0; zero = r.0 };

@@ -1,10 +1,11 @@
 -- Laws over vectors in text, verdicts and equations.
-use Rattle.std.specs.Prelude.{◌≡◌, ℕ, ◌<◌, List, [], Ok, All, ◌↔◌, ◌≤◌}
+use Rattle.std.specs.Prelude.{◌≡◌, ℕ, ◌<◌, List, [], Ok, All, ◌↔◌}
 use Rattle.text_definitions.specs.Reading.{Reading}
 use Rattle.cone_text_definitions.specs.VectorText.{vector_at}
 use Rattle.surface_definitions.specs.Grammar.{IsVectorLine}
-use Rattle.cone_definitions.specs.Rows.{Row as EquationRow, IsZeroAt, plus_part, minus_part, IsSolution}
+use Rattle.cone_definitions.specs.Rows.{Row as EquationRow, IsZeroAt, IsSolution}
 use Rattle.cone_definitions.specs.Surfaces.{IsAdmissible}
+use Rattle.cone_definitions.specs.Elimination.{HasPartsWithin}
 use Rattle.surface_definitions.specs.Verdict.{verdict, solution}
 use Rattle.surface_definitions.specs.Equations.{Equation, row_of, Holds}
 use Rattle.std.specs.List.{AllByRecursion}
@@ -20,15 +21,11 @@ pub record ReadsVector (c : Reading) (xs : List ℕ) : Type 0 where
 abbrev pub VectorLinesAreRead : Type 0
 VectorLinesAreRead = (c : Reading) (xs : List ℕ) → ReadsVector c xs ↔ IsVectorLine c.current xs
 
--- no part of a row at the vector passes max
-abbrev pub HasPartsUpTo : ℕ → List ℕ → EquationRow → Type 0
-HasPartsUpTo max xs row = (plus_part row xs ≤ max) × (minus_part row xs ≤ max)
-
 -- the verdict is `solution` exactly at the admissible solutions of which no part passes max
 pub record IsAccepted (max n : ℕ) (rows : List EquationRow) (pairs : List (ℕ × ℕ)) (xs : List ℕ) : Type 0 where
   pub solves : IsSolution n rows xs
   pub admissible : IsAdmissible pairs xs
-  pub within : All (HasPartsUpTo max xs) rows
+  pub within : All (λ row. HasPartsWithin max row xs) rows
 
 abbrev pub VerdictsAreRight : Type 0
 VerdictsAreRight =

@@ -1,5 +1,7 @@
 -- What an enumeration of a table's surfaces gives, the rows taken in a named order.
 use Rattle.std.specs.Prelude.{◌≡◌, ℕ, List}
+use Rattle.no_memory.specs.declared.Failure.{Failure}
+use Rattle.no_memory.specs.Failures.{IfFault}
 use Rattle.table_definitions.specs.Table.{Row}
 use Rattle.surface_definitions.specs.declared.Coords.{Coords}
 use Rattle.surface_definitions.specs.QuadEquations.{AreEquations}
@@ -8,8 +10,7 @@ use Rattle.cone_definitions.specs.Rows.{Row as EquationRow}
 use Rattle.cone_definitions.specs.Surfaces.{IsSurfaceList}
 use Rattle.cone_definitions.specs.Listings.{Enumeration, IsListed, IsPastLimit}
 use Rattle.cone_definitions.specs.declared.Order.{Order}
-use Rattle.double_description.specs.declared.engine.EnumFault.{EnumFault}
-use Rattle.double_description.specs.declared.engine.EnumFault.TheVariants.{Large, NoMemory}
+use Rattle.double_description.specs.declared.engine.LargeStep.{LargeStep}
 
 -- the surface list, which is the only one, its rows taken in the order's own order
 pub record IsOnlyListing (e : Enumeration) (list : List (List ℕ)) : Type 0 where
@@ -23,7 +24,6 @@ AreTableSurfaces limit coords rows order list =
     (equations : List EquationRow) × AreEquations coords rows equations × IsOnlyListing (table_enumeration coords order limit rows equations) list
 
 -- why a table has no list
-abbrev pub IsTableRefused : ℕ → Coords → List Row → Order → EnumFault → Type 0
-IsTableRefused limit coords rows order (Large taken kind) =
-    (equations : List EquationRow) × AreEquations coords rows equations × IsPastLimit (table_enumeration coords order limit rows equations) taken.items kind
-IsTableRefused limit coords rows order NoMemory = Unit {0}
+abbrev pub IsTableRefused : ℕ → Coords → List Row → Order → Failure LargeStep → Type 0
+IsTableRefused limit coords rows order failure =
+    IfFault failure (λ step. (equations : List EquationRow) × AreEquations coords rows equations × IsPastLimit (table_enumeration coords order limit rows equations) step.order.items step.kind)

@@ -12,11 +12,11 @@ ghost use Rattle.surface_list.specs.Surfaces.{AreTableSurfaces, IsTableRefused};
 
 use crate::bounds::numbers_fit;
 use cone_core::{MAX_ENTRY, Ray, System};
-use double_description::{EnumFault, Order, Permit, Picker, Rays, choice, enumerate};
+use double_description::{LargeStep, Order, Permit, Picker, Rays, choice, enumerate};
 use gluing_table::Table;
 use late_columns::vertex_surfaces;
 use matching_equations::{Coords, equations};
-use no_memory::NoMemory;
+use no_memory::{Failure, NoMemory};
 use normal_discs::{columns_each, is_quad_or_octagon};
 use quad_condition::{Masks, clash_list};
 use solved_rows::{SolveFault, solve};
@@ -31,7 +31,7 @@ fn enumerated(
     system: &System,
     order: Order,
     limit: u128,
-) -> Result<Rays, EnumFault>
+) -> Result<Rays, Failure<LargeStep>>
     requires tets { tets ≤ max_tets }
     requires columns { system.now.columns ≡ coordinates.columns coords tets }
     requires named { order ≢ Order.Free }
@@ -115,7 +115,7 @@ pub fn surfaces_by(
     coords: Coords,
     order: Order,
     limit: u128,
-) -> Result<Vec<Ray>, EnumFault>
+) -> Result<Vec<Ray>, Failure<LargeStep>>
     requires columns { system.now.columns ≡ coordinates.columns coords (length table.now) }
     requires equations { AreEquations coords table.now system.now.rows }
     requires named { order ≢ Order.Free }
@@ -143,7 +143,7 @@ pub fn surfaces(
     coords: Coords,
     order: Order,
     limit: u128,
-) -> Result<Vec<Ray>, EnumFault>
+) -> Result<Vec<Ray>, Failure<LargeStep>>
     requires named { order ≢ Order.Free }
     requires some_limit { 1 ≤ limit }
     requires most_limit { limit ≤ MAX_ENTRY }

@@ -5,8 +5,8 @@ ghost use Rattle.double_description.specs.Orders.{ChoosesBy};
 
 use crate::sample_cones::{are_rays, cone};
 use cone_core::{MAX_ENTRY, System};
-use double_description::{EnumFault, LargeKind, Order, Permit, Picker, choice, enumerate};
-use no_memory::NoMemory;
+use double_description::{LargeKind, LargeStep, Order, Permit, Picker, choice, enumerate};
+use no_memory::{Failure, NoMemory};
 use std::alloc::Global;
 use std::cell::Cell;
 use std::process::Abort;
@@ -41,7 +41,7 @@ fn rays_are(
             assert_eq!(rt; rays.order.as_slice(), rows);
             Ok(true)
         }
-        Err(EnumFault::Large { order, kind }) => {
+        Err(Failure::Fault(LargeStep { order, kind })) => {
             assert_eq!(rt; order.as_slice(), rows);
             match kind {
                 LargeKind::Value(x) => are_rays(rt, &[x], vectors),
@@ -49,7 +49,7 @@ fn rays_are(
             }
             Ok(false)
         }
-        Err(EnumFault::NoMemory) => Err(NoMemory)?,
+        Err(Failure::NoMemory) => Err(NoMemory)?,
     }
 }
 

@@ -7,12 +7,13 @@ use Rattle.std.proofs.Math.Nat.{mul-le-mul_left}
 use Rattle.text_definitions.specs.Written.{limit}
 use Rattle.cone_definitions.specs.Rows.{Row as EquationRow, plus_part, minus_part, positive_coefficient, negative_coefficient}
 use Rattle.cone_definitions.specs.Surfaces.{IsVertexSurface, IsSurfaceList}
+use Rattle.cone_definitions.specs.Elimination.{HasPartsWithin}
 use Rattle.table_definitions.specs.Table.{Row}
 use Rattle.surface_definitions.specs.declared.Coords.{Coords}
 use Rattle.surface_definitions.specs.declared.VectorFault.TheVariants.{Large}
 use Rattle.surface_definitions.specs.QuadEquations.{AreEquations}
 use Rattle.surface_definitions.specs.Coordinates.{columns, clash_list}
-use Rattle.surface_definitions.specs.Laws.{HasPartsUpTo, IsAccepted}
+use Rattle.surface_definitions.specs.Laws.{IsAccepted}
 use Rattle.surface_definitions.proofs.VerdictLaws.{accepted_by}
 use Rattle.vector_definitions.specs.Answers.{IsFit}
 use Rattle.sum_definitions.specs.Sums.{Term, IsSum, HasRays}
@@ -124,7 +125,7 @@ module _ (coords : Coords) (rows : List Row) (equations : List EquationRow) wher
 -- ---- the blocks of sums
 
 -- a lesser vector has lesser parts
-parts_below : (equation : EquationRow) (v x : List ℕ) → ((j : ℕ) → slice_index v j ≤ slice_index x j) → HasPartsUpTo limit x equation → HasPartsUpTo limit v equation
+parts_below : (equation : EquationRow) (v x : List ℕ) → ((j : ℕ) → slice_index v j ≤ slice_index x j) → HasPartsWithin limit equation x → HasPartsWithin limit equation v
 parts_below equation v x below parts =
     let plus : plus_part equation v ≤ plus_part equation x =
     sum_by-le-sum_by (λ (t : ℕ × ℤ). positive_coefficient t.1 * slice_index v t.0) (λ (t : ℕ × ℤ). positive_coefficient t.1 * slice_index x t.0) equation (λ t. mul-le-mul_left (positive_coefficient t.1) (below t.0)) in

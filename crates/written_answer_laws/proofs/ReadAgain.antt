@@ -20,6 +20,7 @@ use Rattle.surface_definitions.specs.Coordinates.{columns}
 use Rattle.surface_definitions.specs.QuadEquations.{AreEquations}
 use Rattle.surface_definitions.specs.TableSurfaces.{table_enumeration}
 use Rattle.vector_definitions.specs.Answers.{IsFit}
+use Rattle.sum_definitions.specs.declared.LargeTurn.{LargeTurn}
 use Rattle.document_definitions.specs.Documents.{worded, next_table_at, each_line_from, table_and_lines, vectors_document}
 use Rattle.document_definitions.specs.Blocks.{Block, most_terms, blocks_text, blocks_document}
 use Rattle.document_laws.proofs.SumDocuments.{blocks_document_read}
@@ -47,7 +48,7 @@ module _ (coords : Coords) (most : ℕ) (rows : List Row) (equations : List Equa
   abbrev Listing : Enumeration
   Listing = table_enumeration coords Given most rows equations
 
-  told_sums : All (IsFit coords rows equations) vectors → (taken : List ℕ) (list : List (List ℕ)) → IsListed Listing taken list → (told : Result (List Block) (ℕ × (ℕ × ℕ))) → AreTold (IsSummed most list) vectors told
+  told_sums : All (IsFit coords rows equations) vectors → (taken : List ℕ) (list : List (List ℕ)) → IsListed Listing taken list → (told : Result (List Block) (ℕ × LargeTurn)) → AreTold (IsSummed most list) vectors told
       → o ≡ sums_outcome rows told → AreToldAsSums coords most rows vectors o.text
   told_sums fit taken list listed (Ok blocks) sums same = record {
     equations = equations;

@@ -6,16 +6,15 @@ use Rattle.std.proofs.lemmas.List.{get_or_append_left, length-append}
 use Rattle.std.proofs.lemmas.List.Elements.{All-cons, All-get_or, All-nil}
 use Rattle.text_definitions.specs.Written.{limit}
 use Rattle.cone_definitions.specs.Rows.{Row as EquationRow, IsZeroAt, IsSolution}
-use Rattle.cone_definitions.specs.Elimination.{HasLargePart}
+use Rattle.cone_definitions.specs.Elimination.{HasLargePart, HasPartsWithin}
+use Rattle.cone_definitions.specs.Met.{IsMet}
 use Rattle.cone_definitions.specs.Surfaces.{IsAdmissible}
 use Rattle.cone_definitions.proofs.Decided.{parts_or_large}
 use Rattle.table_definitions.specs.Table.{Row}
 use Rattle.surface_definitions.specs.Coordinates.{columns, clash_list}
 use Rattle.surface_definitions.specs.declared.Coords.{Coords}
 use Rattle.surface_definitions.specs.declared.VectorFault.TheVariants.{Large}
-use Rattle.surface_definitions.specs.Laws.{HasPartsUpTo}
 use Rattle.surface_definitions.proofs.VerdictLaws.{accepted-verdict}
-use Rattle.coordinate_laws.specs.Laws.{IsMet}
 use Rattle.coordinate_laws.proofs.FirstFaults.{large_told}
 use Rattle.vector_definitions.specs.Answers.{IsFit, IsUnfit}
 use Rattle.written_answer_laws.specs.Firsts.{IsFirst, IsFirstLarge}
@@ -50,13 +49,13 @@ module _ {A W : Type 0} (Passes : A → Type 0) (Fails : W → A → Type 0) (de
   ]
 
 -- no part passes the limit, or there is a first equation of which one does
-pub small_or_large : (equations : List EquationRow) (x : List ℕ) → All (HasPartsUpTo limit x) equations ⊎ ((row : ℕ) × IsFirstLarge equations x row)
-small_or_large equations x = elim (all_or_first (HasPartsUpTo limit x) (λ (w : Unit {0}) (equation : EquationRow). HasLargePart limit equation x) decide equations) [
+pub small_or_large : (equations : List EquationRow) (x : List ℕ) → All (λ (equation : EquationRow). HasPartsWithin limit equation x) equations ⊎ ((row : ℕ) × IsFirstLarge equations x row)
+small_or_large equations x = elim (all_or_first (λ (equation : EquationRow). HasPartsWithin limit equation x) (λ (w : Unit {0}) (equation : EquationRow). HasLargePart limit equation x) decide equations) [
   | inl all ↦ inl all
   | inr f ↦ inr (f.0, f.2)
 ]
   where
-    decide : (equation : EquationRow) → HasPartsUpTo limit x equation ⊎ ((w : Unit {0}) × HasLargePart limit equation x)
+    decide : (equation : EquationRow) → HasPartsWithin limit equation x ⊎ ((w : Unit {0}) × HasLargePart limit equation x)
     decide equation = elim (parts_or_large limit equation x) [
       | inl parts ↦ inl parts
       | inr large ↦ inr (tt, large)
@@ -68,7 +67,7 @@ pub record IsAdmissibleSolution (coords : Coords) (rows : List Row) (equations :
   pub admissible : IsAdmissible (clash_list coords (length rows)) x
 
 module _ (coords : Coords) (rows : List Row) (equations : List EquationRow) (x : List ℕ) (s : IsAdmissibleSolution coords rows equations x) where
-  pub small_is_fit : All (HasPartsUpTo limit x) equations → IsFit coords rows equations x
+  pub small_is_fit : All (λ (equation : EquationRow). HasPartsWithin limit equation x) equations → IsFit coords rows equations x
   small_is_fit within = accepted-verdict limit (columns coords (length rows)) equations (clash_list coords (length rows)) x (record { solves = s.solves; admissible = s.admissible; within = within })
 
   pub large_is_unfit : (row : ℕ) → IsFirstLarge equations x row → IsUnfit coords rows equations x (Large row)
@@ -89,10 +88,10 @@ module _ (coords : Coords) (rows : List Row) (equations : List EquationRow) (x :
       met j l =
           let same : slice_index_or equations j [] ≡ slice_index_or f.before j [] =
           ap (λ (es : List EquationRow). slice_index_or es j []) f.stands ∙ get_or_append_left f.before (f.value ∷ f.after) [] j l in
-          let parts : HasPartsUpTo limit x (slice_index_or f.before j []) = All-get_or (HasPartsUpTo limit x) f.before j [] l f.passed in
+          let parts : HasPartsWithin limit (slice_index_or f.before j []) x = All-get_or (λ (equation : EquationRow). HasPartsWithin limit equation x) f.before j [] l f.passed in
           let here : j < length equations = (let n = f.number_is in let r = in_range in omega arith) in
           let zero : IsZeroAt (slice_index_or equations j []) x = All-get_or (λ (equation : EquationRow). IsZeroAt equation x) equations j [] here s.solves.zero in
-          (subst (HasPartsUpTo limit x) (sym same) parts, zero)
+          record { within = subst (λ (equation : EquationRow). HasPartsWithin limit equation x) (sym same) parts; zero = zero }
 
 -- such a solution is told to be one, or the first equation of which a part passes the limit
 pub solutions_are_told : (coords : Coords) (rows : List Row) (equations : List EquationRow) (x : List ℕ) → IsSolution (columns coords (length rows)) equations x

@@ -4,6 +4,7 @@ use Rattle.std.specs.Prelude.{◌≡◌, ◌↔◌, ◌⊎◌, ℕ, ◌≤◌, L
 use Rattle.std.specs.List.{All, AllZip}
 use Rattle.text_definitions.specs.Written.{limit}
 use Rattle.cone_definitions.specs.Rows.{Row as EquationRow}
+use Rattle.cone_definitions.specs.Elimination.{HasPartsWithin}
 use Rattle.cone_definitions.specs.Listings.{IsListed}
 use Rattle.cone_definitions.specs.declared.Order.TheVariants.{Given}
 use Rattle.table_definitions.specs.Table.{Row, IsTable}
@@ -11,7 +12,6 @@ use Rattle.surface_definitions.specs.declared.Coords.{Coords}
 use Rattle.surface_definitions.specs.declared.VectorFault.TheVariants.{Large}
 use Rattle.surface_definitions.specs.QuadEquations.{AreEquations}
 use Rattle.surface_definitions.specs.TableSurfaces.{table_enumeration}
-use Rattle.surface_definitions.specs.Laws.{HasPartsUpTo}
 use Rattle.vector_definitions.specs.Answers.{IsFit}
 use Rattle.sum_definitions.specs.Sums.{Term}
 use Rattle.document_definitions.specs.Documents.{vectors_document}
@@ -51,7 +51,7 @@ WrittenSumsAreRead =
 
 -- no part of an equation passes the limit at the term, and at none of the block's terms
 abbrev pub IsSmallTerm : List EquationRow → Term → Type 0
-IsSmallTerm equations term = All (HasPartsUpTo limit term.vector) equations
+IsSmallTerm equations term = All (λ equation. HasPartsWithin limit equation term.vector) equations
 
 abbrev pub IsSmallBlock : List EquationRow → Block → Type 0
 IsSmallBlock equations block = All (IsSmallTerm equations) block.terms

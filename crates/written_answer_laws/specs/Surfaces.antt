@@ -3,13 +3,13 @@ use Rattle.std.specs.Prelude.{◌≡◌, ◌⊎◌, ℕ, List, ◌++◌, length,
 use Rattle.text_definitions.specs.Written.{limit}
 use Rattle.cone_definitions.specs.Rows.{Row as EquationRow}
 use Rattle.cone_definitions.specs.Surfaces.{IsVertexSurface, IsSurfaceList}
+use Rattle.cone_definitions.specs.Elimination.{HasPartsWithin}
 use Rattle.cone_definitions.specs.declared.Order.{Order}
 use Rattle.table_definitions.specs.Table.{Row}
 use Rattle.table_definitions.specs.TableText.{table_text}
 use Rattle.surface_definitions.specs.Coordinates.{columns, clash_list}
 use Rattle.surface_definitions.specs.declared.Coords.{Coords}
 use Rattle.surface_definitions.specs.declared.VectorFault.TheVariants.{Large}
-use Rattle.surface_definitions.specs.Laws.{HasPartsUpTo}
 use Rattle.surface_definitions.specs.QuadEquations.{AreEquations}
 use Rattle.surface_definitions.specs.Verdict.{solution}
 use Rattle.vector_definitions.specs.Answers.{verdict_in}
@@ -41,7 +41,7 @@ SurfacesAreRead =
 
 -- the verdict on x is that it is a solution where no part passes the limit, and else the first equation of which one does
 abbrev pub IsSolutionUnlessLarge : Coords → List Row → List EquationRow → List ℕ → Type 0
-IsSolutionUnlessLarge coords rows equations x = (All (HasPartsUpTo limit x) equations × (verdict_in coords rows equations x ≡ solution))
+IsSolutionUnlessLarge coords rows equations x = (All (λ equation. HasPartsWithin limit equation x) equations × (verdict_in coords rows equations x ≡ solution))
     ⊎ ((row : ℕ) × IsFirstLarge equations x row × (verdict_in coords rows equations x ≡ Err (Large row)))
 
 -- this is the verdict on a vertex surface

@@ -10,7 +10,7 @@ pub returns-in-Ok : goal.returns-in-Ok
 returns-in-Ok c = IfOk-weaker c.list_outcome.result _ _
     (λ o same. table_listed _ _ _ _ c.in-Ok.surfaces.items o c.in-Ok.ensures.ok (same ∙ ap (list_outcome (codes "surfaces")) c.deref.ensures.value)) c.list_outcome.ensures
 
-pub returns-in-Err-Large : goal.returns-in-Err-Large
-returns-in-Err-Large c = let refused = rw c.in-Err-Large.field-0-is at c.in-Err-Large.ensures.err in IfOk-weaker c.large_outcome.result _ _
-    (λ o same. table_large _ _ _ _ c.in-Err-Large.order c.in-Err-Large.kind o refused
-    (same ∙ ap (λ (taken : List ℕ). large_outcome taken c.in-Err-Large.kind) c.deref-in-Err-Large.ensures.value)) c.large_outcome.ensures
+pub returns-in-Err-Fault : goal.returns-in-Err-Fault
+returns-in-Err-Fault c = let refused = rw c.in-Err-Fault.field-0-is at c.in-Err-Fault.ensures.err in IfOk-weaker c.large_outcome.result _ _
+    (λ o same. table_large _ _ _ _ c.in-Err-Fault.large o refused
+    (same ∙ ap (λ (taken : List ℕ). large_outcome taken c.in-Err-Fault.large.kind) c.deref-in-Err-Fault.ensures.value)) c.large_outcome.ensures

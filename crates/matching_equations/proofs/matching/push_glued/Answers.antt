@@ -1,5 +1,5 @@
 use Rattle.std.proofs.Common.{◌≡◌, [], ◌∷◌, ◌+◌, ◌++◌, length, arith, ap, sym, ◌∙◌}
-use Rattle.cone_definitions.specs.Systems.{Cone}
+use Rattle.cone_definitions.specs.Systems.{System}
 use Rattle.table_definitions.specs.Table.{Face}
 use Rattle.surface_definitions.specs.Equations.{matching, row_of}
 use Rattle.matching_equations.proofs.Matched.{glued_before, glued_push, glued_skip, glued_whole}
@@ -11,11 +11,11 @@ loop-vertex-preserved c =
     let face : c.face.inside.face ≡ c.args.face.face = ap (λ (x : Face). x.face) c.face.view_is in
     elim c.if-vertex-opposite.branch [
       | then-vertex-opposite+in_ok-push_equation w ↦
-          let e : length c.if-vertex-opposite.system.rows ≡ length w.push_equation.new.system.rows = ap (λ (s : Cone). length s.rows) w.system-is in
+          let e : length c.if-vertex-opposite.system.rows ≡ length w.push_equation.new.system.rows = ap (λ (s : System). length s.rows) w.system-is in
           let one : length w.push_equation.new.system.rows ≡ length c.loop-vertex.system.rows + 1 = w.in_ok-push_equation.ensures.one_more in
           record {
-            columns = ap (λ (s : Cone). s.columns) w.system-is ∙ w.in_ok-push_equation.ensures.columns ∙ c.loop-vertex.invariant.columns;
-            rows = ap (λ (s : Cone). s.rows) w.system-is
+            columns = ap (λ (s : System). s.columns) w.system-is ∙ w.in_ok-push_equation.ensures.columns ∙ c.loop-vertex.invariant.columns;
+            rows = ap (λ (s : System). s.rows) w.system-is
                 ∙ glued_push c.args.coords c.args.system.now.columns c.args.face c.args.glue c.loop-vertex.vertex _ c.loop-vertex.system.rows _ (λ same. w.if-vertex-opposite.true (same ∙ sym face))
                 c.loop-vertex.invariant.rows
                 (w.in_ok-push_equation.ensures.rows
@@ -23,10 +23,10 @@ loop-vertex-preserved c =
             few = omega arith;
           }
       | else-vertex-opposite w ↦
-          let e : length c.if-vertex-opposite.system.rows ≡ length c.loop-vertex.system.rows = ap (λ (s : Cone). length s.rows) w.system-is in
+          let e : length c.if-vertex-opposite.system.rows ≡ length c.loop-vertex.system.rows = ap (λ (s : System). length s.rows) w.system-is in
           record {
-            columns = ap (λ (s : Cone). s.columns) w.system-is ∙ c.loop-vertex.invariant.columns;
-            rows = ap (λ (s : Cone). s.rows) w.system-is
+            columns = ap (λ (s : System). s.columns) w.system-is ∙ c.loop-vertex.invariant.columns;
+            rows = ap (λ (s : System). s.rows) w.system-is
                 ∙ glued_skip c.args.coords c.args.system.now.columns c.args.face c.args.glue c.loop-vertex.vertex _ _ (w.if-vertex-opposite.false ∙ face) c.loop-vertex.invariant.rows;
             few = omega arith;
           }

@@ -26,9 +26,9 @@ returns-in-Ok c = IfOk-weaker c.summed.result _ _
     (subst (λ (list : List (List ℕ)). TellsList c.args.limit list c.args.table.now (all_entries c.args.vectors.now) o) c.deref.ensures.value t))
     c.summed.ensures
 
-pub returns-in-Err-Large : goal.returns-in-Err-Large
-returns-in-Err-Large c = let refused = rw c.in-Err-Large.field-0-is at c.in-Err-Large.ensures.err in IfOk-weaker c.large_outcome.result _ _
+pub returns-in-Err-Fault : goal.returns-in-Err-Fault
+returns-in-Err-Fault c = let refused = rw c.in-Err-Fault.field-0-is at c.in-Err-Fault.ensures.err in IfOk-weaker c.large_outcome.result _ _
     (λ o e. past_told c.args.coords c.args.table.now c.args.system.now.rows c.requires.equations c.args.limit
-    c.in-Err-Large.order c.in-Err-Large.kind (all_entries c.args.vectors.now) o refused c.in_default.ensures
-    (e ∙ ap (λ (taken : List ℕ). large_outcome taken c.in-Err-Large.kind) c.deref-in-Err-Large.ensures.value))
+    c.in-Err-Fault.large (all_entries c.args.vectors.now) o refused c.in_default.ensures
+    (e ∙ ap (λ (taken : List ℕ). large_outcome taken c.in-Err-Fault.large.kind) c.deref-in-Err-Fault.ensures.value))
     c.large_outcome.ensures

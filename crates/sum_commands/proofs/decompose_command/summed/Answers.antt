@@ -15,7 +15,7 @@ returns-in-Ok c = (Ok c.in-Ok.ensures.told, c.in-Ok.ensures.sums, c.built.ensure
 pub returns-in-Err-Fault : goal.returns-in-Err-Fault
 returns-in-Err-Fault c = IfOk-weaker c.refusal_outcome.result _ _
     (λ o e. (
-      Err (c.in-Err-Fault.first.number, (c.in-Err-Fault.first.fault.turn, c.in-Err-Fault.first.fault.column)),
+      Err (c.in-Err-Fault.first.number, c.in-Err-Fault.first.fault),
       subst (λ (f : Failure (FirstFault LargeTurn)). TellsSums c.args.limit c.args.list.now c.args.table.now (all_entries c.args.vectors.now) (Err f)) c.in-Err-Fault.field-0-is c.in-Err-Fault.ensures,
       e,
     ))

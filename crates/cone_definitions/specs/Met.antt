@@ -1,0 +1,13 @@
+-- Rows that are met at a vector, in numbers up to a limit.
+use Rattle.std.specs.Prelude.{ℕ, ◌<◌, List, [], slice_index_or}
+use Rattle.cone_definitions.specs.Rows.{Row, IsZeroAt}
+use Rattle.cone_definitions.specs.Elimination.{HasPartsWithin}
+
+-- the row is 0 at the vector, and no part passes the limit
+pub record IsMet (limit : ℕ) (x : List ℕ) (row : Row) : Type 0 where
+  pub within : HasPartsWithin limit row x
+  pub zero : IsZeroAt row x
+
+-- so are the first i rows
+abbrev pub AreMetBefore : ℕ → List Row → List ℕ → ℕ → Type 0
+AreMetBefore limit rows x i = (j : ℕ) → j < i → IsMet limit x (slice_index_or rows j [])
