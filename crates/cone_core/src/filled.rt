@@ -4,23 +4,21 @@ ghost use Rattle.std.specs.Prelude.{◌≡◌, ◌+◌, ◌*◌, ◌<◌, ◌≤
 ghost use Rattle.cone_definitions.specs.Vectors.{multiple, sum_of};
 ghost use Rattle.cone_core.specs.Filled.{AreFilled, NamesColumns, WordsNameColumns};
 
-use crate::numbers::MAX_ENTRY;
-use crate::ray::sum_within;
+use crate::small::small_sum;
 use no_memory::NoMemory;
 use std::alloc::Global;
 
-/// Fills in the sums at 64 columns from one on, those whose bits are set. False where one passes the limit.
+/// Fills in the sums at 64 columns from one on, those whose bits are set. False where one passes the limit or 64 bits.
 fn fill_word(
-    sums: &mut Vec<u128>,
+    sums: &mut Vec<u64>,
     first: usize,
     bits: u64,
-    a: u128,
-    w: &[u128],
-    b: u128,
-    u: &[u128],
+    a: u64,
+    w: &[u64],
+    b: u64,
+    u: &[u64],
     limit: u128,
 ) -> bool
-    requires limit { limit ≤ MAX_ENTRY }
     requires lengths { length u.now ≡ length w.now }
     requires width { length w.now < 2 ^ 32 }
     requires names { NamesColumns (sum_of (multiple a w.now) (multiple b u.now)) first (first + 64) bits }
@@ -32,7 +30,7 @@ fn fill_word(
     while rest != 0 {
         let skip = rest.trailing_zeros();
         let place = column + skip as usize;
-        let Some(sum) = sum_within(a, w[place], b, u[place], limit) else {
+        let Some(sum) = small_sum(a, w[place], b, u[place], limit) else {
             return false;
         };
         sums[place] = sum;
@@ -42,24 +40,23 @@ fn fill_word(
     true
 }
 
-/// The entries of a times w plus b times u, at the columns that words name; nothing where one passes the limit.
+/// The entries of a times w plus b times u, at the columns that words name; nothing where one passes the limit or 64 bits.
 pub(crate) fn sums_at(
     alloc: Global,
     words: &[u64],
-    a: u128,
-    w: &[u128],
-    b: u128,
-    u: &[u128],
+    a: u64,
+    w: &[u64],
+    b: u64,
+    u: &[u64],
     limit: u128,
-) -> Result<Option<Vec<u128>>, NoMemory>
-    requires limit { limit ≤ MAX_ENTRY }
+) -> Result<Option<Vec<u64>>, NoMemory>
     requires lengths { length u.now ≡ length w.now }
     requires width { length w.now < 2 ^ 32 }
     requires names { WordsNameColumns (sum_of (multiple a w.now) (multiple b u.now)) words.now }
     ensures sums { IfOk result (λ answer. IfSome answer (λ sums. sums.items ≡ sum_of (multiple a w.now) (multiple b u.now))) }
     ensures within { IfOk result (λ answer. IfSome answer (λ _. (column : ℕ) → slice_index (sum_of (multiple a w.now) (multiple b u.now)) column ≤ limit)) }
 {
-    let mut sums = vec![in alloc; 0u128; w.len()]?;
+    let mut sums = vec![in alloc; 0u64; w.len()]?;
     for (k, bits) in words.iter().enumerate() {
         if !fill_word(&mut sums, 64 * k, *bits, a, w, b, u, limit) {
             return Ok(None);

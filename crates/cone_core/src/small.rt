@@ -6,16 +6,21 @@ ghost use Rattle.std.specs.Int.{IsGcd};
 /// The greatest number of 64 bits, 2^64 - 1.
 pub(crate) const MAX_SMALL: u128 = 18446744073709551615;
 
-/// The greatest number of 32 bits, 2^32 - 1.
-pub(crate) const MAX_LEAST: u128 = 4294967295;
-
-/// The sum of two products of numbers of 32 bits, which always fits.
-pub(crate) fn sum_of_products(a: u32, x: u32, b: u32, y: u32) -> u128
-    ensures { result ≡ a * x + b * y }
+/// The sum of two products, where it is within the limit and each of the three fits in 64 bits. Most factors are 1.
+pub(crate) fn small_sum(a: u64, x: u64, b: u64, y: u64, limit: u128) -> Option<u64>
+    ensures some { IfSome result (λ sum. sum ≡ a * x + b * y) }
+    ensures within { IfSome result (λ sum. sum ≤ limit) }
 {
-    let first = u64::from(a) * u64::from(x);
-    let second = u64::from(b) * u64::from(y);
-    u128::from(first) + u128::from(second)
+    let sum = if a == 1 && b == 1 {
+        x.checked_add(y)?
+    } else {
+        a.checked_mul(x)?.checked_add(b.checked_mul(y)?)?
+    };
+    if u128::from(sum) <= limit {
+        Some(sum)
+    } else {
+        None
+    }
 }
 
 /// The product, where it fits in 128 bits.
@@ -31,7 +36,7 @@ pub(crate) fn product(a: u128, b: u128) -> Option<u128>
 }
 
 /// The product of two numbers of 64 bits, which always fits.
-fn product_of_small(a: u64, b: u64) -> u128
+pub(crate) fn product_of_small(a: u64, b: u64) -> u128
     ensures { result ≡ a * b }
 {
     u128::from(a) * u128::from(b)
@@ -50,7 +55,7 @@ pub(crate) fn quotient(a: u128, b: u128) -> u128
 }
 
 /// The greatest common divisor of two numbers of 64 bits; that of 0 and 0 is 0.
-fn gcd_of_small(a: u64, b: u64) -> u64
+pub(crate) fn gcd_of_small(a: u64, b: u64) -> u64
     ensures { IsGcd a b result }
 {
     let mut greater = a;

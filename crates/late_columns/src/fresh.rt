@@ -30,7 +30,7 @@ fn turning(
     ensures { IfOk result (λ turn. IfSome turn (HasOne columns row.now column)) }
 {
     let unit = Ray::unit(alloc, columns, column)?;
-    match parts(row, unit.entries(), MAX_ENTRY) {
+    match parts(row, &unit, MAX_ENTRY) {
         Ok(PlusMinus { plus: 1, minus: 0 }) => Ok(Some(false)),
         Ok(PlusMinus { plus: 0, minus: 1 }) => Ok(Some(true)),
         _ => Ok(None),

@@ -15,6 +15,7 @@ ghost use Rattle.ray_pairs.specs.Partners.{ArePartners};
 use crate::fresh::Fresh;
 use cone_core::{MAX_ENTRY, SparseRow};
 use double_description::{Kept, Permit, Sign, StepFault, signs_at};
+use no_memory::NoMemory;
 use ray_pairs::{made_rays, turned_signs};
 use std::alloc::Global;
 use support_bits::Support;
@@ -38,23 +39,26 @@ fn signs_of(
 }
 
 /// A ray with what is left for a column.
-fn raised(kept: Kept, column: u32, left: u128) -> Kept
+fn raised(alloc: Global, kept: Kept, column: u32, left: u128) -> Result<Kept, NoMemory>
     requires room { HasRoom column kept }
     requires some { 1 ≤ left }
     requires most { left ≤ MAX_ENTRY }
-    ensures { result.ray ≡ slice_set kept.ray column left }
+    ensures { IfOk result (λ after. after.ray ≡ slice_set kept.ray column left) }
 {
-    let Kept {
-        mut ray,
-        mut support,
-    } = kept;
-    ray.raise(column, left);
+    let Kept { ray, mut support } = kept;
+    let ray = ray.raised(alloc, column, left)?;
     support.insert(column);
-    Kept { ray, support }
+    Ok(Kept { ray, support })
 }
 
 /// Appends a ray with what is left for a column, unless that is less than nothing.
-fn raise(kept: Kept, sign: Sign, column: u32, next: &mut Vec<Kept>) -> Result<(), StepFault>
+fn raise(
+    alloc: Global,
+    kept: Kept,
+    sign: Sign,
+    column: u32,
+    next: &mut Vec<Kept>,
+) -> Result<(), StepFault>
     requires room { HasRoom column kept }
     requires bounded { IsBoundedSign MAX_ENTRY sign }
     ensures { OnOk result (AppendsRaised column sign kept next.old.items next.new.items) }
@@ -66,7 +70,7 @@ fn raise(kept: Kept, sign: Sign, column: u32, next: &mut Vec<Kept>) -> Result<()
         }
         Sign::Positive(_) => Ok(()),
         Sign::Negative(left) => {
-            next.push(raised(kept, column, left))?;
+            next.push(raised(alloc, kept, column, left)?)?;
             Ok(())
         }
     }
@@ -74,6 +78,7 @@ fn raise(kept: Kept, sign: Sign, column: u32, next: &mut Vec<Kept>) -> Result<()
 
 /// Appends the rays with what is left for a column, but for those for which that is less than nothing.
 fn raise_all(
+    alloc: Global,
     mut kepts: Vec<Kept>,
     signs: &[Sign],
     column: u32,
@@ -86,7 +91,7 @@ fn raise_all(
         → IsRaisedFrom MAX_ENTRY pairs (rays_of kepts.items) signs.now column 0 (rays_of next.new.items)) }
 {
     while let Some(kept) = kepts.pop() {
-        raise(kept, signs[kepts.len()], column, next)?;
+        raise(alloc, kept, signs[kepts.len()], column, next)?;
     }
     Ok(())
 }
@@ -113,6 +118,6 @@ pub fn raised_rays<F: Fn(&Support, &Support) -> bool>(
 {
     let signs = signs_of(alloc, row, fresh.is_turned, &kepts)?;
     let mut next = made_rays(alloc, permit, partners, &kepts, &signs, most)?;
-    raise_all(kepts, &signs, fresh.column, &mut next)?;
+    raise_all(alloc, kepts, &signs, fresh.column, &mut next)?;
     Ok(next)
 }

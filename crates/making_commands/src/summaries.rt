@@ -14,15 +14,13 @@ use std::marker::Model;
 use surface_definitions::Coords;
 use surface_properties::is_linking;
 
-// The greater of a number and all entries of a vector.
-fn greater_of(least: u128, entries: &[u128]) -> u128
-    ensures { IsGreatestOf least entries.now result }
+// The greater of a number and all entries of a ray.
+fn greater_of(least: u128, ray: &Ray) -> u128
+    ensures { IsGreatestOf least ray.now result }
 {
     let mut greatest = least;
-    for entry in entries {
-        if *entry > greatest {
-            greatest = *entry;
-        }
+    for column in 0..ray.columns() {
+        greatest = greatest.max(ray.entry(column));
     }
     greatest
 }
@@ -33,22 +31,23 @@ pub fn greatest_entry(list: &[Ray]) -> u128
 {
     let mut greatest = 0;
     for ray in list {
-        greatest = greater_of(greatest, ray.entries());
+        greatest = greater_of(greatest, ray);
     }
     greatest
 }
 
 /// The number of surfaces without quads.
-pub fn linking_count(list: &[Ray]) -> u64
-    ensures { result ≡ count_by (characteristic.is_linking Standard) list.now }
+pub fn linking_count(alloc: Global, list: &[Ray]) -> Result<u64, NoMemory>
+    ensures { IfOk result (λ count. count ≡ count_by (characteristic.is_linking Standard) list.now) }
 {
     let mut count = 0;
     for ray in list {
-        if is_linking(Coords::Standard, ray.entries()) {
+        let vector = ray.to_vector(alloc)?;
+        if is_linking(Coords::Standard, &vector) {
             count += 1;
         }
     }
-    count
+    Ok(count)
 }
 
 /// The numbers of a table that was made: its seed, the moves of its certificate, and its tetrahedra.
@@ -90,7 +89,7 @@ fn summary_text(alloc: Global, numbers: Numbers, list: &[Ray]) -> Result<Vec<u8>
         alloc,
         &mut text,
         b"linking ",
-        u128::from(linking_count(list)),
+        u128::from(linking_count(alloc, list)?),
     )?;
     Ok(text)
 }

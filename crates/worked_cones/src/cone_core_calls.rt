@@ -1,3 +1,4 @@
+use crate::sample_cones::is_ray;
 use cone_core::{
     CombineFault, ConeFault, MAX_ENTRY, Passed, Ray, SolutionFault, SparseRow, System, combine,
     compare, gcd, is_solution, read_cone,
@@ -7,7 +8,7 @@ use std::test::Fail;
 use text_io::{LexKind, Lexer};
 
 #[test]
-fn divides_and_compares(rt: HostRuntime) {
+fn divides(rt: HostRuntime) {
     for (a, b, divisor) in [(0, 0, 0), (MAX_ENTRY, 0, MAX_ENTRY), (12, 18, 6), (5, 7, 1)] {
         assert_eq!(rt; gcd(a, b), divisor);
     }
@@ -26,9 +27,35 @@ fn divides_and_compares(rt: HostRuntime) {
     ] {
         assert_eq!(rt; gcd(a, b), divisor);
     }
-    assert_eq!(rt; compare(&[1, 2], &[1, 3]), Ordering::Less);
-    assert_eq!(rt; compare(&[1, 2], &[1, 2, 0]), Ordering::Less);
-    assert_eq!(rt; compare(&[2], &[1, 9]), Ordering::Greater);
+}
+
+#[test]
+fn compares_rays(rt: HostRuntime) -> Result<(), Fail> {
+    let alloc = rt.alloc();
+    let one = Ray::unit(alloc, 2, 0)?;
+    let other = Ray::unit(alloc, 2, 1)?;
+    let longer = Ray::unit(alloc, 3, 0)?;
+    let steep = combine(alloc, &one, &other, 1, 18446744073709551616, MAX_ENTRY)
+        .ok()
+        .ok_or("too large")?;
+    is_ray(&rt, &steep, &[18446744073709551616, 1]);
+    assert_eq!(rt; compare(&one, &other), Ordering::Greater);
+    assert_eq!(rt; compare(&one, &longer), Ordering::Less);
+    assert_eq!(rt; compare(&one, &steep), Ordering::Less);
+    assert_eq!(rt; compare(&steep, &other), Ordering::Greater);
+    assert_eq!(rt; compare(&steep, &steep), Ordering::Equal);
+    Ok(())
+}
+
+#[test]
+fn raises_rays(rt: HostRuntime) -> Result<(), Fail> {
+    let alloc = rt.alloc();
+    let small = Ray::unit(alloc, 3, 0)?.raised(alloc, 1, 18446744073709551615)?;
+    is_ray(&rt, &small, &[1, 18446744073709551615, 0]);
+    let large = Ray::unit(alloc, 3, 0)?.raised(alloc, 1, MAX_ENTRY)?;
+    is_ray(&rt, &large, &[1, MAX_ENTRY, 0]);
+    is_ray(&rt, &large.raised(alloc, 2, 7)?, &[1, MAX_ENTRY, 7]);
+    Ok(())
 }
 
 #[test]
@@ -40,11 +67,11 @@ fn combines_rays(rt: HostRuntime) -> Result<(), Fail> {
     let two = combine(alloc, &first, &second, 1, 2, MAX_ENTRY)
         .ok()
         .ok_or("too large")?;
-    assert_eq!(rt; two.entries(), [2, 1, 0].as_slice());
+    is_ray(&rt, &two, &[2, 1, 0]);
     let four = combine(alloc, &two, &third, 1, 2, 4)
         .ok()
         .ok_or("too large")?;
-    assert_eq!(rt; four.copy(alloc)?.entries(), [4, 2, 1].as_slice());
+    is_ray(&rt, &four.copy(alloc)?, &[4, 2, 1]);
     let passed = combine(alloc, &two, &third, 1, 2, 3);
     assert!(rt; matches!(passed, Err(CombineFault::Passed { column: 0 })));
     let one = Ray::unit(alloc, 2, 0)?;
@@ -52,11 +79,11 @@ fn combines_rays(rt: HostRuntime) -> Result<(), Fail> {
     let steep = combine(alloc, &one, &other, 2, 1, 2)
         .ok()
         .ok_or("too large")?;
-    assert_eq!(rt; steep.entries(), [1, 2].as_slice());
+    is_ray(&rt, &steep, &[1, 2]);
     let reduced = combine(alloc, &one, &steep, 1, 1, 2)
         .ok()
         .ok_or("too large")?;
-    assert_eq!(rt; reduced.entries(), [1, 1].as_slice());
+    is_ray(&rt, &reduced, &[1, 1]);
     Ok(())
 }
 
@@ -69,18 +96,18 @@ fn combines_rays_past_64_bits(rt: HostRuntime) -> Result<(), Fail> {
     let large = combine(alloc, &one, &other, below, past, MAX_ENTRY)
         .ok()
         .ok_or("too large")?;
-    assert_eq!(rt; large.entries(), [past, below].as_slice());
+    is_ray(&rt, &large, &[past, below]);
     let passed = combine(alloc, &one, &other, past, below, below);
     assert!(rt; matches!(passed, Err(CombineFault::Passed { column: 1 })));
     let (first, second) = (1180591620717411303423, 5902958103587056517120);
     let steep = combine(alloc, &one, &other, second, first, MAX_ENTRY)
         .ok()
         .ok_or("too large")?;
-    assert_eq!(rt; steep.entries(), [first, second].as_slice());
+    is_ray(&rt, &steep, &[first, second]);
     let reduced = combine(alloc, &one, &steep, 1, 1, MAX_ENTRY)
         .ok()
         .ok_or("too large")?;
-    assert_eq!(rt; reduced.entries(), [1, 5].as_slice());
+    is_ray(&rt, &reduced, &[1, 5]);
     Ok(())
 }
 

@@ -53,10 +53,18 @@ pub fn are_rows(rt: &impl Abort, system: &System, rows: &[&[(u32, i32)]]) {
     }
 }
 
+/// A ray has these entries.
+pub fn is_ray(rt: &impl Abort, ray: &Ray, vector: &[u128]) {
+    assert_eq!(rt; ray.columns(), vector.len());
+    for (column, entry) in vector.iter().enumerate() {
+        assert_eq!(rt; ray.entry(column), *entry);
+    }
+}
+
 /// Rays are these vectors.
 pub fn are_rays(rt: &impl Abort, rays: &[Ray], vectors: &[&[u128]]) {
     assert_eq!(rt; rays.len(), vectors.len());
     for (ray, vector) in rays.iter().zip(vectors) {
-        assert_eq!(rt; ray.entries(), *vector);
+        is_ray(rt, ray, vector);
     }
 }

@@ -2,8 +2,9 @@ use Rattle.std.proofs.Common.{◌≡◌, ◌≢◌, ℕ, ◌<◌, ◌≤◌, Lis
 use Rattle.std.specs.Int.{◌∣◌}
 use Rattle.std.proofs.lemmas.Nat.Gcd.{dvd-zero}
 use Rattle.std.proofs.lemmas.Bool.{cases_eq}
-use Rattle.cone_core.specs.RayEntries.{IsReduced}
-use Rattle.cone_core.proofs.ray.Ray.raise.Goals as goal
+use Rattle.cone_core.specs.RayEntries.{IsReduced, numbers_of}
+use Rattle.cone_core.specs.declared.numbers.TheConstants.{MAX_ENTRY}
+use Rattle.cone_core.proofs.ray.Ray.raised.Goals as goal
 
 module _ (limit : ℕ) (x : List ℕ) (column value : ℕ) (h : IsReduced limit x) (within : column < length x) (gone : slice_index x column ≡ 0) where
   entry_same : slice_index (slice_set x column value) column ≡ value
@@ -27,7 +28,10 @@ module _ (limit : ℕ) (x : List ℕ) (column value : ℕ) (h : IsReduced limit 
         (cases_eq j column));
   }
 
-pub invariant_of-self : goal.invariant_of-self
-invariant_of-self c =
-    raised_reduced _ c.self.inside.entries.items c.args.column c.args.value c.self.invariant
-    (subst (λ xs. c.args.column < length xs) (sym c.self.view_is) c.requires.in_range) (subst (λ xs. slice_index xs c.args.column ≡ 0) (sym c.self.view_is) c.requires.gone) c.requires.most
+pub invariant_of-result : goal.invariant_of-result
+invariant_of-result c =
+    let x = numbers_of c.self.inside.entries in
+    let most = c.self.invariant in
+    subst (IsReduced MAX_ENTRY) (sym c.in_ok-entries.ensures)
+    (raised_reduced MAX_ENTRY x c.args.column c.args.value most
+    (subst (λ xs. c.args.column < length xs) (sym c.self.view_is) c.requires.in_range) (subst (λ xs. slice_index xs c.args.column ≡ 0) (sym c.self.view_is) c.requires.gone) c.requires.most)

@@ -1,0 +1,7 @@
+use Rattle.cone_core.proofs.PartLemmas.{err_iff_large}
+use Rattle.cone_core.proofs.numbers.parts_at.Goals as goal
+
+pub returns-clause-passed : goal.returns-clause-passed
+returns-clause-passed c =
+    let e = rw c.entries.ensures.entries at c.parts_of.ensures in
+    err_iff_large c.parts_of.result c.args.limit c.args.row.now c.args.x.now e.within e.passed
