@@ -1,11 +1,22 @@
 -- The order of two vectors, entry by entry.
-use Rattle.std.proofs.Common.{refl, Less, Equal, Greater, nat_cmp, ◌≡◌, ◌≢◌, ℕ, zero, suc, ◌+◌, ◌<◌, ◌≤◌, List, [], ◌∷◌, length, drop, get_or, min, ⊎_elim, ap, ◌∙◌, sym, arith}
-use Rattle.std.proofs.lemmas.Bool.{cases_lt}
+use Rattle.std.proofs.Common.{refl, Less, Equal, Greater, nat_cmp, ◌≡◌, ℕ, true, false, ◌+◌, ◌<◌, ◌≤◌, List, [], ◌∷◌, length, drop, get_or, min, ⊎_elim, ap, ◌∙◌, sym, arith}
+use Rattle.std.proofs.lemmas.Bool.{cases_lt, false≢true}
 use Rattle.std.proofs.lemmas.List.{at_drop_more, at_drop_all}
-use Rattle.std.specs.Prelude.{Ordering}
-use Rattle.std.specs.Ordering.{ordering_then}
+use Rattle.std.proofs.Common.{Ordering}
+use Rattle.std.specs.Prelude.{◌==◌, not}
+use Rattle.std.specs.Ordering.{ordering_then, ordering_index}
 use Rattle.std.specs.Cmp.{nat_cmp_is}
 use Rattle.std.specs.Cmp.Lexicographic.{slice_cmp}
+
+decided : (r rest : Ordering) → not (ordering_index r == 1) ≡ true → ordering_then r rest ≡ r
+decided Less rest h = refl
+decided Equal rest h = absurd (false≢true h)
+decided Greater rest h = refl
+
+pub tied : (r : Ordering) → not (ordering_index r == 1) ≡ false → r ≡ Equal
+tied Less h = absurd (false≢true (sym h))
+tied Equal h = refl
+tied Greater h = absurd (false≢true (sym h))
 
 module _ (x y : List ℕ) (i : ℕ) where
   -- what is left begins with an entry of each
@@ -19,12 +30,7 @@ module _ (x y : List ℕ) (i : ℕ) where
   order_more p q e = order_at p q ∙ ap (λ r. ordering_then r (slice_cmp nat_cmp (drop (i + 1) x) (drop (i + 1) y))) e
 
   -- others do
-  decided : (r rest : Ordering) → r ≢ Equal → ordering_then r rest ≡ r
-  decided Less rest h = refl
-  decided Equal rest h = absurd (h refl)
-  decided Greater rest h = refl
-
-  pub order_here : i < length x → i < length y → nat_cmp (get_or x i 0) (get_or y i 0) ≢ Equal →
+  pub order_here : i < length x → i < length y → not (ordering_index (nat_cmp (get_or x i 0) (get_or y i 0)) == 1) ≡ true →
       slice_cmp nat_cmp (drop i x) (drop i y) ≡ nat_cmp (get_or x i 0) (get_or y i 0)
   order_here p q h = order_at p q ∙ decided _ _ h
 

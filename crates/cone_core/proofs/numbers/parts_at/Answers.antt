@@ -1,6 +1,9 @@
 use Rattle.cone_core.proofs.PartLemmas.{err_iff_large}
 use Rattle.cone_core.proofs.numbers.parts_at.Goals as goal
 
+pub returns-clause-within : goal.returns-clause-within
+returns-clause-within c = (rw c.entries.ensures.entries at c.parts_of.ensures).within
+
 pub returns-clause-passed : goal.returns-clause-passed
 returns-clause-passed c =
     let e = rw c.entries.ensures.entries at c.parts_of.ensures in
