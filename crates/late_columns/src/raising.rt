@@ -70,7 +70,8 @@ fn raise(
         }
         Sign::Positive(_) => Ok(()),
         Sign::Negative(left) => {
-            next.push(raised(alloc, kept, column, left)?)?;
+            let after = raised(alloc, kept, column, left)?;
+            next.push(after)?;
             Ok(())
         }
     }

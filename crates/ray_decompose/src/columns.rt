@@ -7,15 +7,15 @@ ghost use Rattle.sum_definitions.specs.Sums.{IsWithinTimes};
 ghost use Rattle.ray_decompose.specs.Sums.{IsFirstLarge};
 
 use crate::products::product_within;
-use cone_core::{MAX_ENTRY, Ray};
+use cone_core::MAX_ENTRY;
 
-/// Whether the support of a ray lies in that of a vector.
-pub fn is_inside(ray: &Ray, other: &[u128]) -> bool
-    requires { length ray.now ≡ length other.now }
-    ensures { IsTrue result ↔ IsInside ray.now other.now }
+/// Whether the support of a vector lies in that of another.
+pub fn is_inside(x: &[u128], other: &[u128]) -> bool
+    requires { length x.now ≡ length other.now }
+    ensures { IsTrue result ↔ IsInside x.now other.now }
 {
-    for (column, entry) in other.iter().enumerate() {
-        if *entry == 0 && ray.entry(column) != 0 {
+    for (column, entry) in x.iter().enumerate() {
+        if *entry != 0 && other[column] == 0 {
             return false;
         }
     }

@@ -1,14 +1,12 @@
 // The least fraction of the entries of two vectors, in lowest terms.
 
-ghost use Rattle.std.specs.Prelude.{◌≡◌, ◌≢◌, ℕ, ◌*◌, ◌+◌, ◌<◌, ◌≤◌, ◌↔◌, IfNone, IfOk, IfSome, IsTrue, length, slice_index};
+ghost use Rattle.std.specs.Prelude.{◌≡◌, ◌≢◌, ℕ, ◌*◌, ◌+◌, ◌<◌, ◌≤◌, ◌↔◌, IfNone, IfSome, IsTrue, length, slice_index};
 ghost use Rattle.cone_definitions.specs.Vectors.{IsInside, IsNonzero};
 ghost use Rattle.sum_definitions.specs.Sums.{IsLeastFraction};
 ghost use Rattle.ray_decompose.specs.Fractions.{IsLeastColumn};
 
 use crate::columns::is_inside;
-use cone_core::{Ray, gcd};
-use no_memory::NoMemory;
-use std::alloc::Global;
+use cone_core::gcd;
 
 /// A fraction of two whole numbers.
 #[derive(Clone, Copy)]
@@ -83,19 +81,16 @@ pub fn least_fraction(rest: &[u128], ray: &[u128]) -> Fraction
 }
 
 /// The least of these fractions, where the support of `ray` lies in that of `rest`.
-pub fn fraction_inside(
-    alloc: Global,
-    rest: &[u128],
-    ray: &Ray,
-) -> Result<Option<Fraction>, NoMemory>
+pub fn fraction_inside(rest: &[u128], ray: &[u128]) -> Option<Fraction>
     requires lengths { length rest.now ≡ length ray.now }
-    ensures inside { IfOk result (λ answer. IfSome answer (λ _. IsInside ray.now rest.now)) }
-    ensures least { IfOk result (λ answer. IfSome answer (λ fraction. IsLeastFraction rest.now ray.now fraction.numerator fraction.denominator)) }
-    ensures none { IfOk result (λ answer. IfNone answer (IsInside ray.now rest.now → ⊥)) }
+    requires nonzero { IsNonzero ray.now }
+    ensures inside { IfSome result (λ _. IsInside ray.now rest.now) }
+    ensures least { IfSome result (λ fraction. IsLeastFraction rest.now ray.now fraction.numerator fraction.denominator) }
+    ensures none { IfNone result (IsInside ray.now rest.now → ⊥) }
 {
-    if !is_inside(ray, rest) {
-        return Ok(None);
+    if is_inside(ray, rest) {
+        Some(least_fraction(rest, ray))
+    } else {
+        None
     }
-    let entries = ray.to_vector(alloc)?;
-    Ok(Some(least_fraction(rest, &entries)))
 }

@@ -22,14 +22,14 @@ fn repeat(terms: &mut [Term], times: u128)
 }
 
 /// Leaves of a vector, taken as often as the denominator says, what the ray doesn't have, taken as often as the numerator says.
-fn take_out(rest: &mut [u128], fraction: Fraction, ray: &Ray)
+fn take_out(rest: &mut [u128], fraction: Fraction, ray: &[u128])
     requires lengths { length ray.now ≡ length rest.old }
     requires fits { (column : ℕ) → fraction.denominator * slice_index rest.old column < 2 ^ 128 }
     requires enough { (column : ℕ) → fraction.numerator * slice_index ray.now column ≤ fraction.denominator * slice_index rest.old column }
     ensures { rest.new ≡ difference (multiple fraction.denominator rest.old) (multiple fraction.numerator ray.now) }
 {
     for (column, entry) in rest.iter_mut().enumerate() {
-        *entry = fraction.denominator * *entry - fraction.numerator * ray.entry(column);
+        *entry = fraction.denominator * *entry - fraction.numerator * ray[column];
     }
 }
 
@@ -48,11 +48,12 @@ pub fn take_ray(
     ensures terms { OnOk result (terms.new.items ≡ map (repeated fraction.denominator) terms.old.items ++ record { count = fraction.numerator; vector = ray.now } ∷ []) }
     ensures rest { OnOk result (rest.new.items ≡ difference (multiple fraction.denominator rest.old.items) (multiple fraction.numerator ray.now)) }
 {
+    let entries = ray.to_vector(alloc)?;
     repeat(terms, fraction.denominator);
     terms.push(Term {
         count: fraction.numerator,
         vector: ray.copy(alloc)?,
     })?;
-    take_out(rest, fraction, ray);
+    take_out(rest, fraction, &entries);
     Ok(())
 }
