@@ -45,7 +45,15 @@ pub fn read_parts(alloc: Global, text: &[u8], head: Head, types: Types) -> Resul
         return Err(SigFault::Unreached);
     }
     let (width, at) = (head.width, types.next);
-    let destinations = numbers_in(alloc, text, Segment::Destinations, twos, width, head.count, at)?;
+    let destinations = numbers_in(
+        alloc,
+        text,
+        Segment::Destinations,
+        twos,
+        width,
+        head.count,
+        at,
+    )?;
     let gluings_at = at + (width * twos) as usize;
     let gluings = numbers_in(alloc, text, Segment::Gluings, twos, 1, 24, gluings_at)?;
     let end = gluings_at + twos as usize;

@@ -2,6 +2,7 @@
 use Rattle.std.proofs.Common.{sym, ◌∙◌, arith}
 use Rattle.std.proofs.lemmas.Result.{err_from_is_err_and}
 use Rattle.std.proofs.lemmas.Bool.{iff_false}
+use Rattle.text_definitions.specs.Written.{limit}
 use Rattle.text_definitions.proofs.Readers.{number_at-takes, tokens-fewer, with_front-more, with_front-end, with_front-fault}
 use Rattle.table_definitions.proofs.TableFoundLaws.{lexed_with}
 use Rattle.command_answers.proofs.EachLine.{fault_lexed}
