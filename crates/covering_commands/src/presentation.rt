@@ -112,12 +112,7 @@ pub fn presentation_text(alloc: Global, group: &Group) -> Result<Vec<u8>, NoMemo
         u128::from(group.generators()),
     )?;
     append_generators(alloc, &mut text, group)?;
-    append_numbered(
-        alloc,
-        &mut text,
-        b"relators ",
-        u128::from(group.relators()),
-    )?;
+    append_numbered(alloc, &mut text, b"relators ", u128::from(group.relators()))?;
     append_relators(alloc, &mut text, group)?;
     Ok(text)
 }

@@ -27,15 +27,19 @@ use Rattle.outcome_definitions.specs.Lines.{accepted_text}
 use Rattle.outcome_definitions.specs.Outcomes.{Outcome}
 use Rattle.outcome_definitions.specs.Enumerations.{IsPastTold}
 
--- number v of a list is the first that is refused, and this is why
-pub record IsFirstRefused {A B E : Type 0} (IsTold : A → Result B E → Type 0) (list : List A) (v : ℕ) (refusal : E) : Type 0 where
+-- the item of this number is the first of a list that fails
+pub record IsFirst {A : Type 0} (Passes Fails : A → Type 0) (list : List A) (number : ℕ) : Type 0 where
   pub before : List A
   pub value : A
   pub after : List A
   pub stands : list ≡ before ++ value ∷ after
-  pub number : v ≡ length before
-  pub passed : All (λ x. (answer : B) × IsTold x (Ok answer)) before
-  pub refused : IsTold value (Err refusal)
+  pub number_is : number ≡ length before
+  pub passed : All Passes before
+  pub fails : Fails value
+
+-- number v of a list is the first that is refused, and this is why
+abbrev pub IsFirstRefused : {A B E : Type 0} → (A → Result B E → Type 0) → List A → ℕ → E → Type 0
+IsFirstRefused {A} {B} IsTold list v refusal = IsFirst (λ x. (answer : B) × IsTold x (Ok answer)) (λ x. IsTold x (Err refusal)) list v
 
 -- what is told of all of a list: the answer to each, or the number of the first that is refused, and why
 abbrev pub AreTold : {A B E : Type 0} → (A → Result B E → Type 0) → List A → Result (List B) (ℕ × E) → Type 0

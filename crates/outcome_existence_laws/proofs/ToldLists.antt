@@ -15,9 +15,9 @@ module _ {A B E : Type 0} (IsTold : A → Result B E → Type 0) where
       value = x;
       after = xs;
       stands = refl;
-      number = refl;
+      number_is = refl;
       passed = All-nil (λ y. (answer : B) × IsTold y (Ok answer));
-      refused = h;
+      fails = h;
     },
   )
   told_more x xs (Ok b) h (Ok bs) rest = (Ok (b ∷ bs), (h, rest))
@@ -28,9 +28,9 @@ module _ {A B E : Type 0} (IsTold : A → Result B E → Type 0) where
       value = rest.value;
       after = rest.after;
       stands = ap (λ (ys : List A). x ∷ ys) rest.stands;
-      number = ap suc rest.number;
+      number_is = ap suc rest.number_is;
       passed = All-cons (λ y. (answer : B) × IsTold y (Ok answer)) x rest.before (b, h) rest.passed;
-      refused = rest.refused;
+      fails = rest.fails;
     },
   )
 

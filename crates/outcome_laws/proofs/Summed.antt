@@ -91,13 +91,13 @@ module _ {A B E : Type 0} (IsTold : A → Result B E → Type 0) (one : (x : A) 
 
   one_refused : (list : List A) (v w : ℕ) (f g : E) → IsFirstRefused IsTold list v f → IsFirstRefused IsTold list w g → (v ≡ w) × (f ≡ g)
   one_refused list v w f g h k =
-      let p : SamePlace (length h.before) (length k.before) f g = one_place h.before h.value h.after k.before k.value k.after f g (sym h.stands ∙ k.stands) h.passed h.refused k.passed k.refused in
-      (h.number ∙ p.0 ∙ sym k.number, p.1)
+      let p : SamePlace (length h.before) (length k.before) f g = one_place h.before h.value h.after k.before k.value k.after f g (sym h.stands ∙ k.stands) h.passed h.fails k.passed k.fails in
+      (h.number_is ∙ p.0 ∙ sym k.number_is, p.1)
 
   pub told_once : (list : List A) (t u : Result (List B) (ℕ × E)) → AreTold IsTold list t → AreTold IsTold list u → t ≡ u
   told_once list (Ok cs) (Ok ds) h k = ap Ok (told_list list cs ds h k)
-  told_once list (Ok cs) (Err r) h k = absurd (none_refused k.before k.value k.after cs r.1 (subst (λ (xs : List A). AllZip (λ x a. IsTold x (Ok a)) xs cs) k.stands h) k.refused)
-  told_once list (Err r) (Ok ds) h k = absurd (none_refused h.before h.value h.after ds r.1 (subst (λ (xs : List A). AllZip (λ x a. IsTold x (Ok a)) xs ds) h.stands k) h.refused)
+  told_once list (Ok cs) (Err r) h k = absurd (none_refused k.before k.value k.after cs r.1 (subst (λ (xs : List A). AllZip (λ x a. IsTold x (Ok a)) xs cs) k.stands h) k.fails)
+  told_once list (Err r) (Ok ds) h k = absurd (none_refused h.before h.value h.after ds r.1 (subst (λ (xs : List A). AllZip (λ x a. IsTold x (Ok a)) xs ds) h.stands k) h.fails)
   told_once list (Err r) (Err s) h k = (let p = one_refused list r.0 s.0 r.1 s.1 h k in ap₂ (λ (n : ℕ) (f : E). Err (n, f)) p.0 p.1)
 
 one_verdict : (coords : Coords) (rows : List Row) (equations : List EquationRow) (x : List ℕ) (r s : Verdict) → IsVerdict coords rows equations x r → IsVerdict coords rows equations x s → r ≡ s
@@ -171,7 +171,7 @@ module _ (coords : Coords) (rows : List Row) (equations : List EquationRow) wher
   no_unfit_term terms i fault all h = at_value h.before (subst (λ (ts : List Term). All (λ (term : Term). verdict_in coords rows equations term.vector ≡ solution) ts) h.stands all)
     where
       at_value : (before : List Term) → All (λ (term : Term). verdict_in coords rows equations term.vector ≡ solution) (before ++ h.value ∷ h.after) → ⊥
-      at_value [] fit = fit_or_not h.value.vector fault (fit 0 h.value (omega arith)) h.refused
+      at_value [] fit = fit_or_not h.value.vector fault (fit 0 h.value (omega arith)) h.fails
       at_value (t ∷ before) fit = at_value before (λ k d l. fit (suc k) d (omega arith))
 
   one_added : (block : Block) (r s : Result (Unit {0}) SumRefusal) → IsAddedUp coords rows equations block r → IsAddedUp coords rows equations block s → r ≡ s

@@ -33,9 +33,9 @@ module _ {X A : Type 0} (f : X → A) where
     value = f x;
     after = map f (drop (suc n) xs);
     stands = stands xs n x l e;
-    number = counted xs n l;
+    number_is = counted xs n l;
     passed = passed;
-    refused = refused;
+    fails = refused;
   }
 
   -- one more passes

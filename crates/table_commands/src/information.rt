@@ -154,12 +154,7 @@ fn append_flags(
 fn append_counts(alloc: Global, text: &mut Vec<u8>, skeleton: &Skeleton) -> Result<(), NoMemory>
     ensures { OnOk result (text.new.items ≡ text.old.items ++ information.counts_text skeleton.now) }
 {
-    append_numbered(
-        alloc,
-        text,
-        b"vertices ",
-        u128::from(skeleton.vertices()),
-    )?;
+    append_numbered(alloc, text, b"vertices ", u128::from(skeleton.vertices()))?;
     append_numbered(alloc, text, b"edges ", u128::from(skeleton.edges()))?;
     append_numbered(alloc, text, b"faces ", u128::from(skeleton.faces()))?;
     append_euler(alloc, text, characteristic(skeleton))?;

@@ -82,10 +82,10 @@ module _ (coords : Coords) (rows : List Row) (equations : List EquationRow) wher
           value = f.value;
           after = f.after;
           stands = f.stands;
-          number = f.number_is;
+          number_is = f.number_is;
           passed = All-weaker IsTermFit (λ (term : Term). (answer : Unit {0}) × IsTermVerdict coords rows equations term (Ok answer)) (λ term fit. (tt, fit)) f.before
               (All-from_recursion IsTermFit f.before (terms_are_fit f.before surfaces.0 (recursion_from_All (IsSmallTerm equations) f.before f.passed)));
-          refused = large_is_unfit coords rows equations f.value.vector surfaces.1 row f.fails;
+          fails = large_is_unfit coords rows equations f.value.vector surfaces.1 row f.fails;
         },
       )
 
@@ -101,9 +101,9 @@ module _ (coords : Coords) (rows : List Row) (equations : List EquationRow) wher
           value = f.value;
           after = f.after;
           stands = f.stands;
-          number = f.number_is;
+          number_is = f.number_is;
           passed = All-from_recursion Passes f.before (all_accepted f.before parts.0 (recursion_from_All (IsSmallBlock equations) f.before f.passed)).0;
-          refused = block_is_refused f.value at.0 at.1 parts.1 f.fails;
+          fails = block_is_refused f.value at.0 at.1 parts.1 f.fails;
         }
 
     accepted_there : AreEquations coords rows equations → All (IsSmallBlock equations) blocks → IsAddupAnswer coords (rows, blocks) accepted_outcome

@@ -17,8 +17,8 @@ use Rattle.surface_definitions.specs.declared.VectorFault.TheVariants.{Large}
 use Rattle.surface_definitions.proofs.VerdictLaws.{accepted-verdict}
 use Rattle.coordinate_laws.proofs.FirstFaults.{large_told}
 use Rattle.vector_definitions.specs.Answers.{IsFit, IsUnfit}
-use Rattle.written_answer_laws.specs.Firsts.{IsFirst, IsFirstLarge}
-use Rattle.written_answer_laws.specs.Surfaces.{IsSolutionUnlessLarge, SurfacesAreSolutions}
+use Rattle.outcome_definitions.specs.Sums.{IsFirst}
+use Rattle.written_answer_laws.specs.Surfaces.{IsFirstLarge, IsSolutionUnlessLarge, SurfacesAreSolutions}
 
 -- all items pass, or there is a first that fails, with what tells of it
 module _ {A W : Type 0} (Passes : A → Type 0) (Fails : W → A → Type 0) (decide : (x : A) → Passes x ⊎ ((w : W) × Fails w x)) where

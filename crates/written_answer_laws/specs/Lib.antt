@@ -1,4 +1,3 @@
-pub mod Firsts
 pub mod Entries
 pub mod Surfaces
 pub mod Lifts

@@ -19,8 +19,8 @@ use Rattle.document_definitions.specs.Blocks.{Block, blocks_document}
 use Rattle.outcome_definitions.specs.declared.SumRefusal.TheVariants.{UnfitTerm}
 use Rattle.outcome_definitions.specs.declared.Status.TheVariants.{Done}
 use Rattle.outcome_definitions.specs.Outcomes.{Outcome, IsReadOutcome}
-use Rattle.outcome_definitions.specs.Sums.{IsSummed, IsDecomposeAnswer, IsAddupAnswer, sum_refusal_outcome, accepted_outcome, sums_text}
-use Rattle.written_answer_laws.specs.Firsts.{IsFirst, IsFirstLarge}
+use Rattle.outcome_definitions.specs.Sums.{IsFirst, IsSummed, IsDecomposeAnswer, IsAddupAnswer, sum_refusal_outcome, accepted_outcome, sums_text}
+use Rattle.written_answer_laws.specs.Surfaces.{IsFirstLarge}
 
 -- the vectors are admissible solutions, and each block is the sum of its vector by the list of vertex surfaces
 pub record AreSumsOf (coords : Coords) (most : ℕ) (rows : List Row) (equations : List EquationRow) (vectors : List (List ℕ)) (blocks : List Block) : Type 0 where

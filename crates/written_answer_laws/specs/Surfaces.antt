@@ -3,7 +3,7 @@ use Rattle.std.specs.Prelude.{◌≡◌, ◌⊎◌, ℕ, List, ◌++◌, length,
 use Rattle.text_definitions.specs.Written.{limit}
 use Rattle.cone_definitions.specs.Rows.{Row as EquationRow}
 use Rattle.cone_definitions.specs.Surfaces.{IsVertexSurface, IsSurfaceList}
-use Rattle.cone_definitions.specs.Elimination.{HasPartsWithin}
+use Rattle.cone_definitions.specs.Elimination.{HasLargePart, HasPartsWithin}
 use Rattle.cone_definitions.specs.declared.Order.{Order}
 use Rattle.table_definitions.specs.Table.{Row}
 use Rattle.table_definitions.specs.TableText.{table_text}
@@ -17,9 +17,9 @@ use Rattle.document_definitions.specs.Documents.{table_document, vectors_documen
 use Rattle.command_definitions.specs.declared.Request.TheVariants.{Surfaces, Verify}
 use Rattle.outcome_definitions.specs.declared.Status.TheVariants.{Done}
 use Rattle.outcome_definitions.specs.Outcomes.{Outcome}
+use Rattle.outcome_definitions.specs.Sums.{IsFirst}
 use Rattle.outcome_definitions.specs.Answers.{verify_outcome}
 use Rattle.answer_laws.specs.Asked.{IsOutcomeTo}
-use Rattle.written_answer_laws.specs.Firsts.{IsFirstLarge}
 
 -- all vertex surfaces of a table, by its equations
 pub record AreVertexSurfaces (coords : Coords) (rows : List Row) (equations : List EquationRow) (list : List (List ℕ)) : Type 0 where
@@ -38,6 +38,10 @@ abbrev pub SurfacesAreRead : Type 0
 SurfacesAreRead =
     (words : List (List ℕ)) (bytes : List ℕ) (o : Outcome) (coords : Coords) (order : Order) (most : ℕ) (rows : List Row) → IsOutcomeTo (Surfaces coords order most) words bytes o
     → table_document bytes ≡ Ok rows → o.status ≡ Done → IsReadAsSurfaces coords rows o.text
+
+-- the first equation of which a part passes the limit at x
+abbrev pub IsFirstLarge : List EquationRow → List ℕ → ℕ → Type 0
+IsFirstLarge equations x row = IsFirst (λ equation. HasPartsWithin limit equation x) (λ equation. HasLargePart limit equation x) equations row
 
 -- the verdict on x is that it is a solution where no part passes the limit, and else the first equation of which one does
 abbrev pub IsSolutionUnlessLarge : Coords → List Row → List EquationRow → List ℕ → Type 0
