@@ -84,8 +84,9 @@ fn push_rest(alloc: Global, text: &mut Vec<u8>, ray: &Ray, first: usize) -> Resu
 fn push_ray_entries(alloc: Global, text: &mut Vec<u8>, ray: &Ray) -> Result<(), NoMemory>
     ensures { OnOk result (text.new.items ≡ text.old.items ++ entries_text ray.now) }
 {
+    let columns = ray.columns();
     let mut column = 0;
-    while column + 4 <= ray.columns() {
+    while columns - column >= 4 {
         push_four(alloc, text, ray, column)?;
         column += 4;
     }
