@@ -15,7 +15,7 @@ use gluing_table::{Face, Table};
 use normal_discs::{columns_each, triangles_each};
 use skeleton::Skeleton;
 use surface_definitions::Coords;
-use vector_definitions::{Properties, PropertyFault, Sum};
+use vector_definitions::{Properties, PropertyFault, SurfaceSum};
 
 /// Whether a column of quads or octagons has pieces.
 fn has_others(coords: Coords, x: &[u128], column: usize) -> bool
@@ -100,17 +100,17 @@ pub fn properties_of(
     let table = skeleton.table();
     let points = points(skeleton, coords, x);
     if points > MAX_ENTRY {
-        return Err(PropertyFault::Large { sum: Sum::Points });
+        return Err(PropertyFault::Large { sum: SurfaceSum::Points });
     }
     let arcs = arcs(table, coords, x);
     if arcs > MAX_ENTRY {
-        return Err(PropertyFault::Large { sum: Sum::Arcs });
+        return Err(PropertyFault::Large { sum: SurfaceSum::Arcs });
     }
     let pieces = sum_of(x);
     let both = add(points, pieces);
     if both > MAX_ENTRY {
         return Err(PropertyFault::Large {
-            sum: Sum::PointsAndPieces,
+            sum: SurfaceSum::PointsAndPieces,
         });
     }
     Ok(Properties {
