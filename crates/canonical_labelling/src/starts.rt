@@ -7,8 +7,8 @@ use crate::Start;
 use perm_four::perm_at;
 
 /// The start of a number: those of each tetrahedron stand together, in the order of their permutations.
-pub fn start_at(number: u32) -> Start
-    ensures { result ≡ starts.start_at number }
+pub fn numbered_start(number: u32) -> Start
+    ensures { result ≡ starts.numbered_start number }
 {
     Start {
         tet: number / 24,
@@ -17,8 +17,8 @@ pub fn start_at(number: u32) -> Start
 }
 
 /// The start from which a walk leads tetrahedron 0 back to where the start of a number begins.
-pub fn start_back_at(number: u32) -> Start
-    ensures { result ≡ starts.start_back_at number }
+pub fn numbered_start_back(number: u32) -> Start
+    ensures { result ≡ starts.numbered_start_back number }
 {
     Start {
         tet: number / 24,

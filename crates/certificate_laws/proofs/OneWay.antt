@@ -18,7 +18,7 @@ use Rattle.labelling_laws.proofs.Standing.{same_relabelling}
 use Rattle.move_definitions.proofs.CoreTests.{core_size}
 use Rattle.move_laws.proofs.Labels.{ascending}
 use Rattle.move_laws.proofs.ListedFacets.{same_some}
-use Rattle.move_laws.proofs.Legal.{OldFacet, gone_facet}
+use Rattle.move_laws.proofs.Legal.{OldFacet, old_tet_facet}
 use Rattle.move_laws.proofs.Played.{played_same, played_table}
 use Rattle.certificate_laws.proofs.StepBack.{IsLedBack, led_back_by}
 use Rattle.certificate_laws.proofs.CarriedWays.{staying_relabels, staying_carries, stepped}
@@ -115,7 +115,7 @@ carried_once old m now back on by by' c h h' = same_relabelling (length old) by 
 
     by_test : (t : ℕ) → t < length old → (b : Bool) → is_taken old m t ≡ b → stand_in by t ≡ stand_in by' t
     by_test t l false e = h.kept t l e ∙ sym (h'.kept t l e)
-    by_test t l true e = by_facet t (gone_facet old m t c e)
+    by_test t l true e = by_facet t (old_tet_facet old m t c e)
 
 -- what is carried back leads there
 pub record IsThere (rows last : List Row) (back : List Move) (end : List Row) (by : Relabelling) : Type 0 where

@@ -9,7 +9,7 @@ use Rattle.table_definitions.specs.Relabelling.{face_under, gluing_under}
 use Rattle.table_definitions.specs.Places.{Place, whole, across, SameComponent, IsConnected}
 use Rattle.table_definitions.proofs.TableLaws.{glued_tet, glued_face}
 use Rattle.table_definitions.proofs.ChainLaws.{kept_along, joined_refl, joined_trans, Crossed, crossed, gluing_joins, joins_back, one_unreached, connected_or_not}
-use Rattle.move_definitions.specs.Moves.{Move, IsCore, Facet, own_facet, opposite, facet, new_facet, kept, old_labels, facet_stand_in, stand_in_at, moved_gluing, IsMoved, facet_gluing}
+use Rattle.move_definitions.specs.Moves.{Move, IsCore, Facet, own_facet, opposite, facet, new_facet, kept, old_labels, old_tets, facet_stand_in, stand_in_at, moved_gluing, IsMoved, facet_gluing}
 use Rattle.certificate_definitions.specs.Answers.{Descended}
 use Rattle.signature_laws.proofs.Connected.{connected_or_unreached_lem}
 use Rattle.table_definitions.proofs.Permutations.{image_below}
@@ -18,7 +18,7 @@ use Rattle.move_definitions.proofs.CoreTests.{core_size}
 use Rattle.move_definitions.proofs.StandIns.{facet_stand_in-new}
 use Rattle.move_laws.proofs.Labels.{HasLabel, label_at}
 use Rattle.move_laws.proofs.ListedFacets.{same_some, has_tet}
-use Rattle.move_laws.proofs.Legal.{IsFacet, facet_is, facet-four, HasNoFault, no_fault, old_facet, old_label, gone, OldFacet, gone_facet}
+use Rattle.move_laws.proofs.Legal.{IsFacet, facet_is, facet-four, HasNoFault, no_fault, old_facet, old_label, OldFacet, old_tet_facet}
 use Rattle.move_laws.proofs.Covered.{stand_in-kept, stand_in-old}
 use Rattle.move_laws.proofs.Matched.{AreGlued, old_glued}
 use Rattle.move_laws.proofs.SecondStand.{other_stands}
@@ -39,15 +39,15 @@ record IsStep (old : List Row) (m : Move) (new : List Row) : Type 0 where
 
 -- where a tetrahedron is then: all that are taken out are with the first that is put in
 unfoldable where_then : List Row → Move → ℕ → ℕ
-where_then old m t = if has (gone old m) t then kept old m else closed_up (gone old m) t
+where_then old m t = if has (old_tets old m) t then kept old m else closed_up (old_tets old m) t
 
-then_kept : (old : List Row) (m : Move) (t : ℕ) → has (gone old m) t ≡ false → where_then old m t ≡ closed_up (gone old m) t
+then_kept : (old : List Row) (m : Move) (t : ℕ) → has (old_tets old m) t ≡ false → where_then old m t ≡ closed_up (old_tets old m) t
 unfolding where_then
-then_kept old m t e = ap (λ (b : Bool). if b then kept old m else closed_up (gone old m) t) e
+then_kept old m t e = ap (λ (b : Bool). if b then kept old m else closed_up (old_tets old m) t) e
 
-then_taken : (old : List Row) (m : Move) (t : ℕ) → has (gone old m) t ≡ true → where_then old m t ≡ kept old m
+then_taken : (old : List Row) (m : Move) (t : ℕ) → has (old_tets old m) t ≡ true → where_then old m t ≡ kept old m
 unfolding where_then
-then_taken old m t e = ap (λ (b : Bool). if b then kept old m else closed_up (gone old m) t) e
+then_taken old m t e = ap (λ (b : Bool). if b then kept old m else closed_up (old_tets old m) t) e
 
 go_on : (rows : List Row) (t u v : ℕ) → SameComponent rows t u → SameComponent rows u v → SameComponent rows t v
 go_on rows t u v j k = joined_trans rows (whole t) (whole u) (whole v) j k
@@ -68,19 +68,19 @@ stands_then old m new h x s lt lf stands = elim (shape old m h.table h.fine h.co
   | inl k ↦ same_place new s.tet (where_then old m x.tet) (ap (λ (g : Gluing). g.tet) k.by ∙ sym (then_kept old m x.tet k.stays))
   | inr f ↦ (let at : s.tet ≡ kept old m + f.j = ap (λ (g : Gluing). g.tet) f.by in
       let tet : f.facet_of.tet ≡ x.tet = ap (λ (y : Face). y.tet) f.old_is in
-      let taken : has (gone old m) x.tet ≡ true = ap (has (gone old m)) (sym tet) ∙ has_tet (facet old m) (old_labels m) f.i f.facet_of (old_label (length m.core) f.i (core_size m.core h.core).1 f.low f.high) f.found in
+      let taken : has (old_tets old m) x.tet ≡ true = ap (has (old_tets old m)) (sym tet) ∙ has_tet (facet old m) (old_labels m) f.i f.facet_of (old_label (length m.core) f.i (core_size m.core h.core).1 f.low f.high) f.found in
       go_on new s.tet (kept old m + f.j) (where_then old m x.tet) (same_place new s.tet (kept old m + f.j) at)
       (go_on new (kept old m + f.j) (kept old m) (where_then old m x.tet) (new_joined old m new h f.j f.less) (same_place new (kept old m) (where_then old m x.tet) (sym (then_taken old m x.tet taken)))))
 ]
 
 -- where nothing stands for a face, it lies between tetrahedra that are taken out
-both_taken : (old : List Row) (m : Move) (new : List Row) → IsStep old m new → (x : Face) (g : Gluing) → x.tet < length old → x.face < 4 → glue old x ≡ Some g → stand_in_at old m x ≡ None → (has (gone old m) x.tet ≡ true) × (has (gone old m) g.tet ≡ true)
-both_taken old m new h x g lt lf e none = by_test (has (gone old m) x.tet) refl
+both_taken : (old : List Row) (m : Move) (new : List Row) → IsStep old m new → (x : Face) (g : Gluing) → x.tet < length old → x.face < 4 → glue old x ≡ Some g → stand_in_at old m x ≡ None → (has (old_tets old m) x.tet ≡ true) × (has (old_tets old m) g.tet ≡ true)
+both_taken old m new h x g lt lf e none = by_test (has (old_tets old m) x.tet) refl
   where
     never : (o : Option Gluing) (k : Gluing) → o ≡ Some k → o ≡ None → ⊥
     never o k a b = cc
 
-    by_facet : OldFacet old m x.tet → (has (gone old m) x.tet ≡ true) → (has (gone old m) x.tet ≡ true) × (has (gone old m) g.tet ≡ true)
+    by_facet : OldFacet old m x.tet → (has (old_tets old m) x.tet ≡ true) → (has (old_tets old m) x.tet ≡ true) × (has (old_tets old m) g.tet ≡ true)
     by_facet o taken =
         let f : Facet = o.facet_of in
         let is : IsFacet old o.label f = facet_is old m o.label f h.table h.core h.fine.in_range o.high o.is in
@@ -90,7 +90,7 @@ both_taken old m new h x g lt lf e none = by_test (has (gone old m) x.tet) refl
         by_size f l here.small here.present is face (ap (face_at f.tet) here.vertex ∙ face) refl (cases_lt l (length m.core)) o.is
       where
         by_size : (f : Facet) (l : ℕ) → l < 5 → l ≢ o.label → IsFacet old o.label f → face_at f.tet x.face ≡ x → opposite f l ≡ x → image f.labels x.face ≡ l → (l < length m.core) ⊎ (length m.core ≤ l) → facet old m o.label ≡ Some f
-            → (has (gone old m) x.tet ≡ true) × (has (gone old m) g.tet ≡ true)
+            → (has (old_tets old m) x.tet ≡ true) × (has (old_tets old m) g.tet ≡ true)
         by_size f l small apart is face at label (inl less) found =
             absurd (never (stand_in_at old m x) (facet_gluing old m f l) (ap (stand_in_at old m) (sym face) ∙ stand_in-old old m o.label f x.face h.fine h.core o.low o.high found ∙ ap (facet_stand_in old m f) label ∙ facet_stand_in-new old m f l less) none)
         by_size f l small apart is face at label (inr more) found =
@@ -98,11 +98,11 @@ both_taken old m new h x g lt lf e none = by_test (has (gone old m) x.tet) refl
             let a : AreGlued old o.label l f other.0 = old_glued old m o.label l f other.0 h.table h.fine h.core o.low o.high more small (λ e. apart (sym e)) found other.1 in
             let same : a.by ≡ g = same_some (glue old x) a.by g (ap (glue old) (sym at) ∙ a.glued) e in
             let tet : other.0.tet ≡ g.tet = sym a.tet ∙ ap (λ (k : Gluing). k.tet) same in
-            (taken, ap (has (gone old m)) (sym tet) ∙ has_tet (facet old m) (old_labels m) l other.0 (old_label (length m.core) l (core_size m.core h.core).1 more small) other.1)
+            (taken, ap (has (old_tets old m)) (sym tet) ∙ has_tet (facet old m) (old_labels m) l other.0 (old_label (length m.core) l (core_size m.core h.core).1 more small) other.1)
 
-    by_test : (b : Bool) → has (gone old m) x.tet ≡ b → (has (gone old m) x.tet ≡ true) × (has (gone old m) g.tet ≡ true)
+    by_test : (b : Bool) → has (old_tets old m) x.tet ≡ b → (has (old_tets old m) x.tet ≡ true) × (has (old_tets old m) g.tet ≡ true)
     by_test false s = absurd (never (stand_in_at old m x) _ (stand_in-kept old m x s) none)
-    by_test true s = by_facet (gone_facet old m x.tet h.core s) s
+    by_test true s = by_facet (old_tet_facet old m x.tet h.core s) s
 
 -- each step of a chain goes along
 step_then : (old : List Row) (m : Move) (new : List Row) → IsStep old m new → (x : Face) (g : Gluing) → glue old x ≡ Some g → SameComponent new (where_then old m x.tet) (where_then old m g.tet)
@@ -141,7 +141,7 @@ chain_then old m new h t u j = (kept_along old (Then old m new t) step j.0 (whol
 from_old : (old : List Row) (m : Move) (new : List Row) → IsStep old m new → (u : ℕ) → IsKeptNumber old m u ⊎ IsNewNumber old m u → (t : ℕ) × (t < length old) × SameComponent new u (where_then old m t)
 from_old old m new h u (inl k) = (k.tet, k.in_range, same_place new u (where_then old m k.tet) (sym k.is ∙ sym (then_kept old m k.tet k.stays)))
 from_old old m new h u (inr n) =
-    let taken : has (gone old m) m.tet ≡ true = has_tet (facet old m) (old_labels m) 4 (own_facet m) (old_label (length m.core) 4 (core_size m.core h.core).1 (let few = (core_size m.core h.core).1 in omega arith) (omega arith)) (facet-four old m) in
+    let taken : has (old_tets old m) m.tet ≡ true = has_tet (facet old m) (old_labels m) 4 (own_facet m) (old_label (length m.core) 4 (core_size m.core h.core).1 (let few = (core_size m.core h.core).1 in omega arith) (omega arith)) (facet-four old m) in
     (m.tet, h.fine.in_range, go_on new u (kept old m) (where_then old m m.tet) (go_on new u (kept old m + n.label) (kept old m) (same_place new u (kept old m + n.label) (sym n.is)) (new_joined old m new h n.label n.small)) (same_place new (kept old m) (where_then old m m.tet) (sym (then_taken old m m.tet taken))))
 
 pub moves_keep_connected_lem : MovesKeepConnected

@@ -10,7 +10,7 @@ use Rattle.document_definitions.specs.Documents.{table_document, vectors_documen
 use Rattle.text_definitions.specs.Text.{lines_of, end_of}
 use Rattle.text_definitions.specs.Written.{line}
 use Rattle.text_definitions.specs.declared.Place.{Place}
-use Rattle.document_definitions.specs.Signs.{shown, strange, line_end, input_end, signs_of}
+use Rattle.document_definitions.specs.Symbols.{shown, strange, line_end, input_end, symbols_of}
 use Rattle.document_definitions.proofs.BlockExamples.{place}
 use Rattle.table_definitions.proofs.Tables.{sphere, other_sphere, table_gb, row, free}
 
@@ -35,11 +35,11 @@ cones : (cone_document (line (codes "cone 2 1") ++ codes "2 -1") ≡ Ok (record 
 unfolding computed
 cones = (refl, refl, refl, refl)
 
--- the signs of two lines, the second of which ends with the input
+-- the symbols of two lines, the second of which ends with the input
 at : ℕ → ℕ → Place
 at l c = record { line = l; column = c }
 
-signs : signs_of (end_of (line (codes "vec 1 " ++ 255 ∷ []) ++ codes " 2")) (lines_of (line (codes "vec 1 " ++ 255 ∷ []) ++ codes " 2"))
+symbols : symbols_of (end_of (line (codes "vec 1 " ++ 255 ∷ []) ++ codes " 2")) (lines_of (line (codes "vec 1 " ++ 255 ∷ []) ++ codes " 2"))
     ≡ (at 1 1, shown (codes "vec")) ∷ (at 1 5, shown (codes "1")) ∷ (at 1 7, strange) ∷ (at 1 8, line_end) ∷ (at 2 2, shown (codes "2")) ∷ (at 2 3, line_end) ∷ (at 2 3, input_end) ∷ []
 unfolding computed at
-signs = refl
+symbols = refl

@@ -1,6 +1,6 @@
 pub mod Documents
 pub mod Grammar
 pub mod ConeGrammar
-pub mod Signs
+pub mod Symbols
 pub mod TextForms
 pub mod Blocks

@@ -1,5 +1,5 @@
 -- Readers that are written out as a chain of calls: where one is refused, no more is seen than what stands before the fault and the
--- sign there, and what stands before it can be gone on with. There is a law for each call of a chain.
+-- symbol there, and what stands before it can be gone on with. There is a law for each call of a chain.
 use Rattle.std.proofs.Common.{◌≡◌, ℕ, List, [], Result, Ok, Err, refl, ap, ◌∙◌, subst}
 use Rattle.std.specs.Prelude.{⊤, codes}
 use Rattle.text_definitions.specs.Written.{limit}
@@ -8,7 +8,7 @@ use Rattle.text_definitions.specs.declared.LexFault.{LexFault}
 use Rattle.text_definitions.specs.Reading.{Reading, ◌>>=◌, need_line_at, end_line_at, number_at, numbers_at, exactly_at}
 use Rattle.text_definitions.proofs.Readers.{numbers_at-end}
 use Rattle.table_definitions.proofs.LineLaws.{line_found}
-use Rattle.document_definitions.specs.Signs.{Sign}
+use Rattle.document_definitions.specs.Symbols.{Symbol}
 use Rattle.document_laws.proofs.Local.{shows, Goes, goes_chained, goes_pure, alone, alone_bind}
 use Rattle.document_laws.proofs.LocalWords.{as_is, word_with, ending, goes_word, goes_end}
 use Rattle.document_laws.proofs.LocalLines.{next_line, goes_line}
@@ -21,7 +21,7 @@ abbrev pub Reader : Type 0 → Type 0
 Reader A = Reading → Result (A × Reading) LexFault
 
 abbrev pub Aims : Type 0 → Type 1
-Aims A = A → List Sign → Type 0
+Aims A = A → List Symbol → Type 0
 
 -- a reading that can be read with an aim, at the end of a line
 abbrev pub SatBehind : {A : Type 0} → Reader A → Aims A → Type 0

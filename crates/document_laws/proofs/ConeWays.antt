@@ -5,7 +5,7 @@ use Rattle.text_definitions.specs.declared.Place.{Place}
 use Rattle.text_definitions.specs.Text.{Token, Line}
 use Rattle.text_definitions.specs.Reading.{Reading, ◌>>=◌, signed_at}
 use Rattle.cone_text_definitions.specs.ConeText.{Cone, coefficients_at, cone_row_at, cone_rows_at, rows_of_cone_at, cone_at}
-use Rattle.document_definitions.specs.Signs.{Sign, line_end, input_end, line_signs, signs_of, plain}
+use Rattle.document_definitions.specs.Symbols.{Symbol, line_end, input_end, line_symbols, symbols_of, plain}
 use Rattle.document_laws.proofs.Local.{shows}
 use Rattle.document_laws.proofs.LocalWords.{as_is}
 use Rattle.document_laws.proofs.LocalForms.{number_test, signed_test, signed_word, exact_test}
@@ -61,27 +61,27 @@ ends_cone =
     ends_named (codes "cone") _ refl (ends_number 10000 _ (λ columns. ends_number 10000 _ (λ n. ends_line (made (cone_of columns) (rows_of_cone_at columns n)) (opens_made (cone_of columns) (rows_of_cone_at columns n) (opens_cone_rows columns n)))))
 
 -- nothing is left
-abbrev pub last_signs : List Sign
-last_signs = line_end ∷ input_end ∷ []
+abbrev pub last_symbols : List Symbol
+last_symbols = line_end ∷ input_end ∷ []
 
-at_nothing : (n end : ℕ) (p : Place) → plain (line_signs n [] end (signs_of p [])) ≡ last_signs
-unfolding line_signs signs_of
+at_nothing : (n end : ℕ) (p : Place) → plain (line_symbols n [] end (symbols_of p [])) ≡ last_symbols
+unfolding line_symbols symbols_of
 at_nothing n end p = refl
 
-pub at_last : (k : Reading) → k.current.tokens ≡ [] → k.later ≡ [] → shows k ≡ last_signs
+pub at_last : (k : Reading) → k.current.tokens ≡ [] → k.later ≡ [] → shows k ≡ last_symbols
 at_last k none empty = by_parts k.current.tokens k.later none empty
   where
-    by_parts : (ts : List Token) (ls : List Line) → ts ≡ [] → ls ≡ [] → plain (line_signs k.current.number ts k.current.end (signs_of k.input_end ls)) ≡ last_signs
-    by_parts ts ls p q = ap (λ (us : List Token). plain (line_signs k.current.number us k.current.end (signs_of k.input_end ls))) p
-        ∙ ap (λ (ms : List Line). plain (line_signs k.current.number [] k.current.end (signs_of k.input_end ms))) q ∙ at_nothing k.current.number k.current.end k.input_end
+    by_parts : (ts : List Token) (ls : List Line) → ts ≡ [] → ls ≡ [] → plain (line_symbols k.current.number ts k.current.end (symbols_of k.input_end ls)) ≡ last_symbols
+    by_parts ts ls p q = ap (λ (us : List Token). plain (line_symbols k.current.number us k.current.end (symbols_of k.input_end ls))) p
+        ∙ ap (λ (ms : List Line). plain (line_symbols k.current.number [] k.current.end (symbols_of k.input_end ms))) q ∙ at_nothing k.current.number k.current.end k.input_end
 
 -- a reading of lines, none of which is begun
 abbrev pub of_lines : List Line → Reading
 of_lines ls = record { current = record { number = 0; tokens = []; end = 0 }; later = ls; input_end = record { line = 0; column = 0 }; taken = record { line = 0; column = 0 } }
 
 -- a cone, behind which nothing is left
-abbrev pub IsLast : Cone → List Sign → Type 0
-IsLast cone ss = ss ≡ last_signs
+abbrev pub IsLast : Cone → List Symbol → Type 0
+IsLast cone ss = ss ≡ last_symbols
 
 abbrev none : Reading
 none = of_lines []

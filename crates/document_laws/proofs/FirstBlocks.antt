@@ -9,7 +9,7 @@ use Rattle.table_definitions.specs.Table.{Row}
 use Rattle.signature_definitions.specs.declared.InputFault.{InputFault}
 use Rattle.signature_definitions.specs.Grammar.{AreTableLines}
 use Rattle.document_definitions.specs.Documents.{worded, next_table_at}
-use Rattle.document_definitions.specs.Signs.{FirstLeavesAt}
+use Rattle.document_definitions.specs.Symbols.{FirstLeavesAt}
 use Rattle.document_definitions.specs.TextForms.{AreTableText}
 use Rattle.document_definitions.specs.Blocks.{Block, block_at, blocks_on, blocks_from, blocks_document, AreBlockLines, AreBlocks, AreTableAndBlocks, AreTableAndBlocksText}
 use Rattle.document_laws.specs.FormLaws.{FaultsStandFirst}

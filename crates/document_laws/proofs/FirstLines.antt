@@ -12,7 +12,7 @@ use Rattle.signature_definitions.specs.declared.InputFault.{InputFault}
 use Rattle.signature_definitions.specs.Grammar.{AreTableLines}
 use Rattle.document_definitions.specs.Grammar.{AreTableAndLines}
 use Rattle.document_definitions.specs.Documents.{worded, each_line_from, next_table_at, table_and_lines}
-use Rattle.document_definitions.specs.Signs.{Sign, FirstLeavesAt}
+use Rattle.document_definitions.specs.Symbols.{Symbol, FirstLeavesAt}
 use Rattle.document_definitions.specs.TextForms.{AreTableText, AreTextAndLines}
 use Rattle.document_laws.specs.FaultLaws.{SomeTableAndLines, FaultsBehindLeaveFirst}
 use Rattle.document_laws.proofs.Blocks.{ReadsLine}
@@ -116,7 +116,7 @@ module _ {A : Type 0} (form : Reading → Result (A × Reading) LexFault) (Form 
   taken : (lines : List Line) → SomeTableAndLines Form lines → (rows : List Row) × (table : List Line) × (rest : List Line) × (lines ≡ table ++ rest) × AreTableLines table rows × Many rest
   taken lines h = (let t : AreTableAndLines Form lines h.0 h.1 = h.2 in (h.0, t.0, t.1, t.2, t.3, forget Form t.1 h.1 t.4))
 
-  module _ (goes : (c : Reading) → Goes form c) (well : (Aim : A → List Sign → Type 0) (k : Reading) → k.current.tokens ≡ [] → ((x : A) → Aim x (shows k)) → (c : Reading) → Well as_is form Aim c) where
+  module _ (goes : (c : Reading) → Goes form c) (well : (Aim : A → List Symbol → Type 0) (k : Reading) → k.current.tokens ≡ [] → ((x : A) → Aim x (shows k)) → (c : Reading) → Well as_is form Aim c) where
     well_read : (most : List Line) (c : Reading) → WellOpen as_is (read most) AtEnd c
     well_read most c =
         well_open as_is next_text (λ u. each_from form most) AtEnd (λ u. alike_each_from form goes most) c (opens_next_text.goes c)

@@ -11,7 +11,7 @@ use Rattle.table_definitions.specs.Table.{Row}
 use Rattle.signature_definitions.specs.declared.InputFault.{InputFault}
 use Rattle.signature_definitions.specs.SignatureText.{any_table_at}
 use Rattle.document_definitions.specs.Documents.{worded, no_line_from, next_table_at, tables_on, tables_from, table_document, two_tables_document, tables_document}
-use Rattle.document_definitions.specs.Signs.{Sign}
+use Rattle.document_definitions.specs.Symbols.{Symbol}
 use Rattle.document_definitions.specs.TextForms.{AreTableText, AreTwoTablesText, AreManyTablesText, AreTablesText}
 use Rattle.document_laws.specs.FormLaws.{FaultsStandFirst}
 use Rattle.document_laws.proofs.Documents.{end_at}
@@ -152,7 +152,7 @@ pub next_table : (b : Reading) → AreTablesText (b.current ∷ b.later) → Nex
 next_table b (zero, h) = absurd cc
 next_table b (suc n, h) = first_table b n h.0 h.1 h.2 h.3 h.4
 
-pub well_line_text : (Aim : ⊤ → List Sign → Type 0) (k : Reading) → k.current.tokens ≡ [] → ((x : ⊤) → Aim x (shows k)) → (c : Reading) → Well as_is text_at Aim c
+pub well_line_text : (Aim : ⊤ → List Symbol → Type 0) (k : Reading) → k.current.tokens ≡ [] → ((x : ⊤) → Aim x (shows k)) → (c : Reading) → Well as_is text_at Aim c
 well_line_text Aim k none a c = ends_text.well Aim k none a c
 
 pub many_sound : (most : List Line) (o : Reading) (u : ⊤) (next : Reading) → many_texts most o ≡ Ok (u, next) → AtEnd u (shows next) → AreTablesText o.later

@@ -13,7 +13,7 @@ use Rattle.move_definitions.specs.Grammar.{IsMoveLine, IsStepLine}
 use Rattle.document_definitions.specs.Grammar.{AreTableAndLines, AreTwoTables, AreTables}
 use Rattle.document_definitions.specs.Blocks.{blocks_document, AreTableAndBlocks, AreTableAndBlocksText}
 use Rattle.document_definitions.specs.Documents.{table_document, table_and_lines, vector_document, two_tables_document, tables_document}
-use Rattle.document_definitions.specs.Signs.{LeavesAt}
+use Rattle.document_definitions.specs.Symbols.{LeavesAt}
 use Rattle.document_definitions.specs.TextForms.{AreTableText, AreTextAndLines, AreTableAndVectorText, AreTwoTablesText, AreTablesText}
 use Rattle.document_laws.specs.FormLaws.{AreRead, HaveForm, FaultsLeave, FaultsStandFirst, AreLaws, TableLaws, TwoTablesLaws, TablesLaws, VectorsLaws, VectorLaws, StepsLaws, MovesLaws, BlocksLaws}
 use Rattle.document_laws.proofs.Blocks.{ReadsLine}
@@ -31,7 +31,7 @@ module _ {A : Type 0} (read : List ℕ → Result A InputFault) (grammar : List 
   leave_with_form : HaveForm grammar form → FaultsStandFirst read form → FaultsLeave read grammar
   leave_with_form has first bytes f e =
       let h : LeavesAt form (end_of bytes) (lines_of bytes) f.place = (first bytes f e).leaves in
-      record { before = h.before; sign = h.sign; after = h.after; stands = h.stands; no_way_on = λ others more shown g. h.no_way_on others more shown (has others g.0 g.1) }
+      record { before = h.before; symbol = h.symbol; after = h.after; stands = h.stands; no_way_on = λ others more shown g. h.no_way_on others more shown (has others g.0 g.1) }
 
   lawful : AreRead read grammar → HaveForm grammar form → FaultsStandFirst read form → AreLaws A read grammar form
   lawful reads has first = record { reads = reads; has_form = has; leaves = leave_with_form has first; stands_first = first }

@@ -9,7 +9,7 @@ use Rattle.text_definitions.specs.Reading.{Reading, ◌>>=◌, begun, start_of}
 use Rattle.cone_text_definitions.specs.ConeText.{Cone, cone_at}
 use Rattle.document_definitions.specs.ConeGrammar.{AreConeLines}
 use Rattle.document_definitions.specs.Documents.{no_line_at, no_line_from, cone_document}
-use Rattle.document_definitions.specs.Signs.{Sign, line_end, input_end, Placed, token_sign, line_signs, signs_of, plain, LeavesAt, FirstLeavesAt}
+use Rattle.document_definitions.specs.Symbols.{Symbol, line_end, input_end, Placed, token_symbol, line_symbols, symbols_of, plain, LeavesAt, FirstLeavesAt}
 use Rattle.document_laws.specs.FaultLaws.{ConeFaultsLeave, SomeCone}
 use Rattle.document_laws.proofs.ConeReading.{ConeRead, cone_read}
 use Rattle.document_laws.proofs.Cones.{closed_cone, cone_on, cone_document_found}
@@ -20,35 +20,35 @@ use Rattle.document_laws.proofs.Leaving.{StopsBehind, behind_end, behind_line, s
 use Rattle.document_laws.proofs.LeavingDocuments.{no_line, no_line_ends, cone_by_line}
 use Rattle.document_laws.proofs.Ways.{Way, graft}
 use Rattle.document_laws.proofs.WordWays.{opens_rest}
-use Rattle.document_laws.proofs.ConeWays.{last_signs, IsLast, ends_cone, sat_cone, well_cone}
+use Rattle.document_laws.proofs.ConeWays.{last_symbols, IsLast, ends_cone, sat_cone, well_cone}
 
 -- what is shown doesn't depend on the place where the input ends
-pub same_line : (n : ℕ) (ts : List Token) (end : ℕ) (xs ys : List Placed) → plain xs ≡ plain ys → plain (line_signs n ts end xs) ≡ plain (line_signs n ts end ys)
-unfolding line_signs
-same_line n [] end xs ys e = ap (λ (ss : List Sign). line_end ∷ ss) e
-same_line n (t ∷ ts) end xs ys e = ap (λ (ss : List Sign). (token_sign n t).1 ∷ ss) (same_line n ts end xs ys e)
+pub same_line : (n : ℕ) (ts : List Token) (end : ℕ) (xs ys : List Placed) → plain xs ≡ plain ys → plain (line_symbols n ts end xs) ≡ plain (line_symbols n ts end ys)
+unfolding line_symbols
+same_line n [] end xs ys e = ap (λ (ss : List Symbol). line_end ∷ ss) e
+same_line n (t ∷ ts) end xs ys e = ap (λ (ss : List Symbol). (token_symbol n t).1 ∷ ss) (same_line n ts end xs ys e)
 
-pub same_signs : (p q : Place) (ls : List Line) → plain (signs_of p ls) ≡ plain (signs_of q ls)
-unfolding signs_of
-same_signs p q [] = refl
-same_signs p q (l ∷ ls) = same_line l.number l.tokens l.end (signs_of p ls) (signs_of q ls) (same_signs p q ls)
+pub same_symbols : (p q : Place) (ls : List Line) → plain (symbols_of p ls) ≡ plain (symbols_of q ls)
+unfolding symbols_of
+same_symbols p q [] = refl
+same_symbols p q (l ∷ ls) = same_line l.number l.tokens l.end (symbols_of p ls) (symbols_of q ls) (same_symbols p q ls)
 
-opened : (o : Reading) → plain (signs_of o.input_end (o.current ∷ o.later)) ≡ shows o
-unfolding signs_of
+opened : (o : Reading) → plain (symbols_of o.input_end (o.current ∷ o.later)) ≡ shows o
+unfolding symbols_of
 opened o = refl
 
-pub as_lines : (end : Place) (o : Reading) → plain (signs_of end (o.current ∷ o.later)) ≡ shows o
-as_lines end o = same_signs end o.input_end (o.current ∷ o.later) ∙ opened o
+pub as_lines : (end : Place) (o : Reading) → plain (symbols_of end (o.current ∷ o.later)) ≡ shows o
+as_lines end o = same_symbols end o.input_end (o.current ∷ o.later) ∙ opened o
 
--- no line is left behind the last signs
-pub no_lines : (p : Place) (ls : List Line) → plain (signs_of p ls) ≡ input_end ∷ [] → ls ≡ []
-unfolding signs_of
+-- no line is left behind the last symbols
+pub no_lines : (p : Place) (ls : List Line) → plain (symbols_of p ls) ≡ input_end ∷ [] → ls ≡ []
+unfolding symbols_of
 no_lines p [] e = refl
-no_lines p (l ∷ ls) e = absurd (no_input_end l.number l.tokens l.end (signs_of p ls) (ap opening e))
+no_lines p (l ∷ ls) e = absurd (no_input_end l.number l.tokens l.end (symbols_of p ls) (ap opening e))
 
-pub none_behind : (ts : List Token) (n end : ℕ) (p : Place) (ls : List Line) → plain (line_signs n ts end (signs_of p ls)) ≡ last_signs → ls ≡ []
-unfolding line_signs
-none_behind [] n end p ls e = (let tail : plain (signs_of p ls) ≡ input_end ∷ [] = cc in no_lines p ls tail)
+pub none_behind : (ts : List Token) (n end : ℕ) (p : Place) (ls : List Line) → plain (line_symbols n ts end (symbols_of p ls)) ≡ last_symbols → ls ≡ []
+unfolding line_symbols
+none_behind [] n end p ls e = (let tail : plain (symbols_of p ls) ≡ input_end ∷ [] = cc in no_lines p ls tail)
 none_behind (word column w ∷ ts) n end p ls e = absurd cc
 none_behind (stray column ∷ ts) n end p ls e = absurd cc
 
@@ -76,7 +76,7 @@ first_of_none : (bytes : List ℕ) (p : Place) → lines_of bytes ≡ [] → p �
 first_of_none bytes p split there = record {
   leaves = left_at bytes p (behind_end no_line cone_on (start_of bytes) p split there (λ d x q. absurd cc));
   others = sat_cone.start.current ∷ sat_cone.start.later;
-  more = plain (signs_of (end_of bytes) (sat_cone.start.current ∷ sat_cone.start.later));
+  more = plain (symbols_of (end_of bytes) (sat_cone.start.current ∷ sat_cone.start.later));
   shown_before = refl;
   way_on =
       some_cone sat_cone.start sat_cone.value sat_cone.next sat_cone.reads
@@ -117,7 +117,7 @@ abbrev pub cut : Reading → Reading
 cut d = record d { later = [] }
 
 pub cut_shows : (d : Reading) → shows (cut d) ≡ plain (rest_here d) ++ input_end ∷ []
-unfolding signs_of
+unfolding symbols_of
 cut_shows d = ap plain (line_split d.current.number d.current.tokens d.current.end ((d.input_end, input_end) ∷ [])) ∙ plain-append (rest_here d) ((d.input_end, input_end) ∷ [])
 
 first_past_cone : (bytes : List ℕ) (l : Line) (ls : List Line) (p : Place) (cone : Cone) (d : Reading) → lines_of bytes ≡ l ∷ ls → GoesOn cone_at (begun l ls (start_of bytes)) cone d → StopsPast (closed_cone cone) d p → First bytes p
@@ -132,8 +132,8 @@ first_past_cone bytes l ls p cone d split g h =
       others = gr.0.current ∷ gr.0.later;
       more = input_end ∷ [];
       shown_before =
-          as_lines (end_of bytes) gr.0 ∙ gr.1 ∙ ap (λ (ss : List Sign). plain g.front ++ ss) (cut_shows d ∙ ap (λ (fr : List Placed). plain fr ++ input_end ∷ []) (sym h.1))
-          ∙ sym (append_assoc (plain g.front) (plain h.0.front) (input_end ∷ [])) ∙ ap (λ (ss : List Sign). ss ++ input_end ∷ []) (sym (plain-append g.front h.0.front));
+          as_lines (end_of bytes) gr.0 ∙ gr.1 ∙ ap (λ (ss : List Symbol). plain g.front ++ ss) (cut_shows d ∙ ap (λ (fr : List Placed). plain fr ++ input_end ∷ []) (sym h.1))
+          ∙ sym (append_assoc (plain g.front) (plain h.0.front) (input_end ∷ [])) ∙ ap (λ (ss : List Symbol). ss ++ input_end ∷ []) (sym (plain-append g.front h.0.front));
       way_on = some_cone gr.0 cone n.0 n.1 none;
     }
 

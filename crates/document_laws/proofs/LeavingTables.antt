@@ -11,7 +11,7 @@ use Rattle.signature_definitions.specs.SignatureText.{any_table_at}
 use Rattle.signature_definitions.specs.Grammar.{AreTableLines}
 use Rattle.document_definitions.specs.Grammar.{AreTwoTables, AreTables}
 use Rattle.document_definitions.specs.Documents.{next_table_at, tables_on, tables_from, table_document, two_tables_document, tables_document}
-use Rattle.document_definitions.specs.Signs.{FirstLeavesAt}
+use Rattle.document_definitions.specs.Symbols.{FirstLeavesAt}
 use Rattle.document_definitions.specs.TextForms.{AreTableText, AreTablesText}
 use Rattle.document_laws.specs.FaultLaws.{SomeTable, SomeTwoTables, SomeTableAndText, SomeTablesAndText, TableFaultsLeaveFirst, SecondTableFaultsLeaveFirst, TwoTablesFaultsLeaveFirst, TablesFaultsLeaveFirst}
 use Rattle.document_laws.proofs.AnyTables.{next_of_begun}

@@ -1,44 +1,44 @@
--- Readers see no more of the input than the signs that they take, and the next one.
+-- Readers see no more of the input than the symbols that they take, and the next one.
 use Rattle.std.proofs.Common.{◌≡◌, ◌≢◌, List, [], ◌∷◌, ◌++◌, Option, Some, None, Result, Ok, Err, ◌⊎◌, inl, inr, refl, sym, ap, ◌∙◌, subst}
 use Rattle.std.specs.Prelude.{⊤}
 use Rattle.std.proofs.lemmas.List.{append_assoc, map-append}
 use Rattle.text_definitions.specs.declared.Place.{Place}
 use Rattle.text_definitions.specs.Reading.{Reading, ◌>>=◌}
 use Rattle.text_definitions.proofs.Readers.{bind_ok}
-use Rattle.document_definitions.specs.Signs.{Sign, Placed, line_signs, signs_of, plain}
+use Rattle.document_definitions.specs.Symbols.{Symbol, Placed, line_symbols, symbols_of, plain}
 use Rattle.table_definitions.proofs.ReadingLaws.{ok_parts}
 
--- the signs that are left
-abbrev pub left_signs : Reading → List Placed
-left_signs c = line_signs c.current.number c.current.tokens c.current.end (signs_of c.input_end c.later)
+-- the symbols that are left
+abbrev pub left_symbols : Reading → List Placed
+left_symbols c = line_symbols c.current.number c.current.tokens c.current.end (symbols_of c.input_end c.later)
 
-abbrev pub shows : Reading → List Sign
-shows c = plain (left_signs c)
+abbrev pub shows : Reading → List Symbol
+shows c = plain (left_symbols c)
 
-abbrev pub opening : List Sign → Option Sign
+abbrev pub opening : List Symbol → Option Symbol
 opening [] = None
 opening (s ∷ ss) = Some s
 
-pub opening_more : (xs ys zs : List Sign) → opening ys ≡ opening zs → opening (xs ++ ys) ≡ opening (xs ++ zs)
+pub opening_more : (xs ys zs : List Symbol) → opening ys ≡ opening zs → opening (xs ++ ys) ≡ opening (xs ++ zs)
 opening_more [] ys zs e = e
 opening_more (x ∷ xs) ys zs e = refl
 
 pub plain-append : (xs ys : List Placed) → plain (xs ++ ys) ≡ plain xs ++ plain ys
 plain-append xs ys = map-append (λ (s : Placed). s.1) xs ys
 
--- what is taken, and what a reading that shows the same, up to and with the next sign, gives
+-- what is taken, and what a reading that shows the same, up to and with the next symbol, gives
 pub record GoesOn {A E : Type 0} (read : Reading → Result (A × Reading) E) (c : Reading) (x : A) (d : Reading) : Type 0 where
   pub front : List Placed
-  pub split : left_signs c ≡ front ++ left_signs d
-  pub same : (other : Reading) (more : List Sign) → shows other ≡ plain front ++ more → opening more ≡ opening (shows d) → (next : Reading) × (read other ≡ Ok (x, next)) × (shows next ≡ more)
+  pub split : left_symbols c ≡ front ++ left_symbols d
+  pub same : (other : Reading) (more : List Symbol) → shows other ≡ plain front ++ more → opening more ≡ opening (shows d) → (next : Reading) × (read other ≡ Ok (x, next)) × (shows next ≡ more)
 
--- where a reader stops, one that is shown the same up to and with the sign there gives nothing either
+-- where a reader stops, one that is shown the same up to and with the symbol there gives nothing either
 pub record StopsAt {X E : Type 0} (read : Reading → Result X E) (c : Reading) (p : Place) : Type 0 where
   pub front : List Placed
-  pub sign : Sign
+  pub symbol : Symbol
   pub after : List Placed
-  pub split : left_signs c ≡ front ++ (p, sign) ∷ after
-  pub same : (other : Reading) (more : List Sign) → shows other ≡ plain front ++ sign ∷ more → (x : X) → read other ≢ Ok x
+  pub split : left_symbols c ≡ front ++ (p, symbol) ∷ after
+  pub same : (other : Reading) (more : List Symbol) → shows other ≡ plain front ++ symbol ∷ more → (x : X) → read other ≢ Ok x
 
 abbrev pub Goes : {A E : Type 0} → (Reading → Result (A × Reading) E) → Reading → Type 0
 Goes {A} read c = (x : A) (d : Reading) → read c ≡ Ok (x, d) → GoesOn read c x d
@@ -47,11 +47,11 @@ pub bind_err : {A B E : Type 0} (r : Result A E) (g : A → Result B E) (e : E) 
 bind_err (Ok x) g e p = inr (x, refl, p)
 bind_err {A} (Err f) g e p = let same : f ≡ e = cc in inl (ap (λ (h : _). Err h) same)
 
-pub shows_split : (c d : Reading) (front : List Placed) → left_signs c ≡ front ++ left_signs d → shows c ≡ plain front ++ shows d
-shows_split c d front e = ap plain e ∙ plain-append front (left_signs d)
+pub shows_split : (c d : Reading) (front : List Placed) → left_symbols c ≡ front ++ left_symbols d → shows c ≡ plain front ++ shows d
+shows_split c d front e = ap plain e ∙ plain-append front (left_symbols d)
 
-pub regrouped : (xs ys : List Placed) (more : List Sign) (c : Reading) → shows c ≡ plain (xs ++ ys) ++ more → shows c ≡ plain xs ++ (plain ys ++ more)
-regrouped xs ys more c e = e ∙ ap (λ (ss : List Sign). ss ++ more) (plain-append xs ys) ∙ append_assoc (plain xs) (plain ys) more
+pub regrouped : (xs ys : List Placed) (more : List Symbol) (c : Reading) → shows c ≡ plain (xs ++ ys) ++ more → shows c ≡ plain xs ++ (plain ys ++ more)
+regrouped xs ys more c e = e ∙ ap (λ (ss : List Symbol). ss ++ more) (plain-append xs ys) ∙ append_assoc (plain xs) (plain ys) more
 
 -- one reader after another
 module _ {A B E : Type 0} (first : Reading → Result (A × Reading) E) (second : A → Reading → Result (B × Reading) E) where
@@ -61,7 +61,7 @@ module _ {A B E : Type 0} (first : Reading → Result (A × Reading) E) (second 
   abbrev pub goes_joined : (c : Reading) (x : A) (d : Reading) (z : B) (last : Reading) → GoesOn first c x d → GoesOn (second x) d z last → GoesOn chained c z last
   goes_joined c x d z last g h = record {
     front = g.front ++ h.front;
-    split = g.split ∙ ap (λ (ss : List Placed). g.front ++ ss) h.split ∙ sym (append_assoc g.front h.front (left_signs last));
+    split = g.split ∙ ap (λ (ss : List Placed). g.front ++ ss) h.split ∙ sym (append_assoc g.front h.front (left_symbols last));
     same =
         λ other more e o. (let here : opening (plain h.front ++ more) ≡ opening (shows d) = opening_more (plain h.front) more (shows last) o ∙ ap opening (sym (shows_split d last h.front h.split)) in
         let f : (next : Reading) × (first other ≡ Ok (x, next)) × (shows next ≡ plain h.front ++ more) = g.same other (plain h.front ++ more) (regrouped g.front h.front more other e) here in
@@ -81,21 +81,21 @@ module _ {A X E : Type 0} (first : Reading → Result (A × Reading) E) (second 
   abbrev pub stops_late : (c : Reading) (x : A) (d : Reading) (p : Place) → GoesOn first c x d → StopsAt (second x) d p → StopsAt ended c p
   stops_late c x d p g h = record {
     front = g.front ++ h.front;
-    sign = h.sign;
+    symbol = h.symbol;
     after = h.after;
-    split = g.split ∙ ap (λ (ss : List Placed). g.front ++ ss) h.split ∙ sym (append_assoc g.front h.front ((p, h.sign) ∷ h.after));
+    split = g.split ∙ ap (λ (ss : List Placed). g.front ++ ss) h.split ∙ sym (append_assoc g.front h.front ((p, h.symbol) ∷ h.after));
     same =
-        λ other more e z q. (let there : shows d ≡ plain h.front ++ h.sign ∷ plain h.after = ap plain h.split ∙ plain-append h.front ((p, h.sign) ∷ h.after) in
-        let here : opening (plain h.front ++ h.sign ∷ more) ≡ opening (shows d) = opening_more (plain h.front) (h.sign ∷ more) (h.sign ∷ plain h.after) refl ∙ ap opening (sym there) in
-        let f : (next : Reading) × (first other ≡ Ok (x, next)) × (shows next ≡ plain h.front ++ h.sign ∷ more) =
-        g.same other (plain h.front ++ h.sign ∷ more) (regrouped g.front h.front (h.sign ∷ more) other e) here in
+        λ other more e z q. (let there : shows d ≡ plain h.front ++ h.symbol ∷ plain h.after = ap plain h.split ∙ plain-append h.front ((p, h.symbol) ∷ h.after) in
+        let here : opening (plain h.front ++ h.symbol ∷ more) ≡ opening (shows d) = opening_more (plain h.front) (h.symbol ∷ more) (h.symbol ∷ plain h.after) refl ∙ ap opening (sym there) in
+        let f : (next : Reading) × (first other ≡ Ok (x, next)) × (shows next ≡ plain h.front ++ h.symbol ∷ more) =
+        g.same other (plain h.front ++ h.symbol ∷ more) (regrouped g.front h.front (h.symbol ∷ more) other e) here in
         h.same f.0 more f.2 z (sym (ap (λ (r : Result (A × Reading) E). r >>= λ (y : A × Reading). second y.0 y.1) f.1) ∙ q));
   }
 
   abbrev pub stops_early : (c : Reading) (p : Place) → StopsAt first c p → StopsAt ended c p
   stops_early c p h = record {
     front = h.front;
-    sign = h.sign;
+    symbol = h.symbol;
     after = h.after;
     split = h.split;
     same =
@@ -103,7 +103,7 @@ module _ {A X E : Type 0} (first : Reading → Result (A × Reading) E) (second 
         h.same other more e b.0 b.1);
   }
 
--- a value, and no sign is taken
+-- a value, and no symbol is taken
 pub goes_pure : {A E : Type 0} (x : A) (c : Reading) → Goes {A = A} {E = E} (λ d. Ok (x, d)) c
 goes_pure {A} {E} x c y d e =
     let parts : (x ≡ y) × (c ≡ d) = ok_parts (x, c) (y, d) e in

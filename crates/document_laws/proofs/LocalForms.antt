@@ -1,4 +1,4 @@
--- Numbers and words that have to stand there: their readers see no more than they take and the next sign.
+-- Numbers and words that have to stand there: their readers see no more than they take and the next symbol.
 use Rattle.std.proofs.Common.{◌≡◌, ℕ, ℤ, Bool, true, false, List, [], ◌∷◌, Option, Some, None, Result, Ok, Err, refl, sym, ap, ◌∙◌}
 use Rattle.std.specs.Prelude.{⊤, nat_lt, if◌then◌else◌}
 use Rattle.text_definitions.specs.declared.LexKind.{LexKind}

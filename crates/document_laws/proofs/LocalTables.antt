@@ -1,4 +1,4 @@
--- Tables in either form: their readers see no more than they take and the next sign.
+-- Tables in either form: their readers see no more than they take and the next symbol.
 use Rattle.std.proofs.Common.{◌≡◌, ℕ, zero, suc, ◌^◌, Bool, true, false, List, [], ◌∷◌, Option, Some, None, Result, Ok, Err, refl, ap}
 use Rattle.std.specs.Prelude.{nat_lt, if◌then◌else◌, codes}
 use Rattle.text_definitions.specs.declared.LexKind.{LexKind}

@@ -1,4 +1,4 @@
--- Move and step lines: their readers see no more than they take and the next sign, and what stands before a fault can be gone on with.
+-- Move and step lines: their readers see no more than they take and the next symbol, and what stands before a fault can be gone on with.
 use Rattle.std.proofs.Common.{◌≡◌, ℕ, ◌-◌, ◌^◌, List, [], ◌∷◌, Option, Some, None, Result, Ok, Err, refl, sym, subst}
 use Rattle.std.specs.Prelude.{codes, slice_index}
 use Rattle.text_definitions.specs.declared.LexKind.{LexKind}

@@ -8,9 +8,9 @@ use Rattle.text_definitions.specs.declared.LexFault.{LexFault}
 use Rattle.text_definitions.specs.Text.{Token, word, stray, Line}
 use Rattle.text_definitions.specs.Reading.{Reading, ◌>>=◌, begun, fault_at}
 use Rattle.text_definitions.proofs.Readers.{bind_ok}
-use Rattle.document_definitions.specs.Signs.{Sign, shown, strange, line_end, input_end, Placed, line_signs, signs_of, plain}
+use Rattle.document_definitions.specs.Symbols.{Symbol, shown, strange, line_end, input_end, Placed, line_symbols, symbols_of, plain}
 use Rattle.table_definitions.proofs.ReadingLaws.{ok_parts, with_tokens}
-use Rattle.document_laws.proofs.Local.{left_signs, shows, opening, plain-append, StopsAt, Goes}
+use Rattle.document_laws.proofs.Local.{left_symbols, shows, opening, plain-append, StopsAt, Goes}
 use Rattle.document_laws.proofs.LocalWords.{as_is}
 use Rattle.document_laws.proofs.LocalLines.{by_lines, in_line, rest_here, split_line, further, Further, no_input_end, behind_line as behind_rest}
 use Rattle.document_laws.proofs.Ways.{From, Way, Alike, alike_goes, Well, WellOpen, well_goes}
@@ -19,7 +19,7 @@ use Rattle.document_laws.proofs.ConeWays.{of_lines}
 use Rattle.document_laws.proofs.LeavingCones.{no_lines, cut, cut_shows}
 use Rattle.document_laws.proofs.TextReaders.{Read}
 
--- no further line: the fault is at the first sign behind this one
+-- no further line: the fault is at the first symbol behind this one
 abbrev pub first_fault : List Token → Reading → LexFault
 first_fault [] c = fault_at c c.current.end ExtraWord
 first_fault (stray column ∷ ts) c = fault_at c column BadByte
@@ -32,7 +32,7 @@ closed_from (l ∷ ls) c = Err (first_fault l.tokens (begun l ls c))
 abbrev pub closing : Reading → Read
 closing c = closed_from c.later c
 
-abbrev pub Any : ⊤ → List Sign → Type 0
+abbrev pub Any : ⊤ → List Symbol → Type 0
 Any u ss = ⊤
 
 -- where no line is left, none is left where the same is shown
@@ -54,28 +54,28 @@ alike_closing c o x d e same =
     let n : (c.later ≡ []) × (c ≡ d) = none_closing c x d e in
     (o, closing_none o (none_later c o n.0 same), same ∙ ap (λ (r : Reading). shows r) n.1)
 
--- the sign behind
-first_sign : (ts : List Token) (b : Reading) → (sign : Sign) × (after : List Placed) × (left_signs (with_tokens ts b) ≡ ((first_fault ts b).place, sign) ∷ after) × (sign ≢ input_end)
-unfolding line_signs
-first_sign [] b = (line_end, signs_of b.input_end b.later, refl, λ e. absurd cc)
-first_sign (stray column ∷ ts) b = (strange, left_signs (with_tokens ts b), refl, λ e. absurd cc)
-first_sign (word column w ∷ ts) b = (shown w, left_signs (with_tokens ts b), refl, λ e. absurd cc)
+-- the symbol behind
+first_symbol : (ts : List Token) (b : Reading) → (symbol : Symbol) × (after : List Placed) × (left_symbols (with_tokens ts b) ≡ ((first_fault ts b).place, symbol) ∷ after) × (symbol ≢ input_end)
+unfolding line_symbols
+first_symbol [] b = (line_end, symbols_of b.input_end b.later, refl, λ e. absurd cc)
+first_symbol (stray column ∷ ts) b = (strange, left_symbols (with_tokens ts b), refl, λ e. absurd cc)
+first_symbol (word column w ∷ ts) b = (shown w, left_symbols (with_tokens ts b), refl, λ e. absurd cc)
 
-abbrev OpenAt : {E : Type 0} → (Reading → Result (⊤ × Reading) E) → (⊤ → List Sign → Type 0) → Reading → Place → Type 0
+abbrev OpenAt : {E : Type 0} → (Reading → Result (⊤ × Reading) E) → (⊤ → List Symbol → Type 0) → Reading → Place → Type 0
 OpenAt read Aim c p = (h : StopsAt read c p) × (w : Way read h.front Aim) × (opening (shows w.other) ≡ opening (shows c))
 
-some_further : (sign : Sign) (more : List Sign) → sign ≢ input_end → opening (sign ∷ more) ≢ Some input_end
-some_further sign more n e = (let same : sign ≡ input_end = cc in n same)
+some_further : (symbol : Symbol) (more : List Symbol) → symbol ≢ input_end → opening (symbol ∷ more) ≢ Some input_end
+some_further symbol more n e = (let same : symbol ≡ input_end = cc in n same)
 
-closed_further : (other : Reading) (more : List Sign) → Further other more → (x : ⊤ × Reading) → closing other ≢ Ok x
+closed_further : (other : Reading) (more : List Symbol) → Further other more → (x : ⊤ × Reading) → closing other ≢ Ok x
 closed_further other more f x e = (let err : closed_from (f.line ∷ f.rest) other ≡ Ok x = sym (ap (λ (ls : List Line). closed_from ls other) f.lines) ∙ e in absurd cc)
 
 closed_at : (c : Reading) (l : Line) (ls : List Line) → c.later ≡ l ∷ ls → OpenAt closing Any c (first_fault l.tokens (begun l ls c)).place
 closed_at c l ls split =
-    let s = first_sign l.tokens (begun l ls c) in (
+    let s = first_symbol l.tokens (begun l ls c) in (
       record {
         front = rest_here c;
-        sign = s.0;
+        symbol = s.0;
         after = s.1;
         split = split_line c l ls split ∙ ap (λ (ss : List Placed). rest_here c ++ ss) s.2;
         same = λ other more e x q. closed_further other (s.0 ∷ more) (further c other (s.0 ∷ more) e (some_further s.0 more s.3)) x q;
@@ -100,7 +100,7 @@ alike_chained {A} {B} {E} first second a b c o y d e same =
     (m.0, ap (λ (r : Result (A × Reading) E). r >>= λ (x : A × Reading). second x.0 x.1) n.1 ∙ m.1, m.2)
 
 -- no line is left
-abbrev pub AtEnd : ⊤ → List Sign → Type 0
+abbrev pub AtEnd : ⊤ → List Symbol → Type 0
 AtEnd u ss = (r : Reading) → shows r ≡ ss → r.later ≡ []
 
 abbrev pub nothing : Reading
@@ -136,8 +136,8 @@ module _ {A : Type 0} (line : Reading → Result (A × Reading) LexFault) where
       → (next : Reading) × (each_from (m ∷ most) o ≡ Ok (x, next)) × (shows next ≡ shows d)
   same_more c o x d m most l ls split alike e same =
       let b : Reading = begun l ls c in
-      let there : shows c ≡ plain (rest_here c) ++ shows b = ap plain (split_line c l ls split) ∙ plain-append (rest_here c) (left_signs b) in
-      let f : Further o (shows b) = further c o (shows b) (same ∙ there) (no_input_end l.number l.tokens l.end (signs_of c.input_end ls)) in
+      let there : shows c ≡ plain (rest_here c) ++ shows b = ap plain (split_line c l ls split) ∙ plain-append (rest_here c) (left_symbols b) in
+      let f : Further o (shows b) = further c o (shows b) (same ∙ there) (no_input_end l.number l.tokens l.end (symbols_of c.input_end ls)) in
       let n : (next : Reading) × (go_each most (begun f.line f.rest o) ≡ Ok (x, next)) × (shows next ≡ shows d) = alike b (begun f.line f.rest o) x d (sym (each_more m most c l ls split) ∙ e) f.there in
       (n.0, each_more m most o f.line f.rest f.lines ∙ n.1, n.2)
 
@@ -151,7 +151,7 @@ module _ {A : Type 0} (line : Reading → Result (A × Reading) LexFault) where
         by_lines_left [] split others = same_left c o x d (m ∷ most) split e same
         by_lines_left (l ∷ ls) split others = same_more c o x d m most l ls split (alike_chained line (λ y. each_from most) (alike_goes line goes) (λ y. others)) e same
 
-    abbrev ThenEach : List Line → A → List Sign → Type 0
+    abbrev ThenEach : List Line → A → List Symbol → Type 0
     ThenEach most x ss = From (each_from most) AtEnd ss
 
     pub from_nothing : (most : List Line) → From (each_from most) AtEnd (shows nothing)
@@ -163,14 +163,14 @@ module _ {A : Type 0} (line : Reading → Result (A × Reading) LexFault) where
     in_next m most c l ls p split u =
         let w : Way (go_each most) u.0.front AtEnd = u.1 in
         let o : Reading = record w.other { current = c.current; later = w.other.current ∷ w.other.later } in
-        let there : shows o ≡ plain (rest_here c) ++ shows w.other = ap plain (split_line o w.other.current w.other.later refl) ∙ plain-append (rest_here c) (left_signs w.other) in (
+        let there : shows o ≡ plain (rest_here c) ++ shows w.other = ap plain (split_line o w.other.current w.other.later refl) ∙ plain-append (rest_here c) (left_symbols w.other) in (
           in_line stop_each (go_each most) c l ls p split u.0,
           record {
             other = o;
             more = w.more;
             there =
-                there ∙ ap (λ (ss : List Sign). plain (rest_here c) ++ ss) w.there ∙ sym (append_assoc (plain (rest_here c)) (plain u.0.front) w.more)
-                ∙ ap (λ (ss : List Sign). ss ++ w.more) (sym (plain-append (rest_here c) u.0.front));
+                there ∙ ap (λ (ss : List Symbol). plain (rest_here c) ++ ss) w.there ∙ sym (append_assoc (plain (rest_here c)) (plain u.0.front) w.more)
+                ∙ ap (λ (ss : List Symbol). ss ++ w.more) (sym (plain-append (rest_here c) u.0.front));
             value = w.value;
             next = w.next;
             reads = w.reads;
@@ -179,7 +179,7 @@ module _ {A : Type 0} (line : Reading → Result (A × Reading) LexFault) where
           ap opening there ∙ opens_rest c (shows w.other),
         )
 
-    module _ (well : (Aim : A → List Sign → Type 0) (k : Reading) → k.current.tokens ≡ [] → ((x : A) → Aim x (shows k)) → (c : Reading) → Well as_is line Aim c) where
+    module _ (well : (Aim : A → List Symbol → Type 0) (k : Reading) → k.current.tokens ≡ [] → ((x : A) → Aim x (shows k)) → (c : Reading) → Well as_is line Aim c) where
       pub well_each : (most : List Line) (c : Reading) → WellOpen as_is (each_from most) AtEnd c
       unfolding each_from
       well_each [] c f e = absurd cc

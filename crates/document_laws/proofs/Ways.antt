@@ -5,20 +5,20 @@ use Rattle.text_definitions.specs.declared.Place.{Place}
 use Rattle.text_definitions.specs.declared.LexFault.{LexFault}
 use Rattle.text_definitions.specs.Text.{Token, word, stray, Line}
 use Rattle.text_definitions.specs.Reading.{Reading, ◌>>=◌}
-use Rattle.document_definitions.specs.Signs.{Sign, line_end, input_end, Placed, token_sign, line_signs, signs_of, plain}
+use Rattle.document_definitions.specs.Symbols.{Symbol, line_end, input_end, Placed, token_symbol, line_symbols, symbols_of, plain}
 use Rattle.table_definitions.proofs.ReadingLaws.{with_tokens}
-use Rattle.document_laws.proofs.Local.{left_signs, shows, opening, opening_more, plain-append, shows_split, GoesOn, StopsAt, Goes, bind_err, stops_late, stops_early}
+use Rattle.document_laws.proofs.Local.{left_symbols, shows, opening, opening_more, plain-append, shows_split, GoesOn, StopsAt, Goes, bind_err, stops_late, stops_early}
 use Rattle.document_laws.proofs.LocalWords.{as_is}
 
--- readings that can be read with an aim: from somewhere, where certain signs are shown, and behind certain signs
-pub record Sat {A E : Type 0} (read : Reading → Result (A × Reading) E) (Aim : A → List Sign → Type 0) : Type 0 where
+-- readings that can be read with an aim: from somewhere, where certain symbols are shown, and behind certain symbols
+pub record Sat {A E : Type 0} (read : Reading → Result (A × Reading) E) (Aim : A → List Symbol → Type 0) : Type 0 where
   pub start : Reading
   pub value : A
   pub next : Reading
   pub reads : read start ≡ Ok (value, next)
   pub aim : Aim value (shows next)
 
-pub record From {A E : Type 0} (read : Reading → Result (A × Reading) E) (Aim : A → List Sign → Type 0) (ss : List Sign) : Type 0 where
+pub record From {A E : Type 0} (read : Reading → Result (A × Reading) E) (Aim : A → List Symbol → Type 0) (ss : List Symbol) : Type 0 where
   pub start : Reading
   pub there : shows start ≡ ss
   pub value : A
@@ -26,23 +26,23 @@ pub record From {A E : Type 0} (read : Reading → Result (A × Reading) E) (Aim
   pub reads : read start ≡ Ok (value, next)
   pub aim : Aim value (shows next)
 
-pub record Way {A E : Type 0} (read : Reading → Result (A × Reading) E) (front : List Placed) (Aim : A → List Sign → Type 0) : Type 0 where
+pub record Way {A E : Type 0} (read : Reading → Result (A × Reading) E) (front : List Placed) (Aim : A → List Symbol → Type 0) : Type 0 where
   pub other : Reading
-  pub more : List Sign
+  pub more : List Symbol
   pub there : shows other ≡ plain front ++ more
   pub value : A
   pub next : Reading
   pub reads : read other ≡ Ok (value, next)
   pub aim : Aim value (shows next)
 
--- where a reader stops, what stands before can be gone on with; and so that the first sign is the same
-abbrev pub Well : {A E : Type 0} → (LexFault → E) → (Reading → Result (A × Reading) E) → (A → List Sign → Type 0) → Reading → Type 0
+-- where a reader stops, what stands before can be gone on with; and so that the first symbol is the same
+abbrev pub Well : {A E : Type 0} → (LexFault → E) → (Reading → Result (A × Reading) E) → (A → List Symbol → Type 0) → Reading → Type 0
 Well lexical read Aim c = (f : LexFault) → read c ≡ Err (lexical f) → (h : StopsAt read c f.place) × Way read h.front Aim
 
-abbrev pub WellOpen : {A E : Type 0} → (LexFault → E) → (Reading → Result (A × Reading) E) → (A → List Sign → Type 0) → Reading → Type 0
+abbrev pub WellOpen : {A E : Type 0} → (LexFault → E) → (Reading → Result (A × Reading) E) → (A → List Symbol → Type 0) → Reading → Type 0
 WellOpen lexical read Aim c = (f : LexFault) → read c ≡ Err (lexical f) → (h : StopsAt read c f.place) × (w : Way read h.front Aim) × (opening (shows w.other) ≡ opening (shows c))
 
--- a reader that doesn't look at the next sign
+-- a reader that doesn't look at the next symbol
 pub record FreeOn {A E : Type 0} (read : Reading → Result (A × Reading) E) (c : Reading) (x : A) (d : Reading) : Type 0 where
   pub goes : GoesOn read c x d
   pub same : (o : Reading) (k : Reading) → shows o ≡ plain goes.front ++ shows k → (next : Reading) × (read o ≡ Ok (x, next)) × (shows next ≡ shows k)
@@ -50,19 +50,19 @@ pub record FreeOn {A E : Type 0} (read : Reading → Result (A × Reading) E) (c
 abbrev pub Free : {A E : Type 0} → (Reading → Result (A × Reading) E) → Reading → Type 0
 Free {A} read c = (x : A) (d : Reading) → read c ≡ Ok (x, d) → FreeOn read c x d
 
--- what is left of a reading behind some signs, with other signs in place of what is left
+-- what is left of a reading behind some symbols, with other symbols in place of what is left
 unfoldable pub line_before : Reading → Reading
 line_before k = record k { current = record { number = 0; tokens = []; end = 0 }; later = k.current ∷ k.later }
 
 line_before_shows : (k : Reading) → shows (line_before k) ≡ line_end ∷ shows k
-unfolding line_before line_signs signs_of
+unfolding line_before line_symbols symbols_of
 line_before_shows k = refl
 
 token_before : Token → Reading → Reading
 token_before t k = with_tokens (t ∷ k.current.tokens) k
 
-token_before_shows : (t : Token) (n : ℕ) (k : Reading) → shows (token_before t k) ≡ (token_sign n t).1 ∷ shows k
-unfolding token_before line_signs
+token_before_shows : (t : Token) (n : ℕ) (k : Reading) → shows (token_before t k) ≡ (token_symbol n t).1 ∷ shows k
+unfolding token_before line_symbols
 token_before_shows (word column w) n k = refl
 token_before_shows (stray column) n k = refl
 
@@ -73,14 +73,14 @@ one_only : (s : Placed) (front rest : List Placed) (t : Placed) → rest ≢ [] 
 one_only s [] rest t n e = (let p : [] ≡ rest = cc in n (sym p))
 one_only s (x ∷ front) rest t n e = (let p : [] ≡ x ∷ (front ++ rest) = cc in absurd cc)
 
-graft_in : (front : List Placed) (n : ℕ) (ts : List Token) (end : ℕ) (ls : List Line) (p : Place) (rest : List Placed) → rest ≢ [] → line_signs n ts end (signs_of p ls) ≡ front ++ rest → (k : Reading)
+graft_in : (front : List Placed) (n : ℕ) (ts : List Token) (end : ℕ) (ls : List Line) (p : Place) (rest : List Placed) → rest ≢ [] → line_symbols n ts end (symbols_of p ls) ≡ front ++ rest → (k : Reading)
     → (o : Reading) × (shows o ≡ plain front ++ shows k)
-unfolding line_signs signs_of
+unfolding line_symbols symbols_of
 graft_in [] n ts end ls p rest some e k = (k, refl)
 graft_in (s ∷ front) n (t ∷ ts) end ls p rest some e k =
-    let parts : (token_sign n t ≡ s) × (line_signs n ts end (signs_of p ls) ≡ front ++ rest) = heads (token_sign n t) s (line_signs n ts end (signs_of p ls)) (front ++ rest) e in
+    let parts : (token_symbol n t ≡ s) × (line_symbols n ts end (symbols_of p ls) ≡ front ++ rest) = heads (token_symbol n t) s (line_symbols n ts end (symbols_of p ls)) (front ++ rest) e in
     let o : (o : Reading) × (shows o ≡ plain front ++ shows k) = graft_in front n ts end ls p rest some parts.1 k in
-    (token_before t o.0, token_before_shows t n o.0 ∙ ap (λ (q : Placed). q.1 ∷ shows o.0) parts.0 ∙ ap (λ (ss : List Sign). s.1 ∷ ss) o.1)
+    (token_before t o.0, token_before_shows t n o.0 ∙ ap (λ (q : Placed). q.1 ∷ shows o.0) parts.0 ∙ ap (λ (ss : List Symbol). s.1 ∷ ss) o.1)
 graft_in (s ∷ front) n [] end [] p rest some e k =
     let here : Placed = (record { line = n; column = end }, line_end) in
     let parts : (here ≡ s) × ((p, input_end) ∷ [] ≡ front ++ rest) = heads here s ((p, input_end) ∷ []) (front ++ rest) e in
@@ -91,27 +91,27 @@ graft_in (s ∷ front) n [] end [] p rest some e k =
     last (t ∷ front) e h = absurd (one_only (p, input_end) front rest t some e)
 graft_in (s ∷ front) n [] end (l ∷ ls) p rest some e k =
     let here : Placed = (record { line = n; column = end }, line_end) in
-    let parts : (here ≡ s) × (line_signs l.number l.tokens l.end (signs_of p ls) ≡ front ++ rest) = heads here s (line_signs l.number l.tokens l.end (signs_of p ls)) (front ++ rest) e in
+    let parts : (here ≡ s) × (line_symbols l.number l.tokens l.end (symbols_of p ls) ≡ front ++ rest) = heads here s (line_symbols l.number l.tokens l.end (symbols_of p ls)) (front ++ rest) e in
     let o : (o : Reading) × (shows o ≡ plain front ++ shows k) = graft_in front l.number l.tokens l.end ls p rest some parts.1 k in
-    (line_before o.0, line_before_shows o.0 ∙ ap (λ (q : Placed). q.1 ∷ shows o.0) parts.0 ∙ ap (λ (ss : List Sign). s.1 ∷ ss) o.1)
+    (line_before o.0, line_before_shows o.0 ∙ ap (λ (q : Placed). q.1 ∷ shows o.0) parts.0 ∙ ap (λ (ss : List Symbol). s.1 ∷ ss) o.1)
 
-none_here : (n end : ℕ) (others : List Placed) → line_signs n [] end others ≢ []
-unfolding line_signs
+none_here : (n end : ℕ) (others : List Placed) → line_symbols n [] end others ≢ []
+unfolding line_symbols
 none_here n end others e = absurd cc
 
-none_there : (n : ℕ) (t : Token) (ts : List Token) (end : ℕ) (others : List Placed) → line_signs n (t ∷ ts) end others ≢ []
-unfolding line_signs
+none_there : (n : ℕ) (t : Token) (ts : List Token) (end : ℕ) (others : List Placed) → line_symbols n (t ∷ ts) end others ≢ []
+unfolding line_symbols
 none_there n t ts end others e = absurd cc
 
-some_left : (d : Reading) → left_signs d ≢ []
+some_left : (d : Reading) → left_symbols d ≢ []
 some_left d e = by_tokens d.current.tokens e
   where
-    by_tokens : (ts : List Token) → line_signs d.current.number ts d.current.end (signs_of d.input_end d.later) ≢ []
-    by_tokens [] e = none_here d.current.number d.current.end (signs_of d.input_end d.later) e
-    by_tokens (t ∷ ts) e = none_there d.current.number t ts d.current.end (signs_of d.input_end d.later) e
+    by_tokens : (ts : List Token) → line_symbols d.current.number ts d.current.end (symbols_of d.input_end d.later) ≢ []
+    by_tokens [] e = none_here d.current.number d.current.end (symbols_of d.input_end d.later) e
+    by_tokens (t ∷ ts) e = none_there d.current.number t ts d.current.end (symbols_of d.input_end d.later) e
 
-pub graft : (c : Reading) (front : List Placed) (d : Reading) → left_signs c ≡ front ++ left_signs d → (k : Reading) → (o : Reading) × (shows o ≡ plain front ++ shows k)
-graft c front d e k = graft_in front c.current.number c.current.tokens c.current.end c.later c.input_end (left_signs d) (some_left d) e k
+pub graft : (c : Reading) (front : List Placed) (d : Reading) → left_symbols c ≡ front ++ left_symbols d → (k : Reading) → (o : Reading) × (shows o ≡ plain front ++ shows k)
+graft c front d e k = graft_in front c.current.number c.current.tokens c.current.end c.later c.input_end (left_symbols d) (some_left d) e k
 
 -- a reader reads the same where the same is shown
 abbrev pub Alike : {A E : Type 0} → (Reading → Result (A × Reading) E) → Type 0
@@ -125,18 +125,18 @@ alike_goes read g c o x d e same =
 pub alike_each : {A B E : Type 0} (second : A → Reading → Result (B × Reading) E) → ((x : A) (k : Reading) → Goes (second x) k) → (x : A) → Alike (second x)
 alike_each second g x = alike_goes (second x) (g x)
 
-pub again_from : {A E : Type 0} (read : Reading → Result (A × Reading) E) (Aim : A → List Sign → Type 0) → Alike read → (ss : List Sign) → From read Aim ss → (c : Reading) → shows c ≡ ss
+pub again_from : {A E : Type 0} (read : Reading → Result (A × Reading) E) (Aim : A → List Symbol → Type 0) → Alike read → (ss : List Symbol) → From read Aim ss → (c : Reading) → shows c ≡ ss
     → (y : A) × (e : Reading) × (read c ≡ Ok (y, e)) × Aim y (shows e)
 again_from read Aim g ss f c e =
     let n : (next : Reading) × (read c ≡ Ok (f.value, next)) × (shows next ≡ shows f.next) = g f.start c f.value f.next f.reads (e ∙ sym f.there) in
-    (f.value, n.0, n.1, subst (λ (ts : List Sign). Aim f.value ts) (sym n.2) f.aim)
+    (f.value, n.0, n.1, subst (λ (ts : List Symbol). Aim f.value ts) (sym n.2) f.aim)
 
 -- the second of two readers can be gone on with to the aim
-abbrev pub Then : {A B E : Type 0} → (A → Reading → Result (B × Reading) E) → (B → List Sign → Type 0) → A → List Sign → Type 0
+abbrev pub Then : {A B E : Type 0} → (A → Reading → Result (B × Reading) E) → (B → List Symbol → Type 0) → A → List Symbol → Type 0
 Then second Aim x ss = From (second x) Aim ss
 
 -- one reader after another
-module _ {A B E : Type 0} (lexical : LexFault → E) (first : Reading → Result (A × Reading) E) (second : A → Reading → Result (B × Reading) E) (Aim : B → List Sign → Type 0)
+module _ {A B E : Type 0} (lexical : LexFault → E) (first : Reading → Result (A × Reading) E) (second : A → Reading → Result (B × Reading) E) (Aim : B → List Symbol → Type 0)
     (alike : (x : A) → Alike (second x)) where
   abbrev pub both : Reading → Result (B × Reading) E
   both c = first c >>= λ (y : A × Reading). second y.0 y.1
@@ -162,7 +162,7 @@ module _ {A B E : Type 0} (lexical : LexFault → E) (first : Reading → Result
         record {
           other = o;
           more = w.more;
-          there = e ∙ ap (λ (ss : List Sign). plain front ++ ss) w.there ∙ sym (append_assoc (plain front) (plain back) w.more) ∙ ap (λ (ss : List Sign). ss ++ w.more) (sym (plain-append front back));
+          there = e ∙ ap (λ (ss : List Symbol). plain front ++ ss) w.there ∙ sym (append_assoc (plain front) (plain back) w.more) ∙ ap (λ (ss : List Symbol). ss ++ w.more) (sym (plain-append front back));
           value = a.0;
           next = a.1;
           reads = on o x next a.0 a.1 r a.2;
@@ -193,7 +193,7 @@ module _ {A B E : Type 0} (lexical : LexFault → E) (first : Reading → Result
       by_case (inl p) = early c w1 f p
       by_case (inr (y, p, q)) = late y.0 y.1 (g y.0 y.1 p) (w2 y.0 y.1 p f q)
 
-  -- the first reader may look at the next sign, which stays the same
+  -- the first reader may look at the next symbol, which stays the same
   late_open : (c : Reading) (x : A) (d : Reading) (p : Place) → GoesOn first c x d → (h : StopsAt (second x) d p) × (w : Way (second x) h.front Aim) × (opening (shows w.other) ≡ opening (shows d))
       → (h : StopsAt both c p) × (w : Way both h.front Aim) × (opening (shows w.other) ≡ opening (shows c))
   late_open c x d p g u =
@@ -222,12 +222,12 @@ module _ {A B E : Type 0} (lexical : LexFault → E) (first : Reading → Result
           (stops_early first second c f.place u.0, way.0, ap (λ (r : Reading). opening (shows r)) way.1 ∙ u.2)
       by_case (inr (y, p, q)) = late_open c y.0 y.1 f.place (g y.0 y.1 p) (w2 y.0 y.1 p f q)
 
-  -- the first reader takes a sign, and doesn't look at the next one
-  pub well_behind : (c : Reading) → ((x : A) (d : Reading) → first c ≡ Ok (x, d) → (fr : FreeOn first c x d) × ((ss : List Sign) → opening (plain fr.goes.front ++ ss) ≡ opening (shows c))) → WellOpen lexical first (Then second Aim) c
+  -- the first reader takes a symbol, and doesn't look at the next one
+  pub well_behind : (c : Reading) → ((x : A) (d : Reading) → first c ≡ Ok (x, d) → (fr : FreeOn first c x d) × ((ss : List Symbol) → opening (plain fr.goes.front ++ ss) ≡ opening (shows c))) → WellOpen lexical first (Then second Aim) c
       → ((x : A) (d : Reading) → first c ≡ Ok (x, d) → Well lexical (second x) Aim d) → WellOpen lexical both Aim c
   well_behind c g w1 w2 f e = by_case (case_of c f e)
     where
-      late : (x : A) (d : Reading) → (fr : FreeOn first c x d) × ((ss : List Sign) → opening (plain fr.goes.front ++ ss) ≡ opening (shows c)) → (h : StopsAt (second x) d f.place) × Way (second x) h.front Aim
+      late : (x : A) (d : Reading) → (fr : FreeOn first c x d) × ((ss : List Symbol) → opening (plain fr.goes.front ++ ss) ≡ opening (shows c)) → (h : StopsAt (second x) d f.place) × Way (second x) h.front Aim
           → (h : StopsAt both c f.place) × (w : Way both h.front Aim) × (opening (shows w.other) ≡ opening (shows c))
       late x d fr u =
           let gr : (o : Reading) × (shows o ≡ plain fr.0.goes.front ++ shows (u.1.other)) = graft c fr.0.goes.front d fr.0.goes.split u.1.other in
@@ -246,18 +246,18 @@ module _ {A B E : Type 0} (lexical : LexFault → E) (first : Reading → Result
 pub free_same : {A E : Type 0} (r s : Reading → Result (A × Reading) E) → ((c : Reading) → r c ≡ s c) → (c : Reading) → Free r c → Free s c
 free_same {A} {E} r s e c g = subst (λ (q : Reading → Result (A × Reading) E). Free q c) (λ i d. e d i) g
 
-pub well_same : {A E : Type 0} (lexical : LexFault → E) (r s : Reading → Result (A × Reading) E) (Aim : A → List Sign → Type 0) → ((c : Reading) → r c ≡ s c) → (c : Reading) → Well lexical r Aim c → Well lexical s Aim c
+pub well_same : {A E : Type 0} (lexical : LexFault → E) (r s : Reading → Result (A × Reading) E) (Aim : A → List Symbol → Type 0) → ((c : Reading) → r c ≡ s c) → (c : Reading) → Well lexical r Aim c → Well lexical s Aim c
 well_same {A} {E} lexical r s Aim e c g = subst (λ (q : Reading → Result (A × Reading) E). Well lexical q Aim c) (λ i d. e d i) g
 
-pub from_sat : {A E : Type 0} (read : Reading → Result (A × Reading) E) (Aim : A → List Sign → Type 0) (s : Sat read Aim) → From read Aim (shows s.start)
+pub from_sat : {A E : Type 0} (read : Reading → Result (A × Reading) E) (Aim : A → List Symbol → Type 0) (s : Sat read Aim) → From read Aim (shows s.start)
 from_sat read Aim s = record { start = s.start; there = refl; value = s.value; next = s.next; reads = s.reads; aim = s.aim }
 
 -- what is made of a value
-module _ {A B : Type 0} (read : Reading → Result (A × Reading) LexFault) (g : A → B) (Aim : B → List Sign → Type 0) where
+module _ {A B : Type 0} (read : Reading → Result (A × Reading) LexFault) (g : A → B) (Aim : B → List Symbol → Type 0) where
   abbrev pub mapped : Reading → Result (B × Reading) LexFault
   mapped c = read c >>= λ (y : A × Reading). Ok (g y.0, y.1)
 
-  abbrev pub Made : A → List Sign → Type 0
+  abbrev pub Made : A → List Symbol → Type 0
   Made x ss = Aim (g x) ss
 
   made : (o : Reading) (x : A) (d : Reading) → read o ≡ Ok (x, d) → mapped o ≡ Ok (g x, d)

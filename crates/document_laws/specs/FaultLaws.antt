@@ -17,7 +17,7 @@ use Rattle.document_definitions.specs.Blocks.{Block, blocks_document, AreTableAn
 use Rattle.document_definitions.specs.ConeGrammar.{AreConeLines}
 use Rattle.document_definitions.specs.Grammar.{AreTableAndLines, AreTwoTables, AreTables}
 use Rattle.document_definitions.specs.Documents.{cone_document, next_table_at, table_document, vectors_document, vector_document, steps_document, moves_document, two_tables_document, tables_document}
-use Rattle.document_definitions.specs.Signs.{FirstLeavesAt}
+use Rattle.document_definitions.specs.Symbols.{FirstLeavesAt}
 use Rattle.document_definitions.specs.TextForms.{AreTableText, AreTablesText}
 
 -- lines that some cone is read from; some table; a table and lines of one form, one vector, or blocks of sums; two tables
@@ -51,7 +51,7 @@ SomeTablesAndText (suc n) lines = (front : List Line) × (back : List Line) × (
 abbrev pub ConeFaultsLeave : Type 0
 ConeFaultsLeave = (bytes : List ℕ) (f : LexFault) → cone_document bytes ≡ Err f → FirstLeavesAt SomeCone (end_of bytes) (lines_of bytes) f.place
 
--- where a table was read and what stands behind it is refused, the fault stands at the first sign with which nothing goes on
+-- where a table was read and what stands behind it is refused, the fault stands at the first symbol with which nothing goes on
 abbrev pub FaultsBehindLeaveFirst : {A : Type 0} → (List ℕ → Result A InputFault) → (List Line → Type 0) → Type 0
 FaultsBehindLeaveFirst read InGrammar =
     (bytes : List ℕ) (rows : List Row) (left : Reading) (f : LexFault) → next_table_at (start_of bytes) ≡ Ok (rows, left) → read bytes ≡ Err (Text (Lex f))

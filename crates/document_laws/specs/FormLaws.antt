@@ -15,7 +15,7 @@ use Rattle.move_definitions.specs.Grammar.{IsMoveLine, IsStepLine}
 use Rattle.document_definitions.specs.Grammar.{AreTableAndLines, AreTwoTables, AreTables}
 use Rattle.document_definitions.specs.Blocks.{Block, blocks_document, AreTableAndBlocks, AreTableAndBlocksText}
 use Rattle.document_definitions.specs.Documents.{table_document, vectors_document, steps_document, moves_document, vector_document, two_tables_document, tables_document}
-use Rattle.document_definitions.specs.Signs.{LeavesAt, FirstLeavesAt}
+use Rattle.document_definitions.specs.Symbols.{LeavesAt, FirstLeavesAt}
 use Rattle.document_definitions.specs.TextForms.{AreTableText, AreTableAndVectorsText, AreTableAndStepsText, AreTableAndMovesText, AreTableAndVectorText, AreTwoTablesText, AreTablesText}
 
 -- lines that some value is read from
@@ -30,11 +30,11 @@ AreRead {A} read grammar = (bytes : List ℕ) (value : A) → (read bytes ≡ Ok
 abbrev pub HaveForm : {A : Type 0} → (List Line → A → Type 0) → (List Line → Type 0) → Type 0
 HaveForm {A} grammar form = (lines : List Line) (value : A) → grammar lines value → form lines
 
--- where the text is refused, the fault stands at a sign with which no input of the kind goes on, whatever follows it
+-- where the text is refused, the fault stands at a symbol with which no input of the kind goes on, whatever follows it
 abbrev pub FaultsLeave : {A : Type 0} → (List ℕ → Result A InputFault) → (List Line → A → Type 0) → Type 0
 FaultsLeave read grammar = (bytes : List ℕ) (f : LexFault) → read bytes ≡ Err (Text (Lex f)) → LeavesAt (Some grammar) (end_of bytes) (lines_of bytes) f.place
 
--- and at the first sign with which nothing goes on to the form of such a text
+-- and at the first symbol with which nothing goes on to the form of such a text
 abbrev pub FaultsStandFirst : {A : Type 0} → (List ℕ → Result A InputFault) → (List Line → Type 0) → Type 0
 FaultsStandFirst read form = (bytes : List ℕ) (f : LexFault) → read bytes ≡ Err (Text (Lex f)) → FirstLeavesAt form (end_of bytes) (lines_of bytes) f.place
 

@@ -9,7 +9,7 @@ use Rattle.signature_definitions.specs.declared.InputFault.TheVariants.{Text}
 use Rattle.signature_definitions.specs.Grammar.{AreTableLines}
 use Rattle.document_definitions.specs.Documents.{next_table_at}
 use Rattle.document_definitions.specs.TextForms.{AreTableText}
-use Rattle.document_definitions.specs.Signs.{FirstLeavesAt}
+use Rattle.document_definitions.specs.Symbols.{FirstLeavesAt}
 
 -- a table in either form is read from the next lines, the rest of the lines is left, and the last line is used up
 pub record ReadsTable (c : Reading) (rows : List Row) (rest : List Line) : Type 0 where
@@ -26,7 +26,7 @@ AnyTablesAreRead = (c : Reading) (rows : List Row) (rest : List Line) → ReadsT
 abbrev pub BeginWithTableText : List Line → Type 0
 BeginWithTableText lines = (front : List Line) × (rest : List Line) × (lines ≡ front ++ rest) × AreTableText front
 
--- where the text of a table is refused, the fault stands at the first sign with which nothing goes on to such a text
+-- where the text of a table is refused, the fault stands at the first symbol with which nothing goes on to such a text
 abbrev pub AnyTableFaultsStandFirst : Type 0
 AnyTableFaultsStandFirst =
     (c : Reading) (f : LexFault) → c.current.tokens ≡ [] → next_table_at c ≡ Err (Text (Lex f)) → FirstLeavesAt BeginWithTableText c.input_end c.later f.place

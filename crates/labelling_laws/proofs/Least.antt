@@ -14,7 +14,7 @@ use Rattle.signature_definitions.specs.Spelling.{Spells, IsSignature, spelling}
 use Rattle.table_definitions.proofs.Permutations.{words_at, index_below}
 use Rattle.table_definitions.proofs.Carried.{comes_from, perm_permutes}
 use Rattle.signature_definitions.specs.Labellings.{Start, IsWalked}
-use Rattle.labelling_laws.specs.Starts.{start_at, IsTextFrom, IsLesserFrom, IsLeastText}
+use Rattle.labelling_laws.specs.Starts.{numbered_start, IsTextFrom, IsLesserFrom, IsLeastText}
 use Rattle.labelling_laws.specs.Between.{made}
 use Rattle.labelling_laws.proofs.Standing.{made_relabelling}
 use Rattle.labelling_laws.proofs.Agreeing.{one_walk}
@@ -30,7 +30,7 @@ unfolding first_unordered
 never_unordered rows x ordered e = let n = none_found (is_ordered_at rows) (faces (length rows)) ordered in let z : None ≡ Some x = sym n ∙ e in cc
 
 -- the number of a start
-pub number_of : (t : ℕ) (p : List ℕ) → IsPermutationOfFour p → start_at (24 * t + index p) ≡ record { tet = t; perm = p }
+pub number_of : (t : ℕ) (p : List ℕ) → IsPermutationOfFour p → numbered_start (24 * t + index p) ≡ record { tet = t; perm = p }
 number_of t p h =
     let low = index_below p h in
     let a : (24 * t + index p) / 24 ≡ t = omega (arith, low) in
@@ -51,26 +51,26 @@ not_before_same xs ys e = ap (is_list_before xs) (sym e) ∙ not_before_itself x
 in_range : (n i : ℕ) → i < 24 * n → i / 24 < n
 in_range n i l = omega arith
 
-pub least_begun : (rows : List Row) (text : List ℕ) → IsTable rows → 0 < length rows → IsTextFrom rows (start_at 0) text → IsLeastText rows 1 text
+pub least_begun : (rows : List Row) (text : List ℕ) → IsTable rows → 0 < length rows → IsTextFrom rows (numbered_start 0) text → IsLeastText rows 1 text
 least_begun rows text table some h = record {
   found = (0, omega arith, h);
-  least = λ i other l k. let z : i ≡ 0 = omega arith in not_before_same other text (one_text rows (start_at 0) other text table some (subst (λ j. IsTextFrom rows (start_at j) other) z k) h);
+  least = λ i other l k. let z : i ≡ 0 = omega arith in not_before_same other text (one_text rows (numbered_start 0) other text table some (subst (λ j. IsTextFrom rows (numbered_start j) other) z k) h);
 }
 
 -- one more walk
-least_of : (rows : List Row) (i : ℕ) (w : List ℕ) → ((j : ℕ) (other : List ℕ) → j < i → IsTextFrom rows (start_at j) other → is_list_before other w ≡ false) → ((other : List ℕ) → IsTextFrom rows (start_at i) other → is_list_before other w ≡ false)
-    → (j : ℕ) (other : List ℕ) → j < i + 1 → IsTextFrom rows (start_at j) other → is_list_before other w ≡ false
+least_of : (rows : List Row) (i : ℕ) (w : List ℕ) → ((j : ℕ) (other : List ℕ) → j < i → IsTextFrom rows (numbered_start j) other → is_list_before other w ≡ false) → ((other : List ℕ) → IsTextFrom rows (numbered_start i) other → is_list_before other w ≡ false)
+    → (j : ℕ) (other : List ℕ) → j < i + 1 → IsTextFrom rows (numbered_start j) other → is_list_before other w ≡ false
 least_of rows i w before here j other m f = ⊎_elim
     (λ (b : j < i). before j other b f)
-    (λ (b : i ≤ j). let z : j ≡ i = omega arith in here other (subst (λ q. IsTextFrom rows (start_at q) other) z f))
+    (λ (b : i ≤ j). let z : j ≡ i = omega arith in here other (subst (λ q. IsTextFrom rows (numbered_start q) other) z f))
     (cases_lt j i)
 
-pub least_better : (rows : List Row) (i : ℕ) (best new : List ℕ) → IsTable rows → i < 24 * length rows → IsLeastText rows i best → IsLesserFrom rows (start_at i) best new → IsLeastText rows (i + 1) new
+pub least_better : (rows : List Row) (i : ℕ) (best new : List ℕ) → IsTable rows → i < 24 * length rows → IsLeastText rows i best → IsLesserFrom rows (numbered_start i) best new → IsLeastText rows (i + 1) new
 least_better rows i best new table l h (inl (k, b)) = record {
   found = (i, l, k);
   least = least_of rows i new
       (λ j other m f. by_bool (is_list_before other new) (λ q. absurd (let x = before_before other new best q b in let y = h.least j other m f in cc)) (λ q. q))
-      (λ other f. not_before_same other new (one_text rows (start_at i) other new table (in_range (length rows) i l) f k));
+      (λ other f. not_before_same other new (one_text rows (numbered_start i) other new table (in_range (length rows) i l) f k));
 }
 least_better rows i best new table l h (inr (e, none)) =
     subst (IsLeastText rows (i + 1)) (sym e) (record { found = h.found; least = least_of rows i best h.least none })
@@ -91,7 +91,7 @@ least_is_signature rows text h = record {
         let tet = a.2 in
         let begins : stand_in r.0 a.0 ≡ record { tet = 0; perm = p } = λ i. record { tet = tet i; perm = p } in
         let w : IsWalked rows (record { tet = a.0; perm = p }) r.0 new = record { relabels = (r.1, r.2); begins = begins; ordered = s.ordered } in
-        let walked : IsWalked rows (start_at (24 * a.0 + index p)) r.0 new = subst (λ (start : Start). IsWalked rows start r.0 new) (sym (number_of a.0 p hp)) w in
+        let walked : IsWalked rows (numbered_start (24 * a.0 + index p)) r.0 new = subst (λ (start : Start). IsWalked rows start r.0 new) (sym (number_of a.0 p hp)) w in
         let under = index_below p hp in
         let m = a.1 in
         h.least (24 * a.0 + index p) other (omega (arith, under, m)) (r.0, new, walked, s)

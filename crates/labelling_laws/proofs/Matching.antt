@@ -12,7 +12,7 @@ use Rattle.table_definitions.specs.Relabelling.{Relabelling, IsRelabelling, IsRe
 use Rattle.table_definitions.proofs.Permutations.{words_permute, index-words, index_below, words_at, inverse_permutes, inverse-inverse, compose-identity, identity-compose}
 use Rattle.table_definitions.proofs.Carried.{image_in_range, length-images, perm_permutes, comes_from}
 use Rattle.signature_definitions.specs.Labellings.{IsWalked, Relabels, is_stand_in_before, IsLeastRelabelling}
-use Rattle.labelling_laws.specs.Starts.{start_at, start_back_at, IsNoMatch, IsFirstMatch}
+use Rattle.labelling_laws.specs.Starts.{numbered_start, numbered_start_back, IsNoMatch, IsFirstMatch}
 use Rattle.labelling_laws.specs.Between.{inverted, after, between, images_between, perms_between}
 use Rattle.labelling_laws.proofs.Back.{inverted_stands, inverted_relabelling, carries_back, after_stands, after_relabelling, carries_on}
 
@@ -20,13 +20,13 @@ use Rattle.labelling_laws.proofs.Back.{inverted_stands, inverted_relabelling, ca
 abbrev start_gluing : ℕ → Gluing
 start_gluing i = record { tet = i / 24; perm = slice_index_or words (i % 24) [] }
 
-module _ (first second new : List Row) (by : Relabelling) (table : IsTable first) (table2 : IsTable second) (some : 0 < length first) (equal : length first ≡ length second) (w : IsWalked first (start_at 0) by new) where
+module _ (first second new : List Row) (by : Relabelling) (table : IsTable first) (table2 : IsTable second) (some : 0 < length first) (equal : length first ≡ length second) (w : IsWalked first (numbered_start 0) by new) where
   abbrev n : ℕ
   n = length first
 
   -- the walk of the second table that goes back by a relabelling of the first to it, and then on
   back_walk : (other : Relabelling) → Relabels first second other → (k : ℕ) → k ≡ 24 * slice_index other.images 0 + index (slice_index_or other.perms 0 [])
-      → IsWalked second (start_back_at k) (after n by (inverted n other)) new
+      → IsWalked second (numbered_start_back k) (after n by (inverted n other)) new
   back_walk other r k e = record { relabels = (second_relabelling, carried); begins = begun; ordered = w.ordered }
     where
       p : List ℕ
@@ -71,7 +71,7 @@ module _ (first second new : List Row) (by : Relabelling) (table : IsTable first
       none k (omega (arith, low, under, equal)) (after n by (inverted n r.0)) (back_walk r.0 (r.1, r.2) k refl)
 
   -- what stands for tetrahedron 0 by way of a walk that matches
-  module _ (back : Relabelling) (i : ℕ) (in_range : i < 24 * length second) (m : IsWalked second (start_back_at i) back new) where
+  module _ (back : Relabelling) (i : ℕ) (in_range : i < 24 * length second) (m : IsWalked second (numbered_start_back i) back new) where
     back_relabelling : IsRelabelling n back
     back_relabelling = subst (λ l. IsRelabelling l back) (sym equal) m.relabels.0
 

@@ -7,7 +7,7 @@ use Rattle.table_definitions.specs.Lists.{same_list}
 use Rattle.table_definitions.specs.Permutation.{digits_of}
 use Rattle.table_definitions.specs.Places.{edge_ends}
 use Rattle.table_definitions.proofs.ListFacts.{same_list-true}
-use Rattle.move_definitions.specs.MoveText.{MoveKind, one_four, two_three, three_two, four_one, move_kind, digits_at, spelled, single, Step, undo, redo, step_word}
+use Rattle.move_definitions.specs.MoveText.{MoveKind, one_four, two_three, three_two, four_one, move_kind, spelled, single, Step, undo, redo, step_word}
 
 -- the word of each kind
 abbrev pub kind_word : MoveKind → List ℕ
@@ -71,24 +71,24 @@ is_pair (a ∷ b ∷ c ∷ vs) = false
 -- a word that spells a vertex, or the ends of an edge
 pub vertex_spelled : (w vs : List ℕ) → spelled single w ≡ Some vs → (v : ℕ) × (v < 4) × (vs ≡ v ∷ []) × (w ≡ digits_of (v ∷ []))
 vertex_spelled w vs e =
-    let found : (same_list (digits_at vs) w ≡ true) × (is_one vs ≡ true) = find_sound (λ us. same_list (digits_at us) w) is_one single vs refl e in
+    let found : (same_list (digits_of vs) w ≡ true) × (is_one vs ≡ true) = find_sound (λ us. same_list (digits_of us) w) is_one single vs refl e in
     by_list vs found.0 found.1
   where
-    by_list : (us : List ℕ) → same_list (digits_at us) w ≡ true → is_one us ≡ true → (v : ℕ) × (v < 4) × (us ≡ v ∷ []) × (w ≡ digits_of (v ∷ []))
+    by_list : (us : List ℕ) → same_list (digits_of us) w ≡ true → is_one us ≡ true → (v : ℕ) × (v < 4) × (us ≡ v ∷ []) × (w ≡ digits_of (v ∷ []))
     by_list [] s q = absurd (false≢true q)
-    by_list (v ∷ []) s q = (v, ltb-true v 4 q, refl, sym (same_list-true (digits_at (v ∷ [])) w s))
+    by_list (v ∷ []) s q = (v, ltb-true v 4 q, refl, sym (same_list-true (digits_of (v ∷ [])) w s))
     by_list (v ∷ u ∷ us) s q = absurd (false≢true q)
 
 pub edge_spelled : (w vs : List ℕ) → spelled edge_ends w ≡ Some vs → (a : ℕ) × (b : ℕ) × (a < b) × (b < 4) × (vs ≡ a ∷ b ∷ []) × (w ≡ digits_of (a ∷ b ∷ []))
 edge_spelled w vs e =
-    let found : (same_list (digits_at vs) w ≡ true) × (is_pair vs ≡ true) = find_sound (λ us. same_list (digits_at us) w) is_pair edge_ends vs refl e in
+    let found : (same_list (digits_of vs) w ≡ true) × (is_pair vs ≡ true) = find_sound (λ us. same_list (digits_of us) w) is_pair edge_ends vs refl e in
     by_list vs found.0 found.1
   where
-    by_list : (us : List ℕ) → same_list (digits_at us) w ≡ true → is_pair us ≡ true → (a : ℕ) × (b : ℕ) × (a < b) × (b < 4) × (us ≡ a ∷ b ∷ []) × (w ≡ digits_of (a ∷ b ∷ []))
+    by_list : (us : List ℕ) → same_list (digits_of us) w ≡ true → is_pair us ≡ true → (a : ℕ) × (b : ℕ) × (a < b) × (b < 4) × (us ≡ a ∷ b ∷ []) × (w ≡ digits_of (a ∷ b ∷ []))
     by_list [] s q = absurd (false≢true q)
     by_list (a ∷ []) s q = absurd (false≢true q)
     by_list (a ∷ b ∷ []) s q = let tests : (nat_lt a b ≡ true) × (nat_lt b 4 ≡ true) = and_parts (nat_lt a b) (nat_lt b 4) q in
-        (a, b, ltb-true a b tests.0, ltb-true b 4 tests.1, refl, sym (same_list-true (digits_at (a ∷ b ∷ [])) w s))
+        (a, b, ltb-true a b tests.0, ltb-true b 4 tests.1, refl, sym (same_list-true (digits_of (a ∷ b ∷ [])) w s))
     by_list (a ∷ b ∷ c ∷ us) s q = absurd (false≢true q)
 
 -- each vertex, and each edge, is spelled by its digits

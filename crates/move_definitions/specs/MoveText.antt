@@ -23,13 +23,9 @@ move_kind w =
     else (if same_list w (codes "32") then Some three_two
     else (if same_list w (codes "41") then Some four_one else None)))
 
--- the vertices, each as one digit
-abbrev pub digits_at : List ℕ → List ℕ
-digits_at vertices = digits_of vertices
-
 -- the one of these lists of vertices that a word spells
 abbrev pub spelled : List (List ℕ) → List ℕ → Option (List ℕ)
-spelled lists w = find (λ vertices. same_list (digits_at vertices) w) lists
+spelled lists w = find (λ vertices. same_list (digits_of vertices) w) lists
 
 abbrev pub spelled_at : Option (List ℕ) → Reading → Result (List ℕ × Reading) LexFault
 spelled_at None c = Err (word_fault c BadWord)
@@ -98,8 +94,8 @@ step_at c = do
 abbrev pub core_words : ℕ → List ℕ → List ℕ × List (List ℕ)
 core_words size core =
     if size == 4 then (codes "14", [])
-    else (if size == 3 then (codes "23", digits_at (filter (λ v. not (has core v)) four) ∷ [])
-    else (if size == 2 then (codes "32", digits_at core ∷ []) else (codes "41", digits_at core ∷ [])))
+    else (if size == 3 then (codes "23", digits_of (filter (λ v. not (has core v)) four) ∷ [])
+    else (if size == 2 then (codes "32", digits_of core ∷ []) else (codes "41", digits_of core ∷ [])))
 
 -- what is written for a move
 unfoldable pub move_text : Move → List ℕ

@@ -60,6 +60,10 @@ found_labels m = drop (length m.core) four
 abbrev pub old_facets : List Row → Move → List Facet
 old_facets rows m = filter_map (facet rows m) (old_labels m)
 
+-- and their tetrahedra
+abbrev pub old_tets : List Row → Move → List ℕ
+old_tets rows m = map (λ (f : Facet). f.tet) (old_facets rows m)
+
 -- the tetrahedra of the facets found before facet i, that of the move among them
 abbrev pub tets_before : List Row → Move → ℕ → List ℕ
 tets_before rows m i = m.tet ∷ map (λ (f : Facet). f.tet) (filter_map (facet rows m) (filter (λ l. nat_lt l i) (found_labels m)))
@@ -115,7 +119,7 @@ facet_stand_in rows m f j =
     if nat_lt j (length m.core) then Some (facet_gluing rows m f j) else None
 
 abbrev pub kept_stand_in : List Row → Move → ℕ → Gluing
-kept_stand_in rows m t = record { tet = closed_up (map (λ (f : Facet). f.tet) (old_facets rows m)) t; perm = identity }
+kept_stand_in rows m t = record { tet = closed_up (old_tets rows m) t; perm = identity }
 
 abbrev pub stand_in_of : List Row → Move → Face → Option Facet → Option Gluing
 stand_in_of rows m x None = Some (kept_stand_in rows m x.tet)

@@ -4,7 +4,7 @@ use Rattle.std.specs.List.{range_with_len, slice_index_or}
 use Rattle.table_definitions.specs.Lists.{below, has}
 use Rattle.table_definitions.specs.Table.{Row}
 use Rattle.table_definitions.specs.Replacing.{Replacement, replaced}
-use Rattle.move_definitions.specs.Moves.{Move, Facet, old_facets, Plays}
+use Rattle.move_definitions.specs.Moves.{Move, old_tets, Plays}
 
 -- the move, the number of tetrahedra before it, and the rows that it took out, with their numbers, ascending
 pub record Undo : Type 0 where
@@ -14,7 +14,7 @@ pub record Undo : Type 0 where
 
 -- the numbers of the tetrahedra that a move takes out, ascending
 abbrev pub taken_numbers : List Row → Move → List ℕ
-taken_numbers rows m = filter (has (map (λ (f : Facet). f.tet) (old_facets rows m))) (below (length rows))
+taken_numbers rows m = filter (has (old_tets rows m)) (below (length rows))
 
 -- what is kept of a move on a table
 abbrev pub undo_of : List Row → Move → Undo

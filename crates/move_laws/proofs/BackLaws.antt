@@ -19,12 +19,12 @@ use Rattle.table_definitions.specs.Replaceable.{fresh_numbers, fresh_glue, IsFre
 use Rattle.table_definitions.proofs.Ranks.{rank, stays, closed_up-rank, at_rank, rank_all}
 use Rattle.table_definitions.proofs.Kept.{IsKeptAs, kept_as, length-replaced, fresh_row_at, kept_row_at, glue-fresh, glue-kept}
 use Rattle.table_definitions.proofs.FreshRows.{fresh_tet, length-fresh_row, back_is}
-use Rattle.move_definitions.specs.Moves.{Move, Facet, kept, kept_stand_in, stand_in_at, moved_gluing, IsMoved, Plays, facet_gluing}
+use Rattle.move_definitions.specs.Moves.{Move, Facet, kept, kept_stand_in, stand_in_at, moved_gluing, IsMoved, Plays, facet_gluing, old_tets}
 use Rattle.move_definitions.specs.Undos.{Undo, taken_numbers, undo_of, back_exchange, former, CanTakeBack, IsTakenBack, TakesBack}
 use Rattle.move_laws.specs.Facets.{numbered}
 use Rattle.move_laws.proofs.LegalLaws.{IsLegal, legal_from}
 use Rattle.move_laws.proofs.NumberLaws.{numbers-of, row-of, has-range, range-has, not-has, range-up, range-within, picked-up, picked-within, filter-has}
-use Rattle.move_laws.proofs.ListedLaws.{tets, old_of_tet, taken-has, length-taken, enough, stand_kept}
+use Rattle.move_laws.proofs.ListedLaws.{old_of_tet, taken-has, length-taken, enough, stand_kept}
 use Rattle.move_laws.proofs.StandLaws.{under_kept, closes, stand_put, face_at, outer_label}
 use Rattle.move_laws.proofs.ExchangeLaws.{one_face}
 use Rattle.move_laws.proofs.MovedLaws.{kept_under, kept_place}
@@ -55,23 +55,23 @@ back-length old m new h =
 
 -- a saved face
 
-saved-has : (old : List Row) (m : Move) (t : ℕ) → t < length old → has (fresh_numbers (back old m)) t ≡ has (tets old m) t
+saved-has : (old : List Row) (m : Move) (t : ℕ) → t < length old → has (fresh_numbers (back old m)) t ≡ has (old_tets old m) t
 saved-has old m t l = ap (λ (ns : List ℕ). has ns t) (saved-numbers old m) ∙ taken-has old m t l
 
-saved-glue : (old : List Row) (m : Move) (x : Face) → x.tet < length old → has (tets old m) x.tet ≡ true → fresh_glue (back old m) x ≡ glue old x
+saved-glue : (old : List Row) (m : Move) (x : Face) → x.tet < length old → has (old_tets old m) x.tet ≡ true → fresh_glue (back old m) x ≡ glue old x
 saved-glue old m x l h =
     ap (λ (row : Row). get_or row x.face None) (row-of (range_with_len (kept old m) (length m.core)) (saved old) (taken_numbers old m) x.tet (taken-has old m x.tet l ∙ h))
 
 record Saved (old : List Row) (m : Move) (x : Face) (g : Gluing) : Type 0 where
   in_range : x.tet < length old
-  taken : has (tets old m) x.tet ≡ true
+  taken : has (old_tets old m) x.tet ≡ true
   glued : glue old x ≡ Some g
   face : x.face < 4
 
 saved-face : (old : List Row) (m : Move) (x : Face) (g : Gluing) → IsLegal old m → fresh_glue (back old m) x ≡ Some g → Saved old m x g
 saved-face old m x g legal e =
     let h : has (taken_numbers old m) x.tet ≡ true = ap (λ (ns : List ℕ). has ns x.tet) (sym (saved-numbers old m)) ∙ fresh_tet (back old m) x g e in
-    let taken : has (tets old m) x.tet ≡ true = filter-has (has (tets old m)) (below (length old)) x.tet h in
+    let taken : has (old_tets old m) x.tet ≡ true = filter-has (has (old_tets old m)) (below (length old)) x.tet h in
     let glued : glue old x ≡ Some g =
     sym (ap (λ (row : Row). get_or row x.face None) (row-of (range_with_len (kept old m) (length m.core)) (saved old) (taken_numbers old m) x.tet h)) ∙ e in
     record { in_range = glued_tet old x g glued; taken = taken; glued = glued; face = glued_face old x g legal.table.four_faces glued }
@@ -81,11 +81,11 @@ saved-face old m x g legal e =
 gone-not : (old : List Row) (m : Move) (u : ℕ) → u < kept old m → has (range_with_len (kept old m) (length m.core)) u ≡ false
 gone-not old m u l = not-has (range_with_len (kept old m) (length m.core)) u (λ h. (let r = range-has (kept old m) (length m.core) u h in let r0 = r.0 in absurd (omega arith)))
 
-number-back : (old : List Row) (m : Move) (new : List Row) (t : ℕ) → HasMoved old m new → t < length old → has (tets old m) t ≡ false → number_of_kept new (back old m) (closed_up (tets old m) t) ≡ t
+number-back : (old : List Row) (m : Move) (new : List Row) (t : ℕ) → HasMoved old m new → t < length old → has (old_tets old m) t ≡ false → number_of_kept new (back old m) (closed_up (old_tets old m) t) ≡ t
 number-back old m new t h l free =
     let c = closes old m t h.legal l free in
     let fewer = c.fewer in
-    let u : ℕ = closed_up (tets old m) t in
+    let u : ℕ = closed_up (old_tets old m) t in
     let gone : List ℕ = range_with_len (kept old m) (length m.core) in
     let ascends = AllPairs-from_increasing gone (range-up (kept old m) (length m.core)) in
     let place : closed_up gone u ≡ rank (stays (taken_numbers old m)) t =
@@ -97,7 +97,7 @@ number-back old m new t h l free =
 
 -- what the kept faces are glued by in the new table
 
-kept-glue : (old : List Row) (m : Move) (new : List Row) (x : Face) → HasMoved old m new → x.tet < length old → x.face < 4 → has (tets old m) x.tet ≡ false
+kept-glue : (old : List Row) (m : Move) (new : List Row) (x : Face) → HasMoved old m new → x.tet < length old → x.face < 4 → has (old_tets old m) x.tet ≡ false
     → glue new (kept_place old m x) ≡ option_and_then (moved_gluing old m x (kept_stand_in old m x.tet)) (glue old x)
 kept-glue old m new x h lt l free =
     ap (glue new) (sym (kept_under old m x l)) ∙ h.moved.outer x (kept_stand_in old m x.tet) lt l (stand_kept old m x free)
@@ -109,7 +109,7 @@ record LedTo (old : List Row) (m : Move) (x : Face) (g : Gluing) : Type 0 where
   new : j < length m.core
   at : stand_in_at old m (other_side x g) ≡ Some (facet_gluing old m f j)
 
-led_to : (old : List Row) (m : Move) (x : Face) (g : Gluing) → IsLegal old m → x.face < 4 → has (tets old m) x.tet ≡ false → glue old x ≡ Some g → has (tets old m) g.tet ≡ true → LedTo old m x g
+led_to : (old : List Row) (m : Move) (x : Face) (g : Gluing) → IsLegal old m → x.face < 4 → has (old_tets old m) x.tet ≡ false → glue old x ≡ Some g → has (old_tets old m) g.tet ≡ true → LedTo old m x g
 led_to old m x g legal l free e h =
     let q = old_of_tet old m g.tet legal h in
     let i : ℕ = q.0 in
@@ -120,7 +120,7 @@ led_to old m x g legal l free e h =
     let new : image f.labels y.face < length m.core = outer_label old m i f y (way_back x g) legal q.2 (sym q.3) ly (legal.table.leads_back x g e) free in
     record { f = f; j = image f.labels y.face; new = new; at = ap (stand_in_at old m) (face_at f y q.2.labelled (sym q.3) ly) ∙ stand_put old m i (image f.labels y.face) f legal q.2 new }
 
-freed_back : (old : List Row) (m : Move) (new : List Row) (x : Face) (g : Gluing) → HasMoved old m new → Saved old m x g → has (tets old m) g.tet ≡ false → IsFreed new (back old m) (other_side x g)
+freed_back : (old : List Row) (m : Move) (new : List Row) (x : Face) (g : Gluing) → HasMoved old m new → Saved old m x g → has (old_tets old m) g.tet ≡ false → IsFreed new (back old m) (other_side x g)
 freed_back old m new x g h s free =
     let table = h.legal.table in
     let y : Face = other_side x g in
@@ -135,10 +135,10 @@ freed_back old m new x g h s free =
     let n = h.moved.length_is in
     let new_label = led.new in
     record {
-      old = closed_up (tets old m) g.tet;
+      old = closed_up (old_tets old m) g.tet;
       gluing = put;
       in_range = omega arith;
-      is_kept = gone-not old m (closed_up (tets old m) g.tet) fewer;
+      is_kept = gone-not old m (closed_up (old_tets old m) g.tet) fewer;
       number = number-back old m new g.tet h inside free;
       glued = kept-glue old m new y h inside ly free ∙ ap (option_and_then (moved_gluing old m y k)) home ∙ ap (option_map (λ r. gluing_under k r (way_back x g))) led.at;
       led_to_removed = has-range (kept old m) (length m.core) (kept old m + led.j) (omega arith) (omega arith);
@@ -148,12 +148,12 @@ pub can_take_back : (old : List Row) (m : Move) (new : List Row) → HasMoved ol
 can_take_back old m new h = record {
   removed_ascend = range-up (kept old m) (length m.core);
   removed_in_range = range-within (kept old m) (length m.core) (length new) (let n = h.moved.length_is in omega arith);
-  fresh_ascend = subst (λ (ns : List ℕ). IsStrictlyIncreasing ns) (sym (saved-numbers old m)) (picked-up (has (tets old m)) (length old));
+  fresh_ascend = subst (λ (ns : List ℕ). IsStrictlyIncreasing ns) (sym (saved-numbers old m)) (picked-up (has (old_tets old m)) (length old));
   fresh_in_range = subst (λ (ns : List ℕ). All (λ u. u < replaced_length new (back old m)) ns) (sym (saved-numbers old m))
-      (picked-within (has (tets old m)) (length old) (replaced_length new (back old m)) (let n = back-length old m new h in omega arith));
+      (picked-within (has (old_tets old m)) (length old) (replaced_length new (back old m)) (let n = back-length old m new h in omega arith));
   few = (let n = back-length old m new h in let f = table.few in omega arith);
   four_faces = All-map (λ (x : ℕ × Row). length x.1 ≡ 4) (λ t. (t, saved old t)) (taken_numbers old m)
-      (λ k d l. All-get_or (λ (row : Row). length row ≡ 4) old (get_or (taken_numbers old m) k d) [] (picked-within (has (tets old m)) (length old) (length old) (omega arith) k d l) table.four_faces);
+      (λ k d l. All-get_or (λ (row : Row). length row ≡ 4) old (get_or (taken_numbers old m) k d) [] (picked-within (has (old_tets old m)) (length old) (length old) (omega arith) k d l) table.four_faces);
   permutes = λ x g e. table.permutes x g (saved-face old m x g h.legal e).glued;
   in_range = λ x g e. (let n = back-length old m new h in let i = table.in_range x g (saved-face old m x g h.legal e).glued in omega arith);
   apart = λ x g e. table.apart x g (saved-face old m x g h.legal e).glued;
@@ -172,10 +172,10 @@ can_take_back old m new h = record {
 
 -- row for row
 
-kept_again : (old : List Row) (m : Move) (new : List Row) (x : Face) (o : Option Gluing) → HasMoved old m new → x.tet < length old → x.face < 4 → has (tets old m) x.tet ≡ false → glue old x ≡ o
+kept_again : (old : List Row) (m : Move) (new : List Row) (x : Face) (o : Option Gluing) → HasMoved old m new → x.tet < length old → x.face < 4 → has (old_tets old m) x.tet ≡ false → glue old x ≡ o
     → kept_gluing new (back old m) x (option_and_then (moved_gluing old m x (kept_stand_in old m x.tet)) o) ≡ o
 kept_again old m new x None h lt l free e = refl
-kept_again old m new x (Some g) h lt l free e = by_test (has (tets old m) g.tet) refl
+kept_again old m new x (Some g) h lt l free e = by_test (has (old_tets old m) g.tet) refl
   where
     inside : g.tet < length old
     inside = h.legal.table.in_range x g e
@@ -187,7 +187,7 @@ kept_again old m new x (Some g) h lt l free e = by_test (has (tets old m) g.tet)
         → kept_gluing new (back old m) x (Some k) ≡ cond b (back_to_fresh (back old m) x) (Some (record { tet = number_of_kept new (back old m) k.tet; perm = k.perm }))
     shown k b q = ap (λ c. cond c (back_to_fresh (back old m) x) (Some (record { tet = number_of_kept new (back old m) k.tet; perm = k.perm }))) q
 
-    by_test : (b : Bool) → has (tets old m) g.tet ≡ b → kept_gluing new (back old m) x (moved_gluing old m x (kept_stand_in old m x.tet) g) ≡ Some g
+    by_test : (b : Bool) → has (old_tets old m) g.tet ≡ b → kept_gluing new (back old m) x (moved_gluing old m x (kept_stand_in old m x.tet) g) ≡ Some g
     by_test true q =
         let led = led_to old m x g h.legal l free e q in
         let new_label = led.new in
@@ -203,22 +203,22 @@ kept_again old m new x (Some g) h lt l free e = by_test (has (tets old m) g.tet)
         ∙ ap (λ (k : Gluing). Some k) (back_again x g permutes)
     by_test false q =
         let s : Gluing = kept_stand_in old m x.tet in
-        let k : Gluing = record { tet = closed_up (tets old m) g.tet; perm = g.perm } in
+        let k : Gluing = record { tet = closed_up (old_tets old m) g.tet; perm = g.perm } in
         let fewer = (closes old m g.tet h.legal inside q).fewer in
         ap (λ (r : Option Gluing). kept_gluing new (back old m) x (option_map (λ t. gluing_under s t g) r)) (stand_kept old m (other_side x g) q)
-        ∙ ap (λ (t : Gluing). kept_gluing new (back old m) x (Some t)) (under_kept (closed_up (tets old m) x.tet) (closed_up (tets old m) g.tet) g permutes)
-        ∙ shown k false (gone-not old m (closed_up (tets old m) g.tet) fewer)
+        ∙ ap (λ (t : Gluing). kept_gluing new (back old m) x (Some t)) (under_kept (closed_up (old_tets old m) x.tet) (closed_up (old_tets old m) g.tet) g permutes)
+        ∙ shown k false (gone-not old m (closed_up (old_tets old m) g.tet) fewer)
         ∙ ap (λ n. Some (record { tet = n; perm = g.perm })) (number-back old m new g.tet h inside q)
 
 glue-again : (old : List Row) (m : Move) (new : List Row) (x : Face) → HasMoved old m new → x.tet < length old → x.face < 4 → glue (former new (undo_of old m)) x ≡ glue old x
-glue-again old m new x h lt l = by_test (has (tets old m) x.tet) refl
+glue-again old m new x h lt l = by_test (has (old_tets old m) x.tet) refl
   where
-    by_test : (b : Bool) → has (tets old m) x.tet ≡ b → glue (former new (undo_of old m)) x ≡ glue old x
+    by_test : (b : Bool) → has (old_tets old m) x.tet ≡ b → glue (former new (undo_of old m)) x ≡ glue old x
     by_test true q =
         let n = back-length old m new h in
         glue-fresh new (back old m) x (omega arith) (saved-has old m x.tet lt ∙ q) ∙ saved-glue old m x lt q
     by_test false q =
-        let c : ℕ = closed_up (tets old m) x.tet in
+        let c : ℕ = closed_up (old_tets old m) x.tet in
         let fewer = (closes old m x.tet h.legal lt q).fewer in
         let n = h.moved.length_is in
         let k : IsKeptAs new (back old m) c x.tet =

@@ -9,16 +9,16 @@ use Rattle.table_definitions.specs.Relabelling.{face_under}
 use Rattle.table_definitions.proofs.Permutations.{image-identity}
 use Rattle.table_definitions.proofs.InPlace.{in_place-same}
 use Rattle.table_definitions.proofs.Faces.{face_at}
-use Rattle.move_definitions.specs.Moves.{Move, IsCore, Facet, opposite, facet, old_labels, new_length, new_facet, label_by_label, facet_stand_in, kept_stand_in, stand_in_of, stand_in_at, kept, facet_gluing}
+use Rattle.move_definitions.specs.Moves.{Move, IsCore, Facet, opposite, facet, old_labels, old_tets, new_length, new_facet, label_by_label, facet_stand_in, kept_stand_in, stand_in_of, stand_in_at, kept, facet_gluing}
 use Rattle.move_definitions.proofs.CoreTests.{core_size}
 use Rattle.move_definitions.proofs.StandIns.{facet_stand_in-new}
 use Rattle.move_laws.proofs.Labels.{ascending, new_labels, HasLabel, label_at, HasVertex, vertex_at, length-labels, image-map}
 use Rattle.move_laws.proofs.ListedFacets.{not_found, is_found, comes_from, stays-count}
-use Rattle.move_laws.proofs.Legal.{IsFacet, facet_is, HasNoFault, old_facet, old_label, facets_apart, gone, gone_distinct, length-gone, gone_below}
+use Rattle.move_laws.proofs.Legal.{IsFacet, facet_is, HasNoFault, old_facet, old_label, facets_apart, old_tets_distinct, length-old_tets, old_tets_below}
 
 -- what stands for a kept tetrahedron, and for an old facet
 
-pub stand_in-kept : (rows : List Row) (m : Move) (x : Face) → has (gone rows m) x.tet ≡ false → stand_in_at rows m x ≡ Some (kept_stand_in rows m x.tet)
+pub stand_in-kept : (rows : List Row) (m : Move) (x : Face) → has (old_tets rows m) x.tet ≡ false → stand_in_at rows m x ≡ Some (kept_stand_in rows m x.tet)
 stand_in-kept rows m x h = ap (stand_in_of rows m x) (not_found (facet rows m) (old_labels m) x.tet h)
 
 pub stand_in-old : (rows : List Row) (m : Move) (i : ℕ) (f : Facet) (v : ℕ) → HasNoFault rows m → IsCore m.core → length m.core ≤ i → i < 5 → facet rows m i ≡ Some f
@@ -29,7 +29,7 @@ stand_in-old rows m i f v h c low high e =
 -- as many tetrahedra are kept as stay, and no fewer than those that are taken out were there
 pub kept-count : (rows : List Row) (m : Move) → IsTable rows → HasNoFault rows m → IsCore m.core → 5 - length m.core ≤ length rows
 kept-count rows m table h c =
-    omega (arith, length-gone rows m h c, stays-count (gone rows m) (length rows) (gone_distinct rows m h c) (gone_below rows m table h c))
+    omega (arith, length-old_tets rows m h c, stays-count (old_tets rows m) (length rows) (old_tets_distinct rows m h c) (old_tets_below rows m table h c))
 
 -- a face of the new table that stands for the old face x
 pub record StandsForOld (rows : List Row) (m : Move) (y : Face) : Type 0 where
@@ -78,19 +78,19 @@ facet_covered rows m i j table h c low high less =
 
 -- a face of a kept tetrahedron
 pub kept_covered : (rows : List Row) (m : Move) (y : Face) → IsTable rows → HasNoFault rows m → IsCore m.core → y.tet < kept rows m → y.face < 4 → StandsForOld rows m y
-kept_covered rows m y table h c lt lf = from (comes_from (gone rows m) (length rows) y.tet (gone_distinct rows m h c) (gone_below rows m table h c) few)
+kept_covered rows m y table h c lt lf = from (comes_from (old_tets rows m) (length rows) y.tet (old_tets_distinct rows m h c) (old_tets_below rows m table h c) few)
   where
-    few : y.tet + length (gone rows m) < length rows
-    few = let size : length m.core < 5 = (core_size m.core c).1 in let k : 5 - length m.core ≤ length rows = kept-count rows m table h c in omega (arith, length-gone rows m h c)
+    few : y.tet + length (old_tets rows m) < length rows
+    few = let size : length m.core < 5 = (core_size m.core c).1 in let k : 5 - length m.core ≤ length rows = kept-count rows m table h c in omega (arith, length-old_tets rows m h c)
 
-    from : (t : ℕ) × (t < length rows) × (has (gone rows m) t ≡ false) × (closed_up (gone rows m) t ≡ y.tet) → StandsForOld rows m y
+    from : (t : ℕ) × (t < length rows) × (has (old_tets rows m) t ≡ false) × (closed_up (old_tets rows m) t ≡ y.tet) → StandsForOld rows m y
     from (t, l, stays, is) = record {
       old = face_at t y.face;
       by = kept_stand_in rows m t;
       tet = l;
       face = lf;
       stands = stand_in-kept rows m (face_at t y.face) stays;
-      is = ap (λ v. face_at (closed_up (gone rows m) t) v) (image-identity y.face lf) ∙ ap (λ u. face_at u y.face) is;
+      is = ap (λ v. face_at (closed_up (old_tets rows m) t) v) (image-identity y.face lf) ∙ ap (λ u. face_at u y.face) is;
     }
 
 -- each face is one or the other

@@ -18,25 +18,25 @@ use Rattle.table_definitions.proofs.Faces.{there_and_back}
 use Rattle.table_definitions.specs.Replaceable.{fresh_numbers, fresh_glue, IsFreed, CanReplace}
 use Rattle.table_definitions.proofs.Ranks.{rank, stays, closed_up-rank, at_rank, rank_all}
 use Rattle.table_definitions.proofs.Carried.{not_from, same_from, same_to}
-use Rattle.move_definitions.specs.Moves.{Move, Facet, vertex_of, opposite, kept, new_length, new_facet, label_by_label, stand_in_at, moved_gluing, facet_gluing}
+use Rattle.move_definitions.specs.Moves.{Move, Facet, vertex_of, opposite, kept, new_length, new_facet, label_by_label, stand_in_at, moved_gluing, facet_gluing, old_tets}
 use Rattle.move_definitions.specs.Undos.{taken_numbers}
 use Rattle.move_laws.specs.Facets.{IsOldFacet, fresh_gluing, put_row, put_rows, exchange}
 use Rattle.move_laws.proofs.LabelLaws.{by_permutes, by_back, vertex_by}
 use Rattle.move_laws.proofs.FacetLaws.{new_is_facet, core_few}
 use Rattle.move_laws.proofs.LegalLaws.{IsLegal, same_facet, label_in}
 use Rattle.move_laws.proofs.NumberLaws.{range-up, range-within, picked-up, picked-within}
-use Rattle.move_laws.proofs.ListedLaws.{tets, tet_of_old, taken-has}
+use Rattle.move_laws.proofs.ListedLaws.{tet_of_old, taken-has}
 use Rattle.move_laws.proofs.StandLaws.{side_under, way_under, under_permutes, closes, closed-apart, StandsKept, StandsPut, stands, vertex_small, stand_put, put_permutes, put_face}
 use Rattle.move_laws.proofs.PutLaws.{put-numbers, put-length, is-put, put-is, not-put, glue-inner, glue-outer, LeadsIn, LeadsOut, leads}
 
 -- the new number of a tetrahedron that is kept
-pub number-kept : (rows : List Row) (m : Move) (t : ℕ) → IsLegal rows m → t < length rows → has (tets rows m) t ≡ false → number_of_kept rows (exchange rows m) t ≡ closed_up (tets rows m) t
+pub number-kept : (rows : List Row) (m : Move) (t : ℕ) → IsLegal rows m → t < length rows → has (old_tets rows m) t ≡ false → number_of_kept rows (exchange rows m) t ≡ closed_up (old_tets rows m) t
 number-kept rows m t legal l free =
     let c = closes rows m t legal l free in
     let r = c.rank_is in
     let fewer = c.fewer in
-    let u : ℕ = closed_up (tets rows m) t in
-    let up = AllPairs-from_increasing (taken_numbers rows m) (picked-up (has (tets rows m)) (length rows)) in
+    let u : ℕ = closed_up (old_tets rows m) t in
+    let up = AllPairs-from_increasing (taken_numbers rows m) (picked-up (has (old_tets rows m)) (length rows)) in
     let place : closed_up (taken_numbers rows m) t ≡ rank (stays (fresh_numbers (exchange rows m))) u =
     closed_up-rank (taken_numbers rows m) t up ∙ r ∙ sym (rank_all (stays (fresh_numbers (exchange rows m))) u (λ v q. ap not (not-put rows m v (omega arith)))) in
     let n = put-length rows m legal in
@@ -113,7 +113,7 @@ tet_of g h e = ap (λ (k : Gluing). k.tet) e
 own_tet : (rows : List Row) (m : Move) (x : Face) (g : Gluing) (o : Outer rows m x g) → x.tet ≡ kept rows m + o.j
 own_tet rows m x g o = ap (λ (y : Face). y.tet) o.at
 
-kept_tet : (rows : List Row) (m : Move) (x : Face) (g : Gluing) → IsLegal rows m → (o : Outer rows m x g) → StandsKept rows m (other_side (opposite o.f o.j) o.before) o.there → (g.tet ≡ closed_up (tets rows m) o.before.tet) × (closed_up (tets rows m) o.before.tet < kept rows m)
+kept_tet : (rows : List Row) (m : Move) (x : Face) (g : Gluing) → IsLegal rows m → (o : Outer rows m x g) → StandsKept rows m (other_side (opposite o.f o.j) o.before) o.there → (g.tet ≡ closed_up (old_tets rows m) o.before.tet) × (closed_up (old_tets rows m) o.before.tet < kept rows m)
 kept_tet rows m x g legal o k = (tet_of g _ o.is ∙ tet_of o.there _ k.is, (closes rows m o.before.tet legal o.there_in_range k.free).fewer)
 
 put_tet : (rows : List Row) (m : Move) (x : Face) (g : Gluing) → (o : Outer rows m x g) → (p : StandsPut rows m (other_side (opposite o.f o.j) o.before) o.there) → g.tet ≡ kept rows m + p.j
@@ -268,10 +268,10 @@ not_in rows m x g legal (inr o) h = by_stand (outer_stands rows m x g legal o)
         absurd cc
 
 kept_side : (rows : List Row) (m : Move) (x : Face) (g : Gluing) (o : Outer rows m x g) → StandsKept rows m (other_side (opposite o.f o.j) o.before) o.there
-    → other_side x g ≡ record { tet = closed_up (tets rows m) o.before.tet; face = (other_side (opposite o.f o.j) o.before).face }
+    → other_side x g ≡ record { tet = closed_up (old_tets rows m) o.before.tet; face = (other_side (opposite o.f o.j) o.before).face }
 kept_side rows m x g o k =
     o.side ∙ ap (λ (s : Gluing). face_under s (other_side (opposite o.f o.j) o.before)) k.is
-    ∙ ap (λ v. record { tet = closed_up (tets rows m) o.before.tet; face = v }) (image-identity (other_side (opposite o.f o.j) o.before).face o.there_small)
+    ∙ ap (λ v. record { tet = closed_up (old_tets rows m) o.before.tet; face = v }) (image-identity (other_side (opposite o.f o.j) o.before).face o.there_small)
 
 freed_by : (rows : List Row) (m : Move) (x : Face) (g : Gluing) → IsLegal rows m → Kinds rows m x g → has (fresh_numbers (exchange rows m)) g.tet ≡ false → IsFreed rows (exchange rows m) (other_side x g)
 freed_by rows m x g legal kind h =
@@ -280,7 +280,7 @@ freed_by rows m x g legal kind h =
     let k = p.1 in
     let a : Face = opposite o.f o.j in
     let y : Face = other_side a o.before in
-    let at : other_side x g ≡ record { tet = closed_up (tets rows m) o.before.tet; face = y.face } = kept_side rows m x g o k in
+    let at : other_side x g ≡ record { tet = closed_up (old_tets rows m) o.before.tet; face = y.face } = kept_side rows m x g o k in
     let inside = o.old.in_range in
     record {
       old = o.before.tet;
@@ -310,7 +310,7 @@ one_by rows m x z g h legal kx kz kept_x e =
     let a : Face = opposite o.f o.j in
     let b : Face = opposite u.f u.j in
     let mk : ℕ → ℕ → Face = λ t v. record { tet = t; face = v } in
-    let both : mk (closed_up (tets rows m) o.before.tet) (other_side a o.before).face ≡ mk (closed_up (tets rows m) u.before.tet) (other_side b u.before).face = sym (kept_side rows m x g o p.1) ∙ e ∙ kept_side rows m z h u q.1 in
+    let both : mk (closed_up (old_tets rows m) o.before.tet) (other_side a o.before).face ≡ mk (closed_up (old_tets rows m) u.before.tet) (other_side b u.before).face = sym (kept_side rows m x g o p.1) ∙ e ∙ kept_side rows m z h u q.1 in
     let t : o.before.tet ≡ u.before.tet = closed-apart rows m o.before.tet u.before.tet legal o.there_in_range u.there_in_range p.1.free q.1.free (face_tet _ _ both) in
     let sides : other_side a o.before ≡ other_side b u.before = ap (λ n. mk n (other_side a o.before).face) t ∙ ap (mk u.before.tet) (face_vertex _ _ both) in
     let faces : a ≡ b = one_face rows legal.table a b o.before u.before o.glued u.glued o.small u.small sides in
@@ -326,8 +326,8 @@ one_by rows m x z g h legal kx kz kept_x e =
 
 pub can_exchange : (rows : List Row) (m : Move) → IsLegal rows m → new_length rows m ≤ max_tets → CanReplace rows (exchange rows m)
 can_exchange rows m legal fits = record {
-  removed_ascend = picked-up (has (tets rows m)) (length rows);
-  removed_in_range = picked-within (has (tets rows m)) (length rows) (length rows) (omega arith);
+  removed_ascend = picked-up (has (old_tets rows m)) (length rows);
+  removed_in_range = picked-within (has (old_tets rows m)) (length rows) (length rows) (omega arith);
   fresh_ascend = subst (λ (ns : List ℕ). IsStrictlyIncreasing ns) (sym (put-numbers rows m)) (range-up (kept rows m) (length m.core));
   fresh_in_range = subst (λ (ns : List ℕ). All (λ u. u < replaced_length rows (exchange rows m)) ns) (sym (put-numbers rows m))
       (range-within (kept rows m) (length m.core) (replaced_length rows (exchange rows m)) (let n = put-length rows m legal in omega arith));

@@ -11,7 +11,7 @@ use Rattle.table_definitions.specs.Table.{Gluing, Row, glue, IsTable}
 use Rattle.table_definitions.proofs.TableLaws.{Among, first_some-none, guarded}
 use Rattle.move_definitions.specs.declared.MoveFault.{MoveFault}
 use Rattle.move_definitions.specs.declared.MoveFault.TheVariants.{NoSuchTet, Repeated}
-use Rattle.move_definitions.specs.Moves.{Move, IsCore, Facet, own_facet, opposite, facet_behind, facet, old_labels, found_labels, tets_before, facet_fault, pair_fault, move_fault, vertices_by_label}
+use Rattle.move_definitions.specs.Moves.{Move, IsCore, Facet, own_facet, opposite, facet_behind, facet, old_labels, old_tets, found_labels, tets_before, facet_fault, pair_fault, move_fault, vertices_by_label}
 use Rattle.table_definitions.proofs.ListFacts.{list_all-below}
 use Rattle.table_definitions.proofs.Permutations.{inverse_permutes, compose_permutes}
 use Rattle.move_definitions.proofs.CoreTests.{core_size, own_permutes}
@@ -213,14 +213,11 @@ facets_apart rows m h c k l f g hk hl ek el t = by_case (cases_eq k l)
 
 -- the tetrahedra that are taken out
 
-abbrev pub gone : List Row → Move → List ℕ
-gone rows m = tets_of (facet rows m) (old_labels m)
+pub old_tets_distinct : (rows : List Row) (m : Move) → HasNoFault rows m → IsCore m.core → is_distinct (old_tets rows m) ≡ true
+old_tets_distinct rows m h c = tets_distinct (facet rows m) (old_labels m) (labels_distinct (length m.core) (core_size m.core c).1) (facets_apart rows m h c)
 
-pub gone_distinct : (rows : List Row) (m : Move) → HasNoFault rows m → IsCore m.core → is_distinct (gone rows m) ≡ true
-gone_distinct rows m h c = tets_distinct (facet rows m) (old_labels m) (labels_distinct (length m.core) (core_size m.core c).1) (facets_apart rows m h c)
-
-pub length-gone : (rows : List Row) (m : Move) → HasNoFault rows m → IsCore m.core → length (gone rows m) ≡ 5 - length m.core
-length-gone rows m h c =
+pub length-old_tets : (rows : List Row) (m : Move) → HasNoFault rows m → IsCore m.core → length (old_tets rows m) ≡ 5 - length m.core
+length-old_tets rows m h c =
     length-tets (facet rows m) (old_labels m) (λ k a. (let r : (length m.core ≤ k) × (k < 5) = old_label_range (length m.core) k (core_size m.core c).1 a in old_facet rows m k h c r.0 r.1))
     ∙ labels_length (length m.core) (core_size m.core c).1
 
@@ -233,8 +230,8 @@ pub record OldFacet (rows : List Row) (m : Move) (t : ℕ) : Type 0 where
   pub is : facet rows m label ≡ Some facet_of
   pub tet : facet_of.tet ≡ t
 
-pub gone_facet : (rows : List Row) (m : Move) (t : ℕ) → IsCore m.core → has (gone rows m) t ≡ true → OldFacet rows m t
-gone_facet rows m t c h =
+pub old_tet_facet : (rows : List Row) (m : Move) (t : ℕ) → IsCore m.core → has (old_tets rows m) t ≡ true → OldFacet rows m t
+old_tet_facet rows m t c h =
     let o : IsOf (facet rows m) (old_labels m) t = facet_with (facet rows m) (old_labels m) t h in
     let r : (length m.core ≤ o.label) × (o.label < 5) = old_label_range (length m.core) o.label (core_size m.core c).1 o.among in
     record { label = o.label; low = r.0; high = r.1; facet_of = o.facet; is = o.is; tet = o.tet }
@@ -244,8 +241,8 @@ has_at [] k l = absurd (omega arith)
 has_at (x ∷ xs) zero l = let t : (x == x) ≡ true = eq-eqb x x refl in ap (λ b. b || has xs x) t
 has_at (x ∷ xs) (suc k) l = let t : has xs (get_or xs k 0) ≡ true = has_at xs k (omega arith) in grind arith
 
-pub gone_below : (rows : List Row) (m : Move) → IsTable rows → HasNoFault rows m → IsCore m.core → (k : ℕ) → k < length (gone rows m) → get_or (gone rows m) k 0 < length rows
-gone_below rows m table h c k l =
-    let o : OldFacet rows m (get_or (gone rows m) k 0) = gone_facet rows m (get_or (gone rows m) k 0) c (has_at (gone rows m) k l) in
+pub old_tets_below : (rows : List Row) (m : Move) → IsTable rows → HasNoFault rows m → IsCore m.core → (k : ℕ) → k < length (old_tets rows m) → get_or (old_tets rows m) k 0 < length rows
+old_tets_below rows m table h c k l =
+    let o : OldFacet rows m (get_or (old_tets rows m) k 0) = old_tet_facet rows m (get_or (old_tets rows m) k 0) c (has_at (old_tets rows m) k l) in
     let is : IsFacet rows o.label o.facet_of = facet_is rows m o.label o.facet_of table c h.in_range o.high o.is in
     let P : ℕ → Type 0 = λ t. t < length rows in subst P o.tet is.in_range

@@ -11,7 +11,7 @@ use Rattle.table_definitions.proofs.TableLaws.{Among, Among-range}
 use Rattle.table_definitions.proofs.Listed.{range-among, Among-filter_map, filter_map-among}
 use Rattle.table_definitions.proofs.ListFacts.{list_all-below, same_list-true}
 use Rattle.table_definitions.proofs.Ranks.{length-picked, rank_fits, count_whole}
-use Rattle.move_definitions.specs.Moves.{Move, Facet, facet, old_labels, old_facets, facet_stand_in, kept_stand_in, stand_in_of, stand_in_at}
+use Rattle.move_definitions.specs.Moves.{Move, Facet, facet, old_labels, old_facets, old_tets, facet_stand_in, kept_stand_in, stand_in_of, stand_in_at}
 use Rattle.move_definitions.specs.Undos.{taken_numbers}
 use Rattle.move_laws.specs.Facets.{IsOldFacet, AreOldFacets}
 use Rattle.move_laws.proofs.FacetLaws.{core_some, core_few}
@@ -44,9 +44,6 @@ labels-range : (s : ℕ) → s < 5 → drop s (below 5) ≡ range_with_len s (5 
 labels-range s l = same_list-true (drop s (below 5)) (range_with_len s (5 - s)) (list_all-below (λ k. same_list (drop k (below 5)) (range_with_len k (5 - k))) 5 refl s l)
 
 -- the old facets
-
-abbrev pub tets : List Row → Move → List ℕ
-tets rows m = map (λ (f : Facet). f.tet) (old_facets rows m)
 
 all_found : (rows : List Row) (m : Move) → IsLegal rows m → AllFound (facet rows m) (length m.core) (5 - length m.core)
 all_found rows m legal i low high = let f = legal.facet_at i low (omega arith) in (f.0, f.1.found)
@@ -85,10 +82,10 @@ from_list rows m f legal a =
     let y : F.0 ≡ f = cc in
     (i, subst (λ (g : Facet). IsOldFacet rows m i g) y F.1)
 
-pub tet_of_old : (rows : List Row) (m : Move) (i : ℕ) (f : Facet) → IsLegal rows m → IsOldFacet rows m i f → has (tets rows m) f.tet ≡ true
+pub tet_of_old : (rows : List Row) (m : Move) (i : ℕ) (f : Facet) → IsLegal rows m → IsOldFacet rows m i f → has (old_tets rows m) f.tet ≡ true
 tet_of_old rows m i f legal F = has-among (old_facets rows m) f (listed rows m i f legal F)
 
-pub old_of_tet : (rows : List Row) (m : Move) (t : ℕ) → IsLegal rows m → has (tets rows m) t ≡ true → (i : ℕ) × (f : Facet) × IsOldFacet rows m i f × (f.tet ≡ t)
+pub old_of_tet : (rows : List Row) (m : Move) (t : ℕ) → IsLegal rows m → has (old_tets rows m) t ≡ true → (i : ℕ) × (f : Facet) × IsOldFacet rows m i f × (f.tet ≡ t)
 old_of_tet rows m t legal h =
     let x = among-has (old_facets rows m) t h in
     let y = from_list rows m x.0 legal x.1 in
@@ -125,55 +122,55 @@ stand_old rows m i f x legal F e =
         let same : k ≡ i = legal.apart k i g f G.1 F (eqb-true g.tet x.tet h ∙ e) in
         same_facet rows m i g f (subst (λ j. IsOldFacet rows m j g) same G.1) F
 
-pub stand_kept : (rows : List Row) (m : Move) (x : Face) → has (tets rows m) x.tet ≡ false → stand_in_at rows m x ≡ Some (kept_stand_in rows m x.tet)
+pub stand_kept : (rows : List Row) (m : Move) (x : Face) → has (old_tets rows m) x.tet ≡ false → stand_in_at rows m x ≡ Some (kept_stand_in rows m x.tet)
 stand_kept rows m x h = ap (stand_in_of rows m x) (find-none (old_facets rows m) x.tet h)
 
 -- the tetrahedra that are taken out
 
-pub tets_apart : (rows : List Row) (m : Move) → IsLegal rows m → Apart (tets rows m)
-tets_apart rows m legal i j l b e =
+pub old_tets_apart : (rows : List Row) (m : Move) → IsLegal rows m → Apart (old_tets rows m)
+old_tets_apart rows m legal i j l b e =
     let d : Facet = record { tet = 0; missing = 0; labels = [] } in
-    let n : length (tets rows m) ≡ 5 - length m.core = length-map (old_facets rows m) (λ (f : Facet). f.tet) ∙ length-old rows m legal in
+    let n : length (old_tets rows m) ≡ 5 - length m.core = length-map (old_facets rows m) (λ (f : Facet). f.tet) ∙ length-old rows m legal in
     let o = length-old rows m legal in
-    let at : (k : ℕ) → k < 5 - length m.core → get_or (tets rows m) k 0 ≡ (get_or (old_facets rows m) k d).tet = λ k q. get_or-map (λ (f : Facet). f.tet) (old_facets rows m) k d 0 (omega arith) in
+    let at : (k : ℕ) → k < 5 - length m.core → get_or (old_tets rows m) k 0 ≡ (get_or (old_facets rows m) k d).tet = λ k q. get_or-map (λ (f : Facet). f.tet) (old_facets rows m) k d 0 (omega arith) in
     let li : i < 5 - length m.core = omega arith in
     let lj : j < 5 - length m.core = omega arith in
     let same : length m.core + i ≡ length m.core + j =
     legal.apart (length m.core + i) (length m.core + j) (get_or (old_facets rows m) i d) (get_or (old_facets rows m) j d) (old_at rows m legal i d li) (old_at rows m legal j d lj) (sym (at i li) ∙ e ∙ at j lj) in
     absurd (omega arith)
 
-tets_within : (rows : List Row) (m : Move) → IsLegal rows m → (k : ℕ) → k < length (tets rows m) → get_or (tets rows m) k 0 < length rows
-tets_within rows m legal k b =
+old_tets_within : (rows : List Row) (m : Move) → IsLegal rows m → (k : ℕ) → k < length (old_tets rows m) → get_or (old_tets rows m) k 0 < length rows
+old_tets_within rows m legal k b =
     let d : Facet = record { tet = 0; missing = 0; labels = [] } in
-    let n : length (tets rows m) ≡ 5 - length m.core = length-map (old_facets rows m) (λ (f : Facet). f.tet) ∙ length-old rows m legal in
+    let n : length (old_tets rows m) ≡ 5 - length m.core = length-map (old_facets rows m) (λ (f : Facet). f.tet) ∙ length-old rows m legal in
     let o = length-old rows m legal in
-    let at : get_or (tets rows m) k 0 ≡ (get_or (old_facets rows m) k d).tet = get_or-map (λ (f : Facet). f.tet) (old_facets rows m) k d 0 (omega arith) in
+    let at : get_or (old_tets rows m) k 0 ≡ (get_or (old_facets rows m) k d).tet = get_or-map (λ (f : Facet). f.tet) (old_facets rows m) k d 0 (omega arith) in
     let F = old_at rows m legal k d (omega arith) in
     let r = F.in_range in
     omega arith
 
-pub taken-has : (rows : List Row) (m : Move) (t : ℕ) → t < length rows → has (taken_numbers rows m) t ≡ has (tets rows m) t
-taken-has rows m t l = picked-has (has (tets rows m)) (length rows) t l
+pub taken-has : (rows : List Row) (m : Move) (t : ℕ) → t < length rows → has (taken_numbers rows m) t ≡ has (old_tets rows m) t
+taken-has rows m t l = picked-has (has (old_tets rows m)) (length rows) t l
 
 -- as many as facets
 pub length-taken : (rows : List Row) (m : Move) → IsLegal rows m → length (taken_numbers rows m) ≡ 5 - length m.core
 length-taken rows m legal =
-    length-picked (has (tets rows m)) (length rows) ∙ rank-has (tets rows m) (length rows) (tets_apart rows m legal)
-    ∙ count_whole (λ u. nat_lt u (length rows)) (tets rows m) (λ k l. lt-ltb (get_or (tets rows m) k 0) (length rows) (tets_within rows m legal k l))
+    length-picked (has (old_tets rows m)) (length rows) ∙ rank-has (old_tets rows m) (length rows) (old_tets_apart rows m legal)
+    ∙ count_whole (λ u. nat_lt u (length rows)) (old_tets rows m) (λ k l. lt-ltb (get_or (old_tets rows m) k 0) (length rows) (old_tets_within rows m legal k l))
     ∙ length-map (old_facets rows m) (λ (f : Facet). f.tet) ∙ length-old rows m legal
 
 -- what closes up over the tetrahedra closes up over them in order
-pub closed-taken : (rows : List Row) (m : Move) (t : ℕ) → IsLegal rows m → t < length rows → closed_up (taken_numbers rows m) t ≡ closed_up (tets rows m) t
+pub closed-taken : (rows : List Row) (m : Move) (t : ℕ) → IsLegal rows m → t < length rows → closed_up (taken_numbers rows m) t ≡ closed_up (old_tets rows m) t
 closed-taken rows m t legal l =
     ap (λ k. t - k)
-    (sym (rank-has (taken_numbers rows m) t (increasing-apart (taken_numbers rows m) (picked-up (has (tets rows m)) (length rows))))
-    ∙ rank-same (has (taken_numbers rows m)) (has (tets rows m)) t (λ u q. taken-has rows m u (omega arith)) ∙ rank-has (tets rows m) t (tets_apart rows m legal))
+    (sym (rank-has (taken_numbers rows m) t (increasing-apart (taken_numbers rows m) (picked-up (has (old_tets rows m)) (length rows))))
+    ∙ rank-same (has (taken_numbers rows m)) (has (old_tets rows m)) t (λ u q. taken-has rows m u (omega arith)) ∙ rank-has (old_tets rows m) t (old_tets_apart rows m legal))
 
 pub enough : (rows : List Row) (m : Move) → IsLegal rows m → 5 - length m.core ≤ length rows
 enough rows m legal =
     let a = length-taken rows m legal in
-    let b = length-picked (has (tets rows m)) (length rows) in
-    let c = rank_fits (has (tets rows m)) (length rows) in
+    let b = length-picked (has (old_tets rows m)) (length rows) in
+    let c = rank_fits (has (old_tets rows m)) (length rows) in
     omega arith
 
 -- the facets that legality found

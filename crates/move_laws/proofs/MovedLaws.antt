@@ -17,10 +17,10 @@ use Rattle.table_definitions.proofs.Kept.{IsKeptAs, kept_as, length-replaced, gl
 use Rattle.table_definitions.proofs.FreshRows.{back_is}
 use Rattle.table_definitions.proofs.Replaced.{replaced_is_table}
 use Rattle.move_definitions.specs.declared.MoveFault.TheVariants.{TooMany}
-use Rattle.move_definitions.specs.Moves.{Move, Facet, old_facets, vertex_of, opposite, move_fault, IsCore, kept, new_length, new_facet, kept_stand_in, stand_in_at, moved_gluing, IsMoved, Plays, facet_gluing}
+use Rattle.move_definitions.specs.Moves.{Move, Facet, old_facets, old_tets, vertex_of, opposite, move_fault, IsCore, kept, new_length, new_facet, kept_stand_in, stand_in_at, moved_gluing, IsMoved, Plays, facet_gluing}
 use Rattle.move_laws.specs.Facets.{IsOldFacet, AreOldFacets, CanPlay, put_rows, exchange}
 use Rattle.move_laws.proofs.LegalLaws.{IsLegal, legal_from}
-use Rattle.move_laws.proofs.ListedLaws.{tets, old_of_tet, taken-has, are_old, stand_kept}
+use Rattle.move_laws.proofs.ListedLaws.{old_of_tet, taken-has, are_old, stand_kept}
 use Rattle.move_laws.proofs.NumberLaws.{picked-within}
 use Rattle.move_definitions.specs.Undos.{taken_numbers}
 use Rattle.move_laws.proofs.StandLaws.{side_under, way_under, under_kept, closes, StandsKept, StandsPut, stands, stand_put, put_permutes, put_face, face_at, outer_label}
@@ -43,12 +43,12 @@ put_in rows m j v legal l =
 
 -- the gluing by which a kept face was glued to an old facet
 abbrev pub kept_place : List Row → Move → Face → Face
-kept_place rows m x = record { tet = closed_up (tets rows m) x.tet; face = x.face }
+kept_place rows m x = record { tet = closed_up (old_tets rows m) x.tet; face = x.face }
 
 pub kept_under : (rows : List Row) (m : Move) (x : Face) → x.face < 4 → face_under (kept_stand_in rows m x.tet) x ≡ kept_place rows m x
-kept_under rows m x l = ap (λ v. record { tet = closed_up (tets rows m) x.tet; face = v }) (image-identity x.face l)
+kept_under rows m x l = ap (λ v. record { tet = closed_up (old_tets rows m) x.tet; face = v }) (image-identity x.face l)
 
-to_old : (rows : List Row) (m : Move) (x : Face) (g : Gluing) (i j : ℕ) (f : Facet) → IsLegal rows m → CanReplace rows (exchange rows m) → x.face < 4 → has (tets rows m) x.tet ≡ false → glue rows x ≡ Some g
+to_old : (rows : List Row) (m : Move) (x : Face) (g : Gluing) (i j : ℕ) (f : Facet) → IsLegal rows m → CanReplace rows (exchange rows m) → x.face < 4 → has (old_tets rows m) x.tet ≡ false → glue rows x ≡ Some g
     → IsOldFacet rows m i f → j < length m.core → other_side x g ≡ opposite f j
     → back_to_fresh (exchange rows m) (kept_place rows m x) ≡ moved_gluing rows m x (kept_stand_in rows m x.tet) g
 to_old rows m x g i j f legal can l free glued F new at =
@@ -73,14 +73,14 @@ to_old rows m x g i j f legal can l free glued F new at =
     let way : way_back own carried ≡ gluing_under s r g =
     ap (λ (y : Face). way_back y carried) place ∙ way_under r s (way_back x g) (opposite f j) hr identity_permutes back_permutes ∙ ap (gluing_under s r) again in
     let fewer = (closes rows m x.tet legal (glued_tet rows x g glued) free).fewer in
-    let to_kept : has (fresh_numbers (exchange rows m)) carried.tet ≡ false = not-put rows m (closed_up (tets rows m) x.tet) fewer in
+    let to_kept : has (fresh_numbers (exchange rows m)) carried.tet ≡ false = not-put rows m (closed_up (old_tets rows m) x.tet) fewer in
     ap (back_to_fresh (exchange rows m)) (sym side) ∙ back_is rows (exchange rows m) can own carried fresh to_kept ∙ ap (λ (k : Gluing). Some k) way
     ∙ ap (option_map (λ t. gluing_under s t g)) (sym (stand_put rows m i j f legal F new)) ∙ ap (λ (y : Face). option_map (λ t. gluing_under s t g) (stand_in_at rows m y)) (sym at)
 
-kept_moved : (rows : List Row) (m : Move) (x : Face) (o : Option Gluing) → IsLegal rows m → CanReplace rows (exchange rows m) → x.tet < length rows → x.face < 4 → has (tets rows m) x.tet ≡ false → glue rows x ≡ o
+kept_moved : (rows : List Row) (m : Move) (x : Face) (o : Option Gluing) → IsLegal rows m → CanReplace rows (exchange rows m) → x.tet < length rows → x.face < 4 → has (old_tets rows m) x.tet ≡ false → glue rows x ≡ o
     → kept_gluing rows (exchange rows m) (kept_place rows m x) o ≡ option_and_then (moved_gluing rows m x (kept_stand_in rows m x.tet)) o
 kept_moved rows m x None legal can lt l free e = refl
-kept_moved rows m x (Some g) legal can lt l free e = by_test (has (tets rows m) g.tet) refl
+kept_moved rows m x (Some g) legal can lt l free e = by_test (has (old_tets rows m) g.tet) refl
   where
     s : Gluing
     s = kept_stand_in rows m x.tet
@@ -91,11 +91,11 @@ kept_moved rows m x (Some g) legal can lt l free e = by_test (has (tets rows m) 
     permutes : IsPermutationOfFour g.perm
     permutes = legal.table.permutes x g e
 
-    shown : (b : Bool) → has (tets rows m) g.tet ≡ b → kept_gluing rows (exchange rows m) (kept_place rows m x) (Some g)
+    shown : (b : Bool) → has (old_tets rows m) g.tet ≡ b → kept_gluing rows (exchange rows m) (kept_place rows m x) (Some g)
         ≡ cond b (back_to_fresh (exchange rows m) (kept_place rows m x)) (Some (record { tet = number_of_kept rows (exchange rows m) g.tet; perm = g.perm }))
     shown b h = ap (λ c. cond c (back_to_fresh (exchange rows m) (kept_place rows m x)) (Some (record { tet = number_of_kept rows (exchange rows m) g.tet; perm = g.perm }))) (taken-has rows m g.tet inside ∙ h)
 
-    by_test : (b : Bool) → has (tets rows m) g.tet ≡ b → kept_gluing rows (exchange rows m) (kept_place rows m x) (Some g) ≡ moved_gluing rows m x (kept_stand_in rows m x.tet) g
+    by_test : (b : Bool) → has (old_tets rows m) g.tet ≡ b → kept_gluing rows (exchange rows m) (kept_place rows m x) (Some g) ≡ moved_gluing rows m x (kept_stand_in rows m x.tet) g
     by_test true h =
         let q = old_of_tet rows m g.tet legal h in
         let i : ℕ = q.0 in
@@ -107,7 +107,7 @@ kept_moved rows m x (Some g) legal can lt l free e = by_test (has (tets rows m) 
     by_test false h =
         let there : stand_in_at rows m (other_side x g) ≡ Some (kept_stand_in rows m g.tet) = stand_kept rows m (other_side x g) h in
         shown false h ∙ ap (λ n. Some (record { tet = n; perm = g.perm })) (number-kept rows m g.tet legal inside h)
-        ∙ ap (λ (k : Gluing). Some k) (sym (under_kept (closed_up (tets rows m) x.tet) (closed_up (tets rows m) g.tet) g permutes))
+        ∙ ap (λ (k : Gluing). Some k) (sym (under_kept (closed_up (old_tets rows m) x.tet) (closed_up (old_tets rows m) g.tet) g permutes))
         ∙ ap (option_map (λ t. gluing_under (kept_stand_in rows m x.tet) t g)) (sym there)
 
 pub moves : (rows : List Row) (m : Move) → CanMove rows m → IsMoved rows m (replaced rows (exchange rows m))
@@ -126,10 +126,10 @@ moves rows m c = record {
     outer_at : (x : Face) (s : Gluing) → x.tet < length rows → x.face < 4 → StandsKept rows m x s ⊎ StandsPut rows m x s
         → glue (changed rows m) (face_under s x) ≡ option_and_then (moved_gluing rows m x s) (glue rows x)
     outer_at x s lt l (inl k) =
-        let kept : IsKeptAs rows (exchange rows m) x.tet (closed_up (tets rows m) x.tet) =
+        let kept : IsKeptAs rows (exchange rows m) x.tet (closed_up (old_tets rows m) x.tet) =
         subst (λ u. IsKeptAs rows (exchange rows m) x.tet u) (number-kept rows m x.tet c.legal lt k.free) (kept_as rows (exchange rows m) can x.tet lt (taken-has rows m x.tet lt ∙ k.free)) in
         ap (λ (t : Gluing). glue (changed rows m) (face_under t x)) k.is ∙ ap (glue (changed rows m)) (kept_under rows m x l)
-        ∙ glue-kept rows (exchange rows m) x.tet (closed_up (tets rows m) x.tet) x.face kept l ∙ kept_moved rows m x (glue rows x) c.legal can lt l k.free refl
+        ∙ glue-kept rows (exchange rows m) x.tet (closed_up (old_tets rows m) x.tet) x.face kept l ∙ kept_moved rows m x (glue rows x) c.legal can lt l k.free refl
         ∙ ap (λ (t : Gluing). option_and_then (moved_gluing rows m x t) (glue rows x)) (sym k.is)
     outer_at x s lt l (inr p) =
         ap (λ (t : Gluing). glue (changed rows m) (face_under t x)) p.is ∙ ap (λ (y : Face). glue (changed rows m) (face_under (facet_gluing rows m p.f p.j) y)) p.at
@@ -170,7 +170,7 @@ plays_by rows m removed fresh new can er ef e =
     subst (λ (xs : List Row). Plays rows m xs) (ap (replaced rows) (is_exchange rows m removed fresh er ef) ∙ sym e) (plays rows m can)
 
 pub taken_in : (rows : List Row) (m : Move) (removed : List ℕ) → removed ≡ taken_numbers rows m → All (λ t. t < length rows) removed
-taken_in rows m removed e = subst (λ (ns : List ℕ). All (λ t. t < length rows) ns) (sym e) (picked-within (has (tets rows m)) (length rows) (length rows) (omega arith))
+taken_in rows m removed e = subst (λ (ns : List ℕ). All (λ t. t < length rows) ns) (sym e) (picked-within (has (old_tets rows m)) (length rows) (length rows) (omega arith))
 
 pub can_play : (rows : List Row) (m : Move) → IsTable rows → IsCore m.core → move_fault rows m ≡ None → new_length rows m ≤ max_tets → CanPlay rows m
 can_play rows m table core none fits = record {

@@ -11,7 +11,7 @@ use Rattle.table_definitions.specs.Lists.{below, has, closed_up}
 use Rattle.table_definitions.specs.Permutation.{IsPermutationOfFour, is_permutation, preimage}
 use Rattle.table_definitions.specs.Table.{Gluing, Row, IsTable}
 use Rattle.table_definitions.specs.Relabelling.{Relabelling, IsRelabelling, Carries, stand_in}
-use Rattle.move_definitions.specs.Moves.{Move, IsCore, Facet, facet, old_labels, kept, kept_stand_in}
+use Rattle.move_definitions.specs.Moves.{Move, IsCore, Facet, facet, old_labels, old_tets, kept, kept_stand_in}
 use Rattle.table_definitions.proofs.ListFacts.{list_all-below}
 use Rattle.table_definitions.specs.Moved.{moved_row}
 use Rattle.table_definitions.proofs.Ranks.{rank, stays, at_rank, StandsAt, ranks_apart}
@@ -20,7 +20,7 @@ use Rattle.table_definitions.proofs.Moves.{carries_from}
 use Rattle.table_definitions.proofs.Faces.{gluing_to, tet_of, perm_of}
 use Rattle.move_laws.proofs.Labels.{AreLabels, ascending, on_labels, label_tests}
 use Rattle.move_laws.proofs.ListedFacets.{same_some, found_by, not_found, is_found, closed_up-rank, stays-count}
-use Rattle.move_laws.proofs.Legal.{facet_is, HasNoFault, old_label, facets_apart, gone, gone_distinct, length-gone, gone_below, OldFacet, gone_facet}
+use Rattle.move_laws.proofs.Legal.{facet_is, HasNoFault, old_label, facets_apart, old_tets_distinct, length-old_tets, old_tets_below, OldFacet, old_tet_facet}
 use Rattle.move_laws.proofs.Covered.{kept-count}
 use Rattle.move_definitions.proofs.CoreTests.{core_size}
 use Rattle.move_laws.proofs.Renamed.{renamed, given_le}
@@ -50,7 +50,7 @@ place_of old m t (Some f) = facet_place old m f.missing f.labels
 abbrev pub place : List Row → Move → ℕ → Gluing
 place old m t = place_of old m t (found_by (facet old m) (old_labels m) t)
 
-pub place-kept : (old : List Row) (m : Move) (t : ℕ) → has (gone old m) t ≡ false → place old m t ≡ kept_stand_in old m t
+pub place-kept : (old : List Row) (m : Move) (t : ℕ) → has (old_tets old m) t ≡ false → place old m t ≡ kept_stand_in old m t
 place-kept old m t h = ap (place_of old m t) (not_found (facet old m) (old_labels m) t h)
 
 pub place-old : (old : List Row) (m : Move) (i : ℕ) (f : Facet) → IsTable old → HasNoFault old m → IsCore m.core → length m.core ≤ i → i < 5 → facet old m i ≡ Some f → place old m f.tet ≡ facet_place old m i f.labels
@@ -60,9 +60,9 @@ place-old old m i f table h c low high e =
 
 -- what is known of a place
 pub record IsKeptPlace (old : List Row) (m : Move) (t : ℕ) : Type 0 where
-  pub stays : has (gone old m) t ≡ false
+  pub stays : has (old_tets old m) t ≡ false
   pub is : place old m t ≡ kept_stand_in old m t
-  pub small : closed_up (gone old m) t < kept old m
+  pub small : closed_up (old_tets old m) t < kept old m
 
 pub record IsFacetPlace (old : List Row) (m : Move) (t : ℕ) : Type 0 where
   pub label : ℕ
@@ -77,14 +77,14 @@ pub record IsFacetPlace (old : List Row) (m : Move) (t : ℕ) : Type 0 where
 pub stays_true : (xs : List ℕ) (t : ℕ) → has xs t ≡ false → stays xs t ≡ true
 stays_true xs t e = ap not e
 
-pub closed_up_small : (old : List Row) (m : Move) (t : ℕ) → IsTable old → HasNoFault old m → IsCore m.core → t < length old → has (gone old m) t ≡ false → closed_up (gone old m) t < kept old m
+pub closed_up_small : (old : List Row) (m : Move) (t : ℕ) → IsTable old → HasNoFault old m → IsCore m.core → t < length old → has (old_tets old m) t ≡ false → closed_up (old_tets old m) t < kept old m
 closed_up_small old m t table h c l e =
-    let s : StandsAt (stays (gone old m)) (length old) t = at_rank (stays (gone old m)) (length old) t l (stays_true (gone old m) t e) in
-    let all : rank (stays (gone old m)) (length old) + length (gone old m) ≡ length old = stays-count (gone old m) (length old) (gone_distinct old m h c) (gone_below old m table h c) in
-    omega (arith, s.fewer, closed_up-rank (gone old m) t (gone_distinct old m h c), length-gone old m h c)
+    let s : StandsAt (stays (old_tets old m)) (length old) t = at_rank (stays (old_tets old m)) (length old) t l (stays_true (old_tets old m) t e) in
+    let all : rank (stays (old_tets old m)) (length old) + length (old_tets old m) ≡ length old = stays-count (old_tets old m) (length old) (old_tets_distinct old m h c) (old_tets_below old m table h c) in
+    omega (arith, s.fewer, closed_up-rank (old_tets old m) t (old_tets_distinct old m h c), length-old_tets old m h c)
 
 pub place_cases : (old : List Row) (m : Move) (t : ℕ) → IsTable old → HasNoFault old m → IsCore m.core → t < length old → IsKeptPlace old m t ⊎ IsFacetPlace old m t
-place_cases old m t table h c l = by_test (has (gone old m) t) refl
+place_cases old m t table h c l = by_test (has (old_tets old m) t) refl
   where
     by_facet : OldFacet old m t → IsFacetPlace old m t
     by_facet o = record {
@@ -98,16 +98,16 @@ place_cases old m t table h c l = by_test (has (gone old m) t) refl
       is = ap (place old m) (sym o.tet) ∙ place-old old m o.label o.facet_of table h c o.low o.high o.is;
     }
 
-    by_test : (b : Bool) → has (gone old m) t ≡ b → IsKeptPlace old m t ⊎ IsFacetPlace old m t
+    by_test : (b : Bool) → has (old_tets old m) t ≡ b → IsKeptPlace old m t ⊎ IsFacetPlace old m t
     by_test false e = inl (record { stays = e; is = place-kept old m t e; small = closed_up_small old m t table h c l e })
-    by_test true e = inr (by_facet (gone_facet old m t c e))
+    by_test true e = inr (by_facet (old_tet_facet old m t c e))
 
 -- places are in range, apart, and permute the vertices
 pub place_below : (old : List Row) (m : Move) (t : ℕ) → IsTable old → HasNoFault old m → IsCore m.core → t < length old → (place old m t).tet < length old
 place_below old m t table h c l =
     let fits : 5 - length m.core ≤ length old = kept-count old m table h c in
     elim (place_cases old m t table h c l) [
-      | inl k ↦ (let e : (place old m t).tet ≡ closed_up (gone old m) t = ap tet_of k.is in let small = k.small in omega arith)
+      | inl k ↦ (let e : (place old m t).tet ≡ closed_up (old_tets old m) t = ap tet_of k.is in let small = k.small in omega arith)
       | inr f ↦ (let e : (place old m t).tet ≡ kept old m + (f.label - length m.core) = ap tet_of f.is in let low = f.low in let high = f.high in omega arith)
     ]
 
@@ -123,16 +123,16 @@ place_apart old m t u table h c lt lu e = by_cases (place_cases old m t table h 
   where
     by_cases : IsKeptPlace old m t ⊎ IsFacetPlace old m t → IsKeptPlace old m u ⊎ IsFacetPlace old m u → t ≡ u
     by_cases (inl k) (inl k') =
-        let d = gone_distinct old m h c in
-        let ranks : rank (stays (gone old m)) t ≡ rank (stays (gone old m)) u =
-        sym (closed_up-rank (gone old m) t d) ∙ sym (ap tet_of k.is) ∙ e ∙ ap tet_of k'.is ∙ closed_up-rank (gone old m) u d in
-        ranks_apart (stays (gone old m)) (length old) t u lt lu (stays_true (gone old m) t k.stays) (stays_true (gone old m) u k'.stays) ranks
+        let d = old_tets_distinct old m h c in
+        let ranks : rank (stays (old_tets old m)) t ≡ rank (stays (old_tets old m)) u =
+        sym (closed_up-rank (old_tets old m) t d) ∙ sym (ap tet_of k.is) ∙ e ∙ ap tet_of k'.is ∙ closed_up-rank (old_tets old m) u d in
+        ranks_apart (stays (old_tets old m)) (length old) t u lt lu (stays_true (old_tets old m) t k.stays) (stays_true (old_tets old m) u k'.stays) ranks
     by_cases (inl k) (inr f) =
-        let a : closed_up (gone old m) t ≡ kept old m + (f.label - length m.core) = sym (ap tet_of k.is) ∙ e ∙ ap tet_of f.is in
+        let a : closed_up (old_tets old m) t ≡ kept old m + (f.label - length m.core) = sym (ap tet_of k.is) ∙ e ∙ ap tet_of f.is in
         let small = k.small in
         absurd (omega arith)
     by_cases (inr f) (inl k) =
-        let a : kept old m + (f.label - length m.core) ≡ closed_up (gone old m) u = sym (ap tet_of f.is) ∙ e ∙ ap tet_of k.is in
+        let a : kept old m + (f.label - length m.core) ≡ closed_up (old_tets old m) u = sym (ap tet_of f.is) ∙ e ∙ ap tet_of k.is in
         let small = k.small in
         absurd (omega arith)
     by_cases (inr f) (inr g) =
@@ -190,14 +190,14 @@ is_relabelling old m table h c = record {
 
 -- the table to which it leads
 
-abbrev pub olds : List Row → Move → List ℕ
-olds old m = map (λ u. position_or_len (λ v. v == u) (relabelling old m).images) (below (length old))
+abbrev pub old_numbers : List Row → Move → List ℕ
+old_numbers old m = map (λ u. position_or_len (λ v. v == u) (relabelling old m).images) (below (length old))
 
 abbrev pub led_back : List Row → Move → List Row
-led_back old m = map (moved_row old (relabelling old m)) (olds old m)
+led_back old m = map (moved_row old (relabelling old m)) (old_numbers old m)
 
 pub carries_back : (old : List Row) (m : Move) → IsTable old → HasNoFault old m → IsCore m.core → Carries (relabelling old m) old (led_back old m)
-carries_back old m table h c = carries_from old (led_back old m) (relabelling old m) (olds old m) (is_relabelling old m table h c) (length-map (olds old m) (moved_row old (relabelling old m)) ∙ length-olds) rows found
+carries_back old m table h c = carries_from old (led_back old m) (relabelling old m) (old_numbers old m) (is_relabelling old m table h c) (length-map (old_numbers old m) (moved_row old (relabelling old m)) ∙ length-old_numbers) rows found
   where
     n : ℕ
     n = length old
@@ -205,14 +205,14 @@ carries_back old m table h c = carries_from old (led_back old m) (relabelling ol
     images : List ℕ
     images = (relabelling old m).images
 
-    length-olds : length (olds old m) ≡ n
-    length-olds = length-map (below n) (λ u. position_or_len (λ v. v == u) images) ∙ length-below n
+    length-old_numbers : length (old_numbers old m) ≡ n
+    length-old_numbers = length-map (below n) (λ u. position_or_len (λ v. v == u) images) ∙ length-below n
 
     length-images : length images ≡ n
     length-images = length-map (below n) (λ t. (place old m t).tet) ∙ length-below n
 
-    rows : (k : ℕ) → k < length old → get_or (led_back old m) k [] ≡ moved_row old (relabelling old m) (get_or (olds old m) k 0)
-    rows k l = get_or-map (moved_row old (relabelling old m)) (olds old m) k 0 [] (rw length-olds l)
+    rows : (k : ℕ) → k < length old → get_or (led_back old m) k [] ≡ moved_row old (relabelling old m) (get_or (old_numbers old m) k 0)
+    rows k l = get_or-map (moved_row old (relabelling old m)) (old_numbers old m) k 0 [] (rw length-old_numbers l)
 
     other : (t : ℕ) → t < n → (k : ℕ) → k < t → (get_or images k 0 == slice_index images t) ≡ false
     other t l k less =
@@ -221,7 +221,7 @@ carries_back old m table h c = carries_from old (led_back old m) (relabelling ol
         let same : k ≡ t = place_apart old m k t table h c lk l (sym (mapped (λ t. (place old m t).tet) n k 0 lk) ∙ e ∙ mapped (λ t. (place old m t).tet) n t 0 l) in
         absurd (omega arith)))
 
-    found : (t : ℕ) → t < length old → slice_index (olds old m) (slice_index images t) ≡ t
+    found : (t : ℕ) → t < length old → slice_index (old_numbers old m) (slice_index images t) ≡ t
     found t l =
         let at : slice_index images t ≡ (place old m t).tet = mapped (λ t. (place old m t).tet) n t 0 l in
         let small : slice_index images t < n = rw at (place_below old m t table h c l) in

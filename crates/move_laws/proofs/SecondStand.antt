@@ -10,7 +10,7 @@ use Rattle.table_definitions.specs.Lists.{below, has, same_list, in_place_of, cl
 use Rattle.table_definitions.specs.Permutation.{IsPermutationOfFour, is_permutation, image, preimage, identity, compose}
 use Rattle.table_definitions.specs.Table.{Gluing, Row, Face, glue, other_side, way_back, IsTable}
 use Rattle.table_definitions.specs.Relabelling.{face_under}
-use Rattle.move_definitions.specs.Moves.{Move, IsCore, Facet, opposite, facet, kept, kept_stand_in, facet_stand_in, stand_in_at, facet_gluing}
+use Rattle.move_definitions.specs.Moves.{Move, IsCore, Facet, opposite, facet, kept, kept_stand_in, facet_stand_in, stand_in_at, facet_gluing, old_tets}
 use Rattle.move_definitions.proofs.StandIns.{facet_stand_in-new, facet_stand_in-old}
 use Rattle.table_definitions.proofs.ListFacts.{list_all-below, same_list-true}
 use Rattle.table_definitions.proofs.Permutations.{image_below, preimage-image, image-inverse, identity_permutes}
@@ -19,7 +19,7 @@ use Rattle.table_definitions.proofs.InPlace.{in_place-same}
 use Rattle.table_definitions.proofs.Faces.{face_at}
 use Rattle.move_laws.proofs.ListedFacets.{same_some}
 use Rattle.move_laws.proofs.Labels.{AreLabels, ascending, new_labels, on_labels, label_tests, HasLabel, label_at, HasVertex, vertex_at, length-labels, image-map}
-use Rattle.move_laws.proofs.Legal.{IsFacet, facet_is, HasNoFault, no_fault, gone, OldFacet, gone_facet, old_facet}
+use Rattle.move_laws.proofs.Legal.{IsFacet, facet_is, HasNoFault, no_fault, OldFacet, old_tet_facet, old_facet}
 use Rattle.move_laws.proofs.Covered.{stand_in-kept, stand_in-old, crossed}
 use Rattle.move_laws.proofs.Matched.{AreGlued, old_glued, label_across}
 use Rattle.move_laws.proofs.Renamed.{renamed, renamed-old, renamed-new, renamed_below, new_as_old_labels, renamed_labels, given_le, given_lt}
@@ -71,9 +71,9 @@ inverse_fine old m new p = no_fault new (inverse_of old m) (inverse_legal old m 
 pub kept-inverse : (old : List Row) (m : Move) (new : List Row) → IsPlayed old m new → kept new (inverse_of old m) ≡ kept old m
 kept-inverse old m new p = let some = p.some in let few = p.few in let fits = p.fits in omega (arith, p.moved.length_is, p.inverse_core.size)
 
-gone_high : (old : List Row) (m : Move) (new : List Row) → IsPlayed old m new → (u : ℕ) → has (gone new (inverse_of old m)) u ≡ true → kept old m ≤ u
-gone_high old m new p u h =
-    let o : OldFacet new (inverse_of old m) u = gone_facet new (inverse_of old m) u p.inverse_core.is_core h in
+old_tets_high : (old : List Row) (m : Move) (new : List Row) → IsPlayed old m new → (u : ℕ) → has (old_tets new (inverse_of old m)) u ≡ true → kept old m ≤ u
+old_tets_high old m new p u h =
+    let o : OldFacet new (inverse_of old m) u = old_tet_facet new (inverse_of old m) u p.inverse_core.is_core h in
     let low : 5 - length m.core ≤ o.label = subst (λ k. k ≤ o.label) p.inverse_core.size o.low in
     let n : IsNewLabel old m new o.label = new_label old m new p o.label low o.high in
     let is : o.facet_of ≡ new_as_old old m n.label = same (facet new (inverse_of old m) o.label) o.facet_of (new_as_old old m n.label) o.is n.facet_is in
@@ -91,16 +91,16 @@ none_before (x ∷ xs) t high =
     let b : one_if (nat_lt x t) ≡ 0 = ap one_if (le-ltb x t (high x here)) in
     omega (arith, none_before xs t (λ u h. high u (let h' : has xs u ≡ true = h in grind arith)))
 
-pub stays_low : (old : List Row) (m : Move) (new : List Row) → IsPlayed old m new → (u : ℕ) → u < kept old m → has (gone new (inverse_of old m)) u ≡ false
-stays_low old m new p u l = by_test (has (gone new (inverse_of old m)) u) refl
+pub stays_low : (old : List Row) (m : Move) (new : List Row) → IsPlayed old m new → (u : ℕ) → u < kept old m → has (old_tets new (inverse_of old m)) u ≡ false
+stays_low old m new p u l = by_test (has (old_tets new (inverse_of old m)) u) refl
   where
-    by_test : (b : Bool) → has (gone new (inverse_of old m)) u ≡ b → has (gone new (inverse_of old m)) u ≡ false
+    by_test : (b : Bool) → has (old_tets new (inverse_of old m)) u ≡ b → has (old_tets new (inverse_of old m)) u ≡ false
     by_test false e = e
-    by_test true e = absurd (let high = gone_high old m new p u e in omega arith)
+    by_test true e = absurd (let high = old_tets_high old m new p u e in omega arith)
 
-pub closed_up_low : (old : List Row) (m : Move) (new : List Row) → IsPlayed old m new → (u : ℕ) → u < kept old m → closed_up (gone new (inverse_of old m)) u ≡ u
+pub closed_up_low : (old : List Row) (m : Move) (new : List Row) → IsPlayed old m new → (u : ℕ) → u < kept old m → closed_up (old_tets new (inverse_of old m)) u ≡ u
 closed_up_low old m new p u l =
-    omega (arith, none_before (gone new (inverse_of old m)) u (λ v h. (let high = gone_high old m new p v h in omega arith)))
+    omega (arith, none_before (old_tets new (inverse_of old m)) u (λ v h. (let high = old_tets_high old m new p v h in omega arith)))
 
 -- what stands for what stands for the tetrahedron of x
 pub record StandsAgain (old : List Row) (m : Move) (new : List Row) (x : Face) (s : Gluing) : Type 0 where
@@ -115,7 +115,7 @@ identity_twice : compose identity identity ≡ identity
 unfolding compose
 identity_twice = refl
 
-again-kept : (old : List Row) (m : Move) (new : List Row) → IsPlayed old m new → (x : Face) → x.tet < length old → x.face < 4 → has (gone old m) x.tet ≡ false → StandsAgain old m new x (kept_stand_in old m x.tet)
+again-kept : (old : List Row) (m : Move) (new : List Row) → IsPlayed old m new → (x : Face) → x.tet < length old → x.face < 4 → has (old_tets old m) x.tet ≡ false → StandsAgain old m new x (kept_stand_in old m x.tet)
 again-kept old m new p x lt lf e = record {
   second = kept_stand_in new (inverse_of old m) u;
   stands = stand_in-kept new (inverse_of old m) (face_under (kept_stand_in old m x.tet) x) (stays_low old m new p u small);
@@ -126,7 +126,7 @@ again-kept old m new p x lt lf e = record {
 }
   where
     u : ℕ
-    u = closed_up (gone old m) x.tet
+    u = closed_up (old_tets old m) x.tet
 
     small : u < kept old m
     small = closed_up_small old m x.tet p.table (no_fault old m p.moved.legal) p.core lt e
@@ -192,7 +192,7 @@ has_new_label old m i f v s h c low high e stands = by_size (cases_lt (image f.l
     by_size (inr g) = absurd (none (facet_stand_in old m f (image f.labels v)) (facet_stand_in-old old m f (image f.labels v) g) here)
 
 pub stands_again : (old : List Row) (m : Move) (new : List Row) → IsPlayed old m new → (x : Face) (s : Gluing) → x.tet < length old → x.face < 4 → stand_in_at old m x ≡ Some s → StandsAgain old m new x s
-stands_again old m new p x s lt lf stands = by_test (has (gone old m) x.tet) refl
+stands_again old m new p x s lt lf stands = by_test (has (old_tets old m) x.tet) refl
   where
     h : HasNoFault old m
     h = no_fault old m p.moved.legal
@@ -207,15 +207,15 @@ stands_again old m new p x s lt lf stands = by_test (has (gone old m) x.tet) ref
         let face : face_at f.tet (preimage f.labels (image f.labels x.face)) ≡ x = ap (face_at f.tet) (label_at o.label f.labels is.labels x.face lf).vertex ∙ same in
         subst (λ (g : Gluing). StandsAgain old m new x g) (sym n.is) (subst (λ (y : Face). StandsAgain old m new y (facet_gluing old m f (image f.labels x.face))) face there)
 
-    by_test : (b : Bool) → has (gone old m) x.tet ≡ b → StandsAgain old m new x s
+    by_test : (b : Bool) → has (old_tets old m) x.tet ≡ b → StandsAgain old m new x s
     by_test false e = subst (λ (g : Gluing). StandsAgain old m new x g) (same_some (stand_in_at old m x) (kept_stand_in old m x.tet) s (stand_in-kept old m x e) stands) (again-kept old m new p x lt lf e)
-    by_test true e = by_facet (gone_facet old m x.tet p.core e)
+    by_test true e = by_facet (old_tet_facet old m x.tet p.core e)
 
 -- where something stands for a face, something stands for the face to which it is glued
 
 pub other_stands : (old : List Row) (m : Move) → IsTable old → HasNoFault old m → IsCore m.core → (x : Face) (s g : Gluing) → x.face < 4 → stand_in_at old m x ≡ Some s → glue old x ≡ Some g
     → (r : Gluing) × (stand_in_at old m (other_side x g) ≡ Some r)
-other_stands old m table h c x s g lf stands glued = by_test (has (gone old m) g.tet) refl
+other_stands old m table h c x s g lf stands glued = by_test (has (old_tets old m) g.tet) refl
   where
     y : Face
     y = other_side x g
@@ -262,6 +262,6 @@ other_stands old m table h c x s g lf stands glued = by_test (has (gone old m) g
             let other : (f' : Facet) × (facet old m (image f.labels y.face) ≡ Some f') = old_facet old m (image f.labels y.face) h c l here.small in
             absurd (never o.label (image f.labels y.face) f other.0 o.low o.high l here.small o.is other.1 is (facet_is old m (image f.labels y.face) other.0 table c h.in_range here.small other.1) o.tet refl)
 
-    by_test : (b : Bool) → has (gone old m) g.tet ≡ b → (r : Gluing) × (stand_in_at old m y ≡ Some r)
+    by_test : (b : Bool) → has (old_tets old m) g.tet ≡ b → (r : Gluing) × (stand_in_at old m y ≡ Some r)
     by_test false e = (kept_stand_in old m g.tet, stand_in-kept old m y e)
-    by_test true e = by_facet (gone_facet old m g.tet c e)
+    by_test true e = by_facet (old_tet_facet old m g.tet c e)

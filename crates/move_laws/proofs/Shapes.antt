@@ -5,23 +5,23 @@ use Rattle.table_definitions.specs.Lists.{has, closed_up}
 use Rattle.table_definitions.specs.Permutation.{IsPermutationOfFour, image, preimage}
 use Rattle.table_definitions.specs.Table.{Gluing, Row, Face, IsTable}
 use Rattle.table_definitions.specs.Relabelling.{face_under}
-use Rattle.move_definitions.specs.Moves.{Move, IsCore, Facet, facet, new_length, kept, kept_stand_in, stand_in_at, facet_gluing}
+use Rattle.move_definitions.specs.Moves.{Move, IsCore, Facet, facet, new_length, kept, kept_stand_in, stand_in_at, facet_gluing, old_tets}
 use Rattle.table_definitions.proofs.Permutations.{image_below, identity_permutes, image-identity}
 use Rattle.table_definitions.proofs.Ranks.{rank, stays, ranks_apart}
 use Rattle.table_definitions.proofs.Faces.{face_at}
 use Rattle.move_definitions.proofs.CoreTests.{core_size}
 use Rattle.move_laws.proofs.Labels.{ascending, new_labels, HasLabel, label_at, vertex_at}
 use Rattle.move_laws.proofs.ListedFacets.{same_some, closed_up-rank}
-use Rattle.move_laws.proofs.Legal.{IsFacet, facet_is, HasNoFault, gone, gone_distinct, OldFacet, gone_facet}
+use Rattle.move_laws.proofs.Legal.{IsFacet, facet_is, HasNoFault, old_tets_distinct, OldFacet, old_tet_facet}
 use Rattle.move_laws.proofs.Covered.{stand_in-kept, crossed, IsInner}
 use Rattle.move_laws.proofs.Placed.{closed_up_small, stays_true}
 use Rattle.move_laws.proofs.SecondStand.{crossing, crossing_permutes, HasNewLabel, has_new_label}
 
 -- the face y stands for the face x of a kept tetrahedron
 pub record IsKeptFace (rows : List Row) (m : Move) (x y : Face) (s : Gluing) : Type 0 where
-  pub stays : has (gone rows m) x.tet ≡ false
+  pub stays : has (old_tets rows m) x.tet ≡ false
   pub by : s ≡ kept_stand_in rows m x.tet
-  pub tet : closed_up (gone rows m) x.tet ≡ y.tet
+  pub tet : closed_up (old_tets rows m) x.tet ≡ y.tet
   pub face : x.face ≡ y.face
   pub small : y.tet < kept rows m
 
@@ -41,7 +41,7 @@ pub record IsFacetFace (rows : List Row) (m : Move) (x y : Face) (s : Gluing) : 
 
 pub shape : (rows : List Row) (m : Move) → IsTable rows → HasNoFault rows m → IsCore m.core → (x : Face) (s : Gluing) → x.tet < length rows → x.face < 4 → stand_in_at rows m x ≡ Some s
     → IsKeptFace rows m x (face_under s x) s ⊎ IsFacetFace rows m x (face_under s x) s
-shape rows m table h c x s lt lf stands = by_test (has (gone rows m) x.tet) refl
+shape rows m table h c x s lt lf stands = by_test (has (old_tets rows m) x.tet) refl
   where
     by_facet : OldFacet rows m x.tet → IsFacetFace rows m x (face_under s x) s
     by_facet o =
@@ -67,10 +67,10 @@ shape rows m table h c x s lt lf stands = by_test (has (gone rows m) x.tet) refl
           new_is = there ∙ ap (face_under (facet_gluing rows m f j)) old_is ∙ ap (λ (g : Gluing). face_under g x) (sym n.is);
         }
 
-    by_kept : has (gone rows m) x.tet ≡ false → IsKeptFace rows m x (face_under s x) s
+    by_kept : has (old_tets rows m) x.tet ≡ false → IsKeptFace rows m x (face_under s x) s
     by_kept e =
         let by : s ≡ kept_stand_in rows m x.tet = same_some (stand_in_at rows m x) s (kept_stand_in rows m x.tet) stands (stand_in-kept rows m x e) in
-        let t : closed_up (gone rows m) x.tet ≡ s.tet = ap (λ (g : Gluing). g.tet) (sym by) in
+        let t : closed_up (old_tets rows m) x.tet ≡ s.tet = ap (λ (g : Gluing). g.tet) (sym by) in
         record {
           stays = e;
           by = by;
@@ -79,9 +79,9 @@ shape rows m table h c x s lt lf stands = by_test (has (gone rows m) x.tet) refl
           small = subst (λ u. u < kept rows m) t (closed_up_small rows m x.tet table h c lt e);
         }
 
-    by_test : (b : Bool) → has (gone rows m) x.tet ≡ b → IsKeptFace rows m x (face_under s x) s ⊎ IsFacetFace rows m x (face_under s x) s
+    by_test : (b : Bool) → has (old_tets rows m) x.tet ≡ b → IsKeptFace rows m x (face_under s x) s ⊎ IsFacetFace rows m x (face_under s x) s
     by_test false e = inl (by_kept e)
-    by_test true e = inr (by_facet (gone_facet rows m x.tet c e))
+    by_test true e = inr (by_facet (old_tet_facet rows m x.tet c e))
 
 -- what stands for a tetrahedron permutes its vertices
 new_permutes : (rows : List Row) (m : Move) (x y : Face) (s : Gluing) → IsCore m.core → IsFacetFace rows m x y s → IsPermutationOfFour s.perm
@@ -127,9 +127,9 @@ kept_not_facet rows m x x' y s s' k f =
 pub stands_for_one : (rows : List Row) (m : Move) → IsTable rows → HasNoFault rows m → IsCore m.core → (x x' y : Face) (s s' : Gluing) → x.tet < length rows → x'.tet < length rows
     → IsKeptFace rows m x y s ⊎ IsFacetFace rows m x y s → IsKeptFace rows m x' y s' ⊎ IsFacetFace rows m x' y s' → x ≡ x'
 stands_for_one rows m table h c x x' y s s' lt lt' (inl k) (inl k') =
-    let d = gone_distinct rows m h c in
-    let ranks : rank (stays (gone rows m)) x.tet ≡ rank (stays (gone rows m)) x'.tet = sym (closed_up-rank (gone rows m) x.tet d) ∙ k.tet ∙ sym k'.tet ∙ closed_up-rank (gone rows m) x'.tet d in
-    let t : x.tet ≡ x'.tet = ranks_apart (stays (gone rows m)) (length rows) x.tet x'.tet lt lt' (stays_true (gone rows m) x.tet k.stays) (stays_true (gone rows m) x'.tet k'.stays) ranks in
+    let d = old_tets_distinct rows m h c in
+    let ranks : rank (stays (old_tets rows m)) x.tet ≡ rank (stays (old_tets rows m)) x'.tet = sym (closed_up-rank (old_tets rows m) x.tet d) ∙ k.tet ∙ sym k'.tet ∙ closed_up-rank (old_tets rows m) x'.tet d in
+    let t : x.tet ≡ x'.tet = ranks_apart (stays (old_tets rows m)) (length rows) x.tet x'.tet lt lt' (stays_true (old_tets rows m) x.tet k.stays) (stays_true (old_tets rows m) x'.tet k'.stays) ranks in
     ap (λ u. face_at u x.face) t ∙ ap (face_at x'.tet) (k.face ∙ sym k'.face)
 stands_for_one rows m table h c x x' y s s' lt lt' (inl k) (inr f) = absurd (kept_not_facet rows m x x' y s s' k f)
 stands_for_one rows m table h c x x' y s s' lt lt' (inr f) (inl k) = absurd (kept_not_facet rows m x' x y s' s k f)

@@ -9,7 +9,7 @@ use Rattle.table_definitions.specs.Relabelling.{face_under, gluing_under}
 use Rattle.table_definitions.proofs.Permutations.{inverse_permutes, compose_permutes, identity-compose, compose-identity, inverse-identity}
 use Rattle.table_definitions.proofs.Ranks.{rank, stays, closed_up-rank, at_rank, ranks_apart, stays-count}
 use Rattle.std.proofs.lemmas.List.Kept.{AllPairs-from_increasing}
-use Rattle.move_definitions.specs.Moves.{Move, Facet, vertex_of, opposite, kept, new_facet, label_by_label, facet_stand_in, kept_stand_in, stand_in_at, facet_gluing}
+use Rattle.move_definitions.specs.Moves.{Move, Facet, vertex_of, opposite, kept, new_facet, label_by_label, facet_stand_in, kept_stand_in, stand_in_at, facet_gluing, old_tets}
 use Rattle.move_definitions.specs.Undos.{taken_numbers}
 use Rattle.move_definitions.proofs.StandIns.{facet_stand_in-new, facet_stand_in-old}
 use Rattle.move_laws.specs.Facets.{IsFacet, IsOldFacet}
@@ -17,7 +17,7 @@ use Rattle.move_laws.proofs.LabelLaws.{by_permutes, vertex_by}
 use Rattle.move_laws.proofs.FacetLaws.{new_is_facet, core_few}
 use Rattle.move_laws.proofs.LegalLaws.{IsLegal}
 use Rattle.move_laws.proofs.NumberLaws.{picked-up, picked-within}
-use Rattle.move_laws.proofs.ListedLaws.{tets, tet_of_old, old_of_tet, stand_old, stand_kept, taken-has, length-taken, closed-taken}
+use Rattle.move_laws.proofs.ListedLaws.{tet_of_old, old_of_tet, stand_old, stand_kept, taken-has, length-taken, closed-taken}
 use Rattle.table_definitions.proofs.Carried.{carried_image as image_under, carried_back as back_under}
 use Rattle.table_definitions.proofs.InPlace.{in_place-same}
 
@@ -44,25 +44,25 @@ under_kept t u g h =
 -- the numbers of the tetrahedra that are kept
 
 pub record ClosedUp (rows : List Row) (m : Move) (t : ℕ) : Type 0 where
-  pub rank_is : rank (stays (taken_numbers rows m)) t ≡ closed_up (tets rows m) t
-  pub fewer : closed_up (tets rows m) t < kept rows m
+  pub rank_is : rank (stays (taken_numbers rows m)) t ≡ closed_up (old_tets rows m) t
+  pub fewer : closed_up (old_tets rows m) t < kept rows m
 
-pub stays_on : (rows : List Row) (m : Move) (t : ℕ) → t < length rows → has (tets rows m) t ≡ false → stays (taken_numbers rows m) t ≡ true
+pub stays_on : (rows : List Row) (m : Move) (t : ℕ) → t < length rows → has (old_tets rows m) t ≡ false → stays (taken_numbers rows m) t ≡ true
 stays_on rows m t l free = ap not (taken-has rows m t l ∙ free)
 
-pub closes : (rows : List Row) (m : Move) (t : ℕ) → IsLegal rows m → t < length rows → has (tets rows m) t ≡ false → ClosedUp rows m t
+pub closes : (rows : List Row) (m : Move) (t : ℕ) → IsLegal rows m → t < length rows → has (old_tets rows m) t ≡ false → ClosedUp rows m t
 closes rows m t legal l free =
-    let up = picked-up (has (tets rows m)) (length rows) in
+    let up = picked-up (has (old_tets rows m)) (length rows) in
     let ascends = AllPairs-from_increasing (taken_numbers rows m) up in
-    let r : rank (stays (taken_numbers rows m)) t ≡ closed_up (tets rows m) t = sym (closed_up-rank (taken_numbers rows m) t ascends) ∙ closed-taken rows m t legal l in
+    let r : rank (stays (taken_numbers rows m)) t ≡ closed_up (old_tets rows m) t = sym (closed_up-rank (taken_numbers rows m) t ascends) ∙ closed-taken rows m t legal l in
     let a = (at_rank (stays (taken_numbers rows m)) (length rows) t l (stays_on rows m t l free)).fewer in
     let b : rank (stays (taken_numbers rows m)) (length rows) + length (taken_numbers rows m) ≡ length rows =
-    stays-count (taken_numbers rows m) (length rows) ascends (λ k q. picked-within (has (tets rows m)) (length rows) (length rows) (omega arith) k 0 q) in
+    stays-count (taken_numbers rows m) (length rows) ascends (λ k q. picked-within (has (old_tets rows m)) (length rows) (length rows) (omega arith) k 0 q) in
     let c = length-taken rows m legal in
     record { rank_is = r; fewer = omega arith }
 
-pub closed-apart : (rows : List Row) (m : Move) (t u : ℕ) → IsLegal rows m → t < length rows → u < length rows → has (tets rows m) t ≡ false → has (tets rows m) u ≡ false
-    → closed_up (tets rows m) t ≡ closed_up (tets rows m) u → t ≡ u
+pub closed-apart : (rows : List Row) (m : Move) (t u : ℕ) → IsLegal rows m → t < length rows → u < length rows → has (old_tets rows m) t ≡ false → has (old_tets rows m) u ≡ false
+    → closed_up (old_tets rows m) t ≡ closed_up (old_tets rows m) u → t ≡ u
 closed-apart rows m t u legal lt lu ft fu e =
     ranks_apart (stays (taken_numbers rows m)) (length rows) t u lt lu (stays_on rows m t lt ft) (stays_on rows m u lu fu)
     ((closes rows m t legal lt ft).rank_is ∙ e ∙ sym (closes rows m u legal lu fu).rank_is)
@@ -70,7 +70,7 @@ closed-apart rows m t u legal lt lu ft fu e =
 -- what stands for a face
 
 pub record StandsKept (rows : List Row) (m : Move) (x : Face) (s : Gluing) : Type 0 where
-  pub free : has (tets rows m) x.tet ≡ false
+  pub free : has (old_tets rows m) x.tet ≡ false
   pub is : s ≡ kept_stand_in rows m x.tet
 
 pub record StandsPut (rows : List Row) (m : Move) (x : Face) (s : Gluing) : Type 0 where
@@ -88,7 +88,7 @@ face_at f x F e l =
     ap (λ t. mk t x.face) e ∙ ap (mk f.tet) (sym (F.vertex_back x.face l))
 
 pub stands : (rows : List Row) (m : Move) (x : Face) (s : Gluing) → IsLegal rows m → x.face < 4 → stand_in_at rows m x ≡ Some s → StandsKept rows m x s ⊎ StandsPut rows m x s
-stands rows m x s legal l e = by_test (has (tets rows m) x.tet) refl
+stands rows m x s legal l e = by_test (has (old_tets rows m) x.tet) refl
   where
     by_label : (i : ℕ) (f : Facet) → IsOldFacet rows m i f → f.tet ≡ x.tet → (image f.labels x.face < length m.core) ⊎ (length m.core ≤ image f.labels x.face) → StandsPut rows m x s
     by_label i f F t (inl b) =
@@ -98,7 +98,7 @@ stands rows m x s legal l e = by_test (has (tets rows m) x.tet) refl
         let z : None ≡ Some s = sym (facet_stand_in-old rows m f (image f.labels x.face) b) ∙ sym (stand_old rows m i f x legal F (sym t)) ∙ e in
         absurd cc
 
-    by_test : (b : Bool) → has (tets rows m) x.tet ≡ b → StandsKept rows m x s ⊎ StandsPut rows m x s
+    by_test : (b : Bool) → has (old_tets rows m) x.tet ≡ b → StandsKept rows m x s ⊎ StandsPut rows m x s
     by_test true h =
         let o = old_of_tet rows m x.tet legal h in
         let f : Facet = o.1 in
@@ -143,7 +143,7 @@ put_face rows m i j f legal F l =
     ap (λ v. record { tet = (new_facet rows m j).tet; face = v }) at
 
 -- an old face that leads to a tetrahedron that is kept lies opposite a new label
-pub outer_label : (rows : List Row) (m : Move) (i : ℕ) (f : Facet) (x : Face) (g : Gluing) → IsLegal rows m → IsOldFacet rows m i f → x.tet ≡ f.tet → x.face < 4 → glue rows x ≡ Some g → has (tets rows m) g.tet ≡ false
+pub outer_label : (rows : List Row) (m : Move) (i : ℕ) (f : Facet) (x : Face) (g : Gluing) → IsLegal rows m → IsOldFacet rows m i f → x.tet ≡ f.tet → x.face < 4 → glue rows x ≡ Some g → has (old_tets rows m) g.tet ≡ false
     → image f.labels x.face < length m.core
 outer_label rows m i f x g legal F e l glued free = by_size (cases_lt (image f.labels x.face) (length m.core))
   where
@@ -158,5 +158,5 @@ outer_label rows m i f x g legal F e l glued free = by_size (cases_lt (image f.l
         let inner = legal.inner i k f h F o.1 other in
         let z : Some (record { tet = h.tet; perm = label_by_label f h }) ≡ Some g = sym inner ∙ ap (glue rows) (sym (face_at f x F.labelled e l)) ∙ glued in
         let t : h.tet ≡ g.tet = cc in
-        let y : true ≡ false = sym (tet_of_old rows m k h legal o.1) ∙ ap (has (tets rows m)) t ∙ free in
+        let y : true ≡ false = sym (tet_of_old rows m k h legal o.1) ∙ ap (has (old_tets rows m)) t ∙ free in
         absurd cc

@@ -7,7 +7,7 @@ use Rattle.table_definitions.specs.Permutation.{four, digits_of}
 use Rattle.table_definitions.proofs.ListFacts.{same_list-true}
 use Rattle.text_definitions.specs.Written.{spaced}
 use Rattle.move_definitions.specs.Moves.{Move, IsCore}
-use Rattle.move_definitions.specs.MoveText.{core_words, digits_at, move_text}
+use Rattle.move_definitions.specs.MoveText.{core_words, move_text}
 use Rattle.move_undo.specs.Written.{is_chosen, head_text, core_tail}
 
 -- a core is those of the four vertices that it has
@@ -26,10 +26,10 @@ parts_by : (n tet : ℕ) (core : List ℕ) → filter (has core) four ≡ core �
 unfolding head_text
 parts_by zero tet core e some most = absurd (omega arith)
 parts_by (suc zero) tet core e some most =
-    ap (λ (vs : List ℕ). 52 ∷ 49 ∷ 32 ∷ (decimal tet ++ (32 ∷ (digits_at vs ++ 10 ∷ [])))) (sym e)
+    ap (λ (vs : List ℕ). 52 ∷ 49 ∷ 32 ∷ (decimal tet ++ (32 ∷ (digits_of vs ++ 10 ∷ [])))) (sym e)
     ∙ ap (λ (xs : List ℕ). 52 ∷ 49 ∷ 32 ∷ xs) (together tet (32 ∷ digits_of (filter (has core) four)))
 parts_by (suc (suc zero)) tet core e some most =
-    ap (λ (vs : List ℕ). 51 ∷ 50 ∷ 32 ∷ (decimal tet ++ (32 ∷ (digits_at vs ++ 10 ∷ [])))) (sym e)
+    ap (λ (vs : List ℕ). 51 ∷ 50 ∷ 32 ∷ (decimal tet ++ (32 ∷ (digits_of vs ++ 10 ∷ [])))) (sym e)
     ∙ ap (λ (xs : List ℕ). 51 ∷ 50 ∷ 32 ∷ xs) (together tet (32 ∷ digits_of (filter (has core) four)))
 parts_by (suc (suc (suc zero))) tet core e some most = ap (λ (xs : List ℕ). 50 ∷ 51 ∷ 32 ∷ xs) (together tet (32 ∷ digits_of (filter (λ v. not (has core v)) four)))
 parts_by (suc (suc (suc (suc zero)))) tet core e some most = ap (λ (xs : List ℕ). 49 ∷ 52 ∷ 32 ∷ xs) (together tet [])

@@ -11,7 +11,7 @@ use Rattle.surface_definitions.specs.declared.Coords.TheVariants.{Standard, Quad
 use Rattle.surface_definitions.specs.QuadEquations.{AreEquations}
 use Rattle.surface_definitions.specs.Verdict.{Verdict}
 use Rattle.vector_definitions.specs.declared.Properties.{Properties}
-use Rattle.vector_definitions.specs.declared.Sum.{Sum}
+use Rattle.vector_definitions.specs.declared.SurfaceSum.{SurfaceSum}
 use Rattle.vector_definitions.specs.declared.LiftFault.{LiftFault}
 use Rattle.vector_definitions.specs.declared.LiftFault.TheVariants as lift_faults
 use Rattle.vector_definitions.specs.declared.ManyPieces.{ManyPieces}
@@ -89,7 +89,7 @@ module _ (s : Skeleton) (k : IsSkeleton s) (coords : Coords) (triangles : coords
       (Ok (record { vector = xs; properties = properties xs; components = components }), (fit, refl, (none, are_properties xs), h))
   by_pieces xs fit none (Err many) h = (Err (TooManyPieces many.count), (fit, none, h))
 
-  by_sums : (xs : List ℕ) → IsFit coords s.rows equations xs → (o : Option Sum) → first_large limit s coords xs ≡ o → Told xs
+  by_sums : (xs : List ℕ) → IsFit coords s.rows equations xs → (o : Option SurfaceSum) → first_large limit s coords xs ≡ o → Told xs
   by_sums xs fit (Some large) e = (Err (LargeSum large), (fit, e))
   by_sums xs fit None e =
       let a = pieces_answer s.rows coords xs (surface_is coords s.rows equations xs triangles k.table of_table fit) in

@@ -16,7 +16,7 @@ use Rattle.signature_text_laws.proofs.SlotLaws.{ok_same}
 use Rattle.signature_text_laws.proofs.SpelledTables.{spelled_read}
 use Rattle.signature_definitions.specs.Labellings.{Start, IsWalked, Relabels, is_stand_in_before, IsLeastRelabelling}
 use Rattle.labelling_laws.specs.Between.{between}
-use Rattle.labelling_laws.specs.Starts.{start_at, start_back_at, IsNoMatch}
+use Rattle.labelling_laws.specs.Starts.{numbered_start, numbered_start_back, IsNoMatch}
 use Rattle.labelling_laws.proofs.Agreeing.{one_walk}
 use Rattle.labelling_laws.proofs.Matching.{no_relabelling, first_match_is_least}
 use Rattle.labelling_laws.proofs.Told.{neither_before}
@@ -39,18 +39,18 @@ walked_spells rows new start by table w = record { table = carried_is_table rows
 
 module _ (second target : List Row) (ts : IsTable second) (cs : IsConnected second) (spelled : Spells (spelling target) target) where
   abbrev Found : ℕ → Type 0
-  Found i = (by : Relabelling) × IsWalked second (start_back_at i) by target
+  Found i = (by : Relabelling) × IsWalked second (numbered_start_back i) by target
 
   -- the walk from a start leads to the target or not
   decide : (i : ℕ) → i < 24 * length second → IsNoMatch second target i ⊎ Found i
   decide i l =
-      let w = walks_exist_lem second (start_back_at i) ts cs (omega arith) (inverse_permutes (slice_index_or words (i % 24) []) (words_permute (i % 24) (omega arith))) in
-      let s = walked_spells second w.1 (start_back_at i) w.0 ts w.2 in
+      let w = walks_exist_lem second (numbered_start_back i) ts cs (omega arith) (inverse_permutes (slice_index_or words (i % 24) []) (words_permute (i % 24) (omega arith))) in
+      let s = walked_spells second w.1 (numbered_start_back i) w.0 ts w.2 in
       elim (same_or_not (spelling w.1) (spelling target)) [
         | inl same ↦
             let one : w.1 ≡ target = ok_same w.1 target (sym (spelled_read (spelling w.1) w.1 s) ∙ spelled_read (spelling w.1) target (subst (λ (t : List ℕ). Spells t target) (sym same) spelled)) in
-            inr (w.0, subst (IsWalked second (start_back_at i) w.0) one w.2)
-        | inr other ↦ inl (λ by v. other (ap spelling (one_walk second w.1 target w.0 by ts (start_back_at i) (omega arith) w.2 v).1))
+            inr (w.0, subst (IsWalked second (numbered_start_back i) w.0) one w.2)
+        | inr other ↦ inl (λ by v. other (ap spelling (one_walk second w.1 target w.0 by ts (numbered_start_back i) (omega arith) w.2 v).1))
       ]
 
   abbrev First : ℕ → Type 0
@@ -88,8 +88,8 @@ module _ (first second : List Row) (tf : IsTable first) (ts : IsTable second) (c
 
   told_some : 0 < length first → (by : Relabelling) × IsLeastRelabelling first second by
   told_some some =
-      let w = walks_exist_lem first (start_at 0) tf cf some (words_permute 0 (omega arith)) in
-      elim (search second w.1 ts cs (walked_spells first w.1 (start_at 0) w.0 tf w.2) (24 * length second) (omega arith)) [
+      let w = walks_exist_lem first (numbered_start 0) tf cf some (words_permute 0 (omega arith)) in
+      elim (search second w.1 ts cs (walked_spells first w.1 (numbered_start 0) w.0 tf w.2) (24 * length second) (omega arith)) [
         | inl none ↦ absurd (no_relabelling first second w.1 w.0 tf ts some equal w.2 none r)
         | inr f ↦ (between (length first) w.0 f.2.0, first_match_is_least first second w.1 w.0 tf ts some equal w.2 f.2.0 (record { found = (f.0, f.1, f.2.1, f.3) }))
       ]

@@ -1,5 +1,5 @@
 pub mod Completed
 pub mod Shown
-pub mod SignsGiven
-pub mod SoundSigns
+pub mod SymbolsGiven
+pub mod SoundSymbols
 pub mod SoundFaults

@@ -12,7 +12,7 @@ use Rattle.table_definitions.specs.Table.{Gluing, Row, max_tets}
 use Rattle.table_definitions.specs.TableText.{entry_text}
 use Rattle.table_definitions.specs.Grammar.{AreWords, IsEntry, IsRowLine}
 use Rattle.table_definitions.proofs.Listed.{all_mapped, below-among}
-use Rattle.document_definitions.specs.Signs.{Sign, shown, line_end, Placed, plain}
+use Rattle.document_definitions.specs.Symbols.{Symbol, shown, line_end, Placed, plain}
 use Rattle.document_laws.proofs.LocalLines.{rest_of_line}
 use Rattle.document_laws.proofs.BehindTables.{lines_front}
 use Rattle.partial_table_laws.specs.Partial.{IsPartialTable}
@@ -35,7 +35,7 @@ are_words (w ∷ ws) = (refl, are_words ws)
 words_shown : (ws : List (List ℕ)) (others : List Placed) → plain (rest_of_line 0 (tokens_of ws) 0 ++ others) ≡ map shown ws ++ line_end ∷ plain others
 unfolding tokens_of rest_of_line
 words_shown [] others = refl
-words_shown (w ∷ ws) others = ap (λ (ss : List Sign). shown w ∷ ss) (words_shown ws others)
+words_shown (w ∷ ws) others = ap (λ (ss : List Symbol). shown w ∷ ss) (words_shown ws others)
 
 pub line_shown : (ws : List (List ℕ)) (lines : List Line) → plain (lines_front (line_with ws ∷ lines)) ≡ map shown ws ++ line_end ∷ plain (lines_front lines)
 unfolding lines_front
@@ -59,11 +59,11 @@ entry_is (Some g) h =
     let narrow : g.tet < 2 ^ 32 = p.1 in
     record { tet = decimal g.tet; number = record { value = decimal_value-decimal g.tet (omega (arith, narrow)); up_to = omega (arith, narrow) }; permutes = p.0; spelled = refl }
 
--- lines of rows that show certain signs first
-pub record ShowsFirst (table : List Row) (ss : List Sign) : Type 0 where
+-- lines of rows that show certain symbols first
+pub record ShowsFirst (table : List Row) (ss : List Symbol) : Type 0 where
   pub lines : List Line
   pub forms : AllZip IsRowLine lines table
-  pub more : List Sign
+  pub more : List Symbol
   pub there : plain (lines_front lines) ≡ ss ++ more
 
 row_line : (ws : List (List ℕ)) (row : Row) → AllZip IsEntry ws row → length row ≡ 4 → IsRowLine (line_with ws) row
@@ -99,32 +99,32 @@ none_more row (e ∷ more) l k =
     absurd (omega (arith, parts, l, k))
 
 -- the last row, which may be cut off
-cut_off : (row more : Row) (table : List Row) (ws : List (List ℕ)) (ss : List Sign) → AllZip IsEntry ws row → CanBeWritten (row ++ more) → ss ≡ map shown ws → ShowsFirst table [] → ShowsFirst ((row ++ more) ∷ table) ss
+cut_off : (row more : Row) (table : List Row) (ws : List (List ℕ)) (ss : List Symbol) → AllZip IsEntry ws row → CanBeWritten (row ++ more) → ss ≡ map shown ws → ShowsFirst table [] → ShowsFirst ((row ++ more) ∷ table) ss
 cut_off row more table ws ss z h e s =
     let us : List (List ℕ) = map entry_text more in
-    let behind : List Sign = line_end ∷ plain (lines_front s.lines) in
+    let behind : List Symbol = line_end ∷ plain (lines_front s.lines) in
     record {
       lines = line_with (ws ++ us) ∷ s.lines;
       forms = (row_line (ws ++ us) (row ++ more) (joined ws us row more z (written more (last_of row more h.0))) h.1, s.forms);
       more = map shown us ++ behind;
       there =
-          line_shown (ws ++ us) s.lines ∙ ap (λ (xs : List Sign). xs ++ behind) (map-append shown ws us) ∙ append_assoc (map shown ws) (map shown us) behind
-          ∙ ap (λ (xs : List Sign). xs ++ (map shown us ++ behind)) (sym e);
+          line_shown (ws ++ us) s.lines ∙ ap (λ (xs : List Symbol). xs ++ behind) (map-append shown ws us) ∙ append_assoc (map shown ws) (map shown us) behind
+          ∙ ap (λ (xs : List Symbol). xs ++ (map shown us ++ behind)) (sym e);
     }
 
 -- a whole row, and what follows it
-followed : (row : Row) (table : List Row) (ws : List (List ℕ)) (ss next : List Sign) → AllZip IsEntry ws row → length row ≡ 4 → ss ≡ map shown ws ++ line_end ∷ next → ShowsFirst table next → ShowsFirst (row ∷ table) ss
+followed : (row : Row) (table : List Row) (ws : List (List ℕ)) (ss next : List Symbol) → AllZip IsEntry ws row → length row ≡ 4 → ss ≡ map shown ws ++ line_end ∷ next → ShowsFirst table next → ShowsFirst (row ∷ table) ss
 followed row table ws ss next z l e s = record {
   lines = line_with ws ∷ s.lines;
   forms = (row_line ws row z l, s.forms);
   more = s.more;
   there =
-      line_shown ws s.lines ∙ ap (λ (xs : List Sign). map shown ws ++ line_end ∷ xs) s.there ∙ sym (append_assoc (map shown ws) (line_end ∷ next) s.more)
-      ∙ ap (λ (xs : List Sign). xs ++ s.more) (sym e);
+      line_shown ws s.lines ∙ ap (λ (xs : List Symbol). map shown ws ++ line_end ∷ xs) s.there ∙ sym (append_assoc (map shown ws) (line_end ∷ next) s.more)
+      ∙ ap (λ (xs : List Symbol). xs ++ s.more) (sym e);
 }
 
-pub rows_first : (rows table : List Row) (ss : List Sign) → Begin rows table → AllByRecursion CanBeWritten table → ShowRows rows ss → ShowsFirst table ss
-rows_first [] table ss b h s = subst (λ (xs : List Sign). ShowsFirst table xs) (sym s) (nothing_first table h)
+pub rows_first : (rows table : List Row) (ss : List Symbol) → Begin rows table → AllByRecursion CanBeWritten table → ShowRows rows ss → ShowsFirst table ss
+rows_first [] table ss b h s = subst (λ (xs : List Symbol). ShowsFirst table xs) (sym s) (nothing_first table h)
 rows_first (row ∷ rows) [] ss b h s = absurd b
 rows_first (row ∷ rows) (whole ∷ table) ss b h (ws, z, inl last) =
     let can : CanBeWritten (row ++ (b.0).0) = subst CanBeWritten (b.0).1 h.0 in

@@ -1,4 +1,4 @@
--- Where what stands before the fault of an input is sound, the fault stands at the first sign with which no input of the kind
+-- Where what stands before the fault of an input is sound, the fault stands at the first symbol with which no input of the kind
 -- goes on.
 use Rattle.std.proofs.Common.{◌≡◌, List, [], ◌∷◌, ◌++◌, inl, inr, refl, sym, ap, ◌∙◌, subst}
 use Rattle.std.specs.Prelude.{codes}
@@ -10,7 +10,7 @@ use Rattle.signature_definitions.specs.Grammar.{AreTableLines}
 use Rattle.surface_definitions.specs.Grammar.{IsVectorLine}
 use Rattle.move_definitions.specs.Grammar.{IsMoveLine, IsStepLine}
 use Rattle.document_definitions.specs.Grammar.{AreTables}
-use Rattle.document_definitions.specs.Signs.{Sign, input_end, signs_of, plain, LeavesAt, FirstLeavesAt}
+use Rattle.document_definitions.specs.Symbols.{Symbol, input_end, symbols_of, plain, LeavesAt, FirstLeavesAt}
 use Rattle.document_laws.specs.FaultLaws.{SomeTable, SomeTableAndLines, SomeTableAndVector, SomeTableAndBlocks, SomeTwoTables}
 use Rattle.document_laws.proofs.Local.{plain-append}
 use Rattle.document_laws.proofs.Lawful.{table_laws, two_tables_laws, tables_laws, vectors_laws, vector_laws, steps_laws, moves_laws, blocks_laws}
@@ -18,39 +18,39 @@ use Rattle.document_laws.proofs.BehindTables.{cancelled, lines_front, lines_spli
 use Rattle.partial_table_laws.specs.Sound.{IsSound, nothing, IsSoundBehind, IsSoundOfTwo}
 use Rattle.partial_table_laws.specs.Laws.{SomeTables, SoundFaultsLeaveFirst}
 use Rattle.partial_table_laws.proofs.Shown.{line_with, are_words}
-use Rattle.partial_table_laws.proofs.SoundSigns.{GoesOn, sound_goes_on, front_shown}
+use Rattle.partial_table_laws.proofs.SoundSymbols.{GoesOn, sound_goes_on, front_shown}
 
 -- lines that leave a grammar leave a smaller one
 leaves_too : (Larger InGrammar : List Line → Type 0) → ((lines : List Line) → InGrammar lines → Larger lines) → (end : Place) (lines : List Line) (p : Place) → LeavesAt Larger end lines p → LeavesAt InGrammar end lines p
 leaves_too Larger InGrammar within end lines p h =
-    record { before = h.before; sign = h.sign; after = h.after; stands = h.stands; no_way_on = λ others more e g. h.no_way_on others more e (within others g) }
+    record { before = h.before; symbol = h.symbol; after = h.after; stands = h.stands; no_way_on = λ others more e g. h.no_way_on others more e (within others g) }
 
 -- a grammar that has each table with certain lines before and behind it
 module _ (InGrammar : List Line → Type 0) (end : Place) (lines : List Line) (p : Place) (h : LeavesAt InGrammar end lines p) where
   pub sound_first : (rest : List Line) → ((table : List Line) → SomeTable table → InGrammar (table ++ rest)) → IsSound (plain h.before) → FirstLeavesAt InGrammar end lines p
   sound_first rest put sound =
       let g : GoesOn (plain h.before) = sound_goes_on (plain h.before) sound in
-      record { leaves = h; others = g.0 ++ rest; more = g.1 ++ plain (signs_of end rest); shown_before = front_shown end (plain h.before) g.0 rest g.1 g.2; way_on = put g.0 g.3 }
+      record { leaves = h; others = g.0 ++ rest; more = g.1 ++ plain (symbols_of end rest); shown_before = front_shown end (plain h.before) g.0 rest g.1 g.2; way_on = put g.0 g.3 }
 
-  shown_front : (last : Place) (front : List Line) (xs : List Sign) → plain (signs_of last front) ≡ xs ++ input_end ∷ [] → plain (lines_front front) ≡ xs
-  unfolding signs_of
+  shown_front : (last : Place) (front : List Line) (xs : List Symbol) → plain (symbols_of last front) ≡ xs ++ input_end ∷ [] → plain (lines_front front) ≡ xs
+  unfolding symbols_of
   shown_front last front xs e =
       cancelled (plain (lines_front front)) xs (input_end ∷ [])
-      (sym (plain-append (lines_front front) (signs_of last [])) ∙ ap plain (sym (lines_split last front []) ∙ ap (λ (ls : List Line). signs_of last ls) (append-nil front)) ∙ e)
+      (sym (plain-append (lines_front front) (symbols_of last [])) ∙ ap plain (sym (lines_split last front []) ∙ ap (λ (ls : List Line). symbols_of last ls) (append-nil front)) ∙ e)
 
   pub behind_first : (tables : List (List Row)) → ((front table : List Line) → AreTables front tables → SomeTable table → InGrammar (front ++ table)) → IsSoundBehind tables (plain h.before) → FirstLeavesAt InGrammar end lines p
   behind_first tables put s =
       let g : GoesOn s.rest = sound_goes_on s.rest s.sound in
-      let ends : List Sign = plain (signs_of end []) in
-      let table : plain (signs_of end g.0) ≡ s.rest ++ (g.1 ++ ends) = ap (λ (ls : List Line). plain (signs_of end ls)) (sym (append-nil g.0)) ∙ front_shown end s.rest g.0 [] g.1 g.2 in
+      let ends : List Symbol = plain (symbols_of end []) in
+      let table : plain (symbols_of end g.0) ≡ s.rest ++ (g.1 ++ ends) = ap (λ (ls : List Line). plain (symbols_of end ls)) (sym (append-nil g.0)) ∙ front_shown end s.rest g.0 [] g.1 g.2 in
       record {
         leaves = h;
         others = s.lines ++ g.0;
         more = g.1 ++ ends;
         shown_before =
-            ap plain (lines_split end s.lines g.0) ∙ plain-append (lines_front s.lines) (signs_of end g.0)
-            ∙ ap (λ (xs : List Sign). xs ++ plain (signs_of end g.0)) (shown_front s.end s.lines s.front s.front_shown) ∙ ap (λ (xs : List Sign). s.front ++ xs) table
-            ∙ sym (append_assoc s.front s.rest (g.1 ++ ends)) ∙ ap (λ (xs : List Sign). xs ++ (g.1 ++ ends)) (sym s.split);
+            ap plain (lines_split end s.lines g.0) ∙ plain-append (lines_front s.lines) (symbols_of end g.0)
+            ∙ ap (λ (xs : List Symbol). xs ++ plain (symbols_of end g.0)) (shown_front s.end s.lines s.front s.front_shown) ∙ ap (λ (xs : List Symbol). s.front ++ xs) table
+            ∙ sym (append_assoc s.front s.rest (g.1 ++ ends)) ∙ ap (λ (xs : List Symbol). xs ++ (g.1 ++ ends)) (sym s.split);
         way_on = put s.lines g.0 s.are_tables g.3;
       }
 

@@ -12,7 +12,7 @@ use Rattle.move_definitions.specs.Grammar.{IsMoveLine, IsStepLine}
 use Rattle.document_definitions.specs.Blocks.{blocks_document}
 use Rattle.document_definitions.specs.Documents.{table_document, vectors_document, vector_document, steps_document, moves_document, two_tables_document, tables_document}
 use Rattle.document_definitions.specs.Grammar.{AreTables}
-use Rattle.document_definitions.specs.Signs.{Sign, signs_of, plain, LeavesAt, FirstLeavesAt}
+use Rattle.document_definitions.specs.Symbols.{Symbol, symbols_of, plain, LeavesAt, FirstLeavesAt}
 use Rattle.document_laws.specs.FaultLaws.{SomeTable, SomeTableAndLines, SomeTableAndVector, SomeTableAndBlocks, SomeTwoTables}
 use Rattle.partial_table_laws.specs.Partial.{IsPartialTable, Completes}
 use Rattle.partial_table_laws.specs.Sound.{IsSound, IsSoundOfTwo, IsSoundOfMany}
@@ -21,13 +21,13 @@ use Rattle.partial_table_laws.specs.Sound.{IsSound, IsSoundOfTwo, IsSoundOfMany}
 abbrev pub PartialTablesAreCompleted : Type 0
 PartialTablesAreCompleted = (n : ℕ) (rows : List Row) → IsPartialTable n rows ↔ ((table : List Row) × Completes n rows table)
 
--- signs are sound so far exactly where lines of a table show them, and a further sign behind them
-abbrev pub SoundSignsGoOn : Type 0
-SoundSignsGoOn = (end : Place) (ss : List Sign) → IsSound ss ↔ ((lines : List Line) × (sign : Sign) × (more : List Sign) × (plain (signs_of end lines) ≡ ss ++ sign ∷ more) × SomeTable lines)
+-- symbols are sound so far exactly where lines of a table show them, and a further symbol behind them
+abbrev pub SoundSymbolsGoOn : Type 0
+SoundSymbolsGoOn = (end : Place) (ss : List Symbol) → IsSound ss ↔ ((lines : List Line) × (symbol : Symbol) × (more : List Symbol) × (plain (symbols_of end lines) ≡ ss ++ symbol ∷ more) × SomeTable lines)
 
--- where an input is refused, the fault stands at a sign with which nothing goes on, and at the first such where what stands
+-- where an input is refused, the fault stands at a symbol with which nothing goes on, and at the first such where what stands
 -- before it is sound
-abbrev pub FaultsLeaveFirstIf : {A : Type 0} → (List ℕ → Result A InputFault) → (List Line → Type 0) → (List Sign → Type 0) → Type 0
+abbrev pub FaultsLeaveFirstIf : {A : Type 0} → (List ℕ → Result A InputFault) → (List Line → Type 0) → (List Symbol → Type 0) → Type 0
 FaultsLeaveFirstIf read InGrammar Sound =
     (bytes : List ℕ) (f : LexFault) → read bytes ≡ Err (Text (Lex f))
     → (h : LeavesAt InGrammar (end_of bytes) (lines_of bytes) f.place) × (Sound (plain h.before) → FirstLeavesAt InGrammar (end_of bytes) (lines_of bytes) f.place)

@@ -2,7 +2,7 @@
 //! The functions here have no code: their contracts are laws over the definitions.
 #![tactic(auto)]
 
-ghost use Rattle.partial_table_laws.specs.Laws.{PartialTablesAreCompleted, SoundSignsGoOn, SoundFaultsLeaveFirst};
+ghost use Rattle.partial_table_laws.specs.Laws.{PartialTablesAreCompleted, SoundSymbolsGoOn, SoundFaultsLeaveFirst};
 
 /// The first entries of rows begin a table exactly where they glue soundly so far.
 pub fn partial_tables_are_completed()
@@ -10,8 +10,8 @@ pub fn partial_tables_are_completed()
 {}
 
 /// What is shown has the form of a table's text, and glues or spells soundly so far, exactly where some table's lines show it
-/// first. So where what stands before a fault is sound, the fault stands at the first sign with which no such input goes on.
+/// first. So where what stands before a fault is sound, the fault stands at the first symbol with which no such input goes on.
 pub fn sound_faults_leave_first()
-    ensures signs { SoundSignsGoOn }
+    ensures symbols { SoundSymbolsGoOn }
     ensures faults { SoundFaultsLeaveFirst }
 {}

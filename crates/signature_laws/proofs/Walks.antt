@@ -18,7 +18,7 @@ use Rattle.table_definitions.proofs.Moves.{carries_from}
 use Rattle.table_definitions.proofs.Carried.{image_in_range, carried_is_table}
 use Rattle.labelling_laws.specs.Between.{made, place_of}
 use Rattle.labelling_laws.specs.Orders.{start_at, whole_order, IsWholeOrder, Numbers}
-use Rattle.labelling_laws.specs.Starts.{start_at as numbered_start, IsTextFrom, IsLeastText}
+use Rattle.labelling_laws.specs.Starts.{numbered_start, IsTextFrom, IsLeastText}
 use Rattle.labelling_laws.proofs.Standing.{made_stands, CanStand, made_relabelling, place_of-image}
 use Rattle.labelling_laws.proofs.Least.{least_begun, least_better, one_text, least_is_signature, empty_ordered, empty_signature}
 use Rattle.signature_laws.specs.Laws.{RelabelledExist, WalksExist, SignaturesExist}

@@ -12,7 +12,7 @@ use Rattle.table_definitions.proofs.Permutations.{is_odd-inverse}
 use Rattle.skeleton_definitions.proofs.Signs.{says, says_behind}
 use Rattle.surface_definitions.specs.declared.Coords.{Coords}
 use Rattle.surface_definitions.specs.Pieces.{SurfacePiece, Arc, arc_across, piece_of, pieces_of, piece_number, Meets, ArcsLead, SamePiece, AreComponents, HasSigns, looks_positive, keeps_sides}
-use Rattle.surface_laws.specs.PieceLaws.{IsSurface, face_of_arc, MeetsBack, turned_if}
+use Rattle.surface_laws.specs.PieceLaws.{IsSurface, face_of_arc, MeetsBack, IsFreePiece, turned_if}
 use Rattle.surface_laws.proofs.MeetingArcs.{meets_back}
 use Rattle.surface_laws.proofs.PieceNumbers.{no_piece, IsFound, piece_found, number-piece}
 use Rattle.surface_laws.proofs.ComponentSurfaces.{piece_there, one_component}
@@ -32,10 +32,6 @@ pub record SignedStep (rows : List Row) (coords : Coords) (xs : List ℕ) (stays
   pub meets : Meets rows coords xs arc gluing
   pub one : piece_number xs (piece_of coords xs arc) ≡ k / 2
   pub other : 2 * piece_number xs (piece_of coords xs (arc_across gluing arc)) + turned_if (stays arc gluing) (k % 2) ≡ l
-
--- a piece of component i isn't joined to itself with the other sign
-unfoldable pub IsFreePiece : List ℕ → List ℕ → ℕ → ℕ → Type 0
-IsFreePiece classes components i p = slice_index components p ≡ i → slice_index classes (2 * p + 0) ≡ slice_index classes (2 * p + 1) → ⊥
 
 module _ (rows : List Row) (coords : Coords) (xs : List ℕ) (s : IsSurface rows coords xs) where
   -- whether sides are kept is the same from either side of a gluing
@@ -142,9 +138,9 @@ module _ (rows : List Row) (coords : Coords) (xs : List ℕ) (s : IsSurface rows
             same_value signs path j l in_other h.1 ∙ here
 
         pub free_by_signs : HasSigns rows coords xs components i stays → (p : ℕ) → p < n → IsFreePiece classes components i p
-        unfolding IsFreePiece
         free_by_signs signs p lp e same =
-            let j : IsJoined signed (2 * p + 0) (2 * p + 1) = (numbered.together (2 * p + 0) (2 * p + 1) (omega arith) (omega arith)).0 same in
+            let zero_sign : 2 * p + 0 ≡ 2 * p = omega arith in
+            let j : IsJoined signed (2 * p + 0) (2 * p + 1) = (numbered.together (2 * p + 0) (2 * p + 1) (omega arith) (omega arith)).0 (ap class_of zero_sign ∙ same) in
             let z : (2 * p + 0) / 2 ≡ p = omega arith in
             let o : (2 * p + 1) / 2 ≡ p = omega arith in
             let zm : (2 * p + 0) % 2 ≡ 0 = omega arith in
@@ -156,7 +152,6 @@ module _ (rows : List Row) (coords : Coords) (xs : List ℕ) (s : IsSurface rows
 
         -- and where each piece is free there are signs: whether the class is that of the first piece
         pub signs_by_free : i < count → ((p : ℕ) → p < n → IsFreePiece classes components i p) → HasSigns rows coords xs components i stays
-        unfolding IsFreePiece
         signs_by_free li free = ((λ p. class_of (2 * p + 0) == class_of (2 * start.0 + 0)), λ a g m e. at a g m e (stays a g) refl)
           where
             start : (p : ℕ) × (p < n) × (slice_index components p ≡ i)
@@ -181,7 +176,8 @@ module _ (rows : List Row) (coords : Coords) (xs : List ℕ) (s : IsSurface rows
                 ∙ sym (ap (λ b. if b then class_of (2 * piece a + 0) == class_of (2 * start.0 + 0) else not (class_of (2 * piece a + 0) == class_of (2 * start.0 + 0))) t)
             at a g m e false t =
                 let la : piece a < n = (arc_found a g m).in_range in
+                let zero_sign : 2 * piece a + 0 ≡ 2 * piece a = omega arith in
                 let same : class_of (2 * piece a + 1) ≡ class_of (2 * piece (arc_across g a) + 0) = class_across a g m 1 (omega arith) ∙ ap (λ b. class_of (2 * piece (arc_across g a) + turned_if b 1)) t in
                 ap (λ c. c == class_of (2 * start.0 + 0)) (sym same)
-                ∙ equals_one_of_two (class_of (2 * piece a + 0)) (class_of (2 * piece a + 1)) (class_of (2 * start.0 + 0)) (free (piece a) la e) (from_start (piece a) la e)
+                ∙ equals_one_of_two (class_of (2 * piece a + 0)) (class_of (2 * piece a + 1)) (class_of (2 * start.0 + 0)) (λ f. free (piece a) la e (sym (ap class_of zero_sign) ∙ f)) (from_start (piece a) la e)
                 ∙ sym (ap (λ b. if b then class_of (2 * piece a + 0) == class_of (2 * start.0 + 0) else not (class_of (2 * piece a + 0) == class_of (2 * start.0 + 0))) t)

@@ -9,8 +9,8 @@ use Rattle.table_definitions.proofs.TableLaws.{Among, Among-below}
 use Rattle.surface_definitions.specs.declared.Coords.{Coords}
 use Rattle.surface_definitions.specs.Pieces.{Arc, arc_across, piece_of, pieces_of, piece_number, Meets, AreComponents, HasSigns}
 use Rattle.surface_definitions.proofs.SurfaceEvaluators.{meeting_arcs}
-use Rattle.surface_laws.specs.PieceLaws.{IsSurface, face_of_arc, turned_if}
-use Rattle.surface_laws.proofs.SignedSteps.{SignedStep, IsFreePiece, steps_below, steps_back, free_by_signs, signs_by_free}
+use Rattle.surface_laws.specs.PieceLaws.{IsSurface, face_of_arc, IsFreePiece, turned_if}
+use Rattle.surface_laws.proofs.SignedSteps.{SignedStep, steps_below, steps_back, free_by_signs, signs_by_free}
 use Rattle.surface_laws.proofs.PieceTests.{among_meeting}
 use Rattle.surface_laws.proofs.ComponentsFound.{listed, some_if}
 use Rattle.walk_laws.proofs.Numberings.{HasNumbering, numbering_exists}
@@ -60,10 +60,9 @@ module _ (rows : List Row) (coords : Coords) (xs : List ℕ) (s : IsSurface rows
     FreeAt p = IsFreePiece numbering.classes components i p
 
     free_decided : (p : ℕ) → FreeAt p ⊎ (FreeAt p → ⊥)
-    unfolding IsFreePiece
     free_decided p = elim (cases_eq (slice_index components p) i) [
       | inr out ↦ inl (λ e f. out e)
-      | inl e ↦ elim (cases_eq (slice_index numbering.classes (2 * p + 0)) (slice_index numbering.classes (2 * p + 1))) [ inl same ↦ inr (λ h. h e same) | inr apart ↦ inl (λ e' f. apart f) ]
+      | inl e ↦ elim (cases_eq (slice_index numbering.classes (2 * p)) (slice_index numbering.classes (2 * p + 1))) [ inl same ↦ inr (λ h. h e same) | inr apart ↦ inl (λ e' f. apart f) ]
     ]
 
     pub signs_decided : i < count → HasSigns rows coords xs components i stays ⊎ (HasSigns rows coords xs components i stays → ⊥)

@@ -1,5 +1,5 @@
 -- Laws of pieces, of the arcs in which they meet, and of components.
-use Rattle.std.specs.Prelude.{◌≡◌, ℕ, ◌+◌, ◌<◌, ◌↔◌, List, length, take, Contains, Result, sum_by, sum, slice_index, ◌-◌, Bool, if◌then◌else◌, nat_lt}
+use Rattle.std.specs.Prelude.{◌≡◌, ◌≢◌, ℕ, ◌+◌, ◌*◌, ◌<◌, ◌↔◌, List, length, take, Contains, Result, sum_by, sum, slice_index, ◌-◌, Bool, if◌then◌else◌, nat_lt}
 use Rattle.std.specs.List.{slice_index_or, position_or_len}
 use Rattle.cone_definitions.specs.Rows.{IsSolution}
 use Rattle.cone_definitions.specs.Surfaces.{IsAdmissible}
@@ -32,6 +32,10 @@ pub record MeetsBack (rows : List Row) (coords : Coords) (xs : List ℕ) (a : Ar
 
 abbrev pub ArcsMeetBack : Type 0
 ArcsMeetBack = (rows : List Row) (coords : Coords) (xs : List ℕ) (a : Arc) (g : Gluing) → IsSurface rows coords xs → Meets rows coords xs a g → MeetsBack rows coords xs a g
+
+-- a piece of component i has two classes with either sign, so it isn't joined to itself with the other sign
+abbrev pub IsFreePiece : List ℕ → List ℕ → ℕ → ℕ → Type 0
+IsFreePiece classes components i p = slice_index components p ≡ i → slice_index classes (2 * p) ≢ slice_index classes (2 * p + 1)
 
 -- sign 0 or 1, or the other
 abbrev pub turned_if : Bool → ℕ → ℕ

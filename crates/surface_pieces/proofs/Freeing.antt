@@ -4,10 +4,7 @@ use Rattle.std.specs.Prelude.{if◌then◌else◌}
 use Rattle.std.specs.List.{slice_index_or}
 use Rattle.std.proofs.lemmas.Bool.{cases_eq, false≢true}
 use Rattle.std.proofs.lemmas.List.{length-set, length-replicate, get_or-replicate, get_or-set_same, get_or-set_other}
-
--- no piece of component i before piece n has one class with either sign
-abbrev pub IsFreeUpTo : List ℕ → List ℕ → ℕ → ℕ → Type 0
-IsFreeUpTo signed components n i = (p : ℕ) → p < n → slice_index components p ≡ i → slice_index signed (2 * p) ≢ slice_index signed (2 * p + 1)
+use Rattle.surface_pieces.specs.Joinings.{IsFreeUpTo}
 
 pub record AreFreeUpTo (signed components : List ℕ) (count n : ℕ) (free : List Bool) : Type 0 where
   pub size : length free ≡ count

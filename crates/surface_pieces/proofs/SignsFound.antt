@@ -1,6 +1,5 @@
 -- Signs of a component exist exactly where no piece is joined to itself with the other sign, by the classes of what rows of neighbours list.
 use Rattle.std.proofs.Common.{◌≡◌, ◌≢◌, ℕ, ◌+◌, ◌*◌, ◌/◌, ◌%◌, ◌<◌, ◌≤◌, ◌↔◌, Bool, List, [], ◌∷◌, length, Option, Contains, inl, inr, refl, sym, ap, ◌∙◌, subst, arith}
-use Rattle.std.specs.Prelude.{slice_index}
 use Rattle.std.specs.List.{slice_index_or}
 use Rattle.std.proofs.lemmas.Bool.{cases_lt}
 use Rattle.std.proofs.lemmas.List.{get_or_past}
@@ -11,7 +10,7 @@ use Rattle.surface_definitions.specs.declared.Coords.{Coords}
 use Rattle.surface_definitions.specs.Pieces.{Arc, arc_across, piece_of, pieces_of, piece_number, Meets, AreComponents, HasSigns}
 use Rattle.surface_laws.specs.PieceLaws.{IsSurface, face_of_arc, turned_if}
 use Rattle.surface_laws.proofs.PieceNumbers.{no_piece, number-piece}
-use Rattle.surface_laws.proofs.SignedSteps.{SignedStep, IsFreePiece, arc_found, sides_back, orientation_back, steps_below, steps_back, free_by_signs, signs_by_free}
+use Rattle.surface_laws.proofs.SignedSteps.{SignedStep, arc_found, sides_back, orientation_back, steps_below, steps_back, free_by_signs, signs_by_free}
 use Rattle.surface_pieces.specs.declared.steps.SearchKind.{SearchKind}
 use Rattle.surface_pieces.specs.declared.steps.SearchKind.TheVariants.{Pieces, Sides, Orientation}
 use Rattle.surface_pieces.specs.Searches.{number_with, stays_at, LeadsTo, AreSignedRows, IsFree}
@@ -87,10 +86,8 @@ module _ (rows : List Row) (coords : Coords) (xs : List ℕ) (s : IsSurface rows
     module _ (classes : List ℕ) (number : ℕ) (numbered : IsNumbering (2 * n) (IsJoined signed) classes number)
         (components : List ℕ) (count : ℕ) (are : AreComponents rows coords xs components count) (i : ℕ) where
       pub free_is : i < count → IsFree classes components i ↔ HasSigns rows coords xs components i stays
-      unfolding IsFreePiece
       free_is li = (
         (λ h. signs_by_free rows coords xs s stays (stays_back kind) signed step_of of_step classes number numbered components count are i li
-            (λ p lp e same. let z : 2 * p + 0 ≡ 2 * p = omega arith in h p (omega (arith, are.one_each)) e (sym (ap (slice_index classes) z) ∙ same))),
-        (λ signs p lp e same. let z : 2 * p + 0 ≡ 2 * p = omega arith in
-            free_by_signs rows coords xs s stays (stays_back kind) signed step_of of_step classes number numbered components count are i signs p (omega (arith, are.one_each)) e (ap (slice_index classes) z ∙ same)),
+            (λ p lp. h p (omega (arith, are.one_each)))),
+        (λ signs p lp. free_by_signs rows coords xs s stays (stays_back kind) signed step_of of_step classes number numbered components count are i signs p (omega (arith, are.one_each))),
       )

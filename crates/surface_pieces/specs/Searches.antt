@@ -1,11 +1,11 @@
 -- What a search joins: pieces that meet, or pieces with signs that are kept or changed where they meet.
-use Rattle.std.specs.Prelude.{◌≡◌, ℕ, ◌+◌, ◌*◌, ◌/◌, ◌%◌, ◌<◌, ◌≢◌, ◌↔◌, Bool, true, not, List, [], length, Option, Contains, slice_index, if◌then◌else◌}
+use Rattle.std.specs.Prelude.{◌≡◌, ℕ, ◌+◌, ◌*◌, ◌/◌, ◌%◌, ◌<◌, ◌↔◌, Bool, true, not, List, [], length, Option, Contains, if◌then◌else◌}
 use Rattle.std.specs.List.{filter_map, slice_index_or}
 use Rattle.table_definitions.specs.Permutation.{is_odd}
 use Rattle.table_definitions.specs.Table.{Gluing, Row}
 use Rattle.surface_definitions.specs.declared.Coords.{Coords}
 use Rattle.surface_definitions.specs.Pieces.{SurfacePiece, Arc, arc_across, piece_of, pieces_of, piece_number, Meets, keeps_sides, HasSigns}
-use Rattle.surface_laws.specs.PieceLaws.{turned_if}
+use Rattle.surface_laws.specs.PieceLaws.{IsFreePiece, turned_if}
 use Rattle.surface_pieces.specs.declared.steps.SearchKind.{SearchKind}
 use Rattle.surface_pieces.specs.declared.steps.SearchKind.TheVariants.{Pieces, Sides, Orientation}
 
@@ -47,9 +47,13 @@ pub record AreSignedRows (kind : SearchKind) (rows : List Row) (coords : Coords)
   pub size : length listed ≡ 2 * length (pieces_of xs)
   pub each : (i : ℕ) → i < 2 * length (pieces_of xs) → IsRow kind rows coords xs (slice_index_or (pieces_of xs) (i / 2) (record { column = 0; number = 0 })) (i % 2) (slice_index_or listed i [])
 
--- no piece of component i has one class with either sign
+-- no piece of component i before piece n has one class with either sign
+abbrev pub IsFreeUpTo : List ℕ → List ℕ → ℕ → ℕ → Type 0
+IsFreeUpTo signed components n i = (p : ℕ) → p < n → IsFreePiece signed components i p
+
+-- no piece of component i has
 abbrev pub IsFree : List ℕ → List ℕ → ℕ → Type 0
-IsFree signed components i = (p : ℕ) → p < length components → slice_index components p ≡ i → slice_index signed (2 * p) ≢ slice_index signed (2 * p + 1)
+IsFree signed components i = IsFreeUpTo signed components (length components) i
 
 -- whether signs exist on each component
 pub record AreSigned (kind : SearchKind) (rows : List Row) (coords : Coords) (xs components : List ℕ) (count : ℕ) (signs : List Bool) : Type 0 where

@@ -16,7 +16,7 @@ use normal_discs::{columns_each, triangles_each};
 use skeleton::Skeleton;
 use surface_definitions::Coords;
 use text_io::LIMIT;
-use vector_definitions::{Properties, PropertyFault, Sum};
+use vector_definitions::{Properties, PropertyFault, SurfaceSum};
 
 /// Whether a column of quads or octagons has pieces.
 fn has_others(coords: Coords, x: &[u128], column: usize) -> bool
@@ -101,17 +101,17 @@ pub fn properties_of(
     let table = skeleton.table();
     let points = points(skeleton, coords, x);
     if points > LIMIT {
-        return Err(PropertyFault::Large { sum: Sum::Points });
+        return Err(PropertyFault::Large { sum: SurfaceSum::Points });
     }
     let arcs = arcs(table, coords, x);
     if arcs > LIMIT {
-        return Err(PropertyFault::Large { sum: Sum::Arcs });
+        return Err(PropertyFault::Large { sum: SurfaceSum::Arcs });
     }
     let pieces = sum_of(x);
     let both = add(points, pieces);
     if both > LIMIT {
         return Err(PropertyFault::Large {
-            sum: Sum::PointsAndPieces,
+            sum: SurfaceSum::PointsAndPieces,
         });
     }
     Ok(Properties {

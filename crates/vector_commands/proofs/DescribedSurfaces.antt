@@ -14,8 +14,8 @@ use Rattle.surface_definitions.specs.Pieces.{component_vector}
 use Rattle.surface_definitions.specs.Characteristic.{points, arcs}
 use Rattle.vector_definitions.specs.Components.{Component, IsComponent, AreListedComponents}
 use Rattle.vector_definitions.specs.Properties.{first_large, large_sum}
-use Rattle.vector_definitions.specs.declared.Sum.{Sum}
-use Rattle.vector_definitions.specs.declared.Sum.TheVariants.{Points, Arcs, PointsAndPieces}
+use Rattle.vector_definitions.specs.declared.SurfaceSum.{SurfaceSum}
+use Rattle.vector_definitions.specs.declared.SurfaceSum.TheVariants.{Points, Arcs, PointsAndPieces}
 use Rattle.surface_laws.specs.CharacteristicLaws.{ComponentSumsAre}
 use Rattle.surface_laws.proofs.ComponentSums.{component_sums}
 use Rattle.surface_laws.proofs.ComponentCounts.{component_width}
@@ -29,7 +29,7 @@ record AreWithin (p a q : ℕ) : Type 0 where
   arcs : a ≤ limit
   both : p + q ≤ limit
 
-some_none : (t : Sum) → (let o : Option Sum = Some t in o ≡ None) → ⊥
+some_none : (t : SurfaceSum) → (let o : Option SurfaceSum = Some t in o ≡ None) → ⊥
 some_none t e = absurd cc
 
 within : (p a q : ℕ) → large_sum limit p a q ≡ None → AreWithin p a q

@@ -10,7 +10,7 @@ use outcome_definitions::Status;
 use std::alloc::Global;
 use surface_definitions::VectorFault;
 use text_io::append;
-use vector_definitions::{Refusal, Sum};
+use vector_definitions::{Refusal, SurfaceSum};
 
 /// The first vector of a document that is refused, by its number from 0, and why.
 #[derive(Clone, Copy)]
@@ -19,13 +19,13 @@ pub struct FirstRefused {
     pub refusal: Refusal,
 }
 
-fn named(sum: Sum) -> &'static [u8]
+fn named(sum: SurfaceSum) -> &'static [u8]
     ensures { result.now ≡ sum_word sum }
 {
     match sum {
-        Sum::Points => b"points",
-        Sum::Arcs => b"arcs",
-        Sum::PointsAndPieces => b"points-and-pieces",
+        SurfaceSum::Points => b"points",
+        SurfaceSum::Arcs => b"arcs",
+        SurfaceSum::PointsAndPieces => b"points-and-pieces",
     }
 }
 

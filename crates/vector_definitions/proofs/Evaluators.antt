@@ -8,7 +8,7 @@ use Rattle.skeleton_definitions.specs.Skeleton.{Skeleton}
 use Rattle.skeleton_definitions.proofs.Evaluators.{vertex_classes, edge_classes, face_classes, count_of}
 use Rattle.vector_definitions.specs.Properties.{first_large}
 use Rattle.vector_definitions.specs.declared.Properties.{Properties}
-use Rattle.vector_definitions.specs.declared.Sum.{Sum}
+use Rattle.vector_definitions.specs.declared.SurfaceSum.{SurfaceSum}
 use Rattle.vector_definitions.specs.declared.PropertyFault.{PropertyFault}
 use Rattle.vector_definitions.specs.declared.PropertyFault.TheVariants.{Large}
 
@@ -30,7 +30,7 @@ properties_of s coords xs = record {
   boundary = meets_boundary s.rows coords xs;
 }
 
-abbrev pub answer_by : Option Sum → Properties → Result Properties PropertyFault
+abbrev pub answer_by : Option SurfaceSum → Properties → Result Properties PropertyFault
 answer_by None p = Ok p
 answer_by (Some sum) p = Err (Large sum)
 

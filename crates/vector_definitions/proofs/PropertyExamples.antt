@@ -5,7 +5,7 @@ use Rattle.text_definitions.specs.Written.{limit}
 use Rattle.table_definitions.proofs.Tables.{sphere, table_jj, row, free}
 use Rattle.surface_definitions.specs.declared.Coords.TheVariants.{Standard, Octagon}
 use Rattle.vector_definitions.specs.declared.Properties.{Properties}
-use Rattle.vector_definitions.specs.declared.Sum.TheVariants.{Points, PointsAndPieces}
+use Rattle.vector_definitions.specs.declared.SurfaceSum.TheVariants.{Points, PointsAndPieces}
 use Rattle.vector_definitions.specs.declared.PropertyFault.{PropertyFault}
 use Rattle.vector_definitions.specs.declared.PropertyFault.TheVariants.{Large}
 use Rattle.vector_definitions.proofs.Evaluators.{skeleton_of, answer}

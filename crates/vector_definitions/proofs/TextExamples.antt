@@ -8,7 +8,7 @@ use Rattle.surface_definitions.specs.Equations.{matching_rows}
 use Rattle.surface_definitions.specs.declared.VectorFault.TheVariants as faults
 use Rattle.text_definitions.specs.Written.{line}
 use Rattle.vector_definitions.specs.Components.{Component}
-use Rattle.vector_definitions.specs.declared.Sum.TheVariants.{Points}
+use Rattle.vector_definitions.specs.declared.SurfaceSum.TheVariants.{Points}
 use Rattle.vector_definitions.specs.Answers.{Description, verdict_in}
 use Rattle.vector_definitions.specs.declared.Refusal.TheVariants as causes
 use Rattle.vector_definitions.specs.Texts.{description_text, lifts_text, refusal_line, invalid_edge_line}

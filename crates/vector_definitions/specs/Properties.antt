@@ -4,8 +4,8 @@ use Rattle.surface_definitions.specs.declared.Coords.{Coords}
 use Rattle.surface_definitions.specs.Characteristic.{points as points_of, arcs as arcs_of, euler as euler_of, is_linking, meets_boundary}
 use Rattle.skeleton_definitions.specs.Skeleton.{Skeleton}
 use Rattle.vector_definitions.specs.declared.Properties.{Properties}
-use Rattle.vector_definitions.specs.declared.Sum.{Sum}
-use Rattle.vector_definitions.specs.declared.Sum.TheVariants.{Points, Arcs, PointsAndPieces}
+use Rattle.vector_definitions.specs.declared.SurfaceSum.{SurfaceSum}
+use Rattle.vector_definitions.specs.declared.SurfaceSum.TheVariants.{Points, Arcs, PointsAndPieces}
 use Rattle.vector_definitions.specs.declared.PropertyFault.{PropertyFault}
 use Rattle.vector_definitions.specs.declared.PropertyFault.TheVariants.{Large}
 
@@ -19,12 +19,12 @@ pub record AreProperties (s : Skeleton) (coords : Coords) (xs : List ℕ) (p : P
   pub boundary : p.boundary ≡ meets_boundary s.rows coords xs
 
 -- the first of the sums that passes max
-abbrev pub large_sum : ℕ → ℕ → ℕ → ℕ → Option Sum
+abbrev pub large_sum : ℕ → ℕ → ℕ → ℕ → Option SurfaceSum
 large_sum max points arcs pieces =
     if nat_lt max points then Some Points else (if nat_lt max arcs then Some Arcs else (if nat_lt max (points + pieces) then Some PointsAndPieces else None))
 
 -- the first of the vector's sums that passes max
-abbrev pub first_large : ℕ → Skeleton → Coords → List ℕ → Option Sum
+abbrev pub first_large : ℕ → Skeleton → Coords → List ℕ → Option SurfaceSum
 first_large max s coords xs = large_sum max (points_of coords xs s.edges.classes s.edges.count) (arcs_of s.rows coords xs) (sum xs)
 
 -- what is told of a vector: its properties where no sum passes max, and else the first sum that does

@@ -9,8 +9,8 @@ use Rattle.surface_definitions.specs.Verdict.{verdict_text}
 use Rattle.surface_definitions.specs.Characteristic.{points, arcs, euler}
 use Rattle.text_definitions.specs.Written.{line, yes_or_no}
 use Rattle.vector_definitions.specs.declared.Properties.{Properties}
-use Rattle.vector_definitions.specs.declared.Sum.{Sum}
-use Rattle.vector_definitions.specs.declared.Sum.TheVariants.{Points, Arcs, PointsAndPieces}
+use Rattle.vector_definitions.specs.declared.SurfaceSum.{SurfaceSum}
+use Rattle.vector_definitions.specs.declared.SurfaceSum.TheVariants.{Points, Arcs, PointsAndPieces}
 use Rattle.vector_definitions.specs.Components.{Component}
 use Rattle.vector_definitions.specs.Answers.{Description}
 use Rattle.vector_definitions.specs.declared.Refusal.{Refusal}
@@ -43,7 +43,7 @@ description_text s coords d =
 unfoldable pub lifts_text : List (List ℕ) → List ℕ
 lifts_text lifts = flat_map vector_text lifts
 
-abbrev pub sum_word : Sum → List ℕ
+abbrev pub sum_word : SurfaceSum → List ℕ
 sum_word Points = codes "points"
 sum_word Arcs = codes "arcs"
 sum_word PointsAndPieces = codes "points-and-pieces"

@@ -26,7 +26,7 @@ pub struct Properties {
 
 /// A sum of a surface.
 #[derive(Clone, Copy)]
-pub enum Sum {
+pub enum SurfaceSum {
     Points,
     Arcs,
     PointsAndPieces,
@@ -36,7 +36,7 @@ pub enum Sum {
 #[derive(Clone, Copy)]
 pub enum PropertyFault {
     /// This sum is the first that passes the maximum.
-    Large { sum: Sum },
+    Large { sum: SurfaceSum },
 }
 
 /// Why no lift of a quad vector is told.
@@ -60,7 +60,7 @@ pub enum Refusal {
     /// It is no admissible solution.
     Unfit { fault: VectorFault },
     /// This sum is the first that passes the maximum.
-    LargeSum { sum: Sum },
+    LargeSum { sum: SurfaceSum },
     /// It has more than 100,000 pieces: this many.
     TooManyPieces { count: u128 },
     /// Four times the sum of the entries passes the maximum, so a lift could have larger numbers.

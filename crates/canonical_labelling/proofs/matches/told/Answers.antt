@@ -8,13 +8,13 @@ use Rattle.canonical_labelling.proofs.matches.told.Goals as goal
 
 pub returns-in_default-clause-none : goal.returns-in_default-clause-none
 returns-in_default-clause-none c =
-    let w = subst (λ (s : Start). IsWalked c.args.first.now s c.in_ok-walked.walked.relabelling c.in_ok-walked.walked.table) c.start_at.ensures c.in_ok-walked.ensures in
+    let w = subst (λ (s : Start). IsWalked c.args.first.now s c.in_ok-walked.walked.relabelling c.in_ok-walked.walked.table) c.numbered_start.ensures c.in_ok-walked.ensures in
     no_relabelling c.args.first.now c.args.second.now c.in_ok-walked.walked.table c.in_ok-walked.walked.relabelling c.requires.table c.requires.second_table c.requires.some c.requires.equal w
     (from_none c.in_ok-back.field-0 ((i : ℕ) → i < 24 * length c.args.second.now → IsNoMatch c.args.second.now c.in_ok-walked.walked.table i) c.in_default.is c.in_ok-back.ensures.none)
 
 pub returns-clause-found : goal.returns-clause-found
 returns-clause-found c =
-    let w = subst (λ (s : Start). IsWalked c.args.first.now s c.in_ok-walked.walked.relabelling c.in_ok-walked.walked.table) c.start_at.ensures c.in_ok-walked.ensures in
+    let w = subst (λ (s : Start). IsWalked c.args.first.now s c.in_ok-walked.walked.relabelling c.in_ok-walked.walked.table) c.numbered_start.ensures c.in_ok-walked.ensures in
     let least =
     first_match_is_least c.args.first.now c.args.second.now c.in_ok-walked.walked.table c.in_ok-walked.walked.relabelling c.requires.table c.requires.second_table c.requires.some c.requires.equal w c.in-Some.back
     (from_some c.in_ok-back.field-0 c.in-Some.back (IsFirstMatch c.args.second.now c.in_ok-walked.walked.table) c.in-Some.is c.in_ok-back.ensures.found) in
