@@ -101,11 +101,15 @@ pub fn properties_of(
     let table = skeleton.table();
     let points = points(skeleton, coords, x);
     if points > LIMIT {
-        return Err(PropertyFault::Large { sum: SurfaceSum::Points });
+        return Err(PropertyFault::Large {
+            sum: SurfaceSum::Points,
+        });
     }
     let arcs = arcs(table, coords, x);
     if arcs > LIMIT {
-        return Err(PropertyFault::Large { sum: SurfaceSum::Arcs });
+        return Err(PropertyFault::Large {
+            sum: SurfaceSum::Arcs,
+        });
     }
     let pieces = sum_of(x);
     let both = add(points, pieces);
