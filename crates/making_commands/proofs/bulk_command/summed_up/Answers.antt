@@ -1,5 +1,6 @@
 -- What passes the limit is told.
 use Rattle.std.proofs.Common.{◌≡◌, ℕ, List, ap, ◌∙◌, subst}
+use Rattle.double_description.specs.declared.engine.LargeStep.{LargeStep}
 use Rattle.outcome_definitions.specs.Enumerations.{large_outcome}
 use Rattle.std.proofs.lemmas.Result.{IfOk-weaker}
 use Rattle.outcome_definitions.specs.Makings.{IsGreatestEntry, summary_outcome}
@@ -14,6 +15,7 @@ returns-in-Ok c = IfOk-weaker c.summary_outcome.result _ _
 pub returns-in-Err-Fault : goal.returns-in-Err-Fault
 returns-in-Err-Fault c =
     let refused = rw c.in-Err-Fault.field-0-is at c.in-Err-Fault.ensures.err in
+    let is = c.in-Err-Fault.large-is in
+    let taken = c.deref-in-Err-Fault.ensures.value ∙ ap (λ (large : LargeStep). large.order.items) is in
     IfOk-weaker c.large_outcome.result _ _
-    (λ o same. large_told c.args.numbers c.args.table.now c.in-Err-Fault.large o refused
-    (same ∙ ap (λ (taken : List ℕ). large_outcome taken c.in-Err-Fault.large.kind) c.deref-in-Err-Fault.ensures.value)) c.large_outcome.ensures
+    (λ o same. large_told c.args.numbers c.args.table.now c.in-Err-Fault.large o refused (same ∙ (λ i. large_outcome (taken i) (is i).kind))) c.large_outcome.ensures
