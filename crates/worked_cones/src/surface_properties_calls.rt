@@ -23,6 +23,13 @@ fn surfaces_of_a_sphere_are_counted(rt: HostRuntime) -> Result<(), Fail> {
         Coords::Standard,
         &[most, most, most, most, 0, 0, 0],
     );
-    assert!(rt; matches!(large, Err(PropertyFault::Large { sum: SurfaceSum::Points })));
+    assert!(rt;
+        matches!(
+            large,
+            Err(PropertyFault::Large {
+                sum: SurfaceSum::Points
+            })
+        )
+    );
     Ok(())
 }
