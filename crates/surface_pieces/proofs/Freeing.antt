@@ -4,7 +4,7 @@ use Rattle.std.specs.Prelude.{if◌then◌else◌}
 use Rattle.std.specs.List.{slice_index_or}
 use Rattle.std.proofs.lemmas.Bool.{cases_eq, false≢true}
 use Rattle.std.proofs.lemmas.List.{length-set, length-replicate, get_or-replicate, get_or-set_same, get_or-set_other}
-use Rattle.surface_pieces.specs.Joinings.{IsFreeUpTo}
+use Rattle.surface_pieces.specs.Searches.{IsFreeUpTo}
 
 pub record AreFreeUpTo (signed components : List ℕ) (count n : ℕ) (free : List Bool) : Type 0 where
   pub size : length free ≡ count
