@@ -77,25 +77,26 @@ class Plan:
         for name in kept:
             self.seconds[name] *= SHARE_AFTER_CHANGE if name in stale else 0.0
 
-    def length(self, done=()):
-        """Seconds until all else is done, where each processor takes the ready crate with most above it."""
+    def ends(self, done=()):
+        """When each crate that isn't done is, in order, where each processor takes the ready crate with most above it."""
         left = [it for it in self.below if it not in done]
         waiting = {it: {on for on in self.below[it] if on not in done} for it in left}
         above = {it: [on for on in left if it in waiting[on]] for it in left}
         chain = self.chains(left, above)
         ready = [(-chain[it], it) for it in left if not waiting[it]]
         heapq.heapify(ready)
-        running, now = [], 0.0
+        running, found, now = [], [], 0.0
         while ready or running:
             while ready and len(running) < self.processors:
                 _, name = heapq.heappop(ready)
                 heapq.heappush(running, (now + self.seconds[name], name))
             now, name = heapq.heappop(running)
+            found.append((now, name))
             for it in above[name]:
                 waiting[it].discard(name)
                 if not waiting[it]:
                     heapq.heappush(ready, (-chain[it], it))
-        return now
+        return found
 
     def chains(self, left, above):
         """For each crate the seconds from its start to the end of the longest chain above it."""
@@ -104,13 +105,24 @@ class Plan:
             chain[name] = self.seconds[name] + max((chain[it] for it in above[name]), default=0.0)
         return chain
 
+    def length(self, done=()):
+        """Seconds until all else is done."""
+        return max((at for at, _ in self.ends(done)), default=0.0)
+
+    def reached(self, done):
+        """The second of the plan at which crates of as many seconds as those that are done were done."""
+        worked, at = sum(self.seconds[it] for it in done), 0.0
+        for end, name in self.ends():
+            if worked <= 0.0:
+                break
+            at, worked = end, worked - self.seconds[name]
+        return at
+
     def left(self, done, passed):
-        """Seconds left, after what is done took the seconds that passed."""
-        rest, whole = self.length(done), self.length()
-        told = whole - rest
-        if passed < 30 or told < whole / 20:
-            return max(0.0, whole - passed)
-        return rest * min(10.0, passed / told)
+        """Seconds left, after what is done took the seconds that passed. Half of the plan is taken to go as planned, so
+        that small crates, which end while the first large ones go on, don't tell of the whole."""
+        half = self.length() / 2
+        return self.length(done) * (passed + half) / (self.reached(done) + half) if half else 0.0
 
 
 class Sampler:
