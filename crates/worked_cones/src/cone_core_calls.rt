@@ -64,25 +64,31 @@ fn combines_rays(rt: HostRuntime) -> Result<(), Fail> {
     let first = Ray::unit(alloc, 3, 0)?;
     let second = Ray::unit(alloc, 3, 1)?;
     let third = Ray::unit(alloc, 3, 2)?;
-    let two = combine(alloc, &first, &second, 1, 2, MAX_ENTRY)
-        .ok()
-        .ok_or("too large")?;
-    is_ray(&rt, &two, &[2, 1, 0]);
-    let four = combine(alloc, &two, &third, 1, 2, 4)
-        .ok()
-        .ok_or("too large")?;
-    is_ray(&rt, &four.copy(alloc)?, &[4, 2, 1]);
+    let Ok(two) = combine(alloc, &first, &second, 1, 2, MAX_ENTRY) else {
+        panic!(rt; "too large");
+    };
+    let Ok(four) = combine(alloc, &two, &third, 1, 2, 4) else {
+        panic!(rt; "too large");
+    };
     let passed = combine(alloc, &two, &third, 1, 2, 3);
     assert!(rt; matches!(passed, Err(CombineFault::Passed { column: 0 })));
+    is_ray(&rt, &two, &[2, 1, 0]);
+    is_ray(&rt, &four.copy(alloc)?, &[4, 2, 1]);
+    Ok(())
+}
+
+#[test]
+fn takes_common_divisors_out(rt: HostRuntime) -> Result<(), Fail> {
+    let alloc = rt.alloc();
     let one = Ray::unit(alloc, 2, 0)?;
     let other = Ray::unit(alloc, 2, 1)?;
-    let steep = combine(alloc, &one, &other, 2, 1, 2)
-        .ok()
-        .ok_or("too large")?;
+    let Ok(steep) = combine(alloc, &one, &other, 2, 1, 2) else {
+        panic!(rt; "too large");
+    };
+    let Ok(reduced) = combine(alloc, &one, &steep, 1, 1, 2) else {
+        panic!(rt; "too large");
+    };
     is_ray(&rt, &steep, &[1, 2]);
-    let reduced = combine(alloc, &one, &steep, 1, 1, 2)
-        .ok()
-        .ok_or("too large")?;
     is_ray(&rt, &reduced, &[1, 1]);
     Ok(())
 }
