@@ -1,13 +1,8 @@
 """What a build takes: the table build_times.txt, and the time left told from it."""
 import heapq
 import os
-import re
-import threading
 from typing import Dict, NamedTuple
 
-# What is proved again of a crate that changed, or stands on one that did.
-SHARE_AFTER_CHANGE = 0.15
-TICKS = os.sysconf("SC_CLK_TCK")
 HEAD = """\
 # What a first build takes, as `tools/build.py --measure` writes it: the disk in MB,
 # and for each crate the seconds of a processor and the greatest memory in MB.
@@ -60,28 +55,28 @@ def size_of(folder):
 
 
 class Plan:
-    """The crates that are still to be proved, what each stands on, and what it takes."""
+    """The crates that are to be proved, each after those below it, what each of them waits for, and what it takes."""
 
     def __init__(self, below, times, processors):
-        self.below, self.processors = dict(below), processors
+        self.below = {it: [on for on in below[it] if on in below] for it in below}
+        self.processors = processors
         known = [it.seconds for name, it in times.crates.items() if name in below]
         usual = sum(known) / len(known) if known else 20.0
         self.seconds = {it: times.crates[it].seconds if it in times.crates else usual for it in below}
 
-    def take_kept(self, kept, changed):
-        """Counts for little what was proved before and is as it was, and for less than the whole what changed."""
-        stale = set()
-        for name in self.below:
-            if name in changed or any(it in stale for it in self.below[name]):
-                stale.add(name)
-        for name in kept:
-            self.seconds[name] *= SHARE_AFTER_CHANGE if name in stale else 0.0
+    def order(self):
+        """The crates, those first whose chain of crates above takes longest."""
+        chain = self.chains(list(self.below), self.above(self.below))
+        return sorted(self.below, key=lambda it: -chain[it])
+
+    def above(self, left):
+        return {it: [on for on in left if it in self.below[on]] for it in left}
 
     def ends(self, done=()):
         """When each crate that isn't done is, in order, where each processor takes the ready crate with most above it."""
         left = [it for it in self.below if it not in done]
         waiting = {it: {on for on in self.below[it] if on not in done} for it in left}
-        above = {it: [on for on in left if it in waiting[on]] for it in left}
+        above = self.above(left)
         chain = self.chains(left, above)
         ready = [(-chain[it], it) for it in left if not waiting[it]]
         heapq.heapify(ready)
@@ -123,43 +118,3 @@ class Plan:
         that small crates, which end while the first large ones go on, don't tell of the whole."""
         half = self.length() / 2
         return self.length(done) * (passed + half) / (self.reached(done) + half) if half else 0.0
-
-
-class Sampler:
-    """Reads once a second what the processes that prove crates below a folder have taken."""
-
-    def __init__(self, folder):
-        self.place = re.escape(os.path.realpath(folder)) + r"/crates/(\w+)"
-        self.seen, self.ended = {}, threading.Event()
-        self.thread = threading.Thread(target=self.go_on, daemon=True)
-        self.thread.start()
-
-    def go_on(self):
-        while not self.ended.is_set():
-            for process in filter(str.isdigit, os.listdir("/proc")):
-                try:
-                    self.look_at(process)
-                except (OSError, ValueError, IndexError, TypeError):
-                    continue
-            self.ended.wait(1)
-
-    def look_at(self, process):
-        """Counts a process for the crate in whose folder it works."""
-        at = re.match(self.place, os.readlink(f"/proc/{process}/cwd"))
-        if not at:
-            return
-        with open(f"/proc/{process}/stat", encoding="utf8", errors="replace") as file:
-            fields = file.read().rsplit(")", 1)[1].split()
-        with open(f"/proc/{process}/status", encoding="utf8", errors="replace") as file:
-            peak = int(re.search(r"VmHWM:\s+(\d+)", file.read())[1]) >> 10
-        self.seen[process, fields[19]] = (at[1], (int(fields[11]) + int(fields[12])) / TICKS, peak)
-
-    def end(self):
-        """What each crate took."""
-        self.ended.set()
-        self.thread.join()
-        took = {}
-        for name, seconds, peak in self.seen.values():
-            before = took.get(name, Took(0.0, 0))
-            took[name] = Took(before.seconds + seconds, max(before.memory, peak))
-        return took
