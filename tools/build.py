@@ -231,7 +231,7 @@ def main():
         try:
             build(to, lock, Kit(command), words, begun)
         except NotProved as fault:
-            print(f"{PROGRAM}: the crate {fault.name} did not build; what was said is in {fault.log}", file=sys.stderr)
+            print(f"{PROGRAM}: {fault}", file=sys.stderr)
             sys.exit(9)
         except KeyboardInterrupt:
             sys.exit(f"{PROGRAM}: interrupted; the next build goes on from here")

@@ -25,11 +25,7 @@ class Crate(NamedTuple):
 
 
 class NotProved(Exception):
-    """A crate that isn't proved, or a program that isn't built, with the file that holds what was said."""
-
-    def __init__(self, name, log):
-        super().__init__(name)
-        self.name, self.log = name, log
+    """Why a crate isn't proved or a program isn't linked, with the file that holds what was said."""
 
 
 class Kit:
@@ -140,15 +136,21 @@ class House:
                     left.remove(name)
                 process, status, used = os.wait4(-1, 0)
                 name, run = running.pop(process)
-                run.returncode = os.waitstatus_to_exitcode(status)
-                if run.returncode:
-                    raise NotProved(name, self.log(name))
-                self.keep(name)
+                run.returncode = status
+                self.look_at_end(name, status)
                 done.add(name)
                 finish(name, Took(used.ru_utime + used.ru_stime, used.ru_maxrss >> 10))
         finally:
             for process in running:
                 os.killpg(process, signal.SIGKILL)
+
+    def look_at_end(self, name, status):
+        """Notes that a crate is proved, or says why it isn't."""
+        if os.WIFSIGNALED(status):
+            raise NotProved(f"proving {name} was ended, most likely for want of memory; --jobs 1 takes the least")
+        if status:
+            raise NotProved(f"the crate {name} did not build; what was said is in {self.log(name)}")
+        self.keep(name)
 
     def link(self, name):
         """Links the object file of the program, and gives the program's path."""
@@ -157,5 +159,5 @@ class House:
         words += ["-o", program, f"{program}.o", f"{self.kit.at}/c/libos_c.a", f"{self.kit.at}/c/liblibc_c.a"]
         with open(self.log("link"), "w", encoding="utf8") as log:
             if subprocess.run(words, stdout=log, stderr=subprocess.STDOUT, check=False).returncode:
-                raise NotProved(name, self.log("link"))
+                raise NotProved(f"the program {name} was not linked; what was said is in {self.log('link')}")
         return program
