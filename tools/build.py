@@ -24,7 +24,7 @@ import sys
 import time
 
 from build_times import Plan, read_times, write_times
-from prove import Crate, House, Kit, NotProved
+from prove import Crate, Kit, NotProved, Workspace
 
 TOP = os.path.dirname(os.path.dirname(os.path.realpath(__file__)))
 PROGRAM = "trinorm"
@@ -143,7 +143,7 @@ def refuse_what_does_not_fit(to, times):
 def say_what_comes(plan, times, to, keep):
     minutes = max(1, round(plan.length() / 60))
     stays = "" if keep else ", dropped afterwards"
-    print(f"{PROGRAM}: proves and builds the program once: about {minutes} min on {processors()} processors, "
+    print(f"{PROGRAM}: proves and builds the program once: about {minutes} min, {plan.processors} crates at a time, "
           f"and {times.disk / 1000:.1f} GB of disk in {to}{stays}; until then `rt try -- WORDS` in {TOP}/crates/{PROGRAM} "
           "answers in a minute or two, with nothing proved", file=sys.stderr, flush=True)
 
@@ -178,9 +178,9 @@ def build(to, lock, kit, words, begun):
     names = all_below(known, PROGRAM, [])
     refuse_what_does_not_fit(to, times)
     copy_sources(names, to)
-    house = House(kit, {it: known[it] for it in names}, to, lock)
-    house.drop_what_changed()
-    left = [it for it in names if not house.is_proved(it)]
+    workspace = Workspace(kit, {it: known[it] for it in names}, to, lock)
+    workspace.drop_what_changed()
+    left = [it for it in names if not workspace.is_proved(it)]
     plan = Plan({it: known[it].below for it in left}, times, words.jobs)
     say_what_comes(plan, times, to, words.keep)
     progress, took = Progress(plan, len(names), len(names) - len(left)), {}
@@ -190,8 +190,8 @@ def build(to, lock, kit, words, begun):
         progress.finish(name)
 
     try:
-        house.prove(plan.order(), words.jobs, finish)
-        program = house.link(PROGRAM)
+        workspace.prove(plan.order(), words.jobs, finish)
+        program = workspace.link(PROGRAM)
     finally:
         progress.end()
     if words.measure:
@@ -223,7 +223,7 @@ def main():
         except BlockingIOError:
             print(f"{PROGRAM}: another build is going on; waiting for it", file=sys.stderr, flush=True)
             fcntl.flock(lock, fcntl.LOCK_EX)
-            if is_built():
+            if is_built() and not words.measure:
                 return
         begun = time.time()
         if words.measure:

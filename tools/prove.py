@@ -1,7 +1,7 @@
 """Proves crates side by side, each over the statements of those below it, and makes the program of the last one.
 
 `rattle` itself is asked, in place of `rt all check`, since it can be told that a library is to hold what others may
-cite of it and none of its proofs, so that the crates above load much less (docs/PROVING.md has the figures). Its answer
+cite of it, and not its checked proofs, so that the crates above load much less (docs/PROVING.md has the figures). Its answer
 is the same: it writes a library or a program only of a crate that it has proved. The library of a crate that is proved
 stands beside a sum of all that it was proved from, by which the crate needn't be proved again.
 """
@@ -40,7 +40,7 @@ class Kit:
         return f"{self.at}/rlibs/{name}.rlib"
 
 
-class House:
+class Workspace:
     """The crates, in an order in which each comes after those below it, and the folder with their sources."""
 
     def __init__(self, kit: Kit, crates: Dict[str, Crate], to, lock):
