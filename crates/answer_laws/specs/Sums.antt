@@ -51,14 +51,15 @@ pub record AreSumsOfVertexSurfaces (coords : Coords) (most : ℕ) (rows : List R
   pub are_all : IsSurfaceList (columns coords (length rows)) equations (clash_list coords (length rows)) surfaces
   pub told : AreSumsOfSurfaces surfaces most rows vectors o ⊎ IsFirstLargeTold surfaces most vectors o
 
--- the first vector is told that is no admissible solution, and why
+-- the first vector is told that isn't fit, and why
 pub record IsFirstUnfitTold (coords : Coords) (rows : List Row) (equations : List EquationRow) (vectors : List (List ℕ)) (o : Outcome) : Type 0 where
   pub vector : ℕ
   pub fault : VectorFault
   pub first : IsFirstRefused (IsVerdict coords rows equations) vectors vector fault
   pub outcome : o ≡ sum_refusal_outcome vector (Unfit fault)
 
--- all vectors are admissible solutions, and their sums are told, or the first number past the limit; or the first is told that is none
+-- all vectors are fit (admissible solutions of which no part of an equation is large), and their sums are told, or the first number past the
+-- limit; or the first is told that isn't
 abbrev pub AreDecomposed : Coords → ℕ → List Row → List EquationRow → List (List ℕ) → Outcome → Type 0
 AreDecomposed coords most rows equations vectors o =
     (All (IsFit coords rows equations) vectors × (AreSumsOfVertexSurfaces coords most rows equations vectors o ⊎ IsPastTold (table_enumeration coords Given most rows equations) o))
@@ -71,7 +72,7 @@ pub record IsDecomposition (coords : Coords) (most : ℕ) (d : List Row × List 
   pub decomposed : AreDecomposed coords most d.0 equations d.1 o
   pub never_past : length d.0 ≤ most_tetrahedra coords → limit ≤ most → ¬ IsPastTold (table_enumeration coords Given most d.0 equations) o
 
--- the vector and the terms are admissible solutions, and the vector, taken so many times, is the sum of the terms
+-- the vector and the terms are fit, and the vector, taken so many times, is the sum of the terms
 pub record IsTrueSum (coords : Coords) (rows : List Row) (equations : List EquationRow) (block : Block) : Type 0 where
   pub fit : AreFit coords rows equations block
   pub adds_up : AddsUp limit block.vector block.times block.terms

@@ -24,10 +24,11 @@ use Rattle.vector_definitions.specs.declared.Refusal.TheVariants.{Unfit, LargeSu
 abbrev pub verdict_in : Coords → List Row → List EquationRow → List ℕ → Verdict
 verdict_in coords rows equations xs = verdict limit (columns coords (length rows)) equations (clash_list coords (length rows)) xs
 
--- the vector is no admissible solution, and this is why
+-- the vector is no admissible solution of which no part of an equation is large, and this is why
 abbrev pub IsUnfit : Coords → List Row → List EquationRow → List ℕ → VectorFault → Type 0
 IsUnfit coords rows equations xs fault = verdict_in coords rows equations xs ≡ Err fault
 
+-- the vector is an admissible solution, and no part of an equation is large at it
 abbrev pub IsFit : Coords → List Row → List EquationRow → List ℕ → Type 0
 IsFit coords rows equations xs = verdict_in coords rows equations xs ≡ solution
 
