@@ -238,7 +238,8 @@ pub fn run<S: Source, K: Sink>(alloc: Global, words: &Words, source: &mut S, sin
         → WritesOf tables_document IsGrouping (S.left source.old) result (K.held sink.old) (K.held sink.new) }
 
     // `decompose` tells fit vectors (admissible solutions of which no part of an equation is large) as sums of vertex surfaces, or the first
-    // that is none, or the first number past the limit; `addup` accepts sums of fit terms to fit vectors exactly where they are true. `cover` writes the orientation cover, and `play` the table to which moves lead.
+    // that is none, or the first number past the limit; `addup` accepts sums of fit terms to fit vectors exactly where they are true.
+    // `cover` writes the orientation cover, and `play` the table to which moves lead.
     ensures decompose { (coords : Coords) → (most : ℕ) → accepted_request words.now ≡ Some (Request.Decompose coords most)
         → WritesOf vectors_document (IsDecomposition coords most) (S.left source.old) result (K.held sink.old) (K.held sink.new) }
     ensures addup { (coords : Coords) → accepted_request words.now ≡ Some (Request.Addup coords)
