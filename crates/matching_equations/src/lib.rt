@@ -3,9 +3,12 @@
 
 mod equation;
 mod matching;
+mod pieces;
 mod quads;
 mod table_equations;
 
 pub use matching::matching_system;
-pub use surface_definitions::Coords;
+pub use normal_discs::columns;
+pub use pieces::column;
+pub use surface_definitions::{Coords, Piece};
 pub use table_equations::{equations, quad_equations};

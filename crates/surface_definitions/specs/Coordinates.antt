@@ -1,10 +1,12 @@
 -- The columns of a vector: triangles, quads and octagons of each tetrahedron.
-use Rattle.std.specs.Prelude.{ℕ, ◌+◌, ◌*◌, ◌/◌, ◌%◌, Bool, ◌&&◌, ◌||◌, not, List, [], ◌∷◌, map, filter, ◌==◌, nat_lt, nat_le}
+use Rattle.std.specs.Prelude.{ℕ, ◌+◌, ◌*◌, ◌/◌, ◌%◌, ◌<◌, Bool, ◌&&◌, ◌||◌, not, List, [], ◌∷◌, map, filter, ◌==◌, nat_lt, nat_le, Option, Some, None, option_map, if◌then◌else◌}
 use Rattle.std.specs.List.{position_or_len, slice_index_or}
 use Rattle.table_definitions.specs.Lists.{below, pairs_of}
 use Rattle.table_definitions.specs.Permutation.{image}
 use Rattle.surface_definitions.specs.declared.Coords.{Coords}
 use Rattle.surface_definitions.specs.declared.Coords.TheVariants.{Standard, Quad, Octagon}
+use Rattle.surface_definitions.specs.declared.Piece.{Piece}
+use Rattle.surface_definitions.specs.declared.Piece.TheVariants as pieces
 
 -- the columns of one tetrahedron
 abbrev pub columns_each : Coords → ℕ
@@ -21,6 +23,34 @@ abbrev pub triangles_each : Coords → ℕ
 triangles_each Standard = 4
 triangles_each Quad = 0
 triangles_each Octagon = 4
+
+-- whether the coordinates have such a piece
+abbrev pub HasPiece : Coords → Piece → Type 0
+HasPiece Standard (pieces.Tri v) = v < 4
+HasPiece Standard (pieces.Quad k) = k < 3
+HasPiece Standard (pieces.Oct k) = ⊥
+HasPiece Quad (pieces.Tri v) = ⊥
+HasPiece Quad (pieces.Quad k) = k < 3
+HasPiece Quad (pieces.Oct k) = ⊥
+HasPiece Octagon (pieces.Tri v) = v < 4
+HasPiece Octagon (pieces.Quad k) = k < 3
+HasPiece Octagon (pieces.Oct k) = k < 3
+
+-- the place of a piece among the columns of its tetrahedron, where it has one
+abbrev pub local_column : Coords → Piece → Option ℕ
+local_column Standard (pieces.Tri v) = if nat_lt v 4 then Some v else None
+local_column Standard (pieces.Quad k) = if nat_lt k 3 then Some (4 + k) else None
+local_column Standard (pieces.Oct k) = None
+local_column Quad (pieces.Tri v) = None
+local_column Quad (pieces.Quad k) = if nat_lt k 3 then Some k else None
+local_column Quad (pieces.Oct k) = None
+local_column Octagon (pieces.Tri v) = if nat_lt v 4 then Some v else None
+local_column Octagon (pieces.Quad k) = if nat_lt k 3 then Some (4 + k) else None
+local_column Octagon (pieces.Oct k) = if nat_lt k 3 then Some (7 + k) else None
+
+-- the column of a piece of tetrahedron t, where the coordinates have such a piece
+abbrev pub column_of : Coords → ℕ → Piece → Option ℕ
+column_of coords t piece = option_map (λ place. columns_each coords * t + place) (local_column coords piece)
 
 -- the columns of the pieces by name
 abbrev pub tri_column : Coords → ℕ → ℕ → ℕ

@@ -14,6 +14,15 @@ pub enum Coords {
     Octagon,
 }
 
+/// The normal discs that a column counts: the triangles round a vertex, or the quads or octagons of a type, 0 for 01/23,
+/// 1 for 02/13 and 2 for 03/12.
+#[derive(Clone, Copy)]
+pub enum Piece {
+    Tri(u8),
+    Quad(u8),
+    Oct(u8),
+}
+
 /// Why a vector is no admissible solution.
 #[derive(Clone, Copy)]
 pub enum VectorFault {

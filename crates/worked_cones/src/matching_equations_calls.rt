@@ -1,5 +1,5 @@
 use crate::sample_cones::{SPHERE, are_rows, entries, read_table};
-use matching_equations::{Coords, equations};
+use matching_equations::{Coords, Piece, column, columns, equations};
 use std::test::Fail;
 
 #[test]
@@ -41,4 +41,18 @@ fn a_sphere_has_two_rows_in_quads(rt: HostRuntime) -> Result<(), Fail> {
     assert_eq!(rt; quad.columns(), 3);
     are_rows(&rt, &quad, &[&[(1, -1), (2, 1)], &[(1, 1), (2, -1)]]);
     Ok(())
+}
+
+#[test]
+fn pieces_have_columns(rt: HostRuntime) {
+    assert_eq!(rt; columns(Coords::Quad, 2), 6);
+    assert_eq!(rt;
+        (
+            column(Coords::Standard, 1, Piece::Quad(2)),
+            column(Coords::Octagon, 1, Piece::Oct(0)),
+            column(Coords::Quad, 1, Piece::Tri(0)),
+            column(Coords::Standard, 0, Piece::Tri(4)),
+        ),
+        (Some(13u32), Some(17u32), None, None)
+    );
 }

@@ -1,0 +1,55 @@
+//! The column of a piece.
+
+ghost use Rattle.std.specs.Prelude.{◌≡◌, ◌+◌, ◌<◌, ◌≤◌, ◌↔◌, nat_lt, IsSome, IfSome, if◌then◌else◌};
+ghost use Rattle.table_definitions.specs.Table.{max_tets};
+ghost use Rattle.surface_definitions.specs.Coordinates as coordinates;
+
+use normal_discs::{first_column, triangles_each};
+use surface_definitions::{Coords, Piece};
+
+// How many columns of a tetrahedron stand before its octagons.
+const BEFORE_OCTAGONS: u32 = 7;
+
+/// The place of one of so many pieces behind others, where the number is one of theirs.
+fn place(number: u8, count: u8, before: u32) -> Option<u32>
+    requires { before ≤ 7 }
+    ensures { result ≡ (if nat_lt number count then Some (before + number) else None) }
+{
+    if number < count {
+        Some(before + u32::from(number))
+    } else {
+        None
+    }
+}
+
+/// The place of a piece among the columns of its tetrahedron.
+fn local_column(coords: Coords, piece: Piece) -> Option<u32>
+    ensures value { result ≡ coordinates.local_column coords piece }
+    ensures found { IsSome result ↔ coordinates.HasPiece coords piece }
+    ensures in_range { IfSome result (λ place. place < coordinates.columns_each coords) }
+{
+    match piece {
+        Piece::Tri(vertex) => match coords {
+            Coords::Quad => None,
+            Coords::Standard => place(vertex, 4, 0),
+            Coords::Octagon => place(vertex, 4, 0),
+        },
+        Piece::Quad(kind) => place(kind, 3, triangles_each(coords)),
+        Piece::Oct(kind) => match coords {
+            Coords::Octagon => place(kind, 3, BEFORE_OCTAGONS),
+            Coords::Standard => None,
+            Coords::Quad => None,
+        },
+    }
+}
+
+/// The column of a piece of a tetrahedron; nothing exactly where the coordinates have no such piece.
+pub fn column(coords: Coords, tet: u32, piece: Piece) -> Option<u32>
+    requires { tet ≤ max_tets }
+    ensures value { result ≡ coordinates.column_of coords tet piece }
+    ensures found { IsSome result ↔ coordinates.HasPiece coords piece }
+    ensures in_range { IfSome result (λ column. column < coordinates.columns coords (tet + 1)) }
+{
+    let place = local_column(coords, piece)?;
+    Some(first_column(coords, tet) + place)
+}
