@@ -148,7 +148,7 @@ pub fn kept(tets: u32, core: Core) -> u32
 }
 
 /// The move that leads back, up to relabelling, from where a move on so many tetrahedra leads.
-pub fn inverse_move(tets: u32, m: Move) -> Move
+pub fn inverse_on(tets: u32, m: Move) -> Move
     ensures { result ≡ moves.inverse_move tets m }
 {
     Move {

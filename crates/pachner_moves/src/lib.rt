@@ -7,9 +7,9 @@ mod facets;
 mod legality;
 mod moving;
 
-pub use cores::{Core, Move, inverse_move, kept};
+pub use cores::{Core, Move, inverse_on, kept};
 pub use facet::Facet;
 pub use facets::{closed_number, facet_of};
 pub use legality::{Pattern, legal};
 pub use move_definitions::MoveFault;
-pub use moving::{Undo, apply, apply_legal, keeps_limit, take_back};
+pub use moving::{Undo, apply, apply_legal, inverse_move, keeps_limit, take_back};

@@ -10,7 +10,7 @@ ghost use Rattle.move_definitions.specs.Undos.{CanTakeBack, IsTakenBack};
 ghost use Rattle.move_laws.specs.Faults.{IsPattern};
 ghost use Rattle.move_laws.specs.Facets.{IsOldFacet, AreOldFacets, CanPlay, outer_gluing, fresh_gluing, put_row, put_rows, exchange};
 
-use crate::cores::kept;
+use crate::cores::{inverse_on, kept};
 use crate::facet::{glue_opposite, vertex_of};
 use crate::facets::{kept_in, label_by_label, moved_glue, new_facet, other_labels};
 use crate::legality::is_of_facet;
@@ -203,6 +203,14 @@ pub fn apply(table: &mut Table, m: Move) -> Result<Undo, MoveFault>
 {
     let pattern = legal(table, m)?;
     apply_legal(table, m, &pattern)
+}
+
+/// The move that leads back, up to relabelling, from where a move led: that of the number of tetrahedra before it, which
+/// its record keeps.
+pub fn inverse_move(undo: &Undo) -> Move
+    ensures { result ≡ moves.inverse_move undo.now.tets undo.now.played }
+{
+    inverse_on(undo.tets, undo.played)
 }
 
 /// The numbers of the tetrahedra that a move put in.

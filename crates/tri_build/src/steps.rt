@@ -11,7 +11,7 @@ use crate::generator::drawn;
 use arrayvec::ArrayVec;
 use gluing_table::Table;
 use no_memory::NoMemory;
-use pachner_moves::{Facet, Move, apply_legal, inverse_move, legal};
+use pachner_moves::{Facet, Move, apply_legal, inverse_on, legal};
 use std::alloc::Global;
 use std::marker::Model;
 
@@ -36,7 +36,7 @@ impl PlayedMove {
     pub fn inverse(&self) -> Move
         ensures { result ≡ moves.inverse_move self.now.tets self.now.played }
     {
-        inverse_move(self.tets, self.played)
+        inverse_on(self.tets, self.played)
     }
 }
 

@@ -88,15 +88,13 @@ fn refused_moves_leave_the_table(rt: HostRuntime) {
 fn a_sphere_is_parted_and_joined(rt: HostRuntime) {
     let four = table_of(&rt, rt.alloc(), &four());
     let mut table = table_of(&rt, rt.alloc(), &[sphere_row(0)]);
-    let parting = move_at(&rt, 0, 15);
-    assert!(rt; apply(&mut table, parting).is_ok());
+    let parted = apply(&mut table, move_at(&rt, 0, 15)).ok();
     assert!(rt; table.equals(&four));
     assert_eq!(rt;
-        told_move(inverse_move(1, parting)),
-        (0, [false, false, false, true])
+        parted.map(|undo| told_move(inverse_move(&undo))),
+        Some((0, [false, false, false, true]))
     );
-    let joining = move_at(&rt, 0, 8);
-    assert!(rt; apply(&mut table, joining).is_ok());
+    let joined = apply(&mut table, move_at(&rt, 0, 8)).ok();
     let other = [[
         by(0, b"3120"),
         by(0, b"1230"),
@@ -106,8 +104,8 @@ fn a_sphere_is_parted_and_joined(rt: HostRuntime) {
     let other = table_of(&rt, rt.alloc(), &other);
     assert!(rt; table.equals(&other));
     assert_eq!(rt;
-        told_move(inverse_move(4, joining)),
-        (0, [true, true, true, true])
+        joined.map(|undo| told_move(inverse_move(&undo))),
+        Some((0, [true, true, true, true]))
     );
 }
 
