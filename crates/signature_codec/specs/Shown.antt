@@ -50,11 +50,15 @@ slots_shown p j = record {
 abbrev pub walk_shown : Walk → Walking
 walk_shown w = record { seen = w.seen; types = w.types.items; gluings = w.gluings.items }
 
+-- the face that a refusal names
+abbrev pub named_face : NotOrdered → Face
+named_face f = record { tet = f.tet; face = f.face }
+
 -- a call takes the face, or answers that it isn't in order
 abbrev pub Takes : {X : Type 0} → Walking → Face → Result X (Failure NotOrdered) → Option Walking → Type 0
 Takes new x (Ok u) taken = taken ≡ Some new
 Takes new x (Err NoMemory) taken = Unit {0}
-Takes new x (Err (Fault f)) taken = (taken ≡ None) × (f.face ≡ x)
+Takes new x (Err (Fault f)) taken = (taken ≡ None) × (named_face f ≡ x)
 
 -- the walk through all faces
 pub record IsWholeWalk (rows : List Row) (w : Walk) : Type 0 where
@@ -64,4 +68,4 @@ pub record IsWholeWalk (rows : List Row) (w : Walk) : Type 0 where
 
 -- the face is the first that isn't in order
 abbrev pub StopsAt : List Row → Failure NotOrdered → Type 0
-StopsAt rows failure = IfFault failure (λ f. first_unordered rows ≡ Some f.face)
+StopsAt rows failure = IfFault failure (λ f. first_unordered rows ≡ Some (named_face f))

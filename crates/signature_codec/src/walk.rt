@@ -6,7 +6,7 @@ ghost use Rattle.table_definitions.specs.Permutation.{identity};
 ghost use Rattle.table_definitions.specs.Table as gluings;
 ghost use Rattle.table_definitions.specs.Table.{max_tets, IsTable};
 ghost use Rattle.signature_text_laws.specs.Walks as walks;
-ghost use Rattle.signature_codec.specs.Shown.{walk_shown, Takes, IsWholeWalk, StopsAt};
+ghost use Rattle.signature_codec.specs.Shown.{walk_shown, named_face, Takes, IsWholeWalk, StopsAt};
 
 use gluing_table::{Face, Glue, Table};
 use no_memory::Failure;
@@ -24,7 +24,21 @@ pub struct Walk {
 /// The first face at which a table isn't walk-ordered.
 #[derive(Clone, Copy)]
 pub struct NotOrdered {
-    pub face: Face,
+    pub tet: u32,
+    pub face: u8,
+}
+
+/// Why a table isn't spelled, or want of memory.
+pub type SpellFault = Failure<NotOrdered>;
+
+/// That a face isn't in order.
+fn not_ordered(face: Face) -> NotOrdered
+    ensures { named_face result ≡ face }
+{
+    NotOrdered {
+        tet: face.tet,
+        face: face.face,
+    }
 }
 
 fn is_identity(perm: Perm4) -> bool
@@ -34,7 +48,7 @@ fn is_identity(perm: Perm4) -> bool
 }
 
 /// Takes a face that is glued, if it is in order.
-fn take_glued(walk: &mut Walk, face: Face, glue: Glue) -> Result<(), Failure<NotOrdered>>
+fn take_glued(walk: &mut Walk, face: Face, glue: Glue) -> Result<(), SpellFault>
     requires a_face { face.face < 4 }
     requires few { walk.old.seen ≤ max_tets }
     ensures takes { Takes (walk_shown walk.new) face result (walks.take_glued face glue (walk_shown walk.old)) }
@@ -52,18 +66,18 @@ fn take_glued(walk: &mut Walk, face: Face, glue: Glue) -> Result<(), Failure<Not
         walk.seen += 1;
         return Ok(());
     }
-    Err(Failure::Fault(NotOrdered { face }))
+    Err(Failure::Fault(not_ordered(face)))
 }
 
 /// Takes a face, if it is in order.
-fn take_face(walk: &mut Walk, table: &Table, face: Face) -> Result<(), Failure<NotOrdered>>
+fn take_face(walk: &mut Walk, table: &Table, face: Face) -> Result<(), SpellFault>
     requires a_face { face.face < 4 }
     requires in_range { face.tet < length table.now }
     requires few { walk.old.seen ≤ max_tets }
     ensures takes { Takes (walk_shown walk.new) face result (walks.take_face table.now face (walk_shown walk.old)) }
 {
     if face.tet >= walk.seen {
-        return Err(Failure::Fault(NotOrdered { face }));
+        return Err(Failure::Fault(not_ordered(face)));
     }
     let Some(glue) = table.glue(face) else {
         walk.types.push(0)?;
@@ -73,7 +87,7 @@ fn take_face(walk: &mut Walk, table: &Table, face: Face) -> Result<(), Failure<N
 }
 
 /// The walk through all faces.
-pub fn walk_of(alloc: Global, table: &Table) -> Result<Walk, Failure<NotOrdered>>
+pub fn walk_of(alloc: Global, table: &Table) -> Result<Walk, SpellFault>
     requires { IsTable table.now }
     ensures whole { IfOk result (IsWholeWalk table.now) }
     ensures stops { IfErr result (StopsAt table.now) }

@@ -89,10 +89,10 @@ fn tables_in_another_order_are_not_spelled(rt: HostRuntime) {
         [None, by(0, b"1023"), None, None],
     ];
     let table = table_of(&rt, rt.alloc(), &rows);
-    let Err(Failure::Fault(NotOrdered { face })) = spell(rt.alloc(), &table) else {
+    let Err(Failure::Fault(NotOrdered { tet, face })) = spell(rt.alloc(), &table) else {
         panic!(rt; "it is spelled");
     };
-    assert_eq!(rt; (face.tet, face.face), (0, 0));
+    assert_eq!(rt; (tet, face), (0, 0));
 }
 
 #[test]
