@@ -13,7 +13,7 @@ fn large(alloc: Global) -> Result<Vec<u128>, NoMemory> {
 }
 
 #[test]
-fn keeps_two_fields_as_words(rt: HostRuntime) -> Result<(), NoMemory> {
+fn keeps_columns_as_words(rt: HostRuntime) -> Result<(), NoMemory> {
     let x = large(rt.alloc())?;
     assert_eq!(rt; x.len(), 65);
     let support = Support::of(rt.alloc(), &x)?;
