@@ -14,3 +14,4 @@ pub mod PrefersLemmas
 pub mod LeftRows
 pub mod Taken
 pub mod Ended
+pub mod ResidualLemmas

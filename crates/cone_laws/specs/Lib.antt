@@ -4,3 +4,4 @@ pub mod Cuts
 pub mod Meeting
 pub mod WorkedUnion
 pub mod Enumerations
+pub mod Residuals

@@ -8,6 +8,7 @@ ghost use Rattle.cone_laws.specs.Cuts.{UnitVectorsAreOfNoRow, FlatStepsKeepTheLi
 ghost use Rattle.cone_laws.specs.Meeting.{EnoughRowsBoundUnions, MeetingRowsBoundUnions, MeetingRowsBoundPairs, UnionsPastMeetingRowsHaveThird, StepsAddTheirRow};
 ghost use Rattle.cone_laws.specs.WorkedUnion.{WorkedPair, WorkedNoPair, WorkedCuts, WorkedMeeting};
 ghost use Rattle.cone_laws.specs.Enumerations.{RowsAreTaken, EnumerationsEnd};
+ghost use Rattle.cone_laws.specs.Residuals.{ResidualsDecide, MinimalResidualsHaveNoThird, InsideAreRivals, RivalsDecide, SmallerResidualsAlone, EqualResidualsSpoil};
 
 /// The union of two rays that contains no third has at most two columns more than there are rows.
 pub fn unions_are_small()
@@ -58,4 +59,15 @@ pub fn rows_are_taken()
 /// An enumeration has a list, or a number passes the limit.
 pub fn enumerations_end()
     ensures { EnumerationsEnd }
+{}
+
+/// A third ray lies inside the union of two exactly where its residual beside the first lies inside that of the second. So the
+/// two make a pair exactly where that residual is minimal among the rivals', and each is tested against smaller ones alone.
+pub fn residuals_decide()
+    ensures inside { ResidualsDecide }
+    ensures minimal { MinimalResidualsHaveNoThird }
+    ensures rivals { InsideAreRivals }
+    ensures among { RivalsDecide }
+    ensures smaller { SmallerResidualsAlone }
+    ensures equal { EqualResidualsSpoil }
 {}
