@@ -2,3 +2,16 @@ pub mod Skeletons
 pub mod Oriented
 pub mod Linked
 pub mod Equated
+pub mod Sums
+pub mod Matchings
+pub mod TestedClasses
+pub mod Spots
+pub mod Arrows
+pub mod EdgeEnds
+pub mod LinkCorners
+pub mod Sides
+pub mod SideParts
+pub mod Halves
+pub mod Totals
+pub mod EdgeDirections
+pub mod FaceSides

@@ -11,7 +11,6 @@ use Rattle.std.proofs.lemmas.List.Elements.{All-from_get_or, All-get_or}
 use Rattle.std.proofs.lemmas.List.FromFn.{length-range_with_len, get_or-range_with_len}
 use Rattle.std.proofs.lemmas.Bool.{eqb-true, eq-eqb}
 use Rattle.table_definitions.specs.Lists.{below, has}
-use Rattle.std.proofs.Common.{◌-◌}
 
 pub range-push : (a n : ℕ) → range_with_len a n ++ (a + n) ∷ [] ≡ range_with_len a (suc n)
 range-push a zero = ap (λ k. k ∷ []) (omega arith)

@@ -30,7 +30,7 @@ joined_refl rows p = ([], refl)
 pub joined_trans : (rows : List Row) (p q r : Place) → IsJoined rows p q → IsJoined rows q r → IsJoined rows p r
 joined_trans rows p q r a b = (a.0 ++ b.0, along-append rows p a.0 b.0 ∙ ap (λ (o : Option Place). option_and_then (λ x. along rows x b.0) o) a.1 ∙ b.1)
 
-images_below : (g : List ℕ) (vs : List ℕ) → IsPermutationOfFour g → AllByRecursion (λ v. v < 4) vs → AllByRecursion (λ v. v < 4) (map (image g) vs)
+pub images_below : (g : List ℕ) (vs : List ℕ) → IsPermutationOfFour g → AllByRecursion (λ v. v < 4) vs → AllByRecursion (λ v. v < 4) (map (image g) vs)
 images_below g [] h a = tt
 images_below g (v ∷ vs) h a = (image_below g v h a.0, images_below g vs h a.1)
 
@@ -38,7 +38,7 @@ images_back : (g : List ℕ) (vs : List ℕ) → IsPermutationOfFour g → AllBy
 images_back g [] h a = refl
 images_back g (v ∷ vs) h a = λ i. image-of_inverse g v h a.0 i ∷ images_back g vs h a.1 i
 
-has-images : (g : List ℕ) (vs : List ℕ) (f : ℕ) → IsPermutationOfFour g → AllByRecursion (λ v. v < 4) vs → f < 4 → has (map (image g) vs) (image g f) ≡ has vs f
+pub has-images : (g : List ℕ) (vs : List ℕ) (f : ℕ) → IsPermutationOfFour g → AllByRecursion (λ v. v < 4) vs → f < 4 → has (map (image g) vs) (image g f) ≡ has vs f
 has-images g [] f h a l = refl
 has-images g (v ∷ vs) f h a l = λ i. image_same g v f h a.0 l i || has-images g vs f h a.1 l i
 
@@ -100,7 +100,7 @@ across_back rows p f q t a e =
     )
 
 -- in a table a chain can be followed back
-first_step : (rows : List Row) (fs : List ℕ) (r : Place) (o : Option Place) → option_and_then (λ q. along rows q fs) o ≡ Some r → (q : Place) × (o ≡ Some q) × (along rows q fs ≡ Some r)
+pub first_step : (rows : List Row) (fs : List ℕ) (r : Place) (o : Option Place) → option_and_then (λ q. along rows q fs) o ≡ Some r → (q : Place) × (o ≡ Some q) × (along rows q fs ≡ Some r)
 first_step rows fs r None e = absurd cc
 first_step rows fs r (Some q) e = (q, refl, e)
 

@@ -1,9 +1,16 @@
 -- Classes are numbered in one way alone, and by their least members.
-use Rattle.std.proofs.Common.{◌≡◌, ℕ, zero, suc, ◌<◌, ◌≤◌, false, List, ◌⊎◌, ◌↔◌, refl, sym, ◌∙◌, subst, arith, ⊎_elim, inl, inr}
+use Rattle.std.proofs.Common.{◌≡◌, ℕ, zero, suc, ◌<◌, ◌≤◌, true, false, List, length, ◌⊎◌, ◌↔◌, refl, sym, ap, ◌∙◌, subst, arith, ⊎_elim, inl, inr}
 use Rattle.std.specs.Prelude.{◌==◌, slice_index}
-use Rattle.std.proofs.lemmas.Bool.{eq-eqb, false≢true, cases_order, cases_lt}
-use Rattle.std.proofs.lemmas.List.Sums.{fails_before_first}
-use Rattle.table_definitions.specs.Classes.{IsNumbering, least}
+use Rattle.std.proofs.lemmas.Bool.{eqb-true, eq-eqb, false≢true, cases_order, cases_lt}
+use Rattle.std.proofs.lemmas.List.Sums.{fails_before_first, passes_at_first}
+use Rattle.table_definitions.specs.Classes.{IsNumbering, least, is_least}
+
+-- m is the least member of the class of i
+pub record IsLeastOf (n : ℕ) (Same : ℕ → ℕ → Type 0) (classes : List ℕ) (i m : ℕ) : Type 0 where
+  pub below : m < n
+  pub same_class : slice_index classes m ≡ slice_index classes i
+  pub least_is : is_least classes m ≡ true
+  pub same : Same i m
 
 module _ (n : ℕ) (Same : ℕ → ℕ → Type 0) where
   -- a lesser class of i in the one numbering than in the other can't be, where the numberings agree below i
@@ -45,6 +52,28 @@ module _ (n : ℕ) (Same : ℕ → ℕ → Type 0) where
       absurd (false≢true (sym fails ∙ eq-eqb (slice_index classes i) (slice_index classes i) refl)))
       (λ (h : least classes (slice_index classes i) ≤ i). h)
       (cases_lt i (least classes (slice_index classes i)))
+
+  -- a class has its least member
+  pub least_class : (classes : List ℕ) (k : ℕ) → IsNumbering n Same classes k → (c : ℕ) → c < k → (least classes c < n) × (slice_index classes (least classes c) ≡ c)
+  least_class classes k a c lc =
+      let i = a.none_empty c lc in
+      let li : i.0 < n = i.1 in
+      let up : least classes (slice_index classes i.0) ≤ i.0 = least_is_least classes k a i.0 i.1 in
+      let at : least classes (slice_index classes i.0) ≡ least classes c = ap (least classes) i.2 in
+      let l : least classes c < n = omega arith in
+      let inside : least classes c < length classes = (let e = a.one_each in omega arith) in
+      (l, eqb-true (slice_index classes (least classes c)) c (passes_at_first (λ d. d == c) classes 0 inside))
+
+  pub least_of : (classes : List ℕ) (k : ℕ) → IsNumbering n Same classes k → (i : ℕ) → i < n → IsLeastOf n Same classes i (least classes (slice_index classes i))
+  least_of classes k a i hi =
+      let m : ℕ = least classes (slice_index classes i) in
+      let l = least_class classes k a (slice_index classes i) (a.in_range i hi) in
+      record { below = l.0; same_class = l.1; least_is = eq-eqb (least classes (slice_index classes m)) m (ap (least classes) l.1); same = (a.together i m hi l.0).0 (sym l.1) }
+
+  -- least members that are the same are one
+  pub one_least : (classes : List ℕ) (k : ℕ) → IsNumbering n Same classes k → (i j : ℕ) → i < n → j < n → is_least classes i ≡ true → is_least classes j ≡ true → Same i j → i ≡ j
+  one_least classes k a i j li lj x y s =
+      sym (eqb-true (least classes (slice_index classes i)) i x) ∙ ap (least classes) ((a.together i j li lj).1 s) ∙ eqb-true (least classes (slice_index classes j)) j y
 
   -- and their number is one
   no_more_classes : (classes : List ℕ) (k m : ℕ) → IsNumbering n Same classes k → IsNumbering n Same classes m → k < m → ⊥

@@ -1,8 +1,9 @@
 -- Lists in which nothing stands twice.
-use Rattle.std.proofs.Common.{◌≡◌, ◌≢◌, ℕ, zero, suc, ◌+◌, ◌<◌, Bool, true, false, cond, List, [], ◌∷◌, ◌++◌, length, get_or, map, filter, inl, inr, ⊎_elim, refl, sym, ◌∙◌, subst, arith}
-use Rattle.std.specs.Prelude.{⊤}
+use Rattle.std.proofs.Common.{◌≡◌, ◌≢◌, ℕ, zero, suc, ◌+◌, ◌<◌, ◌≤◌, Bool, true, false, cond, List, [], ◌∷◌, ◌++◌, length, get_or, map, filter, ◌⊎◌, inl, inr, ⊎_elim, refl, sym, ap, ◌∙◌, subst, arith}
+use Rattle.std.specs.Prelude.{⊤, sum_by}
 use Rattle.std.specs.List.{range_with_len}
 use Rattle.std.proofs.lemmas.List.{get_or_default}
+use Rattle.std.proofs.lemmas.List.Sums.{sum_by-cons}
 use Rattle.table_definitions.specs.Lists.{below}
 use Rattle.table_definitions.proofs.TableLaws.{Among}
 use Rattle.table_definitions.proofs.Listed.{contains_among, map-among, appended-among, filter-among, range-among}
@@ -48,3 +49,39 @@ apart_range a (suc n) = ((λ h. let l = (range-among a (a + 1) n h).0 in absurd 
 
 pub apart_below : (n : ℕ) → AreApart (below n)
 apart_below n = apart_range 0 n
+
+-- a list without one of its things
+pub record IsWithout {A : Type 0} (x : A) (xs less : List A) : Type 0 where
+  pub sums : (f : A → ℕ) → sum_by f xs ≡ f x + sum_by f less
+  pub shorter : length xs ≡ suc (length less)
+  pub others : (y : A) → Among y xs → (y ≡ x) ⊎ Among y less
+
+pub taken_out : {A : Type 0} (x : A) (xs : List A) → Among x xs → (less : List A) × IsWithout x xs less
+taken_out x [] h = absurd h
+taken_out x (y ∷ ys) (inl e) = (
+  ys,
+  record {
+    sums = λ f. sum_by-cons f y ys ∙ ap (λ a. f a + sum_by f ys) (sym e);
+    shorter = refl;
+    others = λ z h. ⊎_elim (λ q. inl (q ∙ sym e)) (λ g. inr g) h;
+  },
+)
+taken_out x (y ∷ ys) (inr h) =
+    let r = taken_out x ys h in
+    let w = r.1 in (
+      y ∷ r.0,
+      record {
+        sums = λ f. omega (arith, sum_by-cons f y ys, sum_by-cons f y r.0, w.sums f);
+        shorter = omega (arith, w.shorter);
+        others = λ z a. ⊎_elim (λ q. inr (inl q)) (λ g. ⊎_elim (λ q. inl q) (λ d. inr (inr d)) (w.others z g)) a;
+      },
+    )
+
+-- things apart that stand in a list are no more than the list
+pub apart_short : {A : Type 0} (xs ys : List A) → AreApart xs → ((x : A) → Among x xs → Among x ys) → length xs ≤ length ys
+apart_short [] ys apart inside = omega arith
+apart_short {A} (x ∷ xs) ys apart inside =
+    let r = taken_out x ys (inside x (inl refl)) in
+    let w : IsWithout x ys r.0 = r.1 in
+    let more : length xs ≤ length r.0 = apart_short xs r.0 apart.1 (λ z a. ⊎_elim (λ q. absurd (apart.0 (subst (λ (u : A). Among u xs) q a))) (λ g. g) (w.others z (inside z (inr a)))) in
+    omega (arith, w.shorter)

@@ -1,5 +1,5 @@
 -- Places in a table, chains of gluings that carry one to another, and the classes of vertices, edges, faces and tetrahedra.
-use Rattle.std.specs.Prelude.{◌≡◌, ℕ, ◌/◌, ◌%◌, ◌<◌, Bool, ◌&&◌, ◌||◌, not, List, [], ◌∷◌, length, map, reverse, ◌⊎◌, ◌==◌, Option, Some, None, option_map, option_and_then, is_none, slice_index, if◌then◌else◌}
+use Rattle.std.specs.Prelude.{◌≡◌, ℕ, ◌*◌, ◌/◌, ◌%◌, ◌<◌, Bool, ◌&&◌, ◌||◌, not, List, [], ◌∷◌, length, map, reverse, ◌⊎◌, ◌==◌, Option, Some, None, option_map, option_and_then, is_none, slice_index, if◌then◌else◌}
 use Rattle.std.specs.List.{list_any, list_all, slice_index_or, position_or_len, AllByRecursion}
 use Rattle.table_definitions.specs.Lists.{below, has, same_list}
 use Rattle.table_definitions.specs.Permutation.{four, image}
@@ -75,6 +75,10 @@ SameFace rows i j = (i ≡ j) ⊎ ((g : Gluing) × (glue rows (face_of i) ≡ So
 -- a chain joins the edge to its own reverse
 abbrev pub IsInvalidEdge : List Row → ℕ → Type 0
 IsInvalidEdge rows i = IsJoined rows (edge i) (turned (edge i))
+
+-- no edge is so
+abbrev pub HasValidEdges : List Row → Type 0
+HasValidEdges rows = (i : ℕ) → i < 6 * length rows → IsInvalidEdge rows i → ⊥
 
 -- edge i runs against the edge j of its class
 abbrev pub RunsAgainst : List Row → ℕ → ℕ → Type 0

@@ -16,7 +16,7 @@ use Rattle.surface_laws.proofs.Counting.{sum_by_same, sum_by-map, sum_by-flat_ma
 use Rattle.equation_laws.proofs.FaceSums.{sum_by-faces}
 use Rattle.quad_laws.specs.LinkLaws.{vertex_link}
 use Rattle.quad_laws.proofs.VertexLinks.{member}
-use Rattle.vertex_link_laws.proofs.Sums.{sum_by-filter, sum_blocks}
+use Rattle.skeleton_laws.proofs.Sums.{sum_by-filter, sum_blocks}
 use Rattle.vertex_link_laws.proofs.Triangles.{arcs_in-link}
 use Rattle.plain_facts.proofs.Truths.{one_if}
 

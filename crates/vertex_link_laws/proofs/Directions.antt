@@ -1,14 +1,10 @@
 -- The directions of an edge: each directed edge of its class is joined to one of the two, or the other.
-use Rattle.std.proofs.Common.{◌≡◌, ℕ, ◌*◌, ◌/◌, ◌%◌, ◌<◌, ◌≤◌, List, [], ◌∷◌, length, ◌⊎◌, inl, inr, sym, ap, subst₂, arith}
-use Rattle.std.specs.Prelude.{◌==◌, slice_index}
-use Rattle.std.proofs.lemmas.Bool.{eqb-true}
-use Rattle.std.proofs.lemmas.List.Sums.{passes_at_first}
-use Rattle.table_definitions.specs.Classes.{IsNumbering, least}
+use Rattle.std.proofs.Common.{◌≡◌, ℕ, ◌*◌, ◌/◌, ◌%◌, ◌<◌, List, [], ◌∷◌, ◌⊎◌, inl, inr, sym, ap, subst₂, arith}
+use Rattle.std.specs.Prelude.{slice_index}
 use Rattle.table_definitions.specs.Permutation.{others}
 use Rattle.table_definitions.specs.Places.{edge, ends, edge_number, turned, IsJoined, SameEdge}
 use Rattle.table_definitions.specs.Table.{Row}
 use Rattle.table_definitions.proofs.ChainLaws.{joined_turned}
-use Rattle.table_definitions.proofs.ClassLaws.{least_is_least}
 use Rattle.skeleton_definitions.specs.Links.{directed}
 use Rattle.quad_laws.proofs.InnerEdges.{HasEdge, has_edge, edge_at}
 use Rattle.quad_lift_laws.proofs.Ends.{head_below}
@@ -74,18 +70,3 @@ module _ (rows : List Row) (i j t a b : ℕ) (is : edge j ≡ pair t a b) where
       go (inl e) (inr w) = inr (subst₂ (IsJoined rows) e is_turned w)
       go (inr e) (inl w) = inr (joined_turned rows (turned (directed i)) (pair t a b) (subst₂ (IsJoined rows) e is w))
       go (inr e) (inr w) = inl (joined_turned rows (turned (directed i)) (pair t b a) (subst₂ (IsJoined rows) e is_turned w))
-
--- the least member of the class of thing i
-pub record IsLeastOf (n : ℕ) (Same : ℕ → ℕ → Type 0) (classes : List ℕ) (i m : ℕ) : Type 0 where
-  pub below : m < n
-  pub same_class : slice_index classes m ≡ slice_index classes i
-  pub same : Same i m
-
-pub least_of : (n : ℕ) (Same : ℕ → ℕ → Type 0) (classes : List ℕ) (count : ℕ) → IsNumbering n Same classes count → (i : ℕ) → i < n → IsLeastOf n Same classes i (least classes (slice_index classes i))
-least_of n Same classes count numbered i l =
-    let m : ℕ = least classes (slice_index classes i) in
-    let up : least classes (slice_index classes i) ≤ i = least_is_least n Same classes count numbered i l in
-    let lm : least classes (slice_index classes i) < n = omega arith in
-    let inside : least classes (slice_index classes i) < length classes = let e = numbered.one_each in omega arith in
-    let e : slice_index classes (least classes (slice_index classes i)) ≡ slice_index classes i = eqb-true (slice_index classes m) (slice_index classes i) (passes_at_first (λ d. d == slice_index classes i) classes 0 inside) in
-    record { below = lm; same_class = e; same = (numbered.together i m l lm).0 (sym e) }

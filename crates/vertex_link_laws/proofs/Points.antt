@@ -8,6 +8,7 @@ use Rattle.table_definitions.specs.Classes.{IsNumbering, least, is_least}
 use Rattle.table_definitions.specs.Lists.{below}
 use Rattle.table_definitions.specs.Places.{edge, turned, IsJoined, IsInvalidEdge, SameEdge}
 use Rattle.table_definitions.proofs.ChainLaws.{joined_sym}
+use Rattle.table_definitions.proofs.ClassLaws.{IsLeastOf, least_of}
 use Rattle.table_definitions.proofs.Listed.{below-among, Among-filter, filter-among, among_contains, contains_among}
 use Rattle.table_definitions.proofs.TableLaws.{Among-below}
 use Rattle.skeleton_definitions.specs.Links.{directed, SameDirected, vertex_number, link_vertices}
@@ -22,7 +23,7 @@ use Rattle.quad_laws.proofs.InnerEdges.{start_below, start_class}
 use Rattle.quad_laws.proofs.VertexLinks.{member}
 use Rattle.quad_lift_laws.proofs.Ends.{direction_number, direction_below, IsAtClass, joined_class, two_at_class}
 use Rattle.vertex_link_laws.specs.Laws.{AreInvalidEdgesAt}
-use Rattle.vertex_link_laws.proofs.Directions.{tail, head, edge_of, edge_of_below, same_either_way, either_way, IsLeastOf, least_of}
+use Rattle.vertex_link_laws.proofs.Directions.{tail, head, edge_of, edge_of_below, same_either_way, either_way}
 use Rattle.vertex_link_laws.proofs.Sums.{one_bounded, two_terms, ascending_below}
 use Rattle.vertex_link_laws.proofs.Weights.{weight-link}
 use Rattle.plain_facts.proofs.Truths.{one_if}

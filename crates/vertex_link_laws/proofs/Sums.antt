@@ -1,34 +1,14 @@
 -- Sums over what passes a test, over blocks of numbers, and with two terms alone.
-use Rattle.std.proofs.Common.{◌≡◌, ◌≢◌, ℕ, zero, suc, ◌+◌, ◌*◌, ◌<◌, Bool, true, false, cond, List, [], ◌∷◌, filter, inl, inr, refl, sym, ap, ◌∙◌, arith}
+use Rattle.std.proofs.Common.{◌≡◌, ◌≢◌, ℕ, ◌+◌, ◌*◌, ◌<◌, inl, inr, refl, sym, ap, ◌∙◌, arith}
 use Rattle.std.specs.Prelude.{◌==◌, get_or, sum_by}
 use Rattle.std.specs.List.{AllPairs}
 use Rattle.std.proofs.lemmas.Bool.{cases_eq, eq-eqb, ne_eqb}
-use Rattle.std.proofs.lemmas.List.Sums.{sum_by-cons}
 use Rattle.std.proofs.lemmas.List.FromFn.{length-range_with_len, get_or-range_with_len}
 use Rattle.table_definitions.specs.Lists.{below}
 use Rattle.table_definitions.proofs.Listed.{below-among}
-use Rattle.table_definitions.proofs.ListFacts.{sum_below_next}
-use Rattle.surface_laws.proofs.Counting.{sum_by_same, one_term, below_sum}
+use Rattle.surface_laws.proofs.Counting.{sum_by_same, one_term}
 use Rattle.surface_laws.proofs.Sums.{sum_by_plus}
 use Rattle.plain_facts.proofs.Truths.{one_if}
-
-kept_sum : {A : Type 0} (f : A → ℕ) (x : A) (xs : List A) (b : Bool) → sum_by f (cond b (x ∷ xs) xs) ≡ one_if b * f x + sum_by f xs
-kept_sum f x xs true = omega (arith, sum_by-cons f x xs)
-kept_sum f x xs false = omega arith
-
-pub sum_by-filter : {A : Type 0} (f : A → ℕ) (p : A → Bool) (xs : List A) → sum_by f (filter p xs) ≡ sum_by (λ x. one_if (p x) * f x) xs
-sum_by-filter f p [] = refl
-sum_by-filter f p (x ∷ xs) =
-    kept_sum f x (filter p xs) (p x) ∙ ap (λ m. one_if (p x) * f x + m) (sum_by-filter f p xs) ∙ sym (sum_by-cons (λ x. one_if (p x) * f x) x xs)
-
--- blocks of w numbers
-pub sum_blocks : (f : ℕ → ℕ) (w n : ℕ) → sum_by f (below (w * n)) ≡ sum_by (λ t. sum_by (λ j. f (w * t + j)) (below w)) (below n)
-sum_blocks f w zero = let z : w * 0 ≡ 0 = omega arith in ap (λ m. sum_by f (below m)) z
-sum_blocks f w (suc n) =
-    let e : w * suc n ≡ w * n + w = omega arith in
-    let up : n + 1 ≡ suc n = omega arith in
-    ap (λ m. sum_by f (below m)) e ∙ below_sum f (w * n) w ∙ ap (λ m. m + sum_by (λ j. f (w * n + j)) (below w)) (sum_blocks f w n)
-    ∙ sym (sum_below_next (λ t. sum_by (λ j. f (w * t + j)) (below w)) n) ∙ ap (λ m. sum_by (λ t. sum_by (λ j. f (w * t + j)) (below w)) (below m)) up
 
 -- the term at x, and 0 elsewhere
 term_at : (ℕ → ℕ) → ℕ → ℕ → ℕ

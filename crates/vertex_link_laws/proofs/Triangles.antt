@@ -16,7 +16,7 @@ use Rattle.surface_laws.proofs.Solved.{other_is}
 use Rattle.quad_laws.specs.LinkLaws.{vertex_link}
 use Rattle.quad_laws.proofs.BareArcs.{IsBare, arcs_alone}
 use Rattle.quad_laws.proofs.VertexLinks.{member, length-link, triangle-link, others-link}
-use Rattle.vertex_link_laws.proofs.Sums.{sum_blocks}
+use Rattle.skeleton_laws.proofs.Sums.{sum_blocks}
 
 module _ (n : ℕ) (classes : List ℕ) (c : ℕ) where
   module _ (coords : Coords) (h : HasTriangles coords) where

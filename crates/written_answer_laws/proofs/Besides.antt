@@ -6,9 +6,8 @@ use Rattle.std.proofs.lemmas.List.Sums.{sum_by-append, sum_by-cons}
 use Rattle.table_definitions.specs.Lists.{below}
 use Rattle.table_definitions.proofs.Bijections.{below-push}
 use Rattle.table_definitions.proofs.TableLaws.{Among}
-use Rattle.table_definitions.proofs.DistinctLists.{AreApart}
+use Rattle.table_definitions.proofs.DistinctLists.{AreApart, IsWithout, taken_out}
 use Rattle.surface_laws.proofs.ThreeSums.{three_of, three_more}
-use Rattle.quad_laws.proofs.Rearranged.{IsWithout, taken_out}
 
 -- the quads of the tetrahedron of vertex i
 abbrev pub beside : List ℕ → ℕ → ℕ
