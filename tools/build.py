@@ -1,243 +1,294 @@
 #!/usr/bin/env python3
 """Proves and builds the program, with all processors, and puts it at crates/trinorm/out/trinorm.
 
-    tools/build.py [--jobs N] [--keep] [--measure]
+    tools/build.py [--jobs N] [--keep] [--anew] [--measure]
+    tools/build.py --compare MANIFEST
+    tools/build.py --take FILE
+    tools/build.py --no-proof
 
 Only what the program stands on is proved: the laws beside it and the tests are the gate's work (`rt ci`).
-The work goes on in a copy of the sources in the user's cache folder, so it harms no other command, is interrupted at any
-time and goes on where it stopped, and a second one waits for the first. What it does is said on standard error, on one
-line that is written over where that is a terminal.
+It goes by the sum of the sources: a program that was built from the same ones by the same kit, here or in another clone,
+is taken from the user's cache, where the last ten are kept. Else the work goes on in a copy of the sources in that
+cache, so it harms no other command, is interrupted at any time and goes on where it stopped, and a second one waits for
+the first. What it does is said on standard error, on one line that is written over where that is a terminal.
 
-The copy, with all that was proved of it, is dropped once the program stands. It is kept by --keep, and where the
-sources differ from the commit, since then the next build is most likely another change: it proves the crates that
-changed and those above them. --measure builds from nothing and writes what each crate took into build_times.txt, from
-which the time left is told.
+The copy, with all that was proved of it, is dropped once the program stands. By --keep, and where the sources differ
+from the commit, since then the next build is most likely another change, the proved libraries are kept, packed: the next
+build proves the crates that changed, and those above them whose libraries below are others then.
+--anew takes nothing that is kept; --measure neither, and writes what each crate took into build_times.txt, from which the
+time left is told. --compare proves anew, and says whether the program is that of a release's MANIFEST, bit for bit.
+--take installs the program of a release (a tarball, a wheel or a Debian package) that was made from the same sources; it
+was proved elsewhere then. --no-proof ends with status 9 where something would have to be proved.
 """
+from __future__ import annotations
+
 import argparse
 import fcntl
-import hashlib
 import os
 import shutil
 import signal
-import subprocess
 import sys
 import time
+from contextlib import contextmanager
+from pathlib import Path
+from typing import IO, Dict, Iterator, List, Optional
 
-from build_times import Plan, read_times, write_times
-from prove import Crate, Kit, NotProved, Workspace
+from archives import NoRelease, read_release
+from build_times import Plan, Times, Took, read_times, write_times
+from installed import Installed
+from kept import Libraries, Programs, Unusable
+from manifest import Manifest, NoManifest, read_manifest
+from prove import Kit, NotProved, Workspace
+from repository import (PARTS, PROGRAM, TOP, Crate, Sources, cache_folder, changed, commit, read_crates, read_sources,
+                        standing_below, sum_of, sum_of_file, version)
 
-TOP = os.path.dirname(os.path.dirname(os.path.realpath(__file__)))
-PROGRAM = "trinorm"
-PARTS = ("src", "specs", "proofs")
-TIMES = os.path.join(TOP, "build_times.txt")
+TIMES = TOP / "build_times.txt"
 # a proof takes 0.5 to 2 GB
 MEMORY_EACH = 2 << 30
 
 
-def folder_of_build():
-    cache = os.environ.get("XDG_CACHE_HOME") or os.path.join(os.path.expanduser("~"), ".cache")
-    return os.path.join(cache, "trinorm", hashlib.sha256(TOP.encode()).hexdigest()[:16])
+def say(text: str) -> None:
+    print(f"{PROGRAM}: {text}", file=sys.stderr, flush=True)
 
 
-def crates():
-    """Each crate of the repository, with what its line of crates.txt says that it stands on."""
-    lines = {}
-    with open(os.path.join(TOP, "crates.txt"), encoding="utf8") as file:
-        for line in file:
-            name, _, below = line.split("#")[0].partition(":")
-            if name.strip():
-                lines[name.split()[0]] = below.split()
-    return {
-        name: Crate([it for it in below if it in lines], [it for it in below if it not in lines])
-        for name, below in lines.items()
-    }
+def folder_of_build() -> Path:
+    return cache_folder() / sum_of(str(TOP).encode())[:16]
 
 
-def all_below(known, name, found):
-    for it in known[name].below:
-        if it not in found:
-            all_below(known, it, found)
-    found.append(name)
-    return found
-
-
-def sources(names):
-    """The files that these crates are made of. Each is named in another one, so a new file comes with a change."""
-    for name in names:
-        for part in PARTS:
-            for folder, _, files in os.walk(os.path.join(TOP, "crates", name, part)):
-                yield from (os.path.join(folder, it) for it in files)
-
-
-def copy_sources(names, to):
+def copy_sources(crates: Dict[str, Crate], to: Path) -> None:
     """Copies the sources, as they are when the build begins."""
-    shutil.rmtree(os.path.join(to, "crates"), ignore_errors=True)
-    for name in names:
+    shutil.rmtree(to / "crates", ignore_errors=True)
+    for name in crates:
         for part in PARTS:
-            if os.path.isdir(os.path.join(TOP, "crates", name, part)):
-                shutil.copytree(os.path.join(TOP, "crates", name, part), os.path.join(to, "crates", name, part))
+            if (TOP / "crates" / name / part).is_dir():
+                shutil.copytree(TOP / "crates" / name / part, to / "crates" / name / part)
 
 
-def differs_from_commit():
-    """Whether someone changes the code here. Where that can't be told, as outside a checkout, nobody does."""
-    asked = ["git", "-C", TOP, "status", "--porcelain", "--", "crates", "crates.txt", "HANDLES"]
-    try:
-        told = subprocess.run(asked, capture_output=True, text=True, check=False)
-    except OSError:
-        return False
-    return told.returncode == 0 and told.stdout.strip() != ""
-
-
-def memory():
+def memory() -> int:
     """Bytes of memory that the system, or the container, lets this process have."""
     total = os.sysconf("SC_PAGE_SIZE") * os.sysconf("SC_PHYS_PAGES")
     try:
-        with open("/sys/fs/cgroup/memory.max", encoding="ascii") as file:
-            return min(total, int(file.read()))
+        return min(total, int(Path("/sys/fs/cgroup/memory.max").read_text("ascii")))
     except (OSError, ValueError):
         return total
 
 
-def processors():
-    return len(os.sched_getaffinity(0))
-
-
-def jobs_that_fit():
+def jobs_that_fit() -> int:
     """As many as there are processors, where memory allows."""
-    return max(1, min(processors(), memory() // MEMORY_EACH))
+    return max(1, min(len(os.sched_getaffinity(0)), memory() // MEMORY_EACH))
 
 
 class Progress:
     """What is said while crates are proved: how many, which one, and about how long it still takes."""
 
-    def __init__(self, plan, count, kept):
-        self.plan, self.count, self.kept, self.done, self.began = plan, count, kept, [], time.monotonic()
+    def __init__(self, plan: Plan, count: int, kept: int) -> None:
+        self.plan, self.count, self.kept, self.began = plan, count, kept, time.monotonic()
+        self.done: List[str] = []
+        self.took: Dict[str, Took] = {}
         self.over = sys.stderr.isatty()
 
-    def finish(self, name):
+    def finish(self, name: str, used: Took) -> None:
         self.done.append(name)
+        self.took[name] = used
         left = self.plan.left(self.done, time.monotonic() - self.began)
         told = "less than a minute" if left < 45 else f"about {max(1, round(left / 60))} min"
-        line = f"{PROGRAM}: proving and building, {self.kept + len(self.done)} of {self.count} crates done: {name} ({told} left)"
+        line = f"proving and building, {self.kept + len(self.done)} of {self.count} crates done: {name} ({told} left)"
         if self.over:
-            print(f"\r\033[K{line[:110]}", end="", file=sys.stderr, flush=True)
+            print(f"\r\033[K{PROGRAM}: {line[:100]}", end="", file=sys.stderr, flush=True)
         else:
-            print(line, file=sys.stderr, flush=True)
+            say(line)
 
-    def end(self):
+    def end(self) -> None:
         if self.over:
             print("\r\033[K", end="", file=sys.stderr, flush=True)
 
 
-def refuse_what_does_not_fit(to, times):
+def refuse_what_does_not_fit(to: Path, times: Times) -> None:
     """Ends at once where the build would end by a full disk or by want of memory, with a line that says so."""
-    free, wanted = shutil.disk_usage(os.path.dirname(to)).free, times.disk << 20
-    if not os.path.isdir(to) and free < wanted:
-        sys.exit(f"{PROGRAM}: building needs {wanted / 1e9:.1f} GB of disk, and {os.path.dirname(to)} has {free / 1e9:.1f} "
+    free, wanted = shutil.disk_usage(to.parent).free, times.disk << 20
+    if not to.is_dir() and free < wanted:
+        sys.exit(f"{PROGRAM}: building needs {wanted / 1e9:.1f} GB of disk, and {to.parent} has {free / 1e9:.1f} "
                  "GB free; XDG_CACHE_HOME names another place")
-    largest = max((it.memory for it in times.crates.values()), default=0) << 20
+    largest = max((crate.memory for crate in times.crates.values()), default=0) << 20
     if memory() < largest:
         sys.exit(f"{PROGRAM}: building needs {largest / 1e9:.1f} GB of memory, and there are {memory() / 1e9:.1f} GB")
 
 
-def say_what_comes(plan, times, to, keep):
+def say_what_comes(plan: Plan, times: Times, to: Path) -> None:
     minutes = max(1, round(plan.length() / 60))
-    stays = "" if keep else ", dropped afterwards"
-    print(f"{PROGRAM}: proves and builds the program once: about {minutes} min, {plan.processors} crates at a time, "
-          f"and {times.disk / 1000:.1f} GB of disk in {to}{stays}; until then `rt try -- WORDS` in {TOP}/crates/{PROGRAM} "
-          "answers in a minute or two, with nothing proved", file=sys.stderr, flush=True)
+    say(f"proves and builds the program once: about {minutes} min, {plan.processors} crates at a time, "
+        f"and {times.disk / 1000:.1f} GB of disk in {to}, dropped afterwards; until then `rt try -- WORDS` in "
+        f"{TOP}/crates/{PROGRAM} answers in a minute or two, with nothing proved")
 
 
-def install(program, names, begun):
-    """Puts the program where the launcher looks for it, with the time at which its sources were read and their list."""
-    out = os.path.join(TOP, "crates", PROGRAM, "out")
-    os.makedirs(out, exist_ok=True)
-    shutil.copy(program, os.path.join(out, f".{PROGRAM}.new"))
-    os.replace(os.path.join(out, f".{PROGRAM}.new"), os.path.join(out, PROGRAM))
-    with open(os.path.join(out, ".sources"), "w", encoding="utf8") as file:
-        file.write("".join(it + "\0" for it in [os.path.join(TOP, "crates.txt"), *sources(names)]))
-    stamp = os.path.join(out, ".built")
-    with open(stamp, "w", encoding="utf8"):
-        pass
-    os.utime(stamp, (begun, begun))
+class Build:
+    """One build: the sources as they were when it began, and the folder in which it works."""
+
+    def __init__(self, given: argparse.Namespace) -> None:
+        self.given, self.begun = given, time.time()
+        self.crates = standing_below(read_crates(TOP), PROGRAM)
+        self.sources = read_sources(TOP, self.crates)
+        self.to, self.programs, self.installed = folder_of_build(), Programs(), Installed(TOP)
+
+    def is_installed(self) -> bool:
+        """Whether the program that stands in the clone was made from these sources."""
+        if self.given.anew or not self.installed.is_of(self.sources):
+            return False
+        self.installed.touch(self.begun)
+        return True
+
+    def is_taken(self, kit: Optional[Kit]) -> bool:
+        """Whether such a program was kept, and is installed now."""
+        place = None if self.given.anew else self.programs.find(self.sources.sum(), kit and kit.name)
+        if place is None:
+            return False
+        told = read_manifest((place / "MANIFEST").read_text("utf8"))
+        told.version, told.commit = version(TOP), commit(TOP)
+        self.installed.install((place / PROGRAM).read_bytes(), told, self.begun, "here")
+        say(f"took the program that was built from the same sources: sha256 {told.files['program']}")
+        return True
+
+    def prove(self, kit: Kit, lock: IO[str]) -> None:
+        """Proves what has changed, builds the program, keeps it and installs it."""
+        times = read_times(TIMES)
+        refuse_what_does_not_fit(self.to, times)
+        if self.given.anew:
+            shutil.rmtree(self.to, ignore_errors=True)
+        copy_sources(self.crates, self.to)
+        self.sources = read_sources(self.to, self.crates)
+        libraries = Libraries()
+        workspace = Workspace(kit, self.crates, self.to, lock, None if self.given.anew else libraries)
+        workspace.drop_what_is_gone()
+        left = workspace.left()
+        plan = Plan({name: self.crates[name].below for name in left}, times, self.given.jobs)
+        say_what_comes(plan, times, self.to)
+        progress = Progress(plan, len(self.crates), len(self.crates) - len(left))
+        try:
+            workspace.prove(plan.order(), self.given.jobs, progress.finish)
+            program = workspace.link(PROGRAM)
+        finally:
+            progress.end()
+        if self.given.measure:
+            write_times(TIMES, list(self.crates), progress.took, self.to)
+        if self.given.keep:
+            workspace.keep_libraries(libraries)
+        self.finish(kit, program, workspace)
+
+    def finish(self, kit: Kit, program: Path, workspace: Workspace) -> None:
+        files = {"program": sum_of_file(program)}
+        told = Manifest(version(TOP), commit(TOP), kit.line, self.sources, files, workspace.anew, workspace.verdicts)
+        self.programs.keep(self.programs.place(self.sources.sum(), kit.name), program, told)
+        self.installed.install(program.read_bytes(), told, self.begun, "here")
+        shutil.rmtree(self.to, ignore_errors=True)
+        say(f"built in {round(time.time() - self.begun)} s: version {told.version}, commit {told.commit}, {told.kit}, "
+            f"program sha256 {files['program']}")
 
 
-def is_built():
-    """Whether the program stands, and no source is newer."""
-    try:
-        with open(os.path.join(TOP, "crates", PROGRAM, "out", ".sources"), encoding="utf8") as file:
-            newest = max(os.stat(it).st_mtime for it in file.read().split("\0") if it)
-        return os.stat(os.path.join(TOP, "crates", PROGRAM, "out", ".built")).st_mtime >= newest
-    except (OSError, ValueError):
-        return False
-
-
-def build(to, lock, kit, words, begun):
-    """Proves what has changed, builds the program, and installs it."""
-    known, times = crates(), read_times(TIMES)
-    names = all_below(known, PROGRAM, [])
-    refuse_what_does_not_fit(to, times)
-    copy_sources(names, to)
-    workspace = Workspace(kit, {it: known[it] for it in names}, to, lock)
-    workspace.drop_what_changed()
-    left = [it for it in names if not workspace.is_proved(it)]
-    plan = Plan({it: known[it].below for it in left}, times, words.jobs)
-    say_what_comes(plan, times, to, words.keep)
-    progress, took = Progress(plan, len(names), len(names) - len(left)), {}
-
-    def finish(name, used):
-        took[name] = used
-        progress.finish(name)
-
-    try:
-        workspace.prove(plan.order(), words.jobs, finish)
-        program = workspace.link(PROGRAM)
-    finally:
-        progress.end()
-    if words.measure:
-        write_times(TIMES, names, took, to)
-    install(program, names, begun)
-
-
-def read_words():
-    parser = argparse.ArgumentParser(description="Proves and builds the program.")
-    parser.add_argument("--jobs", type=int, default=jobs_that_fit(), metavar="N", help="prove N crates at a time")
-    parser.add_argument("--keep", action="store_true", help="keep what was proved, for the build after a change")
-    parser.add_argument("--measure", action="store_true", help="build from nothing, and write build_times.txt")
-    return parser.parse_args()
-
-
-def main():
-    words = read_words()
-    command = shutil.which("rt")
-    if command is None:
-        sys.exit(f"{PROGRAM}: the command rt of the Rattle kit is not there; README.md says which kit")
-    words.keep = words.keep or differs_from_commit()
-    # so that what runs is ended too
-    signal.signal(signal.SIGTERM, lambda *_: sys.exit(128 + signal.SIGTERM))
-    to = folder_of_build()
-    os.makedirs(os.path.dirname(to), exist_ok=True)
-    with open(f"{to}.lock", "w", encoding="utf8") as lock:
+@contextmanager
+def held(path: Path, wait: str) -> Iterator[IO[str]]:
+    """Holds the lock of a file. Where another process has it this waits, and says so."""
+    path.parent.mkdir(parents=True, exist_ok=True)
+    with open(path, "w", encoding="utf8") as lock:
         try:
             fcntl.flock(lock, fcntl.LOCK_EX | fcntl.LOCK_NB)
         except BlockingIOError:
-            print(f"{PROGRAM}: another build is going on; waiting for it", file=sys.stderr, flush=True)
+            say(wait)
             fcntl.flock(lock, fcntl.LOCK_EX)
-            if is_built() and not words.measure:
-                return
-        begun = time.time()
-        if words.measure:
-            shutil.rmtree(to, ignore_errors=True)
-        try:
-            build(to, lock, Kit(command), words, begun)
-        except NotProved as fault:
-            print(f"{PROGRAM}: {fault}", file=sys.stderr)
-            sys.exit(9)
-        except KeyboardInterrupt:
-            sys.exit(f"{PROGRAM}: interrupted; the next build goes on from here")
-        if not words.keep:
-            shutil.rmtree(to, ignore_errors=True)
-        print(f"{PROGRAM}: built in {round(time.time() - begun)} s", file=sys.stderr)
+        yield lock
+
+
+def build_with(given: argparse.Namespace, kit: Kit) -> None:
+    """Builds, where no other build of this clone or of the same sources does."""
+    build = Build(given)
+    sources = build.programs.place(build.sources.sum(), kit.name)
+    with held(Path(f"{build.to}.lock"), "another build is going on; waiting for it") as lock:
+        with held(Path(f"{sources}.lock"), "the same sources are being built for another clone; waiting for it"):
+            # what was waited for may be what is wanted
+            build = Build(given)
+            if not build.is_installed() and not build.is_taken(kit):
+                build.prove(kit, lock)
+
+
+def take(path: str) -> None:
+    """Installs the program of a release, where it was made from these sources."""
+    build = Build(argparse.Namespace(anew=False))
+    try:
+        told, program = read_release(Path(path))
+    except (OSError, NoRelease, NoManifest) as fault:
+        sys.exit(f"{PROGRAM}: {path}: {fault}")
+    refuse_other_sources(told.sources, build.sources, path)
+    build.installed.install(program, told, build.begun, "elsewhere")
+    say(f"took the program of {path}: version {told.version}, commit {told.commit}, program sha256 "
+        f"{told.files['program']}; it was proved elsewhere, by {told.kit}, and `tools/build.py --anew` proves it here")
+
+
+def refuse_other_sources(told: Sources, mine: Sources, path: str) -> None:
+    if told.sum() == mine.sum():
+        return
+    differ = [name for name in {**told.files, **mine.files} if told.files.get(name) != mine.files.get(name)]
+    named = f"first {min(differ)}" if differ else "in crates.txt"
+    sys.exit(f"{PROGRAM}: {path} was made from other sources than those of this clone: {len(differ)} differ, {named}")
+
+
+def compare(given: argparse.Namespace, kit: Kit) -> None:
+    """Proves anew, and ends with status 1 where the program isn't that of the manifest."""
+    try:
+        told = read_manifest(Path(given.compare).read_text("utf8"))
+    except (OSError, UnicodeDecodeError, NoManifest) as fault:
+        sys.exit(f"{PROGRAM}: {given.compare}: {fault}")
+    build = Build(given)
+    refuse_other_sources(told.sources, build.sources, given.compare)
+    if told.kit != kit.line:
+        say(f"that program was proved by {told.kit}, and here is {kit.line}")
+    build_with(given, kit)
+    mine = sum_of_file(build.installed.program)
+    if mine != told.files["program"]:
+        sys.exit(f"{PROGRAM}: another program: proved here it has sha256 {mine}, there {told.files['program']}")
+    print(f"{PROGRAM}: the same program, bit for bit: sha256 {mine}")
+
+
+def read_words() -> argparse.Namespace:
+    parser = argparse.ArgumentParser(description="Proves and builds the program.")
+    parser.add_argument("--jobs", type=int, default=jobs_that_fit(), metavar="N", help="prove N crates at a time")
+    parser.add_argument("--keep", action="store_true", help="keep what was proved, for the build after a change")
+    kinds = parser.add_mutually_exclusive_group()
+    kinds.add_argument("--anew", action="store_true", help="prove all, and take nothing that is kept")
+    kinds.add_argument("--measure", action="store_true", help="prove all, and write build_times.txt")
+    kinds.add_argument("--compare", metavar="MANIFEST", help="prove all, and compare with a release's program")
+    kinds.add_argument("--take", metavar="FILE", help="install a release's program that was made from these sources")
+    kinds.add_argument("--no-proof", action="store_true", help="end with 9 where something would have to be proved")
+    given = parser.parse_args()
+    given.anew = given.anew or given.measure or given.compare is not None
+    given.keep = given.keep or changed(TOP, ["crates", "crates.txt", "HANDLES"])
+    return given
+
+
+def main() -> None:
+    given = read_words()
+    if given.take is not None:
+        take(given.take)
+        return
+    build, command = Build(given), shutil.which("rt")
+    kit = Kit(command) if command else None
+    if build.is_installed() or build.is_taken(kit):
+        return
+    if kit is None:
+        sys.exit(f"{PROGRAM}: the command rt of the Rattle kit is not there; README.md says which kit")
+    if given.no_proof:
+        say("the program isn't built yet: ./trinorm or tools/build.py builds it")
+        sys.exit(9)
+    # so that what runs is ended too
+    signal.signal(signal.SIGTERM, lambda *_: sys.exit(128 + signal.SIGTERM))
+    try:
+        if given.compare is not None:
+            compare(given, kit)
+        else:
+            build_with(given, kit)
+    except (NotProved, Unusable) as fault:
+        say(str(fault))
+        sys.exit(9)
+    except KeyboardInterrupt:
+        sys.exit(f"{PROGRAM}: interrupted; the next build goes on from here")
 
 
 if __name__ == "__main__":

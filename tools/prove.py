@@ -3,25 +3,25 @@
 `rattle` itself is asked, in place of `rt all check`, since it can be told that a library is to hold what others may
 cite of it, and not its checked proofs, so that the crates above load much less (docs/PROVING.md has the figures). Its answer
 is the same: it writes a library or a program only of a crate that it has proved. The library of a crate that is proved
-stands beside a sum of all that it was proved from, by which the crate needn't be proved again.
+stands beside a sum of all that it was proved from, its own sources and the libraries below, by which the crate needn't
+be proved again: where one is proved anew and its library is the same as before, those above it stay.
 """
-import hashlib
+from __future__ import annotations
+
 import os
 import shutil
 import signal
 import subprocess
-from typing import Dict, List, NamedTuple
+from pathlib import Path
+from typing import IO, Callable, Dict, Iterator, List, NamedTuple, Optional, Sequence
 
 from build_times import Took
+from kept import Libraries
+from repository import Crate, files_of_crate, standing_below, sum_of, sum_of_file
 
 TARGET = "x86_64-unknown-linux-gnu"
-
-
-class Crate(NamedTuple):
-    """A crate of the repository: the crates and the kit's libraries that it stands on."""
-
-    below: List[str]
-    of_kit: List[str]
+# more seldom helps
+MOST_JOBS = 8
 
 
 class NotProved(Exception):
@@ -29,134 +29,215 @@ class NotProved(Exception):
 
 
 class Kit:
-    """The toolchain that the command rt belongs to."""
+    """The toolchain that the command rt belongs to. Its line is what `rt version` prints."""
 
-    def __init__(self, command):
-        self.at = os.path.dirname(os.path.dirname(os.path.realpath(command)))
-        with open(f"{self.at}/KIT-ID", encoding="utf8") as file:
-            self.name = f"{file.read()}{os.stat(f'{self.at}/bin/rattle').st_mtime_ns}"
+    def __init__(self, command: str) -> None:
+        self.at = Path(command).resolve().parents[1]
+        told = (self.at / "KIT-ID").read_text("utf8")
+        self.line = told.split("\n", maxsplit=1)[0]
+        self.name = f"{told}{(self.at / 'bin' / 'rattle').stat().st_mtime_ns}"
 
-    def library(self, name):
-        return f"{self.at}/rlibs/{name}.rlib"
+    def library(self, name: str) -> Path:
+        return self.at / "rlibs" / f"{name}.rlib"
+
+
+class Run(NamedTuple):
+    """A crate that is being proved, by so many jobs."""
+
+    name: str
+    process: "subprocess.Popen[bytes]"
+    jobs: int
+
+
+def shares(ready: int, free: int) -> Iterator[int]:
+    """How many jobs each of the crates that are ready gets, the first ones first, where so many are free."""
+    for at in range(ready):
+        if free < 1:
+            return
+        jobs = min(MOST_JOBS, max(1, free // (ready - at)))
+        yield jobs
+        free -= jobs
 
 
 class Workspace:
-    """The crates, in an order in which each comes after those below it, and the folder with their sources."""
+    """The crates, each behind those below it, and the folder in which they are proved.
 
-    def __init__(self, kit: Kit, crates: Dict[str, Crate], to, lock):
-        self.kit, self.crates, self.to, self.lock = kit, crates, to, lock
-        self.stamps = {}
-        for name, crate in crates.items():
-            told = [kit.name, repr(crate), *(self.stamps[it] for it in crate.below), *self.sums(name)]
-            self.stamps[name] = hashlib.sha256("\0".join(told).encode()).hexdigest()
-        for it in ("libraries", "logs"):
-            os.makedirs(f"{to}/{it}", exist_ok=True)
+    kept: the packed libraries from which some are taken, or None where all is to be proved
+    anew: whether nothing was taken from an earlier build
+    """
 
-    def folder(self, name):
-        return f"{self.to}/crates/{name}"
+    def __init__(self, kit: Kit, crates: Dict[str, Crate], to: Path, lock: IO[str], kept: Optional[Libraries]) -> None:
+        self.kit, self.crates, self.to, self.lock, self.kept = kit, crates, to, lock, kept
+        self.anew = True
+        self.stamps: Dict[str, str] = {}
+        self.sums: Dict[str, str] = {}
+        self.verdicts: Dict[str, str] = {}
+        for name in ("libraries", "logs"):
+            (to / name).mkdir(parents=True, exist_ok=True)
 
-    def library(self, name):
-        return f"{self.to}/libraries/{name}.rlib"
+    def folder(self, name: str) -> Path:
+        return self.to / "crates" / name
 
-    def log(self, name):
-        return f"{self.to}/logs/{name}"
+    def library(self, name: str) -> Path:
+        return self.to / "libraries" / f"{name}.rlib"
 
-    def sums(self, name):
-        """Each source of a crate, with a sum of what it holds."""
-        for place, folders, files in os.walk(self.folder(name)):
-            folders.sort()
-            for it in sorted(files):
-                with open(os.path.join(place, it), "rb") as file:
-                    yield os.path.relpath(os.path.join(place, it), self.folder(name))
-                    yield hashlib.sha256(file.read()).hexdigest()
+    def stamp_file(self, name: str) -> Path:
+        return self.to / "libraries" / f"{name}.rlib.stamp"
 
-    def is_proved(self, name):
-        """Whether its library is there, made of these sources over these libraries."""
+    def log(self, name: str) -> Path:
+        return self.to / "logs" / name
+
+    def stamp(self, name: str) -> str:
+        """A sum of all that a crate is proved from, once the libraries below it are known."""
+        crate, folder = self.crates[name], self.folder(name)
+        told = [self.kit.name, repr(tuple(crate)), *(self.sums[below] for below in crate.below)]
+        for path in files_of_crate(folder):
+            told += [path.relative_to(folder).as_posix(), sum_of_file(path)]
+        return sum_of("\0".join(told).encode())
+
+    def find(self, name: str) -> bool:
+        """Whether the library of a crate is known, as one that was proved from these sources over these libraries."""
+        if any(below not in self.sums for below in self.crates[name].below):
+            return False
+        stamp = self.stamps[name] = self.stamp(name)
+        if self.is_stamped(name, stamp):
+            self.note(name)
+        elif self.kept is not None and self.kept.has(stamp):
+            self.sums[name], self.verdicts[name] = self.kept.told(stamp)
+        else:
+            return False
+        self.anew = False
+        return True
+
+    def note(self, name: str) -> None:
+        """Notes the prover's verdict and, where the crate has a library, its sum."""
+        said = self.log(name).read_text("utf8", "replace").split("\n")
+        self.verdicts[name] = next((line for line in reversed(said) if line.startswith("logic=")), "unknown")
+        if self.library(name).is_dir():
+            self.sums[name] = sum_of_file(self.library(name) / "format")
+
+    def is_stamped(self, name: str, stamp: str) -> bool:
         try:
-            with open(f"{self.library(name)}.stamp", encoding="ascii") as file:
-                return file.read() == self.stamps[name] and os.path.isdir(self.library(name))
+            return self.stamp_file(name).read_text("ascii") == stamp and self.library(name).is_dir()
         except OSError:
             return False
 
-    def drop_what_changed(self):
-        """Removes what was proved of other sources, or of crates that are no more."""
-        wanted = {f"{it}.rlib" for it in self.crates if self.is_proved(it)}
-        for it in os.listdir(f"{self.to}/libraries"):
-            path = f"{self.to}/libraries/{it}"
-            if os.path.isdir(path) and it not in wanted:
-                shutil.rmtree(path)
-            elif it.endswith(".stamp") and it[: -len(".stamp")] not in wanted:
-                os.remove(path)
+    def left(self) -> List[str]:
+        """The crates that are not known to be proved, each behind those below it."""
+        return [name for name in self.crates if not self.find(name)]
 
-    def words(self, name, jobs):
+    def drop_what_is_gone(self) -> None:
+        """Removes the libraries of crates that are no more."""
+        for path in (self.to / "libraries").iterdir():
+            if path.name.split(".")[0] in self.crates:
+                continue
+            if path.is_dir():
+                shutil.rmtree(path)
+            else:
+                path.unlink()
+
+    def unpack_below(self, name: str) -> None:
+        """Sees to it that each library below a crate stands in the folder."""
+        for below in standing_below(self.crates, name):
+            if below != name and not self.is_stamped(below, self.stamps[below]):
+                assert self.kept is not None
+                self.stamp_file(below).unlink(missing_ok=True)
+                self.kept.take(self.stamps[below], self.library(below))
+                self.stamp_file(below).write_text(self.stamps[below], "ascii")
+
+    def words(self, name: str, jobs: int) -> List[str]:
         """What rattle is asked, so that it proves a crate and, where it is proved, makes its library or its program."""
-        crate, is_program = self.crates[name], os.path.exists(f"{self.folder(name)}/src/main.rt")
+        crate, is_program = self.crates[name], (self.folder(name) / "src" / "main.rt").exists()
         words = ["--crate-name", name, "src/main.rt" if is_program else "src/lib.rt", "--links", f"{name}="]
-        for it in ("std", *crate.of_kit):
-            words += ["--extern", f"{it}={self.kit.library(it)}"]
-        for it in crate.below:
-            words += ["--extern", f"{it}={self.library(it)}"]
-        for it in (f"{self.kit.at}/rlibs", f"{self.to}/libraries"):
-            words += ["-L", f"dependency={it}"]
+        for library in ("std", *crate.of_kit):
+            words += ["--extern", f"{library}={self.kit.library(library)}"]
+        for below in crate.below:
+            words += ["--extern", f"{below}={self.library(below)}"]
+        for folder in (self.kit.at / "rlibs", self.to / "libraries"):
+            words += ["-L", f"dependency={folder}"]
         words += ["--antt-project", f"{self.kit.at}/rattle/logic/antt-project.json"]
         words += ["--logic-built", f"{self.kit.at}/logic_built", "--jobs", str(jobs)]
         if is_program:
             words += ["--backend", "llvm", "--toolchain", f"{self.kit.at}/toolchain", "-o", f"{self.to}/{name}.o"]
         else:
-            words += ["--statements", "-o", self.library(name)]
+            words += ["--statements", "-o", str(self.library(name))]
         return [f"{self.kit.at}/bin/rattle", "build", *words]
 
-    def begin(self, name, jobs):
+    def begin(self, name: str, jobs: int) -> Run:
         """Begins to prove a crate. Its process holds the lock, so that no other build begins before it ends."""
+        self.unpack_below(name)
+        shutil.rmtree(self.library(name), ignore_errors=True)
+        self.stamp_file(name).unlink(missing_ok=True)
         with open(self.log(name), "w", encoding="utf8") as log:
-            return subprocess.Popen(
+            process = subprocess.Popen(
                 self.words(name, jobs), cwd=self.folder(name), pass_fds=[self.lock.fileno()],
                 stdin=subprocess.DEVNULL, stdout=log, stderr=subprocess.STDOUT, start_new_session=True,
             )
+        return Run(name, process, jobs)
 
-    def keep(self, name):
-        """Notes what the library of a crate was made from; a program has none."""
-        if not os.path.isdir(self.library(name)):
-            return
-        with open(f"{self.library(name)}.stamp", "w", encoding="ascii") as file:
-            file.write(self.stamps[name])
-
-    def prove(self, order, places, finish):
-        """Proves the crates of a list that are left, as many at a time as there are places, those that come first in
-        the order first, and tells `finish` of each one that is done, with what it took."""
-        left, done, running = list(order), {it for it in self.crates if it not in order}, {}
+    def prove(self, order: Sequence[str], places: int, finish: Callable[[str, Took], None]) -> None:
+        """Proves the crates of a list that are left, by as many jobs at a time as there are places, those that come
+        first in the order first, and tells `finish` of each one that is done, with what it took."""
+        left, done = list(order), {name for name in self.crates if name not in order}
+        running: Dict[int, Run] = {}
         try:
             while left or running:
-                ready = [it for it in left if done.issuperset(self.crates[it].below)]
+                for name in self.found_among(left, done):
+                    finish(name, Took(0.0, 0))
+                ready = [name for name in left if done.issuperset(self.crates[name].below)]
+                free = places - sum(run.jobs for run in running.values())
                 # where few are ready, each gets several processors
-                free = places - len(running)
-                for at, name in enumerate(ready[:free]):
-                    run = self.begin(name, max(1, (free - at) // (min(len(ready), free) - at)))
-                    running[run.pid] = name, run
+                for name, jobs in zip(ready, shares(len(ready), free)):
+                    run = self.begin(name, jobs)
+                    running[run.process.pid] = run
                     left.remove(name)
-                process, status, used = os.wait4(-1, 0)
-                name, run = running.pop(process)
-                run.returncode = status
-                self.look_at_end(name, status)
-                done.add(name)
-                finish(name, Took(used.ru_utime + used.ru_stime, used.ru_maxrss >> 10))
+                if running:
+                    self.wait(running, done, finish)
         finally:
             for process in running:
                 os.killpg(process, signal.SIGKILL)
 
-    def look_at_end(self, name, status):
-        """Notes that a crate is proved, or says why it isn't."""
+    def found_among(self, left: List[str], done: "set[str]") -> List[str]:
+        """Takes those out of the list that need no proof, now that the libraries below them are known."""
+        found: List[str] = []
+        for name in list(left):
+            if done.issuperset(self.crates[name].below) and name not in self.stamps and self.find(name):
+                left.remove(name)
+                done.add(name)
+                found.append(name)
+        return found
+
+    def wait(self, running: Dict[int, Run], done: "set[str]", finish: Callable[[str, Took], None]) -> None:
+        """Waits for the end of one proof."""
+        process, status, used = os.wait4(-1, 0)
+        run = running.pop(process)
+        run.process.returncode = status
+        self.look_at_end(run.name, status)
+        done.add(run.name)
+        finish(run.name, Took(used.ru_utime + used.ru_stime, used.ru_maxrss >> 10))
+
+    def look_at_end(self, name: str, status: int) -> None:
+        """Notes that a crate is proved, and what its library was made from, or says why it isn't."""
         if os.WIFSIGNALED(status):
             raise NotProved(f"proving {name} was ended, most likely for want of memory; --jobs 1 takes the least")
         if status:
             raise NotProved(f"the crate {name} did not build; what was said is in {self.log(name)}")
-        self.keep(name)
+        self.note(name)
+        if name in self.sums:
+            self.stamp_file(name).write_text(self.stamps[name], "ascii")
 
-    def link(self, name):
+    def keep_libraries(self, kept: Libraries) -> None:
+        """Keeps each library that was proved, packed."""
+        for name in self.sums:
+            if self.is_stamped(name, self.stamps[name]):
+                kept.keep(self.stamps[name], self.library(name), self.sums[name], self.verdicts[name])
+        kept.drop_old()
+
+    def link(self, name: str) -> Path:
         """Links the object file of the program, and gives the program's path."""
-        program = f"{self.to}/{name}"
+        program = self.to / name
         words = [f"{self.kit.at}/bin/rattle-link", "--target", TARGET, "--toolchain", f"{self.kit.at}/toolchain"]
-        words += ["-o", program, f"{program}.o", f"{self.kit.at}/c/libos_c.a", f"{self.kit.at}/c/liblibc_c.a"]
+        words += ["-o", str(program), f"{program}.o", f"{self.kit.at}/c/libos_c.a", f"{self.kit.at}/c/liblibc_c.a"]
         with open(self.log("link"), "w", encoding="utf8") as log:
             if subprocess.run(words, stdout=log, stderr=subprocess.STDOUT, check=False).returncode:
                 raise NotProved(f"the program {name} was not linked; what was said is in {self.log('link')}")

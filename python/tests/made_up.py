@@ -1,0 +1,111 @@
+"""A small made-up repository with the real launcher and tools, and a kit whose prover proves nothing, so that a build
+takes a moment: a library is the code of its crate, and the program prints that of all."""
+import os
+import shutil
+import subprocess
+from pathlib import Path
+from typing import List, Optional
+
+from trinorm.program import REPOSITORY
+
+CRATES = {"ground": [], "left": ["ground"], "right": ["ground"], "trinorm": ["left", "right"], "beside": ["ground"]}
+
+PROVER = """#!/bin/sh
+# rattle build --crate-name NAME .. --jobs N .. -o OUT, in the crate's folder
+name=$3
+for out; do :; done
+echo "$name" >>"$MADE_UP_PROVED"
+sleep "${MADE_UP_SECONDS-0}"
+if grep -rq wrong src; then
+  echo "fn $name: not proved"
+  exit 1
+fi
+echo "fn $name: proved"
+echo "logic=proved functions=1 of=$name"
+case $out in
+  *.o)
+    cat ../../libraries/*/code/text >"$out"
+    grep -hv '^//' src/*.rt >>"$out" ;;
+  *)
+    mkdir -p "$out/code"
+    grep -hv '^//' src/*.rt >"$out/code/text"
+    echo "crate $name" >"$out/format"
+    for word; do
+      case $word in *=*/libraries/*.rlib) sha256sum <"${word#*=}/format" >>"$out/format" ;; esac
+    done
+    sha256sum <"$out/code/text" >>"$out/format" ;;
+esac
+"""
+
+LINKER = """#!/bin/sh
+# rattle-link .. -o PROGRAM PROGRAM.o ..
+while [ "$1" != -o ]; do shift; done
+{ echo '#!/bin/sh'; cat "$3"; } >"$2"
+chmod +x "$2"
+"""
+
+
+def make_kit(folder: Path) -> Path:
+    """Lays a kit out. Returns the folder with its command rt."""
+    kit = folder / "kit"
+    (kit / "bin").mkdir(parents=True)
+    (kit / "KIT-ID").write_text("made-up-kit-1\n")
+    for name, text in (("rattle", PROVER), ("rattle-link", LINKER), ("rt", "#!/bin/sh\n")):
+        (kit / "bin" / name).write_text(text)
+        (kit / "bin" / name).chmod(0o755)
+    return kit / "bin"
+
+
+class MadeUp:
+    """A clone of the made-up repository. Clones in one folder share the user's cache and the kit."""
+
+    def __init__(self, folder: Path, name: str = "clone") -> None:
+        self.folder, self.top = folder, folder / name
+        self.proved_file = folder / "proved"
+        kit = folder / "kit" / "bin" if (folder / "kit").is_dir() else make_kit(folder)
+        self.environment = dict(os.environ, PATH=f"{kit}{os.pathsep}{os.environ['PATH']}", XDG_CACHE_HOME=str(folder / "cache"),
+                                MADE_UP_PROVED=str(self.proved_file), PYTHONDONTWRITEBYTECODE="1")
+        self.environment.pop("TRINORM", None)
+        if not self.top.is_dir():
+            self.lay_out()
+
+    def lay_out(self) -> None:
+        self.top.mkdir(parents=True)
+        shutil.copy(REPOSITORY / "trinorm", self.top)
+        shutil.copytree(REPOSITORY / "tools", self.top / "tools", ignore=shutil.ignore_patterns("__pycache__"))
+        (self.top / "python").mkdir()
+        shutil.copy(REPOSITORY / "python" / "pyproject.toml", self.top / "python")
+        (self.top / "crates.txt").write_text("".join(f"{name}: {' '.join(below)}\n" for name, below in CRATES.items()))
+        for name in CRATES:
+            (self.top / "crates" / name / "src").mkdir(parents=True)
+            self.write(name, f"echo {name}\n")
+
+    def source(self, crate: str) -> Path:
+        return self.top / "crates" / crate / "src" / ("main.rt" if crate == "trinorm" else "lib.rt")
+
+    def write(self, crate: str, text: str) -> None:
+        self.source(crate).write_text(text)
+
+    def run(self, words: List[str], kit: bool = True, **more: str) -> "subprocess.CompletedProcess[str]":
+        environment = dict(self.environment, **more)
+        if not kit:
+            environment["PATH"] = os.environ["PATH"].replace(os.path.dirname(shutil.which("rt") or "/none"), "")
+        return subprocess.run(words, cwd=self.top, env=environment, stdin=subprocess.DEVNULL, capture_output=True, text=True,
+                              timeout=60, check=False)
+
+    def launch(self, kit: bool = True) -> str:
+        """What the program answers through the launcher."""
+        done = self.run(["./trinorm"], kit)
+        return done.stdout if done.returncode == 0 else f"status {done.returncode}: {done.stderr}"
+
+    def build(self, *words: str, **more: str) -> "subprocess.CompletedProcess[str]":
+        return self.run(["python3", "tools/build.py", *words], **more)
+
+    def proved(self) -> Optional[List[str]]:
+        """The crates that were proved since this was asked last, in the order of their names."""
+        try:
+            found = self.proved_file.read_text().split()
+        except OSError:
+            return []
+        self.proved_file.unlink()
+        return sorted(found)

@@ -1,0 +1,200 @@
+"""The build, over a made-up repository and a kit that proves nothing: the right program, and nothing proved twice."""
+import os
+import shutil
+import subprocess
+import sys
+import tempfile
+import time
+import unittest
+from pathlib import Path
+
+from tests.made_up import CRATES, MadeUp
+from trinorm.program import REPOSITORY
+
+ALL = sorted(set(CRATES) - {"beside"})
+ANSWER = "ground\nleft\nright\ntrinorm\n"
+
+
+class Build(unittest.TestCase):
+    def setUp(self):
+        folder = tempfile.TemporaryDirectory()
+        self.addCleanup(folder.cleanup)
+        self.folder = Path(folder.name)
+        self.clone = MadeUp(self.folder)
+
+    def assert_answers(self, clone, answer, proved):
+        self.assertEqual(clone.launch(), answer)
+        self.assertEqual(clone.proved(), proved)
+
+    def test_a_program_is_proved_once(self):
+        self.assert_answers(self.clone, ANSWER, ALL)
+        self.assert_answers(self.clone, ANSWER, [])
+        self.assertEqual(os.listdir(self.folder / "cache" / "trinorm" / "programs")[0].count("-"), 1)
+
+    def test_a_touched_source_proves_nothing(self):
+        self.clone.launch()
+        self.clone.proved()
+        self.clone.source("left").touch()
+        self.assert_answers(self.clone, ANSWER, [])
+        self.clone.source("beside").write_text("echo other\n")
+        self.assert_answers(self.clone, ANSWER, [])
+
+    def test_a_changed_source_is_never_answered_by_the_old_program(self):
+        self.clone.launch()
+        self.clone.proved()
+        self.clone.write("left", "echo other\n")
+        os.utime(self.clone.source("left"), (0, 0))
+        self.assert_answers(self.clone, ANSWER.replace("left", "other"), ALL)
+        self.clone.write("left", "echo left\n")
+        os.utime(self.clone.source("left"), (0, 0))
+        self.assert_answers(self.clone, ANSWER, [])
+
+    def test_a_folder_that_is_exchanged(self):
+        src = self.clone.source("right").parent
+        shutil.copytree(src, src.with_name("other"))
+        (src.with_name("other") / "lib.rt").write_text("echo other\n")
+        self.clone.launch()
+        self.clone.proved()
+        # past the seconds in which the build takes sources to be unread
+        os.utime(self.clone.top / "crates" / "trinorm" / "out" / ".built")
+        time.sleep(0.05)
+        src.rename(src.with_name("old"))
+        src.with_name("other").rename(src)
+        self.assert_answers(self.clone, ANSWER.replace("right", "other"), ALL)
+
+    def test_another_clone_and_a_copy(self):
+        self.clone.launch()
+        self.clone.proved()
+        self.assert_answers(MadeUp(self.folder, "second clone"), ANSWER, [])
+        shutil.copytree(self.clone.top, self.folder / "copy", symlinks=True)
+        copy = MadeUp(self.folder, "copy")
+        self.assert_answers(copy, ANSWER, [])
+        copy.write("ground", "echo other\n")
+        self.assert_answers(copy, ANSWER.replace("ground", "other"), ALL)
+        self.assert_answers(self.clone, ANSWER, [])
+
+    def test_two_clones_at_a_time_prove_once(self):
+        clones = [self.clone, MadeUp(self.folder, "second")]
+        slow = dict(self.clone.environment, MADE_UP_SECONDS="0.3")
+        runs = [subprocess.Popen(["./trinorm"], cwd=it.top, env=slow, stdin=subprocess.DEVNULL, stdout=subprocess.PIPE,
+                                 stderr=subprocess.PIPE, text=True) for it in clones]
+        self.assertEqual([run.communicate(timeout=60)[0] for run in runs], [ANSWER, ANSWER])
+        self.assertEqual(self.clone.proved(), ALL)
+
+    def test_a_program_that_was_replaced(self):
+        self.clone.launch()
+        (self.clone.top / "crates" / "trinorm" / "out" / "trinorm").write_text("#!/bin/sh\necho forged\n")
+        self.clone.source("left").touch()
+        self.assertEqual(self.clone.launch(), ANSWER)
+
+    def test_what_is_not_proved_answers_nothing(self):
+        self.clone.write("right", "echo wrong\n")
+        done = self.clone.run(["./trinorm"])
+        self.assertEqual((done.returncode, done.stdout), (9, ""))
+        self.assertIn("the crate right did not build", done.stderr)
+        self.clone.proved()
+        self.clone.write("right", "echo right\n")
+        self.assertEqual(self.clone.launch(), ANSWER)
+        proved = self.clone.proved()
+        self.assertIn("right", proved)
+        self.assertNotIn("ground", proved)
+
+    def test_kept_libraries(self):
+        for ending in (".tar.zst", ".tar.gz"):
+            with self.subTest(ending):
+                if ending == ".tar.gz":
+                    self.hide_zstd()
+                elif shutil.which("zstd") is None:
+                    continue
+                self.clone.build("--anew", "--keep")
+                self.assertEqual(self.clone.proved(), ALL)
+                packs = os.listdir(self.folder / "cache" / "trinorm" / "libraries")
+                self.assertEqual(sum(it.endswith(ending) for it in packs), 3, packs)
+                # a comment leaves the library as it was, so what stands above it stays
+                self.clone.write("ground", f"// {ending}\necho ground\n")
+                self.assert_answers(self.clone, ANSWER, ["ground", "trinorm"])
+                self.clone.write("left", f"echo other{ending}\n")
+                self.clone.build("--keep")
+                self.assertIn(self.clone.proved(), (["ground", "left", "trinorm"], ["left", "trinorm"]))
+                self.clone.write("ground", "echo ground\n")
+                self.clone.write("left", "echo left\n")
+
+    def hide_zstd(self):
+        """A path on which no zstd stands."""
+        commands = self.folder / "commands"
+        commands.mkdir()
+        for name in ("sh", "python3", "cat", "grep", "sha256sum", "mkdir", "sleep", "find", "chmod", "dirname", "readlink", "git"):
+            if shutil.which(name):
+                (commands / name).symlink_to(sys.executable if name == "python3" else shutil.which(name))
+        self.clone.environment["PATH"] = f"{self.folder / 'kit' / 'bin'}{os.pathsep}{commands}"
+
+    def test_a_kept_library_that_is_spoilt(self):
+        self.clone.build("--keep")
+        self.clone.proved()
+        for path in (self.folder / "cache" / "trinorm" / "libraries").glob("*.tar.*"):
+            path.write_bytes(path.read_bytes()[:20])
+        self.clone.write("trinorm", "echo other\n")
+        answer = ANSWER.replace("trinorm", "other")
+        for _ in range(4):
+            if self.clone.launch() == answer:
+                break
+        self.assertEqual(self.clone.launch(), answer)
+
+    def test_without_the_kit(self):
+        done = self.clone.run(["./trinorm"], kit=False)
+        self.assertEqual((done.returncode, done.stdout), (9, ""))
+        self.assertIn("the command rt of the Rattle kit is not there", done.stderr)
+        self.clone.launch()
+        self.assertEqual(MadeUp(self.folder, "second").launch(kit=False), ANSWER)
+
+    def test_no_proof(self):
+        self.assertEqual(self.clone.build("--no-proof").returncode, 9)
+        self.assertEqual(self.clone.proved(), [])
+        self.clone.launch()
+        self.clone.source("left").touch()
+        self.assertEqual(self.clone.build("--no-proof").returncode, 0)
+
+    def test_what_is_told_of_the_program(self):
+        said = self.clone.build().stderr
+        out = self.clone.top / "crates" / "trinorm" / "out"
+        told = dict(line.split(" ", 1) for line in (out / ".version").read_text().splitlines())
+        self.assertEqual((told["proved"], told["kit"]), ("here", "made-up-kit-1"))
+        self.assertIn(f"program sha256 {told['program']}\n", said)
+        paths = (out / ".sources").read_text().split("\0")
+        self.assertIn("crates/left/src/lib.rt", paths)
+        self.assertFalse(any(os.path.isabs(it) for it in paths))
+
+    def test_compare(self):
+        self.clone.launch()
+        kept = next((self.folder / "cache" / "trinorm" / "programs").glob("*-*/MANIFEST"))
+        manifest = self.folder / "MANIFEST"
+        shutil.copy(kept, manifest)
+        self.clone.proved()
+        done = self.clone.build("--compare", str(manifest))
+        self.assertIn("the same program, bit for bit", done.stdout)
+        self.assertEqual((done.returncode, self.clone.proved()), (0, ALL))
+        text = manifest.read_text()
+        told = next(line for line in text.splitlines() if line.startswith("program "))
+        manifest.write_text(text.replace(told, "program " + "0" * 64))
+        done = self.clone.build("--compare", str(manifest))
+        self.assertEqual(done.returncode, 1)
+        self.assertIn("another program", done.stderr)
+        self.clone.proved()
+        self.clone.write("left", "echo other\n")
+        done = self.clone.build("--compare", str(manifest))
+        self.assertIn("was made from other sources than those of this clone: 1 differ, first crates/left/src/lib.rt", done.stderr)
+        self.assertEqual(self.clone.proved(), [])
+
+
+class Jobs(unittest.TestCase):
+    def test_shares(self):
+        sys.path.insert(0, str(REPOSITORY / "tools"))
+        self.addCleanup(sys.path.remove, str(REPOSITORY / "tools"))
+        from prove import shares
+
+        for ready, free, wanted in ((1, 4, [4]), (3, 4, [1, 1, 2]), (5, 4, [1, 1, 1, 1]), (2, 0, []), (1, 32, [8]), (0, 4, []), (3, 32, [8, 8, 8])):
+            self.assertEqual(list(shares(ready, free)), wanted)
+
+
+if __name__ == "__main__":
+    unittest.main()

@@ -1,0 +1,67 @@
+"""The program as it stands in a clone, where the launcher looks for it, and what is told beside it."""
+from __future__ import annotations
+
+import os
+from pathlib import Path, PurePosixPath
+from typing import Dict, List
+
+from manifest import Manifest, parts
+from repository import PROGRAM, Sources, sum_of_file
+
+# so many seconds before a build began are its sources taken to be unread, since clocks of file systems are coarse
+MARGIN = 2.0
+
+
+def watched(sources: Sources) -> List[str]:
+    """The sources and their folders, whose times tell of a file that came, went or was moved. The folder of the
+    program's crate is none: the build itself makes a folder there."""
+    folders = {str(folder) for path in sources.files for folder in PurePosixPath(path).parents}
+    return ["crates.txt", *sorted(folders - {".", f"crates/{PROGRAM}"}), *sorted(sources.files)]
+
+
+class Installed:
+    """The folder `out` of the program's crate. Beside the program stand three files:
+
+    .version: version, commit, kit, sum of the sources and of the program, and where it was proved
+    .sources: the paths of the sources and of their folders, relative to the repository, each ended by a NUL
+    .built: empty; its time says when the sources were read
+    """
+
+    def __init__(self, top: Path) -> None:
+        self.out = top / "crates" / PROGRAM / "out"
+        self.program = self.out / PROGRAM
+
+    def told(self) -> Dict[str, str]:
+        try:
+            return dict(parts((self.out / ".version").read_text("utf8")))
+        except OSError:
+            return {}
+
+    def is_of(self, sources: Sources) -> bool:
+        """Whether the program was made from these sources, and is the one that was installed."""
+        told = self.told()
+        try:
+            return told.get("sources") == sources.sum() and told.get("program") == sum_of_file(self.program)
+        except OSError:
+            return False
+
+    def write(self, name: str, data: bytes, mode: int = 0o644) -> None:
+        """Writes a file whole or not at all."""
+        fresh = self.out / f".{name}.new"
+        fresh.write_bytes(data)
+        fresh.chmod(mode)
+        fresh.replace(self.out / name)
+
+    def install(self, program: bytes, manifest: Manifest, begun: float, where: str) -> None:
+        """Puts the program there, whose sources were read at that time."""
+        self.out.mkdir(parents=True, exist_ok=True)
+        (self.out / ".built").unlink(missing_ok=True)
+        self.write(PROGRAM, program, 0o755)
+        self.write(".sources", "".join(f"{path}\0" for path in watched(manifest.sources)).encode())
+        self.write(".version", "".join(f"{line}\n" for line in [f"proved {where}", *manifest.head()]).encode())
+        self.touch(begun)
+
+    def touch(self, begun: float) -> None:
+        """Notes that the sources are, at that time, those of the program."""
+        self.write(".built", b"")
+        os.utime(self.out / ".built", (begun - MARGIN, begun - MARGIN))

@@ -1,0 +1,163 @@
+"""What is kept in the user's cache: finished programs, and proved libraries packed, each by the sum of all that it was made from."""
+from __future__ import annotations
+
+import gzip
+import os
+import shutil
+import subprocess
+import tarfile
+import tempfile
+from contextlib import contextmanager
+from pathlib import Path
+from typing import IO, Iterator, List, Optional, Tuple
+
+from manifest import Manifest, NoManifest, read_manifest
+from repository import PROGRAM, cache_folder, sum_of, sum_of_file
+
+MOST_PROGRAMS = 10
+# a build's packed libraries take some 120 MB
+MOST_BYTES_OF_LIBRARIES = 1 << 30
+
+
+class Unusable(Exception):
+    """What was kept can't be read any more, and was dropped."""
+
+
+def last_used(path: Path) -> int:
+    return path.stat().st_mtime_ns
+
+
+class Programs:
+    """The programs that were built last, by the sum of their sources and the kit that proved them."""
+
+    def __init__(self, folder: Optional[Path] = None) -> None:
+        self.folder = folder or cache_folder() / "programs"
+
+    def place(self, sources: str, kit: str) -> Path:
+        return self.folder / f"{sources[:32]}-{sum_of(kit.encode())[:16]}"
+
+    def find(self, sources: str, kit: Optional[str]) -> Optional[Path]:
+        """The folder of a program that was proved from these sources, by this kit, or by any where there is none here."""
+        if kit is None:
+            places = sorted(self.folder.glob(f"{sources[:32]}-*"), key=last_used, reverse=True)
+        else:
+            places = [self.place(sources, kit)]
+        for place in places:
+            if self.holds(place, sources):
+                os.utime(place)
+                return place
+        return None
+
+    def holds(self, place: Path, sources: str) -> bool:
+        """Whether the program stands there, made from these sources, and is the one that was kept."""
+        try:
+            told = read_manifest((place / "MANIFEST").read_text("utf8"))
+            return told.sources.sum() == sources and told.files["program"] == sum_of_file(place / PROGRAM)
+        except (OSError, NoManifest):
+            return False
+
+    def keep(self, place: Path, program: Path, manifest: Manifest) -> None:
+        """Keeps a program, and of all that are kept the last ones."""
+        self.folder.mkdir(parents=True, exist_ok=True)
+        fresh = Path(tempfile.mkdtemp(prefix=".new-", dir=self.folder))
+        shutil.copy(program, fresh / PROGRAM)
+        (fresh / "MANIFEST").write_text(manifest.text(), "utf8")
+        fresh.chmod(0o755)
+        shutil.rmtree(place, ignore_errors=True)
+        fresh.replace(place)
+        kept = sorted((it for it in self.folder.iterdir() if it.is_dir()), key=last_used, reverse=True)
+        for old in kept[MOST_PROGRAMS:]:
+            shutil.rmtree(old, ignore_errors=True)
+            Path(f"{old}.lock").unlink(missing_ok=True)
+
+
+class Libraries:
+    """Proved libraries, packed, by the sum of all that each was proved from."""
+
+    def __init__(self, folder: Optional[Path] = None) -> None:
+        self.folder = folder or cache_folder() / "libraries"
+        self.ending = ".tar.zst" if shutil.which("zstd") else ".tar.gz"
+
+    def pack(self, stamp: str) -> Path:
+        return self.folder / f"{stamp}{self.ending}"
+
+    def has(self, stamp: str) -> bool:
+        return self.pack(stamp).is_file() and self.note(stamp).is_file()
+
+    def note(self, stamp: str) -> Path:
+        return self.folder / f"{stamp}.told"
+
+    def told(self, stamp: str) -> Tuple[str, str]:
+        """The sum of a kept library, by which those above it name it, and the prover's verdict of its crate."""
+        sum_of_library, _, verdict = self.note(stamp).read_text("utf8").partition("\n")
+        return sum_of_library, verdict
+
+    def keep(self, stamp: str, library: Path, sum_of_library: str, verdict: str) -> None:
+        if self.has(stamp):
+            os.utime(self.pack(stamp))
+            return
+        self.folder.mkdir(parents=True, exist_ok=True)
+        fresh = self.folder / f".new-{os.getpid()}"
+        with self.packing(fresh) as out, tarfile.open(fileobj=out, mode="w|") as files:
+            files.add(library, arcname=".")
+        fresh.replace(self.pack(stamp))
+        fresh.write_text(f"{sum_of_library}\n{verdict}", "utf8")
+        fresh.replace(self.note(stamp))
+
+    def take(self, stamp: str, library: Path) -> None:
+        """Unpacks a library, in place of what stands there."""
+        shutil.rmtree(library, ignore_errors=True)
+        fresh = library.with_name(f".new-{library.name}")
+        shutil.rmtree(fresh, ignore_errors=True)
+        fresh.mkdir()
+        try:
+            with self.unpacking(self.pack(stamp)) as data, tarfile.open(fileobj=data, mode="r|") as files:
+                if hasattr(tarfile, "data_filter"):
+                    files.extractall(fresh, filter="data")
+                else:
+                    files.extractall(fresh)
+        except (OSError, EOFError, tarfile.TarError, subprocess.CalledProcessError) as fault:
+            self.drop(stamp)
+            raise Unusable(f"what was kept of {library.stem} can't be unpacked, and was dropped: {fault}") from None
+        os.utime(self.pack(stamp))
+        fresh.replace(library)
+
+    def drop(self, stamp: str) -> None:
+        for path in (self.note(stamp), self.pack(stamp)):
+            path.unlink(missing_ok=True)
+
+    def drop_old(self) -> None:
+        """Drops those that weren't used for longest, until what is left has its size."""
+        kept: List[Path] = sorted(self.folder.glob(f"*{self.ending}"), key=last_used, reverse=True)
+        size = 0
+        for pack in kept:
+            size += pack.stat().st_size
+            if size > MOST_BYTES_OF_LIBRARIES:
+                self.drop(pack.name[: -len(self.ending)])
+
+    @contextmanager
+    def packing(self, path: Path) -> Iterator[IO[bytes]]:
+        if self.ending == ".tar.gz":
+            with gzip.open(path, "wb", compresslevel=1) as out:
+                yield out
+            return
+        command = ["zstd", "-q", "-3", "-f", "-o", str(path)]
+        with subprocess.Popen(command, stdin=subprocess.PIPE) as process:
+            assert process.stdin is not None
+            yield process.stdin
+        if process.returncode:
+            raise subprocess.CalledProcessError(process.returncode, command)
+
+    @contextmanager
+    def unpacking(self, path: Path) -> Iterator[IO[bytes]]:
+        if self.ending == ".tar.gz":
+            with gzip.open(path, "rb") as data:
+                yield data
+            return
+        command = ["zstd", "-q", "-dc", str(path)]
+        with subprocess.Popen(command, stdout=subprocess.PIPE, stderr=subprocess.DEVNULL) as process:
+            assert process.stdout is not None
+            yield process.stdout
+            process.stdout.read()
+        if process.returncode:
+            raise subprocess.CalledProcessError(process.returncode, command)

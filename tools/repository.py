@@ -1,0 +1,126 @@
+"""The repository as a build sees it: its crates, the sums of their sources, its version and its commit."""
+from __future__ import annotations
+
+import hashlib
+import os
+import re
+import subprocess
+from pathlib import Path
+from typing import Dict, Iterable, Iterator, List, NamedTuple, Optional
+
+TOP = Path(__file__).resolve().parents[1]
+PROGRAM = "trinorm"
+PARTS = ("src", "specs", "proofs")
+
+
+class Crate(NamedTuple):
+    """A crate of the repository: the crates and the kit's libraries that it stands on."""
+
+    below: List[str]
+    of_kit: List[str]
+
+
+class Sources(NamedTuple):
+    """What a program is proved from: for each crate its line of crates.txt, and each source with its sum.
+
+    lines: `crate NAME BELOW ..` and `source SHA256 PATH`, with paths relative to the repository
+    """
+
+    crates: List[str]
+    files: Dict[str, str]
+
+    def lines(self) -> List[str]:
+        return [*self.crates, *(f"source {sum_of_file} {path}" for path, sum_of_file in sorted(self.files.items()))]
+
+    def sum(self) -> str:
+        """One sum of all: that of the lines, each with its end."""
+        return sum_of("".join(f"{line}\n" for line in self.lines()).encode())
+
+
+def sum_of(data: bytes) -> str:
+    return hashlib.sha256(data).hexdigest()
+
+
+def sum_of_file(path: Path) -> str:
+    return sum_of(path.read_bytes())
+
+
+def lines_of_crates(text: str) -> Dict[str, List[str]]:
+    """Each crate of a file like crates.txt, with the names in its line, those of the kit's libraries too."""
+    found = {}
+    for line in text.split("\n"):
+        name, _, below = line.split("#")[0].partition(":")
+        if name.strip():
+            found[name.split()[0]] = below.split()
+    return found
+
+
+def read_crates(top: Path) -> Dict[str, Crate]:
+    """Each crate of the repository, with what its line of crates.txt says that it stands on."""
+    lines = lines_of_crates((top / "crates.txt").read_text("utf8"))
+    return {
+        name: Crate([it for it in below if it in lines], [it for it in below if it not in lines])
+        for name, below in lines.items()
+    }
+
+
+def standing_below(crates: Dict[str, Crate], name: str, found: Optional[Dict[str, Crate]] = None) -> Dict[str, Crate]:
+    """A crate and all that it stands on, each behind those below it."""
+    found = {} if found is None else found
+    for below in crates[name].below:
+        if below not in found:
+            standing_below(crates, below, found)
+    found[name] = crates[name]
+    return found
+
+
+def files_of_crate(folder: Path) -> Iterator[Path]:
+    """The files that a crate is made of, in order. Each is named in another one, so a new file comes with a change."""
+    for part in PARTS:
+        for place, folders, files in os.walk(folder / part):
+            folders.sort()
+            yield from (Path(place, name) for name in sorted(files))
+
+
+def read_sources(top: Path, crates: Dict[str, Crate]) -> Sources:
+    lines = [" ".join(["crate", name, *crate.below, *crate.of_kit]) for name, crate in sorted(crates.items())]
+    paths = (path for name in crates for path in files_of_crate(top / "crates" / name))
+    return Sources(lines, {path.relative_to(top).as_posix(): sum_of_file(path) for path in paths})
+
+
+def version(top: Path) -> str:
+    """The version, which stands in python/pyproject.toml alone."""
+    try:
+        text = (top / "python" / "pyproject.toml").read_text("utf8")
+    except OSError:
+        return "unknown"
+    found = re.search(r'^version = "([^"]*)"', text, re.M)
+    return found[1] if found else "unknown"
+
+
+def git(top: Path, *words: str) -> Optional[str]:
+    """What git says, or None where this is no checkout."""
+    try:
+        done = subprocess.run(["git", "-C", str(top), *words], capture_output=True, text=True, check=False)
+    except OSError:
+        return None
+    return done.stdout.strip() if done.returncode == 0 else None
+
+
+def changed(top: Path, paths: Iterable[str] = ()) -> bool:
+    """Whether files differ from the commit. Where that can't be told, as outside a checkout, none does."""
+    return bool(git(top, "status", "--porcelain", "--", *paths))
+
+
+def commit(top: Path) -> str:
+    """The commit, and whether the sources differ from it; `none` outside a checkout."""
+    told = git(top, "rev-parse", "HEAD")
+    if told is None:
+        return "none"
+    return f"{told} with changes" if changed(top, ["crates", "crates.txt"]) else told
+
+
+def cache_folder() -> Path:
+    """The folder of this project in the user's cache."""
+    cache = os.environ.get("XDG_CACHE_HOME")
+    return (Path(cache) if cache else Path.home() / ".cache") / PROGRAM
