@@ -10,6 +10,8 @@ from trinorm.program import REPOSITORY
 
 CRATES = {"ground": [], "left": ["ground"], "right": ["ground"], "trinorm": ["left", "right"], "beside": ["ground"]}
 
+IGNORED = shutil.ignore_patterns("__pycache__")
+
 PROVER = """#!/bin/sh
 # rattle build --crate-name NAME .. --jobs N .. -o OUT, in the crate's folder
 name=$3
@@ -72,13 +74,26 @@ class MadeUp:
     def lay_out(self) -> None:
         self.top.mkdir(parents=True)
         shutil.copy(REPOSITORY / "trinorm", self.top)
-        shutil.copytree(REPOSITORY / "tools", self.top / "tools", ignore=shutil.ignore_patterns("__pycache__"))
+        for name in ("tools", "launcher"):
+            shutil.copytree(REPOSITORY / name, self.top / name, ignore=IGNORED)
         (self.top / "python").mkdir()
         shutil.copy(REPOSITORY / "python" / "pyproject.toml", self.top / "python")
         (self.top / "crates.txt").write_text("".join(f"{name}: {' '.join(below)}\n" for name, below in CRATES.items()))
         for name in CRATES:
             (self.top / "crates" / name / "src").mkdir(parents=True)
             self.write(name, f"echo {name}\n")
+
+    def lay_out_rest(self) -> None:
+        """All else that a release is made of, and a commit of it."""
+        for name in ("examples", "docs", "python/trinorm"):
+            shutil.copytree(REPOSITORY / name, self.top / name, ignore=IGNORED)
+        for name in ("README.md", "CHANGELOG.md", "CITATION.cff", "LICENSE-MIT", "LICENSE-APACHE", "NOTICES", ".gitignore",
+                     "python/README.md", "python/wheels.py"):
+            shutil.copy(REPOSITORY / name, self.top / name)
+        for name in ("command_definitions", "text_definitions", "outcome_definitions"):
+            shutil.copytree(REPOSITORY / "crates" / name / "specs", self.top / "crates" / name / "specs")
+        for words in (["init", "-q"], ["add", "-A"], ["-c", "user.name=N", "-c", "user.email=E", "commit", "-qm", "Begin"]):
+            subprocess.run(["git", *words], cwd=self.top, check=True)
 
     def source(self, crate: str) -> Path:
         return self.top / "crates" / crate / "src" / ("main.rt" if crate == "trinorm" else "lib.rt")

@@ -81,7 +81,8 @@ def _built_in_repository() -> str:
 
 def find(program: Optional[str] = None) -> str:
     """The path of the program: the one named, else by TRINORM in the environment, else the one of the repository that
-    this package lies in (which is built on first use), else the first on the path."""
+    this package lies in (which is built on first use), else the one that was installed with it, else the first on the
+    path."""
     named = program or os.environ.get("TRINORM")
     if named:
         path = shutil.which(os.path.expanduser(named))
@@ -90,6 +91,10 @@ def find(program: Optional[str] = None) -> str:
         return path
     if (REPOSITORY / "trinorm").is_file() and (REPOSITORY / "crates" / "trinorm").is_dir():
         return _built_in_repository()
+    for folder in Path(__file__).resolve().parents:
+        installed = folder / "libexec" / "trinorm" / "trinorm"
+        if installed.is_file():
+            return str(installed)
     path = shutil.which("trinorm")
     if path is None:
         raise Failed("the program trinorm is neither named by TRINORM, nor beside this package, nor on the path")

@@ -1,0 +1,204 @@
+# The second half of the launcher, where standard error is a terminal: runs the program, and says in a few words what is
+# wanted where it is asked for help or refuses. Standard output and status stay the program's own.
+#
+# It is read by the launcher, which has set
+#   program   the program
+#   here      the folder of this file
+#   commands  the table of commands
+#   told      the file with version, commit and sum of the program
+#   examples  the folder of the examples
+#   pages     where to read more
+
+tab=$(printf '\t')
+
+say() { printf 'trinorm: %s\n' "$1" >&2; }
+
+# How the launcher was called: by its path, or found by its name.
+me=$0
+[ "$(command -v trinorm)" != "$0" ] || me=trinorm
+
+# Sets document, options, example and answers to what the table says of a command.
+look_up() {
+  while IFS=$tab read -r name document options example answers; do
+    [ "$name" != "${1-}" ] || return 0
+  done <"$commands"
+  return 1
+}
+
+# Whether these are right words of a command that reads an input.
+reads_input() {
+  look_up "${1-}" && [ "$document" != none ] || return 1
+  "$program" "$@" </dev/null >/dev/null
+  [ $? -ne 2 ]
+}
+
+# What a document is, in words.
+in_words() {
+  case $1 in
+    table) echo 'a triangulation' ;;
+    two-tables) echo 'two triangulations' ;;
+    tables) echo 'any number of triangulations' ;;
+    vectors) echo 'a triangulation and any number of lines `vec ..`' ;;
+    vector) echo 'a triangulation and one line `vec ..`' ;;
+    blocks) echo 'a triangulation and what `decompose` answers' ;;
+    steps) echo 'a triangulation and lines with moves, `undo` or `redo`' ;;
+    moves) echo 'a triangulation and lines with moves' ;;
+    cone) echo 'a cone: `cone COLUMNS ROWS` and the rows' ;;
+  esac
+}
+
+# The options of a command, as its words may be.
+say_options() {
+  written='' both=
+  for option in $options; do
+    case $option in
+      -) written=none ;;
+      *!*) written="$written${written:+ and }--${option%%!*} NUMBER" both=', both wanted' ;;
+      *=*..*) written="$written${written:+, }--${option%%=*} NUMBER" ;;
+      *) written="$written${written:+, }--${option%%=*} ${option#*=}" ;;
+    esac
+  done
+  say "options of $1: $written$both"
+}
+
+say_example() {
+  say "for example: $me ${1#./trinorm }" | sed "s|< examples/|< $examples/|" >&2
+}
+
+# All commands, where the input comes from, and one example.
+say_commands() {
+  listed=$(cut -f 1 "$commands" | grep -v '^#' | tr '\n' ' ' | sed 's/ $//; s/ /, /g; s/, \([^,]*\)$/ and \1/')
+  say "commands are $listed; $pages"
+  say "each reads its input from standard input, and \`$me COMMAND --help\` tells its options"
+  look_up surfaces && say_example "$example"
+}
+
+say_help() {
+  look_up "$1"
+  say "$1 answers $answers"
+  say_options "$1"
+  [ "$document" = none ] || say "it reads $(in_words "$document") from standard input; a triangulation is a gluing table (\`tri N\` and N rows) or \`sig SIGNATURE\`"
+  say_example "$example"
+}
+
+say_version() {
+  version='' commit='' kit='' sum='' proved=''
+  while read -r key value; do
+    case $key in
+      version) version=$value ;;
+      commit) commit=$value ;;
+      kit) kit=$value ;;
+      program) sum=$value ;;
+      proved) proved=$value ;;
+    esac
+  done <"$told"
+  say "version $version, commit $commit, program sha256 $sum, proved $proved by $kit"
+}
+
+# Whether a word is a signature; those of SnapPy may have a decoration behind a `_`.
+is_signature() {
+  case ${1%%_*} in '' | *[!A-Za-z0-9+-]*) return 1 ;; esac
+  printf 'sig %s\n' "${1%%_*}" | "$program" csig >/dev/null
+}
+
+quoted() {
+  case $1 in
+    *[!A-Za-z0-9_./=+:@%,-]*) printf "'%s'" "$(printf %s "$1" | sed "s/'/'\\\\''/g")" ;;
+    *) printf %s "$1" ;;
+  esac
+}
+
+# Where a file's name, a signature or `-` stands among the words of a command: how it is given. The other words stay.
+say_input() {
+  words=$1 given='' is_value=
+  shift
+  for word; do
+    case $word in
+      --*=*) is_value= words="$words $(quoted "$word")"; continue ;;
+      --*) is_value=yes words="$words $(quoted "$word")"; continue ;;
+    esac
+    if [ -n "$is_value" ]; then
+      is_value= words="$words $(quoted "$word")"
+    elif [ "$word" = - ]; then
+      given="$me $words < FILE"
+    elif [ -e "$word" ]; then
+      given="$me $words < $(quoted "$word")"
+    elif [ "$word" != sig ] && is_signature "$word"; then
+      given="echo sig ${word%%_*} | $me $words"
+    fi
+  done
+  [ -n "$given" ] && say "${words%% *} reads $(in_words "$document") from standard input: $given"
+}
+
+# What is wanted in place of these words.
+say_words() {
+  case ${1-} in
+    --version | -V | -v | version) say_version; return ;;
+    '' | -*) say_commands; return ;;
+  esac
+  look_up "$1" || { say_commands; return; }
+  for word; do
+    case $word in --help | -h | help | '-?') say_help "$1"; return ;; esac
+  done
+  [ "$document" != none ] && say_input "$@" || { look_up "$1"; say_options "$1"; }
+}
+
+# What kind of file this is, where it is one of another program.
+say_kind_of_file() {
+  case $(head -c 8 "$input" | od -An -tx1 | tr -d ' \n') in
+    efbbbf*) say 'the file begins with a byte order mark: save it as plain text without one' ;;
+    fffe* | feff*) say 'this is UTF-16: save it as plain text (ASCII or UTF-8)' ;;
+    1f8b*) say "this is a compressed file, as Regina's data files are; $from_regina" ;;
+    3c3f786d6c*)
+      head -c 1000 "$input" | grep -q -i regina || return 1
+      say "this is a data file of Regina; $from_regina" ;;
+    2520547269616e67*) say "this is a file of SnapPea: SnapPy's M.triangulation_isosig(decorated=False) gives a signature" ;;
+    *) return 1 ;;
+  esac
+}
+from_regina="Regina's isoSig() gives a signature, to put behind \`sig\`"
+
+# Where the first word of the input is a signature, what it lacks.
+say_lone_signature() {
+  word=$(LC_ALL=C awk '/^[ \t\r]*(#|$)/ { next } { sub(/\r$/, "", $1); print $1; exit }' <"$input")
+  is_signature "$word" || return 1
+  decoration=${word#"${word%%_*}"}
+  say "put \`sig\` before ${word%%_*}${decoration:+, and leave SnapPy's decoration $decoration out}"
+}
+
+# What the refusal of an input is about.
+say_fault() {
+  look_up "$1" || return
+  refusal=$("$program" "$@" <"$input" | head -n 1)
+  case $refusal in 'refused: input 1 '[12]' '*) say_kind_of_file && return ;; esac
+  case $refusal in 'refused: input '*' bad-word') [ "$document" = cone ] || ! say_lone_signature || return ;; esac
+  LC_ALL=C awk -v refusal="$refusal" -v document="$document" -f "$here/fault.awk" "$input" >&2
+}
+
+# A file is read a second time by its name, where none of it was read before; what comes through a pipe or from a terminal
+# is kept in a file without a name.
+run() {
+  if [ -f /dev/stdin ] && [ "$(sed -n 's/^pos:[[:blank:]]*//p' /proc/self/fdinfo/0 2>/dev/null)" = 0 ]; then
+    input=/dev/stdin
+    "$program" "$@"
+  elif reads_input "$@" && file=$(mktemp); then
+    exec 3<>"$file"
+    rm -f "$file"
+    input=/dev/fd/3
+    [ ! -t 0 ] || say "$1 reads $(in_words "$document") from the terminal; Ctrl-D on a line of its own ends it"
+    tee "$input" | "$program" "$@" 3<&-
+  else
+    input=/dev/null
+    "$program" "$@"
+  fi
+}
+
+run "$@"
+status=$?
+case $status in
+  2) say_words "$@" ;;
+  3) say_fault "$@" ;;
+  7) say 'writing the answer failed' ;;
+  8) say 'out of memory' ;;
+esac
+exit $status

@@ -1,0 +1,145 @@
+"""A release of a made-up repository: its files, that they are the same whenever they are made, and that they can be used."""
+import os
+import pty
+import subprocess
+import sys
+import tempfile
+import unittest
+import venv
+from pathlib import Path
+
+from tests.made_up import MadeUp
+from trinorm.program import REPOSITORY
+
+ANSWER = "ground\nleft\nright\ntrinorm\n"
+
+
+class Release(unittest.TestCase):
+    @classmethod
+    def setUpClass(cls):
+        folder = tempfile.TemporaryDirectory()
+        cls.addClassCleanup(folder.cleanup)
+        cls.folder = Path(folder.name)
+        cls.clone = MadeUp(cls.folder)
+        cls.clone.lay_out_rest()
+        cls.early = cls.clone.run(["tools/release.py"])
+        cls.clone.build()
+        (cls.folder / "gate").write_text("one\nall passed\n\n")
+        cls.done = cls.clone.run(["tools/release.py", "--gate", str(cls.folder / "gate")])
+        cls.files = {path.name.partition("-py3")[0]: path for path in (cls.clone.top / "dist").iterdir()}
+
+    def file(self, ending):
+        return next(path for path in (self.clone.top / "dist").iterdir() if path.name.endswith(ending))
+
+    def unpacked(self, name):
+        """The release's tarball, unpacked."""
+        to = self.folder / name
+        to.mkdir()
+        subprocess.run(["tar", "xzf", str(self.file(".tar.gz")), "-C", str(to), "--strip-components=1"], check=True)
+        return to
+
+    def run_alone(self, words, terminal=False):
+        """Status, answer and what is said of a run without the kit."""
+        environment, cwd = {"PATH": "/usr/bin:/bin", "HOME": str(self.folder)}, self.folder
+        if not terminal:
+            done = subprocess.run(words, env=environment, cwd=cwd, stdin=subprocess.DEVNULL, capture_output=True, text=True, timeout=60, check=False)
+            return done.returncode, done.stdout, done.stderr
+        ours, theirs = pty.openpty()
+        done = subprocess.run(words, env=environment, cwd=cwd, stdin=subprocess.DEVNULL, stdout=subprocess.PIPE, stderr=theirs, text=True, timeout=60, check=False)
+        os.write(theirs, b"|")
+        said = ""
+        while not said.endswith("|"):
+            said += os.read(ours, 10000).decode()
+        os.close(ours)
+        os.close(theirs)
+        return done.returncode, done.stdout, said.replace("\r\n", "\n")[:-1]
+
+    def test_only_what_was_proved_is_released(self):
+        self.assertEqual(self.early.returncode, 1)
+        self.assertIn("no program of these sources is kept here", self.early.stderr)
+        (self.clone.top / "other").write_text("")
+        self.addCleanup((self.clone.top / "other").unlink)
+        self.assertIn("differs from its commit", self.clone.run(["tools/release.py"]).stderr)
+
+    def test_the_same_bit_for_bit(self):
+        self.assertEqual(self.done.returncode, 0, self.done.stderr)
+        before = {path.name: path.read_bytes() for path in (self.clone.top / "dist").iterdir()}
+        self.assertEqual(len(before), 5)
+        self.clone.run(["tools/release.py", "--gate", str(self.folder / "gate"), "--out", str(self.folder / "again")])
+        self.assertEqual({path.name: path.read_bytes() for path in (self.folder / "again").iterdir()}, before)
+        done = subprocess.run(["sha256sum", "-c", "--quiet", "SHA256SUMS"], cwd=self.clone.top / "dist", check=False)
+        self.assertEqual(done.returncode, 0)
+
+    def test_manifest(self):
+        lines = self.file("MANIFEST").read_text().splitlines()
+        head = subprocess.run(["git", "rev-parse", "HEAD"], cwd=self.clone.top, capture_output=True, text=True, check=True).stdout.strip()
+        for line in (f"commit {head}", "kit made-up-kit-1", "anew yes", "gate all passed", "verdict left logic=proved functions=1 of=left"):
+            self.assertIn(line, lines)
+        told = "\n".join(it for it in lines if it.startswith(("crate ", "source "))) + "\n"
+        done = subprocess.run(["sha256sum"], input=told, capture_output=True, text=True, check=True)
+        self.assertIn(f"sources {done.stdout.split()[0]}", lines)
+
+    def test_tarball(self):
+        top = self.unpacked("tarball")
+        program = str(top / "bin" / "trinorm")
+        self.assertEqual(self.run_alone([program]), (0, ANSWER, ""))
+        self.assertEqual(self.run_alone([program], terminal=True), (0, ANSWER, ""))
+        for name in ("share/man/man1/trinorm.1", "share/zsh/site-functions/_trinorm", "share/doc/trinorm/NOTICES", "share/doc/trinorm/docs/GUIDE.md"):
+            self.assertTrue((top / name).is_file(), name)
+        completion = top / "share/bash-completion/completions/trinorm"
+        script = f". {completion}; COMP_WORDS=(trinorm describe --coords ''); COMP_CWORD=3; _trinorm; echo ${{COMPREPLY[*]}}"
+        self.assertEqual(self.run_alone(["bash", "-c", script])[1], "standard octagon\n")
+
+    def test_debian_package(self):
+        if not os.path.exists("/usr/bin/dpkg-deb"):
+            self.skipTest("no dpkg-deb")
+        to = self.folder / "deb"
+        subprocess.run(["dpkg-deb", "-x", str(self.file(".deb")), str(to)], check=True)
+        self.assertEqual(self.run_alone([str(to / "usr/bin/trinorm")]), (0, ANSWER, ""))
+        told = subprocess.run(["dpkg-deb", "-f", str(self.file(".deb")), "Depends", "Version"], capture_output=True, text=True, check=True).stdout
+        self.assertIn("Depends: libc6 (>= 2.", told)
+
+    def test_take(self):
+        other = MadeUp(self.folder, "other clone")
+        other.environment["XDG_CACHE_HOME"] = str(self.folder / "other cache")
+        other.proved()
+        for ending in (".tar.gz", ".whl", ".deb"):
+            out = other.top / "crates" / "trinorm" / "out" / "trinorm"
+            out.unlink(missing_ok=True)
+            done = other.build("--take", str(self.file(ending)))
+            self.assertEqual(done.returncode, 0, done.stderr)
+            self.assertIn("it was proved elsewhere, by made-up-kit-1", done.stderr)
+            self.assertEqual(other.launch(kit=False), ANSWER)
+        other.source("left").touch()
+        self.assertEqual((other.launch(), other.proved()), (ANSWER, []))
+        other.write("left", "echo changed\n")
+        done = other.build("--take", str(self.file(".whl")))
+        self.assertEqual(done.returncode, 1)
+        self.assertIn("1 differ, first crates/left/src/lib.rt", done.stderr)
+        self.assertEqual(other.build("--take", str(self.file("MANIFEST"))).returncode, 1)
+
+    def test_pip(self):
+        """The wheel, and the package from its folder, without network, in fresh environments."""
+        for name, given in (("wheel", str(self.file(".whl"))), ("folder", str(self.clone.top / "python"))):
+            with self.subTest(name):
+                place = self.folder / name
+                venv.create(place, with_pip=True)
+                python = str(place / "bin" / "python3")
+                words = [python, "-m", "pip", "install", "-q", "--no-index", "--disable-pip-version-check", given]
+                done = subprocess.run(words, env=self.clone.environment, cwd=self.folder, capture_output=True, text=True, check=False)
+                self.assertEqual(done.returncode, 0, done.stderr)
+                self.assertEqual(self.run_alone([str(place / "bin" / "trinorm")]), (0, ANSWER, ""))
+                found = self.run_alone([python, "-c", "import trinorm; print(trinorm.find())"])
+                self.assertEqual(found[0], 0, found)
+                self.assertTrue(found[1].startswith(str(place)), found)
+                self.assertIn("census", self.run_alone([str(place / "bin" / "trinorm-py"), "--help"])[1])
+
+
+class Table(unittest.TestCase):
+    def test_commands_are_current(self):
+        done = subprocess.run([sys.executable, str(REPOSITORY / "tools" / "commands.py"), "--check"], capture_output=True, text=True, check=False)
+        self.assertEqual((done.returncode, done.stdout), (0, ""))
+
+
+if __name__ == "__main__":
+    unittest.main()

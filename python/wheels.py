@@ -1,0 +1,45 @@
+"""Makes the wheel of the package, with the program inside, by Python's own library alone (PEP 517 and 660)."""
+from __future__ import annotations
+
+import os
+import subprocess
+import sys
+from pathlib import Path
+from typing import Any, Optional
+
+TOP = Path(__file__).resolve().parents[1]
+sys.path.insert(0, str(TOP / "tools"))
+sys.dont_write_bytecode = True
+
+import packages  # noqa: E402
+from installed import Installed  # noqa: E402
+
+
+def current_program() -> packages.Made:
+    """The repository's program, where it is that of its sources, or the one that TRINORM names."""
+    named, installed = os.environ.get("TRINORM"), Installed(TOP)
+    version = packages.fields()["version"]
+    if named:
+        return packages.Made(version, Path(named).expanduser().read_bytes(), f"proved elsewhere\nversion {version}\n")
+    done = subprocess.run([sys.executable, str(TOP / "tools" / "build.py"), "--no-proof"], check=False)
+    if done.returncode:
+        raise SystemExit("there is no program to put into the package: build it first by ./trinorm, or name it by TRINORM")
+    told = (installed.out / ".version").read_text("utf8")
+    return packages.Made(version, installed.program.read_bytes(), told)
+
+
+def write(folder: str, name: str, data: bytes) -> str:
+    Path(folder, name).write_bytes(data)
+    return name
+
+
+def build_wheel(folder: str, config_settings: Any = None, metadata_directory: Optional[str] = None) -> str:
+    return write(folder, *packages.wheel(current_program()))
+
+
+def build_editable(folder: str, config_settings: Any = None, metadata_directory: Optional[str] = None) -> str:
+    return write(folder, *packages.editable_wheel())
+
+
+def build_sdist(folder: str, config_settings: Any = None) -> str:
+    raise SystemExit("the sources are the repository")

@@ -1,0 +1,180 @@
+#!/usr/bin/env python3
+"""Writes the table of commands, python/trinorm/commands.txt, from the definitions of the command line and README's table.
+
+    tools/commands.py [--check]
+
+The launcher, the completions, the manual page and the package read that table. With --check nothing is written, and the
+status is 1 where something would be.
+"""
+from __future__ import annotations
+
+import re
+import sys
+from pathlib import Path
+from typing import Dict, List, NamedTuple, Tuple
+
+from repository import TOP
+
+TABLE = TOP / "python" / "trinorm" / "commands.txt"
+DEFINITIONS = TOP / "crates"
+HEAD = """\
+# The commands; tools/commands.py writes this file. Fields are parted by tabs: name, what is read, options, an example, and
+# what is answered. An option `name=VALUES` takes the first value, or the greatest number, where it isn't given, and one
+# `name!VALUES` has to be given; `-` is none.
+"""
+# what the definitions call a document, in short words
+DOCUMENTS = {
+    "table": "table", "two_tables": "two-tables", "tables": "tables", "vectors": "vectors", "vector": "vector",
+    "blocks": "blocks", "steps": "steps", "moves": "moves", "cone": "cone",
+}
+
+
+class NotFound(Exception):
+    """The definitions haven't the form that this tool knows."""
+
+
+class Option(NamedTuple):
+    """An option: its values, or the least and the greatest number, and whether it has to be given."""
+
+    name: str
+    values: Tuple[str, ...]
+    numbers: Tuple[int, int]
+    wanted: bool
+
+    def spelled(self) -> str:
+        told = "|".join(self.values) or f"{self.numbers[0]}..{self.numbers[1]}"
+        return f"{self.name}{'!' if self.wanted else '='}{told}"
+
+
+class Command(NamedTuple):
+    """A command: the document that it reads (`none` where it reads nothing), its options, an example, and what it answers."""
+
+    name: str
+    document: str
+    options: List[Option]
+    example: str
+    answers: str
+
+    def line(self) -> str:
+        options = " ".join(option.spelled() for option in self.options) or "-"
+        return "\t".join((self.name, self.document, options, self.example, self.answers))
+
+
+def definitions(crate: str, file: str) -> str:
+    return (DEFINITIONS / crate / "specs" / f"{file}.antt").read_text("utf8")
+
+
+def body(text: str, name: str) -> str:
+    """The lines that define a name, up to the next empty line."""
+    found = re.search(rf"^{name}\b[^\n]*=(?:\n|[^\n]*\n)(?:.+\n)*", text, re.M)
+    if found is None:
+        raise NotFound(f"no definition of {name}")
+    return found[0]
+
+
+def codes(text: str) -> List[str]:
+    return re.findall(r'codes "([^"]+)"', text)
+
+
+def number(text: str, name: str) -> int:
+    return int(body(text, name).partition("=")[2])
+
+
+def values_of_option(option: str, reader: str, values: str) -> Option:
+    """An option by the definition that reads its values."""
+    requests, limit = definitions("command_definitions", "Requests"), definitions("text_definitions", "Written")
+    if option == "coords":
+        told = codes(body(values, "coordinates_named"))
+        with_pieces = [name for name in told if f"has_pieces {name.capitalize()} = Some" in values]
+        return Option(option, tuple(with_pieces if "piece_coordinates_in" in reader else told), (0, 0), False)
+    if option == "order":
+        return Option(option, tuple(codes(body(values, "order_named"))), (0, 0), False)
+    if option == "max-entry":
+        return Option(option, (), (1, number(limit, "limit")), False)
+    if option == "seed":
+        return Option(option, (), (0, number(values, "most_seed")), True)
+    if option == "moves":
+        most = re.search(r"\bmost_\w*moves\b", reader)
+        if most is None:
+            raise NotFound("no greatest number of moves")
+        return Option(option, (), (0, number(requests, most[0])), True)
+    raise NotFound(f"values of --{option}")
+
+
+def reader_of(name: str, values: str) -> str:
+    """How the request of a command is read from the values of its options."""
+    found = re.search(rf'same_word w \(codes "{name}"\) then (.*)', body(values, "request_with"))
+    return found[1] if found else ""
+
+
+def requests() -> Dict[str, str]:
+    """The name of each request's command."""
+    text = definitions("command_definitions", "Grammar")
+    return {request: name for request, name in re.findall(r'^name_of \(?(\w+)[^=]*= codes "([^"]+)"', text, re.M)}
+
+
+def documents() -> Dict[str, str]:
+    """The document that each command reads."""
+    names, found = requests(), {}
+    for request, rest in re.findall(r"^IsAnswerTo \(?(\w+)(.*)$", definitions("outcome_definitions", "Answers"), re.M):
+        document = re.search(r"\b(\w+)_document bytes", rest)
+        found[names.get(request, "")] = DOCUMENTS[document[1]] if document else "none"
+    return found
+
+
+def rows_of_readme() -> Dict[str, Tuple[str, str]]:
+    """What each command answers, and how to try it."""
+    text = (TOP / "README.md").read_text("utf8")
+    return {name: (answers, example) for name, answers, example in re.findall(r"^\| `([\w-]+)` \| ([^|]+?) \| `([^`]+)` \|$", text, re.M)}
+
+
+def made() -> List[Command]:
+    """The commands, in README's order, which is that of what one wants to know."""
+    values, grammar = definitions("command_definitions", "Values"), definitions("command_definitions", "Words")
+    options, reads, rows = {}, documents(), rows_of_readme()
+    for line in re.findall(r"\((codes .*)\)", body(grammar, "commands")):
+        name, *names = codes(line)
+        options[name] = [values_of_option(option, reader_of(name, values), values) for option in names]
+    for name in set(options) ^ set(rows):
+        raise NotFound(f"the command {name} stands in README's table or in the grammar, and not in both")
+    return [Command(name, reads[name], options[name], example, answers) for name, (answers, example) in rows.items()]
+
+
+def option_of(spelled: str) -> Option:
+    parted = re.fullmatch(r"([\w-]+)([=!])(.*)", spelled)
+    if parted is None:
+        raise NotFound(f"an option spelled {spelled}")
+    name, sign, told = parted.groups()
+    numbers = re.fullmatch(r"(\d+)\.\.(\d+)", told)
+    if numbers:
+        return Option(name, (), (int(numbers[1]), int(numbers[2])), sign == "!")
+    return Option(name, tuple(told.split("|")), (0, 0), sign == "!")
+
+
+def read_table(path: Path = TABLE) -> List[Command]:
+    """The commands as the table has them."""
+    found = []
+    for line in path.read_text("utf8").splitlines():
+        if line and not line.startswith("#"):
+            name, document, options, example, answers = line.split("\t")
+            found.append(Command(name, document, [option_of(it) for it in options.split() if it != "-"], example, answers))
+    return found
+
+
+def text() -> str:
+    """The table as it should be."""
+    return HEAD + "".join(f"{command.line()}\n" for command in made())
+
+
+def main(checking: bool) -> int:
+    wanted = text()
+    if TABLE.is_file() and TABLE.read_text("utf8") == wanted:
+        return 0
+    if not checking:
+        TABLE.write_text(wanted, "utf8")
+    print(f"{'stale' if checking else 'written'}: {TABLE.relative_to(TOP)}")
+    return int(checking)
+
+
+if __name__ == "__main__":
+    sys.exit(main("--check" in sys.argv[1:]))

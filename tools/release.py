@@ -1,0 +1,80 @@
+#!/usr/bin/env python3
+"""Makes a release of the commit, into the folder dist: a wheel, a Debian package, a tarball, MANIFEST and SHA256SUMS.
+
+    tools/release.py [--gate FILE] [--out FOLDER]
+
+It wants a clean checkout, and a program that was proved from nothing by one build (`tools/build.py --anew`) from these
+very sources. --gate names what the gate said (`rt ci`): its last line goes into MANIFEST. Made again, each file is the same
+bit for bit.
+"""
+from __future__ import annotations
+
+import argparse
+import shutil
+import sys
+from pathlib import Path
+from typing import List, Tuple
+
+import commands
+import packages
+from kept import Programs
+from manifest import Manifest, read_manifest
+from prove import Kit
+from repository import PROGRAM, TOP, changed, commit, read_crates, read_sources, standing_below, sum_of, version
+
+
+def refuse(why: str) -> None:
+    sys.exit(f"release: {why}")
+
+
+def proved_program() -> Tuple[bytes, Manifest]:
+    """The program that was proved from nothing, from the sources of this commit, and what was told of it."""
+    sources = read_sources(TOP, standing_below(read_crates(TOP), PROGRAM)).sum()
+    command = shutil.which("rt")
+    place = Programs().find(sources, Kit(command).name if command else None)
+    if place is None:
+        refuse("no program of these sources is kept here: tools/build.py --anew proves and builds it")
+    assert place is not None
+    told = read_manifest((place / "MANIFEST").read_text("utf8"))
+    if not told.anew:
+        refuse("the program was built over libraries that were proved before: tools/build.py --anew proves all at once")
+    return (place / PROGRAM).read_bytes(), told
+
+
+def last_line(path: str) -> str:
+    lines = [line.strip() for line in Path(path).read_text("utf8", "replace").split("\n") if line.strip()]
+    return lines[-1] if lines else ""
+
+
+def release(gate: str) -> List[Tuple[str, bytes]]:
+    """The files of the release."""
+    program, manifest = proved_program()
+    manifest.version, manifest.commit, manifest.gate = version(TOP), commit(TOP), gate
+    told = "".join(f"{line}\n" for line in ["proved elsewhere", *manifest.head()])
+    made = packages.Made(manifest.version, program, told, manifest)
+    files = [packages.wheel(made), packages.debian(made), packages.tarball(made), ("MANIFEST", manifest.text().encode())]
+    sums = "".join(f"{sum_of(data)}  {name}\n" for name, data in files)
+    return [*files, ("SHA256SUMS", sums.encode())]
+
+
+def main() -> None:
+    parser = argparse.ArgumentParser(description="Makes a release of the commit.")
+    parser.add_argument("--gate", metavar="FILE", help="what the gate said, whose last line goes into MANIFEST")
+    parser.add_argument("--out", metavar="FOLDER", default=str(TOP / "dist"), help="where the files go, in place of dist")
+    given = parser.parse_args()
+    if commit(TOP) == "none":
+        refuse("this is no checkout, so there is no commit to tell")
+    if changed(TOP):
+        refuse("the checkout differs from its commit")
+    if commands.TABLE.read_text("utf8") != commands.text():
+        refuse("python/trinorm/commands.txt is stale: tools/commands.py writes it")
+    files = release(last_line(given.gate) if given.gate else "")
+    out = Path(given.out)
+    out.mkdir(parents=True, exist_ok=True)
+    for name, data in files:
+        (out / name).write_bytes(data)
+        print(f"{sum_of(data)}  {len(data):>8}  {name}")
+
+
+if __name__ == "__main__":
+    main()
