@@ -62,7 +62,10 @@ say_options() {
 }
 
 say_example() {
-  say "for example: $me ${1#./trinorm }" | sed "s|< examples/|< $examples/|" >&2
+  case $1 in
+    *'< examples/'*) say "for example: $me $2 < $(quoted "$examples/${1#*< examples/}")" ;;
+    *) say "for example: $me ${1#./trinorm }" ;;
+  esac
 }
 
 # All commands, where the input comes from, and one example.
@@ -70,15 +73,19 @@ say_commands() {
   listed=$(cut -f 1 "$commands" | grep -v '^#' | tr '\n' ' ' | sed 's/ $//; s/ /, /g; s/, \([^,]*\)$/ and \1/')
   say "commands are $listed; $pages"
   say "each reads its input from standard input, and \`$me COMMAND --help\` tells its options"
-  look_up surfaces && say_example "$example"
+  look_up surfaces && say_example "$example" surfaces
 }
 
 say_help() {
   look_up "$1"
   say "$1 answers $answers"
   say_options "$1"
-  [ "$document" = none ] || say "it reads $(in_words "$document") from standard input; a triangulation is a gluing table (\`tri N\` and N rows) or \`sig SIGNATURE\`"
-  say_example "$example"
+  case $document in
+    none) ;;
+    cone) say "it reads $(in_words cone) from standard input" ;;
+    *) say "it reads $(in_words "$document") from standard input; a triangulation is a gluing table (\`tri N\` and N rows) or \`sig SIGNATURE\`" ;;
+  esac
+  say_example "$example" "$1"
 }
 
 say_version() {
@@ -110,7 +117,7 @@ quoted() {
 
 # Where a file's name, a signature or `-` stands among the words of a command: how it is given. The other words stay.
 say_input() {
-  words=$1 given='' is_value=
+  words=$1 file='' signature='' is_value=
   shift
   for word; do
     case $word in
@@ -120,14 +127,21 @@ say_input() {
     if [ -n "$is_value" ]; then
       is_value= words="$words $(quoted "$word")"
     elif [ "$word" = - ]; then
-      given="$me $words < FILE"
+      file=FILE
     elif [ -e "$word" ]; then
-      given="$me $words < $(quoted "$word")"
+      file=$(quoted "$word")
     elif [ "$word" != sig ] && is_signature "$word"; then
-      given="echo sig ${word%%_*} | $me $words"
+      signature=${word%%_*}
     fi
   done
-  [ -n "$given" ] && say "${words%% *} reads $(in_words "$document") from standard input: $given"
+  head="${words%% *} reads $(in_words "$document") from standard input"
+  if [ -n "$file" ]; then
+    say "$head: $me $words < $file"
+  elif [ -n "$signature" ]; then
+    say "$head: echo sig $signature | $me $words"
+  else
+    return 1
+  fi
 }
 
 # What is wanted in place of these words.
@@ -145,18 +159,18 @@ say_words() {
 
 # What kind of file this is, where it is one of another program.
 say_kind_of_file() {
-  case $(head -c 8 "$input" | od -An -tx1 | tr -d ' \n') in
+  case $(head -c 8 <"$input" | od -An -tx1 | tr -d ' \n') in
     efbbbf*) say 'the file begins with a byte order mark: save it as plain text without one' ;;
     fffe* | feff*) say 'this is UTF-16: save it as plain text (ASCII or UTF-8)' ;;
-    1f8b*) say "this is a compressed file, as Regina's data files are; $from_regina" ;;
+    1f8b*) say "this is a compressed file, as Regina's data files are: $from_regina" ;;
     3c3f786d6c*)
-      head -c 1000 "$input" | grep -q -i regina || return 1
-      say "this is a data file of Regina; $from_regina" ;;
+      head -c 1000 <"$input" | grep -q -i regina || return 1
+      say "this is a data file of Regina: $from_regina" ;;
     2520547269616e67*) say "this is a file of SnapPea: SnapPy's M.triangulation_isosig(decorated=False) gives a signature" ;;
     *) return 1 ;;
   esac
 }
-from_regina="Regina's isoSig() gives a signature, to put behind \`sig\`"
+from_regina="there isoSig() gives a signature, to put behind \`sig\`"
 
 # Where the first word of the input is a signature, what it lacks.
 say_lone_signature() {
@@ -168,27 +182,32 @@ say_lone_signature() {
 
 # What the refusal of an input is about.
 say_fault() {
-  look_up "$1" || return
+  [ -n "$input" ] && look_up "$1" || return
   refusal=$("$program" "$@" <"$input" | head -n 1)
   case $refusal in 'refused: input 1 '[12]' '*) say_kind_of_file && return ;; esac
   case $refusal in 'refused: input '*' bad-word') [ "$document" = cone ] || ! say_lone_signature || return ;; esac
-  LC_ALL=C awk -v refusal="$refusal" -v document="$document" -f "$here/fault.awk" "$input" >&2
+  LC_ALL=C awk -v refusal="$refusal" -v document="$document" -f "$here/fault.awk" <"$input" >&2
 }
 
-# A file is read a second time by its name, where none of it was read before; what comes through a pipe or from a terminal
-# is kept in a file without a name.
+# Whether standard input is a file of which nothing was read yet.
+is_whole_file() {
+  [ -f /dev/stdin ] && [ "$(sed -n 's/^pos:[[:blank:]]*//p' /proc/self/fdinfo/0 2>/dev/null)" = 0 ]
+}
+
+# Runs the program, and sets input to where what it read can be read again, if anywhere: a file by its name, and what comes
+# through a pipe or from a terminal in a file without a name.
 run() {
-  if [ -f /dev/stdin ] && [ "$(sed -n 's/^pos:[[:blank:]]*//p' /proc/self/fdinfo/0 2>/dev/null)" = 0 ]; then
+  input=''
+  if is_whole_file; then
     input=/dev/stdin
     "$program" "$@"
-  elif reads_input "$@" && file=$(mktemp); then
+  elif { [ -p /dev/stdin ] || [ -t 0 ]; } && reads_input "$@" && file=$(mktemp); then
     exec 3<>"$file"
     rm -f "$file"
     input=/dev/fd/3
     [ ! -t 0 ] || say "$1 reads $(in_words "$document") from the terminal; Ctrl-D on a line of its own ends it"
     tee "$input" | "$program" "$@" 3<&-
   else
-    input=/dev/null
     "$program" "$@"
   fi
 }

@@ -39,8 +39,8 @@ from installed import Installed
 from kept import Libraries, Programs, Unusable
 from manifest import Manifest, NoManifest, read_manifest
 from prove import Kit, NotProved, Workspace
-from repository import (PARTS, PROGRAM, TOP, Crate, Sources, cache_folder, changed, commit, read_crates, read_sources,
-                        standing_below, sum_of, sum_of_file, version)
+from repository import (PARTS, PROGRAM, TOP, Crate, Sources, cache_folder, changed, commit, crates_of_build,
+                        read_sources, sum_of, sum_of_file, version)
 
 TIMES = TOP / "build_times.txt"
 # a proof takes 0.5 to 2 GB
@@ -126,7 +126,7 @@ class Build:
 
     def __init__(self, given: argparse.Namespace) -> None:
         self.given, self.begun = given, time.time()
-        self.crates = standing_below(read_crates(TOP), PROGRAM)
+        self.crates = crates_of_build(TOP)
         self.sources = read_sources(TOP, self.crates)
         self.to, self.programs, self.installed = folder_of_build(), Programs(), Installed(TOP)
 
@@ -171,7 +171,7 @@ class Build:
         if self.given.measure:
             write_times(TIMES, list(self.crates), progress.took, self.to)
         if self.given.keep:
-            workspace.keep_libraries(libraries)
+            workspace.keep(libraries)
         self.finish(kit, program, workspace)
 
     def finish(self, kit: Kit, program: Path, workspace: Workspace) -> None:

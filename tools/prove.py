@@ -72,7 +72,7 @@ class Workspace:
         self.stamps: Dict[str, str] = {}
         self.sums: Dict[str, str] = {}
         self.verdicts: Dict[str, str] = {}
-        for name in ("libraries", "logs"):
+        for name in ("libraries", "products", "logs"):
             (to / name).mkdir(parents=True, exist_ok=True)
 
     def folder(self, name: str) -> Path:
@@ -81,8 +81,24 @@ class Workspace:
     def library(self, name: str) -> Path:
         return self.to / "libraries" / f"{name}.rlib"
 
+    def product(self, name: str) -> Optional[Path]:
+        """What is made of a crate that is no library for others here: an object file or a static library."""
+        if (self.folder(name) / "src" / "main.rt").exists():
+            return self.to / "products" / name / f"{name}.o"
+        return self.to / "products" / name / f"lib{name}.a" if self.crates[name].is_static else None
+
+    def made(self, name: str) -> Path:
+        """The folder that is made of a crate."""
+        product = self.product(name)
+        return product.parent if product else self.library(name)
+
+    def sum_of_made(self, name: str) -> str:
+        """A sum of what is made of a crate. For a library it is that by which those above it name it."""
+        return sum_of_file(self.product(name) or self.library(name) / "format")
+
     def stamp_file(self, name: str) -> Path:
-        return self.to / "libraries" / f"{name}.rlib.stamp"
+        made = self.made(name)
+        return made.with_name(f"{made.name}.stamp")
 
     def log(self, name: str) -> Path:
         return self.to / "logs" / name
@@ -96,7 +112,7 @@ class Workspace:
         return sum_of("\0".join(told).encode())
 
     def find(self, name: str) -> bool:
-        """Whether the library of a crate is known, as one that was proved from these sources over these libraries."""
+        """Whether what is made of a crate is known, as proved from these sources over these libraries."""
         if any(below not in self.sums for below in self.crates[name].below):
             return False
         stamp = self.stamps[name] = self.stamp(name)
@@ -110,15 +126,14 @@ class Workspace:
         return True
 
     def note(self, name: str) -> None:
-        """Notes the prover's verdict and, where the crate has a library, its sum."""
+        """Notes the prover's verdict of a crate, and the sum of what is made of it."""
         said = self.log(name).read_text("utf8", "replace").split("\n")
         self.verdicts[name] = next((line for line in reversed(said) if line.startswith("logic=")), "unknown")
-        if self.library(name).is_dir():
-            self.sums[name] = sum_of_file(self.library(name) / "format")
+        self.sums[name] = self.sum_of_made(name)
 
     def is_stamped(self, name: str, stamp: str) -> bool:
         try:
-            return self.stamp_file(name).read_text("ascii") == stamp and self.library(name).is_dir()
+            return self.stamp_file(name).read_text("ascii") == stamp and self.made(name).is_dir()
         except OSError:
             return False
 
@@ -127,28 +142,27 @@ class Workspace:
         return [name for name in self.crates if not self.find(name)]
 
     def drop_what_is_gone(self) -> None:
-        """Removes the libraries of crates that are no more."""
-        for path in (self.to / "libraries").iterdir():
-            if path.name.split(".")[0] in self.crates:
-                continue
-            if path.is_dir():
+        """Removes what was made of crates that are no more."""
+        wanted = {path.name for name in self.crates for path in (self.made(name), self.stamp_file(name))}
+        for path in [*(self.to / "libraries").iterdir(), *(self.to / "products").iterdir()]:
+            if path.name not in wanted and path.is_dir():
                 shutil.rmtree(path)
-            else:
+            elif path.name not in wanted:
                 path.unlink()
 
-    def unpack_below(self, name: str) -> None:
-        """Sees to it that each library below a crate stands in the folder."""
-        for below in standing_below(self.crates, name):
-            if below != name and not self.is_stamped(below, self.stamps[below]):
-                assert self.kept is not None
-                self.stamp_file(below).unlink(missing_ok=True)
-                self.kept.take(self.stamps[below], self.library(below))
-                self.stamp_file(below).write_text(self.stamps[below], "ascii")
+    def unpack(self, name: str) -> None:
+        """Sees to it that what is made of a crate stands in the folder."""
+        if not self.is_stamped(name, self.stamps[name]):
+            assert self.kept is not None
+            self.stamp_file(name).unlink(missing_ok=True)
+            self.kept.take(self.stamps[name], self.made(name))
+            self.stamp_file(name).write_text(self.stamps[name], "ascii")
 
     def words(self, name: str, jobs: int) -> List[str]:
         """What rattle is asked, so that it proves a crate and, where it is proved, makes its library or its program."""
-        crate, is_program = self.crates[name], (self.folder(name) / "src" / "main.rt").exists()
-        words = ["--crate-name", name, "src/main.rt" if is_program else "src/lib.rt", "--links", f"{name}="]
+        crate, product = self.crates[name], self.product(name)
+        root = "src/main.rt" if (self.folder(name) / "src" / "main.rt").exists() else "src/lib.rt"
+        words = ["--crate-name", name, root, "--links", f"{name}="]
         for library in ("std", *crate.of_kit):
             words += ["--extern", f"{library}={self.kit.library(library)}"]
         for below in crate.below:
@@ -157,17 +171,23 @@ class Workspace:
             words += ["-L", f"dependency={folder}"]
         words += ["--antt-project", f"{self.kit.at}/rattle/logic/antt-project.json"]
         words += ["--logic-built", f"{self.kit.at}/logic_built", "--jobs", str(jobs)]
-        if is_program:
-            words += ["--backend", "llvm", "--toolchain", f"{self.kit.at}/toolchain", "-o", f"{self.to}/{name}.o"]
+        if crate.is_static:
+            words += ["--crate-type", "staticlib"]
+        if product is not None:
+            words += ["--backend", "llvm", "--toolchain", f"{self.kit.at}/toolchain", "-o", str(product)]
         else:
             words += ["--statements", "-o", str(self.library(name))]
         return [f"{self.kit.at}/bin/rattle", "build", *words]
 
     def begin(self, name: str, jobs: int) -> Run:
         """Begins to prove a crate. Its process holds the lock, so that no other build begins before it ends."""
-        self.unpack_below(name)
-        shutil.rmtree(self.library(name), ignore_errors=True)
+        for below in standing_below(self.crates, name):
+            if below != name:
+                self.unpack(below)
         self.stamp_file(name).unlink(missing_ok=True)
+        shutil.rmtree(self.made(name), ignore_errors=True)
+        if self.product(name) is not None:
+            self.made(name).mkdir()
         with open(self.log(name), "w", encoding="utf8") as log:
             process = subprocess.Popen(
                 self.words(name, jobs), cwd=self.folder(name), pass_fds=[self.lock.fileno()],
@@ -223,21 +243,21 @@ class Workspace:
         if status:
             raise NotProved(f"the crate {name} did not build; what was said is in {self.log(name)}")
         self.note(name)
-        if name in self.sums:
-            self.stamp_file(name).write_text(self.stamps[name], "ascii")
+        self.stamp_file(name).write_text(self.stamps[name], "ascii")
 
-    def keep_libraries(self, kept: Libraries) -> None:
-        """Keeps each library that was proved, packed."""
-        for name in self.sums:
+    def keep(self, kept: Libraries) -> None:
+        """Keeps what was made of each crate, packed."""
+        for name, sum_of_made in self.sums.items():
             if self.is_stamped(name, self.stamps[name]):
-                kept.keep(self.stamps[name], self.library(name), self.sums[name], self.verdicts[name])
+                kept.keep(self.stamps[name], self.made(name), sum_of_made, self.verdicts[name])
         kept.drop_old()
 
     def link(self, name: str) -> Path:
-        """Links the object file of the program, and gives the program's path."""
+        """Links the object file of a program, and gives the program's path."""
+        self.unpack(name)
         program = self.to / name
-        words = [f"{self.kit.at}/bin/rattle-link", "--target", TARGET, "--toolchain", f"{self.kit.at}/toolchain"]
-        words += ["-o", str(program), f"{program}.o", f"{self.kit.at}/c/libos_c.a", f"{self.kit.at}/c/liblibc_c.a"]
+        words = [f"{self.kit.at}/bin/rattle-link", "--target", TARGET, "--toolchain", f"{self.kit.at}/toolchain", "-o", str(program)]
+        words += [str(self.product(name)), f"{self.kit.at}/c/libos_c.a", f"{self.kit.at}/c/liblibc_c.a"]
         with open(self.log("link"), "w", encoding="utf8") as log:
             if subprocess.run(words, stdout=log, stderr=subprocess.STDOUT, check=False).returncode:
                 raise NotProved(f"the program {name} was not linked; what was said is in {self.log('link')}")

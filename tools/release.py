@@ -20,7 +20,7 @@ import packages
 from kept import Programs
 from manifest import Manifest, read_manifest
 from prove import Kit
-from repository import PROGRAM, TOP, changed, commit, read_crates, read_sources, standing_below, sum_of, version
+from repository import PROGRAM, TOP, changed, commit, crates_of_build, read_sources, sum_of, version
 
 
 def refuse(why: str) -> None:
@@ -29,7 +29,7 @@ def refuse(why: str) -> None:
 
 def proved_program() -> Tuple[bytes, Manifest]:
     """The program that was proved from nothing, from the sources of this commit, and what was told of it."""
-    sources = read_sources(TOP, standing_below(read_crates(TOP), PROGRAM)).sum()
+    sources = read_sources(TOP, crates_of_build(TOP)).sum()
     command = shutil.which("rt")
     place = Programs().find(sources, Kit(command).name if command else None)
     if place is None:

@@ -14,10 +14,12 @@ PARTS = ("src", "specs", "proofs")
 
 
 class Crate(NamedTuple):
-    """A crate of the repository: the crates and the kit's libraries that it stands on."""
+    """A crate of the repository: the crates and the kit's libraries that it stands on, and whether a static library for
+    other languages is made of it."""
 
     below: List[str]
     of_kit: List[str]
+    is_static: bool = False
 
 
 class Sources(NamedTuple):
@@ -46,21 +48,19 @@ def sum_of_file(path: Path) -> str:
 
 
 def lines_of_crates(text: str) -> Dict[str, List[str]]:
-    """Each crate of a file like crates.txt, with the names in its line, those of the kit's libraries too."""
-    found = {}
-    for line in text.split("\n"):
-        name, _, below = line.split("#")[0].partition(":")
-        if name.strip():
-            found[name.split()[0]] = below.split()
-    return found
+    """Each line of a file like crates.txt: the crate's name, with a word on its kind where there is one, and the names
+    that it lists, those of the kit's libraries too."""
+    parted = (line.split("#")[0].partition(":") for line in text.split("\n"))
+    return {name.strip(): below.split() for name, _, below in parted if name.strip()}
 
 
 def read_crates(top: Path) -> Dict[str, Crate]:
     """Each crate of the repository, with what its line of crates.txt says that it stands on."""
-    lines = lines_of_crates((top / "crates.txt").read_text("utf8"))
+    lines = {tuple(head.split()): below for head, below in lines_of_crates((top / "crates.txt").read_text("utf8")).items()}
+    names = {head[0] for head in lines}
     return {
-        name: Crate([it for it in below if it in lines], [it for it in below if it not in lines])
-        for name, below in lines.items()
+        head[0]: Crate([name for name in below if name in names], [name for name in below if name not in names], "staticlib" in head)
+        for head, below in lines.items()
     }
 
 
@@ -71,6 +71,19 @@ def standing_below(crates: Dict[str, Crate], name: str, found: Optional[Dict[str
         if below not in found:
             standing_below(crates, below, found)
     found[name] = crates[name]
+    return found
+
+
+def products(crates: Dict[str, Crate]) -> List[str]:
+    """The crates that a build makes something of: the program, and static libraries."""
+    return [PROGRAM, *(name for name, crate in crates.items() if crate.is_static)]
+
+
+def crates_of_build(top: Path) -> Dict[str, Crate]:
+    """The products and all that they stand on, each behind those below it."""
+    crates, found = read_crates(top), {}
+    for name in products(crates):
+        found.update(standing_below(crates, name, found))
     return found
 
 

@@ -15,6 +15,11 @@ def make(folder: str) -> Path:
     program = out / "trinorm"
     program.symlink_to(os.path.realpath(trinorm.find()))
     shutil.copy(REPOSITORY / "trinorm", top)
+    shutil.copytree(REPOSITORY / "launcher", top / "launcher")
+    shutil.copytree(REPOSITORY / "examples", top / "examples")
+    (top / "python" / "trinorm").mkdir(parents=True)
+    shutil.copy(REPOSITORY / "python" / "trinorm" / "commands.txt", top / "python" / "trinorm")
+    (out / ".version").write_text("proved here\nversion 1.2\ncommit abc\nkit made-up\nsources 12\nprogram 34\n")
     (top / "bench").mkdir()
     shutil.copy(REPOSITORY / "bench" / "census.sh", top / "bench")
     for path in (top / "crates.txt", out / ".sources", out / ".built"):

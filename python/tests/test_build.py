@@ -109,13 +109,14 @@ class Build(unittest.TestCase):
                 self.clone.build("--anew", "--keep")
                 self.assertEqual(self.clone.proved(), ALL)
                 packs = os.listdir(self.folder / "cache" / "trinorm" / "libraries")
-                self.assertEqual(sum(it.endswith(ending) for it in packs), 3, packs)
+                self.assertEqual(sum(it.endswith(ending) for it in packs), 4, packs)
                 # a comment leaves the library as it was, so what stands above it stays
                 self.clone.write("ground", f"// {ending}\necho ground\n")
-                self.assert_answers(self.clone, ANSWER, ["ground", "trinorm"])
+                self.assert_answers(self.clone, ANSWER, ["ground"])
                 self.clone.write("left", f"echo other{ending}\n")
                 self.clone.build("--keep")
                 self.assertIn(self.clone.proved(), (["ground", "left", "trinorm"], ["left", "trinorm"]))
+                self.assertEqual(self.clone.launch(), ANSWER.replace("left", f"other{ending}"))
                 self.clone.write("ground", "echo ground\n")
                 self.clone.write("left", "echo left\n")
 
