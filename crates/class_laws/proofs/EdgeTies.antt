@@ -34,7 +34,7 @@ pair_either t a b l m ne =
 abbrev Either : ℕ → Place → Type 0
 Either i p = (p ≡ edge i) ⊎ (p ≡ turned (edge i))
 
-turned_twice : (i : ℕ) → turned (turned (edge i)) ≡ edge i
+pub turned_twice : (i : ℕ) → turned (turned (edge i)) ≡ edge i
 turned_twice i = ap (λ (p : Place). turned (turned p)) (edge_pair i) ∙ sym (edge_pair i)
 
 -- the step of a turned place

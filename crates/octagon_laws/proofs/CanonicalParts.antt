@@ -1,24 +1,20 @@
 -- The canonical part of an octagon solution is that over the lift of its quads, with two quads in place of each octagon.
-use Rattle.std.proofs.Common.{◌≡◌, ℕ, ◌+◌, ◌*◌, ◌/◌, ◌%◌, ◌-◌, ◌<◌, ◌≤◌, List, length, refl, sym, ap, ◌∙◌, subst, arith, ext_get_or}
+use Rattle.std.proofs.Common.{◌≡◌, ℕ, ◌+◌, ◌*◌, ◌/◌, ◌%◌, ◌-◌, ◌<◌, ◌≤◌, List, length, sym, ap, ◌∙◌, subst, arith, ext_get_or}
 use Rattle.std.specs.Prelude.{slice_index}
-use Rattle.table_definitions.proofs.Listed.{among_contains}
 use Rattle.skeleton_definitions.specs.Skeleton.{Skeleton, IsSkeleton}
 use Rattle.surface_definitions.specs.Coordinates.{tri_column}
 use Rattle.surface_definitions.specs.declared.Coords.TheVariants.{Standard, Octagon}
-use Rattle.surface_definitions.specs.Equations.{glued_pairs}
 use Rattle.surface_definitions.specs.Lift.{projected}
-use Rattle.table_definitions.specs.Permutation.{others}
 use Rattle.surface_laws.specs.LiftLaws.{IsLiftOf}
 use Rattle.surface_laws.proofs.LiftLemmas.{lift_solves, lift_projects}
-use Rattle.surface_laws.proofs.Matched.{pair_glued}
-use Rattle.surface_laws.proofs.Quads.{projected_at}
-use Rattle.surface_laws.proofs.Solved.{solved, other_is}
-use Rattle.quad_laws.specs.LinkLaws.{links_sum}
-use Rattle.quad_laws.specs.SolutionLaws.{IsStandardSolution, with_links, IsLiftWithLinks, HasOneLiftWithLinks}
+use Rattle.surface_laws.proofs.Quads.{entry_quad}
+use Rattle.quad_laws.specs.LinkLaws.{links_sum, IsCanonical}
+use Rattle.quad_laws.specs.SolutionLaws.{with_links, IsLiftWithLinks, HasOneLiftWithLinks}
+use Rattle.quad_laws.proofs.Canonical.{canonical_lift}
 use Rattle.quad_laws.proofs.LiftsAndLinks.{one_lift_with_links}
 use Rattle.quad_laws.proofs.LinkSums.{triangles-sum, rest-sum, by_column}
 use Rattle.octagon_laws.specs.QuadOctagons.{quads_and_octagons, quads_for_octagons, HasQuadsForOctagons}
-use Rattle.octagon_laws.specs.Laws.{IsOctagonSolution, IsCanonical, IsCanonicalWithLinks, HasOneCanonicalPart}
+use Rattle.octagon_laws.specs.Laws.{IsOctagonSolution, IsCanonicalWithLinks, HasOneCanonicalPart}
 use Rattle.octagon_laws.proofs.Entries.{entry-at, length-entries, length-quads, same_quads, standard_of, standard_is, joined, length-joined, triangle-joined, joined-entries, joined_is, same_vector}
 use Rattle.octagon_laws.proofs.AsQuads.{match_as_quads, standard_solves}
 
@@ -27,24 +23,13 @@ module _ (s : Skeleton) (k : IsSkeleton s) where
   n = length s.rows
 
   -- a canonical solution is a lift once each octagon is two quads
-  pub canonical_lift : (ys zs : List ℕ) → HasQuadsForOctagons n ys zs → IsOctagonSolution s ys → IsCanonical s ys → IsLiftOf s (projected n zs) zs
-  canonical_lift ys zs h solution canonical = record {
-    width = h.width;
-    each = λ c lc. record {
-      quads_are = refl;
-      holds = λ y v cy cv e. let o = other_is (y.0).face v (among_contains v (others (y.0).face) cv) in
-          solved s.rows Standard zs k.table tt standard y.0 y.1 v (pair_glued s.rows y (among_contains y (glued_pairs s.rows) cy)) o.0 o.1;
-      least = (let m = canonical c lc in
-          let li : m.0 < 4 * n = m.1 in
-          let inside : m.0 < length s.vertices.classes = omega (arith, (k.vertices).one_each) in
-          let lt : m.0 / 4 < n = omega arith in
-          let lv : m.0 % 4 < 4 = omega arith in
-          (m.0, inside, m.2, h.triangles (m.0 / 4) (m.0 % 4) lt lv ∙ m.3));
-    };
-  }
-    where
-      standard : IsStandardSolution s zs
-      standard = (match_as_quads s k ys zs solution.width h).0 solution
+  pub canonical_as_quads : (ys zs : List ℕ) → HasQuadsForOctagons n ys zs → IsOctagonSolution s ys → IsCanonical s Octagon ys → IsLiftOf s (projected n zs) zs
+  canonical_as_quads ys zs h solution canonical =
+      canonical_lift s k zs ((match_as_quads s k ys zs solution.width h).0 solution) (λ c lc. let m = canonical c lc in
+      let li : m.0 < 4 * n = m.1 in
+      let lt : m.0 / 4 < n = omega arith in
+      let lv : m.0 % 4 < 4 = omega arith in
+      (m.0, li, m.2, h.triangles (m.0 / 4) (m.0 % 4) lt lv ∙ m.3))
 
   -- the octagon vector of given quads and octagons over a lift
   module _ (xs lift : List ℕ) (wide : length xs ≡ 6 * n) (is_lift : IsLiftOf s (quads_for_octagons n xs) lift) where
@@ -56,7 +41,7 @@ module _ (s : Skeleton) (k : IsSkeleton s) where
     over_solves = (match_as_quads s k (joined n lift xs) lift (length-joined n lift xs) over).1
         (lift_solves s.rows k.table s.vertices.classes s.vertices.count k.vertices (quads_for_octagons n xs) lift is_lift)
 
-    pub over_canonical : IsCanonical s (joined n lift xs)
+    pub over_canonical : IsCanonical s Octagon (joined n lift xs)
     over_canonical c lc =
         let m = (is_lift.each c lc).least in
         let inside : m.0 < length s.vertices.classes = m.1 in
@@ -82,13 +67,6 @@ module _ (s : Skeleton) (k : IsSkeleton s) where
       let lj : i % 10 - 4 < 6 = omega arith in
       let at : i ≡ 10 * (i / 10) + 4 + (i % 10 - 4) = omega arith in
       ap (slice_index ys) at ∙ sym (entry-at n ys (i / 10) (i % 10 - 4) lt lj)
-
-  quad-at : (zs : List ℕ) (i : ℕ) → i < 7 * n → 4 ≤ i % 7 → slice_index zs i ≡ slice_index (projected n zs) (3 * (i / 7) + (i % 7 - 4))
-  quad-at zs i l high =
-      let lt : i / 7 < n = omega arith in
-      let lj : i % 7 - 4 < 3 = omega arith in
-      let at : i ≡ 7 * (i / 7) + 4 + (i % 7 - 4) = omega arith in
-      ap (slice_index zs) at ∙ sym (projected_at zs n (i / 7) (i % 7 - 4) lt lj)
 
   module _ (ys : List ℕ) (solution : IsOctagonSolution s ys) where
     abbrev xs : List ℕ
@@ -163,13 +141,13 @@ module _ (s : Skeleton) (k : IsSkeleton s) where
 
       other_lift : IsLiftWithLinks s zs ws many
       other_lift = record {
-        is_lift = subst (λ qs. IsLiftOf s qs ws) other_quads (canonical_lift other ws other_form h.solves h.is_canonical);
+        is_lift = subst (λ qs. IsLiftOf s qs ws) other_quads (canonical_as_quads other ws other_form h.solves h.is_canonical);
         adds = by_column Standard tt n (λ i. slice_index zs i ≡ with_links s many ws i)
             (λ t v lt lv.
             let l : tri_column Octagon t v < 10 * n = omega arith in
             form.triangles t v lt lv ∙ h.adds (tri_column Octagon t v) l ∙ (λ i. sym (other_form.triangles t v lt lv) i + same_links many t v lt lv i))
             (λ i l high. no_more (slice_index zs i) (slice_index ws i) (links_sum s Standard many i)
-            (quad-at zs i l high ∙ ap (λ us. slice_index us (3 * (i / 7) + (i % 7 - 4))) (sym other_quads) ∙ sym (quad-at ws i l high))
+            (entry_quad n zs i l high ∙ ap (λ us. slice_index us (3 * (i / 7) + (i % 7 - 4))) (sym other_quads) ∙ sym (entry_quad n ws i l high))
             (rest-sum s k Standard tt many i l high));
       }
 

@@ -11,15 +11,16 @@ use Rattle.surface_definitions.specs.Lift.{projected}
 use Rattle.surface_definitions.specs.QuadEquations.{AreEquations}
 use Rattle.surface_laws.specs.LiftLaws.{IsLiftOf}
 use Rattle.surface_laws.proofs.Lifts.{one_lift}
+use Rattle.quad_laws.specs.LinkLaws.{IsCanonical}
 use Rattle.quad_laws.proofs.Lifted.{lifted_are_quads}
 use Rattle.quad_lift_laws.specs.Laws.{HasSphereAndDiscLinks}
 use Rattle.quad_lift_laws.proofs.Correspondence.{correspond}
 use Rattle.octagon_laws.specs.QuadOctagons.{quads_and_octagons, quads_for_octagons, HasQuadsForOctagons, SolvesQuadEquations, IsAdmissibleQuadOctagon}
-use Rattle.octagon_laws.specs.Laws.{IsOctagonSolution, IsCanonical, IsOfOctagonSolution, IsOneOctagonSurfaceOver}
+use Rattle.octagon_laws.specs.Laws.{IsOctagonSolution, IsOfOctagonSolution, IsOneOctagonSurfaceOver}
 use Rattle.octagon_laws.proofs.Entries.{length-quads, same_quads, standard_of, standard_is, joined, length-joined, triangle-joined, joined-entries, same_vector}
 use Rattle.octagon_laws.proofs.AsQuads.{entries_solve}
 use Rattle.octagon_laws.proofs.Clashes.{entries_decide}
-use Rattle.octagon_laws.proofs.CanonicalParts.{canonical_lift, over_solves, over_canonical, has_one_lift}
+use Rattle.octagon_laws.proofs.CanonicalParts.{canonical_as_quads, over_solves, over_canonical, has_one_lift}
 
 module _ (s : Skeleton) (k : IsSkeleton s) where
   abbrev n : ℕ
@@ -43,12 +44,12 @@ module _ (s : Skeleton) (k : IsSkeleton s) where
     )
 
     module _ (xs : List ℕ) (wide : length xs ≡ 6 * n) (lift : List ℕ) (is_lift : IsLiftOf s (quads_for_octagons n xs) lift) where
-      only_one : (other : List ℕ) → IsOctagonSolution s other → IsCanonical s other → quads_and_octagons n other ≡ xs → other ≡ joined n lift xs
+      only_one : (other : List ℕ) → IsOctagonSolution s other → IsCanonical s Octagon other → quads_and_octagons n other ≡ xs → other ≡ joined n lift xs
       only_one other solution canonical e =
           let zs : List ℕ = standard_of n other in
           let form : HasQuadsForOctagons n other (standard_of n other) = standard_is n other in
           let quads : projected n (standard_of n other) ≡ quads_for_octagons n xs = same_quads n other (standard_of n other) form ∙ ap (quads_for_octagons n) e in
-          let another : IsLiftOf s (quads_for_octagons n xs) (standard_of n other) = subst (λ qs. IsLiftOf s qs (standard_of n other)) quads (canonical_lift s k other (standard_of n other) form solution canonical) in
+          let another : IsLiftOf s (quads_for_octagons n xs) (standard_of n other) = subst (λ qs. IsLiftOf s qs (standard_of n other)) quads (canonical_as_quads s k other (standard_of n other) form solution canonical) in
           let same : standard_of n other ≡ lift = one_lift s.rows k.table s.vertices.classes s.vertices.count k.vertices (quads_for_octagons n xs) (standard_of n other) lift another is_lift in
           same_vector n other (joined n lift xs) solution.width (length-joined n lift xs)
           (λ t v lt lv. sym (form.triangles t v lt lv) ∙ ap (λ us. slice_index us (tri_column Standard t v)) same ∙ sym (triangle-joined n lift xs t v lt lv))

@@ -1,16 +1,16 @@
 -- Octagon solutions by their quads and octagons, as standard ones by their quads (Tollefson; Burton, with octagons).
-use Rattle.std.specs.Prelude.{◌≡◌, ℕ, ◌+◌, ◌*◌, ◌/◌, ◌%◌, ◌<◌, ◌↔◌, List, length, slice_index}
+use Rattle.std.specs.Prelude.{◌≡◌, ℕ, ◌+◌, ◌*◌, ◌<◌, ◌↔◌, List, length, slice_index}
 use Rattle.cone_definitions.specs.Rows.{Row as EquationRow, IsSolution}
 use Rattle.cone_definitions.specs.Surfaces.{IsAdmissible}
 use Rattle.skeleton_definitions.specs.Skeleton.{Skeleton, IsSkeleton}
 use Rattle.skeleton_definitions.specs.declared.Link.{Link}
-use Rattle.surface_definitions.specs.Coordinates.{columns, clash_list, tri_column}
+use Rattle.surface_definitions.specs.Coordinates.{columns, clash_list}
 use Rattle.surface_definitions.specs.declared.Coords.TheVariants.{Quad, Octagon}
 use Rattle.surface_definitions.specs.Equations.{matching_rows}
 use Rattle.surface_definitions.specs.QuadEquations.{AreEquations}
 use Rattle.surface_laws.specs.LiftLaws.{IsLiftOf}
 use Rattle.surface_laws.specs.PieceLaws.{IsSurface}
-use Rattle.quad_laws.specs.LinkLaws.{links_sum}
+use Rattle.quad_laws.specs.LinkLaws.{links_sum, IsCanonical}
 use Rattle.quad_laws.specs.SolutionLaws.{IsStandardSolution}
 use Rattle.quad_lift_laws.specs.Laws.{HasSphereAndDiscLinks}
 use Rattle.octagon_laws.specs.QuadOctagons.{quads_and_octagons, quads_for_octagons, HasQuadsForOctagons, SolvesQuadEquations, IsAdmissibleQuadOctagon}
@@ -35,16 +35,10 @@ abbrev pub QuadsAndOctagonsDecideAdmissibility : Type 0
 QuadsAndOctagonsDecideAdmissibility =
     (n : ℕ) (ys : List ℕ) → IsAdmissible (clash_list Octagon n) ys ↔ IsAdmissibleQuadOctagon n (quads_and_octagons n ys)
 
--- each vertex class has a member without a triangle: no vertex link can be taken away
-abbrev pub IsCanonical : Skeleton → List ℕ → Type 0
-IsCanonical s ys =
-    (c : ℕ) → c < s.vertices.count
-    → (i : ℕ) × (i < 4 * length s.rows) × (slice_index s.vertices.classes i ≡ c) × (slice_index ys (tri_column Octagon (i / 4) (i % 4)) ≡ 0)
-
 -- a canonical solution and so many of each vertex link add up to the vector
 pub record IsCanonicalWithLinks (s : Skeleton) (ys canonical : List ℕ) (times : ℕ → ℕ) : Type 0 where
   pub solves : IsOctagonSolution s canonical
-  pub is_canonical : IsCanonical s canonical
+  pub is_canonical : IsCanonical s Octagon canonical
   pub adds : (column : ℕ) → column < columns Octagon (length s.rows) → slice_index ys column ≡ slice_index canonical column + links_sum s Octagon times column
 
 -- each octagon solution is so in one way
@@ -77,9 +71,9 @@ OctagonSolutionsCorrespond =
 -- and each admissible one is that of exactly one canonical solution, which is a surface
 pub record IsOneOctagonSurfaceOver (s : Skeleton) (xs ys : List ℕ) : Type 0 where
   pub surface : IsSurface s.rows Octagon ys
-  pub is_canonical : IsCanonical s ys
+  pub is_canonical : IsCanonical s Octagon ys
   pub over : quads_and_octagons (length s.rows) ys ≡ xs
-  pub only : (other : List ℕ) → IsOctagonSolution s other → IsCanonical s other → quads_and_octagons (length s.rows) other ≡ xs → other ≡ ys
+  pub only : (other : List ℕ) → IsOctagonSolution s other → IsCanonical s Octagon other → quads_and_octagons (length s.rows) other ≡ xs → other ≡ ys
 
 abbrev pub QuadOctagonSurfacesLift : Type 0
 QuadOctagonSurfacesLift =

@@ -37,6 +37,11 @@ abbrev pub SumsAreRight : Type 0
 SumsAreRight = (columns : ℕ) (rows : List Row) (list : List (List ℕ)) (x : List ℕ) → HasRays columns rows list x →
     (limit times : ℕ) (terms : List Term) → IsSum limit list x times terms → IsSumOfRays list limit x times terms
 
+-- with a limit that is large enough each solution is such a sum
+abbrev pub SumsExist : Type 0
+SumsExist = (columns : ℕ) (rows : List Row) (list : List (List ℕ)) (x : List ℕ) → HasRays columns rows list x →
+    (limit times : ℕ) × (terms : List Term) × IsSumOfRays list limit x times terms
+
 -- what is answered of a solution: how many times it is taken, and the terms of the sum; or the turn and the column at which it gets too large
 pub data Answer : Type 0 where
   sum : ℕ → List Term → Answer

@@ -1,15 +1,16 @@
 -- Each arc is one of a piece, and the arcs round a vertex count the pieces there.
-use Rattle.std.proofs.Common.{◌≡◌, ℕ, ◌+◌, ◌-◌, ◌<◌, Bool, true, false, List, ◌∷◌, length, inl, inr, refl, sym, ap, ◌∙◌, subst, arith}
+use Rattle.std.proofs.Common.{◌≡◌, ℕ, ◌+◌, ◌-◌, ◌/◌, ◌<◌, Bool, true, false, List, ◌∷◌, length, inl, inr, refl, sym, ap, ◌∙◌, subst, arith}
 use Rattle.std.specs.Prelude.{slice_index, sum_by, if◌then◌else◌}
 use Rattle.std.proofs.lemmas.Bool.{cases_lt, lt-ltb, le-ltb}
 use Rattle.std.proofs.lemmas.List.{get_or_past}
 use Rattle.std.proofs.lemmas.List.Sums.{sum_by-cons}
 use Rattle.cone_definitions.specs.Surfaces.{IsAdmissible}
 use Rattle.table_definitions.specs.Lists.{below}
-use Rattle.surface_definitions.specs.Coordinates.{tri_column, quad_column, keeping, octagon_arcs, clash_list}
+use Rattle.surface_definitions.specs.Coordinates.{columns_each, tri_column, quad_column, keeping, octagon_arcs, clash_list}
 use Rattle.surface_definitions.specs.declared.Coords.{Coords}
 use Rattle.surface_definitions.specs.Pieces.{SurfacePiece, pieces_of, arcs_round, type_in, keeps_by_zero, further_piece, piece_of, component_vector}
 use Rattle.surface_laws.specs.MatchingLaws.{HasTriangles}
+use Rattle.surface_laws.proofs.ColumnKinds.{triangle_in, behind_in}
 use Rattle.surface_laws.proofs.MeetingArcs.{arc_at}
 use Rattle.surface_laws.proofs.FurtherArcs.{one_further, further_one}
 use Rattle.surface_laws.proofs.PieceNumbers.{piece_at}
@@ -19,7 +20,7 @@ use Rattle.surface_laws.proofs.Counting.{sum_by_same, below_sum, sum_back}
 use Rattle.table_definitions.proofs.Listed.{below-among}
 
 -- a place in a nonempty column is in range
-in_width : (xs : List ℕ) (c k : ℕ) → k < slice_index xs c → c < length xs
+pub in_width : (xs : List ℕ) (c k : ℕ) → k < slice_index xs c → c < length xs
 in_width xs c k l = elim (cases_lt c (length xs)) [
   | inl inside ↦ inside
   | inr past ↦ absurd (let z : slice_index xs c ≡ 0 = get_or_past xs c 0 past in omega arith)
@@ -102,3 +103,15 @@ module _ (coords : Coords) (n : ℕ) (xs : List ℕ) (triangles : HasTriangles c
           let tris : slice_index ys tri ≡ in_column xs components i tri = component_count xs components one_each i tri in
           let rest : slice_index ys behind ≡ in_column xs components i behind = component_count xs components one_each i behind in
           few ∙ (λ k. tris k + rest k) ∙ sym (split ∙ (λ k. low k + high k))
+
+-- the tetrahedron of an arc is that of its piece's column
+pub arc_in : (coords : Coords) (n : ℕ) (xs : List ℕ) (triangles : HasTriangles coords) (admissible : IsAdmissible (clash_list coords n) xs) (t f v k : ℕ) → t < n → f < 4 → v < 4 → (v ≡ f → ⊥)
+    → (piece_of coords xs (arc_at t f v k)).column / columns_each coords ≡ t
+arc_in coords n xs triangles admissible t f v k lt lf lv off = elim (cases_lt k (slice_index xs (tri_column coords t v))) [
+  | inl less ↦ ap (λ (p : SurfacePiece). p.column / columns_each coords) (triangle_piece coords n xs triangles admissible t f v lt lf lv off k less) ∙ triangle_in coords t v triangles lv
+  | inr more ↦ (let j : ℕ = k - slice_index xs (tri_column coords t v) in
+      let again : slice_index xs (tri_column coords t v) + j ≡ k = omega arith in
+      ap (λ i. (piece_of coords xs (arc_at t f v i)).column / columns_each coords) (sym again)
+      ∙ ap (λ (p : SurfacePiece). p.column / columns_each coords) (behind_piece coords n xs triangles admissible t f v lt lf lv off j)
+      ∙ behind_in coords xs t f v triangles lf lv off)
+]

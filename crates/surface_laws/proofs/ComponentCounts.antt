@@ -1,5 +1,5 @@
 -- What a component has in each column, counted over the pieces of that column.
-use Rattle.std.proofs.Common.{◌≡◌, ℕ, ◌<◌, ◌≤◌, cond, List, [], ◌∷◌, length, get_or, inl, inr, refl, sym, ap, ◌∙◌, arith}
+use Rattle.std.proofs.Common.{◌≡◌, ℕ, ◌+◌, ◌<◌, ◌≤◌, cond, List, [], ◌∷◌, length, get_or, inl, inr, refl, sym, ap, ◌∙◌, arith, ext_get_or}
 use Rattle.std.specs.Prelude.{◌==◌, ◌&&◌, slice_index, sum_by, count_by}
 use Rattle.std.specs.List.{slice_index_or}
 use Rattle.std.proofs.lemmas.Bool.{eq-eqb, ne_eqb, cases_lt}
@@ -103,3 +103,14 @@ components_add_up rows coords xs components count h c = elim (cases_lt c (length
         let k : ℕ = slice_index components (piece_number xs (piece_at c j)) in
         let lk : k < count = h.in_range (piece_number xs (piece_at c j)) f.in_range in
         one_term (λ i. cond (k == i) 1 0) k count (λ i apart. ap (λ b. cond b 1 0) (ne_eqb k i (λ e. apart (sym e)))) lk ∙ ap (λ b. cond b 1 0) (eq-eqb k k refl)
+
+-- one component is the whole
+pub one_is_whole : (rows : List Row) (coords : Coords) (xs components : List ℕ) (count : ℕ) → AreComponents rows coords xs components count → count ≡ 1 → component_vector xs components 0 ≡ xs
+one_is_whole rows coords xs components count numbered one = ext_get_or 0 (component_vector xs components 0) xs (component_width xs components numbered.one_each 0) (λ i l. at i)
+  where
+    at : (i : ℕ) → slice_index (component_vector xs components 0) i ≡ slice_index xs i
+    at i =
+        let first : sum_by (λ j. slice_index (component_vector xs components j) i) (0 ∷ []) ≡ slice_index (component_vector xs components 0) i + 0 = sum_by-cons (λ j. slice_index (component_vector xs components j) i) 0 [] in
+        let all : sum_by (λ j. slice_index (component_vector xs components j) i) (below count) ≡ slice_index xs i = components_add_up rows coords xs components count numbered i in
+        let same : sum_by (λ j. slice_index (component_vector xs components j) i) (below 1) ≡ slice_index xs i = ap (λ m. sum_by (λ j. slice_index (component_vector xs components j) i) (below m)) (sym one) ∙ all in
+        omega arith

@@ -1,5 +1,5 @@
 -- Sums over ranges, over made lists and over pairs.
-use Rattle.std.proofs.Common.{◌≡◌, ℕ, zero, suc, ◌+◌, ◌-◌, ◌<◌, ◌≤◌, List, [], ◌∷◌, length, get_or, map, flat_map, inl, inr, refl, sym, ap, ◌∙◌, arith}
+use Rattle.std.proofs.Common.{◌≡◌, ℕ, zero, suc, ◌+◌, ◌-◌, ◌<◌, ◌≤◌, List, [], ◌∷◌, ◌++◌, length, get_or, map, flat_map, inl, inr, refl, sym, ap, ◌∙◌, arith}
 use Rattle.std.specs.Prelude.{sum_by}
 use Rattle.std.specs.List.{range_with_len}
 use Rattle.std.proofs.lemmas.Bool.{cases_eq}
@@ -71,6 +71,21 @@ pub over_places : {A : Type 0} (G : A → ℕ) (f : ℕ → ℕ) (d : A) (ps : L
 over_places G f d ps h = range_places G f d ps 0 (λ i l. let e : 0 + i ≡ i = omega arith in ap f e ∙ h i l)
 
 -- a sum over the numbers below m + n
+-- the last term of a sum over numbers, and what each term is at most
+pub last_term : (f : ℕ → ℕ) (n : ℕ) → sum_by f (below (suc n)) ≡ sum_by f (below n) + f n
+last_term f n =
+    let e : sum_by f (below n ++ n ∷ []) ≡ sum_by f (below n) + sum_by f (n ∷ []) = sum_by-append f (below n) (n ∷ []) in
+    let g : sum_by f (n ∷ []) ≡ f n + sum_by f [] = sum_by-cons f n [] in
+    let z : sum_by f [] ≡ 0 = refl in
+    ap (sum_by f) (sym (below-push n)) ∙ omega arith
+
+pub term_most : (f : ℕ → ℕ) (n i : ℕ) → i < n → f i ≤ sum_by f (below n)
+term_most f zero i l = absurd (omega arith)
+term_most f (suc n) i l = elim (cases_eq i n) [
+  | inl e ↦ (let same : f i ≡ f n = ap f e in omega (arith, last_term f n))
+  | inr apart ↦ (let less : f i ≤ sum_by f (below n) = term_most f n i (omega arith) in omega (arith, last_term f n))
+]
+
 pub below_sum : (f : ℕ → ℕ) (m n : ℕ) → sum_by f (below (m + n)) ≡ sum_by f (below m) + sum_by (λ j. f (m + j)) (below n)
 below_sum f m zero = let e : m + 0 ≡ m = omega arith in ap (λ k. sum_by f (below k)) e ∙ (let z : sum_by f (below m) ≡ sum_by f (below m) + 0 = omega arith in z)
 below_sum f m (suc n) =

@@ -1,20 +1,17 @@
 -- The arcs behind the triangles are those of one column: of the quads and octagons with an arc there, one at most is nonzero.
 use Rattle.std.proofs.Common.{◌≡◌, ℕ, zero, suc, ◌+◌, ◌*◌, ◌/◌, ◌%◌, ◌<◌, ◌≤◌, Bool, true, false, not, cond, List, [], ◌∷◌, map, filter, ◌⊎◌, inl, inr, refl, sym, ap, ◌∙◌, arith}
-use Rattle.std.specs.Prelude.{◌==◌, ◌&&◌, nat_lt, slice_index, sum_by, ⊤}
+use Rattle.std.specs.Prelude.{◌==◌, nat_lt, slice_index, sum_by, ⊤}
 use Rattle.std.specs.List.{AllByRecursion, position_or_len, slice_index_or}
-use Rattle.std.proofs.lemmas.Bool.{ltb-true, ltb-false, lt-ltb, eq-eqb, le-leb, and_from, or_right}
+use Rattle.std.proofs.lemmas.Bool.{ltb-true, ltb-false}
 use Rattle.std.proofs.lemmas.List.Sums.{sum_by-cons}
-use Rattle.std.proofs.lemmas.List.Elements.{recursion_from_All}
 use Rattle.cone_definitions.specs.Surfaces.{IsAdmissible}
-use Rattle.table_definitions.specs.Lists.{below, pairs_of}
-use Rattle.table_definitions.proofs.TableLaws.{Among-below, Among-pairs}
-use Rattle.surface_definitions.specs.Coordinates.{quad_column, oct_column, keeping, three, octagon_arcs, is_octagon, is_quad_or_octagon, clash_test, clash_list}
+use Rattle.surface_definitions.specs.Coordinates.{quad_column, oct_column, keeping, three, octagon_arcs, clash_list}
 use Rattle.surface_definitions.specs.declared.Coords.{Coords}
 use Rattle.surface_definitions.specs.declared.Coords.TheVariants.{Standard, Quad, Octagon}
 use Rattle.surface_laws.specs.MatchingLaws.{HasTriangles}
 use Rattle.surface_laws.specs.PieceLaws.{first_nonzero}
+use Rattle.surface_laws.proofs.Clashes.{clash_zero}
 use Rattle.surface_laws.proofs.Turns.{keeping_below}
-use Rattle.table_definitions.proofs.Listed.{Among-filter, all_at}
 
 abbrev IsZeroIn : List ℕ → ℕ → ℕ → Type 0
 IsZeroIn xs a b = (slice_index xs a ≡ 0) ⊎ (slice_index xs b ≡ 0)
@@ -56,25 +53,15 @@ module _ (xs ys : List ℕ) (inside : (c : ℕ) → slice_index xs c ≡ 0 → s
           whole ∙ more ∙ ap (λ k. slice_index ys (slice_index_or (o ∷ os) k q)) (sym next)
           ∙ ap (λ b. slice_index ys (slice_index_or (o ∷ os) (cond (not b) (1 + place) 0) q)) (sym e)
 
--- two quads or octagons of one tetrahedron clash
 module _ (n : ℕ) (xs : List ℕ) (admissible : IsAdmissible (clash_list Octagon n) xs) where
-  clash_zero : (a b : ℕ) → a < b → b < 10 * n → a / 10 ≡ b / 10 → 4 ≤ a % 10 → 4 ≤ b % 10 → IsZeroIn xs a b
-  unfolding clash_list
-  clash_zero a b l lb t fa fb =
-      all_at (λ (p : ℕ × ℕ). IsZeroIn xs p.0 p.1) (clash_list Octagon n) (a, b) (recursion_from_All (λ (p : ℕ × ℕ). IsZeroIn xs p.0 p.1) (clash_list Octagon n) admissible)
-      (Among-filter (λ (p : ℕ × ℕ). nat_lt p.0 p.1 && clash_test Octagon p.0 p.1) (a, b) (pairs_of (below (10 * n)) (below (10 * n)))
-      (Among-pairs a b (below (10 * n)) (below (10 * n)) (Among-below a (10 * n) (omega arith)) (Among-below b (10 * n) lb))
-      (and_from (nat_lt a b) (clash_test Octagon a b) (lt-ltb a b l)
-      (or_right (is_octagon Octagon a && is_octagon Octagon b) (((a / 10 == b / 10) && is_quad_or_octagon Octagon a) && is_quad_or_octagon Octagon b)
-      (and_from ((a / 10 == b / 10) && is_quad_or_octagon Octagon a) (is_quad_or_octagon Octagon b)
-      (and_from (a / 10 == b / 10) (is_quad_or_octagon Octagon a) (eq-eqb (a / 10) (b / 10) t) (le-leb 4 (a % 10) fa))
-      (le-leb 4 (b % 10) fb)))))
+  one_zero : (a b : ℕ) → a < b → b < 10 * n → a / 10 ≡ b / 10 → 4 ≤ a % 10 → 4 ≤ b % 10 → IsZeroIn xs a b
+  one_zero a b l lb t fa fb = clash_zero Octagon n xs admissible a b l lb t fa fb
 
   two : (t i j : ℕ) → t < n → i < 3 → j < 3 → IsZeroIn xs (quad_column Octagon t i) (oct_column Octagon t j)
-  two t i j lt li lj = clash_zero (quad_column Octagon t i) (oct_column Octagon t j) (omega arith) (omega arith) (omega arith) (omega arith) (omega arith)
+  two t i j lt li lj = one_zero (quad_column Octagon t i) (oct_column Octagon t j) (omega arith) (omega arith) (omega arith) (omega arith) (omega arith)
 
   both : (t i j : ℕ) → t < n → i < j → j < 3 → IsZeroIn xs (oct_column Octagon t i) (oct_column Octagon t j)
-  both t i j lt li lj = clash_zero (oct_column Octagon t i) (oct_column Octagon t j) (omega arith) (omega arith) (omega arith) (omega arith) (omega arith)
+  both t i j lt li lj = one_zero (oct_column Octagon t i) (oct_column Octagon t j) (omega arith) (omega arith) (omega arith) (omega arith) (omega arith)
 
   most_one : (t k : ℕ) → t < n → k < 3 → MostOne xs (quad_column Octagon t k ∷ map (oct_column Octagon t) (filter (λ j. not (j == k)) three))
   most_one t zero lt lk = ((two t 0 1 lt (omega arith) (omega arith), (two t 0 2 lt (omega arith) (omega arith), tt)), ((both t 1 2 lt (omega arith) (omega arith), tt), (tt, tt)))

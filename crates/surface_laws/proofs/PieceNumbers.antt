@@ -10,7 +10,7 @@ use Rattle.table_definitions.proofs.TableLaws.{Among, Among-map, Among-below}
 use Rattle.surface_definitions.specs.Pieces.{SurfacePiece, pieces_of, piece_number}
 use Rattle.surface_laws.specs.PieceLaws.{IsPieceOf}
 use Rattle.table_definitions.proofs.DistinctLists.{AreApart, apart_append, map_apart, apart_below}
-use Rattle.table_definitions.proofs.Listed.{contains_among, among_contains, Among-flat_map, map-among, flat_map-among, range-among}
+use Rattle.table_definitions.proofs.Listed.{contains_among, among_contains, Among-flat_map, map-among, flat_map-among, range-among, below-among}
 
 abbrev pub piece_at : ℕ → ℕ → SurfacePiece
 piece_at c j = record { column = c; number = j }
@@ -83,3 +83,11 @@ module _ (xs : List ℕ) where
         in_range = subst (λ k. k < length (pieces_of xs)) (sym number) c.1;
         there = ap (λ k. slice_index_or (pieces_of xs) k no_piece) number ∙ get_or_default (pieces_of xs) c.0 no_piece p c.1 ∙ c.2;
       }
+
+-- the pieces in the list of all are those of the vector
+pub listed_piece : (xs : List ℕ) (i : ℕ) (d : SurfacePiece) → i < length (pieces_of xs) → IsPieceOf xs (slice_index_or (pieces_of xs) i d)
+listed_piece xs i d l =
+    let q : SurfacePiece = slice_index_or (pieces_of xs) i d in
+    let m : (c : ℕ) × Among c (below (length xs)) × Among q (of_column xs c) = flat_map-among (of_column xs) q (below (length xs)) (among_contains q (pieces_of xs) (Contains-get_or (pieces_of xs) i d l)) in
+    let n : (j : ℕ) × Among j (below (slice_index xs m.0)) × (q ≡ piece_at m.0 j) = map-among (piece_at m.0) q (below (slice_index xs m.0)) m.2 in
+    subst (IsPieceOf xs) (sym n.2) (record { column = below-among m.0 (length xs) m.1; number = below-among n.0 (slice_index xs m.0) n.1 })

@@ -1,5 +1,5 @@
 -- The solutions of the matching rows are the vectors at which as many arcs stand on both sides of each gluing.
-use Rattle.std.proofs.Common.{◌≡◌, ℕ, ◌<◌, true, not, List, length, map, filter, inl, inr, Some, Contains, arith}
+use Rattle.std.proofs.Common.{◌≡◌, ℕ, ◌<◌, true, not, List, length, map, filter, Some, Contains, arith}
 use Rattle.std.specs.Prelude.{◌==◌, ⊤}
 use Rattle.std.specs.List.{AllByRecursion}
 use Rattle.std.proofs.lemmas.Bool.{eqb-false, not-true}
@@ -15,16 +15,11 @@ use Rattle.surface_definitions.specs.declared.Coords.TheVariants.{Standard, Quad
 use Rattle.surface_definitions.specs.Equations.{Equation, Holds, glued_pairs, matching, matching_equations, matching_rows, row_of}
 use Rattle.surface_definitions.proofs.EquationLaws.{row_is_zero, zero_row}
 use Rattle.surface_laws.specs.MatchingLaws.{HasTriangles}
+use Rattle.surface_laws.proofs.ColumnKinds.{among_three}
 use Rattle.surface_laws.proofs.Glued.{IsGlued, glued_is}
 use Rattle.surface_laws.proofs.Turns.{keeping_below}
 use Rattle.surface_laws.proofs.Matched.{pair_glued, matched}
 use Rattle.table_definitions.proofs.Listed.{contains_among, among_contains, filter-among, all_mapped, all_flat, all_at, Among-flat_map}
-
-among_three : (k : ℕ) → Among k three → k < 3
-among_three k (inl e) = omega arith
-among_three k (inr (inl e)) = omega arith
-among_three k (inr (inr (inl e))) = omega arith
-among_three k (inr (inr (inr h))) = absurd h
 
 pub other_is : (f v : ℕ) → Among v (others f) → (v < 4) × (v ≡ f → ⊥)
 other_is f v h =

@@ -1,56 +1,21 @@
 -- Round a vertex of a face a piece has at most one arc: that of its number, or that of the place from which its number is counted.
-use Rattle.std.proofs.Common.{◌≡◌, ℕ, zero, suc, ◌+◌, ◌-◌, ◌/◌, ◌%◌, ◌<◌, ◌≤◌, Bool, true, false, not, cond, List, [], ◌∷◌, length, map, filter, inl, inr, refl, sym, ap, ◌∙◌, subst, arith}
-use Rattle.std.specs.Prelude.{◌==◌, nat_lt, slice_index}
-use Rattle.std.specs.List.{AllByRecursion, position_or_len, slice_index_or}
+use Rattle.std.proofs.Common.{◌≡◌, ℕ, ◌+◌, ◌-◌, ◌/◌, ◌%◌, ◌<◌, ◌≤◌, Bool, List, length, inl, inr, refl, sym, ap, ◌∙◌, subst, arith}
+use Rattle.std.specs.Prelude.{slice_index}
 use Rattle.std.proofs.lemmas.Bool.{cases_lt}
 use Rattle.cone_definitions.specs.Surfaces.{IsAdmissible}
-use Rattle.surface_definitions.specs.Coordinates.{columns_each, tri_column, quad_column, oct_column, keeping, three, octagon_arcs, clash_list}
+use Rattle.surface_definitions.specs.Coordinates.{columns_each, tri_column, quad_column, keeping, octagon_arcs, clash_list}
 use Rattle.surface_definitions.specs.declared.Coords.{Coords}
 use Rattle.surface_definitions.specs.declared.Coords.TheVariants.{Standard, Quad, Octagon}
 use Rattle.surface_definitions.specs.Pieces.{SurfacePiece, Arc, arcs_round, type_in, keeps_by_zero, piece_of}
 use Rattle.surface_laws.specs.MatchingLaws.{HasTriangles}
 use Rattle.surface_laws.proofs.MeetingArcs.{arc_at}
-use Rattle.surface_laws.proofs.Turns.{keeping_below}
+use Rattle.surface_laws.proofs.ColumnKinds.{high_behind, low_triangle}
 use Rattle.surface_laws.proofs.ArcPieces.{from_end, from_end_below, from_end_twice, arcs_are, triangle_piece, behind_piece}
 use Rattle.surface_laws.proofs.PieceNumbers.{piece_at}
 use Rattle.table_definitions.specs.Table.{Row}
 use Rattle.surface_definitions.specs.Coordinates.{columns}
 use Rattle.surface_laws.specs.PieceLaws.{IsSurface, first_nonzero}
 use Rattle.surface_pieces.specs.Arcs.{IsArcOf, IsOnlyArcOf}
-
--- what is so of all the columns is so of the first nonzero one
-first_is : (P : ℕ → Type 0) (xs os : List ℕ) (q : ℕ) → P q → AllByRecursion P os → P (first_nonzero xs os q)
-first_is P xs [] q h a = h
-first_is P xs (o ∷ os) q h a = by_test (nat_lt 0 (slice_index xs o)) (first_is P xs os q h a.1)
-  where
-    place : ℕ
-    place = position_or_len (λ c. nat_lt 0 (slice_index xs c)) os
-
-    by_test : (b : Bool) → P (first_nonzero xs os q) → P (slice_index_or (o ∷ os) (cond (not b) (1 + place) 0) q)
-    by_test true more = a.0
-    by_test false more = let next : suc place ≡ 1 + place = omega arith in subst (λ k. P (slice_index_or (o ∷ os) k q)) next more
-
--- quads and octagons stand behind the triangles of a tetrahedron
-abbrev IsHigh : ℕ → ℕ → Type 0
-IsHigh each c = 4 ≤ c % each
-
-high_octagons : (t k : ℕ) → k < 3 → AllByRecursion (IsHigh 10) (map (oct_column Octagon t) (filter (λ j. not (j == k)) three))
-high_octagons t zero l = (omega arith, (omega arith, tt))
-high_octagons t (suc zero) l = (omega arith, (omega arith, tt))
-high_octagons t (suc (suc zero)) l = (omega arith, (omega arith, tt))
-high_octagons t (suc (suc (suc k))) l = absurd (omega arith)
-
-high_behind : (coords : Coords) (xs : List ℕ) (t f v : ℕ) → HasTriangles coords → f < 4 → v < 4 → (v ≡ f → ⊥) → IsHigh (columns_each coords) (first_nonzero xs (octagon_arcs coords t f v) (quad_column coords t (keeping v f)))
-high_behind Standard xs t f v h lf lv off = let l : keeping v f < 3 = keeping_below v f lv lf off in omega arith
-high_behind Quad xs t f v h lf lv off = absurd h
-high_behind Octagon xs t f v h lf lv off =
-    let l : keeping v f < 3 = keeping_below v f lv lf off in
-    first_is (IsHigh 10) xs (octagon_arcs Octagon t f v) (quad_column Octagon t (keeping v f)) (omega arith) (high_octagons t (keeping v f) l)
-
-low_triangle : (coords : Coords) (t v : ℕ) → HasTriangles coords → v < 4 → tri_column coords t v % columns_each coords < 4
-low_triangle Standard t v h lv = omega arith
-low_triangle Quad t v h lv = absurd h
-low_triangle Octagon t v h lv = omega arith
 
 module _ (coords : Coords) (n : ℕ) (xs : List ℕ) (triangles : HasTriangles coords) (admissible : IsAdmissible (clash_list coords n) xs) (t f v : ℕ) (lt : t < n) (lf : f < 4) (lv : v < 4) (off : v ≡ f → ⊥) where
   abbrev pub tri : ℕ
@@ -141,37 +106,3 @@ tet_in_range rows coords xs c t s l e =
     let m : c < columns coords (length rows) = subst (λ k. c < k) w l in
     let b : c / columns_each coords < length rows = tet_below coords (length rows) c s.triangles m in
     omega arith
-
--- the columns of the arcs round a vertex are those of the tetrahedron
-abbrev IsIn : ℕ → ℕ → ℕ → Type 0
-IsIn each t c = c / each ≡ t
-
-octagons_in : (t k : ℕ) → k < 3 → AllByRecursion (IsIn 10 t) (map (oct_column Octagon t) (filter (λ j. not (j == k)) three))
-octagons_in t zero l = (omega arith, (omega arith, tt))
-octagons_in t (suc zero) l = (omega arith, (omega arith, tt))
-octagons_in t (suc (suc zero)) l = (omega arith, (omega arith, tt))
-octagons_in t (suc (suc (suc k))) l = absurd (omega arith)
-
-behind_in : (coords : Coords) (xs : List ℕ) (t f v : ℕ) → HasTriangles coords → f < 4 → v < 4 → (v ≡ f → ⊥) → IsIn (columns_each coords) t (first_nonzero xs (octagon_arcs coords t f v) (quad_column coords t (keeping v f)))
-behind_in Standard xs t f v h lf lv off = let l : keeping v f < 3 = keeping_below v f lv lf off in omega arith
-behind_in Quad xs t f v h lf lv off = absurd h
-behind_in Octagon xs t f v h lf lv off =
-    let l : keeping v f < 3 = keeping_below v f lv lf off in
-    first_is (IsIn 10 t) xs (octagon_arcs Octagon t f v) (quad_column Octagon t (keeping v f)) (omega arith) (octagons_in t (keeping v f) l)
-
-triangle_in : (coords : Coords) (t v : ℕ) → HasTriangles coords → v < 4 → IsIn (columns_each coords) t (tri_column coords t v)
-triangle_in Standard t v h lv = omega arith
-triangle_in Quad t v h lv = absurd h
-triangle_in Octagon t v h lv = omega arith
-
--- the tetrahedron of an arc is that of its piece's column
-pub arc_in : (coords : Coords) (n : ℕ) (xs : List ℕ) (triangles : HasTriangles coords) (admissible : IsAdmissible (clash_list coords n) xs) (t f v k : ℕ) → t < n → f < 4 → v < 4 → (v ≡ f → ⊥)
-    → (piece_of coords xs (arc_at t f v k)).column / columns_each coords ≡ t
-arc_in coords n xs triangles admissible t f v k lt lf lv off = elim (cases_lt k (slice_index xs (tri_column coords t v))) [
-  | inl less ↦ ap (λ (p : SurfacePiece). p.column / columns_each coords) (triangle_piece coords n xs triangles admissible t f v lt lf lv off k less) ∙ triangle_in coords t v triangles lv
-  | inr more ↦ (let j : ℕ = k - slice_index xs (tri_column coords t v) in
-      let again : slice_index xs (tri_column coords t v) + j ≡ k = omega arith in
-      ap (λ i. (piece_of coords xs (arc_at t f v i)).column / columns_each coords) (sym again)
-      ∙ ap (λ (p : SurfacePiece). p.column / columns_each coords) (behind_piece coords n xs triangles admissible t f v lt lf lv off j)
-      ∙ behind_in coords xs t f v triangles lf lv off)
-]

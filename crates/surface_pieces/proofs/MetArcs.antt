@@ -20,7 +20,7 @@ use Rattle.surface_pieces.specs.declared.steps.SearchKind.TheVariants.{Pieces, S
 use Rattle.surface_pieces.specs.Searches.{stays_at, number_with, LeadsAt}
 use Rattle.surface_pieces.specs.Arcs.{IsArcOf, IsOnlyArcOf, HasNoArc}
 use Rattle.surface_pieces.specs.Meetings.{IsInside, IsMeetingAt, HasNoMeeting}
-use Rattle.surface_pieces.proofs.ArcsOfPieces.{arc_in}
+use Rattle.surface_laws.proofs.ArcPieces.{arc_in}
 
 wide : (coords : Coords) (t n : ℕ) → HasTriangles coords → t < n → columns coords (t + 1) < columns coords n + 1
 wide Standard t n h l = omega arith

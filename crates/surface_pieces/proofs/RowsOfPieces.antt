@@ -1,17 +1,15 @@
 -- Rows that list what pieces are joined to.
-use Rattle.std.proofs.Common.{◌≡◌, ℕ, suc, ◌+◌, ◌*◌, ◌/◌, ◌%◌, ◌<◌, ◌≤◌, inl, inr, List, [], ◌∷◌, length, Option, Some, None, IfSome, IfNone, set, slice_index, ◌++◌, sym, ap, ◌∙◌, subst, arith}
+use Rattle.std.proofs.Common.{◌≡◌, ℕ, suc, ◌+◌, ◌*◌, ◌/◌, ◌%◌, ◌<◌, ◌≤◌, inl, inr, List, [], ◌∷◌, length, Option, Some, None, IfSome, IfNone, set, ◌++◌, sym, ap, ◌∙◌, subst, arith}
 use Rattle.std.specs.List.{slice_index_or}
 use Rattle.std.proofs.lemmas.Bool.{cases_eq}
 use Rattle.std.proofs.lemmas.List.{length-set, get_or-set_same, get_or-set_other, get_or_append_left, get_or_push, get_or_default}
-use Rattle.std.proofs.lemmas.List.Elements.{Contains-get_or}
-use Rattle.table_definitions.specs.Lists.{below}
 use Rattle.table_definitions.specs.Table.{Row}
 use Rattle.table_definitions.proofs.TableLaws.{Among}
 use Rattle.surface_definitions.specs.declared.Coords.{Coords}
 use Rattle.surface_definitions.specs.Pieces.{SurfacePiece, pieces_of}
 use Rattle.surface_laws.specs.PieceLaws.{IsSurface, IsPieceOf}
-use Rattle.table_definitions.proofs.Listed.{among_contains, flat_map-among, map-among, below-among}
-use Rattle.surface_laws.proofs.PieceNumbers.{piece_at, no_piece, of_column}
+use Rattle.table_definitions.proofs.Listed.{among_contains}
+use Rattle.surface_laws.proofs.PieceNumbers.{no_piece, listed_piece}
 use Rattle.walk_laws.specs.Joined.{present}
 use Rattle.walk_laws.proofs.Rows.{present_contains}
 use Rattle.surface_pieces.specs.declared.steps.SearchKind.{SearchKind}
@@ -71,14 +69,6 @@ module _ (kind : SearchKind) (rows : List Row) (coords : Coords) (xs : List ℕ)
         let b : (d.arc).vertex ≡ slot_of % 4 = omega (arith, i.a_vertex) in
         present_contains row slot_of m (u.all slot_of m (omega (arith, i.a_vertex, i.a_face)) (d, a, b)))),
   )
-
--- the pieces in the list of all are those of the vector
-pub listed_piece : (xs : List ℕ) (i : ℕ) (d : SurfacePiece) → i < length (pieces_of xs) → IsPieceOf xs (slice_index_or (pieces_of xs) i d)
-listed_piece xs i d l =
-    let q : SurfacePiece = slice_index_or (pieces_of xs) i d in
-    let m : (c : ℕ) × Among c (below (length xs)) × Among q (of_column xs c) = flat_map-among (of_column xs) q (below (length xs)) (among_contains q (pieces_of xs) (Contains-get_or (pieces_of xs) i d l)) in
-    let n : (j : ℕ) × Among j (below (slice_index xs m.0)) × (q ≡ piece_at m.0 j) = map-among (piece_at m.0) q (below (slice_index xs m.0)) m.2 in
-    subst (IsPieceOf xs) (sym n.2) (record { column = below-among m.0 (length xs) m.1; number = below-among n.0 (slice_index xs m.0) n.1 })
 
 -- one row more
 pub rows_push : (P : ℕ → List (Option ℕ) → Type 0) (listed more : List (List (Option ℕ))) (r : List (Option ℕ)) (n : ℕ) → length listed ≡ n → ((i : ℕ) → i < n → P i (slice_index_or listed i [])) → P n r → more ≡ listed ++ r ∷ []

@@ -1,9 +1,8 @@
 -- No sum of a component of a vector is large where none of the vector's own is.
 use Rattle.std.proofs.Common.{◌≡◌, ℕ, zero, suc, ◌+◌, ◌<◌, ◌≤◌, Bool, true, false, List, [], ◌∷◌, length, Some, None, Option, refl, ap, ◌∙◌, arith}
-use Rattle.std.specs.Prelude.{sum, sum_by, nat_lt, if◌then◌else◌, slice_index}
+use Rattle.std.specs.Prelude.{sum, nat_lt, if◌then◌else◌, slice_index}
 use Rattle.std.specs.List.{AllZip, slice_index_or}
 use Rattle.std.proofs.lemmas.Bool.{ltb-false}
-use Rattle.std.proofs.lemmas.List.Sums.{sum_by_more_le}
 use Rattle.std.proofs.lemmas.List.FromFn.{length-range_with_len, get_or-range_with_len}
 use Rattle.text_definitions.specs.Written.{limit}
 use Rattle.table_definitions.specs.Lists.{below}
@@ -19,6 +18,7 @@ use Rattle.vector_definitions.specs.declared.SurfaceSum.TheVariants.{Points, Arc
 use Rattle.surface_laws.specs.CharacteristicLaws.{ComponentSumsAre}
 use Rattle.surface_laws.proofs.ComponentSums.{component_sums}
 use Rattle.surface_laws.proofs.ComponentCounts.{component_width}
+use Rattle.surface_laws.proofs.Counting.{term_most}
 use Rattle.surface_properties.proofs.LargeSums.{none_large}
 use Rattle.surface_pieces.specs.Told.{no_component}
 use Rattle.vector_commands.specs.Describing.{AreSmall}
@@ -41,14 +41,6 @@ within p a q e = go (nat_lt limit p) (nat_lt limit a) (nat_lt limit (p + q)) ref
     go false false true ex ey ez e = absurd (some_none PointsAndPieces e)
     go false false false ex ey ez e = record { points = ltb-false limit p ex; arcs = ltb-false limit a ey; both = ltb-false limit (p + q) ez }
 
--- a term is at most the sum
-term_low : (f : ℕ → ℕ) (n i : ℕ) → i < n → f i ≤ sum_by f (below n)
-term_low f n i l =
-    let inside : i < length (below n) = omega (arith, length-range_with_len 0 n) in
-    let at : slice_index (below n) i ≡ i = get_or-range_with_len 0 n i 0 l ∙ omega arith in
-    let term : f (slice_index (below n) i) ≡ f i = ap f at in
-    omega (arith, sum_by_more_le f (below n) i 0 inside)
-
 zip_at : {A B : Type 0} (R : A → B → Type 0) (xs : List A) (ys : List B) (i : ℕ) (d : A) (e : B) → AllZip R xs ys → i < length ys → (i < length xs) × R (slice_index_or xs i d) (slice_index_or ys i e)
 zip_at R [] [] i d e h l = absurd (omega arith)
 zip_at R [] (y ∷ ys) i d e h l = absurd h
@@ -61,9 +53,9 @@ small_components s coords xs listed width none h = record {
   width = λ i l. ap (λ (ys : List ℕ). length ys) (is i l) ∙ component_width xs h.classes h.numbered.one_each i ∙ width;
   small = λ i l.
       let low : i < h.count = in_count i l in
-      let p = term_low (λ j. points coords (component_vector xs h.classes j) s.edges.classes s.edges.count) h.count i low in
-      let a = term_low (λ j. arcs s.rows coords (component_vector xs h.classes j)) h.count i low in
-      let q = term_low (λ j. sum (component_vector xs h.classes j)) h.count i low in
+      let p = term_most (λ j. points coords (component_vector xs h.classes j) s.edges.classes s.edges.count) h.count i low in
+      let a = term_most (λ j. arcs s.rows coords (component_vector xs h.classes j)) h.count i low in
+      let q = term_most (λ j. sum (component_vector xs h.classes j)) h.count i low in
       let wp = whole.points in
       let wa = whole.arcs in
       let wb = whole.both in

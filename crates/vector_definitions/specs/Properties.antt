@@ -1,5 +1,5 @@
 -- All properties of a vector at once, or the first sum that is large. Coordinates are standard or octagons.
-use Rattle.std.specs.Prelude.{◌≡◌, ℕ, ◌+◌, List, Option, Some, None, Result, Ok, Err, sum, nat_lt, if◌then◌else◌}
+use Rattle.std.specs.Prelude.{◌≡◌, ℕ, ◌+◌, ℤ, List, Option, Some, None, Result, Ok, Err, sum, nat_lt, if◌then◌else◌}
 use Rattle.surface_definitions.specs.declared.Coords.{Coords}
 use Rattle.surface_definitions.specs.Characteristic.{points as points_of, arcs as arcs_of, euler as euler_of, is_linking, meets_boundary}
 use Rattle.skeleton_definitions.specs.Skeleton.{Skeleton}
@@ -8,6 +8,10 @@ use Rattle.vector_definitions.specs.declared.SurfaceSum.{SurfaceSum}
 use Rattle.vector_definitions.specs.declared.SurfaceSum.TheVariants.{Points, Arcs, PointsAndPieces}
 use Rattle.vector_definitions.specs.declared.PropertyFault.{PropertyFault}
 use Rattle.vector_definitions.specs.declared.PropertyFault.TheVariants.{Large}
+
+-- the Euler characteristic of a vector of the table
+abbrev pub characteristic : Skeleton → Coords → List ℕ → ℤ
+characteristic s coords xs = euler_of (points_of coords xs s.edges.classes s.edges.count) (arcs_of s.rows coords xs) (sum xs)
 
 -- the properties of a vector of the table
 pub record AreProperties (s : Skeleton) (coords : Coords) (xs : List ℕ) (p : Properties) : Type 0 where

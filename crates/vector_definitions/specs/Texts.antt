@@ -1,5 +1,5 @@
 -- What is written of the vectors of a document, and the line for one that is refused.
-use Rattle.std.specs.Prelude.{ℕ, Bool, true, false, ℤ, List, ◌++◌, length, Err, codes, decimal, sum}
+use Rattle.std.specs.Prelude.{ℕ, Bool, true, false, List, ◌++◌, length, Err, codes, decimal, sum}
 use Rattle.std.specs.Fmt.{signed_decimal}
 use Rattle.std.specs.List.{flat_map}
 use Rattle.cone_text_definitions.specs.VectorText.{vector_text}
@@ -11,6 +11,7 @@ use Rattle.text_definitions.specs.Written.{line, yes_or_no}
 use Rattle.vector_definitions.specs.declared.Properties.{Properties}
 use Rattle.vector_definitions.specs.declared.SurfaceSum.{SurfaceSum}
 use Rattle.vector_definitions.specs.declared.SurfaceSum.TheVariants.{Points, Arcs, PointsAndPieces}
+use Rattle.vector_definitions.specs.Properties.{characteristic}
 use Rattle.vector_definitions.specs.Components.{Component}
 use Rattle.vector_definitions.specs.Answers.{Description}
 use Rattle.vector_definitions.specs.declared.Refusal.{Refusal}
@@ -19,10 +20,6 @@ use Rattle.vector_definitions.specs.declared.Refusal.TheVariants.{Unfit, LargeSu
 abbrev pub sides_word : Bool → List ℕ
 sides_word true = codes "two"
 sides_word false = codes "one"
-
--- the Euler characteristic of a vector
-abbrev pub characteristic : Skeleton → Coords → List ℕ → ℤ
-characteristic s coords xs = euler (points coords xs s.edges.classes s.edges.count) (arcs s.rows coords xs) (sum xs)
 
 -- the line of a vector's properties, with the number of its components
 abbrev pub properties_line : Properties → ℕ → List ℕ

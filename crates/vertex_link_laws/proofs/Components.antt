@@ -1,10 +1,8 @@
 -- A vertex link is one component: chains of gluings carry its triangles to one another.
-use Rattle.std.proofs.Common.{◌≡◌, ℕ, ◌+◌, ◌*◌, ◌/◌, ◌%◌, ◌<◌, List, [], ◌∷◌, ◌++◌, length, Some, inl, inr, refl, sym, ap, ◌∙◌, subst, subst₂, arith, ext_get_or}
-use Rattle.std.specs.Prelude.{slice_index, sum_by}
+use Rattle.std.proofs.Common.{◌≡◌, ℕ, ◌+◌, ◌*◌, ◌/◌, ◌%◌, ◌<◌, List, [], ◌∷◌, ◌++◌, length, Some, inl, inr, refl, sym, ap, ◌∙◌, subst, subst₂, arith}
+use Rattle.std.specs.Prelude.{slice_index}
 use Rattle.std.specs.List.{slice_index_or}
 use Rattle.std.proofs.lemmas.Bool.{cases_lt}
-use Rattle.std.proofs.lemmas.List.Sums.{sum_by-cons}
-use Rattle.table_definitions.specs.Lists.{below}
 use Rattle.table_definitions.specs.Permutation.{image}
 use Rattle.table_definitions.specs.Places.{Place, across, IsJoined, SameVertex}
 use Rattle.table_definitions.proofs.ChainLaws.{kept_along}
@@ -15,7 +13,7 @@ use Rattle.skeleton_definitions.specs.Skeleton.{Skeleton, IsSkeleton}
 use Rattle.surface_definitions.specs.Pieces.{SurfacePiece, Arc, pieces_of, piece_number, ArcsLead, SamePiece, AreComponents, component_vector}
 use Rattle.surface_definitions.specs.declared.Coords.{Coords}
 use Rattle.surface_laws.specs.MatchingLaws.{HasTriangles}
-use Rattle.surface_laws.proofs.ComponentCounts.{component_width, components_add_up}
+use Rattle.surface_laws.proofs.ComponentCounts.{one_is_whole}
 use Rattle.surface_laws.proofs.Glued.{IsGlued, glued_is}
 use Rattle.surface_laws.proofs.PieceChains.{leads_further}
 use Rattle.surface_laws.proofs.PieceNumbers.{no_piece, IsFound, piece_found}
@@ -113,11 +111,4 @@ module _ (s : Skeleton) (k : IsSkeleton s) (c : ℕ) (coords : Coords) (h : HasT
 
     -- so it is the whole
     pub whole_vector : component_vector (link_of s coords c) components 0 ≡ link_of s coords c
-    whole_vector = ext_get_or 0 (component_vector xs components 0) xs (component_width xs components numbered.one_each 0) (λ i l. at i)
-      where
-        at : (i : ℕ) → slice_index (component_vector xs components 0) i ≡ slice_index xs i
-        at i =
-            let one : sum_by (λ j. slice_index (component_vector xs components j) i) (0 ∷ []) ≡ slice_index (component_vector xs components 0) i + 0 = sum_by-cons (λ j. slice_index (component_vector xs components j) i) 0 [] in
-            let all : sum_by (λ j. slice_index (component_vector xs components j) i) (below count) ≡ slice_index xs i = components_add_up s.rows coords xs components count numbered i in
-            let first : sum_by (λ j. slice_index (component_vector xs components j) i) (below 1) ≡ slice_index xs i = ap (λ m. sum_by (λ j. slice_index (component_vector xs components j) i) (below m)) (sym one_component) ∙ all in
-            omega arith
+    whole_vector = one_is_whole s.rows coords (link_of s coords c) components count numbered one_component

@@ -14,25 +14,20 @@ use Rattle.skeleton_definitions.specs.Skeleton.{Skeleton, IsSkeleton}
 use Rattle.surface_definitions.specs.Coordinates.{columns, tri_column}
 use Rattle.surface_definitions.specs.Pieces.{SurfacePiece, Arc, pieces_of, piece_of, arcs_round, arc_across, is_triangle_arc, triangles_round, looks_positive, keeps_by_zero, type_in, further_column, further_piece, Meets, keeps_sides}
 use Rattle.surface_definitions.specs.declared.Coords.{Coords}
-use Rattle.surface_definitions.specs.declared.Coords.TheVariants.{Standard, Quad, Octagon}
 use Rattle.surface_laws.specs.MatchingLaws.{HasTriangles}
 use Rattle.surface_laws.specs.PieceLaws.{IsSurface, IsPieceOf, MeetsBack, face_of_arc}
+use Rattle.surface_laws.proofs.ColumnKinds.{column_below}
 use Rattle.surface_laws.proofs.Glued.{IsGlued, glued_is}
 use Rattle.surface_laws.proofs.MeetingArcs.{meets_back}
 use Rattle.surface_laws.proofs.PieceNumbers.{piece_at, no_piece, of_column}
 use Rattle.quad_laws.specs.LinkLaws.{link_of}
 use Rattle.quad_laws.proofs.LinkSums.{by_column}
-use Rattle.quad_laws.proofs.VertexLinks.{member, length-link, triangle-link, others-link, link_surface}
+use Rattle.quad_laws.proofs.VertexLinks.{member, length-link, triangle-link, link-one, others-link, link_surface}
 use Rattle.vertex_link_laws.proofs.Triangles.{arcs_round-link}
 
 -- the triangle at vertex v of tetrahedron t
 abbrev pub triangle : Coords → ℕ → ℕ → SurfacePiece
 triangle coords t v = record { column = tri_column coords t v; number = 0 }
-
-pub column_below : (coords : Coords) → HasTriangles coords → (n t v : ℕ) → t < n → v < 4 → tri_column coords t v < columns coords n
-column_below Standard h n t v lt lv = omega arith
-column_below Quad h n t v lt lv = absurd h
-column_below Octagon h n t v lt lv = omega arith
 
 bit_if : Bool → ℕ
 bit_if b = if b then 1 else 0
@@ -73,7 +68,7 @@ module _ (s : Skeleton) (k : IsSkeleton s) (c : ℕ) (coords : Coords) (h : HasT
       (eqb-true (class_of (vertex_number t v)) c (passed (class_of (vertex_number t v) == c) j l), omega arith)
 
   one_there : (t v : ℕ) → IsMember t v → slice_index (link_of s coords c) (tri_column coords t v) ≡ 1
-  one_there t v m = triangle-link n s.vertices.classes c coords t v h m.tet m.below_four ∙ ap (λ (b : Bool). if b then 1 else 0) (eq-eqb (class_of (vertex_number t v)) c m.chosen)
+  one_there t v m = link-one n s.vertices.classes c coords t v h m.tet m.below_four m.chosen
 
   pub triangle_there : (t v : ℕ) → IsMember t v → IsPieceOf (link_of s coords c) (triangle coords t v)
   triangle_there t v m = record {

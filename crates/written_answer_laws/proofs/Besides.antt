@@ -1,13 +1,13 @@
 -- The quads beside each vertex, added over vertices that are apart, are at most four times all quads.
-use Rattle.std.proofs.Common.{◌≡◌, ℕ, zero, suc, ◌+◌, ◌*◌, ◌/◌, ◌<◌, ◌≤◌, ⊎_elim, List, [], ◌∷◌, ◌++◌, length, take, inl, inr, refl, sym, ap, ◌∙◌, subst, arith}
+use Rattle.std.proofs.Common.{◌≡◌, ℕ, zero, suc, ◌+◌, ◌*◌, ◌/◌, ◌<◌, ◌≤◌, ⊎_elim, List, [], ◌∷◌, length, take, inl, inr, refl, sym, ap, subst, arith}
 use Rattle.std.specs.Prelude.{sum, sum_by, slice_index}
 use Rattle.std.proofs.lemmas.List.{take_all}
-use Rattle.std.proofs.lemmas.List.Sums.{sum_by-append, sum_by-cons}
+use Rattle.std.proofs.lemmas.List.Sums.{sum_by-cons}
 use Rattle.table_definitions.specs.Lists.{below}
-use Rattle.table_definitions.proofs.Bijections.{below-push}
 use Rattle.table_definitions.proofs.TableLaws.{Among}
 use Rattle.table_definitions.proofs.DistinctLists.{AreApart, IsWithout, taken_out}
 use Rattle.surface_laws.proofs.ThreeSums.{three_of, three_more}
+use Rattle.surface_laws.proofs.Counting.{last_term}
 
 -- the quads of the tetrahedron of vertex i
 abbrev pub beside : List ℕ → ℕ → ℕ
@@ -28,13 +28,6 @@ apart_sum {A} f (x ∷ xs) ys apart inside =
     let more : sum_by f xs ≤ sum_by f r.0 = apart_sum f xs r.0 apart.1 (λ z a. ⊎_elim (λ q. absurd (apart.0 (subst (λ (u : A). Among u xs) q a))) (λ g. g) (w.others z (inside z (inr a)))) in
     omega (arith, sum_by-cons f x xs, w.sums f)
 
-below-suc : (f : ℕ → ℕ) (n : ℕ) → sum_by f (below (suc n)) ≡ sum_by f (below n) + f n
-below-suc f n =
-    let e : sum_by f (below n ++ n ∷ []) ≡ sum_by f (below n) + sum_by f (n ∷ []) = sum_by-append f (below n) (n ∷ []) in
-    let g : sum_by f (n ∷ []) ≡ f n + sum_by f [] = sum_by-cons f n [] in
-    let z : sum_by f [] ≡ 0 = refl in
-    ap (sum_by f) (sym (below-push n)) ∙ omega arith
-
 beside_is : (xs : List ℕ) (t i : ℕ) → i / 4 ≡ t → beside xs i ≡ three_of xs t
 beside_is xs t i e = ap (three_of xs) e
 
@@ -45,10 +38,10 @@ four-more xs t =
     omega (
       arith,
       whole,
-      below-suc (beside xs) (4 * t),
-      below-suc (beside xs) (suc (4 * t)),
-      below-suc (beside xs) (suc (suc (4 * t))),
-      below-suc (beside xs) (suc (suc (suc (4 * t)))),
+      last_term (beside xs) (4 * t),
+      last_term (beside xs) (suc (4 * t)),
+      last_term (beside xs) (suc (suc (4 * t))),
+      last_term (beside xs) (suc (suc (suc (4 * t)))),
       beside_is xs t (4 * t) (omega arith),
       beside_is xs t (suc (4 * t)) (omega arith),
       beside_is xs t (suc (suc (4 * t))) (omega arith),

@@ -7,7 +7,8 @@ use mir.Syntax.{w128}
 use mir.Val.{SFits}
 use Rattle.cone_text_definitions.specs.VectorText.{vector_text}
 use Rattle.vector_definitions.specs.Components.{Component}
-use Rattle.vector_definitions.specs.Texts.{characteristic, sides_word}
+use Rattle.vector_definitions.specs.Texts.{sides_word}
+use Rattle.vector_definitions.specs.Properties.{characteristic}
 use Rattle.surface_pieces.specs.Told.{no_component}
 use Rattle.text_definitions.specs.Written.{yes_or_no}
 use Rattle.vector_commands.proofs.Grown.{grown}

@@ -1,0 +1,58 @@
+-- Of any two columns that clash one is 0 in an admissible vector, and that is all.
+use Rattle.std.proofs.Common.{◌≡◌, ◌≢◌, ℕ, ◌/◌, ◌%◌, ◌<◌, ◌≤◌, true, List, ◌⊎◌, inl, inr, slice_index, sym, arith}
+use Rattle.std.specs.Prelude.{◌==◌, ◌&&◌, nat_lt}
+use Rattle.std.proofs.lemmas.Bool.{cases_lt, ltb-true, lt-ltb, eq-eqb, le-leb, and_parts, and_from, or_right}
+use Rattle.std.proofs.lemmas.List.Elements.{All-from_recursion, recursion_from_All}
+use Rattle.cone_definitions.specs.Surfaces.{IsAdmissible}
+use Rattle.table_definitions.specs.Lists.{below, pairs_of}
+use Rattle.table_definitions.proofs.TableLaws.{Among-below, Among-pairs}
+use Rattle.table_definitions.proofs.Listed.{Among-filter, filter-among, pairs-among, below-among, all_from, all_at}
+use Rattle.surface_definitions.specs.Coordinates.{columns, columns_each, triangles_each, clash_list, clash_test, is_quad_or_octagon, is_octagon}
+use Rattle.surface_definitions.specs.declared.Coords.{Coords}
+
+abbrev pub NoneClash : (coords : Coords) (n : ℕ) (xs : List ℕ) → Type 0
+NoneClash coords n xs = (a b : ℕ) → a < b → b < columns coords n → clash_test coords a b ≡ true → (slice_index xs a ≡ 0) ⊎ (slice_index xs b ≡ 0)
+
+-- two quads or octagons of one tetrahedron clash
+pub one_tetrahedron : (coords : Coords) (a b : ℕ) → a / columns_each coords ≡ b / columns_each coords → triangles_each coords ≤ a % columns_each coords → triangles_each coords ≤ b % columns_each coords
+    → clash_test coords a b ≡ true
+one_tetrahedron coords a b e fa fb =
+    or_right (is_octagon coords a && is_octagon coords b) (((a / columns_each coords == b / columns_each coords) && is_quad_or_octagon coords a) && is_quad_or_octagon coords b)
+    (and_from ((a / columns_each coords == b / columns_each coords) && is_quad_or_octagon coords a) (is_quad_or_octagon coords b)
+    (and_from (a / columns_each coords == b / columns_each coords) (is_quad_or_octagon coords a) (eq-eqb (a / columns_each coords) (b / columns_each coords) e)
+    (le-leb (triangles_each coords) (a % columns_each coords) fa)) (le-leb (triangles_each coords) (b % columns_each coords) fb))
+
+module _ (coords : Coords) (n : ℕ) (xs : List ℕ) where
+  abbrev m : ℕ
+  m = columns coords n
+
+  pub none_clash : IsAdmissible (clash_list coords n) xs → NoneClash coords n xs
+  unfolding clash_list
+  none_clash h a b less lb e =
+      all_at (λ (q : ℕ × ℕ). (slice_index xs q.0 ≡ 0) ⊎ (slice_index xs q.1 ≡ 0)) (clash_list coords n) (a, b)
+      (recursion_from_All (λ (p : ℕ × ℕ). (slice_index xs p.0 ≡ 0) ⊎ (slice_index xs p.1 ≡ 0)) (clash_list coords n) h)
+      (Among-filter (λ (p : ℕ × ℕ). nat_lt p.0 p.1 && clash_test coords p.0 p.1) (a, b) (pairs_of (below m) (below m))
+      (Among-pairs a b (below m) (below m) (Among-below a m (omega arith)) (Among-below b m lb)) (and_from (nat_lt a b) (clash_test coords a b) (lt-ltb a b less) e))
+
+  pub none_clash-admissible : NoneClash coords n xs → IsAdmissible (clash_list coords n) xs
+  unfolding clash_list
+  none_clash-admissible h =
+      All-from_recursion (λ (p : ℕ × ℕ). (slice_index xs p.0 ≡ 0) ⊎ (slice_index xs p.1 ≡ 0)) (clash_list coords n)
+      (all_from (λ (p : ℕ × ℕ). (slice_index xs p.0 ≡ 0) ⊎ (slice_index xs p.1 ≡ 0)) (clash_list coords n) (λ p a.
+      let i = filter-among (λ (p : ℕ × ℕ). nat_lt p.0 p.1 && clash_test coords p.0 p.1) p (pairs_of (below m) (below m)) a in
+      let ab = pairs-among {A = ℕ} {B = ℕ} p (below m) (below m) i.0 in
+      let t = and_parts (nat_lt p.0 p.1) (clash_test coords p.0 p.1) i.1 in
+      h p.0 p.1 (ltb-true p.0 p.1 t.0) (below-among p.1 m ab.1) t.1))
+
+  -- of two quads or octagons of one tetrahedron one is 0
+  pub clash_zero : IsAdmissible (clash_list coords n) xs → (a b : ℕ) → a < b → b < columns coords n → a / columns_each coords ≡ b / columns_each coords
+      → triangles_each coords ≤ a % columns_each coords → triangles_each coords ≤ b % columns_each coords → (slice_index xs a ≡ 0) ⊎ (slice_index xs b ≡ 0)
+  clash_zero h a b less lb t fa fb = none_clash h a b less lb (one_tetrahedron coords a b t fa fb)
+
+  -- so where one isn't 0, the other is
+  pub other_zero : IsAdmissible (clash_list coords n) xs → (a b : ℕ) → a ≢ b → a < columns coords n → b < columns coords n → a / columns_each coords ≡ b / columns_each coords
+      → triangles_each coords ≤ a % columns_each coords → triangles_each coords ≤ b % columns_each coords → 0 < slice_index xs a → slice_index xs b ≡ 0
+  other_zero h a b ne la lb t fa fb some = elim (cases_lt a b) [
+    | inl l ↦ elim (clash_zero h a b l lb t fa fb) [ inl z ↦ absurd (omega arith) | inr z ↦ z ]
+    | inr m ↦ elim (clash_zero h b a (omega arith) la (sym t) fb fa) [ inl z ↦ z | inr z ↦ absurd (omega arith) ]
+  ]
