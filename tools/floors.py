@@ -16,7 +16,7 @@ TOP = os.path.dirname(os.path.dirname(os.path.realpath(__file__)))
 BEGIN, END = "<!-- floors: tools/floors.py -->", "<!-- end of floors -->"
 LAWS_BEGIN, LAWS_END = "<!-- laws: tools/floors.py -->", "<!-- end of laws -->"
 PARTS = ("src", "specs", "proofs")
-PROGRAMS = ("trinorm", "worked_rows", "worked_tables", "worked_cones")
+PROGRAMS = ("trinorm", "trinorm_c", "worked_rows", "worked_tables", "worked_cones")
 # what each crate is about; its kind is told by its name
 SUBJECTS = {
     "below all": "plain_facts no_memory",
@@ -38,7 +38,7 @@ SUBJECTS = {
     " quad_lift surface_pieces surface_properties crushing surface_list surface_answers vector_commands",
     "sum": "sum_definitions sum_laws ray_decompose sum_commands",
     "program": "command_definitions outcome_definitions command_laws outcome_laws outcome_existence_laws answer_laws"
-    " written_answer_laws command_words command_answers workbench trinorm worked_rows worked_tables worked_cones",
+    " written_answer_laws command_words command_answers workbench trinorm trinorm_c worked_rows worked_tables worked_cones",
 }
 MATRIX_BEGIN, MATRIX_END = "<!-- subjects: tools/floors.py -->", "<!-- end of subjects -->"
 COLOURS = {"definitions": "#dbe9f6", "laws": "#fde8c8", "code": "#e3f1dc", "program": "#f5d9e2"}
@@ -52,10 +52,16 @@ def read(path):
         return ""
 
 
+def heads():
+    """Each crate with what stands before the colon of its line: its name, and `staticlib` behind that of a static library."""
+    lines = (it.split("#")[0].strip() for it in read("crates.txt").split("\n"))
+    return {it.split(":")[0].split()[0]: it.split(":")[0].strip() for it in lines if it}
+
+
 def crates():
     """Each crate with the crates that its line names, those of the kit too."""
     lines = (it.split("#")[0].strip() for it in read("crates.txt").split("\n"))
-    return {name.strip(): below.split() for name, _, below in (it.partition(":") for it in lines if it)}
+    return {head.split()[0]: below.split() for head, _, below in (it.partition(":") for it in lines if it)}
 
 
 def floors(known):
@@ -124,9 +130,9 @@ def by_floor(levels):
 
 
 def list_text(known, storeys):
-    text = "# The crates from the ground up; tools/floors.py keeps the order.\n"
+    text, head = "# The crates from the ground up; tools/floors.py keeps the order.\n", heads()
     for floor, names in enumerate(storeys):
-        text += f"# floor {floor}\n" + "".join(f"{it}: {' '.join(known[it])}".rstrip() + "\n" for it in names)
+        text += f"# floor {floor}\n" + "".join(f"{head[it]}: {' '.join(known[it])}".rstrip() + "\n" for it in names)
     return text
 
 

@@ -35,7 +35,7 @@ top = record (new_shape (codes "trinorm")) {
   is_built = true;
 }
 
-abbrev command_in : List Command → Text → Option Command
+abbrev pub command_in : List Command → Text → Option Command
 command_in cs w = find (λ c. bytes_eq c.0 w) cs
 
 is_nil : Kinds → Bool
@@ -51,7 +51,7 @@ nothing_after [] = refl
 nothing_after (k ∷ ks) = refl
 
 -- the name of the command that is found is the word
-found_name : (cs : List Command) (w : Text) (c : Command) → command_in cs w ≡ Some c → c.0 ≡ w
+pub found_name : (cs : List Command) (w : Text) (c : Command) → command_in cs w ≡ Some c → c.0 ≡ w
 found_name [] w c e = absurd (some≢none c (sym e))
 found_name (d ∷ ds) w c e = go (bytes_eq d.0 w) refl e (found_name ds w c)
   where
@@ -173,7 +173,7 @@ module _ (cs : List Command) where
   asked [] = None
   asked (w ∷ ws) = option_and_then (λ (c : Command). option_map (λ os. (c.0, rows os)) (options_of c.1 ws)) (command_in cs w)
 
-  asks : (w : Text) (ws : List Text) (c : Command) → command_in cs w ≡ Some c → asked (w ∷ ws) ≡ option_map (λ os. (c.0, rows os)) (options_of c.1 ws)
+  pub asks : (w : Text) (ws : List Text) (c : Command) → command_in cs w ≡ Some c → asked (w ∷ ws) ≡ option_map (λ os. (c.0, rows os)) (options_of c.1 ws)
   asks w ws c is = ap (option_and_then (λ (d : Command). option_map (λ os. (d.0, rows os)) (options_of d.1 ws))) is
 
   asks_none : (w : Text) (ws : List Text) → command_in cs w ≡ None → asked (w ∷ ws) ≡ None

@@ -1,12 +1,13 @@
 -- The command line as the parser is told it, and what is read of its matches.
-use Rattle.std.specs.Prelude.{true, List, [], map, fold, Option, Some, None, codes}
+use Rattle.std.specs.Prelude.{true, if◌then◌else◌, List, [], ◌∷◌, map, Option, Some, None, codes}
 use Rattle.std.specs.Borrow.{Bor}
 use Rattle.clap.specs.Walk.{Row, Rule, Text, first_of, texts}
 use Rattle.clap.specs.Simple.{App, Shape, new_rule, new_shape, with_subcommand}
 use Rattle.clap.specs.declared.builder.action.ArgAction.TheVariants.{Set}
 use Rattle.command_definitions.specs.declared.Request.{Request}
 use Rattle.command_definitions.specs.Values.{Values, request_with}
-use Rattle.command_definitions.specs.Words.{Command, commands}
+use Rattle.text_definitions.specs.Reading.{same_word}
+use Rattle.command_definitions.specs.Words.{Command, command_named}
 
 -- the argument of an option
 abbrev pub option_argument : Text → Rule
@@ -28,16 +29,26 @@ bare_program = record {
   subs = [];
 }
 
--- the program with a command for each of the definitions
-abbrev pub program_with : List Command → App
-program_with cs = fold (λ a c. with_subcommand a (subcommand_with c.0 c.1)) bare_program cs
+-- the program with one command alone
+abbrev pub program_with : Command → App
+program_with c = with_subcommand bare_program (subcommand_with c.0 c.1)
 
 -- a command and the names of its options, as the code lists them
-abbrev pub listed_command : Bor Text × Bor (List (Bor Text)) → Command
+abbrev pub Listed : Type 0
+Listed = Bor Text × Bor (List (Bor Text))
+
+abbrev pub listed_command : Listed → Command
 listed_command row = (row.0.now, texts row.1.now)
 
-abbrev pub program : App
-program = program_with commands
+-- the first of these commands that has this name
+abbrev pub command_among : Text → List Listed → Option Command
+command_among name [] = None
+command_among name (row ∷ rows) = if same_word row.0.now name then Some (listed_command row) else command_among name rows
+
+-- the command that words begin with
+abbrev pub command_before : List Text → Option Command
+command_before [] = None
+command_before (w ∷ ws) = command_named w
 
 -- the values of the options among what was found
 abbrev pub values_found : List Row → Values

@@ -1,9 +1,10 @@
 // The command line as the parser is told it.
-ghost use Rattle.std.specs.Prelude.{◌≡◌, false, map, IfOk};
+ghost use Rattle.std.specs.Prelude.{◌≡◌, ◌∷◌, [], false, IfOk};
+ghost use Rattle.std.specs.Option.{option_map};
 ghost use Rattle.clap.specs.Walk.{rule_of, texts};
 ghost use Rattle.clap.specs.Simple.{app_of, shape_of, with_subcommand};
 ghost use Rattle.clap.specs.declared.builder.command.Command.TheViews.{out-Command};
-ghost use Rattle.command_words.specs.Apps.{bare_program, listed_command, option_argument, program, program_with, subcommand_with};
+ghost use Rattle.command_words.specs.Apps.{bare_program, command_among, command_before, listed_command, option_argument, program_with, subcommand_with};
 
 use clap::{Arg, ArgAction, Command};
 use std::alloc::{AllocError, Global};
@@ -80,23 +81,36 @@ fn bare_program<'a>(alloc: Global) -> Command<'a>
         .disable_version_flag(true)
 }
 
-// The program with these commands, one subcommand each.
-fn program_with<'a>(
-    alloc: Global,
-    commands: &'static [(&'static str, &'static [&'static str])],
-) -> Result<Command<'a>, AllocError>
-    ensures { IfOk result (λ c. app_of c ≡ program_with (map listed_command commands.entry.now)) }
+// The command of this name among others.
+fn command_among(
+    name: &str,
+    rows: &[(&'static str, &'static [&'static str])],
+) -> Option<(&'static str, &'static [&'static str])>
+    ensures { option_map listed_command result ≡ command_among name.now rows.now }
 {
-    let mut program = bare_program(alloc);
-    for (name, options) in commands {
-        program = add(alloc, program, name, options)?;
+    for (word, options) in rows {
+        if *word == name {
+            return Some((*word, *options));
+        }
     }
-    Ok(program)
+    None
 }
 
-/// The program with its commands.
-pub fn program<'a>(alloc: Global) -> Result<Command<'a>, AllocError>
-    ensures { IfOk result (λ c. app_of c ≡ program) }
+/// The command that words begin with, and the names of its options.
+pub fn command_before(words: &[&str]) -> Option<(&'static str, &'static [&'static str])>
+    ensures { option_map listed_command result ≡ command_before (texts words.now) }
 {
-    program_with(alloc, &COMMANDS)
+    let name = words.first()?;
+    command_among(name, &COMMANDS)
+}
+
+/// The program with one command alone.
+pub fn program_with<'a>(
+    alloc: Global,
+    name: &'static str,
+    options: &'static [&'static str],
+) -> Result<Command<'a>, AllocError>
+    ensures { IfOk result (λ c. app_of c ≡ program_with (name.entry.now, texts options.entry.now)) }
+{
+    add(alloc, bare_program(alloc), name, options)
 }

@@ -13,7 +13,7 @@ ghost use Rattle.command_words.specs.Requests.{parse_fault, texts_of, AnswersWor
 ghost use Rattle.command_words.specs.Texts.{AreTexts, has_dashes, ends_option, is_naming, is_repeated, has_repeats};
 
 use crate::WordsFault;
-use crate::program::program;
+use crate::program::{command_before, program_with};
 use crate::values::{Values, request_with};
 use clap::error::ErrorKind;
 use clap::{ArgMatches, Error};
@@ -128,13 +128,16 @@ fn fault_of(error: &Error) -> WordsFault
     WordsFault::Usage
 }
 
-// Parses the words, none of which is two hyphens alone.
+// Parses the words, none of which is two hyphens alone. The parser is told the command alone that they begin with.
 fn parse(alloc: Global, words: &[&str]) -> Result<Request, WordsFault>
     requires utf8 { AreTexts (texts words.now) }
     requires no_dashes { has_dashes (texts words.now) ≡ false }
     ensures { AnswersWords result (accepted_request (texts words.now)) }
 {
-    let program = program(alloc)?;
+    let Some((name, options)) = command_before(words) else {
+        return Err(WordsFault::Usage);
+    };
+    let program = program_with(alloc, name, options)?;
     match program.try_get_matches_from(words) {
         Ok(matches) => asked(&matches),
         Err(error) => Err(fault_of(&error)),

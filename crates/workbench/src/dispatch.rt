@@ -44,10 +44,10 @@ use text_io::{ReadEnd, Sink, Source, Words, read_all, write_all};
 use vector_commands::{crush, describe, lift};
 
 /// An input has at most so many bytes.
-const MOST_BYTES: u64 = 1_048_576;
+pub const MOST_BYTES: u64 = 1_048_576;
 
-// The answer of a command to an input that isn't too long.
-fn answer(alloc: Global, request: Request, bytes: &[u8]) -> Result<Outcome, NoMemory>
+/// The answer of a command to an input that isn't too long.
+pub fn answer(alloc: Global, request: Request, bytes: &[u8]) -> Result<Outcome, NoMemory>
     requires size { length bytes.now ≤ most_bytes }
     requires in_range { HoldsRange request }
     ensures answer { IfOk result (λ o. IsAnswerTo request bytes.now o) }
@@ -77,8 +77,8 @@ fn answer(alloc: Global, request: Request, bytes: &[u8]) -> Result<Outcome, NoMe
     }
 }
 
-// Whether the command reads its input.
-fn reads_input(request: Request) -> bool
+/// Whether the command reads its input.
+pub fn reads_input(request: Request) -> bool
     ensures { result ≡ reads_input request }
 {
     match request {

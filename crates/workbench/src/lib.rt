@@ -1,12 +1,14 @@
 //! The top of the workbench: one call that does all that the program does.
 #![tactic(auto)]
 
+mod at_hand;
 mod dispatch;
 mod steady;
 
 ghost use Rattle.std.specs.Prelude.{◌≡◌};
 ghost use Rattle.workbench.specs.Codes.{code_of};
 
+pub use at_hand::outcome_of;
 pub use dispatch::run;
 pub use outcome_definitions::Status;
 pub use steady::run_steadily;

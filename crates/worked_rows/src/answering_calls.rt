@@ -1,7 +1,7 @@
 // Calls that take memory and have no test in a crate of their own: each gives its ordinary answer.
 use no_memory::NoMemory;
 use text_io::{Words, append, append_decimal, append_signed};
-use workbench::{Status, run_steadily};
+use workbench::{Status, outcome_of, run_steadily};
 
 #[test]
 fn texts_and_numbers_are_appended(rt: HostRuntime) -> Result<(), NoMemory> {
@@ -30,5 +30,18 @@ fn a_run_without_disturbance_ends(rt: HostRuntime) -> Result<(), NoMemory> {
     append(&mut input, b"sig bkaagj\n")?;
     assert!(rt; run_steadily(alloc, &words, input) == Status::Done);
     assert!(rt; run_steadily(alloc, &words, Vec::new(alloc)) == Status::Input);
+    Ok(())
+}
+
+#[test]
+fn an_input_at_hand_is_answered(rt: HostRuntime) -> Result<(), NoMemory> {
+    let alloc = rt.alloc();
+    let mut words = Words::new(alloc);
+    words.push("sig")?;
+    let outcome = outcome_of(alloc, &words, b"tri 1\n0:1023 0:1023 0:1230 0:3012\n")?;
+    assert!(rt; outcome.status() == Status::Done);
+    assert_eq!(rt; outcome.text(), b"bkaagj\n".as_slice());
+    let outcome = outcome_of(alloc, &words, b"tri")?;
+    assert!(rt; outcome.status() == Status::Input);
     Ok(())
 }

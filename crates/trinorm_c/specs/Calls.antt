@@ -1,0 +1,35 @@
+-- What a call from C is answered.
+use Rattle.std.specs.Prelude.{◌≡◌, ◌==◌, ◌⊎◌, ◌<◌, ℕ, List, length, take, drop}
+use Rattle.std.specs.List.{slice_split}
+use Rattle.outcome_definitions.specs.Outcomes.{Outcome}
+use Rattle.outcome_definitions.specs.Answers.{IsOutcome}
+use Rattle.workbench.specs.Codes.{code_of}
+
+-- the words: a zero byte stands between each two
+abbrev pub words_of : List ℕ → List (List ℕ)
+words_of bytes = slice_split (λ b. b == 0) bytes
+
+-- the outcome of words and an input has this code and this text, so many bytes long
+pub record IsTold (words : List (List ℕ)) (input : List ℕ) (status : ℕ) (text : List ℕ) (needed : ℕ) : Type 0 where
+  pub outcome : Outcome
+  pub is_outcome : IsOutcome words input outcome
+  pub code : status ≡ code_of outcome.status
+  pub told : text ≡ outcome.text
+  pub long : needed ≡ length outcome.text
+
+-- the text of the outcome of words and an input is so many bytes long, which is more than there is room for
+pub record IsLonger (words : List (List ℕ)) (input : List ℕ) (room needed : ℕ) : Type 0 where
+  pub outcome : Outcome
+  pub is_outcome : IsOutcome words input outcome
+  pub long : needed ≡ length outcome.text
+  pub past : room < needed
+
+-- the statuses: those of outcomes, too little room, no memory, and words that aren't UTF-8
+abbrev pub IsCallStatus : ℕ → Type 0
+IsCallStatus n = (n ≡ 0) ⊎ (n ≡ 2) ⊎ (n ≡ 3) ⊎ (n ≡ 4) ⊎ (n ≡ 5) ⊎ (n ≡ 7) ⊎ (n ≡ 8) ⊎ (n ≡ 9)
+
+-- an outcome's text was put into the room where it fits, and its length was told
+pub record IsHandedOut (o : Outcome) (result : ℕ) (room answer : List ℕ) (needed : ℕ) : Type 0 where
+  pub long : needed ≡ length o.text
+  pub rest : drop needed answer ≡ drop needed room
+  pub cases : ((result ≡ code_of o.status) × (take needed answer ≡ o.text)) ⊎ ((result ≡ 7) × (length room < length o.text) × (answer ≡ room))

@@ -1,0 +1,41 @@
+// Words between zero bytes, and their outcome.
+ghost use Rattle.std.specs.Prelude.{◌≡◌, ◌==◌, map, IfOk};
+ghost use Rattle.std.specs.List.{slice_split};
+ghost use Rattle.outcome_definitions.specs.Answers.{IsOutcome};
+ghost use Rattle.workbench.specs.Runs.{IsAnswered};
+ghost use Rattle.trinorm_c.specs.Calls.{words_of};
+
+use command_answers::Outcome;
+use no_memory::NoMemory;
+use std::alloc::{AllocError, Global};
+use text_io::Words;
+use workbench::outcome_of;
+
+// The words as parts of the text.
+fn parts(alloc: Global, text: &str) -> Result<Vec<&str>, AllocError>
+    ensures { IfOk result (λ v. map (λ x. x.now) v.items ≡ slice_split (λ b. b == 0) text.now) }
+{
+    text.split('\0').collect(alloc)
+}
+
+// The words of a text that has a zero byte between each two.
+fn words_between(alloc: Global, text: &str) -> Result<Words, NoMemory>
+    ensures { IfOk result (λ words. words ≡ words_of text.now) }
+{
+    let parts = parts(alloc, text)?;
+    let mut words = Words::new(alloc);
+    for part in &parts {
+        words.push(part)?;
+    }
+    Ok(words)
+}
+
+/// The outcome of words, with a zero byte between each two, and of an input. Its status is none of a failed source, of a
+/// failed sink or of want of memory; without memory there is no outcome.
+pub fn outcome_between(alloc: Global, text: &str, input: &[u8]) -> Result<Outcome, NoMemory>
+    ensures outcome { IfOk result (λ o. IsOutcome (words_of text.now) input.now o) }
+    ensures answered { IfOk result (λ o. IsAnswered o.status) }
+{
+    let words = words_between(alloc, text)?;
+    outcome_of(alloc, &words, input)
+}

@@ -1,0 +1,40 @@
+// What words and an input that is at hand are answered.
+ghost use Rattle.std.specs.Prelude.{IfOk};
+ghost use Rattle.outcome_definitions.specs.Answers.{IsOutcome, IsRequestOutcome};
+ghost use Rattle.command_definitions.specs.Requests.{HoldsRange};
+ghost use Rattle.workbench.specs.Runs.{IsAnswered};
+
+use crate::dispatch::{MOST_BYTES, answer, reads_input};
+use command_answers::Outcome;
+use command_words::{Request, WordsFault, read_words};
+use no_memory::NoMemory;
+use std::alloc::Global;
+use text_io::Words;
+
+// The outcome of a command on an input that may be too long.
+fn answer_at_hand(alloc: Global, request: Request, input: &[u8]) -> Result<Outcome, NoMemory>
+    requires { HoldsRange request }
+    ensures outcome { IfOk result (λ o. IsRequestOutcome request input.now o) }
+    ensures answered { IfOk result (λ o. IsAnswered o.status) }
+{
+    if !reads_input(request) {
+        return answer(alloc, request, &[]);
+    }
+    if MOST_BYTES < input.len() as u64 {
+        return Ok(Outcome::too_long());
+    }
+    answer(alloc, request, input)
+}
+
+/// The outcome of words and of an input that is at hand, with the text that a run would write. Its status is none of a
+/// failed source, of a failed sink or of want of memory; without memory there is no outcome.
+pub fn outcome_of(alloc: Global, words: &Words, input: &[u8]) -> Result<Outcome, NoMemory>
+    ensures outcome { IfOk result (λ o. IsOutcome words.now input.now o) }
+    ensures answered { IfOk result (λ o. IsAnswered o.status) }
+{
+    match read_words(alloc, words) {
+        Ok(request) => answer_at_hand(alloc, request, input),
+        Err(WordsFault::Usage) => Ok(Outcome::usage()),
+        Err(WordsFault::NoMemory) => Err(NoMemory),
+    }
+}
