@@ -16,16 +16,15 @@ from installed import Installed  # noqa: E402
 
 
 def current_program() -> packages.Made:
-    """The repository's program, where it is that of its sources, or the one that TRINORM names."""
+    """What the repository's build made, where it is that of its sources, or the program that TRINORM names."""
     named, installed = os.environ.get("TRINORM"), Installed(TOP)
     version = packages.fields()["version"]
     if named:
-        return packages.Made(version, Path(named).expanduser().read_bytes(), f"proved elsewhere\nversion {version}\n")
+        return packages.Made(version, {"program": Path(named).expanduser().read_bytes()}, f"proved elsewhere\nversion {version}\n")
     done = subprocess.run([sys.executable, str(TOP / "tools" / "build.py"), "--no-proof"], check=False)
     if done.returncode:
         raise SystemExit("there is no program to put into the package: build it first by ./trinorm, or name it by TRINORM")
-    told = (installed.out / ".version").read_text("utf8")
-    return packages.Made(version, installed.program.read_bytes(), told)
+    return packages.Made(version, installed.files(), (installed.out / ".version").read_text("utf8"))
 
 
 def write(folder: str, name: str, data: bytes) -> str:

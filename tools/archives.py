@@ -7,14 +7,14 @@ import zipfile
 from pathlib import Path
 from typing import Dict, Iterator, Tuple
 
-from manifest import Manifest, read_manifest
+from manifest import FILES, Manifest, read_manifest
 from repository import PROGRAM, sum_of
 
-WANTED = (f"libexec/{PROGRAM}/{PROGRAM}", f"libexec/{PROGRAM}/MANIFEST")
+PLACE = f"libexec/{PROGRAM}/"
 
 
 class NoRelease(Exception):
-    """A file is no release, or its program is another one than its manifest tells."""
+    """A file is no release, or what it holds is another one than its manifest tells."""
 
 
 def tar_files(data: bytes) -> Iterator[Tuple[str, bytes]]:
@@ -51,18 +51,21 @@ def files_of(data: bytes) -> Iterator[Tuple[str, bytes]]:
         yield from tar_files(data)
 
 
-def read_release(path: Path) -> Tuple[Manifest, bytes]:
-    """The manifest and the program of a release."""
+def read_release(path: Path) -> Tuple[Manifest, Dict[str, bytes]]:
+    """The manifest of a release, and what its build made, as far as it is in there."""
     found: Dict[str, bytes] = {}
     try:
         for name, data in files_of(path.read_bytes()):
-            found.update((wanted, data) for wanted in WANTED if name.endswith(wanted))
+            _, place, file = name.rpartition(PLACE)
+            if place and "/" not in file:
+                found[file] = data
     except (tarfile.TarError, zipfile.BadZipFile, EOFError, ValueError) as fault:
         raise NoRelease(f"it is no tarball, wheel or Debian package: {fault}") from None
-    if len(found) < len(WANTED):
+    if "MANIFEST" not in found or PROGRAM not in found:
         raise NoRelease("it holds no program with its manifest")
-    program, told = found[WANTED[0]], found[WANTED[1]].decode("utf8")
-    manifest = read_manifest(told)
-    if manifest.files["program"] != sum_of(program):
-        raise NoRelease("its program isn't the one that its manifest tells")
-    return manifest, program
+    manifest = read_manifest(found["MANIFEST"].decode("utf8"))
+    files = {name: found[file] for name, file in FILES.items() if file in found}
+    for name, data in files.items():
+        if manifest.files.get(name) != sum_of(data):
+            raise NoRelease(f"its {name} isn't the one that its manifest tells")
+    return manifest, files

@@ -28,6 +28,7 @@ import os
 import shutil
 import signal
 import sys
+import tempfile
 import time
 from contextlib import contextmanager
 from pathlib import Path
@@ -37,10 +38,10 @@ from archives import NoRelease, read_release
 from build_times import Plan, Times, Took, read_times, write_times
 from installed import Installed
 from kept import Libraries, Programs, Unusable
-from manifest import Manifest, NoManifest, read_manifest
+from manifest import FILES, Manifest, NoManifest, read_manifest
 from prove import Kit, NotProved, Workspace
 from repository import (PARTS, PROGRAM, TOP, Crate, Sources, cache_folder, changed, commit, crates_of_build,
-                        read_sources, sum_of, sum_of_file, version)
+                        products, read_sources, sum_of, sum_of_file, version)
 
 TIMES = TOP / "build_times.txt"
 # a proof takes 0.5 to 2 GB
@@ -114,9 +115,9 @@ def refuse_what_does_not_fit(to: Path, times: Times) -> None:
         sys.exit(f"{PROGRAM}: building needs {largest / 1e9:.1f} GB of memory, and there are {memory() / 1e9:.1f} GB")
 
 
-def say_what_comes(plan: Plan, times: Times, to: Path) -> None:
+def say_what_comes(plan: Plan, times: Times, to: Path, kept: bool) -> None:
     minutes = max(1, round(plan.length() / 60))
-    say(f"proves and builds the program once: about {minutes} min, {plan.processors} crates at a time, "
+    say(f"proves and builds the program once: {'at most' if kept else 'about'} {minutes} min, by {plan.processors} jobs at a time, "
         f"and {times.disk / 1000:.1f} GB of disk in {to}, dropped afterwards; until then `rt try -- WORDS` in "
         f"{TOP}/crates/{PROGRAM} answers in a minute or two, with nothing proved")
 
@@ -142,11 +143,36 @@ class Build:
         place = None if self.given.anew else self.programs.find(self.sources.sum(), kit and kit.name)
         if place is None:
             return False
-        told = read_manifest((place / "MANIFEST").read_text("utf8"))
-        told.version, told.commit = version(TOP), commit(TOP)
-        self.installed.install((place / PROGRAM).read_bytes(), told, self.begun, "here")
+        files, told = self.programs.read(place)
+        if told.sources.linked != self.sources.linked:
+            files = self.linked(kit, files)
+            told = told._replace(sources=self.sources_of(files), files=sums_of(files))
+            self.programs.keep(place, files, told)
+        told = told._replace(version=version(TOP), commit=commit(TOP))
+        self.installed.install(files, told, self.begun, "here")
         say(f"took the program that was built from the same sources: sha256 {told.files['program']}")
         return True
+
+    def linked(self, kit: Optional[Kit], files: Dict[str, bytes]) -> Dict[str, bytes]:
+        """What was proved, the program and perhaps the archive, with the library and the server that are linked of it."""
+        proved = {name: files[name] for name in ("program", "archive") if name in files}
+        if kit is None or "archive" not in files:
+            return proved
+        from library import build_library
+
+        with tempfile.TemporaryDirectory() as folder:
+            archive = Path(folder, FILES["archive"])
+            archive.write_bytes(files["archive"])
+            try:
+                build_library(kit, str(archive), f"{folder}/made")
+            except NotProved as fault:
+                say(f"there is no library for other languages, since it wasn't linked: {fault}")
+                return proved
+            return {**proved, **{name: Path(folder, "made", FILES[name]).read_bytes() for name in ("library", "server")}}
+
+    def sources_of(self, files: Dict[str, bytes]) -> Sources:
+        """What these files were made from: where nothing could be linked it is looked at again by the next build."""
+        return self.sources if "library" in files or "archive" not in files else self.sources._replace(linked={})
 
     def prove(self, kit: Kit, lock: IO[str]) -> None:
         """Proves what has changed, builds the program, keeps it and installs it."""
@@ -155,33 +181,44 @@ class Build:
         if self.given.anew:
             shutil.rmtree(self.to, ignore_errors=True)
         copy_sources(self.crates, self.to)
-        self.sources = read_sources(self.to, self.crates)
+        self.sources = read_sources(self.to, self.crates)._replace(linked=self.sources.linked)
         libraries = Libraries()
         workspace = Workspace(kit, self.crates, self.to, lock, None if self.given.anew else libraries)
         workspace.drop_what_is_gone()
         left = workspace.left()
         plan = Plan({name: self.crates[name].below for name in left}, times, self.given.jobs)
-        say_what_comes(plan, times, self.to)
+        say_what_comes(plan, times, self.to, len(left) < len(self.crates))
         progress = Progress(plan, len(self.crates), len(self.crates) - len(left))
         try:
             workspace.prove(plan.order(), self.given.jobs, progress.finish)
-            program = workspace.link(PROGRAM)
+            files = self.files(kit, workspace)
         finally:
             progress.end()
         if self.given.measure:
             write_times(TIMES, list(self.crates), progress.took, self.to)
         if self.given.keep:
             workspace.keep(libraries)
-        self.finish(kit, program, workspace)
+        self.finish(kit, files, workspace)
 
-    def finish(self, kit: Kit, program: Path, workspace: Workspace) -> None:
-        files = {"program": sum_of_file(program)}
-        told = Manifest(version(TOP), commit(TOP), kit.line, self.sources, files, workspace.anew, workspace.verdicts)
-        self.programs.keep(self.programs.place(self.sources.sum(), kit.name), program, told)
-        self.installed.install(program.read_bytes(), told, self.begun, "here")
+    def files(self, kit: Kit, workspace: Workspace) -> Dict[str, bytes]:
+        """What was made: the program, and the library where there is a crate for it."""
+        files = {"program": workspace.link(PROGRAM).read_bytes()}
+        for name in products(self.crates):
+            if name != PROGRAM:
+                files["archive"] = workspace.product_of(name).read_bytes()
+        return self.linked(kit, files)
+
+    def finish(self, kit: Kit, files: Dict[str, bytes], workspace: Workspace) -> None:
+        told = Manifest(version(TOP), commit(TOP), kit.line, self.sources_of(files), sums_of(files), workspace.anew, workspace.verdicts)
+        self.programs.keep(self.programs.place(self.sources.sum(), kit.name), files, told)
+        self.installed.install(files, told, self.begun, "here")
         shutil.rmtree(self.to, ignore_errors=True)
         say(f"built in {round(time.time() - self.begun)} s: version {told.version}, commit {told.commit}, {told.kit}, "
-            f"program sha256 {files['program']}")
+            f"program sha256 {told.files['program']}")
+
+
+def sums_of(files: Dict[str, bytes]) -> Dict[str, str]:
+    return {name: sum_of(data) for name, data in files.items()}
 
 
 @contextmanager
@@ -213,11 +250,14 @@ def take(path: str) -> None:
     """Installs the program of a release, where it was made from these sources."""
     build = Build(argparse.Namespace(anew=False))
     try:
-        told, program = read_release(Path(path))
+        told, files = read_release(Path(path))
     except (OSError, NoRelease, NoManifest) as fault:
         sys.exit(f"{PROGRAM}: {path}: {fault}")
     refuse_other_sources(told.sources, build.sources, path)
-    build.installed.install(program, told, build.begun, "elsewhere")
+    if told.sources.linked != build.sources.linked:
+        files = build.linked(None, files)
+    told = told._replace(sources=build.sources_of(files), files=sums_of(files))
+    build.installed.install(files, told, build.begun, "elsewhere")
     say(f"took the program of {path}: version {told.version}, commit {told.commit}, program sha256 "
         f"{told.files['program']}; it was proved elsewhere, by {told.kit}, and `tools/build.py --anew` proves it here")
 
@@ -241,15 +281,16 @@ def compare(given: argparse.Namespace, kit: Kit) -> None:
     if told.kit != kit.line:
         say(f"that program was proved by {told.kit}, and here is {kit.line}")
     build_with(given, kit)
-    mine = sum_of_file(build.installed.program)
-    if mine != told.files["program"]:
-        sys.exit(f"{PROGRAM}: another program: proved here it has sha256 {mine}, there {told.files['program']}")
-    print(f"{PROGRAM}: the same program, bit for bit: sha256 {mine}")
+    for name in (name for name in ("program", "archive") if name in told.files):
+        mine = sum_of_file(build.installed.out / FILES[name])
+        if mine != told.files[name]:
+            sys.exit(f"{PROGRAM}: another {name}: proved here it has sha256 {mine}, there {told.files[name]}")
+        print(f"{PROGRAM}: the same {name}, bit for bit: sha256 {mine}")
 
 
 def read_words() -> argparse.Namespace:
     parser = argparse.ArgumentParser(description="Proves and builds the program.")
-    parser.add_argument("--jobs", type=int, default=jobs_that_fit(), metavar="N", help="prove N crates at a time")
+    parser.add_argument("--jobs", type=int, default=jobs_that_fit(), metavar="N", help="prove by N jobs at a time")
     parser.add_argument("--keep", action="store_true", help="keep what was proved, for the build after a change")
     kinds = parser.add_mutually_exclusive_group()
     kinds.add_argument("--anew", action="store_true", help="prove all, and take nothing that is kept")

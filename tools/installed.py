@@ -5,8 +5,8 @@ import os
 from pathlib import Path, PurePosixPath
 from typing import Dict, List
 
-from manifest import Manifest, parts
-from repository import PROGRAM, Sources, sum_of_file
+from manifest import FILES, Manifest, parts
+from repository import PROGRAM, Sources, sum_of_file, sum_of_lines
 
 # so many seconds before a build began are its sources taken to be unread, since clocks of file systems are coarse
 MARGIN = 2.0
@@ -15,12 +15,13 @@ MARGIN = 2.0
 def watched(sources: Sources) -> List[str]:
     """The sources and their folders, whose times tell of a file that came, went or was moved. The folder of the
     program's crate is none: the build itself makes a folder there."""
-    folders = {str(folder) for path in sources.files for folder in PurePosixPath(path).parents}
-    return ["crates.txt", *sorted(folders - {".", f"crates/{PROGRAM}"}), *sorted(sources.files)]
+    files = sorted({**sources.files, **sources.linked})
+    folders = {str(folder) for path in files for folder in PurePosixPath(path).parents}
+    return ["crates.txt", *sorted(folders - {".", "tools", f"crates/{PROGRAM}"}), *files]
 
 
 class Installed:
-    """The folder `out` of the program's crate. Beside the program stand three files:
+    """The folder `out` of the program's crate. Beside the program stand the library and its server, where they were made, and
 
     .version: version, commit, kit, sum of the sources and of the program, and where it was proved
     .sources: the paths of the sources and of their folders, relative to the repository, each ended by a NUL
@@ -38,12 +39,17 @@ class Installed:
             return {}
 
     def is_of(self, sources: Sources) -> bool:
-        """Whether the program was made from these sources, and is the one that was installed."""
+        """Whether program and library were made from these sources, and are those that were installed."""
         told = self.told()
         try:
-            return told.get("sources") == sources.sum() and told.get("program") == sum_of_file(self.program)
+            return (told.get("sources") == sources.sum() and told.get("links") == sum_of_lines(sources.lines_of_linked())
+                    and "program" in told and all(sum_of_file(self.out / FILES[name]) == told[name] for name in FILES if name in told))
         except OSError:
             return False
+
+    def files(self) -> Dict[str, bytes]:
+        """What stands there, by the names in FILES."""
+        return {name: (self.out / file).read_bytes() for name, file in FILES.items() if (self.out / file).is_file()}
 
     def write(self, name: str, data: bytes, mode: int = 0o644) -> None:
         """Writes a file whole or not at all."""
@@ -52,11 +58,15 @@ class Installed:
         fresh.chmod(mode)
         fresh.replace(self.out / name)
 
-    def install(self, program: bytes, manifest: Manifest, begun: float, where: str) -> None:
-        """Puts the program there, whose sources were read at that time."""
+    def install(self, files: Dict[str, bytes], manifest: Manifest, begun: float, where: str) -> None:
+        """Puts there what was made of sources that were read at that time, and drops what wasn't made."""
         self.out.mkdir(parents=True, exist_ok=True)
         (self.out / ".built").unlink(missing_ok=True)
-        self.write(PROGRAM, program, 0o755)
+        for name, file in FILES.items():
+            if name in files:
+                self.write(file, files[name], 0o755)
+            else:
+                (self.out / file).unlink(missing_ok=True)
         self.write(".sources", "".join(f"{path}\0" for path in watched(manifest.sources)).encode())
         self.write(".version", "".join(f"{line}\n" for line in [f"proved {where}", *manifest.head()]).encode())
         self.touch(begun)

@@ -9,10 +9,10 @@ import tarfile
 import tempfile
 from contextlib import contextmanager
 from pathlib import Path
-from typing import IO, Iterator, List, Optional, Tuple
+from typing import IO, Dict, Iterator, List, Optional, Tuple
 
-from manifest import Manifest, NoManifest, read_manifest
-from repository import PROGRAM, cache_folder, sum_of, sum_of_file
+from manifest import FILES, Manifest, NoManifest, read_manifest
+from repository import cache_folder, sum_of, sum_of_file
 
 MOST_PROGRAMS = 10
 # a build's packed libraries take some 120 MB
@@ -49,18 +49,23 @@ class Programs:
         return None
 
     def holds(self, place: Path, sources: str) -> bool:
-        """Whether the program stands there, made from these sources, and is the one that was kept."""
+        """Whether a program stands there, made from these sources, and all files are those that were kept."""
         try:
             told = read_manifest((place / "MANIFEST").read_text("utf8"))
-            return told.sources.sum() == sources and told.files["program"] == sum_of_file(place / PROGRAM)
+            return told.sources.sum() == sources and all(sum_of_file(place / FILES[name]) == told.files[name] for name in told.files)
         except (OSError, NoManifest):
             return False
 
-    def keep(self, place: Path, program: Path, manifest: Manifest) -> None:
-        """Keeps a program, and of all that are kept the last ones."""
+    def read(self, place: Path) -> Tuple[Dict[str, bytes], Manifest]:
+        told = read_manifest((place / "MANIFEST").read_text("utf8"))
+        return {name: (place / FILES[name]).read_bytes() for name in told.files}, told
+
+    def keep(self, place: Path, files: Dict[str, bytes], manifest: Manifest) -> None:
+        """Keeps what a build made, and of all that is kept the last ones."""
         self.folder.mkdir(parents=True, exist_ok=True)
         fresh = Path(tempfile.mkdtemp(prefix=".new-", dir=self.folder))
-        shutil.copy(program, fresh / PROGRAM)
+        for name, data in files.items():
+            (fresh / FILES[name]).write_bytes(data)
         (fresh / "MANIFEST").write_text(manifest.text(), "utf8")
         fresh.chmod(0o755)
         shutil.rmtree(place, ignore_errors=True)

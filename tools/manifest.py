@@ -1,22 +1,24 @@
 """What is told of a proved program: from which sources, by which kit, with which verdicts, and its sum."""
 from __future__ import annotations
 
-from dataclasses import dataclass, field
-from typing import Dict, Iterator, List, Tuple
+from typing import Dict, Iterator, List, NamedTuple, Tuple
 
-from repository import Sources
+from repository import PROGRAM, Sources, sum_of_lines
+
+# what a build makes, by the names in a manifest: the program, the proved archive for other languages, the library that is
+# linked of it, and a server over that
+FILES = {"program": PROGRAM, "archive": "libtrinorm_c.a", "library": "libtrinorm.so", "server": "trinorm-server"}
 
 
 class NoManifest(Exception):
     """A text is no manifest."""
 
 
-@dataclass
-class Manifest:
+class Manifest(NamedTuple):
     """The file MANIFEST, which stands beside each kept program and in each release.
 
-    version, commit, kit: of the clone and of the kit that proved it; files: the sum of each file that was made, as
-    `program`; anew: whether all crates were proved by that one build; verdicts: the prover's last line for each crate;
+    version, commit, kit: of the clone and of the kit that proved it; files: the sum of each file that was made, by its
+    name in FILES; anew: whether all crates were proved by that one build; verdicts: the prover's last line for each crate;
     gate: the last line of the gate, where it is told
     """
 
@@ -26,19 +28,20 @@ class Manifest:
     sources: Sources
     files: Dict[str, str]
     anew: bool
-    verdicts: Dict[str, str] = field(default_factory=dict)
+    verdicts: Dict[str, str]
     gate: str = ""
 
     def head(self) -> List[str]:
         """The lines on the whole, which are what a launcher tells of its program."""
         told = [f"version {self.version}", f"commit {self.commit}", f"kit {self.kit}", f"sources {self.sources.sum()}"]
+        told += [f"links {sum_of_lines(self.sources.lines_of_linked())}"]
         return told + [f"{name} {sum_of_file}" for name, sum_of_file in self.files.items()]
 
     def text(self) -> str:
         lines = [*self.head(), f"anew {'yes' if self.anew else 'no'}"]
         lines += [f"verdict {name} {line}" for name, line in self.verdicts.items()]
         lines += [f"gate {self.gate}"] if self.gate else []
-        return "".join(f"{line}\n" for line in lines + self.sources.lines())
+        return "".join(f"{line}\n" for line in lines + self.sources.lines_of_linked() + self.sources.lines())
 
 
 def parts(text: str) -> Iterator[Tuple[str, str]]:
@@ -51,13 +54,15 @@ def read_manifest(text: str) -> Manifest:
     """Reads what `Manifest.text` wrote. The sum of the sources has to be that of its own lines."""
     told: Dict[str, str] = {}
     verdicts: Dict[str, str] = {}
-    sources = Sources([], {})
+    sources = Sources([], {}, {})
     for name, rest in parts(text):
         first, _, second = rest.partition(" ")
         if name == "crate":
-            sources.crates.append(f"crate {rest}")
+            sources.crates.append(rest)
         elif name == "source":
             sources.files[second] = first
+        elif name == "linked":
+            sources.linked[second] = first
         elif name == "verdict":
             verdicts[first] = second
         else:
@@ -67,6 +72,6 @@ def read_manifest(text: str) -> Manifest:
         raise NoManifest(f"it has no line `{missing[0]}`")
     if told["sources"] != sources.sum():
         raise NoManifest("its lines `crate` and `source` haven't the sum that it tells")
-    files = {name: told[name] for name in ("program", "library") if name in told}
+    files = {name: told[name] for name in FILES if name in told}
     return Manifest(told["version"], told["commit"], told["kit"], sources, files, told["anew"] == "yes", verdicts,
                     told.get("gate", ""))

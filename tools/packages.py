@@ -16,7 +16,7 @@ from typing import Dict, List, Optional, Tuple
 
 import pages
 from commands import read_table
-from manifest import Manifest
+from manifest import FILES, Manifest
 from repository import PROGRAM, TOP, git
 
 # each file with its mode, by its path
@@ -28,17 +28,20 @@ LICENCES = ("LICENSE-MIT", "LICENSE-APACHE", "NOTICES")
 
 @dataclass
 class Made:
-    """What is packed: the program, what is told of it, and the library with its header where they are there.
+    """What is packed: the files that a build made, by their names in FILES, and what is told of them.
 
     told: the lines of the file `version`, which the launcher answers `--version` from
     """
 
     version: str
-    program: bytes
+    files: Dict[str, bytes]
     told: str
     manifest: Optional[Manifest] = None
-    library: Optional[bytes] = None
-    header: Optional[bytes] = None
+
+    def glibc(self) -> int:
+        """The N of the newest glibc 2.N that the symbols of these files want."""
+        found = {int(version) for data in self.files.values() for version in re.findall(rb"\0GLIBC_2\.(\d+)(?:\.\d+)?(?=\0)", data)}
+        return max(found, default=17)
 
 
 def epoch() -> int:
@@ -51,25 +54,21 @@ def plain(path: Path) -> Tuple[bytes, int]:
     return path.read_bytes(), 0o644
 
 
-def glibc(*binaries: bytes) -> int:
-    """The N of the newest glibc 2.N that the symbols of these files want."""
-    found = {int(version) for binary in binaries for version in re.findall(rb"\0GLIBC_2\.(\d+)(?:\.\d+)?(?=\0)", binary)}
-    return max(found, default=17)
-
-
 def shared(made: Made) -> Files:
     """What each package has: program, launcher, manual page, completions, examples and licences."""
     commands = read_table()
     libexec, doc = f"libexec/{PROGRAM}", f"share/doc/{PROGRAM}"
     files: Files = {
         f"bin/{PROGRAM}": ((TOP / "launcher" / "installed.sh").read_bytes(), 0o755),
-        f"{libexec}/{PROGRAM}": (made.program, 0o755),
         f"{libexec}/version": (made.told.encode(), 0o644),
         f"{libexec}/commands.txt": plain(TOP / "python" / PROGRAM / "commands.txt"),
         f"share/man/man1/{PROGRAM}.1": (pages.manual(commands, made.version).encode(), 0o644),
         f"share/bash-completion/completions/{PROGRAM}": (pages.bash(commands).encode(), 0o644),
         f"share/zsh/site-functions/_{PROGRAM}": (pages.zsh(commands).encode(), 0o644),
     }
+    for name, data in made.files.items():
+        if name != "archive":
+            files[f"{libexec}/{FILES[name]}"] = (data, 0o755)
     for name in ("hints.sh", "fault.awk"):
         files[f"{libexec}/{name}"] = plain(TOP / "launcher" / name)
     for name in LICENCES:
@@ -84,9 +83,12 @@ def shared(made: Made) -> Files:
 def with_library(made: Made) -> Files:
     """The same, with the library and the pages."""
     files = shared(made)
-    if made.library is not None and made.header is not None:
-        files[f"lib/lib{PROGRAM}.so"] = (made.library, 0o755)
-        files[f"include/{PROGRAM}.h"] = (made.header, 0o644)
+    if "library" in made.files:
+        files[f"include/{PROGRAM}.h"] = plain(TOP / "library" / f"{PROGRAM}.h")
+        for name in ("library", "archive"):
+            files[f"lib/{FILES[name]}"] = (made.files[name], 0o644)
+        for path in (path for path in (TOP / "library").rglob("*") if path.is_file() and path.parent.name != "library"):
+            files[f"share/{PROGRAM}/{path.relative_to(TOP / 'library').as_posix()}"] = plain(path)
     for name in ("README.md", "CHANGELOG.md", "CITATION.cff"):
         files[f"share/doc/{PROGRAM}/{name}"] = plain(TOP / name)
     for path in (TOP / "docs").iterdir():
@@ -124,10 +126,9 @@ def ar(parts: List[Tuple[str, bytes]]) -> bytes:
 
 
 def control(made: Made, files: Files) -> str:
-    binaries = [made.program, *([made.library] if made.library else [])]
     size = sum(len(data) for data, _ in files.values()) >> 10
     return (f"Package: {PROGRAM}\nVersion: {made.version}\nArchitecture: amd64\nMaintainer: the {PROGRAM} authors\n"
-            f"Installed-Size: {size}\nDepends: libc6 (>= 2.{glibc(*binaries)})\nSection: math\nPriority: optional\n"
+            f"Installed-Size: {size}\nDepends: libc6 (>= 2.{made.glibc()})\nSection: math\nPriority: optional\n"
             f"Description: {pages.PURPOSE}\n")
 
 
@@ -212,11 +213,7 @@ def wheel(made: Made) -> Tuple[str, bytes]:
     files, place = modules(), f"{PROGRAM}-{made.version}.data"
     for name, content in shared(made).items():
         files[f"{place}/scripts/{PROGRAM}" if name == f"bin/{PROGRAM}" else f"{place}/data/{name}"] = content
-    binaries = [made.program]
-    if made.library is not None:
-        files[f"{PROGRAM}/lib{PROGRAM}.so"] = (made.library, 0o755)
-        binaries.append(made.library)
-    return wheel_of(files, f"py3-none-manylinux_2_{glibc(*binaries)}_x86_64")
+    return wheel_of(files, f"py3-none-manylinux_2_{made.glibc()}_x86_64")
 
 
 def editable_wheel() -> Tuple[str, bytes]:

@@ -252,12 +252,18 @@ class Workspace:
                 kept.keep(self.stamps[name], self.made(name), sum_of_made, self.verdicts[name])
         kept.drop_old()
 
+    def product_of(self, name: str) -> Path:
+        """The object file or static library that was made of a crate."""
+        self.unpack(name)
+        product = self.product(name)
+        assert product is not None
+        return product
+
     def link(self, name: str) -> Path:
         """Links the object file of a program, and gives the program's path."""
-        self.unpack(name)
         program = self.to / name
         words = [f"{self.kit.at}/bin/rattle-link", "--target", TARGET, "--toolchain", f"{self.kit.at}/toolchain", "-o", str(program)]
-        words += [str(self.product(name)), f"{self.kit.at}/c/libos_c.a", f"{self.kit.at}/c/liblibc_c.a"]
+        words += [str(self.product_of(name)), f"{self.kit.at}/c/libos_c.a", f"{self.kit.at}/c/liblibc_c.a"]
         with open(self.log("link"), "w", encoding="utf8") as log:
             if subprocess.run(words, stdout=log, stderr=subprocess.STDOUT, check=False).returncode:
                 raise NotProved(f"the program {name} was not linked; what was said is in {self.log('link')}")

@@ -13,32 +13,33 @@ import argparse
 import shutil
 import sys
 from pathlib import Path
-from typing import List, Tuple
+from typing import Dict, List, Tuple
 
 import commands
 import packages
 from kept import Programs
-from manifest import Manifest, read_manifest
+from manifest import Manifest
 from prove import Kit
-from repository import PROGRAM, TOP, changed, commit, crates_of_build, read_sources, sum_of, version
+from repository import TOP, changed, commit, crates_of_build, read_sources, sum_of, version
 
 
 def refuse(why: str) -> None:
     sys.exit(f"release: {why}")
 
 
-def proved_program() -> Tuple[bytes, Manifest]:
-    """The program that was proved from nothing, from the sources of this commit, and what was told of it."""
-    sources = read_sources(TOP, crates_of_build(TOP)).sum()
-    command = shutil.which("rt")
-    place = Programs().find(sources, Kit(command).name if command else None)
+def proved() -> Tuple[Dict[str, bytes], Manifest]:
+    """What was made by a build that proved all, from the sources of this commit, and what was told of it."""
+    sources, programs, command = read_sources(TOP, crates_of_build(TOP)), Programs(), shutil.which("rt")
+    place = programs.find(sources.sum(), Kit(command).name if command else None)
     if place is None:
         refuse("no program of these sources is kept here: tools/build.py --anew proves and builds it")
     assert place is not None
-    told = read_manifest((place / "MANIFEST").read_text("utf8"))
+    files, told = programs.read(place)
     if not told.anew:
         refuse("the program was built over libraries that were proved before: tools/build.py --anew proves all at once")
-    return (place / PROGRAM).read_bytes(), told
+    if told.sources.linked != sources.linked:
+        refuse("the library was linked from other sources: tools/build.py links it again")
+    return files, told
 
 
 def last_line(path: str) -> str:
@@ -48,10 +49,10 @@ def last_line(path: str) -> str:
 
 def release(gate: str) -> List[Tuple[str, bytes]]:
     """The files of the release."""
-    program, manifest = proved_program()
-    manifest.version, manifest.commit, manifest.gate = version(TOP), commit(TOP), gate
+    made_files, manifest = proved()
+    manifest = manifest._replace(version=version(TOP), commit=commit(TOP), gate=gate)
     told = "".join(f"{line}\n" for line in ["proved elsewhere", *manifest.head()])
-    made = packages.Made(manifest.version, program, told, manifest)
+    made = packages.Made(manifest.version, made_files, told, manifest)
     files = [packages.wheel(made), packages.debian(made), packages.tarball(made), ("MANIFEST", manifest.text().encode())]
     sums = "".join(f"{sum_of(data)}  {name}\n" for name, data in files)
     return [*files, ("SHA256SUMS", sums.encode())]

@@ -23,20 +23,31 @@ class Crate(NamedTuple):
 
 
 class Sources(NamedTuple):
-    """What a program is proved from: for each crate its line of crates.txt, and each source with its sum.
+    """What a build is made from, by lines and by sums of files, whose paths are relative to the repository.
 
-    lines: `crate NAME BELOW ..` and `source SHA256 PATH`, with paths relative to the repository
+    crates: a line for each crate, as `left: ground`
+    files: the sources that are proved
+    linked: those of the library that are linked to what is proved: C, and the tool that does it
     """
 
     crates: List[str]
     files: Dict[str, str]
+    linked: Dict[str, str]
 
     def lines(self) -> List[str]:
-        return [*self.crates, *(f"source {sum_of_file} {path}" for path, sum_of_file in sorted(self.files.items()))]
+        """What the program is proved from."""
+        return [*(f"crate {line}" for line in self.crates), *(f"source {told} {path}" for path, told in sorted(self.files.items()))]
+
+    def lines_of_linked(self) -> List[str]:
+        return [f"linked {told} {path}" for path, told in sorted(self.linked.items())]
 
     def sum(self) -> str:
-        """One sum of all: that of the lines, each with its end."""
-        return sum_of("".join(f"{line}\n" for line in self.lines()).encode())
+        """One sum of all that is proved: that of the lines, each with its end."""
+        return sum_of_lines(self.lines())
+
+
+def sum_of_lines(lines: List[str]) -> str:
+    return sum_of("".join(f"{line}\n" for line in lines).encode())
 
 
 def sum_of(data: bytes) -> str:
@@ -96,9 +107,14 @@ def files_of_crate(folder: Path) -> Iterator[Path]:
 
 
 def read_sources(top: Path, crates: Dict[str, Crate]) -> Sources:
-    lines = [" ".join(["crate", name, *crate.below, *crate.of_kit]) for name, crate in sorted(crates.items())]
-    paths = (path for name in crates for path in files_of_crate(top / "crates" / name))
-    return Sources(lines, {path.relative_to(top).as_posix(): sum_of_file(path) for path in paths})
+    lines = [" ".join([f"{name}:", *crate.below, *crate.of_kit]) for name, crate in sorted(crates.items())]
+    paths = [path for name in crates for path in files_of_crate(top / "crates" / name)]
+    linked = [path for path in [top / "tools" / "library.py", *(top / "library").glob("*.*")] if path.is_file()]
+    return Sources(lines, sums_of_files(top, paths), sums_of_files(top, linked))
+
+
+def sums_of_files(top: Path, paths: Iterable[Path]) -> Dict[str, str]:
+    return {path.relative_to(top).as_posix(): sum_of_file(path) for path in paths}
 
 
 def version(top: Path) -> str:

@@ -25,7 +25,7 @@ fi
 echo "fn $name: proved"
 echo "logic=proved functions=1 of=$name"
 case $out in
-  *.o)
+  *.o | *.a)
     cat ../../libraries/*/code/text >"$out"
     grep -hv '^//' src/*.rt >>"$out" ;;
   *)
@@ -37,6 +37,22 @@ case $out in
     done
     sha256sum <"$out/code/text" >>"$out/format" ;;
 esac
+"""
+
+# links the library of the archive: that, and a line of library/limits.c
+LIBRARY = """import os
+import shutil
+
+
+def build_library(kit, archive, to):
+    os.makedirs(to)
+    shutil.copy(archive, f"{to}/libtrinorm_c.a")
+    here = os.path.dirname(os.path.abspath(__file__))
+    with open(f"{here}/../library/limits.c") as source:
+        for name in ("libtrinorm.so", "trinorm-server"):
+            with open(f"{to}/{name}", "w") as file:
+                file.write(f"{name} by {source.read()}")
+            source.seek(0)
 """
 
 LINKER = """#!/bin/sh
@@ -94,6 +110,17 @@ class MadeUp:
             shutil.copytree(REPOSITORY / "crates" / name / "specs", self.top / "crates" / name / "specs")
         for words in (["init", "-q"], ["add", "-A"], ["-c", "user.name=N", "-c", "user.email=E", "commit", "-qm", "Begin"]):
             subprocess.run(["git", *words], cwd=self.top, check=True)
+
+    def add_library(self) -> None:
+        """One more product: a static library, and C that is linked to it."""
+        with open(self.top / "crates.txt", "a", encoding="utf8") as file:
+            file.write("for_c staticlib: left\n")
+        (self.top / "crates" / "for_c" / "src").mkdir(parents=True)
+        self.write("for_c", "echo for_c\n")
+        (self.top / "library").mkdir()
+        (self.top / "library" / "limits.c").write_text("one")
+        (self.top / "library" / "trinorm.h").write_text("header")
+        (self.top / "tools" / "library.py").write_text(LIBRARY)
 
     def source(self, crate: str) -> Path:
         return self.top / "crates" / crate / "src" / ("main.rt" if crate == "trinorm" else "lib.rt")

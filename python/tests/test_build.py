@@ -165,6 +165,25 @@ class Build(unittest.TestCase):
         self.assertIn("crates/left/src/lib.rt", paths)
         self.assertFalse(any(os.path.isabs(it) for it in paths))
 
+    def test_the_library(self):
+        self.clone.add_library()
+        self.assert_answers(self.clone, ANSWER, sorted([*ALL, "for_c"]))
+        out = self.clone.top / "crates" / "trinorm" / "out"
+        self.assertEqual((out / "libtrinorm.so").read_text(), "libtrinorm.so by one")
+        self.assertIn("echo for_c", (out / "libtrinorm_c.a").read_text())
+        # what is linked to it proves nothing anew
+        (self.clone.top / "library" / "limits.c").write_text("two")
+        self.assert_answers(self.clone, ANSWER, [])
+        self.assertEqual((out / "trinorm-server").read_text(), "trinorm-server by two")
+        (self.clone.top / "library" / "limits.c").write_text("three")
+        self.assertEqual(self.clone.launch(kit=False), ANSWER)
+        self.assertFalse((out / "libtrinorm.so").exists())
+        self.assertEqual(self.clone.build().returncode, 0)
+        self.assertEqual((out / "libtrinorm.so").read_text(), "libtrinorm.so by three")
+        (self.clone.top / "tools" / "library.py").write_text("from prove import NotProved\ndef build_library(*given):\n    raise NotProved('no cc')\n")
+        self.assert_answers(self.clone, ANSWER, [])
+        self.assertFalse((out / "libtrinorm.so").exists())
+
     def test_compare(self):
         self.clone.launch()
         kept = next((self.folder / "cache" / "trinorm" / "programs").glob("*-*/MANIFEST"))

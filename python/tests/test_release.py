@@ -21,6 +21,7 @@ class Release(unittest.TestCase):
         cls.addClassCleanup(folder.cleanup)
         cls.folder = Path(folder.name)
         cls.clone = MadeUp(cls.folder)
+        cls.clone.add_library()
         cls.clone.lay_out_rest()
         cls.early = cls.clone.run(["tools/release.py"])
         cls.clone.build()
@@ -84,7 +85,7 @@ class Release(unittest.TestCase):
         program = str(top / "bin" / "trinorm")
         self.assertEqual(self.run_alone([program]), (0, ANSWER, ""))
         self.assertEqual(self.run_alone([program], terminal=True), (0, ANSWER, ""))
-        for name in ("share/man/man1/trinorm.1", "share/zsh/site-functions/_trinorm", "share/doc/trinorm/NOTICES", "share/doc/trinorm/docs/GUIDE.md"):
+        for name in ("lib/libtrinorm.so", "include/trinorm.h", "libexec/trinorm/trinorm-server", "share/man/man1/trinorm.1", "share/zsh/site-functions/_trinorm", "share/doc/trinorm/NOTICES", "share/doc/trinorm/docs/GUIDE.md"):
             self.assertTrue((top / name).is_file(), name)
         completion = top / "share/bash-completion/completions/trinorm"
         script = f". {completion}; COMP_WORDS=(trinorm describe --coords ''); COMP_CWORD=3; _trinorm; echo ${{COMPREPLY[*]}}"
@@ -101,6 +102,7 @@ class Release(unittest.TestCase):
 
     def test_take(self):
         other = MadeUp(self.folder, "other clone")
+        other.add_library()
         other.environment["XDG_CACHE_HOME"] = str(self.folder / "other cache")
         other.proved()
         for ending in (".tar.gz", ".whl", ".deb"):
@@ -110,6 +112,7 @@ class Release(unittest.TestCase):
             self.assertEqual(done.returncode, 0, done.stderr)
             self.assertIn("it was proved elsewhere, by made-up-kit-1", done.stderr)
             self.assertEqual(other.launch(kit=False), ANSWER)
+            self.assertEqual(out.with_name("libtrinorm.so").read_text(), "libtrinorm.so by one")
         other.source("left").touch()
         self.assertEqual((other.launch(), other.proved()), (ANSWER, []))
         other.write("left", "echo changed\n")
