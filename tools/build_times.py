@@ -1,7 +1,10 @@
 """What a build takes: the table build_times.txt, and the time left told from it."""
+from __future__ import annotations
+
 import heapq
 import os
-from typing import Dict, NamedTuple
+from pathlib import Path
+from typing import Dict, Iterable, List, Mapping, NamedTuple, Sequence, Tuple
 
 HEAD = """\
 # What a first build takes, as `tools/build.py --measure` writes it: the disk in MB,
@@ -23,11 +26,11 @@ class Times(NamedTuple):
     crates: Dict[str, Took]
 
 
-def read_times(path):
+def read_times(path: Path) -> Times:
+    """The table; where there is none, one without rows."""
     disk, found = 0, {}
     try:
-        with open(path, encoding="utf8") as file:
-            lines = [line.split() for line in file if not line.startswith("#")]
+        lines = [line.split() for line in path.read_text("utf8").splitlines() if not line.startswith("#")]
     except OSError:
         lines = []
     for name, *numbers in filter(None, lines):
@@ -38,82 +41,92 @@ def read_times(path):
     return Times(disk, found)
 
 
-def write_times(path, names, took, folder):
-    with open(path, "w", encoding="utf8") as file:
-        file.write(HEAD)
-        file.write(f"disk {size_of(folder) >> 20}\n")
-        for name in [*names, *(it for it in took if it not in names)]:
-            if name in took:
-                file.write(f"{name} {round(took[name].seconds)} {took[name].memory}\n")
+def write_times(path: Path, names: Sequence[str], took: Mapping[str, Took], folder: Path) -> None:
+    """Writes the table of a build that worked in a folder: the crates in this order, and then those that aren't in it."""
+    rows = [name for name in [*names, *(name for name in took if name not in names)] if name in took]
+    text = "".join(f"{name} {round(took[name].seconds)} {took[name].memory}\n" for name in rows)
+    path.write_text(f"{HEAD}disk {size_of(folder) >> 20}\n{text}", "utf8")
 
 
-def size_of(folder):
-    total = 0
-    for place, _, files in os.walk(folder):
-        total += sum(os.lstat(os.path.join(place, it)).st_blocks * 512 for it in files)
-    return total
+def size_of(folder: Path) -> int:
+    """Bytes of disk that the files of a folder take."""
+    return sum(os.lstat(os.path.join(place, name)).st_blocks * 512 for place, _, files in os.walk(folder) for name in files)
 
 
 class Plan:
     """The crates that are to be proved, each after those below it, what each of them waits for, and what it takes."""
 
-    def __init__(self, below, times, processors):
-        self.below = {it: [on for on in below[it] if on in below] for it in below}
+    def __init__(self, below: Mapping[str, Sequence[str]], times: Times, processors: int) -> None:
+        self.below = {name: [other for other in below[name] if other in below] for name in below}
         self.processors = processors
-        known = [it.seconds for name, it in times.crates.items() if name in below]
+        known = [took.seconds for name, took in times.crates.items() if name in below]
         usual = sum(known) / len(known) if known else 20.0
-        self.seconds = {it: times.crates[it].seconds if it in times.crates else usual for it in below}
+        self.seconds = {name: times.crates[name].seconds if name in times.crates else usual for name in below}
 
-    def order(self):
+    def order(self) -> List[str]:
         """The crates, those first whose chain of crates above takes longest."""
-        chain = self.chains(list(self.below), self.above(self.below))
-        return sorted(self.below, key=lambda it: -chain[it])
+        chain = self.chains(list(self.below), self.above(list(self.below)))
+        return sorted(self.below, key=lambda name: -chain[name])
 
-    def above(self, left):
-        return {it: [on for on in left if it in self.below[on]] for it in left}
+    def above(self, left: Sequence[str]) -> Dict[str, List[str]]:
+        return {name: [other for other in left if name in self.below[other]] for name in left}
 
-    def ends(self, done=()):
+    def ends(self, done: Iterable[str] = ()) -> List[Tuple[float, str]]:
         """When each crate that isn't done is, in order, where each processor takes the ready crate with most above it."""
-        left = [it for it in self.below if it not in done]
-        waiting = {it: {on for on in self.below[it] if on not in done} for it in left}
+        finished = set(done)
+        left = [name for name in self.below if name not in finished]
+        waiting = {name: {other for other in self.below[name] if other not in finished} for name in left}
         above = self.above(left)
         chain = self.chains(left, above)
-        ready = [(-chain[it], it) for it in left if not waiting[it]]
+        ready = [(-chain[name], name) for name in left if not waiting[name]]
         heapq.heapify(ready)
-        running, found, now = [], [], 0.0
+        running: List[Tuple[float, str]] = []
+        found: List[Tuple[float, str]] = []
+        now = 0.0
         while ready or running:
             while ready and len(running) < self.processors:
                 _, name = heapq.heappop(ready)
                 heapq.heappush(running, (now + self.seconds[name], name))
             now, name = heapq.heappop(running)
             found.append((now, name))
-            for it in above[name]:
-                waiting[it].discard(name)
-                if not waiting[it]:
-                    heapq.heappush(ready, (-chain[it], it))
+            for other in above[name]:
+                waiting[other].discard(name)
+                if not waiting[other]:
+                    heapq.heappush(ready, (-chain[other], other))
         return found
 
-    def chains(self, left, above):
+    def chains(self, left: Sequence[str], above: Mapping[str, Sequence[str]]) -> Dict[str, float]:
         """For each crate the seconds from its start to the end of the longest chain above it."""
-        chain = {}
+        chain: Dict[str, float] = {}
         for name in reversed(left):
-            chain[name] = self.seconds[name] + max((chain[it] for it in above[name]), default=0.0)
+            chain[name] = self.seconds[name] + max((chain[other] for other in above[name]), default=0.0)
         return chain
 
-    def length(self, done=()):
+    def longest_chain(self) -> List[str]:
+        """The crates of which each stands on the one before it, that take longest one after another."""
+        above = self.above(list(self.below))
+        chain = self.chains(list(self.below), above)
+        found: List[str] = []
+        ready = list(self.below)
+        while ready:
+            found.append(max(ready, key=lambda name: chain[name]))
+            ready = above[found[-1]]
+        return found
+
+    def length(self, done: Iterable[str] = ()) -> float:
         """Seconds until all else is done."""
         return max((at for at, _ in self.ends(done)), default=0.0)
 
-    def reached(self, done):
+    def reached(self, done: Iterable[str]) -> float:
         """The second of the plan at which crates of as many seconds as those that are done were done."""
-        worked, at = sum(self.seconds[it] for it in done), 0.0
+        worked, at = sum(self.seconds[name] for name in done), 0.0
         for end, name in self.ends():
             if worked <= 0.0:
                 break
             at, worked = end, worked - self.seconds[name]
         return at
 
-    def left(self, done, passed):
+    def left(self, done: Sequence[str], passed: float) -> float:
         """Seconds left, after what is done took the seconds that passed. Half of the plan is taken to go as planned, so
         that small crates, which end while the first large ones go on, don't tell of the whole."""
         half = self.length() / 2

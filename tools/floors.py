@@ -1,22 +1,24 @@
 #!/usr/bin/env python3
 """Puts crates.txt into the order of the floors, writes the floors and the crates by subject into docs/ARCHITECTURE.md and
-docs/floors.svg, and the files that the contracts of law crates cite into docs/DEFINITIONS.md.
+docs/floors.svg, the files that the contracts of law crates cite into docs/DEFINITIONS.md, and the longest chain into
+docs/PROVING.md.
 
     tools/floors.py [--check]
 
 A crate stands one floor above the highest crate that it names. With --check nothing is written, and the status is 1 where
-something would be. It is 1, too, where laws or definitions stand on code, where a crate's line lists one that none of its
-files names, or where it lacks one that they do, and where a crate has no subject here.
+something would be. It is 1, too, where tools/refusals.py refuses something: laws or definitions that stand on code, a crate
+whose line lists one that none of its files names, or lacks one that they do, and a crate without a subject here.
 """
-import os
+from __future__ import annotations
+
 import re
 import sys
+from typing import Dict, List
 
-TOP = os.path.dirname(os.path.dirname(os.path.realpath(__file__)))
-BEGIN, END = "<!-- floors: tools/floors.py -->", "<!-- end of floors -->"
-LAWS_BEGIN, LAWS_END = "<!-- laws: tools/floors.py -->", "<!-- end of laws -->"
-PARTS = ("src", "specs", "proofs")
-PROGRAMS = ("trinorm", "trinorm_c", "worked_rows", "worked_tables", "worked_cones")
+from build_times import Plan, read_times
+from refusals import kind, refusals
+from repository import TOP, crates_of_build, lines_of_crates
+
 # what each crate is about; its kind is told by its name
 SUBJECTS = {
     "below all": "plain_facts no_memory",
@@ -40,180 +42,162 @@ SUBJECTS = {
     "program": "command_definitions outcome_definitions command_laws outcome_laws outcome_existence_laws answer_laws"
     " written_answer_laws command_words command_answers workbench trinorm trinorm_c worked_rows worked_tables worked_cones",
 }
-MATRIX_BEGIN, MATRIX_END = "<!-- subjects: tools/floors.py -->", "<!-- end of subjects -->"
+MARKS = {
+    "floors": ("<!-- floors: tools/floors.py -->", "<!-- end of floors -->"),
+    "subjects": ("<!-- subjects: tools/floors.py -->", "<!-- end of subjects -->"),
+    "laws": ("<!-- laws: tools/floors.py -->", "<!-- end of laws -->"),
+    "chain": ("<!-- chain: tools/floors.py -->", "<!-- end of chain -->"),
+}
 COLOURS = {"definitions": "#dbe9f6", "laws": "#fde8c8", "code": "#e3f1dc", "program": "#f5d9e2"}
+Crates = Dict[str, List[str]]
+Storeys = List[List[str]]
 
 
-def read(path):
+def read(path: str) -> str:
     try:
-        with open(os.path.join(TOP, path), encoding="utf8") as file:
-            return file.read()
+        return (TOP / path).read_text("utf8")
     except OSError:
         return ""
 
 
-def heads():
+def heads() -> Dict[str, str]:
     """Each crate with what stands before the colon of its line: its name, and `staticlib` behind that of a static library."""
-    lines = (it.split("#")[0].strip() for it in read("crates.txt").split("\n"))
-    return {it.split(":")[0].split()[0]: it.split(":")[0].strip() for it in lines if it}
+    return {head.split()[0]: head for head in lines_of_crates(read("crates.txt"))}
 
 
-def crates():
+def crates() -> Crates:
     """Each crate with the crates that its line names, those of the kit too."""
-    lines = (it.split("#")[0].strip() for it in read("crates.txt").split("\n"))
-    return {head.split()[0]: below.split() for head, _, below in (it.partition(":") for it in lines if it)}
+    return {head.split()[0]: below for head, below in lines_of_crates(read("crates.txt")).items()}
 
 
-def floors(known):
-    levels = {}
+def floors(known: Crates) -> Dict[str, int]:
+    levels: Dict[str, int] = {}
 
-    def level(name):
+    def level(name: str) -> int:
         if name not in levels:
-            levels[name] = 1 + max((level(it) for it in known[name] if it in known), default=-1)
+            levels[name] = 1 + max((level(below) for below in known[name] if below in known), default=-1)
         return levels[name]
 
     return {name: level(name) for name in known}
 
 
-def kind(name):
-    if name.endswith("_definitions"):
-        return "definitions"
-    if name.endswith("_laws") or name == "plain_facts":
-        return "laws"
-    return "program" if name in PROGRAMS else "code"
-
-
-def named(name):
-    """What the crate's files name: imports of definitions and lemmas, and paths of Rust."""
-    found = set()
-    for part in PARTS:
-        for folder, _, files in os.walk(os.path.join(TOP, "crates", name, part)):
-            for file in (it for it in files if it.endswith((".rt", ".antt"))):
-                text = read(os.path.join(folder, file))
-                found.update(re.findall(r"\bRattle\.(\w+)\.", text))
-                if file.endswith(".rt"):
-                    found.update(re.findall(r"\b(\w+)::", text), re.findall(r"\buse (\w+)", text))
-    return found
-
-
-def may_name(name, below):
-    """Whether a crate's kind lets it stand on another: laws stand on laws and definitions, these on definitions and plain facts."""
-    if kind(name) not in ("definitions", "laws") or below == "plain_facts":
-        return True
-    return kind(below) == "definitions" or kind(below) == kind(name)
-
-
-def refusals(known):
-    with_subject = " ".join(SUBJECTS.values()).split()
-    told = [f"refused: {it} has no subject in tools/floors.py" for it in known if it not in with_subject]
-    for name, below in known.items():
-        mine = named(name)
-        told += [f"refused: {name}, of the {kind(name)}, names {it}" for it in below if it in known and not may_name(name, it)]
-        told += [f"refused: {name} lists {it}, and no file of it names that" for it in below if it not in mine]
-        told += [f"refused: {name} doesn't list {it}, which a file of it names" for it in mine if it in known and it not in below + [name]]
-    return told
-
-
-def what(name):
+def what(name: str) -> str:
     """The first sentence of the crate's own words."""
     root = read(f"crates/{name}/src/lib.rt") or read(f"crates/{name}/src/main.rt")
-    said = " ".join(it[3:].strip() for it in root.split("\n") if it.startswith("//!"))
+    said = " ".join(line[3:].strip() for line in root.split("\n") if line.startswith("//!"))
     return re.split(r"(?<=\.)\s", said)[0]
 
 
-def by_floor(levels):
-    kinds = ["definitions", "laws", "code", "program"]
+def by_floor(levels: Dict[str, int]) -> Storeys:
+    kinds = list(COLOURS)
     return [
-        sorted((it for it in levels if levels[it] == floor), key=lambda it: (kinds.index(kind(it)), it))
+        sorted((name for name in levels if levels[name] == floor), key=lambda name: (kinds.index(kind(name)), name))
         for floor in range(max(levels.values()) + 1)
     ]
 
 
-def list_text(known, storeys):
+def list_text(known: Crates, storeys: Storeys) -> str:
     text, head = "# The crates from the ground up; tools/floors.py keeps the order.\n", heads()
     for floor, names in enumerate(storeys):
-        text += f"# floor {floor}\n" + "".join(f"{head[it]}: {' '.join(known[it])}".rstrip() + "\n" for it in names)
+        text += f"# floor {floor}\n" + "".join(f"{head[name]}: {' '.join(known[name])}".rstrip() + "\n" for name in names)
     return text
 
 
-def page_text(storeys):
+def page_text(storeys: Storeys) -> str:
     lines = ["| Floor | Crate | What it does |", "|---|---|---|"]
     for floor in reversed(range(len(storeys))):
-        lines += [f"| {floor} | `{it}` | {what(it)} |" for it in storeys[floor]]
+        lines += [f"| {floor} | `{name}` | {what(name)} |" for name in storeys[floor]]
     return "\n".join(lines)
 
 
-def statements(name):
+def statements(name: str) -> List[str]:
     """The files of its own specs/ that a law crate's contracts cite, and those that these cite in turn."""
     cite = rf"Rattle\.{name}\.specs\.(\w+)\."
-    found, left = [], re.findall(cite, read(f"crates/{name}/src/lib.rt"))
+    found: List[str] = []
+    left = re.findall(cite, read(f"crates/{name}/src/lib.rt"))
     while left:
-        it = left.pop(0)
-        if it not in found + ["declared"]:
-            found.append(it)
-            left += re.findall(cite, read(f"crates/{name}/specs/{it}.antt"))
+        file = left.pop(0)
+        if file not in [*found, "declared"]:
+            found.append(file)
+            left += re.findall(cite, read(f"crates/{name}/specs/{file}.antt"))
     return found
 
 
-def laws_text(storeys):
+def laws_text(storeys: Storeys) -> str:
     lines = ["| Crate | Files |", "|---|---|"]
-    lines += [f"| `{it}` | {', '.join(statements(it))} |" for names in storeys for it in names if kind(it) == "laws" and statements(it)]
-    return "\n".join(lines)
+    laws = {name: statements(name) for names in storeys for name in names if kind(name) == "laws"}
+    return "\n".join(lines + [f"| `{name}` | {', '.join(files)} |" for name, files in laws.items() if files])
 
 
-def subjects_text(known):
-    columns = {"Definitions": [], "Laws": [], "Code": [], "Commands and program": []}
+def subjects_text(known: Crates) -> str:
+    columns = ["Definitions", "Laws", "Code", "Commands and program"]
     lines = ["| Subject | " + " | ".join(columns) + " |", "|---" * (1 + len(columns)) + "|"]
     for subject, names in SUBJECTS.items():
-        cells = {it: [] for it in columns}
-        for name in (it for it in names.split() if it in known):
+        cells: Dict[str, List[str]] = {column: [] for column in columns}
+        for name in (name for name in names.split() if name in known):
             on_top = name.endswith("_commands") or name == "workbench" or kind(name) == "program"
             place = {"definitions": "Definitions", "laws": "Laws"}.get(kind(name), "Commands and program" if on_top else "Code")
             cells[place].append(f"`{name}`")
-        lines.append(f"| {subject} | " + " | ".join(", ".join(it) for it in cells.values()) + " |")
+        lines.append(f"| {subject} | " + " | ".join(", ".join(cell) for cell in cells.values()) + " |")
     return "\n".join(lines)
 
 
-def picture(storeys):
+def chain_text() -> str:
+    """The longest chain of a build, with the seconds that build_times.txt has."""
+    below = {name: crate.below for name, crate in crates_of_build(TOP).items()}
+    plan = Plan(below, read_times(TOP / "build_times.txt"), 1)
+    names = plan.longest_chain()
+    told = ", ".join(f"`{name}` {round(plan.seconds[name])}" for name in names[:-1])
+    total = round(sum(plan.seconds[name] for name in names))
+    return f"It takes {total:,} s of a processor: {told} and `{names[-1]}` {round(plan.seconds[names[-1]])}."
+
+
+def picture(storeys: Storeys) -> str:
     wide, high, gap = 172, 24, 6
-    columns = max(len(it) for it in storeys)
+    columns = max(len(names) for names in storeys)
     across, down = columns * (wide + gap) + 40, len(storeys) * (high + 14) + 60
     parts = [f'<svg xmlns="http://www.w3.org/2000/svg" width="{across}" height="{down}" font-family="sans-serif" font-size="12">']
     for floor, names in enumerate(storeys):
-        y = down - 50 - (floor + 1) * (high + 14)
-        parts.append(f'<text x="8" y="{y + 16}">{floor}</text>')
+        top = down - 50 - (floor + 1) * (high + 14)
+        parts.append(f'<text x="8" y="{top + 16}">{floor}</text>')
         for place, name in enumerate(names):
-            x = 30 + place * (wide + gap)
-            parts.append(f'<rect x="{x}" y="{y}" width="{wide}" height="{high}" rx="4" fill="{COLOURS[kind(name)]}" stroke="#888"/>')
-            parts.append(f'<text x="{x + wide / 2}" y="{y + 16}" text-anchor="middle">{name}</text>')
+            left = 30 + place * (wide + gap)
+            parts.append(f'<rect x="{left}" y="{top}" width="{wide}" height="{high}" rx="4" fill="{COLOURS[kind(name)]}" stroke="#888"/>')
+            parts.append(f'<text x="{left + wide / 2}" y="{top + 16}" text-anchor="middle">{name}</text>')
     for place, (name, colour) in enumerate(COLOURS.items()):
         parts.append(f'<rect x="{30 + place * 120}" y="{down - 36}" width="16" height="16" fill="{colour}" stroke="#888"/>')
         parts.append(f'<text x="{52 + place * 120}" y="{down - 23}">{name}</text>')
-    return "\n".join(parts + ["</svg>"]) + "\n"
+    return "\n".join([*parts, "</svg>"]) + "\n"
 
 
-def main(checking):
-    known = crates()
-    refused = refusals(known)
-    for it in refused:
-        print(it)
+def with_part(page: str, part: str, text: str, gap: str = "\n") -> str:
+    """A page with the text between the marks of a part."""
+    begin, end = MARKS[part]
+    return re.sub(rf"{begin}.*?{end}", lambda _: f"{begin}{gap}{text}{gap}{end}", page, flags=re.S)
+
+
+def wanted_files(known: Crates) -> Dict[str, str]:
+    """Each file that this tool writes, as it should be."""
     storeys = by_floor(floors(known))
-    page, definitions = read("docs/ARCHITECTURE.md"), read("docs/DEFINITIONS.md")
-    table = f"{BEGIN}\n{page_text(storeys)}\n{END}"
-    laws = f"{LAWS_BEGIN}\n{laws_text(storeys)}\n{LAWS_END}"
-    matrix = f"{MATRIX_BEGIN}\n{subjects_text(known)}\n{MATRIX_END}"
-    page = re.sub(rf"{MATRIX_BEGIN}.*?{MATRIX_END}", lambda _: matrix, page, flags=re.S)
-    wanted = {
+    page = with_part(read("docs/ARCHITECTURE.md"), "subjects", subjects_text(known))
+    return {
         "crates.txt": list_text(known, storeys),
-        "docs/ARCHITECTURE.md": re.sub(rf"{BEGIN}.*?{END}", lambda _: table, page, flags=re.S),
-        "docs/DEFINITIONS.md": re.sub(rf"{LAWS_BEGIN}.*?{LAWS_END}", lambda _: laws, definitions, flags=re.S),
+        "docs/ARCHITECTURE.md": with_part(page, "floors", page_text(storeys)),
+        "docs/DEFINITIONS.md": with_part(read("docs/DEFINITIONS.md"), "laws", laws_text(storeys)),
+        "docs/PROVING.md": with_part(read("docs/PROVING.md"), "chain", chain_text(), " "),
         "docs/floors.svg": picture(storeys),
     }
-    stale = [path for path, text in wanted.items() if read(path) != text]
-    for path in stale:
+
+
+def main(checking: bool) -> int:
+    known = crates()
+    refused = refusals(TOP, known, " ".join(SUBJECTS.values()).split())
+    for line in refused:
+        print(line)
+    stale = {path: text for path, text in wanted_files(known).items() if read(path) != text}
+    for path, text in stale.items():
         if not checking:
-            with open(os.path.join(TOP, path), "w", encoding="utf8") as file:
-                file.write(wanted[path])
+            (TOP / path).write_text(text, "utf8")
         print(("stale: " if checking else "written: ") + path)
     return 1 if refused or (checking and stale) else 0
 
