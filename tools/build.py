@@ -187,7 +187,8 @@ class Build:
         workspace.drop_what_is_gone()
         left = workspace.left()
         plan = Plan({name: self.crates[name].below for name in left}, times, self.given.jobs)
-        say_what_comes(plan, times, self.to, len(left) < len(self.crates))
+        if left:
+            say_what_comes(plan, times, self.to, len(left) < len(self.crates))
         progress = Progress(plan, len(self.crates), len(self.crates) - len(left))
         try:
             workspace.prove(plan.order(), self.given.jobs, progress.finish)
