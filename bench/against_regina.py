@@ -9,6 +9,7 @@ import itertools
 import os
 import random
 import sys
+from typing import Any, Callable, Dict, List, Optional, Sequence
 
 import regina
 
@@ -17,31 +18,33 @@ sys.path[:0] = [HERE, os.path.join(HERE, "..", "python")]
 
 import trinorm  # noqa: E402  (the package stands beside this folder)
 from trinorm.regina_surfaces import COORDS, vertex_surfaces  # noqa: E402
-from trinorm.tables import row_of  # noqa: E402
+from trinorm.tables import GivenEntry, row_of  # noqa: E402
 
 WORDS = list(itertools.permutations(range(4)))
+# counts, of a subject, whether both say the same
+Count = Callable[[str, bool], None]
 
 
-def drawn_table(size, closed):
+def drawn_table(size: int, closed: bool) -> trinorm.Table:
     """Faces of so many tetrahedra, glued in pairs."""
     faces = [(t, f) for t in range(size) for f in range(4)]
     random.shuffle(faces)
     glued = len(faces) if closed else random.randrange(len(faces) + 1) // 2 * 2
-    rows = [[None] * 4 for _ in range(size)]
+    rows: List[List[GivenEntry]] = [[None] * 4 for _ in range(size)]
     for (t, f), (u, g) in zip(faces[:glued:2], faces[1:glued:2]):
-        word = random.choice([it for it in WORDS if it[f] == g])
+        word = random.choice([word for word in WORDS if word[f] == g])
         rows[t][f] = (u, word)
         rows[u][g] = (t, tuple(word.index(v) for v in range(4)))
     return trinorm.Table(tuple(map(row_of, rows)))
 
 
-def first_numbers(members):
+def first_numbers(members: Sequence[int]) -> List[int]:
     """Classes numbered by their least members."""
-    numbers = {}
-    return [numbers.setdefault(it, len(numbers)) for it in members]
+    numbers: Dict[int, int] = {}
+    return [numbers.setdefault(member, len(numbers)) for member in members]
 
 
-def is_right(info, t):
+def is_right(info: trinorm.Info, t: Any) -> bool:
     """Whether all is so that `info` tells and Regina does: the kinds of links are told by numbers alone."""
     edges = tuple(trinorm.Edge(e.degree(), "boundary" if e.isBoundary() else "inner", e.isValid()) for e in t.edges())
     vertices = [(v.degree(), v.linkEulerChar()) for v in t.vertices()]
@@ -50,7 +53,7 @@ def is_right(info, t):
     return told == whole and info.edges == edges and [(it.degree, it.euler) for it in info.vertices] == vertices
 
 
-def lifted(t, surface):
+def lifted(t: Any, surface: Any) -> Optional[trinorm.answers.Vector]:
     """The lift of a surface in quad coordinates, or None where there is none."""
     try:
         return trinorm.lift(t, [surface])[0]
@@ -58,7 +61,7 @@ def lifted(t, surface):
         return None
 
 
-def check_surfaces(count, t):
+def check_surfaces(count: Count, t: Any) -> None:
     valid = all(e.isValid() for e in t.edges())
     for coords in COORDS:
         if coords != "quad" or valid:
@@ -72,7 +75,7 @@ def check_surfaces(count, t):
             count("lift", lifted(t, it) == (trinorm.vector_of(it) if it.isCompact() else None))
 
 
-def check_described(count, t, surfaces):
+def check_described(count: Count, t: Any, surfaces: List[Any]) -> None:
     for one, other in itertools.islice(itertools.combinations_with_replacement(surfaces, 2), 5):
         if one.locallyCompatible(other):
             both = one + other
@@ -81,7 +84,7 @@ def check_described(count, t, surfaces):
             count("describe", sorted(ours) == sorted(theirs))
 
 
-def check(count, size):
+def check(count: Count, size: int) -> None:
     table = drawn_table(size, random.random() < 0.5)
     t = table.to_regina()
     for name, many, of in (("vertices", 4, "vertex"), ("edges", 6, "edge")):
@@ -96,13 +99,14 @@ def check(count, size):
         check_surfaces(count, t)
 
 
-def main():
+def main() -> None:
     if len(sys.argv) > 1:
         os.environ["TRINORM"] = sys.argv[1]
     random.seed(7)
-    same, all_of = {}, {}
+    same: Dict[str, int] = {}
+    all_of: Dict[str, int] = {}
 
-    def count(subject, agrees):
+    def count(subject: str, agrees: bool) -> None:
         same[subject] = same.get(subject, 0) + bool(agrees)
         all_of[subject] = all_of.get(subject, 0) + 1
 

@@ -15,15 +15,16 @@ import os
 import re
 import subprocess
 import sys
+from typing import Dict, Iterator, List, Optional, Tuple
 
 TOP = os.path.dirname(os.path.dirname(os.path.realpath(__file__)))
 PYTHON = os.path.join(TOP, "python")
 HAS_REGINA = importlib.util.find_spec("regina") is not None
 
 
-def blocks(text):
+def blocks(text: str) -> Iterator[List[str]]:
     """The indented blocks of a page, as lists of lines without the indent."""
-    block = []
+    block: List[str] = []
     for line in text.split("\n") + [""]:
         if line.startswith("    "):
             block.append(line[4:])
@@ -32,10 +33,11 @@ def blocks(text):
             block = []
 
 
-def examples(text):
+def examples(text: str) -> Iterator[Tuple[str, Optional[List[str]]]]:
     """Each command with the lines that it has to write, or None where only its status is looked at."""
     for block in blocks(text):
-        command, answer = None, []
+        command: Optional[str] = None
+        answer: List[str] = []
         for line in block + ["$ "]:
             if line.startswith("$ "):
                 if command:
@@ -47,11 +49,11 @@ def examples(text):
         yield command, None
 
 
-def needs_regina(example):
+def needs_regina(example: str) -> bool:
     return "regina" in example or "crosscheck" in example
 
 
-def is_right(command, answer, around):
+def is_right(command: str, answer: Optional[List[str]], around: Dict[str, str]) -> bool:
     """Runs a command; where it differs, says so."""
     run = subprocess.run(["bash", "-c", command], cwd=TOP, env=around, stdin=subprocess.DEVNULL, stdout=subprocess.PIPE,
                          text=True, timeout=600, check=False)
@@ -62,7 +64,7 @@ def is_right(command, answer, around):
     return True
 
 
-def is_right_session(session, names, page):
+def is_right_session(session: str, names: Dict[str, object], page: str) -> bool:
     """Runs a Python session after those whose names it goes on with; where it differs, doctest says so."""
     test = doctest.DocTestParser().get_doctest(session, names, page, page, 0)
     failed = doctest.DocTestRunner(verbose=False).run(test, clear_globs=False).failed
@@ -70,13 +72,13 @@ def is_right_session(session, names, page):
     return failed == 0
 
 
-def runs(page, around):
+def runs(page: str, around: Dict[str, str]) -> Iterator[Optional[bool]]:
     """Whether each example of a page is right, or None where it is left out."""
     with open(page, encoding="utf8") as file:
         text = file.read()
     for command, answer in examples(text):
         yield None if needs_regina(command) and not HAS_REGINA else is_right(command, answer, around)
-    names = {}
+    names: Dict[str, object] = {}
     for block in blocks(text):
         if block[0].startswith(">>> "):
             session = "\n".join(block) + "\n"
@@ -84,7 +86,7 @@ def runs(page, around):
             yield None if left_out else is_right_session(session, names, os.path.relpath(page, TOP))
 
 
-def main(pages):
+def main(pages: List[str]) -> int:
     pages = pages or [os.path.join(TOP, "README.md"), *sorted(glob.glob(os.path.join(TOP, "docs", "*.md")))]
     os.chdir(TOP)
     sys.path.insert(0, PYTHON)

@@ -16,8 +16,12 @@ import os
 import subprocess
 import sys
 import tempfile
+from typing import Callable, List, Tuple
 
 from common import find
+
+# a status, and what was written
+End = Tuple[int, bytes]
 
 LIBRARY = r"""
 #define _GNU_SOURCE
@@ -115,7 +119,7 @@ ROWS = [
 class Runner:
     """Runs the program with one fault."""
 
-    def __init__(self, program, folder):
+    def __init__(self, program: str, folder: str) -> None:
         self.program = program
         self.counts = os.path.join(folder, "counts")
         self.library = os.path.join(folder, "faults.so")
@@ -124,7 +128,7 @@ class Runner:
             file.write(LIBRARY)
         subprocess.run(["cc", "-shared", "-fPIC", "-O1", "-o", self.library, source, "-ldl"], check=True)
 
-    def run(self, words, text, **faults):
+    def run(self, words: List[str], text: str, **faults: int) -> Tuple[int, bytes, List[int]]:
         """The status, the answer, and how many allocations, reads and writes there were."""
         around = dict(os.environ, LD_PRELOAD=self.library, COUNTS=self.counts, **{name: str(value) for name, value in faults.items()})
         done = subprocess.run([self.program, *words], input=text.encode(), stdout=subprocess.PIPE, env=around, timeout=60, check=False)
@@ -132,19 +136,19 @@ class Runner:
             return done.returncode, done.stdout, [int(n) for n in file.read().split()]
 
 
-def refused_memory(runner, words, text, status, answer, count):
+def refused_memory(runner: Runner, words: List[str], text: str, ordinary: End, count: int) -> None:
     for call in range(1, count + 1):
         got = runner.run(words, text, FAIL_ALLOCATION=call)[:2]
-        if got not in ((status, answer), (8, b"")):
+        if got not in (ordinary, (8, b"")):
             raise SystemExit(f"{words}: allocation {call} refused: {got}")
 
 
-def is_told(got, said):
+def is_told(got: int, said: bytes) -> bool:
     """Whether a failed read is told."""
     return (got, said) == (6, b"refused: read\n")
 
 
-def failing_calls(run, kind, ordinary, is_right):
+def failing_calls(run: Callable[[int], Tuple[int, bytes, List[int]]], kind: int, ordinary: End, is_right: Callable[[int, bytes], bool]) -> int:
     """How many calls of a kind a run makes; where one fails, the end is right, and where none does, the ordinary one."""
     call = 0
     while True:
@@ -157,7 +161,7 @@ def failing_calls(run, kind, ordinary, is_right):
             return call - 1
 
 
-def main():
+def main() -> None:
     parser = argparse.ArgumentParser()
     parser.add_argument("--command")
     parser.add_argument("--program")
@@ -168,7 +172,7 @@ def main():
             if given.command not in (None, words[0]):
                 continue
             status, answer, (allocations, _, _) = runner.run(words, text)
-            refused_memory(runner, words, text, status, answer, allocations)
+            refused_memory(runner, words, text, (status, answer), allocations)
             reads = failing_calls(lambda call: runner.run(words, text, FAIL_READ=call, MOST_BYTES=7), 1, (status, answer), is_told)
             if words[0] in ("make", "bulk") and reads:
                 raise SystemExit(f"{words}: {reads} reads")

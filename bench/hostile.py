@@ -5,7 +5,8 @@
 
 Each input is one of bench/hostile_inputs.json with some bytes changed, dropped or doubled, numbers made wide, words or lines
 exchanged. Checked of each run: the status is one of those told; a refusal is one line of the grammar of refusals and
-nothing else; what was answered is read again as itself; the program ends within a time and a size. Prints the first that fails,
+nothing else; what was answered is read again as itself (its form is written here once more, as a second opinion beside the
+package's); the program ends within a time and a size. Prints the first that fails,
 with its words and input, and ends with inputs, statuses and seconds.
 """
 import argparse
@@ -18,8 +19,13 @@ import re
 import resource
 import subprocess
 import time
+from typing import Callable, Counter, Dict, List, Optional, Sequence, Tuple
 
 from common import HERE, find
+
+Words = List[str]
+# words with an input
+Inputs = List[Tuple[Words, str]]
 
 SECONDS = 30
 BYTES = 2 << 30
@@ -44,7 +50,7 @@ class Wrong(Exception):
     """What was wrong with a run."""
 
 
-def run(program, words, text):
+def run(program: str, words: Words, text: bytes) -> Tuple[int, bytes]:
     try:
         done = subprocess.run([program] + words, input=text, stdout=subprocess.PIPE, stderr=subprocess.PIPE, timeout=SECONDS, check=False)
     except subprocess.TimeoutExpired as late:
@@ -54,7 +60,7 @@ def run(program, words, text):
     return done.returncode, done.stdout
 
 
-def refusal(status, answer):
+def refusal(status: int, answer: bytes) -> None:
     if status == 8:
         if answer:
             raise Wrong("no memory, and something was written")
@@ -64,13 +70,13 @@ def refusal(status, answer):
         raise Wrong(f"status {status} with {answer[:200]!r}")
 
 
-def again(program, words, text, wanted, what):
+def again(program: str, words: Words, text: bytes, wanted: Optional[bytes], what: str) -> None:
     status, answer = run(program, words, text)
     if status != 0 or (wanted is not None and answer != wanted):
         raise Wrong(f"{what}: {' '.join(words)} on {text[:300]!r} has status {status} and answers {answer[:300]!r}")
 
 
-def option(words, name):
+def option(words: Words, name: str) -> Optional[str]:
     for place, word in enumerate(words):
         if word == f"--{name}":
             return words[place + 1]
@@ -79,20 +85,20 @@ def option(words, name):
     return None
 
 
-def table_text(program, table):
+def table_text(program: str, table: bytes) -> None:
     """A table that was written is read as itself: a script without steps writes it once more."""
     again(program, ["play"], table, table, "a table that was written")
 
 
-def lines_of(text):
+def lines_of(text: bytes) -> bytes:
     """The text of a document, with the end of its last line."""
     return text if text.endswith(b"\n") else text + b"\n"
 
 
-def lists(program, words, text, answer):
+def lists(program: str, words: Words, text: bytes, answer: bytes) -> None:
     lines = answer.split(b"\n")[:-1]
-    vectors = [tuple(map(int, it.split()[1:])) for it in lines[1:]]
-    if lines[0] != b"# %s %d" % (words[0].encode(), len(vectors)) or any(not it.startswith(b"vec") for it in lines[1:]):
+    vectors = [tuple(map(int, line.split()[1:])) for line in lines[1:]]
+    if lines[0] != b"# %s %d" % (words[0].encode(), len(vectors)) or any(not line.startswith(b"vec") for line in lines[1:]):
         raise Wrong(f"a list that is none: {answer[:200]!r}")
     if any(one >= other for one, other in zip(vectors, vectors[1:])):
         raise Wrong("a list that doesn't ascend")
@@ -103,28 +109,28 @@ def lists(program, words, text, answer):
             again(program, ["verify", "--coords", coords], document, b"solution\n" * len(vectors), "a list behind its table")
 
 
-def signed(program, words, text, answer):
+def signed(program: str, words: Words, text: bytes, answer: bytes) -> None:
     again(program, ["sig"], b"sig " + answer, answer, "a signature")
 
 
-def compared(program, words, text, answer):
+def compared(program: str, words: Words, text: bytes, answer: bytes) -> None:
     if answer != b"different\n" and not re.fullmatch(rb"same\n(\d+ \d+ [0-3]{4}\n)*", answer):
         raise Wrong(f"no comparison: {answer[:200]!r}")
 
 
-def grouped(program, words, text, answer):
+def grouped(program: str, words: Words, text: bytes, answer: bytes) -> None:
     for signature in re.findall(rb"^class \d+ (\S+)$", answer, re.M):
         again(program, ["sig"], b"sig " + signature + b"\n", signature + b"\n", "a class's signature")
 
 
-def played(program, words, text, answer):
+def played(program: str, words: Words, text: bytes, answer: bytes) -> None:
     match = re.fullmatch(rb"(?:(?:done|undone|redone|nothing|illegal %s)\n)*(tri \d+\n(?s:.*))" % FAULT.encode(), answer)
     if not match:
         raise Wrong(f"no answer to a script: {answer[:200]!r}")
     table_text(program, match[2])
 
 
-def informed(program, words, text, answer):
+def informed(program: str, words: Words, text: bytes, answer: bytes) -> None:
     head = rb"tetrahedra \d+\n(?:(?:connected|orientable|closed) (?:yes|no)\n){3}vertices \d+\nedges \d+\nfaces \d+\neuler -?\d+\n"
     vertex = rb"vertex \d+ degree \d+ euler -?\d+ closed (?:yes|no) kind (?:sphere|disc|torus|klein|other)\n"
     edge = rb"edge \d+ degree \d+ place (?:inner|boundary) valid (?:yes|no)\n"
@@ -132,20 +138,20 @@ def informed(program, words, text, answer):
         raise Wrong(f"no information: {answer[:200]!r}")
 
 
-def judged(program, words, text, answer):
+def judged(program: str, words: Words, text: bytes, answer: bytes) -> None:
     if not re.fullmatch(rb"(?:(?:solution|(?:length|large|fails) \d+|clash \d+ \d+)\n)*", answer):
         raise Wrong(f"no verdicts: {answer[:200]!r}")
 
 
-def written_table(program, words, text, answer):
+def written_table(program: str, words: Words, text: bytes, answer: bytes) -> None:
     table_text(program, answer)
 
 
-def certified(program, words, text, answer):
+def certified(program: str, words: Words, text: bytes, answer: bytes) -> None:
     again(program, ["check"], answer, b"accepted\n", "a certificate")
 
 
-def descended(program, words, text, answer):
+def descended(program: str, words: Words, text: bytes, answer: bytes) -> None:
     """The moves that were told lead to the table that was told."""
     match = re.fullmatch(rb"(?:reached|stuck) (\d+)\n((?:(?:41|32) \d+ \d+\n)*)(tri (?s:.*))", answer)
     if not match or int(match[1]) != match[2].count(b"\n"):
@@ -153,7 +159,7 @@ def descended(program, words, text, answer):
     again(program, ["play"], lines_of(text) + match[2], b"done\n" * int(match[1]) + match[3], "moves of a descent")
 
 
-def lifted(program, words, text, answer):
+def lifted(program: str, words: Words, text: bytes, answer: bytes) -> None:
     """Each lift is a solution on its table."""
     if not re.fullmatch(rb"(?:vec(?: \d+)*\n)*", answer):
         raise Wrong(f"no lifts: {answer[:200]!r}")
@@ -161,14 +167,14 @@ def lifted(program, words, text, answer):
     again(program, ["verify"], table + answer, b"solution\n" * answer.count(b"\n"), "lifts behind their table")
 
 
-def signed_apart(program, words, text, answer):
+def signed_apart(program: str, words: Words, text: bytes, answer: bytes) -> None:
     if not re.fullmatch(rb"[A-Za-z0-9+.-]+\n", answer):
         raise Wrong(f"no component signature: {answer[:200]!r}")
     for signature in answer[:-1].split(b"."):
         again(program, ["sig"], b"sig " + signature + b"\n", signature + b"\n", "a part's signature")
 
 
-def described(program, words, text, answer):
+def described(program: str, words: Words, text: bytes, answer: bytes) -> None:
     """Each vector is told, and its components, which add up to it."""
     vector = rb"vec((?: \d+)*)\neuler (-?\d+) linking (?:yes|no) boundary (?:yes|no) components (\d+)\n"
     component = rb"component euler (-?\d+) sides (?:one|two) orientable (?:yes|no) vec((?: \d+)*)\n"
@@ -182,33 +188,33 @@ def described(program, words, text, answer):
             raise Wrong(f"components that don't add up: {told[0][:200]!r}")
 
 
-def presented(program, words, text, answer):
+def presented(program: str, words: Words, text: bytes, answer: bytes) -> None:
     match = re.fullmatch(rb"generators (\d+)\n((?:generator \d+ face \d+ turns (?:yes|no)\n)*)relators (\d+)\n((?:relator \d+(?: -?\d+)*\n)*)", answer)
     if not match or int(match[1]) != match[2].count(b"\n") or int(match[3]) != match[4].count(b"\n"):
         raise Wrong(f"no presentation: {answer[:200]!r}")
 
 
-def accepted(program, words, text, answer):
+def accepted(program: str, words: Words, text: bytes, answer: bytes) -> None:
     if answer != b"accepted\n":
         raise Wrong(f"status 0 and not accepted: {answer[:200]!r}")
 
 
-def summed_up(program, words, text, answer):
+def summed_up(program: str, words: Words, text: bytes, answer: bytes) -> None:
     numbers = rb"seed \d+\nmoves \d+\ntetrahedra \d+\ncertificate accepted \d+\nsurfaces \d+\nlargest \d+\nlinking \d+\n"
     if not re.fullmatch(numbers, answer):
         raise Wrong(f"nothing summed up: {answer[:200]!r}")
 
 
-def decomposed(program, words, text, answer):
+def decomposed(program: str, words: Words, text: bytes, answer: bytes) -> None:
     coords = option(words, "coords") or "standard"
     again(program, ["addup", "--coords", coords], answer, b"accepted\n", "a sum")
 
 
-def covered(program, words, text, answer):
+def covered(program: str, words: Words, text: bytes, answer: bytes) -> None:
     again(program, ["info"], answer, None, "a cover")
 
 
-CHECKS = {
+CHECKS: Dict[str, Callable[[str, Words, bytes, bytes], None]] = {
     "surfaces": lists, "rays": lists, "sig": signed, "same": compared, "group": grouped, "play": played, "info": informed,
     "verify": judged, "crush": written_table, "make": certified, "descend": descended, "lift": lifted, "decompose": decomposed,
     "cover": covered, "csame": compared, "csig": signed_apart, "describe": described, "pi1": presented, "check": accepted,
@@ -216,7 +222,7 @@ CHECKS = {
 }
 
 
-def mutate(draw, text):
+def mutate(draw: random.Random, text: bytes) -> bytes:
     """One change of a text."""
     if not text:
         return bytes([draw.choice(b"tvs-#\n 0\xff")])
@@ -229,7 +235,7 @@ def mutate(draw, text):
     if kind == 2:
         return text[:at] + text[at:at + draw.randrange(1, 6)] + text[at:]
     if kind == 3:
-        return re.sub(rb"\d+", lambda it: it[0] * draw.choice([1, 1, 1, 2, 45]), text)
+        return re.sub(rb"\d+", lambda number: number[0] * draw.choice([1, 1, 1, 2, 45]), text)
     words = re.split(rb"(\s+)", text)
     if kind == 4 and len(words) > 4:
         one, other = draw.randrange(0, len(words), 2), draw.randrange(0, len(words), 2)
@@ -245,11 +251,11 @@ def mutate(draw, text):
     return text[:at]
 
 
-def try_one(program, inputs, seed, number):
+def try_one(program: str, inputs: Inputs, seed: int, number: int) -> Tuple[Optional[int], Optional[str]]:
     """The status of one run; raises Wrong with words and input where something is wrong."""
     draw = random.Random(seed * 1000003 + number)
-    words, text = draw.choice(inputs)
-    text = text.encode("latin-1")
+    words, chosen = draw.choice(inputs)
+    text = chosen.encode("latin-1")
     other = draw.choice(inputs)[1].encode("latin-1")
     # a large table is left to the commands that it was written for: an enumeration of it doesn't end
     if draw.randrange(10) == 0 and b"sig -" not in other:
@@ -267,10 +273,10 @@ def try_one(program, inputs, seed, number):
     return status, None
 
 
-def work(given):
+def work(given: Tuple[str, Inputs, int, Sequence[int]]) -> Tuple[Counter[Optional[int]], Optional[str]]:
     program, inputs, seed, numbers = given
     resource.setrlimit(resource.RLIMIT_AS, (BYTES, BYTES))
-    statuses = collections.Counter()
+    statuses: Counter[Optional[int]] = collections.Counter()
     for number in numbers:
         status, wrong = try_one(program, inputs, seed, number)
         if wrong:
@@ -279,8 +285,8 @@ def work(given):
     return statuses, None
 
 
-def main():
-    reader = argparse.ArgumentParser(description=__doc__.split("\n")[0])
+def main() -> int:
+    reader = argparse.ArgumentParser(description=str(__doc__).split("\n")[0])
     reader.add_argument("--inputs", type=int, default=100000)
     reader.add_argument("--seed", type=int, default=1)
     reader.add_argument("--processes", type=int, help="at most so many at a time; one for each processor where it is left out")
@@ -290,16 +296,16 @@ def main():
     with open(os.path.join(HERE, "hostile_inputs.json"), encoding="utf8") as file:
         inputs = json.load(file)
     begun = time.time()
-    shares = [range(it, min(it + 500, given.inputs)) for it in range(0, given.inputs, 500)]
-    statuses = collections.Counter()
+    shares = [range(first, min(first + 500, given.inputs)) for first in range(0, given.inputs, 500)]
+    statuses: Counter[Optional[int]] = collections.Counter()
     with multiprocessing.Pool(given.processes) as pool:
-        for counted, wrong in pool.imap(work, [(program, inputs, given.seed, it) for it in shares]):
+        for counted, wrong in pool.imap(work, [(program, inputs, given.seed, share) for share in shares]):
             statuses += counted
             if wrong:
                 print(wrong)
                 pool.terminate()
                 return 1
-    told = ", ".join(f"status {it}: {statuses[it]}" for it in sorted(statuses))
+    told = ", ".join(f"status {status}: {count}" for status, count in sorted(statuses.items()))
     print(f"{sum(statuses.values())} inputs, seed {given.seed}: {told}; {time.time() - begun:.0f} s")
     return 0
 

@@ -6,7 +6,7 @@ Usage: bench/info.py [PROGRAM]
 from common import chain, named_program, run
 
 
-def main():
+def main() -> None:
     program = named_program()
     for tetrahedra in (10, 100, 1000):
         done = run([program, "info"], chain(tetrahedra))

@@ -5,16 +5,20 @@ Usage: bench/limits.py [PROGRAM]
 """
 import random
 import sys
+from typing import Dict, Iterator, List, Optional, Tuple
 
 from common import chain, loose, named_program, parted, run, tree, vector_line
 
+# a name, the words, the input, and the seconds and megabytes that are aimed at
+Case = Tuple[str, List[str], str, Optional[float], Optional[float]]
 
-def spheres(pieces):
+
+def spheres(pieces: int) -> str:
     """The table of one tetrahedron without gluings, and so many triangles round a vertex."""
     return loose(1) + vector_line([pieces] + [0] * 6)
 
 
-def sums(program, table, many, seed):
+def sums(program: str, table: str, many: int, seed: int) -> str:
     """Sums of drawn vertex surfaces of a table, of which no two have different quads in a tetrahedron."""
     draw = random.Random(seed)
     lines = run([program, "surfaces"], table).answer.split("\n")
@@ -22,9 +26,10 @@ def sums(program, table, many, seed):
     return "".join(vector_line(drawn_sum(draw, surfaces)) for _ in range(many))
 
 
-def drawn_sum(draw, surfaces):
+def drawn_sum(draw: random.Random, surfaces: List[List[int]]) -> List[int]:
     """The sum of those of four hundred drawn surfaces whose quads agree with the quads before them."""
-    vector, quads = [0] * len(surfaces[0]), {}
+    vector = [0] * len(surfaces[0])
+    quads: Dict[int, int] = {}
     for surface in draw.choices(surfaces, k=400):
         own = {column // 7: column for column, entry in enumerate(surface) if column % 7 > 3 and entry}
         if all(quads.get(tet, column) == column for tet, column in own.items()):
@@ -34,7 +39,7 @@ def drawn_sum(draw, surfaces):
     return vector
 
 
-def surface_cases(program):
+def surface_cases(program: str) -> Iterator[Case]:
     yield "describe, 100,000 pieces", ["describe"], spheres(100_000), 1.0, 100
     octagons = vector_line([0] * 7 + [100_000, 0, 0])
     yield "describe, octagons, 100,000 pieces", ["describe", "--coords", "octagon"], loose(1) + octagons, 1.0, 100
@@ -45,7 +50,7 @@ def surface_cases(program):
     yield "decompose, the same, 1,000 vectors", ["decompose"], table + sums(program, table, 1000, 1), 2.0, None
 
 
-def table_cases(program):
+def table_cases(program: str) -> Iterator[Case]:
     big = parted(program, 333)
     links = vector_line([1, 1, 1, 1, 0, 0, 0] * 1000)
     yield "crush, 1,000 tetrahedra", ["crush"], big + links, 0.1, None
@@ -59,7 +64,7 @@ def table_cases(program):
     yield "csame, 1,000 parts", ["csame"], loose(1000) * 2, 0.2, None
 
 
-def move_cases(program):
+def move_cases(program: str) -> Iterator[Case]:
     for moves, seconds in ((100, None), (1000, 2.0)):
         words = ["make", "--seed", "1", "--moves", str(moves)]
         yield f"make, {moves:,} moves", words, "", seconds, None
@@ -67,7 +72,7 @@ def move_cases(program):
     yield "descend, 1,000 tetrahedra", ["descend"], parted(program, 333), 2.0, None
 
 
-def main():
+def main() -> int:
     program = named_program()
     missed = 0
     for cases in (surface_cases, table_cases, move_cases):

@@ -6,22 +6,22 @@ Usage: bench/moves.py [PROGRAM]
 from common import layered_loop, named_program, run
 
 
-def there_and_back(tetrahedra, steps):
+def there_and_back(tetrahedra: int, steps: int) -> str:
     """A 1-4 move and its inverse, over and over."""
     return "".join(f"14 {k % tetrahedra}\n41 {tetrahedra + 2} 3\n" for k in range(steps // 2))
 
 
-def and_undone(tetrahedra, steps):
+def and_undone(tetrahedra: int, steps: int) -> str:
     """A 1-4 move, taken back and played once more, and taken back."""
     return "".join(f"14 {k % tetrahedra}\nundo\nredo\nundo\n" for k in range(steps // 4))
 
 
-def refused(tetrahedra, steps):
+def refused(tetrahedra: int, steps: int) -> str:
     """Moves that are refused."""
     return "".join(f"41 {k % tetrahedra} 0\n" for k in range(steps))
 
 
-def main():
+def main() -> None:
     program = named_program()
     for tetrahedra in (10, 100, 990):
         for script in (there_and_back, and_undone, refused):

@@ -8,18 +8,22 @@ The picture of the floors is drawn by tools/floors.py.
 import math
 import os
 import re
+from typing import Dict, List, Tuple
 
 TOP = os.path.dirname(os.path.dirname(os.path.realpath(__file__)))
 WIDE, HIGH, LEFT, BELOW = 720, 400, 70, 50
+# of each name its points: tetrahedra and seconds
+Series = Dict[str, List[Tuple[float, float]]]
 COLOURS = {"trinorm": "#1f6fb4", "Regina, default": "#c2571a", "Regina, straight": "#d9a066"}
 
 
-def figures():
+def figures() -> Series:
     """Of each series its points: tetrahedra (ideal tables a little to the right) and seconds, where a figure stands."""
-    series, names = {name: [] for name in COLOURS}, []
+    series: Series = {name: [] for name in COLOURS}
+    names: List[str] = []
     with open(os.path.join(TOP, "docs", "SPEED.md"), encoding="utf8") as file:
         for line in file:
-            cells = [it.strip() for it in line.strip().strip("|").split("|")]
+            cells = [cell.strip() for cell in line.strip().strip("|").split("|")]
             row = re.fullmatch(r"(\d+) (closed|ideal)", cells[0])
             if cells[0] == "Table":
                 names = cells
@@ -31,14 +35,14 @@ def figures():
     return {name: points for name, points in series.items() if points}
 
 
-def place(at, seconds, first, last, least, most):
+def place(at: float, seconds: float, first: float, last: float, least: int, most: int) -> Tuple[float, float]:
     across = LEFT + (at - first) / (last - first) * (WIDE - LEFT - 20)
     up = (math.log10(seconds) - least) / (most - least)
     return across, HIGH - BELOW - up * (HIGH - BELOW - 20)
 
 
-def picture(series):
-    points = [it for them in series.values() for it in them]
+def picture(series: Series) -> str:
+    points = [point for them in series.values() for point in them]
     first, last = math.floor(min(at for at, _ in points)) - 0.5, math.ceil(max(at for at, _ in points)) + 0.5
     least, most = math.floor(math.log10(min(s for _, s in points))), math.ceil(math.log10(max(s for _, s in points)))
     parts = [f'<svg xmlns="http://www.w3.org/2000/svg" width="{WIDE}" height="{HIGH}" font-family="sans-serif" font-size="13">']

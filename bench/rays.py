@@ -7,15 +7,20 @@ Usage: bench/rays.py [PROGRAM]
 import os
 import shutil
 import tempfile
+from typing import Callable, Iterator, List, Optional, Sequence, Tuple
 
 import common
-from common import ENDED, layered_loop_gluings, named_program
-from tables import CLOSED, gluings_of
+from common import ENDED, Gluings, layered_loop_gluings, named_program
+from tables import CLOSED
+from trinorm import table
 
 LIMIT = 120
+Rows = List[List[int]]
+# seconds, None where it took too long, and the number of rays
+Measured = Tuple[Optional[float], int]
 
 
-def difference(columns, plus, minus):
+def difference(columns: int, plus: Sequence[int], minus: Sequence[int]) -> List[int]:
     """The row that adds up some columns and takes away others."""
     row = [0] * columns
     for column in plus:
@@ -25,7 +30,7 @@ def difference(columns, plus, minus):
     return row
 
 
-def magic(side, with_diagonals):
+def magic(side: int, with_diagonals: bool) -> Tuple[int, Rows]:
     """All sums of rows and columns are that of the first row, and perhaps those of both diagonals."""
     rows = [[side * r + c for c in range(side)] for r in range(side)]
     sums = rows[1:] + [[side * r + c for r in range(side)] for c in range(side)]
@@ -35,13 +40,18 @@ def magic(side, with_diagonals):
     return side * side, [difference(side * side, one, rows[0]) for one in sums]
 
 
-def kind_of(a, b):
+def gluings_of(signature: str, program: str) -> Gluings:
+    """The gluings of a table, by its signature."""
+    return [[gluing and (gluing.tet, gluing.images) for gluing in row] for row in table(signature, program=program).rows]
+
+
+def kind_of(a: int, b: int) -> int:
     """The kind of the quadrilateral that keeps two vertices together."""
     other = (set(range(4)) - {a, b}) if 0 not in (a, b) else {a, b}
     return max(other) - 1
 
 
-def quad_cone(gluings):
+def quad_cone(gluings: Gluings) -> Tuple[int, Rows]:
     """One row for each edge: going round it, as many quadrilaterals slope up as down."""
     seen = set()
     rows = []
@@ -67,17 +77,17 @@ def quad_cone(gluings):
     return 3 * len(gluings), rows
 
 
-def run(command, text="", folder=None):
+def run(command: Sequence[str], text: str = "", folder: Optional[str] = None) -> Tuple[Optional[float], str]:
     """The seconds of a command, None where it took too long, and its answer."""
     done = common.run(command, text, LIMIT, folder)
     return None if done.status == ENDED else done.seconds, done.answer
 
 
-def lines_of(rows):
+def lines_of(rows: Rows) -> str:
     return "".join(" ".join(map(str, row)) + "\n" for row in rows)
 
 
-def by_4ti2(program, columns, rows, folder):
+def by_4ti2(program: str, columns: int, rows: Rows, folder: str) -> Measured:
     with open(os.path.join(folder, "cone.mat"), "w", encoding="utf8") as out:
         out.write(f"{len(rows)} {columns}\n" + lines_of(rows))
     with open(os.path.join(folder, "cone.sign"), "w", encoding="utf8") as out:
@@ -91,7 +101,7 @@ def by_4ti2(program, columns, rows, folder):
         return seconds, int(given.readline().split()[0])
 
 
-def half_spaces(columns, rows):
+def half_spaces(columns: int, rows: Rows) -> str:
     """The cone in the form that lrs and cdd read."""
     units = [[int(c == k) for c in range(columns)] for k in range(columns)]
     body = "".join(f"0 {line}\n" for line in lines_of(rows + units).splitlines())
@@ -100,19 +110,19 @@ def half_spaces(columns, rows):
             f"{len(rows) + columns} {columns + 1} rational\n{body}end\n")
 
 
-def by_lrs(program, columns, rows, folder):
+def by_lrs(program: str, columns: int, rows: Rows, folder: str) -> Measured:
     with open(os.path.join(folder, "cone.ine"), "w", encoding="utf8") as out:
         out.write(half_spaces(columns, rows))
     seconds, text = run([program, "cone.ine"], folder=folder)
     return seconds, sum(line.startswith(" 0 ") for line in text.splitlines())
 
 
-def by_cdd(program, columns, rows, folder):
+def by_cdd(program: str, columns: int, rows: Rows, folder: str) -> Measured:
     seconds, text = run([program, "--rep"], half_spaces(columns, rows), folder)
     return seconds, sum(line.startswith(" 0 ") for line in text.splitlines())
 
 
-def by_normaliz(program, columns, rows, folder):
+def by_normaliz(program: str, columns: int, rows: Rows, folder: str) -> Measured:
     with open(os.path.join(folder, "cone.in"), "w", encoding="utf8") as out:
         out.write(f"amb_space {columns}\nequations {len(rows)}\n{lines_of(rows)}nonnegative\nSupportHyperplanes\n")
     seconds, _ = run([program, "-x=1", "cone.in"], folder=folder)
@@ -131,7 +141,7 @@ PEERS = (
 )
 
 
-def peers():
+def peers() -> Iterator[Tuple[str, str, Callable[[str, int, Rows, str], Measured]]]:
     """The peers that are installed, each with its program."""
     for name, programs, ask in PEERS:
         found = [path for path in map(shutil.which, programs) if path]
@@ -139,13 +149,13 @@ def peers():
             yield name, found[0], ask
 
 
-def told(name, words, seconds, rays, own=None):
+def told(name: str, words: str, seconds: Optional[float], rays: int, own: Optional[float] = None) -> None:
     answer = f"no answer in {LIMIT} s" if seconds is None else f"{rays} rays, {seconds:.2f} s"
     ratio = f", trinorm takes {own / seconds:.2f} of that" if own and seconds else ""
     print(f"{name}, {words}: {answer}{ratio}", flush=True)
 
 
-def measure(program, name, columns, rows):
+def measure(program: str, name: str, columns: int, rows: Rows) -> None:
     text = f"cone {columns} {len(rows)}\n" + lines_of(rows)
     own = None
     for order in ("zeros", "given"):
@@ -157,11 +167,11 @@ def measure(program, name, columns, rows):
         told(name, peer, seconds, rays, own)
 
 
-def main():
+def main() -> None:
     program = named_program()
     for tetrahedra in (8, 9, 10):
         measure(program, f"quad cone of a layered loop of {tetrahedra}", *quad_cone(layered_loop_gluings(tetrahedra)))
-        measure(program, f"quad cone of a closed table of {tetrahedra}", *quad_cone(gluings_of(CLOSED[tetrahedra])))
+        measure(program, f"quad cone of a closed table of {tetrahedra}", *quad_cone(gluings_of(CLOSED[tetrahedra], program)))
     measure(program, "magic cone of 5 x 5 with diagonals", *magic(5, True))
     measure(program, "magic cone of 6 x 6", *magic(6, False))
 

@@ -4,7 +4,7 @@ every face glued), on chains and on tables grown by 2-3 moves that are drawn fro
 
 Usage: bench/signatures.py [PROGRAM]
 """
-from common import chain, grown, layered_loop, named_program, regina_takes, run
+from common import chain, grown, layered_loop, named_program, regina_says, run
 
 # What Regina's interpreter is told: seconds of its signature, without its start.
 REGINA = """
@@ -16,16 +16,16 @@ print(time.process_time() - begun)
 """
 
 
-def measure(program, command, name, text):
+def measure(program: str, command: str, name: str, text: str) -> None:
     done = run([program, command], text)
     line = f"{command}, {name}: {len(done.answer)} bytes, status {done.status}, {done.seconds:.3f} s"
-    peer = command == "sig" and regina_takes(REGINA % done.answer.split()[-1])
-    if peer:
-        line += f"; Regina {peer:.3f} s, ratio {done.seconds / peer:.2f}"
+    said = regina_says(REGINA % done.answer.split()[-1]) if command == "sig" else None
+    if said:
+        line += f"; Regina {float(said[-1]):.3f} s, ratio {done.seconds / float(said[-1]):.2f}"
     print(line, flush=True)
 
 
-def main():
+def main() -> None:
     program = named_program()
     for tetrahedra in (10, 40, 100, 300, 1000):
         measure(program, "sig", f"layered loop of {tetrahedra}", layered_loop(tetrahedra))

@@ -10,13 +10,12 @@ longer than the cut is ended, and counts as the cut.
 """
 import argparse
 import math
-import shutil
-import subprocess
-import sys
+from typing import Iterator, List, Optional, Tuple
 
-from common import ENDED, layered_loop, run
+from common import ENDED, layered_loop, regina_python, regina_says, run
 from tables import BOUNDARY, CLOSED, HYPERBOLIC, IDEAL, SLOW
 from trinorm import find
+from trinorm.regina_surfaces import COORDS
 
 # What Regina's interpreter is told: how many surfaces there are, and the least seconds of a call.
 REGINA = """
@@ -33,28 +32,20 @@ for _ in range(%d):
 print(found.size(), least)
 """
 DEFAULT, STRAIGHT = "", ", regina.NS_VERTEX, regina.NS_VERTEX_STD_DIRECT | regina.NS_VERTEX_DD"
-COORDINATES = {"standard": "NS_STANDARD", "quad": "NS_QUAD", "octagon": "NS_AN_STANDARD"}
 FAMILIES = {"closed": CLOSED, "hyperbolic": HYPERBOLIC, "ideal": IDEAL, "boundary": BOUNDARY}
-
-
-def interpreter():
-    """The Python that has the module regina; None where Regina isn't installed."""
-    for path in filter(None, (shutil.which("python3"), "/usr/bin/python3", shutil.which("regina-python"))):
-        if run([path, "-c", "import regina"] if "regina" not in path else [path, "--version"]).status == 0:
-            return path
-    return None
 
 
 class Ratios:
     """The ratios of one comparison, for their mean."""
 
-    def __init__(self, name):
-        self.name, self.them = name, []
+    def __init__(self, name: str) -> None:
+        self.name = name
+        self.them: List[float] = []
 
-    def add(self, ratio):
+    def add(self, ratio: float) -> None:
         self.them.append(ratio)
 
-    def tell(self):
+    def tell(self) -> None:
         if self.them:
             mean = math.exp(sum(map(math.log, self.them)) / len(self.them))
             print(f"{self.name}: {len(self.them)} tables, geometric mean {mean:.3f}, greatest {max(self.them):.3f}", flush=True)
@@ -63,32 +54,27 @@ class Ratios:
 class Bench:
     """The program beside Regina, and how often and how long both are asked."""
 
-    def __init__(self, program, best, cut):
-        self.program, self.best, self.cut, self.python = program, best, cut, interpreter()
+    def __init__(self, program: str, best: int, cut: int) -> None:
+        self.program, self.best, self.cut = program, best, cut
 
-    def ask(self, words, text):
+    def ask(self, words: List[str], text: str) -> Optional[Tuple[str, float]]:
         """The answer and the least seconds; None where it takes longer than twice the cut."""
-        least, answer = None, ""
+        least, answer = math.inf, ""
         for _ in range(self.best):
             done = run([self.program, *words], text, 2 * self.cut)
             if done.status == ENDED:
                 return None
-            answer, least = done.answer, min(done.seconds, least or done.seconds)
+            answer, least = done.answer, min(done.seconds, least)
             if done.seconds > 1:
                 break
         return answer, least
 
-    def regina(self, signature, coords, how):
+    def regina(self, signature: str, coords: str, how: str) -> Optional[Tuple[int, float]]:
         """How many surfaces Regina lists and the least seconds, or None where it takes longer than the cut."""
-        script = REGINA % (signature, self.best, COORDINATES[coords], how)
-        try:
-            done = subprocess.run([self.python, "-c", script], stdout=subprocess.PIPE, timeout=self.best * self.cut, check=False)
-        except subprocess.TimeoutExpired:
-            return None
-        count, seconds = done.stdout.split()[-2:]
-        return int(count), float(seconds)
+        said = regina_says(REGINA % (signature, self.best, COORDS[coords], how), self.best * self.cut)
+        return None if said is None else (int(said[-2]), float(said[-1]))
 
-    def compare(self, name, text, coords, peers):
+    def compare(self, name: str, text: str, coords: str, peers: List[Tuple[Ratios, str]]) -> None:
         """One line: the name, how many surfaces, the seconds, and of each peer its seconds and the ratio."""
         own = self.ask(["surfaces"] if coords == "standard" else ["surfaces", "--coords", coords], text)
         if own is None:
@@ -97,7 +83,7 @@ class Bench:
         found, seconds = own[0].count("vec"), own[1]
         line = f"| {name} | {found:,} | {seconds:.4f} |"
         signature = text.split()[1] if text.startswith("sig ") else run([self.program, "sig"], text).answer.split()[0]
-        for ratios, how in peers if self.python else ():
+        for ratios, how in peers if regina_python() else ():
             peer = self.regina(signature, coords, how)
             if peer and peer[0] != found:
                 line += f" {peer[0]} surfaces!"
@@ -106,16 +92,20 @@ class Bench:
             line += f" {over}{took:.4f} | {seconds / took:.3f} |"
         print(line, flush=True)
 
-    def decompose(self, name, text, ratios):
+    def decompose(self, name: str, text: str, ratios: Ratios) -> None:
         """A sum for the first surface of the list, beside the list."""
         listed = self.ask(["surfaces"], text)
+        if listed is None:
+            return
         first = next(line for line in listed[0].splitlines() if line.startswith("vec"))
         whole = self.ask(["decompose"], f"{text}{first}\n")
+        if whole is None:
+            return
         ratios.add(whole[1] / listed[1])
         print(f"| {name}, decompose | {listed[1]:.4f} | {whole[1]:.4f} | {whole[1] / listed[1]:.2f} |", flush=True)
 
 
-def tables(least, most):
+def tables(least: int, most: int) -> Iterator[Tuple[str, str, str]]:
     """The families with their tables, a loop for each even number of tetrahedra."""
     for family, them in FAMILIES.items():
         for count, signature in them.items():
@@ -125,8 +115,8 @@ def tables(least, most):
         yield "loop", f"{count} loop", layered_loop(count)
 
 
-def words():
-    asked = argparse.ArgumentParser(description=__doc__.split("\n", maxsplit=1)[0])
+def words() -> argparse.Namespace:
+    asked = argparse.ArgumentParser(description=str(__doc__).split("\n", maxsplit=1)[0])
     asked.add_argument("program", nargs="?")
     asked.add_argument("--families", default="closed,hyperbolic,ideal,boundary,loop,twenty,quad,octagon,decompose,slow")
     asked.add_argument("--straight", action="store_true")
@@ -135,7 +125,7 @@ def words():
     return asked.parse_args()
 
 
-def main():
+def main() -> None:
     told = words()
     chosen = told.families.split(",")
     bench = Bench(find(told.program), told.best, told.cut)
@@ -166,4 +156,4 @@ def main():
 
 
 if __name__ == "__main__":
-    sys.exit(main())
+    main()

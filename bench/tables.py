@@ -2,8 +2,6 @@
 Those of CLOSED and HYPERBOLIC have one vertex, whose link is a sphere (these are grown from a filling of the figure-eight
 knot's complement); the link of the one vertex of each of IDEAL is a torus; those of BOUNDARY are grown from a layered
 solid torus."""
-import itertools
-
 CLOSED = {
     6: "gLLPQccdfeefqffaqnw",
     7: "hLvAQkbefggefgaauaalfv",
@@ -95,41 +93,3 @@ SLOW = {
 9:2031 5:3021 9:1302 2:3201
 """,
 }
-
-CHARACTERS = "abcdefghijklmnopqrstuvwxyzABCDEFGHIJKLMNOPQRSTUVWXYZ0123456789+-"
-PERMUTATIONS = list(itertools.permutations(range(4)))
-
-
-def type_count(types, count):
-    """How many of the types are read until so many tetrahedra have all of their faces."""
-    faces, met, k = 4 * count, 1, 0
-    while faces:
-        faces -= 1 if types[k] == 0 else 2
-        met += types[k] == 1
-        k += 1
-    return k
-
-
-def gluings_of(signature):
-    """The gluings of a closed table of fewer than 63 tetrahedra: for each face the tetrahedron behind it and the images."""
-    values = [CHARACTERS.index(c) for c in signature]
-    count = values[0]
-    types = [v >> shift & 3 for v in values[1:] for shift in (0, 2, 4)]
-    used = type_count(types, count)
-    rest = values[1 + (used + 2) // 3:]
-    joins = sum(kind == 2 for kind in types[:used])
-    destinations, words = iter(rest[:joins]), iter(rest[joins:])
-    gluings = [[None] * 4 for _ in range(count)]
-    met, kinds = 1, iter(types)
-    for tet in range(count):
-        for face in range(4):
-            if gluings[tet][face] is not None:
-                continue
-            if next(kinds) == 1:
-                there, word = met, (0, 1, 2, 3)
-                met += 1
-            else:
-                there, word = next(destinations), PERMUTATIONS[next(words)]
-            gluings[tet][face] = (there, word)
-            gluings[there][word[face]] = (tet, tuple(word.index(v) for v in range(4)))
-    return gluings

@@ -4,10 +4,12 @@
 Prints the seconds and the memory of each run.
 Usage: bench/vectors.py [PROGRAM]
 """
+from typing import Iterator, List, Tuple
+
 from common import chain, layered_loop, named_program, run, vector_line
 
 
-def cases():
+def cases() -> Iterator[Tuple[str, List[str], str]]:
     links = [25000] * 4 + [0] * 3
     yield "describe: 25,000 vertex links of 4 pieces", ["describe"], "sig bkaagj\n" + vector_line(links)
     torus = [1, 1, 0, 0, 1, 0, 0]
@@ -20,7 +22,7 @@ def cases():
     yield "lift: 1,000 tetrahedra in a loop", ["lift"], layered_loop(1000) + vector_line([0, 0, 0] * 1000)
 
 
-def main():
+def main() -> None:
     program = named_program()
     for name, words, text in cases():
         done = run([program, *words], text)

@@ -7,13 +7,13 @@ Usage: bench/verify.py [PROGRAM]
 from common import MOST_BYTES, chain, named_program, run, vector_line
 
 
-def filled(line):
+def filled(line: str) -> str:
     """A table of 1,000 tetrahedra, and a line as often as there is room for."""
     table = chain(1000)
     return table + line * ((MOST_BYTES - len(table)) // len(line))
 
 
-def main():
+def main() -> None:
     program = named_program()
     for name, entries in (("vectors of zeros", [0] * 7000), ("vectors of ones", [1] * 7000), ("empty vectors", [])):
         text = filled(vector_line(entries))
