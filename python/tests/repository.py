@@ -20,8 +20,6 @@ def make(folder: str) -> Path:
     (top / "python" / "trinorm").mkdir(parents=True)
     shutil.copy(REPOSITORY / "python" / "trinorm" / "commands.txt", top / "python" / "trinorm")
     (out / ".version").write_text("proved here\nversion 1.2\ncommit abc\nkit made-up\nsources 12\nprogram 34\n")
-    (top / "bench").mkdir()
-    shutil.copy(REPOSITORY / "bench" / "census.sh", top / "bench")
     for path in (top / "crates.txt", out / ".sources", out / ".built"):
         path.touch()
     return program

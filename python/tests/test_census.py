@@ -1,18 +1,26 @@
-"""A census: JSON lines, going on where it stopped, refusals and killed runs."""
+"""A census: JSON lines, going on where it stopped, refusals, killed runs, and what is ended with it."""
 import contextlib
 import io
 import json
 import os
+import signal
+import subprocess
+import sys
 import tempfile
+import time
 import unittest
+import unittest.mock
 
 import trinorm
+from tests.programs import script
 from trinorm.__main__ import main
-from trinorm.census import Task, census
+from trinorm.census import Ran, census, entries
+from trinorm.program import REPOSITORY, Failed
+from trinorm.tasks import Task
 
 SIGNATURES = """# the smallest triangulations
 bkaagj sphere
-bkaagb
+sig bkaagb
 
 bkaajj  a name with spaces
 cPcbbbiht figure-eight
@@ -21,73 +29,185 @@ bkaagj sphere
 """
 
 
-class Census(unittest.TestCase):
+class Folder(unittest.TestCase):
+    """Tests with a file of signatures and an output."""
+
     def setUp(self):
         folder = tempfile.TemporaryDirectory()
         self.addCleanup(folder.cleanup)
-        self.given = os.path.join(folder.name, "signatures.txt")
-        self.out = os.path.join(folder.name, "answers.jsonl")
         self.folder = folder.name
-        with open(self.given, "w", encoding="utf8") as file:
-            file.write(SIGNATURES)
+        self.given = os.path.join(self.folder, "signatures.txt")
+        self.out = os.path.join(self.folder, "answers.jsonl")
+        self.put(self.given, SIGNATURES)
 
+    def put(self, path, content):
+        with open(path, "w", encoding="utf8") as file:
+            file.write(content)
+
+    def lines(self, path=None):
+        with open(path or self.out, encoding="utf8") as file:
+            return file.readlines()
+
+    def answers(self, path=None):
+        return {it["name"]: it for it in map(json.loads, self.lines(path))}
+
+
+class Lines(unittest.TestCase):
+    def test_entries(self):
+        told = list(entries(SIGNATURES.splitlines()))
+        self.assertEqual(told, [("bkaagj", "sphere"), ("bkaagb", "bkaagb"), ("bkaajj", "a name with spaces"), ("cPcbbbiht", "figure-eight"),
+                                ("bkaagjx", "not one")])
+        self.assertEqual(list(entries(["sig", "sig ", "sig bkaagj one", "\tbkaagj\tone"])), [("sig", "sig"), ("bkaagj", "one")])
+
+
+class Census(Folder):
     def run_it(self, *words, task=None, **named):
         with contextlib.redirect_stderr(io.StringIO()) as said:
-            self.counts = census(self.given, self.out, task or Task("surfaces", "standard"), 2, **named)
+            self.ran = census(self.given, self.out, task or Task("surfaces", "standard"), 2, **named)
         self.said = said.getvalue()
-        with open(self.out, encoding="utf8") as file:
-            return {it["name"]: it for it in map(json.loads, file)}
+        return self.answers()
 
     def test_answers_and_refusals(self):
         told = self.run_it()
-        self.assertEqual(self.counts, (5, 0))
+        self.assertEqual(self.ran, Ran(0, 5, 0))
         self.assertEqual(set(told), {"sphere", "bkaagb", "a name with spaces", "figure-eight", "not one"})
         self.assertEqual(told["figure-eight"]["answer"], [[1, 1, 1, 1, 0, 0, 0] * 2])
-        self.assertEqual(told["not one"]["refused"]["kind"], "signature trailing")
+        self.assertEqual(told["not one"]["refused"], {"status": 3, "line": "refused: signature trailing 6", "kind": "signature trailing", "places": [6]})
         self.assertGreaterEqual(told["sphere"]["seconds"], 0)
         self.assertIn("4 answered, 1 refused, 0 failed", self.said)
 
     def test_goes_on_where_it_stopped(self):
         whole = self.run_it()
-        with open(self.out, encoding="utf8") as file:
-            lines = file.readlines()
-        with open(self.out, "w", encoding="utf8") as file:
-            file.write("".join(lines[:2]) + lines[2][:9])
+        self.put(self.out, "".join(self.lines()[:2]) + self.lines()[2][:9])
         again = self.run_it()
-        self.assertEqual(self.counts, (3, 0))
+        self.assertEqual(self.ran, Ran(2, 3, 0))
+        self.assertIn("2 done before; ", self.said)
         self.assertEqual({name: it.get("answer") for name, it in again.items()}, {name: it.get("answer") for name, it in whole.items()})
         self.run_it()
-        self.assertEqual(self.counts, (0, 0))
+        self.assertEqual(self.ran, Ran(5, 0, 0))
+        self.assertIn("5 done before; 0 answered", self.said)
 
     def test_a_killed_run_loses_no_other(self):
-        path = os.path.join(self.folder, "program")
-        with open(path, "w", encoding="utf8") as file:
-            file.write(f'#!/bin/sh\nread kind signature\n[ $signature != bkaajj ] || kill -9 $$\necho "$kind $signature" | {trinorm.find()} "$@"\n')
-        os.chmod(path, 0o755)
+        kills = "[ $signature != bkaajj ] || kill -9 $$"
+        path = script(self.folder, f'read kind signature\n{kills}\necho "$kind $signature" | {trinorm.find()} "$@"\n')
         told = self.run_it(task=Task("surfaces", "standard", program=path))
-        self.assertEqual((self.counts, len(told)), ((5, 1), 5))
+        self.assertEqual((self.ran, len(told)), (Ran(0, 5, 1), 5))
         self.assertIn("signal 9", told["a name with spaces"]["failed"])
         self.run_it()
-        self.assertEqual(self.counts, (0, 0))
+        self.assertEqual(self.ran, Ran(5, 0, 0))
         told = self.run_it(retry=True)
-        self.assertEqual(self.counts, (1, 0))
+        self.assertEqual(self.ran, Ran(4, 1, 0))
         self.assertIn("answer", told["a name with spaces"])
 
-    def test_answers_of_another_command_are_left_alone(self):
+    def test_a_killed_worker_loses_no_other(self):
+        kills = "[ $signature != bkaajj ] || kill -9 $PPID"
+        path = script(self.folder, f'read kind signature\n{kills}\necho "$kind $signature" | {trinorm.find()} "$@"\n')
+        told = self.run_it(task=Task("surfaces", "standard", program=path))
+        self.assertEqual((self.ran, len(told)), (Ran(0, 5, 1), 5))
+        self.assertEqual(told["a name with spaces"]["failed"], "a worker process: killed by signal 9")
+
+    def test_many(self):
+        self.put(self.given, "".join(f"bkaagj {number}\n" for number in range(300)))
+        self.assertEqual(set(self.run_it(task=Task("sig"))), set(map(str, range(300))))
+
+    def fails_with(self, text, task=None):
+        with self.assertRaisesRegex(Failed, text):
+            self.run_it(task=task)
+
+    def test_an_output_that_is_none(self):
         self.run_it()
-        with self.assertRaises(ValueError):
-            self.run_it(task=Task("info"))
+        self.fails_with("has answers of `surfaces --coords standard`, and `info` is asked for", Task("info"))
+        whole = self.lines()
+        for line in ("{broken\n", "[]\n", '{"name": 1}\n'):
+            self.put(self.out, "".join(whole[:2]) + line + whole[2])
+            self.fails_with("answers.jsonl, line 3: ")
+            self.assertEqual(len(self.lines()), 4)
+        self.assertEqual(len(os.listdir(self.folder)), 2)
+
+    def test_files_in_other_encodings(self):
+        for content, text in (("bkaagj\n".encode("utf-16"), "signatures.txt is in UTF-16"), (b"bkaagj\n\xff\n", "signatures.txt, line 2: byte 1")):
+            with open(self.given, "wb") as file:
+                file.write(content)
+            self.fails_with(text)
+        with open(self.given, "wb") as file:
+            file.write("\ufeffbkaagj\n".encode())
+        self.assertIn("bkaagj", self.run_it())
 
     def test_other_commands(self):
         with contextlib.redirect_stderr(io.StringIO()):
-            for command in ("info", "sig", "csig", "cover", "pi1", "descend", "describe"):
+            for command in ("info", "sig", "csig", "cover", "pi1", "descend", "describe", "count"):
                 self.assertEqual(main(["census", self.given, "--command", command, "--jobs", "2"]), 0)
-        with open(f"{self.given}.descend.jsonl", encoding="utf8") as file:
-            told = {it["name"]: it.get("answer") for it in map(json.loads, file)}
-        self.assertEqual(told["sphere"], {"reached": True, "moves": [], "table": "tri 1\n0:1023 0:1023 0:1230 0:3012\n"})
-        with open(f"{self.given}.describe.jsonl", encoding="utf8") as file:
-            told = {it["name"]: it.get("answer") for it in map(json.loads, file)}
-        self.assertEqual([it["euler"] for it in told["sphere"]], [0, 2])
+        self.assertEqual(self.answers(f"{self.given}.descend.jsonl")["sphere"]["answer"],
+                         {"reached": True, "moves": [], "table": "tri 1\n0:1023 0:1023 0:1230 0:3012\n"})
+        told = self.answers(f"{self.given}.describe.jsonl")
+        self.assertEqual([it["euler"] for it in told["sphere"]["answer"]], [0, 2])
+        told = self.answers(f"{self.given}.count.jsonl")
+        self.assertEqual(told["sphere"]["answer"], {"surfaces": 2, "euler": {"2": 1, "0": 1}, "linking": 1, "greatest": 1})
+
+
+class Ends(Folder):
+    """A census as a process of its own, which is ended from outside."""
+
+    def start(self, program):
+        self.put(self.given, "bkaagj one\nbkaagj two\nbkaagj three\n")
+        around = dict(os.environ, PYTHONPATH=str(REPOSITORY / "python"), TRINORM=program)
+        words = [sys.executable, "-m", "trinorm", "census", self.given, "--jobs", "2", "--out", self.out]
+        return subprocess.Popen(words, env=around, stderr=subprocess.PIPE, start_new_session=True)
+
+    def waiting(self):
+        """A program that tells its process, and then takes long."""
+        return script(self.folder, f"echo $$ >>{self.folder}/processes\nexec sleep 100\n")
+
+    def processes(self):
+        with contextlib.suppress(FileNotFoundError):
+            return [int(it) for it in self.lines(os.path.join(self.folder, "processes"))]
+        return []
+
+    def until(self, is_so):
+        end = time.monotonic() + 20
+        while not is_so():
+            self.assertLess(time.monotonic(), end)
+            time.sleep(0.02)
+
+    def is_there(self, process):
+        try:
+            os.kill(process, 0)
+        except ProcessLookupError:
+            return False
+        with open(f"/proc/{process}/stat", encoding="utf8") as file:
+            return file.read().rpartition(")")[2].split()[0] != "Z"
+
+    def test_what_runs_is_ended_too(self):
+        for number, status in ((signal.SIGTERM, 143), (signal.SIGINT, 130), (signal.SIGKILL, -9)):
+            with self.subTest(number), self.start(self.waiting()) as run:
+                self.until(lambda: len(self.processes()) == 2)
+                run.send_signal(number)
+                self.assertEqual(run.wait(20), status)
+                self.until(lambda: not any(map(self.is_there, self.processes())))
+                self.assertEqual(self.lines(), [])
+            os.unlink(os.path.join(self.folder, "processes"))
+
+    def test_killed_in_the_middle_of_a_line(self):
+        with self.start(trinorm.find()) as run:
+            run.wait(60)
+        whole = self.lines()
+        self.put(self.out, whole[0] + whole[1][:-3])
+        with self.start(trinorm.find()) as run:
+            self.assertIn(b"1 done before; 2 answered", run.communicate(timeout=60)[1])
+        self.assertEqual(set(self.answers()), {"one", "two", "three"})
+
+    def test_a_second_one_is_told(self):
+        with self.start(self.waiting()) as run:
+            self.until(lambda: len(self.processes()) == 2)
+            with self.start(trinorm.find()) as other:
+                self.assertIn(b"another run writes to", other.communicate(timeout=60)[1])
+                self.assertEqual(other.returncode, 3)
+            run.terminate()
+
+    def test_a_worker_that_can_not_start(self):
+        self.put(self.given, "bkaagj\n")
+        with unittest.mock.patch("sys.executable", "/bin/false"), self.assertRaisesRegex(Failed, "could not start: status 1"):
+            census(self.given, self.out, Task("sig"), 1)
 
 
 if __name__ == "__main__":

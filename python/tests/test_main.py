@@ -33,6 +33,14 @@ class Words(unittest.TestCase):
             self.assertEqual(self.said("census", given, "--out", "-")[1].count('"answer"'), 2)
             self.assertIn("`info` is asked for", self.said("census", given, "--command", "info", "--out", out)[2])
 
+    def test_help_and_version(self):
+        for words in (["--help"], ["--version"], ["census", "--help"]):
+            with self.assertRaises(SystemExit) as caught, contextlib.redirect_stdout(io.StringIO()) as out:
+                main(words)
+            self.assertEqual(caught.exception.code, 0)
+            self.assertIn("trinorm", out.getvalue())
+        self.assertEqual(self.said("census", os.devnull, "--command", "describe", "--coords", "quad")[0], 3)
+
     def test_what_is_wrong(self):
         self.assertEqual(self.said("graph", "bkaagjx"), (3, "", "trinorm: refused: signature trailing 6\n"))
         self.assertEqual(self.said("census", "/no/such/file")[0], 3)

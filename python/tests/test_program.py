@@ -7,16 +7,8 @@ from pathlib import Path
 from unittest import mock
 
 import trinorm
-from trinorm.program import kind_and_places
-
-
-def script(folder, text):
-    """A program that isn't trinorm."""
-    path = os.path.join(folder, "program")
-    with open(path, "w", encoding="utf8") as file:
-        file.write("#!/bin/sh\n" + text)
-    os.chmod(path, 0o755)
-    return path
+from tests.programs import script
+from trinorm.program import kind_and_places, run
 
 
 class Refusals(unittest.TestCase):
@@ -43,7 +35,7 @@ class Refusals(unittest.TestCase):
         self.assertEqual(kind_and_places("refused: large step 0 row 2 value 3 0"), ("large value", (0, 2, (3, 0))))
 
     def test_words(self):
-        self.assertEqual(self.refused(trinorm.surfaces, "bkaagj", coords="standard.")[0], 2)
+        self.assertEqual(self.refused(run, ["surfaces", "--coords", "standard."])[0], 2)
 
     def test_is_kept_by_pickle(self):
         again = pickle.loads(pickle.dumps(trinorm.Refused(3, "refused: input 1 1 bad-word")))

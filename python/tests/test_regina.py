@@ -1,11 +1,7 @@
 """Both ways between Regina and trinorm; left out where this Python has no module regina."""
-import contextlib
-import io
 import unittest
 
 import trinorm
-from trinorm.__main__ import main
-from trinorm.crosscheck import differences
 from trinorm.regina_surfaces import vertex_surfaces
 
 try:
@@ -57,11 +53,14 @@ class Regina(unittest.TestCase):
         cover = trinorm.cover(["0:1203 0:2013 0:0231 0:0312"])
         self.assertEqual(cover.to_regina().isoSig(), "cPcbbbiht")
 
-    def test_crosscheck(self):
-        self.assertEqual(differences("cPcbbbiht", "quad"), ["cPcbbbiht quad: the same 4"])
-        with contextlib.redirect_stdout(io.StringIO()) as said:
-            self.assertEqual(main(["crosscheck", "bkaagj", "cPcbbbiht"]), 0)
-        self.assertEqual(said.getvalue().count("the same"), 6)
+    def test_packets_and_lists(self):
+        packet = regina.PacketOfTriangulation3(regina.Triangulation3.fromIsoSig("bkaagj"))
+        self.assertEqual(trinorm.sig(packet), "bkaagj")
+        self.assertEqual(trinorm.sig(regina.SnapPeaTriangulation(regina.Triangulation3.fromIsoSig("cPcbbbiht"))), "cPcbbbiht")
+        surfaces = regina.NormalSurfaces(packet, regina.NS_STANDARD)
+        self.assertEqual([it.kind for it in trinorm.verify(packet, surfaces)], ["solution"] * 2)
+        with self.assertRaises(trinorm.BadArgument):
+            trinorm.verify(packet, surfaces[0])
 
 
 if __name__ == "__main__":

@@ -11,13 +11,19 @@ from .answers import (Bulk, Component, Cover, Descent, Edge, Generator, Grouping
 from .commands import (addup, bulk, check, cover, crush, csame, csig, decompose, descend, describe, group, info, lift,
                        make, pi1, play, rays, same, sig, surfaces, table, verify)
 from .program import Error, Failed, Refused, TimedOut, find
+from .questions import Contrary, Count, count, spheres, tori, zero_efficient
 from .regina_surfaces import normal_surface, to_regina, vector_of
-from .tables import Gluing, Table, from_regina
+from .tables import BadArgument, Gluing, Table, from_regina
+from .versions import version
+
+__version__ = version()
 
 __all__ = [
     "addup", "bulk", "check", "cover", "crush", "csame", "csig", "decompose", "descend", "describe", "group", "info",
     "lift", "make", "pi1", "play", "rays", "same", "sig", "surfaces", "table", "verify",
-    "Bulk", "Component", "Cover", "Descent", "Edge", "Generator", "Gluing", "Grouping", "Info", "Isomorphism", "Made",
-    "Played", "Presentation", "Relator", "Sum", "Surface", "Table", "Term", "Verdict", "Vertex",
-    "Error", "Failed", "Refused", "TimedOut", "find", "from_regina", "normal_surface", "to_regina", "vector_of",
+    "count", "spheres", "tori", "zero_efficient",
+    "Bulk", "Component", "Contrary", "Count", "Cover", "Descent", "Edge", "Generator", "Gluing", "Grouping", "Info",
+    "Isomorphism", "Made", "Played", "Presentation", "Relator", "Sum", "Surface", "Table", "Term", "Verdict", "Vertex",
+    "BadArgument", "Error", "Failed", "Refused", "TimedOut", "find", "from_regina", "normal_surface", "to_regina",
+    "vector_of",
 ]

@@ -2,20 +2,23 @@
 from __future__ import annotations
 
 import argparse
+import signal
 import sys
-from typing import Any, List, Optional
+import threading
+from typing import List, Optional
 
-from . import census, commands, crosscheck, pictures
+from . import census, commands, crosscheck, pictures, versions
 from .program import Error, Failed
+from .workers import Terminated, end_as_by_keyboard
 
 
-def draw_graph(given: Any) -> int:
+def draw_graph(given: argparse.Namespace) -> int:
     table = commands.table(sys.stdin.read() if given.triangulation == "-" else given.triangulation)
     print(pictures.face_pairing_svg(table) if given.svg else pictures.face_pairing_dot(table), end="")
     return 0
 
 
-def draw_growth(given: Any) -> int:
+def draw_growth(given: argparse.Namespace) -> int:
     try:
         with open(given.answers, encoding="utf8") as file:
             picture = pictures.growth_svg(pictures.growth_points(file))
@@ -26,7 +29,10 @@ def draw_growth(given: Any) -> int:
 
 
 def reader_of_words() -> argparse.ArgumentParser:
-    reader = argparse.ArgumentParser(prog="python3 -m trinorm", description=__doc__)
+    reader = argparse.ArgumentParser(prog="python3 -m trinorm", description=__doc__,
+                                     formatter_class=argparse.RawDescriptionHelpFormatter)
+    told = f"trinorm {versions.version()}\n{versions.build()}"
+    reader.add_argument("--version", action="version", version=told.rstrip())
     kinds = reader.add_subparsers(dest="what", required=True)
 
     one = kinds.add_parser("census", help="run a command on each signature of a file, and write a JSON line for each",
@@ -36,7 +42,7 @@ def reader_of_words() -> argparse.ArgumentParser:
     one.set_defaults(main=census.main)
 
     one = kinds.add_parser("crosscheck", help="list vertex surfaces with Regina too, and print what differs",
-                           description="Status 1: something differs.")
+                           description="Status 1: something differs, or was refused.")
     crosscheck.add_arguments(one)
     one.set_defaults(main=crosscheck.main)
 
@@ -54,13 +60,20 @@ def reader_of_words() -> argparse.ArgumentParser:
 
 def main(words: Optional[List[str]] = None) -> int:
     given = reader_of_words().parse_args(words)
+    in_main_thread = threading.current_thread() is threading.main_thread()
+    before = signal.signal(signal.SIGTERM, end_as_by_keyboard) if in_main_thread else None
     try:
         return given.main(given)
     except Error as wrong:
         print(f"trinorm: {wrong}", file=sys.stderr)
         return 3
+    except Terminated:
+        return 128 + signal.SIGTERM
     except KeyboardInterrupt:
-        return 130
+        return 128 + signal.SIGINT
+    finally:
+        if in_main_thread:
+            signal.signal(signal.SIGTERM, before)
 
 
 if __name__ == "__main__":

@@ -1,48 +1,47 @@
-"""Lists vertex surfaces with Regina and with the program, and prints what differs."""
+"""Vertex surfaces by Regina and by the program, and what differs."""
 from __future__ import annotations
 
-from typing import Any, List
+from dataclasses import dataclass
+from typing import Any, Dict, List, Optional, Sequence
 
 from . import commands
 from .answers import Vector, vector_line
-from .program import Failed, Refused
 from .regina_surfaces import COORDS, vertex_surfaces
+from .tables import Triangulation
 
 
-def differences(signature: str, coords: str) -> List[str]:
-    """A line that says whether the lists are the same, and a line for each vector that is in one of them alone."""
-    theirs = vertex_surfaces(signature, coords)
-    ours = commands.surfaces(signature, coords)
-    if ours == theirs:
-        return [f"{signature} {coords}: the same {len(ours)}"]
-    told = [f"{signature} {coords}: trinorm {len(ours)}, Regina {len(theirs)}"]
-    told += _alone("trinorm", ours, theirs)
-    told += _alone("Regina", theirs, ours)
-    return told
+@dataclass(frozen=True)
+class Comparison:
+    """How many vertex surfaces each lists, and those that are in one list alone."""
+    trinorm: int
+    regina: int
+    trinorm_alone: Sequence[Vector]
+    regina_alone: Sequence[Vector]
+
+    @property
+    def is_same(self) -> bool:
+        return self.trinorm == self.regina and not self.trinorm_alone
+
+    def lines(self, name: str) -> List[str]:
+        """A line that says whether the lists are the same, and a line for each vector that is in one of them alone."""
+        if self.is_same:
+            return [f"{name}: the same {self.trinorm}"]
+        alone = [("trinorm", it) for it in self.trinorm_alone] + [("Regina", it) for it in self.regina_alone]
+        return [f"{name}: trinorm {self.trinorm}, Regina {self.regina}",
+                *(f"  {whose} alone: {vector_line(vector)}" for whose, vector in alone)]
 
 
-def _alone(whose: str, ours: List[Vector], theirs: List[Vector]) -> List[str]:
-    known = set(theirs)
-    return [f"  {whose} alone: {vector_line(it)}" for it in ours if it not in known]
+def compare(t: Triangulation, coords: Optional[str] = None, **run: Any) -> Dict[str, Comparison]:
+    """The lists beside each other in these coordinates, or in each of the three."""
+    table = commands.table(t, **run)
+    theirs = table.to_regina()
+    compared = {}
+    for name in [coords] if coords else COORDS:
+        ours = commands.surfaces(table, name, **run)
+        compared[name] = _beside(ours, vertex_surfaces(theirs, name))
+    return compared
 
 
-def add_arguments(reader: Any) -> None:
-    reader.add_argument("signatures", nargs="+", metavar="SIGNATURE")
-    reader.add_argument("--coords", choices=tuple(COORDS), help="only these coordinates (default: all three)")
-
-
-def main(given: Any) -> int:
-    try:
-        import regina  # noqa: F401
-    except ImportError:
-        raise Failed("this Python has no module regina; run it by the one that has, often /usr/bin/python3") from None
-    differ = False
-    for signature in given.signatures:
-        for coords in [given.coords] if given.coords else COORDS:
-            try:
-                told = differences(signature, coords)
-            except Refused as refused:
-                told = [f"{signature} {coords}: {refused}"]
-            differ = differ or " the same " not in told[0]
-            print("\n".join(told), flush=True)
-    return 1 if differ else 0
+def _beside(ours: List[Vector], theirs: List[Vector]) -> Comparison:
+    known, met = set(theirs), set(ours)
+    return Comparison(len(ours), len(theirs), [it for it in ours if it not in known], [it for it in theirs if it not in met])

@@ -28,16 +28,21 @@ class Refused(Error):
     kind: its words without the places, as `input bad-word`, `vector clash`, `large pair`
     places: its numbers in their order; behind `large` the step, the row and the rays; behind `check not-standard`
         the signature
+    hint: what it most likely means, in a sentence; empty where nothing is known
     """
 
-    def __init__(self, status: int, line: str) -> None:
+    def __init__(self, status: int, line: str, hint: str = "") -> None:
         super().__init__(line)
         self.status = status
         self.line = line
+        self.hint = hint
         self.kind, self.places = kind_and_places(line)
 
+    def __str__(self) -> str:
+        return f"{self.line} ({self.hint})" if self.hint else self.line
+
     def __reduce__(self):  # an exception with two arguments is not pickled by itself
-        return Refused, (self.status, self.line)
+        return Refused, (self.status, self.line, self.hint)
 
 
 class Failed(Error):

@@ -1,14 +1,21 @@
 """Triangulations as gluing tables, and what is taken for one."""
 from __future__ import annotations
 
+import os
 import string
 from dataclasses import dataclass
-from typing import Any, List, Optional, Sequence, Tuple, Union
+from typing import Any, Iterable, List, Optional, Protocol, Sequence, Tuple, Union
+
+from .program import Error
 
 Images = Tuple[int, int, int, int]
 
 # what the values 0 to 63 are in a signature
 CHARACTERS = string.ascii_lowercase + string.ascii_uppercase + string.digits + "+-"
+
+
+class BadArgument(Error, ValueError):
+    """An argument of a function that is none of those that it takes; the program wasn't asked."""
 
 
 @dataclass(frozen=True)
@@ -32,6 +39,9 @@ class Gluing:
 
 
 Row = Tuple[Optional[Gluing], Optional[Gluing], Optional[Gluing], Optional[Gluing]]
+# what is taken for an entry of a row, and for a row
+GivenEntry = Union[None, str, Gluing, Tuple[int, Union[str, Sequence[int]]]]
+GivenRow = Union[str, Sequence[GivenEntry]]
 
 
 @dataclass(frozen=True)
@@ -66,7 +76,25 @@ class Table:
         return made
 
 
-def row_of(row: Union[str, Sequence[Any]]) -> Row:
+class ReginaTriangulation(Protocol):
+    """A `regina.Triangulation3`, as one in a packet or a `regina.SnapPeaTriangulation` is too."""
+
+    def tetrahedra(self) -> Iterable[Any]:
+        """Its tetrahedra."""
+
+
+class SnapPyTriangulation(Protocol):
+    """A `snappy.Triangulation`, as a `snappy.Manifold` is too."""
+
+    def triangulation_isosig(self, *, decorated: bool) -> str:
+        """Its signature."""
+
+
+# what is taken for a triangulation (see `document`)
+Triangulation = Union[str, Table, Sequence[GivenRow], ReginaTriangulation, SnapPyTriangulation]
+
+
+def row_of(row: GivenRow) -> Row:
     """The gluings of faces 0 to 3, from the words of a line or from four entries.
 
     An entry is `1:0132`, `-`, None, a Gluing, or a pair of a tetrahedron and a permutation: a word or four numbers.
@@ -77,7 +105,7 @@ def row_of(row: Union[str, Sequence[Any]]) -> Row:
     return (entries[0], entries[1], entries[2], entries[3])
 
 
-def _entry(entry: Any) -> Optional[Gluing]:
+def _entry(entry: GivenEntry) -> Optional[Gluing]:
     if entry is None or isinstance(entry, Gluing):
         return entry
     if isinstance(entry, str):
@@ -87,12 +115,12 @@ def _entry(entry: Any) -> Optional[Gluing]:
     return Gluing.parse(f"{int(tet)}:{word}")
 
 
-def is_of_regina(value: Any) -> bool:
+def is_of_regina(value: object) -> bool:
     """Whether a value is a `regina.Triangulation3`; Regina need not be there to ask."""
     return callable(getattr(value, "tetrahedra", None))
 
 
-def from_regina(triangulation: Any) -> Table:
+def from_regina(triangulation: ReginaTriangulation) -> Table:
     """The table of a `regina.Triangulation3`; tetrahedra, faces and vertices keep their numbers."""
     rows = ([_gluing_in_regina(tet, face) for face in range(4)] for tet in triangulation.tetrahedra())
     return Table(tuple(map(row_of, rows)))
@@ -103,21 +131,38 @@ def _gluing_in_regina(tet: Any, face: int) -> Optional[Gluing]:
     return None if behind is None else Gluing.parse(f"{behind.index()}:{tet.adjacentGluing(face).str()}")
 
 
-def document(triangulation: Any) -> str:
+def document(triangulation: Triangulation) -> str:
     """The text of a triangulation for the program.
 
     triangulation: one word, which is a signature; a text that begins with `tri N` or `sig SIGNATURE`; a Table; a list of
-        rows (see `row_of`); or a `regina.Triangulation3`
+        rows (see `row_of`); a `regina.Triangulation3`; or a `snappy.Manifold`, in the numbers of its signature
     """
     if isinstance(triangulation, str):
-        if len(triangulation.split()) == 1:
-            return f"sig {triangulation.strip()}\n"
-        return triangulation if triangulation.endswith("\n") else triangulation + "\n"
+        return _text_document(triangulation)
     if isinstance(triangulation, Table):
         return str(triangulation)
     if is_of_regina(triangulation):
         return str(from_regina(triangulation))
+    if callable(getattr(triangulation, "triangulation_isosig", None)):
+        return f"sig {triangulation.triangulation_isosig(decorated=False)}\n"
+    if triangulation is None or isinstance(triangulation, (bytes, os.PathLike)) or not hasattr(triangulation, "__iter__"):
+        raise BadArgument(f"a triangulation is wanted, and not {_shown(triangulation)}: its signature, the text of a "
+                          "gluing table (of a file: Path(..).read_text()), rows, or one of Regina's or SnapPy's")
     return str(Table(tuple(row_of(row) for row in triangulation)))
+
+
+def _shown(value: object) -> str:
+    return "None" if value is None else f"of type {type(value).__name__}"
+
+
+def _text_document(text: str) -> str:
+    if len(text.split()) != 1:
+        return text if text.endswith("\n") else text + "\n"
+    word = text.strip()
+    if "/" in word or "." in word:
+        raise BadArgument(f"{word} is no signature: give the text of a file, not its name, and the components of a `csig` "
+                          "(between full stops) one by one")
+    return f"sig {word}\n"
 
 
 def size_of_signature(signature: str) -> int:

@@ -1,0 +1,116 @@
+"""The output of a census: what is replaced, what is only written to, and that one run at a time has it."""
+import io
+import os
+import stat
+import tempfile
+import threading
+import unittest
+
+from trinorm.answer_files import Output, read_lines
+
+
+class Lines(unittest.TestCase):
+    def read(self, content):
+        return [(it.text, it.whole) for it in read_lines(io.BytesIO(content), "file")]
+
+    def test_ends(self):
+        self.assertEqual(self.read(b"one\r\ntwo\n\nthree"), [("one", True), ("two", True), ("", True), ("three", False)])
+
+    def test_byte_order_mark(self):
+        self.assertEqual(self.read("\ufeffone\n".encode()), [("one", True)])
+
+    def test_other_encodings(self):
+        with self.assertRaisesRegex(ValueError, "file is in UTF-16"):
+            self.read("one\n".encode("utf-16"))
+        with self.assertRaisesRegex(ValueError, "file, line 2: byte 3 isn't UTF-8"):
+            self.read(b"one\nab\xff\n")
+
+    def test_a_character_that_was_cut(self):
+        self.assertEqual(self.read("one\nä".encode()[:-1]), [("one", True), ("\ufffd", False)])
+
+
+class Files(unittest.TestCase):
+    def setUp(self):
+        folder = tempfile.TemporaryDirectory()
+        self.addCleanup(folder.cleanup)
+        self.folder = folder.name
+        self.out = os.path.join(folder.name, "out")
+
+    def content(self, path):
+        with open(path, encoding="utf8") as file:
+            return file.read()
+
+    def put(self, path, content):
+        with open(path, "w", encoding="utf8") as file:
+            file.write(content)
+
+    def write(self, path, kept=lambda _: True):
+        with Output(path) as output:
+            output.keep(kept)
+            output.write("new")
+
+    def test_a_file_is_made_and_gone_on_with(self):
+        self.write(self.out)
+        self.write(self.out)
+        self.assertEqual(self.content(self.out), "new\nnew\n")
+
+    def test_a_line_that_was_cut_goes(self):
+        self.put(self.out, "one\ntwo\nthr")
+        self.write(self.out)
+        self.assertEqual(self.content(self.out), "one\ntwo\nnew\n")
+
+    def test_lines_are_dropped_and_rights_stay(self):
+        self.put(self.out, "one\ntwo\nthree\n")
+        os.chmod(self.out, 0o640)
+        self.write(self.out, lambda line: line.text != "two")
+        self.assertEqual(self.content(self.out), "one\nthree\nnew\n")
+        self.assertEqual(stat.S_IMODE(os.stat(self.out).st_mode), 0o640)
+        self.assertEqual(os.listdir(self.folder), ["out"])
+
+    def test_a_fault_leaves_the_file(self):
+        def fails(line):
+            raise ValueError(line.text)
+        self.put(self.out, "one\ntwo")
+        with self.assertRaises(ValueError):
+            self.write(self.out, fails)
+        self.assertEqual((self.content(self.out), os.listdir(self.folder)), ("one\ntwo", ["out"]))
+
+    def test_a_link_leads_to_its_target(self):
+        link = os.path.join(self.folder, "link")
+        os.symlink("out", link)
+        self.write(link)
+        self.put(self.out, "one\ntw")
+        self.write(link)
+        self.assertTrue(os.path.islink(link))
+        self.assertEqual(self.content(self.out), "one\nnew\n")
+
+    def test_a_device_is_only_written_to(self):
+        self.write(os.devnull)
+        self.assertTrue(stat.S_ISCHR(os.stat(os.devnull).st_mode))
+        with self.assertRaises(OSError):
+            self.write("/dev/full")
+        self.assertTrue(stat.S_ISCHR(os.stat("/dev/full").st_mode))
+
+    def test_a_pipe_is_only_written_to(self):
+        os.mkfifo(self.out)
+        came = []
+        reader = threading.Thread(target=lambda: came.append(self.content(self.out)))
+        reader.start()
+        self.write(self.out)
+        reader.join(10)
+        self.assertEqual(came, ["new\n"])
+        self.assertTrue(stat.S_ISFIFO(os.stat(self.out).st_mode))
+
+    def test_a_second_run_is_told(self):
+        self.put(self.out, "one\ntwo")
+        with Output(self.out) as output:
+            output.keep(lambda _: True)
+            output.write("new")
+            with self.assertRaisesRegex(ValueError, "another run writes to"):
+                Output(self.out)
+        self.write(self.out)
+        self.assertEqual(self.content(self.out), "one\nnew\nnew\n")
+
+
+if __name__ == "__main__":
+    unittest.main()

@@ -1,0 +1,72 @@
+"""Spheres, tori, 0-efficiency and counts; beside Regina's where this Python has it."""
+import unittest
+
+import trinorm
+from trinorm.questions import Contrary
+
+try:
+    import regina
+except ImportError:
+    regina = None
+
+SPHERE = "bkaagj"
+TORUS = (1, 1, 0, 0, 1, 0, 0)
+# closed, orientable and not 0-efficient: S2 x S1, L(3,1) twice, RP3 twice, RP3 # RP3; the last three have no vertex sphere
+NOT_EFFICIENT = ("cMcabbjaj", "cMcabbgaj", "cPcbbbaai", "cPcbbbahh", "cMcabbgqw", "eLMkabcddbrrag")
+
+
+class Questions(unittest.TestCase):
+    def test_spheres(self):
+        self.assertEqual(trinorm.spheres(SPHERE), [])
+        [sphere] = trinorm.spheres("cMcabbjaj")
+        self.assertEqual((sphere.euler, sphere.linking, len(sphere.components)), (2, False, 1))
+        self.assertEqual(trinorm.spheres("eLMkabcddbrrag"), [])
+
+    def test_tori(self):
+        self.assertEqual([it.vector for it in trinorm.tori(SPHERE)], [TORUS])
+        self.assertEqual(trinorm.tori("bkaajj"), [])
+        self.assertEqual(trinorm.tori("cPcbbbiht"), [])
+
+    def test_zero_efficiency(self):
+        for signature in (SPHERE, "bkaajj", "cPcbbbiht"):
+            self.assertIs(trinorm.zero_efficient(signature), True)
+        for signature in NOT_EFFICIENT:
+            shown = trinorm.zero_efficient(signature)
+            self.assertFalse(shown)
+            self.assertIsInstance(shown, Contrary)
+            self.assertIn(shown.vector, trinorm.surfaces(signature))
+            self.assertGreater(shown.euler, 0)
+        self.assertEqual(trinorm.zero_efficient("eLMkabcddbrrag").euler, 1)
+        self.assertFalse(trinorm.zero_efficient(["- - - -"]))
+
+    def test_counts(self):
+        self.assertEqual(trinorm.count(SPHERE), trinorm.Count(2, {2: 1, 0: 1}, 1, 1))
+        self.assertEqual(trinorm.count([]), trinorm.Count(0, {}, 0, 0))
+        self.assertEqual(trinorm.count(SPHERE, "octagon").surfaces, len(trinorm.surfaces(SPHERE, "octagon")))
+
+
+@unittest.skipIf(regina is None, "this Python has no module regina")
+class BesideRegina(unittest.TestCase):
+    def closed(self):
+        """The first of Regina's closed orientable census, and a few that aren't 0-efficient."""
+        census = [it.triangulateComponents()[0] for it in (regina.Triangulation3.fromIsoSig(s) for s in NOT_EFFICIENT)]
+        for name in ("s2xs1", "rp3rp3", "poincare", "weeks"):
+            census.append(getattr(regina.Example3, name)())
+        census += [regina.Example3.lens(p, q) for p, q in ((2, 1), (3, 1), (5, 2), (8, 3))]
+        census += [regina.Example3.layeredLoop(size, twisted) for size in (2, 3, 4) for twisted in (False, True)]
+        return census
+
+    def test_zero_efficiency(self):
+        for t in self.closed():
+            self.assertEqual(bool(trinorm.zero_efficient(t)), t.isZeroEfficient(), t.isoSig())
+
+    def test_spheres_and_tori(self):
+        for t in self.closed():
+            theirs = [it for it in regina.NormalSurfaces(t, regina.NS_STANDARD) if not it.isVertexLinking() and it.isCompact()]
+            for ours, euler in ((trinorm.spheres(t), 2), (trinorm.tori(t), 0)):
+                same = [trinorm.vector_of(it) for it in theirs if it.eulerChar() == euler and it.isOrientable()]
+                self.assertEqual([it.vector for it in ours], sorted(same))
+
+
+if __name__ == "__main__":
+    unittest.main()

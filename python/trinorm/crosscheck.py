@@ -1,0 +1,59 @@
+"""python3 -m trinorm crosscheck: lists vertex surfaces with Regina too, and tells what differs."""
+from __future__ import annotations
+
+import argparse
+import json
+from typing import Any, Dict, Iterable, List, Tuple
+
+from . import census
+from .comparisons import Comparison
+from .program import Failed, find
+from .regina_surfaces import COORDS
+from .tasks import Entry, Task
+from .workers import Pool
+
+
+def told(line: Dict[str, Any]) -> Tuple[bool, List[str]]:
+    """Whether the lists of a line of the census are all the same, and what is printed of it."""
+    if "answer" not in line:
+        return False, [f"{line['signature']}: {line['refused']['line'] if 'refused' in line else line['failed']}"]
+    compared = {coords: Comparison(**fields) for coords, fields in line["answer"].items()}
+    lines = [text for coords, it in compared.items() for text in it.lines(f"{line['signature']} {coords}")]
+    return all(it.is_same for it in compared.values()), lines
+
+
+def print_all(entries: Iterable[Entry], task: Task, jobs: int) -> bool:
+    """Prints what comes out, and says whether all is the same."""
+    are_same = True
+    with Pool(task, jobs) as pool:
+        for done in pool.answers(entries):
+            is_same, lines = told(json.loads(done.line))
+            are_same = are_same and is_same
+            print("\n".join(lines), flush=True)
+    return are_same
+
+
+def add_arguments(reader: argparse.ArgumentParser) -> None:
+    reader.add_argument("signatures", nargs="*", metavar="SIGNATURE")
+    reader.add_argument("--file", help="a file of lines SIGNATURE or SIGNATURE NAME, in their place")
+    reader.add_argument("--coords", choices=tuple(COORDS), help="only these coordinates (default: all three)")
+    reader.add_argument("--out", help="a file for a JSON line for each, gone on with as by census; only for --file")
+    census.add_run_arguments(reader)
+
+
+def main(given: argparse.Namespace) -> int:
+    try:
+        import regina  # noqa: F401
+    except ImportError:
+        raise Failed("this Python has no module regina; run it by the one that has, often /usr/bin/python3") from None
+    if bool(given.signatures) == bool(given.file) or (given.out and not given.file):
+        raise Failed("either signatures are given, or --file with or without --out")
+    task = Task("crosscheck", given.coords, given.timeout, find())
+    if not given.file:
+        return 0 if print_all([Entry(it, it) for it in given.signatures], task, given.jobs or 1) else 1
+    jobs = given.jobs or census.processors()
+    if not given.out:
+        return 0 if print_all(census.read_entries(given.file), task, jobs) else 1
+    census.census(given.file, given.out, task, jobs)
+    with open(given.out, "rb") as file:
+        return 0 if all(told(json.loads(line))[0] for line in file) else 1

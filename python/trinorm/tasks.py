@@ -1,0 +1,94 @@
+"""What a census asks of each triangulation, and the line that says what came out."""
+from __future__ import annotations
+
+import dataclasses
+import time
+from typing import Any, Callable, Dict, NamedTuple, Optional
+
+from . import commands, comparisons, questions
+from .program import Error, Refused
+from .tables import Table
+
+
+class Entry(NamedTuple):
+    """A triangulation of a census."""
+    signature: str
+    name: str
+
+
+@dataclasses.dataclass(frozen=True)
+class Task:
+    """What is asked of each triangulation.
+
+    timeout: seconds after which a run of the program is ended
+    """
+    command: str
+    coords: Optional[str] = None
+    timeout: Optional[float] = None
+    program: Optional[str] = None
+
+    @property
+    def words(self) -> str:
+        """The command as it stands in each line of the output."""
+        return self.command if self.coords is None else f"{self.command} --coords {self.coords}"
+
+
+def _surfaces(text: str, task: Task) -> Any:
+    return commands.surfaces(text, task.coords or "standard", timeout=task.timeout, program=task.program)
+
+
+def _described(text: str, task: Task) -> Any:
+    return questions.described(text, task.coords or "standard", timeout=task.timeout, program=task.program)
+
+
+def _counted(text: str, task: Task) -> Any:
+    return questions.count(text, task.coords or "standard", timeout=task.timeout, program=task.program)
+
+
+def _compared(text: str, task: Task) -> Any:
+    return comparisons.compare(text, task.coords, timeout=task.timeout, program=task.program)
+
+
+def _plainly(command: Callable[..., Any]) -> Callable[[str, Task], Any]:
+    return lambda text, task: command(text, timeout=task.timeout, program=task.program)
+
+
+# the commands of one triangulation; `describe` and `count` take its vertex surfaces, and `crosscheck` is not the program's
+COMMANDS: Dict[str, Callable[[str, Task], Any]] = {
+    "surfaces": _surfaces,
+    "describe": _described,
+    "count": _counted,
+    "crosscheck": _compared,
+    "info": _plainly(commands.info),
+    "sig": _plainly(commands.sig),
+    "csig": _plainly(commands.csig),
+    "cover": _plainly(commands.cover),
+    "pi1": _plainly(commands.pi1),
+    "descend": _plainly(commands.descend),
+}
+
+
+def fields_of(value: Any) -> Any:
+    """What JSON has in the place of a table, its text, or of a record, its fields."""
+    if isinstance(value, Table):
+        return str(value)
+    if dataclasses.is_dataclass(value):
+        return {field.name: getattr(value, field.name) for field in dataclasses.fields(value)}
+    raise TypeError(f"{type(value).__name__} is no answer")
+
+
+def line_of(entry: Entry, task: Task) -> Dict[str, Any]:
+    """Runs the command on one triangulation; a refusal or a failed run is an answer too."""
+    begun = time.monotonic()
+    try:
+        said = {"answer": COMMANDS[task.command](f"sig {entry.signature}\n", task)}
+    except Refused as refused:
+        said = {"refused": {key: getattr(refused, key) for key in ("status", "line", "kind", "places")}}
+    except Error as failed:
+        said = {"failed": str(failed)}
+    return {**head_of(entry, task, time.monotonic() - begun), **said}
+
+
+def head_of(entry: Entry, task: Task, seconds: float) -> Dict[str, Any]:
+    """What begins each line of the output."""
+    return {"name": entry.name, "signature": entry.signature, "command": task.words, "seconds": round(seconds, 4)}

@@ -1,0 +1,31 @@
+"""The version of this package, and what the build of the program wrote of itself."""
+from __future__ import annotations
+
+import importlib.metadata
+import re
+import sysconfig
+from pathlib import Path
+
+from .program import REPOSITORY
+
+
+def version() -> str:
+    """The version of the repository that this package lies in, else that of the installed package."""
+    project = Path(__file__).resolve().parents[1] / "pyproject.toml"
+    if project.is_file():
+        found = re.search(r'^version = "(.*)"$', project.read_text(encoding="utf8"), re.MULTILINE)
+        if found:
+            return found[1]
+    try:
+        return importlib.metadata.version("trinorm")
+    except importlib.metadata.PackageNotFoundError:
+        return "unknown"
+
+
+def build() -> str:
+    """Lines `KEY VALUE` on the program that was built: commit, line of the kit, sum; empty where none was."""
+    installed = Path(sysconfig.get_path("data")) / "libexec" / "trinorm" / "version"
+    for path in (REPOSITORY / "crates" / "trinorm" / "out" / ".version", installed):
+        if path.is_file():
+            return path.read_text(encoding="utf8")
+    return ""

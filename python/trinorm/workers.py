@@ -1,0 +1,214 @@
+"""Processes of Python that run a command on triangulations, side by side.
+
+Each gets a handful of triangulations at a time, as a line of JSON, and answers each as soon as it is done by a line: what
+came out in one word, a tab, and the line of the census.
+"""
+from __future__ import annotations
+
+import collections
+import contextlib
+import ctypes
+import json
+import os
+import selectors
+import signal
+import subprocess
+import sys
+import time
+from pathlib import Path
+from types import FrameType
+from typing import BinaryIO, Deque, Iterable, Iterator, List, NamedTuple, NoReturn, Optional
+
+from .program import Failed
+from .tasks import Entry, Task, fields_of, head_of, line_of
+
+READY = b"ready"
+# how long a handful is to take, and how many triangulations it may have
+SECONDS, MOST = 0.1, 64
+# Linux: a signal to a process whose parent ends
+PR_SET_PDEATHSIG = 1
+
+
+class Done(NamedTuple):
+    """A line of the output, and what came out: `answer`, `refused` or `failed`."""
+    kind: str
+    line: str
+
+
+class Terminated(KeyboardInterrupt):
+    """SIGTERM came."""
+
+
+def end_as_by_keyboard(_signal: int, _frame: Optional[FrameType]) -> NoReturn:
+    """A handler of SIGTERM: what runs is ended with its children."""
+    raise Terminated
+
+
+class Worker:
+    """A process, and the triangulations that it has not yet answered."""
+
+    def __init__(self, task: Task) -> None:
+        package = str(Path(__file__).resolve().parents[1])
+        path = os.pathsep.join(filter(None, [package, os.environ.get("PYTHONPATH")]))
+        self.process = subprocess.Popen([sys.executable, "-m", "trinorm.workers", json.dumps(task, default=fields_of)],
+                                        stdin=subprocess.PIPE, stdout=subprocess.PIPE, env=dict(os.environ, PYTHONPATH=path))
+        self.todo: Deque[Entry] = collections.deque()
+        self.is_ready = False
+        self.seconds, self.answers = 0.0, 0
+        self._begun = time.monotonic()
+        self._parts: List[bytes] = []
+
+    def fileno(self) -> int:
+        assert self.process.stdout is not None
+        return self.process.stdout.fileno()
+
+    def hand(self, entries: List[Entry]) -> None:
+        """Gives it more to do; only where it has answered all before, so that both never wait for each other."""
+        assert self.process.stdin is not None
+        self.todo.extend(entries)
+        self._begun = time.monotonic()
+        with contextlib.suppress(BrokenPipeError):
+            self.process.stdin.write(json.dumps(entries).encode() + b"\n")
+            self.process.stdin.flush()
+
+    def handful(self) -> int:
+        """How many triangulations it answers in a short while."""
+        return max(1, min(MOST, int(SECONDS * self.answers / self.seconds))) if self.seconds else 1
+
+    def receive(self) -> Optional[List[bytes]]:
+        """The lines that have come; None where the process has ended."""
+        came = os.read(self.fileno(), 1 << 20)
+        if not came:
+            return None
+        *lines, rest = came.split(b"\n")
+        if lines:
+            lines[0] = b"".join(self._parts) + lines[0]
+            self._parts = []
+        self._parts.append(rest)
+        return lines
+
+    def count(self, answers: int) -> None:
+        now = time.monotonic()
+        self.answers += answers
+        self.seconds += now - self._begun
+        self._begun = now
+
+    def failed(self, task: Task) -> Done:
+        """The line of the triangulation at which it ended."""
+        said = {"failed": f"a worker process: {self.how_it_ended()}"}
+        return Done("failed", json.dumps({**head_of(self.todo.popleft(), task, time.monotonic() - self._begun), **said}))
+
+    def how_it_ended(self) -> str:
+        status = self.process.wait()
+        return f"killed by signal {-status}" if status < 0 else f"status {status}"
+
+    def end(self) -> None:
+        """Waits for its end: it ends by itself where its input does."""
+        for stream in (self.process.stdin, self.process.stdout):
+            with contextlib.suppress(BrokenPipeError):
+                assert stream is not None
+                stream.close()
+        self.process.wait()
+
+
+class Pool:
+    """So many workers at a time. Where one ends, the triangulation that it had is failed, and another takes its place.
+    Those that are left are ended, with what they run, at the end of the `with` block."""
+
+    def __init__(self, task: Task, jobs: int) -> None:
+        self.task, self.jobs = task, jobs
+        self.waiting: Deque[Entry] = collections.deque()
+        self._selector = selectors.DefaultSelector()
+
+    def __enter__(self) -> Pool:
+        return self
+
+    def __exit__(self, *_: object) -> None:
+        for worker in self._workers():
+            worker.process.terminate()
+        for worker in self._workers():
+            self._drop(worker)
+
+    def _workers(self) -> List[Worker]:
+        return [key.fileobj for key in self._selector.get_map().values()]  # type: ignore[misc]
+
+    def answers(self, todo: Iterable[Entry]) -> Iterator[Done]:
+        """The lines as they are done."""
+        self.waiting.extend(todo)
+        for _ in range(min(self.jobs, len(self.waiting))):
+            self._start()
+        while self._selector.get_map():
+            for key, _ in self._selector.select():
+                yield from self._step(key.fileobj)  # type: ignore[arg-type]
+
+    def _start(self) -> None:
+        self._selector.register(Worker(self.task), selectors.EVENT_READ)  # type: ignore[arg-type]
+
+    def _drop(self, worker: Worker) -> None:
+        self._selector.unregister(worker)  # type: ignore[arg-type]
+        worker.end()
+
+    def _step(self, worker: Worker) -> Iterator[Done]:
+        """What a worker has answered; then it gets more to do, or ends where nothing is left."""
+        lines = worker.receive()
+        if lines is None:
+            yield from self._ended(worker)
+            return
+        for line in lines:
+            if line == READY:
+                worker.is_ready = True
+            else:
+                worker.todo.popleft()
+                worker.count(1)
+                kind, _, text = line.decode().partition("\t")
+                yield Done(kind, text)
+        if worker.is_ready and not worker.todo:
+            self._hand(worker)
+
+    def _hand(self, worker: Worker) -> None:
+        if not self.waiting:
+            self._drop(worker)
+            return
+        share = -(-len(self.waiting) // (2 * self.jobs))
+        worker.hand([self.waiting.popleft() for _ in range(min(worker.handful(), share))])
+
+    def _ended(self, worker: Worker) -> Iterator[Done]:
+        """It was killed, as where memory ran out."""
+        if not worker.is_ready:
+            raise Failed(f"a worker process could not start: {worker.how_it_ended()}")
+        if worker.todo:
+            yield worker.failed(self.task)
+        self.waiting.extendleft(reversed(worker.todo))
+        self._drop(worker)
+        if self.waiting:
+            self._start()
+
+
+def serve(task: Task, given: BinaryIO, to: BinaryIO) -> None:
+    """Answers handful after handful, until there are no more."""
+    to.write(READY + b"\n")
+    to.flush()
+    for handful in given:
+        for signature, name in json.loads(handful):
+            line = line_of(Entry(signature, name), task)
+            kind = next(key for key in ("answer", "refused", "failed") if key in line)
+            to.write(f"{kind}\t{json.dumps(line, default=fields_of)}\n".encode())
+            to.flush()
+
+
+def main() -> int:
+    try:
+        signal.signal(signal.SIGTERM, end_as_by_keyboard)
+        ctypes.CDLL(None).prctl(PR_SET_PDEATHSIG, signal.SIGTERM)
+        serve(Task(**json.loads(sys.argv[1])), sys.stdin.buffer, sys.stdout.buffer)
+    except KeyboardInterrupt:
+        return 130
+    except BrokenPipeError:
+        os.dup2(os.open(os.devnull, os.O_WRONLY), 1)
+    finally:
+        signal.signal(signal.SIGTERM, signal.SIG_DFL)
+    return 0
+
+
+if __name__ == "__main__":
+    sys.exit(main())
