@@ -2,6 +2,7 @@
 from __future__ import annotations
 
 import dataclasses
+import json
 import time
 from typing import Any, Callable, Dict, NamedTuple, Optional
 
@@ -75,6 +76,10 @@ def fields_of(value: Any) -> Any:
     if dataclasses.is_dataclass(value):
         return {field.name: getattr(value, field.name) for field in dataclasses.fields(value)}
     raise TypeError(f"{type(value).__name__} is no answer")
+
+
+# one encoder for all lines, since making one takes as long as a short line
+as_json = json.JSONEncoder(default=fields_of).encode
 
 
 def line_of(entry: Entry, task: Task) -> Dict[str, Any]:

@@ -3,7 +3,6 @@ from __future__ import annotations
 
 import importlib.metadata
 import re
-import sysconfig
 from pathlib import Path
 
 from .program import REPOSITORY
@@ -24,8 +23,8 @@ def version() -> str:
 
 def build() -> str:
     """Lines `KEY VALUE` on the program that was built: commit, line of the kit, sum; empty where none was."""
-    installed = Path(sysconfig.get_path("data")) / "libexec" / "trinorm" / "version"
-    for path in (REPOSITORY / "crates" / "trinorm" / "out" / ".version", installed):
+    installed = (folder / "libexec" / "trinorm" / "version" for folder in Path(__file__).resolve().parents)
+    for path in (REPOSITORY / "crates" / "trinorm" / "out" / ".version", *installed):
         if path.is_file():
             return path.read_text(encoding="utf8")
     return ""

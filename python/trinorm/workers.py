@@ -20,7 +20,7 @@ from types import FrameType
 from typing import BinaryIO, Deque, Iterable, Iterator, List, NamedTuple, NoReturn, Optional
 
 from .program import Failed
-from .tasks import Entry, Task, fields_of, head_of, line_of
+from .tasks import Entry, Task, as_json, head_of, line_of
 
 READY = b"ready"
 # how long a handful is to take, and how many triangulations it may have
@@ -50,7 +50,7 @@ class Worker:
     def __init__(self, task: Task) -> None:
         package = str(Path(__file__).resolve().parents[1])
         path = os.pathsep.join(filter(None, [package, os.environ.get("PYTHONPATH")]))
-        self.process = subprocess.Popen([sys.executable, "-m", "trinorm.workers", json.dumps(task, default=fields_of)],
+        self.process = subprocess.Popen([sys.executable, "-m", "trinorm.workers", as_json(task)],
                                         stdin=subprocess.PIPE, stdout=subprocess.PIPE, env=dict(os.environ, PYTHONPATH=path))
         self.todo: Deque[Entry] = collections.deque()
         self.is_ready = False
@@ -68,7 +68,7 @@ class Worker:
         self.todo.extend(entries)
         self._begun = time.monotonic()
         with contextlib.suppress(BrokenPipeError):
-            self.process.stdin.write(json.dumps(entries).encode() + b"\n")
+            self.process.stdin.write(as_json(entries).encode() + b"\n")
             self.process.stdin.flush()
 
     def handful(self) -> int:
@@ -96,7 +96,7 @@ class Worker:
     def failed(self, task: Task) -> Done:
         """The line of the triangulation at which it ended."""
         said = {"failed": f"a worker process: {self.how_it_ended()}"}
-        return Done("failed", json.dumps({**head_of(self.todo.popleft(), task, time.monotonic() - self._begun), **said}))
+        return Done("failed", as_json({**head_of(self.todo.popleft(), task, time.monotonic() - self._begun), **said}))
 
     def how_it_ended(self) -> str:
         status = self.process.wait()
@@ -192,7 +192,7 @@ def serve(task: Task, given: BinaryIO, to: BinaryIO) -> None:
         for signature, name in json.loads(handful):
             line = line_of(Entry(signature, name), task)
             kind = next(key for key in ("answer", "refused", "failed") if key in line)
-            to.write(f"{kind}\t{json.dumps(line, default=fields_of)}\n".encode())
+            to.write(f"{kind}\t{as_json(line)}\n".encode())
             to.flush()
 
 
