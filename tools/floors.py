@@ -33,7 +33,7 @@ SUBJECTS = {
     "group": "group_definitions group_laws edge_group",
     "part": "part_definitions part_laws part_existence_laws component_signature part_commands",
     "cone": "cone_definitions cone_text_definitions cone_laws minor_laws ray_laws row_operation_laws solved_laws"
-    " support_bits support_table cone_core double_description number_bounds solved_rows ray_pairs late_columns"
+    " support_bits support_table residual_pairs cone_core double_description number_bounds solved_rows ray_pairs late_columns"
     " ray_answers enumeration_commands",
     "surface": "surface_definitions vector_definitions coordinate_laws surface_laws equation_laws equation_bounds_laws quad_laws"
     " quad_lift_laws octagon_laws vertex_link_laws orientation_laws crushing_laws normal_discs matching_equations quad_condition"

@@ -1,0 +1,5 @@
+pub mod RivalLemmas
+pub mod MarkLemmas
+pub mod SizeLemmas
+pub mod LeastLemmas
+pub mod CandidateLemmas

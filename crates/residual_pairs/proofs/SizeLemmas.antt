@@ -1,0 +1,94 @@
+-- How many columns a residual has, as the size of a union.
+use Rattle.std.proofs.Common.{◌≡◌, ◌≢◌, ℕ, ◌+◌, ◌<◌, ◌≤◌, ◌||◌, ◌⊎◌, inl, inr, Bool, true, false, eqb, List, length, get_or, refl, sym, ap, ap₂, ◌∙◌, arith}
+use Rattle.std.specs.List.{range_with_len}
+use Rattle.std.proofs.lemmas.Bool.{cases_eq, cases_lt, cases_Bool, false≢true, or_left, or_right, eqb-true, eq-eqb}
+use Rattle.std.proofs.lemmas.List.{get_or_past}
+use Rattle.std.proofs.lemmas.List.Sums.{count_by-le-length}
+use Rattle.std.proofs.lemmas.List.FromFn.{length-range_with_len}
+use Rattle.cone_laws.proofs.Counts.{count_weaker, count_stronger}
+use Rattle.support_bits.specs.Columns.{HasColumn, IsInsideUnionOf}
+use Rattle.support_table.specs.Counts.{columns_in_either}
+
+pub inside_self : (outer s : List Bool) → IsInsideUnionOf s outer s
+inside_self outer s column has = inr has
+
+pub inside_chain : (outer s t v : List Bool) → IsInsideUnionOf s outer t → IsInsideUnionOf t outer v → IsInsideUnionOf s outer v
+inside_chain outer s t v one other column has = elim (one column has) [ inl o ↦ inl o | inr h ↦ other column h ]
+
+or_weaker : (x y z : Bool) → (y ≡ true → (x ≡ true) ⊎ (z ≡ true)) → (x || y) ≡ true → (x || z) ≡ true
+or_weaker true y z h is = refl
+or_weaker false y z h is = elim (h is) [ inl none ↦ absurd (false≢true none) | inr e ↦ e ]
+
+column_within : (s : List Bool) (column : ℕ) → HasColumn s column → column < length s
+column_within s column has = elim (cases_lt column (length s)) [
+  | inl less ↦ less
+  | inr past ↦ absurd (false≢true (sym (get_or_past s column false past) ∙ has))
+]
+
+-- a residual inside another has no more columns
+pub size_within : (outer s t : List Bool) → IsInsideUnionOf s outer t → columns_in_either outer s ≤ columns_in_either outer t
+size_within outer s t inside = count_weaker (λ k. get_or outer k false || get_or s k false) (λ k. get_or outer k false || get_or t k false) 0 (length outer)
+    (λ k _ is. or_weaker (get_or outer k false) (get_or s k false) (get_or t k false) (inside k) is)
+
+-- with as many both are equal
+pub same_size : (outer s t : List Bool) → length t ≡ length outer → IsInsideUnionOf s outer t → columns_in_either outer t ≤ columns_in_either outer s → IsInsideUnionOf t outer s
+same_size outer s t wide inside few column has = elim (cases_Bool (get_or outer column false)) [
+  | inl e ↦ inl e
+  | inr out ↦ elim (cases_Bool (get_or s column false)) [
+    | inl e ↦ inr e
+    | inr none ↦ absurd (let less = column_within t column has in
+        let more = count_stronger (λ k. get_or outer k false || get_or s k false) (λ k. get_or outer k false || get_or t k false) 0 (length outer) column
+        (λ k is. or_weaker (get_or outer k false) (get_or s k false) (get_or t k false) (inside k) is) (omega arith) (omega (arith, wide))
+        (ap₂ (λ x y. x || y) out none) (or_right (get_or outer column false) (get_or t column false) has) in omega (arith, few, more))
+  ]
+]
+
+one_more : (x y : Bool) → (x || x) ≡ true → ((x || x) || y) ≡ true
+one_more x y is = or_left (x || x) y is
+
+-- a residual of a single column lies inside each that has it
+pub single_inside : (outer s t : List Bool) (column : ℕ) → length s ≡ length outer → columns_in_either outer s ≤ columns_in_either outer outer + 1 →
+    HasColumn s column → ¬ HasColumn outer column → HasColumn t column → IsInsideUnionOf s outer t
+single_inside outer s t column wide few has beside in_t other other_has = elim (cases_Bool (get_or outer other false)) [
+  | inl e ↦ inl e
+  | inr out ↦ elim (cases_eq other column) [
+    | inl e ↦ inr (ap (λ k. get_or t k false) e ∙ in_t)
+    | inr apart ↦ absurd (two out apart)
+  ]
+]
+  where
+    p : ℕ → Bool
+    p k = get_or outer k false || get_or outer k false
+
+    q : ℕ → Bool
+    q k = p k || eqb k column
+
+    r : ℕ → Bool
+    r k = get_or outer k false || get_or s k false
+
+    without : get_or outer column false ≡ false
+    without = elim (cases_Bool (get_or outer column false)) [ inl e ↦ absurd (beside e) | inr e ↦ e ]
+
+    to_r : (k : ℕ) → q k ≡ true → r k ≡ true
+    to_r k is = elim (cases_Bool (get_or outer k false)) [
+      | inl e ↦ or_left (get_or outer k false) (get_or s k false) e
+      | inr out ↦ elim (cases_Bool (eqb k column)) [
+        | inl e ↦ or_right (get_or outer k false) (get_or s k false) (ap (λ i. get_or s i false) (eqb-true k column e) ∙ has)
+        | inr differ ↦ absurd (false≢true (sym (ap₂ (λ x y. (x || x) || y) out differ) ∙ is))
+      ]
+    ]
+
+    not_equal : (b : Bool) → (b ≡ true → ⊥) → b ≡ false
+    not_equal true none = absurd (none refl)
+    not_equal false none = refl
+
+    two : get_or outer other false ≡ false → other ≢ column → ⊥
+    two out apart =
+        let first = count_stronger p q 0 (length outer) column (λ k is. or_left (p k) (eqb k column) is) (omega arith) (let less = column_within s column has in omega (arith, wide))
+        (ap (λ x. x || x) without) (or_right (p column) (eqb column column) (eq-eqb column column refl)) in
+        let second = count_stronger q r 0 (length outer) other to_r (omega arith) (let less = column_within s other other_has in omega (arith, wide))
+        (ap₂ (λ x y. (x || x) || y) out (not_equal (eqb other column) (λ e. apart (eqb-true other column e)))) (or_right (get_or outer other false) (get_or s other false) other_has) in
+        omega (arith, few, first, second)
+
+pub columns_within : (a b : List Bool) → columns_in_either a b ≤ length a
+columns_within a b = omega (arith, count_by-le-length (λ k. get_or a k false || get_or b k false) (range_with_len 0 (length a)), length-range_with_len 0 (length a))

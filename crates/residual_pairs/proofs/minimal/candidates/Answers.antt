@@ -1,0 +1,19 @@
+use Rattle.std.proofs.Common.{subst, subst₂}
+use Rattle.std.specs.Prelude.{IfOk}
+use Rattle.std.proofs.lemmas.Result.{IfOk-weaker}
+use Rattle.residual_pairs.specs.Rivals.{AreMarks, AreUnhit, AreCandidates}
+use Rattle.residual_pairs.proofs.CandidateLemmas.{candidates_left}
+use Rattle.residual_pairs.proofs.minimal.candidates.Goals as goal
+
+pub returns : goal.returns
+returns c =
+    let supports = c.args.table.now.supports in
+    let outer = c.args.outer.now in
+    let joined = c.args.joined.now in
+    let single = c.single_size-single.result in
+    let rivals = c.in_ok-rivals.rivals.items in
+    let marks = c.in_ok-marks.marks.items in
+    IfOk-weaker c.unhit.result (λ left. AreUnhit supports marks single rivals left.items) (λ left. AreCandidates supports outer joined c.args.own left.items)
+    (λ left h. candidates_left supports outer joined c.args.own single rivals left.items marks c.in_ok-rivals.ensures
+    (subst (λ rs. AreMarks supports outer single rs marks) c.deref.ensures.value c.in_ok-marks.ensures) h c.single_size-single.ensures)
+    (subst₂ (λ ms rs. IfOk c.unhit.result (λ left. AreUnhit supports ms single rs left.items)) c.deref-2.ensures.value c.deref-3.ensures.value c.unhit.ensures)

@@ -1,0 +1,86 @@
+// Of rivals in the order of their sizes those of least residual, and which of these are met twice.
+
+ghost use Rattle.std.specs.Prelude.{◌≡◌, ℕ, ◌<◌, length, IfOk, IfSome, IfNone, OnOk};
+ghost use Rattle.residual_pairs.specs.Rivals.{AreFound, AreInOrder, AreLeast, IsNoted, IsInsideAt};
+
+use crate::rivals::Rival;
+use no_memory::NoMemory;
+use std::alloc::Global;
+use support_bits::Support;
+use support_table::SupportTable;
+
+/// Rivals of which none has a residual inside that of another, and for each whether a further one has the same.
+#[derive(Drop)]
+pub struct Least {
+    pub rivals: Vec<Rival>,
+    pub doubled: Vec<bool>,
+}
+
+/// The first of some rivals whose residual lies inside that of the ray at a place.
+fn first_inside(
+    table: &SupportTable,
+    outer: &Support,
+    rivals: &[Rival],
+    place: usize,
+) -> Option<usize>
+    requires outer { length outer.now ≡ table.now.columns }
+    requires places { AreFound table.now.supports rivals.now }
+    requires place { place < length table.now.supports }
+    ensures some { IfSome result (IsInsideAt table.now.supports outer.now rivals.now place) }
+    ensures none { IfNone result ((k : ℕ) → k < length rivals.now → ¬ IsInsideAt table.now.supports outer.now rivals.now place k) }
+{
+    for (at, rival) in rivals.iter().enumerate() {
+        if table.is_inside(rival.place, outer, place) {
+            return Some(at);
+        }
+    }
+    None
+}
+
+/// Adds a rival that isn't smaller than those before, unless the residual of one lies inside its own.
+fn note(
+    table: &SupportTable,
+    outer: &Support,
+    least: &mut Least,
+    rival: Rival,
+) -> Result<(), NoMemory>
+    requires outer { length outer.now ≡ table.now.columns }
+    requires places { AreFound table.now.supports least.old.rivals.items }
+    requires place { rival.place < length table.now.supports }
+    requires count { length least.old.doubled.items ≡ length least.old.rivals.items }
+    ensures { OnOk result (IsNoted table.now.supports outer.now rival least.old least.new) }
+{
+    match first_inside(table, outer, &least.rivals, rival.place) {
+        Some(at) => {
+            if least.rivals[at].size == rival.size {
+                least.doubled[at] = true;
+            }
+        }
+        None => {
+            least.rivals.push(rival)?;
+            least.doubled.push(false)?;
+        }
+    }
+    Ok(())
+}
+
+/// The rivals of least residual.
+pub fn least_of(
+    alloc: Global,
+    table: &SupportTable,
+    outer: &Support,
+    order: &[Rival],
+) -> Result<Least, NoMemory>
+    requires outer { length outer.now ≡ table.now.columns }
+    requires order { AreInOrder table.now.supports outer.now order.now }
+    ensures { IfOk result (AreLeast table.now.supports outer.now order.now (length order.now)) }
+{
+    let mut least = Least {
+        rivals: Vec::new(alloc),
+        doubled: Vec::new(alloc),
+    };
+    for rival in order {
+        note(table, outer, &mut least, *rival)?;
+    }
+    Ok(least)
+}

@@ -1,0 +1,85 @@
+// The rivals of minimal residual.
+
+ghost use Rattle.std.specs.Prelude.{◌≡◌, ◌+◌, ◌<◌, length, IfOk};
+ghost use Rattle.std.specs.List.Sorted.{IsPermutation, IsNonDecreasingBy};
+ghost use Rattle.support_table.specs.Counts.{columns_in_either};
+ghost use Rattle.residual_pairs.specs.Residuals.{AreMinimal};
+ghost use Rattle.residual_pairs.specs.Rivals.{AreCandidates, AreAlone};
+
+use crate::least::{Least, least_of};
+use crate::marks::{marks_of, unhit};
+use crate::rivals::{Rival, rivals_of};
+use no_memory::NoMemory;
+use std::alloc::Global;
+use support_bits::Support;
+use support_table::{SupportTable, union_count};
+
+/// How many columns a ray has together with the outer one, where its residual has a single one.
+fn single_size(outer: &Support) -> u64
+    ensures { result ≡ columns_in_either outer.now outer.now + 1 }
+{
+    let _columns = outer.columns();
+    union_count(outer.words(), outer.words()) + 1
+}
+
+/// Rivals among which all of minimal residual are, and each whose residual lies inside that of one.
+fn candidates(
+    alloc: Global,
+    table: &SupportTable,
+    outer: &Support,
+    joined: &Support,
+    own: usize,
+) -> Result<Vec<Rival>, NoMemory>
+    requires outer { length outer.now ≡ table.now.columns }
+    requires joined { length joined.now ≡ table.now.columns }
+    ensures { IfOk result (λ candidates. AreCandidates table.now.supports outer.now joined.now own candidates.items) }
+{
+    let rivals = rivals_of(alloc, table, outer, joined, own)?;
+    let single = single_size(outer);
+    let marks = marks_of(alloc, table, outer, single, &rivals)?;
+    unhit(alloc, table, &marks, single, &rivals)
+}
+
+/// Puts rivals in the order of their sizes.
+fn sort_by_size(rivals: &mut Vec<Rival>)
+    ensures permutation { IsPermutation rivals.old.items rivals.new.items }
+    ensures sorted { IsNonDecreasingBy (λ r. r.size) rivals.new.items }
+{
+    rivals.sort_unstable_by_key(|rival| rival.size);
+}
+
+/// The places of rivals of least residual that no other has.
+fn alone(alloc: Global, least: &Least) -> Result<Vec<usize>, NoMemory>
+    requires { length least.now.doubled.items ≡ length least.now.rivals.items }
+    ensures { IfOk result (λ places. AreAlone least.now (length least.now.rivals.items) places.items) }
+{
+    let mut places = Vec::new(alloc);
+    for at in 0..least.rivals.len() {
+        if !least.doubled[at] {
+            places.push(least.rivals[at].place)?;
+        }
+    }
+    Ok(places)
+}
+
+/// Of the rays of a table the places, ascending, of those whose residual, their columns beside those of an outer ray, contains
+/// that of no other rival: no third ray lies inside the union of the outer ray and such a one. The outer ray stands at `own`,
+/// and rivals are the other rays with none of the `joined` columns, which clash with one of it. Without memory there are none.
+pub fn minimal_places(
+    alloc: Global,
+    table: &SupportTable,
+    outer: &Support,
+    joined: &Support,
+    own: usize,
+) -> Result<Vec<usize>, NoMemory>
+    requires outer { length outer.now ≡ table.now.columns }
+    requires joined { length joined.now ≡ table.now.columns }
+    ensures { IfOk result (λ places. AreMinimal table.now.supports outer.now joined.now own places.items) }
+{
+    let mut order = candidates(alloc, table, outer, joined, own)?;
+    sort_by_size(&mut order);
+    let least = least_of(alloc, table, outer, &order)?;
+    let mut places = alone(alloc, &least)?;
+    places.sort_unstable();
+    Ok(places)
+}
