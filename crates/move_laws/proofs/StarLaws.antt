@@ -45,7 +45,7 @@ meets rows i k f g table hf hg a = record {
       ∙ in_place-other k i (image f.labels v) (λ e. other (e ∙ sym hg.missing)));
 }
 
-abbrev found_or : Option Facet → Facet → Facet
+abbrev pub found_or : Option Facet → Facet → Facet
 found_or None g = g
 found_or (Some f) g = f
 

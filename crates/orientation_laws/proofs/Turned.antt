@@ -1,6 +1,7 @@
 -- Signs of pieces, turned by the signs of their tetrahedra, are signs of the other kind.
 use Rattle.std.proofs.Common.{◌≡◌, ℕ, Bool, true, false, List, refl, sym, ap, ◌∙◌}
 use Rattle.std.specs.Prelude.{not, if◌then◌else◌, IsTrue}
+use Rattle.plain_facts.proofs.Truths.{same_truth}
 use Rattle.table_definitions.specs.Permutation.{is_odd}
 use Rattle.table_definitions.specs.Table.{Gluing, Row}
 use Rattle.skeleton_definitions.specs.Orientation.{sign_of, AreSigns}
@@ -69,11 +70,6 @@ sides_tell_orientation_lem rows coords xs components component s orientable = (
   turned_signs rows coords xs components component s orientable.0 orientable.1 (keeps_sides coords xs),
   turned_back rows coords xs components component s orientable.0 orientable.1 (keeps_sides coords xs),
 )
-
-same_truth : (a b : Bool) → (IsTrue a → IsTrue b) → (IsTrue b → IsTrue a) → a ≡ b
-same_truth true b f g = sym (f refl)
-same_truth false true f g = g refl
-same_truth false false f g = refl
 
 pub one_answer_to_both : OneAnswerToBoth
 one_answer_to_both rows coords xs classes i c s orientable told =

@@ -1,6 +1,6 @@
 -- Facts of truth values.
-use Rattle.std.proofs.Common.{◌≡◌, ℕ, Bool, true, false, cond, ◌⊎◌, inl, inr, refl}
-use Rattle.std.specs.Prelude.{not, if◌then◌else◌}
+use Rattle.std.proofs.Common.{◌≡◌, ℕ, Bool, true, false, cond, ◌⊎◌, inl, inr, refl, sym}
+use Rattle.std.specs.Prelude.{not, if◌then◌else◌, IsTrue}
 
 -- 1 where a truth value is true
 abbrev pub one_if : Bool → ℕ
@@ -17,6 +17,12 @@ by_bool false on off = off refl
 pub not_itself : (b : Bool) → b ≡ not b → ⊥
 not_itself true e = cc
 not_itself false e = cc
+
+-- what is true in the same cases is the same
+pub same_truth : (a b : Bool) → (IsTrue a → IsTrue b) → (IsTrue b → IsTrue a) → a ≡ b
+same_truth true b f g = sym (f refl)
+same_truth false true f g = g refl
+same_truth false false f g = refl
 
 -- two truth values that agree, from either side
 pub agree_if : (x y : Bool) → (if y then x else not x) ≡ (if x then y else not y)

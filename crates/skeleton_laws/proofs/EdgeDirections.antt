@@ -14,15 +14,12 @@ use Rattle.table_definitions.proofs.TableLaws.{Among, Among-below}
 use Rattle.skeleton_definitions.specs.Links.{directed, SameDirected}
 use Rattle.class_laws.specs.Directions.{forward, backward}
 use Rattle.class_laws.proofs.DirectionLemmas.{directed_forward, directed_backward, forward_below, backward_below}
-use Rattle.class_laws.proofs.EdgeTies.{pair_either, edge_pair}
+use Rattle.class_laws.proofs.EdgeTies.{pair_either, turned_twice}
 use Rattle.skeleton_laws.proofs.Matchings.{related_same, both, length-both, first_kind, second_kind, is_first_kind, is_second_kind, both_apart}
 use Rattle.skeleton_laws.proofs.EdgeEnds.{edge_below}
 use Rattle.skeleton_laws.proofs.Arrows.{IsArrow, directed_arrow}
 
 module _ (rows : List Row) (es : List ℕ) (e : ℕ) (edges : IsNumbering (6 * length rows) (SameEdge rows) es e) (ds : List ℕ) (d : ℕ) (arrows : IsNumbering (12 * length rows) (SameDirected rows) ds d) (valid : HasValidEdges rows) where
-  turned_again : (i : ℕ) → turned (turned (edge i)) ≡ edge i
-  turned_again i = ap (λ (p : Place). turned (turned p)) (edge_pair i) ∙ sym (edge_pair i)
-
   start_is : (c : ℕ) → c < e → (least es c < 6 * length rows) × (slice_index es (least es c) ≡ c)
   start_is c l = least_class (6 * length rows) (SameEdge rows) es e edges c l
 
@@ -76,7 +73,7 @@ module _ (rows : List Row) (es : List ℕ) (e : ℕ) (edges : IsNumbering (6 * l
       go (inl f) (inl g) = ahead (from (edge j) (edge (least es c)) f g)
       go (inl f) (inr g) = behind (from (edge j) (turned (edge (least es c))) f g)
       go (inr f) (inl g) = behind (from (turned (edge j)) (turned (edge (least es c))) f (joined_turned rows (edge j) (edge (least es c)) g))
-      go (inr f) (inr g) = ahead (from (turned (edge j)) (edge (least es c)) f (subst (λ (q : Place). IsJoined rows (turned (edge j)) q) (turned_again (least es c)) (joined_turned rows (edge j) (turned (edge (least es c))) g)))
+      go (inr f) (inr g) = ahead (from (turned (edge j)) (edge (least es c)) f (subst (λ (q : Place). IsJoined rows (turned (edge j)) q) (turned_twice (least es c)) (joined_turned rows (edge j) (turned (edge (least es c))) g)))
 
   forth : (k : ℕ) → Among k (below d) → (y : ℕ ⊎ ℕ) × Among y (both (below e) (below e)) × Direction k y
   forth k a =
@@ -113,7 +110,7 @@ module _ (rows : List Row) (es : List ℕ) (e : ℕ) (edges : IsNumbering (6 * l
       let l = below-among c e (is_second_kind (below e) (below e) c a) in
       let l' = below-among c' e (is_second_kind (below e) (below e) c' b) in
       let g = joined (backward (least es c)) (backward (least es c')) (back_there c l) (back_there c' l') (turned (edge (least es c))) (turned (edge (least es c'))) (directed_backward (least es c)) (directed_backward (least es c')) (r ∙ sym s) in
-      let g' : IsJoined rows (edge (least es c)) (edge (least es c')) = subst₂ (IsJoined rows) (turned_again (least es c)) (turned_again (least es c')) (joined_turned rows (turned (edge (least es c))) (turned (edge (least es c'))) g) in
+      let g' : IsJoined rows (edge (least es c)) (edge (least es c')) = subst₂ (IsJoined rows) (turned_twice (least es c)) (turned_twice (least es c')) (joined_turned rows (turned (edge (least es c))) (turned (edge (least es c'))) g) in
       ap (λ z. inr z) (same_class c c' l l' (inl g'))
 
   pub two_directions : d ≡ e + e

@@ -12,6 +12,8 @@ pub mod LinkCorners
 pub mod Sides
 pub mod SideParts
 pub mod Halves
+pub mod TwiceEdges
 pub mod Totals
 pub mod EdgeDirections
 pub mod FaceSides
+pub mod Counted

@@ -1,6 +1,8 @@
--- Sums over what passes a test, and over blocks of numbers.
+-- Sums over what passes a test, and over blocks of numbers; where none passes, none is counted.
 use Rattle.std.proofs.Common.{◌≡◌, ℕ, zero, suc, ◌+◌, ◌*◌, Bool, true, false, cond, List, [], ◌∷◌, filter, refl, sym, ap, ◌∙◌, arith}
-use Rattle.std.specs.Prelude.{◌&&◌, sum_by}
+use Rattle.std.specs.Prelude.{◌==◌, ◌&&◌, not, count_by, sum_by}
+use Rattle.std.specs.List.{list_all}
+use Rattle.std.proofs.lemmas.Bool.{ne_eqb}
 use Rattle.std.proofs.lemmas.List.Sums.{sum_by-cons}
 use Rattle.plain_facts.proofs.Truths.{one_if}
 use Rattle.table_definitions.specs.Lists.{below}
@@ -41,3 +43,19 @@ and_if true true = refl
 and_if true false = refl
 and_if false true = refl
 and_if false false = refl
+
+-- none of a list passes a test exactly where none is counted
+pub none_pass : {A : Type 0} (p : A → Bool) (xs : List A) → list_all (λ x. not (p x)) xs ≡ (count_by p xs == 0)
+none_pass p [] = refl
+none_pass {A} p (x ∷ xs) = by_test (p x) refl (none_pass p xs)
+  where
+    by_test : (b : Bool) → p x ≡ b → list_all (λ y. not (p y)) xs ≡ (count_by p xs == 0) → (not (p x) && list_all (λ y. not (p y)) xs) ≡ (count_by p (x ∷ xs) == 0)
+    by_test true e r =
+        let more : count_by p (x ∷ xs) ≡ one_if (p x) + count_by p xs = sum_by-cons (λ y. one_if (p y)) x xs in
+        let one : one_if (p x) ≡ 1 = ap one_if e in
+        ap (λ b. not b && list_all (λ y. not (p y)) xs) e ∙ sym (ne_eqb (count_by p (x ∷ xs)) 0 (omega arith))
+    by_test false e r =
+        let more : count_by p (x ∷ xs) ≡ one_if (p x) + count_by p xs = sum_by-cons (λ y. one_if (p y)) x xs in
+        let none : one_if (p x) ≡ 0 = ap one_if e in
+        let same : count_by p (x ∷ xs) ≡ count_by p xs = omega arith in
+        ap (λ b. not b && list_all (λ y. not (p y)) xs) e ∙ r ∙ ap (λ n. n == 0) (sym same)

@@ -49,7 +49,7 @@ linking coords xs = (to, from)
     from h = all_test (λ c. not (is_quad_or_octagon coords c && nat_lt 0 (slice_index xs c))) (below (length xs))
         (λ c a. not_from_false (is_quad_or_octagon coords c && nat_lt 0 (slice_index xs c)) (one c (is_quad_or_octagon coords c) refl (h c (below-among c (length xs) a))))
 
-free_is : (o : Option Gluing) → is_none o ≡ true → o ≡ None
+pub free_is : (o : Option Gluing) → is_none o ≡ true → o ≡ None
 free_is None e = refl
 free_is (Some g) e = absurd (false≢true e)
 

@@ -34,7 +34,7 @@ pub images_below : (g : List ℕ) (vs : List ℕ) → IsPermutationOfFour g → 
 images_below g [] h a = tt
 images_below g (v ∷ vs) h a = (image_below g v h a.0, images_below g vs h a.1)
 
-images_back : (g : List ℕ) (vs : List ℕ) → IsPermutationOfFour g → AllByRecursion (λ v. v < 4) vs → map (image (inverse g)) (map (image g) vs) ≡ vs
+pub images_back : (g : List ℕ) (vs : List ℕ) → IsPermutationOfFour g → AllByRecursion (λ v. v < 4) vs → map (image (inverse g)) (map (image g) vs) ≡ vs
 images_back g [] h a = refl
 images_back g (v ∷ vs) h a = λ i. image-of_inverse g v h a.0 i ∷ images_back g vs h a.1 i
 

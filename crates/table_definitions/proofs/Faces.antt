@@ -1,7 +1,9 @@
 -- Faces, the test that two are one, and the way across a face and back.
-use Rattle.std.proofs.Common.{◌≡◌, ℕ, ◌<◌, true, List, refl, ap, ◌∙◌, ◌+◌, ◌*◌, ◌/◌, ◌%◌, arith}
+use Rattle.std.proofs.Common.{◌≡◌, ℕ, ◌<◌, true, List, ◌⊎◌, inl, inr, refl, ap, ◌∙◌, ◌+◌, ◌*◌, ◌/◌, ◌%◌, arith}
+use Rattle.std.specs.Prelude.{◌==◌, ◌&&◌, nat_lt}
+use Rattle.std.proofs.lemmas.Bool.{and_parts, eqb-true, or_cases, ltb-true}
 use Rattle.table_definitions.specs.Permutation.{IsPermutationOfFour}
-use Rattle.table_definitions.specs.Table.{Gluing, Face, other_side, way_back, same_face, face_number}
+use Rattle.table_definitions.specs.Table.{Gluing, Face, other_side, way_back, same_face, is_face_before, face_number}
 use Rattle.table_definitions.proofs.PermutationLaws.{image-of_inverse}
 use Rattle.table_definitions.proofs.Permutations.{inverse-inverse}
 use Rattle.table_definitions.proofs.Carried.{same_from, same_to}
@@ -44,3 +46,13 @@ face_of-number x l =
     let d : (4 * x.tet + x.face) / 4 ≡ x.tet = omega arith in
     let m : (4 * x.tet + x.face) % 4 ≡ x.face = omega arith in
     λ i. record { tet = d i; face = m i }
+
+-- one of two faces before the other
+before_means : (x y : Face) → is_face_before x y ≡ true → (x.tet < y.tet) ⊎ ((x.tet ≡ y.tet) × (x.face < y.face))
+before_means x y h = elim (or_cases (nat_lt x.tet y.tet) ((x.tet == y.tet) && nat_lt x.face y.face) h) [
+  | inl l ↦ inl (ltb-true x.tet y.tet l)
+  | inr r ↦ (let a : ((x.tet == y.tet) ≡ true) × (nat_lt x.face y.face ≡ true) = and_parts (x.tet == y.tet) (nat_lt x.face y.face) r in inr (eqb-true x.tet y.tet a.0, ltb-true x.face y.face a.1))
+]
+
+pub not_both_before : (x y : Face) → is_face_before x y ≡ true → is_face_before y x ≡ true → ⊥
+not_both_before x y a b = let p = before_means x y a in let q = before_means y x b in omega arith
