@@ -36,8 +36,9 @@ SUBJECTS = {
     " support_bits support_table residual_pairs cone_core double_description number_bounds solved_rows ray_pairs late_columns"
     " ray_answers enumeration_commands",
     "surface": "surface_definitions vector_definitions coordinate_laws surface_laws equation_laws equation_bounds_laws quad_laws"
-    " quad_lift_laws octagon_laws vertex_link_laws orientation_laws crushing_laws normal_discs matching_equations quad_condition"
-    " quad_lift surface_pieces surface_properties crushing surface_list surface_answers vector_commands",
+    " quad_lift_laws octagon_laws vertex_link_laws coordinates_agree_laws efficiency_laws connected_euler_laws orientation_laws"
+    " crushing_laws normal_discs matching_equations quad_condition quad_lift surface_pieces surface_properties crushing"
+    " surface_list surface_answers vector_commands",
     "sum": "sum_definitions sum_laws ray_decompose sum_commands",
     "program": "command_definitions outcome_definitions command_laws outcome_laws outcome_existence_laws answer_laws"
     " written_answer_laws command_words command_answers workbench trinorm trinorm_c worked_rows worked_tables worked_cones",

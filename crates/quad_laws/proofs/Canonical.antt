@@ -1,6 +1,8 @@
 -- Canonical solutions are the lifts of their quads, lifts are canonical, and vertex links aren't.
-use Rattle.std.proofs.Common.{◌≡◌, ℕ, ◌*◌, ◌/◌, ◌%◌, ◌<◌, List, length, slice_index, refl, sym, ap, ◌∙◌, arith}
+use Rattle.std.proofs.Common.{◌≡◌, ◌≢◌, ℕ, ◌*◌, ◌/◌, ◌%◌, ◌<◌, ◌⊎◌, inl, inr, List, length, slice_index, refl, sym, ap, ◌∙◌, arith}
+use Rattle.std.proofs.lemmas.Bool.{cases_eq}
 use Rattle.cone_definitions.specs.Vectors.{IsInside}
+use Rattle.cone_definitions.proofs.Below.{all_or_one}
 use Rattle.table_definitions.specs.Permutation.{others}
 use Rattle.table_definitions.proofs.Listed.{among_contains}
 use Rattle.skeleton_definitions.specs.Skeleton.{Skeleton, IsSkeleton}
@@ -47,3 +49,32 @@ no_link_is_canonical s coords xs h link canonical =
     link-one (length s.rows) s.vertices.classes c coords (m.0 / 4) (m.0 % 4) h lt lv (ap (slice_index s.vertices.classes) (number-vertex m.0) ∙ m.2) in
     let none : slice_index (link_of s coords c) (tri_column coords (m.0 / 4) (m.0 % 4)) ≡ 0 = ap (λ (ys : List ℕ). slice_index ys (tri_column coords (m.0 / 4) (m.0 % 4))) (sym link.2) ∙ m.3 in
     omega arith
+
+-- where a vector isn't canonical, it has a triangle at each member of some class
+module _ (s : Skeleton) (coords : Coords) (xs : List ℕ) where
+  abbrev triangle : ℕ → ℕ
+  triangle i = slice_index xs (tri_column coords (i / 4) (i % 4))
+
+  abbrev IsIn : ℕ → ℕ → Type 0
+  IsIn c i = slice_index s.vertices.classes i ≡ c
+
+  abbrev HasGap : ℕ → Type 0
+  HasGap c = (i : ℕ) × (i < 4 * length s.rows) × IsIn c i × (triangle i ≡ 0)
+
+  abbrev pub IsFullAt : ℕ → Type 0
+  IsFullAt c = (i : ℕ) → i < 4 * length s.rows → slice_index s.vertices.classes i ≡ c → slice_index xs (tri_column coords (i / 4) (i % 4)) ≢ 0
+
+  at_member : (c i : ℕ) → (IsIn c i → triangle i ≢ 0) ⊎ (IsIn c i × (triangle i ≡ 0))
+  at_member c i = elim (cases_eq (slice_index s.vertices.classes i) c) [
+    | inr off ↦ inl (λ e. absurd (off e))
+    | inl e ↦ elim (cases_eq (triangle i) 0) [ inl z ↦ inr (e, z) | inr some ↦ inl (λ _. some) ]
+  ]
+
+  gap_or_full : (c : ℕ) → HasGap c ⊎ IsFullAt c
+  gap_or_full c = elim (all_or_one (λ i. IsIn c i → triangle i ≢ 0) (λ i. IsIn c i × (triangle i ≡ 0)) (at_member c) (4 * length s.rows)) [
+    | inl all ↦ inr all
+    | inr low ↦ inl (low.0, low.1, low.2.0, low.2.1)
+  ]
+
+  pub canonical_or_full : IsCanonical s coords xs ⊎ ((c : ℕ) × (c < s.vertices.count) × IsFullAt c)
+  canonical_or_full = all_or_one HasGap IsFullAt gap_or_full s.vertices.count

@@ -1,0 +1,14 @@
+pub mod LiftedSurfaces
+pub mod LinkSurfaces
+pub mod OneOver
+pub mod InOctagons
+pub mod SameClashes
+pub mod SameSurfaces
+pub mod EdgeArcs
+pub mod SameCharacteristic
+pub mod Lists
+pub mod Divisors
+pub mod LinksOrLifts
+pub mod OneTerm
+pub mod Numbers
+pub mod Worked

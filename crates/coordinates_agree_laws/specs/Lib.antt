@@ -1,0 +1,3 @@
+pub mod VertexSurfaces
+pub mod Laws
+pub mod WorkedTable

@@ -1,0 +1,14 @@
+pub mod Descents
+pub mod Measures
+pub mod Positives
+pub mod Levels
+pub mod LevelComponents
+pub mod Canonical
+pub mod Connected
+pub mod Efficiency
+pub mod Octagons
+pub mod StandardEfficiency
+pub mod LinkNumbers
+pub mod MultipleLifts
+pub mod QuadDescents
+pub mod QuadEfficiency
