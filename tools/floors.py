@@ -22,7 +22,7 @@ from repository import TOP, crates_of_build, lines_of_crates
 # what each crate is about; its kind is told by its name
 SUBJECTS = {
     "below all": "plain_facts no_memory",
-    "text": "text_definitions document_definitions document_laws partial_table_laws written_laws text_io memory_streams",
+    "text": "text_definitions document_definitions document_laws partial_table_laws written_laws text_io memory_streams bench_io",
     "table": "table_definitions permutation_laws walk_laws perm_four finite_walks gluing_table table_commands",
     "skeleton": "skeleton_definitions class_laws skeleton_laws skeleton vertex_links",
     "signature": "signature_definitions signature_text_laws labelling_laws signature_laws signature_codec canonical_labelling signature_census",

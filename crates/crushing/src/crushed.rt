@@ -11,6 +11,7 @@ use crate::chain::follow;
 use crate::quads::is_removed;
 use gluing_table::{Face, Glue, Row, Table};
 use no_memory::NoMemory;
+use skeleton::Skeleton;
 use std::alloc::{AllocError, Global};
 
 /// How many tetrahedra before each one stay: its number in the crushed table, where it stays.
@@ -88,7 +89,7 @@ fn crushed_rows(
 /// and the others close up in their order. Two faces that stay are glued where a chain through tetrahedra that are
 /// taken out leads from one to the other, and a face from which a chain leads to a boundary face becomes one. (Burton,
 /// on crushing; Jaco and Rubinstein, on 0-efficient triangulations.)
-pub fn crush(alloc: Global, table: &Table, x: &[u128]) -> Result<Table, NoMemory>
+pub fn crush_table(alloc: Global, table: &Table, x: &[u128]) -> Result<Table, NoMemory>
     requires { length x.now ≡ columns Standard (length table.now) }
     ensures crushed { IfOk result (λ new. IsCrushed table.now x.now new) }
     ensures is_table { IfOk result (λ new. IsTable new) }
@@ -97,4 +98,13 @@ pub fn crush(alloc: Global, table: &Table, x: &[u128]) -> Result<Table, NoMemory
     let rows = crushed_rows(alloc, table, x, &numbers)?;
     let crushed = Table::from_sound_rows(alloc, rows)?;
     Ok(crushed)
+}
+
+/// The same table, by the skeleton of the one that is crushed.
+pub fn crush(alloc: Global, skeleton: &Skeleton, x: &[u128]) -> Result<Table, NoMemory>
+    requires { length x.now ≡ columns Standard (length skeleton.now.rows) }
+    ensures crushed { IfOk result (λ new. IsCrushed skeleton.now.rows x.now new) }
+    ensures is_table { IfOk result (λ new. IsTable new) }
+{
+    crush_table(alloc, skeleton.table(), x)
 }

@@ -5,4 +5,4 @@ mod chain;
 mod crushed;
 mod quads;
 
-pub use crushed::crush;
+pub use crushed::{crush, crush_table};

@@ -42,6 +42,9 @@ impl Model for Cover {
     ghost invariant = { λ c. (2 * length c.base ≤ max_tets) × IsTable c.base × (c.table ≡ definition.cover c.base) × IsOrientation c.base (option_map items_of c.signs) };
 }
 
+/// That the cover would have more tetrahedra than a table may have, or want of memory.
+pub type CoverFault = Failure<LargeCover>;
+
 /// The same signs once more.
 fn copied(alloc: Global, signs: Option<&[bool]>) -> Result<Option<Vec<bool>>, AllocError>
     ensures { IfOk result (λ copy. option_map items_of copy ≡ option_copied signs.entry) }
@@ -59,7 +62,7 @@ impl Cover {
     /// The orientable double cover of a table: a tetrahedron on each of two sheets over each of the table's. Over an odd
     /// gluing the sheet stays, and over an even one it changes (the orientation cover of a triangulation, as in Regina's
     /// `makeDoubleCover`). Refused exactly where the cover would have more than [`MAX_TETS`] tetrahedra.
-    pub fn of(alloc: Global, skeleton: &Skeleton) -> Result<Cover, Failure<LargeCover>>
+    pub fn of(alloc: Global, skeleton: &Skeleton) -> Result<Cover, CoverFault>
         ensures cover { IfOk result (λ c. c ≡ skeleton.now.rows) }
         ensures fits { OnOk result (definition.cover_fault skeleton.now.rows ≡ None) }
         ensures fault { IfErr result (λ e. IfFault e (λ f. definition.cover_fault skeleton.now.rows ≡ Some f)) }

@@ -6,6 +6,6 @@ mod images;
 mod rows;
 mod sheets;
 
-pub use cover::Cover;
-pub use cover_definitions::LargeCover;
+pub use cover::{Cover, CoverFault};
+pub use cover_definitions::LargeCover as TooMany;
 pub use no_memory::Failure;

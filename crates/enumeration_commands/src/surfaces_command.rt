@@ -28,7 +28,7 @@ fn answer(
     requires most_limit { limit ≤ MAX_ENTRY }
     ensures { IfOk result (IsSurfacesAnswer coords order limit table.now) }
 {
-    match surface_list::surfaces(alloc, table, coords, order, limit) {
+    match surface_list::surfaces_of_table(alloc, table, coords, order, limit) {
         Ok(surfaces) => list_outcome(alloc, b"surfaces", &surfaces),
         Err(Failure::Fault(large)) => large_outcome(alloc, &large.order, &large.kind),
         Err(Failure::NoMemory) => Err(NoMemory),

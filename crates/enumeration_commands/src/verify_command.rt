@@ -12,7 +12,7 @@ ghost use Rattle.outcome_definitions.specs.Answers.{IsVerdictsAnswer};
 use command_answers::{Outcome, append_checked, fault_outcome, read_table_and_vectors};
 use cone_core::System;
 use gluing_table::Table;
-use matching_equations::{Coords, equations};
+use matching_equations::{Coords, equations_of_table};
 use no_memory::NoMemory;
 use outcome_definitions::Status;
 use quad_condition::check_vector;
@@ -61,7 +61,7 @@ fn answer(
 ) -> Result<Outcome, NoMemory>
     ensures { IfOk result (IsVerdictsAnswer coords (table.now, all_entries vectors.now)) }
 {
-    let system = equations(alloc, table, coords)?;
+    let system = equations_of_table(alloc, table, coords)?;
     let text = verdicts(alloc, coords, table, &system, vectors)?;
     Ok(Outcome::built(Status::Done, text))
 }

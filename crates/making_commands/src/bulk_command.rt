@@ -32,7 +32,7 @@ fn accept(alloc: Global, made: &Made) -> Result<(), NoMemory>
 fn summed_up(alloc: Global, numbers: Numbers, table: &Table) -> Result<Outcome, NoMemory>
     ensures { IfOk result (IsSummary numbers table.now) }
 {
-    match surface_list::surfaces(alloc, table, Coords::Standard, Order::Given, MAX_ENTRY) {
+    match surface_list::surfaces_of_table(alloc, table, Coords::Standard, Order::Given, MAX_ENTRY) {
         Ok(surfaces) => summary_outcome(alloc, numbers, &surfaces),
         Err(Failure::Fault(large)) => large_outcome(alloc, &large.order, &large.kind),
         Err(Failure::NoMemory) => Err(NoMemory),

@@ -11,4 +11,4 @@ pub use matching::matching_system;
 pub use normal_discs::columns;
 pub use pieces::column;
 pub use surface_definitions::{Coords, Piece};
-pub use table_equations::{equations, quad_equations};
+pub use table_equations::{equations, equations_of_table, quad_equations};

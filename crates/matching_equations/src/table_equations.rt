@@ -1,4 +1,4 @@
-//! The equations of a table in any coordinates.
+//! The equations in any coordinates, by the skeleton of a table or by the table alone.
 
 ghost use Rattle.std.specs.Prelude.{◌≡◌, length, IfOk};
 ghost use Rattle.surface_definitions.specs.Coordinates as coordinates;
@@ -21,6 +21,19 @@ pub fn quad_equations(alloc: Global, skeleton: &Skeleton) -> Result<System, NoMe
     quad_system(alloc, skeleton)
 }
 
+/// The equations of a table, by its skeleton: in standard and octagon coordinates the matching equations, in quad
+/// coordinates one for each inner edge class (Haken 1961; Tollefson 1998).
+pub fn equations(alloc: Global, skeleton: &Skeleton, coords: Coords) -> Result<System, NoMemory>
+    ensures columns { IfOk result (λ s. s.columns ≡ coordinates.columns coords (length skeleton.now.rows)) }
+    ensures equations { IfOk result (λ s. AreEquations coords skeleton.now.rows s.rows) }
+{
+    match coords {
+        Coords::Standard => matching_system(alloc, coords, skeleton.table()),
+        Coords::Quad => quad_equations(alloc, skeleton),
+        Coords::Octagon => matching_system(alloc, coords, skeleton.table()),
+    }
+}
+
 /// The equations of a table in quad coordinates, which ask for its skeleton.
 fn equations_round_edges(alloc: Global, table: &Table) -> Result<System, NoMemory>
     ensures columns { IfOk result (λ s. s.columns ≡ coordinates.columns Coords.Quad (length table.now)) }
@@ -30,9 +43,8 @@ fn equations_round_edges(alloc: Global, table: &Table) -> Result<System, NoMemor
     quad_equations(alloc, &skeleton)
 }
 
-/// The equations of a table: in standard and octagon coordinates the matching equations, in quad coordinates one for
-/// each inner edge class.
-pub fn equations(alloc: Global, table: &Table, coords: Coords) -> Result<System, NoMemory>
+/// The same, where the skeleton isn't made yet; only quad coordinates ask for it.
+pub fn equations_of_table(alloc: Global, table: &Table, coords: Coords) -> Result<System, NoMemory>
     ensures columns { IfOk result (λ s. s.columns ≡ coordinates.columns coords (length table.now)) }
     ensures equations { IfOk result (λ s. AreEquations coords table.now s.rows) }
 {

@@ -12,19 +12,20 @@ use Rattle.sum_definitions.specs.Adding.{sum_at, AddsUp, column_fault, add_fault
 use Rattle.sum_definitions.specs.declared.AddFault.{AddFault}
 use Rattle.sum_definitions.specs.declared.AddFault.TheVariants.{ZeroTimes}
 use Rattle.sum_laws.proofs.Added.{no_fault_adds_up}
-use Rattle.ray_decompose.specs.Sums.{GivenTerm, term_of, terms_of, HasWidth}
+use Rattle.ray_decompose.specs.declared.adding.Given.{Given}
+use Rattle.ray_decompose.specs.Sums.{term_of, terms_of, HasWidth}
 
 -- an entry, as it was read
 pub entry_is : (xs : List ℕ) (i entry : ℕ) → i < length xs → entry ≡ get_or xs i entry → entry ≡ slice_index xs i
 entry_is xs i entry l e = e ∙ get_or_default xs i entry 0 l
 
 -- one more term and the sum is passed
-pub too_much : (terms : List GivenTerm) (sum left column i : ℕ) (g : GivenTerm) → i < length terms → g ≡ get_or terms i g → sum ≡ sum_at (terms_of (take i terms)) column + left →
-    left < g.count * slice_index g.vector.items column → sum ≡ sum_at (terms_of terms) column → ⊥
+pub too_much : (terms : List Given) (sum left column i : ℕ) (g : Given) → i < length terms → g ≡ get_or terms i g → sum ≡ sum_at (terms_of (take i terms)) column + left →
+    left < g.count * slice_index g.entries.items column → sum ≡ sum_at (terms_of terms) column → ⊥
 too_much terms sum left column i g l is so_far passed e =
     let m : sum_at (take i (terms_of terms)) column + product (get_or (terms_of terms) i (term_of g)) ≤ sum_at (terms_of terms) column = sum_by_more_le product (terms_of terms) i (term_of g) (let n : length (terms_of terms) ≡ length terms = length-map terms term_of in omega arith) in
     let t : sum_at (terms_of (take i terms)) column ≡ sum_at (take i (terms_of terms)) column = ap (λ ts. sum_at ts column) (sym (take-map term_of i terms)) in
-    let p : product (get_or (terms_of terms) i (term_of g)) ≡ g.count * slice_index g.vector.items column = ap product (get_or-map term_of terms i g (term_of g) l ∙ ap term_of (sym is)) in
+    let p : product (get_or (terms_of terms) i (term_of g)) ≡ g.count * slice_index g.entries.items column = ap product (get_or-map term_of terms i g (term_of g) l ∙ ap term_of (sym is)) in
     omega arith
   where
     product : Term → ℕ
@@ -50,6 +51,6 @@ module _ (limit : ℕ) (x : List ℕ) (times : ℕ) (terms : List Term) where
   unfolding add_fault
   no_faults some all = ap chosen (not_eqb times some) ∙ first_some-none_below (column_fault limit x times terms) (length x) all
 
-pub given_add_up : (limit : ℕ) (x : List ℕ) (times : ℕ) (terms : List GivenTerm) → All (HasWidth (length x)) terms → add_fault limit x times (terms_of terms) ≡ None →
+pub given_add_up : (limit : ℕ) (x : List ℕ) (times : ℕ) (terms : List Given) → All (HasWidth (length x)) terms → add_fault limit x times (terms_of terms) ≡ None →
     AddsUp limit x times (terms_of terms)
 given_add_up limit x times terms widths e = (no_fault_adds_up limit x times (terms_of terms) (All-map (λ (term : Term). length term.vector ≡ length x) term_of terms widths)).0 e

@@ -1,25 +1,20 @@
 -- What the steps of a sum do, and given terms as terms.
-use Rattle.std.specs.Prelude.{◌≡◌, ℕ, ◌*◌, ◌<◌, ◌≤◌, List, map, length, slice_index, Vec}
-use Rattle.std.specs.declared.alloc.Global.{Global}
+use Rattle.std.specs.Prelude.{◌≡◌, ℕ, ◌*◌, ◌<◌, ◌≤◌, List, map, length, slice_index}
 use Rattle.sum_definitions.specs.Sums.{Term}
-use Rattle.sum_definitions.specs.declared.Term.{Term as Taken}
+use Rattle.ray_decompose.specs.declared.adding.Given.{Given}
 
 -- at this column an entry of x, taken so many times, passes the limit, and at none before
 pub record IsFirstLarge (limit : ℕ) (x : List ℕ) (times column : ℕ) : Type 0 where
   pub large : limit < times * slice_index x column
   pub first : (earlier : ℕ) → earlier < column → times * slice_index x earlier ≤ limit
 
--- a vector that was given, taken so many times
-abbrev pub GivenTerm : Type 0
-GivenTerm = Taken (Vec ℕ Global)
-
 -- given terms, as terms
-abbrev pub term_of : GivenTerm → Term
-term_of given = record { count = given.count; vector = given.vector.items }
+abbrev pub term_of : Given → Term
+term_of given = record { count = given.count; vector = given.entries.items }
 
-abbrev pub terms_of : List GivenTerm → List Term
+abbrev pub terms_of : List Given → List Term
 terms_of givens = map term_of givens
 
 -- a given term has so many columns
-abbrev pub HasWidth : ℕ → GivenTerm → Type 0
-HasWidth columns given = length given.vector.items ≡ columns
+abbrev pub HasWidth : ℕ → Given → Type 0
+HasWidth columns given = length given.entries.items ≡ columns

@@ -11,17 +11,21 @@ use cone_core::MAX_ENTRY;
 use sum_definitions::AddFault;
 
 /// A vector that was given, taken so many times.
-pub type Given = sum_definitions::Term<Vec<u128>>;
+#[derive(Drop)]
+pub struct Given {
+    pub count: u128,
+    pub entries: Vec<u128>,
+}
 
 /// Whether the counts times the entries at a column add up to a number.
 fn are_equal(sum: u128, terms: &[Given], column: usize) -> bool
     requires most { sum ≤ MAX_ENTRY }
-    requires terms { All (λ given. column < length given.vector.items) terms.now }
+    requires terms { All (λ given. column < length given.entries.items) terms.now }
     ensures { IsTrue result ↔ (sum ≡ sum_at (terms_of terms.now) column) }
 {
     let mut left = sum;
     for term in terms {
-        match product_within(term.count, term.vector[column], left) {
+        match product_within(term.count, term.entries[column], left) {
             Some(product) => left -= product,
             None => return false,
         }

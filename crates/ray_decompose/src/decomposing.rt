@@ -24,6 +24,9 @@ pub struct Sum {
     pub terms: Vec<Term>,
 }
 
+/// The first turn, and its first column, at which a number passes the limit, or want of memory.
+pub type SumFault = Failure<LargeTurn>;
+
 /// A solution of a system as a sum of listed rays: turn by turn, the least ray inside what is left is taken out of it, as often
 /// as leaves nothing negative. A ray that isn't inside what is left never is again, so the list is read once.
 ///
@@ -35,7 +38,7 @@ pub fn decompose(
     list: &[Ray],
     x: &[u128],
     limit: u128,
-) -> Result<Sum, Failure<LargeTurn>>
+) -> Result<Sum, SumFault>
     requires rays { HasRays system.now.columns system.now.rows list.now x.now }
     requires entries { (column : ℕ) → slice_index x.now column ≤ MAX_ENTRY }
     requires some_limit { 1 ≤ limit }

@@ -9,5 +9,5 @@ mod products;
 mod taking;
 
 pub use adding::{Given, add_up};
-pub use decomposing::{Sum, Term, decompose};
-pub use sum_definitions::{AddFault, LargeTurn};
+pub use decomposing::{Sum, SumFault, Term, decompose};
+pub use sum_definitions::{AddFault, LargeTurn as Large};

@@ -7,10 +7,10 @@ ghost use Rattle.signature_definitions.specs.Spelling.{IsSignature};
 ghost use Rattle.signature_definitions.specs.Census.{signature_in, IsPlaced};
 ghost use Rattle.signature_census.specs.Texts.{texts_of};
 
-use canonical_labelling::{NotConnected, signature};
+use canonical_labelling::{WalkFault, signature};
 use gluing_table::Table;
 use indexmap::IndexSet;
-use no_memory::{Failure, NoMemory};
+use no_memory::NoMemory;
 use std::alloc::Global;
 use std::marker::Model;
 
@@ -70,7 +70,7 @@ impl Census {
 
     /// The class of a table: the place of its signature, which is put last where it has none. What isn't connected is
     /// refused, and then the census stays.
-    pub fn add(&mut self, table: &Table) -> Result<u32, Failure<NotConnected>>
+    pub fn add(&mut self, table: &Table) -> Result<u32, WalkFault>
         requires { length self.old + 1 < 2 ^ 32 }
         ensures class { IfOk result (λ class. (text : List ℕ) × IsSignature table.now text × IsPlaced self.old text class self.new) }
         ensures in_range { IfOk result (λ class. class < length self.new) }

@@ -4,5 +4,5 @@
 
 mod census;
 
-pub use canonical_labelling::NotConnected;
+pub use canonical_labelling::{NotConnected, WalkFault};
 pub use census::Census;

@@ -10,7 +10,7 @@ ghost use Rattle.certificate_definitions.specs.Answers.{IsDescended};
 
 use crate::accepted::{first_accepted, vertices};
 use crate::checking::is_sphere;
-use canonical_labelling::{NotConnected, signature};
+use canonical_labelling::{NotConnected, WalkFault, signature};
 use gluing_table::Table;
 use no_memory::{Failure, NoMemory};
 use pachner_moves::{Core, Move, apply};
@@ -92,7 +92,7 @@ fn descent_of(alloc: Global, table: &Table) -> Result<Descent, NoMemory>
 /// The descent of a connected table: while it isn't a relabelling of the standard sphere, the first accepted move 4-1 is
 /// played, by tetrahedron and vertex, else the first accepted 3-2, by tetrahedron and edge. It ends where the table is standard,
 /// or has neither move. `NotConnected` names the least tetrahedron of the table that isn't reached.
-pub fn descend(alloc: Global, table: &Table) -> Result<Descent, Failure<NotConnected>>
+pub fn descend(alloc: Global, table: &Table) -> Result<Descent, WalkFault>
     ensures descent { IfOk result (λ d. IsDescended table.now (record { reached = d.reached; moves = d.moves.items; table = d.table })) }
     ensures certificate { IfOk result (λ d. d.reached ≡ true → IsCertificate table.now d.moves.items) }
     ensures fewer { IfOk result (λ d. length d.table + length d.moves.items ≤ length table.now) }

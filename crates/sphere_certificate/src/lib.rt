@@ -7,6 +7,7 @@ mod descending;
 mod sphere;
 
 pub use accepted::is_accepted;
+pub use canonical_labelling::{NotConnected, WalkFault};
 pub use checking::{CheckFault, check};
 pub use descending::{Descent, descend};
 pub use sphere::standard;

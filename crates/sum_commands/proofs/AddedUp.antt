@@ -9,7 +9,8 @@ use Rattle.surface_definitions.specs.declared.Coords.{Coords}
 use Rattle.surface_definitions.specs.Coordinates.{columns, clash_list}
 use Rattle.surface_definitions.specs.QuadEquations.{AreEquations}
 use Rattle.surface_definitions.proofs.VerdictLaws.{accepted_by}
-use Rattle.ray_decompose.specs.Sums.{GivenTerm, term_of, terms_of, HasWidth}
+use Rattle.ray_decompose.specs.declared.adding.Given.{Given}
+use Rattle.ray_decompose.specs.Sums.{term_of, terms_of, HasWidth}
 use Rattle.document_definitions.specs.Blocks.{Block}
 use Rattle.outcome_definitions.specs.declared.SumRefusal.{SumRefusal}
 use Rattle.outcome_definitions.specs.Outcomes.{Outcome}
@@ -18,10 +19,10 @@ use Rattle.sum_commands.proofs.Walks.{all_told}
 
 module _ (coords : Coords) (rows : List Row) (equations : List EquationRow) where
   -- terms that pass the check have the width of the table
-  pub term_widths : (givens : List GivenTerm) (width : ℕ) → width ≡ columns coords (length rows) → All (λ term. IsTermVerdict coords rows equations term (Ok tt)) (terms_of givens) → All (HasWidth width) givens
+  pub term_widths : (givens : List Given) (width : ℕ) → width ≡ columns coords (length rows) → All (λ term. IsTermVerdict coords rows equations term (Ok tt)) (terms_of givens) → All (HasWidth width) givens
   term_widths [] width e h = λ k d l. absurd (omega arith)
   term_widths (g ∷ givens) width e h =
-      let a = accepted_by limit (columns coords (length rows)) equations (clash_list coords (length rows)) g.vector.items (h 0 (term_of g) (omega arith)) in
+      let a = accepted_by limit (columns coords (length rows)) equations (clash_list coords (length rows)) g.entries.items (h 0 (term_of g) (omega arith)) in
       All-cons (HasWidth width) g givens (a.solves.width ∙ sym e) (term_widths givens width e (λ k d l. h (suc k) d (omega arith)))
 
   module _ (of_table : AreEquations coords rows equations) (blocks : List Block) (o : Outcome) where

@@ -3,11 +3,12 @@ use Rattle.std.specs.Prelude.{ℕ, List, map, Vec}
 use Rattle.std.specs.declared.alloc.Global.{Global}
 use Rattle.sum_definitions.specs.Sums.{Term}
 use Rattle.document_definitions.specs.Blocks as blocks
-use Rattle.ray_decompose.specs.Sums.{GivenTerm, terms_of}
+use Rattle.ray_decompose.specs.declared.adding.Given.{Given}
+use Rattle.ray_decompose.specs.Sums.{terms_of}
 use Rattle.sum_commands.specs.declared.blocks.Block.{Block}
 use Rattle.sum_commands.specs.declared.blocks.Times.{Times}
 
-abbrev pub given_terms : Vec GivenTerm Global → List Term
+abbrev pub given_terms : Vec Given Global → List Term
 given_terms terms = terms_of terms.items
 
 -- how many times a vector is taken, and the terms

@@ -15,7 +15,7 @@ use crate::refusals::refusal_outcome;
 use command_answers::{Outcome, accepted_outcome, fault_outcome};
 use cone_core::System;
 use gluing_table::Table;
-use matching_equations::{Coords, equations};
+use matching_equations::{Coords, equations_of_table};
 use no_memory::NoMemory;
 use outcome_definitions::SumRefusal;
 use ray_decompose::add_up;
@@ -93,7 +93,7 @@ fn answer(
 ) -> Result<Outcome, NoMemory>
     ensures { IfOk result (IsAddupAnswer coords (table.now, all_blocks blocks.now)) }
 {
-    let system = equations(alloc, table, coords)?;
+    let system = equations_of_table(alloc, table, coords)?;
     answer_by(alloc, coords, table, &system, blocks)
 }
 

@@ -50,8 +50,8 @@ fn read_term(alloc: Global, lexer: &mut Lexer<'_>) -> Result<Given, TextFault>
         return Err(TextFault::Lex(lexer.bad_word()));
     }
     let count = lexer.number(LIMIT)?;
-    let vector = read_numbers(alloc, lexer)?;
-    Ok(Given { count, vector })
+    let entries = read_numbers(alloc, lexer)?;
+    Ok(Given { count, entries })
 }
 
 // So many terms.

@@ -49,7 +49,7 @@ pub fn check_terms(
     ensures { AreAllTold (IsTermVerdict coords table.now system.now.rows) (terms_of terms.now) result }
 {
     for (number, term) in terms.iter().enumerate() {
-        match check(coords, table, system, &term.vector) {
+        match check(coords, table, system, &term.entries) {
             Ok(()) => {}
             Err(fault) => return Err(FirstFault { number, fault }),
         }

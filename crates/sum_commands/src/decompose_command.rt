@@ -18,10 +18,10 @@ use command_answers::{Outcome, fault_outcome, read_table_and_vectors};
 use cone_core::{MAX_ENTRY, Ray, System};
 use double_description::Order;
 use gluing_table::{Table, write_table};
-use matching_equations::{Coords, equations};
+use matching_equations::{Coords, equations_of_table};
 use no_memory::{Failure, NoMemory};
 use outcome_definitions::{Status, SumRefusal};
-use ray_decompose::LargeTurn;
+use ray_decompose::{Large, SumFault};
 use std::alloc::Global;
 use surface_answers::large_outcome;
 use surface_list::surfaces_by;
@@ -34,7 +34,7 @@ fn append_sum(
     x: &[u128],
     limit: u128,
     out: &mut Vec<u8>,
-) -> Result<(), Failure<LargeTurn>>
+) -> Result<(), SumFault>
     requires rays { HasRays system.now.columns system.now.rows list.now x.now }
     requires entries { (column : ℕ) → slice_index x.now column ≤ MAX_ENTRY }
     requires some_limit { 1 ≤ limit }
@@ -54,7 +54,7 @@ fn sums(
     list: &[Ray],
     vectors: &[Vec<u128>],
     limit: u128,
-) -> Result<Vec<u8>, Failure<FirstFault<LargeTurn>>>
+) -> Result<Vec<u8>, Failure<FirstFault<Large>>>
     requires rays { HaveRays system.now list.now (all_entries vectors.now) }
     requires entries { AreInRange (all_entries vectors.now) }
     requires some_limit { 1 ≤ limit }
@@ -94,7 +94,7 @@ fn summed(
     match sums(alloc, table, system, list, vectors, limit) {
         Ok(text) => Ok(Outcome::built(Status::Done, text)),
         Err(Failure::Fault(first)) => {
-            let LargeTurn { turn, column } = first.fault;
+            let Large { turn, column } = first.fault;
             refusal_outcome(alloc, first.number, SumRefusal::LargeTimes { turn, column })
         }
         Err(Failure::NoMemory) => Err(NoMemory),
@@ -144,7 +144,7 @@ fn answer(
     requires most_limit { limit ≤ MAX_ENTRY }
     ensures { IfOk result (IsDecomposeAnswer coords limit (table.now, all_entries vectors.now)) }
 {
-    let system = equations(alloc, table, coords)?;
+    let system = equations_of_table(alloc, table, coords)?;
     answer_by(alloc, coords, limit, table, &system, vectors)
 }
 

@@ -3,5 +3,8 @@
 
 mod bounds;
 mod listed;
+mod of_skeleton;
 
-pub use listed::{surfaces, surfaces_by};
+pub use listed::{surfaces_by, surfaces_of_table};
+pub use of_skeleton::surfaces;
+pub use ray_answers::write_list;

@@ -15,7 +15,7 @@ use cone_core::{MAX_ENTRY, Ray, System};
 use double_description::{LargeStep, Order, Permit, Picker, Rays, choice, enumerate};
 use gluing_table::Table;
 use late_columns::vertex_surfaces;
-use matching_equations::{Coords, equations};
+use matching_equations::{Coords, equations_of_table};
 use no_memory::{Failure, NoMemory};
 use normal_discs::{columns_each, is_quad_or_octagon};
 use quad_condition::{Masks, clash_list};
@@ -137,7 +137,7 @@ pub fn surfaces_by(
 }
 
 /// The same, where the equations aren't made yet.
-pub fn surfaces(
+pub fn surfaces_of_table(
     alloc: Global,
     table: &Table,
     coords: Coords,
@@ -150,6 +150,6 @@ pub fn surfaces(
     ensures ok { IfOk result (λ rays. AreTableSurfaces limit coords table.now order rays.items) }
     ensures err { IfErr result (IsTableRefused limit coords table.now order) }
 {
-    let system = equations(alloc, table, coords)?;
+    let system = equations_of_table(alloc, table, coords)?;
     surfaces_by(alloc, table, &system, coords, order, limit)
 }

@@ -11,5 +11,5 @@ mod steps;
 mod vectors;
 
 pub use no_memory::Failure;
-pub use pieces::Pieces;
-pub use vector_definitions::ManyPieces;
+pub use pieces::{Pieces, PiecesFault};
+pub use vector_definitions::ManyPieces as TooManyPieces;

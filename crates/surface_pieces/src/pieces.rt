@@ -44,6 +44,9 @@ impl Model for Pieces {
     ghost invariant = { λ p. (length p.two_sided.items ≡ length p.vectors.items) × (length p.orientable.items ≡ length p.vectors.items) × (length p.vectors.items < 2 ^ 32) };
 }
 
+/// That a surface has more pieces than are looked at, or want of memory.
+pub type PiecesFault = Failure<ManyPieces>;
+
 // More pieces aren't looked at.
 const MOST_PIECES: u128 = 100_000;
 
@@ -90,13 +93,13 @@ impl Pieces {
     /// The components of a surface: of an admissible solution in standard or octagon coordinates whose entries add up
     /// to at most 2^127 - 1. (Haken.)
     ///
-    /// `ManyPieces` with the number of pieces where there are more than 100,000.
+    /// `TooManyPieces` with the number of pieces where there are more than 100,000.
     pub fn build(
         alloc: Global,
         skeleton: &Skeleton,
         coords: Coords,
         x: &[u128],
-    ) -> Result<Pieces, Failure<ManyPieces>>
+    ) -> Result<Pieces, PiecesFault>
         requires surface { IsSurface skeleton.now.rows coords x.now }
         requires fits { sum x.now ≤ limit }
         ensures pieces { IfOk result (λ p. IsPiecesAnswer skeleton.now.rows coords x.now (Ok p)) }

@@ -13,7 +13,7 @@ use crate::refusals::refusal_outcome;
 use command_answers::{Outcome, fault_outcome, read_table_and_vector};
 use cone_core::System;
 use gluing_table::{Table, write_table};
-use matching_equations::{Coords, equations};
+use matching_equations::{Coords, equations_of_table};
 use no_memory::NoMemory;
 use outcome_definitions::Status;
 use std::alloc::Global;
@@ -25,7 +25,7 @@ fn crushed(alloc: Global, table: &Table, x: &[u128]) -> Result<Outcome, NoMemory
     requires { length x.now ≡ columns Standard (length table.now) }
     ensures { IfOk result (TellsCrushed table.now x.now) }
 {
-    let new = crushing::crush(alloc, table, x)?;
+    let new = crushing::crush_table(alloc, table, x)?;
     let mut text = Vec::new(alloc);
     write_table(alloc, &new, &mut text)?;
     Ok(Outcome::built(Status::Done, text))
@@ -47,7 +47,7 @@ fn answer_by(alloc: Global, table: &Table, system: &System, x: &[u128]) -> Resul
 fn answer(alloc: Global, table: &Table, x: &[u128]) -> Result<Outcome, NoMemory>
     ensures { IfOk result (IsCrushAnswer (table.now, x.now)) }
 {
-    let system = equations(alloc, table, Coords::Standard)?;
+    let system = equations_of_table(alloc, table, Coords::Standard)?;
     answer_by(alloc, table, &system, x)
 }
 

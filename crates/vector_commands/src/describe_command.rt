@@ -25,7 +25,7 @@ use outcome_definitions::Status;
 use skeleton::Skeleton;
 use std::alloc::Global;
 use surface_answers::check;
-use surface_pieces::{ManyPieces, Pieces};
+use surface_pieces::{Pieces, TooManyPieces};
 use surface_properties::{Properties, PropertyFault, properties_of};
 use vector_definitions::Refusal;
 
@@ -59,7 +59,7 @@ fn describe_fit(
     };
     match Pieces::build(alloc, skeleton, coords, x) {
         Ok(pieces) => Ok(Described { properties, pieces }),
-        Err(Failure::Fault(ManyPieces { count })) => {
+        Err(Failure::Fault(TooManyPieces { count })) => {
             Err(Failure::Fault(Refusal::TooManyPieces { count }))
         }
         Err(Failure::NoMemory) => Err(Failure::NoMemory),
@@ -173,7 +173,7 @@ fn describe_valid(
     requires skeleton { IsSkeleton skeleton.now }
     ensures { IfOk result (AreDescribed skeleton.now coords (all_entries vectors.now)) }
 {
-    let system = equations(alloc, skeleton.table(), coords)?;
+    let system = equations(alloc, skeleton, coords)?;
     describe_each(alloc, skeleton, &system, coords, vectors)
 }
 

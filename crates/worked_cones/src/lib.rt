@@ -12,6 +12,22 @@ mod matching_equations_calls;
 #[cfg(test)]
 mod number_bounds_calls;
 #[cfg(test)]
+mod public_calls_cone_core;
+#[cfg(test)]
+mod public_calls_matching_equations;
+#[cfg(test)]
+mod public_calls_quad_condition;
+#[cfg(test)]
+mod public_calls_quad_lift;
+#[cfg(test)]
+mod public_calls_ray_decompose;
+#[cfg(test)]
+mod public_calls_support_bits;
+#[cfg(test)]
+mod public_calls_surface_list;
+#[cfg(test)]
+mod public_calls_surface_pieces;
+#[cfg(test)]
 mod quad_condition_calls;
 #[cfg(test)]
 mod quad_lift_calls;

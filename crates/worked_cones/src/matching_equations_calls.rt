@@ -1,11 +1,11 @@
-use crate::sample_cones::{SPHERE, are_rows, entries, read_table};
-use matching_equations::{Coords, Piece, column, columns, equations};
+use crate::sample_cones::{SPHERE, are_rows, entries, read_table, skeleton_of};
+use matching_equations::{Coords, Piece, column, columns, equations, equations_of_table};
 use std::test::Fail;
 
 #[test]
 fn a_sphere_has_six_rows(rt: HostRuntime) -> Result<(), Fail> {
-    let table = read_table(rt.alloc(), SPHERE)?;
-    let standard = equations(rt.alloc(), &table, Coords::Standard)?;
+    let skeleton = skeleton_of(rt.alloc(), SPHERE)?;
+    let standard = equations(rt.alloc(), &skeleton, Coords::Standard)?;
     assert_eq!(rt; standard.columns(), 7);
     are_rows(
         &rt,
@@ -25,7 +25,7 @@ fn a_sphere_has_six_rows(rt: HostRuntime) -> Result<(), Fail> {
 #[test]
 fn octagons_stand_in_the_same_rows(rt: HostRuntime) -> Result<(), Fail> {
     let table = read_table(rt.alloc(), SPHERE)?;
-    let octagon = equations(rt.alloc(), &table, Coords::Octagon)?;
+    let octagon = equations_of_table(rt.alloc(), &table, Coords::Octagon)?;
     assert_eq!(rt; octagon.len(), 6);
     assert_eq!(rt;
         entries(&octagon, 4),
@@ -36,8 +36,8 @@ fn octagons_stand_in_the_same_rows(rt: HostRuntime) -> Result<(), Fail> {
 
 #[test]
 fn a_sphere_has_two_rows_in_quads(rt: HostRuntime) -> Result<(), Fail> {
-    let table = read_table(rt.alloc(), SPHERE)?;
-    let quad = equations(rt.alloc(), &table, Coords::Quad)?;
+    let skeleton = skeleton_of(rt.alloc(), SPHERE)?;
+    let quad = equations(rt.alloc(), &skeleton, Coords::Quad)?;
     assert_eq!(rt; quad.columns(), 3);
     are_rows(&rt, &quad, &[&[(1, -1), (2, 1)], &[(1, 1), (2, -1)]]);
     Ok(())

@@ -1,19 +1,19 @@
 ghost use Rattle.std.specs.Prelude.{◌≡◌, ◌<◌, [], ◌∷◌, IfOk};
 ghost use Rattle.cone_definitions.specs.WorkedRow.{worked_row};
 
+use crate::sample_cones::is_ray;
 use cone_core::{MAX_ENTRY, Ray, SparseRow, System, combine};
 use no_memory::{Failure, NoMemory};
-use ray_decompose::{AddFault, Given, LargeTurn, add_up, decompose};
+use ray_decompose::{AddFault, Given, Large, add_up, decompose};
 use std::alloc::Global;
 use std::test::Fail;
 use sum_laws::worked_sums;
 
 fn given(alloc: Global, count: u128, entries: &[u128]) -> Result<Given, Fail>
-    ensures { IfOk result (λ given. given.vector.items ≡ entries.now) }
+    ensures { IfOk result (λ given. given.entries.items ≡ entries.now) }
 {
-    let mut vector = Vec::with_capacity(alloc, entries.len())?;
-    vector.extend_from_slice(entries)?;
-    Ok(Given { count, vector })
+    let entries = entries.to_vec(alloc)?;
+    Ok(Given { count, entries })
 }
 
 #[test]
@@ -75,8 +75,11 @@ fn a_solution_is_a_sum_of_rays(rt: HostRuntime) -> Result<(), Fail> {
         .ok()
         .ok_or("no sum")?;
     assert_eq!(rt; (sum.times, sum.terms.len()), (2, 2));
-    assert!(rt; sum.terms.iter().all(|term| term.count == 1));
+    for (term, vector) in sum.terms.iter().zip([[0, 2, 1], [2, 0, 1]]) {
+        assert_eq!(rt; term.count, 1);
+        is_ray(&rt, &term.vector, &vector);
+    }
     let large = decompose(alloc, &system, &rays, &[1, 1, 1], 1);
-    assert!(rt; matches!(large, Err(Failure::Fault(LargeTurn { turn: 0, column: 0 }))));
+    assert!(rt; matches!(large, Err(Failure::Fault(Large { turn: 0, column: 0 }))));
     Ok(())
 }

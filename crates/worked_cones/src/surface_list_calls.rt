@@ -1,6 +1,6 @@
 ghost use Rattle.std.specs.Prelude.{◌≤◌};
 
-use crate::sample_cones::{SPHERE, are_rays, read_table};
+use crate::sample_cones::{SPHERE, are_rays, skeleton_of};
 use cone_core::MAX_ENTRY;
 use double_description::Order;
 use matching_equations::Coords;
@@ -20,8 +20,8 @@ fn are_surfaces(
     requires some_limit { 1 ≤ limit }
     requires most_limit { limit ≤ MAX_ENTRY }
 {
-    let table = read_table(alloc, signature)?;
-    match surfaces(alloc, &table, coords, Order::Given, limit) {
+    let skeleton = skeleton_of(alloc, signature)?;
+    match surfaces(alloc, &skeleton, coords, Order::Given, limit) {
         Ok(rays) => {
             are_rays(rt, &rays, vectors);
         }

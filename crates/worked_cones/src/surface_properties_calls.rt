@@ -1,7 +1,7 @@
 use crate::sample_cones::{SPHERE, skeleton_of};
 use std::test::Fail;
 use surface_definitions::Coords;
-use surface_properties::{PropertyFault, SurfaceSum, properties_of};
+use surface_properties::{PropertyFault, Sum, properties_of};
 
 #[test]
 fn surfaces_of_a_sphere_are_counted(rt: HostRuntime) -> Result<(), Fail> {
@@ -23,13 +23,6 @@ fn surfaces_of_a_sphere_are_counted(rt: HostRuntime) -> Result<(), Fail> {
         Coords::Standard,
         &[most, most, most, most, 0, 0, 0],
     );
-    assert!(rt;
-        matches!(
-            large,
-            Err(PropertyFault::Large {
-                sum: SurfaceSum::Points
-            })
-        )
-    );
+    assert!(rt; matches!(large, Err(PropertyFault::Large { sum: Sum::Points })));
     Ok(())
 }

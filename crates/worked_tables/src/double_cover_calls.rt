@@ -1,5 +1,5 @@
 use crate::sample_tables::{BALL, skeleton_of, sphere_row, table_of, turned_row};
-use double_cover::{Cover, Failure, LargeCover};
+use double_cover::{Cover, Failure, TooMany};
 use gluing_table::Row;
 use perm_four::Perm4;
 use skeleton::Skeleton;
@@ -63,5 +63,5 @@ fn too_many(rt: HostRuntime) {
     let table = table_of(&rt, rt.alloc(), &rows);
     let skeleton = Skeleton::of(rt.alloc(), &table).expect(&rt, "memory");
     let cover = Cover::of(rt.alloc(), &skeleton);
-    assert!(rt; matches!(cover, Err(Failure::Fault(LargeCover))));
+    assert!(rt; matches!(cover, Err(Failure::Fault(TooMany))));
 }

@@ -26,6 +26,40 @@ mod pachner_moves_calls;
 #[cfg(test)]
 mod perm_four_calls;
 #[cfg(test)]
+mod public_calls_bench_io;
+#[cfg(test)]
+mod public_calls_canonical_labelling;
+#[cfg(test)]
+mod public_calls_command_words;
+#[cfg(test)]
+mod public_calls_component_signature;
+#[cfg(test)]
+mod public_calls_crushing;
+#[cfg(test)]
+mod public_calls_double_cover;
+#[cfg(test)]
+mod public_calls_edge_group;
+#[cfg(test)]
+mod public_calls_gluing_table;
+#[cfg(test)]
+mod public_calls_move_undo;
+#[cfg(test)]
+mod public_calls_pachner_moves;
+#[cfg(test)]
+mod public_calls_perm_four;
+#[cfg(test)]
+mod public_calls_signature_census;
+#[cfg(test)]
+mod public_calls_signature_codec;
+#[cfg(test)]
+mod public_calls_skeleton;
+#[cfg(test)]
+mod public_calls_sphere_certificate;
+#[cfg(test)]
+mod public_calls_tri_build;
+#[cfg(test)]
+mod public_calls_vertex_links;
+#[cfg(test)]
 mod sample_tables;
 #[cfg(test)]
 mod signature_census_calls;

@@ -4,7 +4,7 @@ use Rattle.table_definitions.specs.Table.{IsTable}
 use Rattle.surface_definitions.specs.Crushing.{IsCrushed}
 use Rattle.surface_laws.proofs.CrushedRows.{crushed_is_table}
 use Rattle.crushing.proofs.NewRows.{all_rows}
-use Rattle.crushing.proofs.crushed.crush.Goals as goal
+use Rattle.crushing.proofs.crushed.crush_table.Goals as goal
 
 pub from_sound_rows-requires : goal.from_sound_rows-requires
 from_sound_rows-requires c =

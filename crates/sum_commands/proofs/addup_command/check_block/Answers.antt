@@ -1,7 +1,8 @@
 -- The vector and the terms have the width of the table.
 use Rattle.std.proofs.Common.{◌<◌, ℕ, List, length, refl, sym, ap, ◌∙◌, subst}
 use Rattle.std.specs.List.{All}
-use Rattle.ray_decompose.specs.Sums.{GivenTerm, HasWidth}
+use Rattle.ray_decompose.specs.declared.adding.Given.{Given}
+use Rattle.ray_decompose.specs.Sums.{HasWidth}
 use Rattle.sum_commands.proofs.AddedUp.{term_widths}
 use Rattle.sum_commands.proofs.addup_command.check_block.Goals as goal
 
@@ -12,5 +13,5 @@ add_up-requires-clause-width c =
 pub add_up-requires-clause-terms : goal.add_up-requires-clause-terms
 add_up-requires-clause-terms c =
     let width = ap (λ (xs : List ℕ). length xs) (c.deref-3.ensures.value ∙ sym c.deref.ensures.value) ∙ c.in_default.ensures.width refl in
-    subst (λ (gs : List GivenTerm). All (HasWidth (length c.deref-3.result.now)) gs) (c.deref-2.ensures.value ∙ sym c.deref-4.ensures.value)
+    subst (λ (gs : List Given). All (HasWidth (length c.deref-3.result.now)) gs) (c.deref-2.ensures.value ∙ sym c.deref-4.ensures.value)
     (term_widths c.args.coords c.args.table.now c.args.system.now.rows c.deref-2.result.now (length c.deref-3.result.now) width c.in_default-check_terms.ensures)

@@ -1,0 +1,31 @@
+//! The vertex surfaces of a table, by its skeleton.
+
+ghost use Rattle.std.specs.Prelude.{◌≢◌, ◌≤◌, IfOk, IfErr};
+ghost use Rattle.surface_list.specs.Surfaces.{AreTableSurfaces, IsTableRefused};
+
+use crate::listed::surfaces_by;
+use cone_core::{MAX_ENTRY, Ray};
+use double_description::{LargeStep, Order};
+use matching_equations::{Coords, equations};
+use no_memory::Failure;
+use skeleton::Skeleton;
+use std::alloc::Global;
+
+/// The vertex surfaces of a table, strictly ascending, by its equations taken in a named order; refused exactly where a
+/// number of a step passes the limit (Haken 1961; Tollefson 1998; Burton 2010).
+pub fn surfaces(
+    alloc: Global,
+    skeleton: &Skeleton,
+    coords: Coords,
+    order: Order,
+    limit: u128,
+) -> Result<Vec<Ray>, Failure<LargeStep>>
+    requires named { order ≢ Order.Free }
+    requires some_limit { 1 ≤ limit }
+    requires most_limit { limit ≤ MAX_ENTRY }
+    ensures ok { IfOk result (λ rays. AreTableSurfaces limit coords skeleton.now.rows order rays.items) }
+    ensures err { IfErr result (IsTableRefused limit coords skeleton.now.rows order) }
+{
+    let system = equations(alloc, skeleton, coords)?;
+    surfaces_by(alloc, skeleton.table(), &system, coords, order, limit)
+}

@@ -1,0 +1,15 @@
+// The calls of `surface_pieces`, each once with its type.
+use matching_equations::Coords;
+use skeleton::Skeleton;
+use std::alloc::Global;
+use surface_pieces::{Pieces, PiecesFault};
+
+#[test]
+fn calls_have_their_types(_rt: HostRuntime) {
+    let _build: fn(Global, &Skeleton, Coords, &[u128]) -> Result<Pieces, PiecesFault> =
+        Pieces::build;
+    let _components: fn(&Pieces) -> u32 = Pieces::components;
+    let _vector: fn(&Pieces, u32) -> &[u128] = Pieces::vector;
+    let _two_sided: fn(&Pieces, u32) -> bool = Pieces::two_sided;
+    let _orientable: fn(&Pieces, u32) -> bool = Pieces::orientable;
+}

@@ -1,0 +1,11 @@
+// The calls of `crushing`, each once with its type.
+use crushing::crush;
+use gluing_table::Table;
+use no_memory::NoMemory;
+use skeleton::Skeleton;
+use std::alloc::Global;
+
+#[test]
+fn calls_have_their_types(_rt: HostRuntime) {
+    let _crush: fn(Global, &Skeleton, &[u128]) -> Result<Table, NoMemory> = crush;
+}

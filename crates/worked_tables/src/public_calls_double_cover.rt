@@ -1,0 +1,16 @@
+// The calls of `double_cover`, each once with its type.
+use double_cover::{Cover, CoverFault};
+use gluing_table::{Relabelling, Table};
+use no_memory::NoMemory;
+use skeleton::Skeleton;
+use std::alloc::Global;
+
+#[test]
+fn calls_have_their_types(_rt: HostRuntime) {
+    let _of: fn(Global, &Skeleton) -> Result<Cover, CoverFault> = Cover::of;
+    let _table: fn(&Cover) -> &Table = Cover::table;
+    let _over: fn(&Cover, u32) -> u32 = Cover::over;
+    let _sheet: fn(&Cover, u32) -> u8 = Cover::sheet;
+    let _exchange: fn(&Cover, Global) -> Result<Relabelling, NoMemory> = Cover::exchange;
+    let _split: fn(&Cover, Global) -> Result<Option<Relabelling>, NoMemory> = Cover::split;
+}

@@ -1,0 +1,12 @@
+// The calls of `signature_census`, each once with its type.
+use gluing_table::Table;
+use signature_census::{Census, WalkFault};
+use std::alloc::Global;
+
+#[test]
+fn calls_have_their_types(_rt: HostRuntime) {
+    let _new: fn(Global) -> Census = Census::new;
+    let _add: fn(&mut Census, &Table) -> Result<u32, WalkFault> = Census::add;
+    let _len: fn(&Census) -> u32 = Census::len;
+    let _signature_of: fn(&Census, u32) -> &[u8] = Census::signature_of;
+}
