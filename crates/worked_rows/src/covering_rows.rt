@@ -1,5 +1,5 @@
 // Rows of `cover` and `pi1`.
-use crate::running::{Row, are_answered};
+use crate::running::{Row, STEADY, answered, are_answered};
 use std::test::Fail;
 use workbench::Status;
 
@@ -63,4 +63,21 @@ const ROWS: [Row; 9] = [
 #[test]
 fn covering_rows_are_answered(rt: HostRuntime) -> Result<(), Fail> {
     are_answered(&rt, rt.alloc(), &ROWS)
+}
+
+// Twice 501 tetrahedra are more than a table may have.
+#[test]
+fn a_cover_that_is_too_large_is_refused(rt: HostRuntime) -> Result<(), Fail> {
+    let mut input = Vec::new(rt.alloc());
+    input.extend_from_slice(b"tri 501\n")?;
+    for _ in 0..501 {
+        input.extend_from_slice(b"- - - -\n")?;
+    }
+    let answer = answered(rt.alloc(), &["cover"], &input, STEADY, STEADY, 1 << 16)?;
+    assert!(rt; answer.status == Status::Refused);
+    assert_eq!(rt;
+        answer.text.as_slice(),
+        b"refused: cover too-many\n".as_slice()
+    );
+    Ok(())
 }
