@@ -7,7 +7,7 @@ Vectors are tuples of whole numbers, as long as the coordinates have columns: 7 
 from __future__ import annotations
 
 from dataclasses import dataclass
-from typing import Any, List, Optional, Sequence, Tuple
+from typing import Any, Dict, List, Optional, Sequence, Tuple
 
 from .tables import Table
 
@@ -209,8 +209,18 @@ def vector_line(vector: Sequence[Any]) -> str:
     return " ".join(["vec", *map(str, vector)])
 
 
+class _Numbers(Dict[str, int]):
+    """Words as whole numbers: the small ones are known, since most are, and the others are read."""
+
+    def __missing__(self, word: str) -> int:
+        return int(word)
+
+
+_number = _Numbers((str(it), it) for it in range(1000)).__getitem__
+
+
 def numbers(line: str, skip: int = 1) -> Vector:
-    return tuple(map(int, line.split()[skip:]))
+    return tuple(map(_number, line.split()[skip:]))
 
 
 def is_yes(word: str) -> bool:

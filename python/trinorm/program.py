@@ -1,4 +1,6 @@
-"""Finds the program and runs it. What it refuses and what failed are exceptions."""
+"""Finds the program, and answers words and an input by it or by its library. What is refused and what failed are
+exceptions.
+"""
 from __future__ import annotations
 
 import os
@@ -6,12 +8,15 @@ import shutil
 import subprocess
 import threading
 from pathlib import Path
-from typing import Optional, Sequence, Tuple, Union
+from typing import TYPE_CHECKING, Dict, Optional, Protocol, Sequence, Tuple, Union
+
+if TYPE_CHECKING:
+    from .library import Library
 
 REPOSITORY = Path(__file__).resolve().parents[2]
 # statuses of a refusal: words, input, checks, a number past the limit
 REFUSED = (2, 3, 4, 5)
-FAILURES = {6: "reading failed", 7: "writing failed", 8: "no memory", 9: "the program could not be built"}
+FAILURES = {6: "reading failed", 7: "writing failed", 8: "no memory", 9: "the words are not UTF-8"}
 
 Place = Union[int, str, Tuple[int, ...]]
 
@@ -79,7 +84,7 @@ def _built_in_repository() -> str:
             launcher = str(REPOSITORY / "trinorm")
             done = subprocess.run([launcher, "csig"], input=b"tri 0\n", stdout=subprocess.DEVNULL, check=False)
             if done.returncode != 0:
-                raise Failed(f"{launcher}: {_how_it_ended(done.returncode)}")
+                raise Failed(f"{launcher}: the program could not be built")
             _is_built = True
     return str(program)
 
@@ -106,11 +111,51 @@ def find(program: Optional[str] = None) -> str:
     return path
 
 
-def run(words: Sequence[str], text: str = "", timeout: Optional[float] = None, program: Optional[str] = None) -> str:
+class Runner(Protocol):
+    """What runs words over an input in the place of a program, as `server.Server` does."""
+
+    def run(self, words: Sequence[str], text: str = "", timeout: Optional[float] = None) -> str:
+        """As `run` below."""
+
+
+_libraries: Dict[Tuple[Optional[str], Optional[str], Path], Optional[Library]] = {}
+
+
+def find_library() -> Optional[Library]:
+    """The library that answers in this process: the one that TRINORM_LIBRARY names; else, where TRINORM names no program,
+    the one beside the program that is found. None where there is none."""
+    named, program = os.environ.get("TRINORM_LIBRARY"), os.environ.get("TRINORM")
+    known = named, program, REPOSITORY
+    if known not in _libraries:
+        from . import library  # which raises what is declared here
+        if named:
+            _libraries[known] = library.at(os.path.realpath(os.path.expanduser(named)))
+        else:
+            _libraries[known] = None if program else library.beside(find())
+    return _libraries[known]
+
+
+def run(words: Sequence[str], text: str = "", timeout: Optional[float] = None,
+        program: Union[str, Runner, None] = None) -> str:
     """What the program writes to standard output for these words and this standard input.
 
+    It is asked of the library in this process, where there is one; a program that is named, or a limit of time, takes a
+    process.
+
     timeout: seconds after which the run is ended and `TimedOut` is raised
+    program: the path of a program, or what runs in its place
     """
+    if program is None and timeout is None:
+        library = find_library()
+        if library is not None:
+            return library.run(words, text)
+    if program is None or isinstance(program, str):
+        return run_process(words, text, timeout, program)
+    return program.run(words, text, timeout)
+
+
+def run_process(words: Sequence[str], text: str = "", timeout: Optional[float] = None, program: Optional[str] = None) -> str:
+    """The same by a process of its own."""
     path = find(program)
     try:
         done = subprocess.run([path, *words], input=text.encode("utf8", "surrogateescape"), stdout=subprocess.PIPE,
@@ -119,15 +164,20 @@ def run(words: Sequence[str], text: str = "", timeout: Optional[float] = None, p
         raise TimedOut(f"{' '.join(words)}: no answer in {timeout} s") from None
     except OSError as fault:
         raise Failed(f"{path}: {fault.strerror}") from None
-    answer = done.stdout.decode("ascii", "replace")
-    if done.returncode == 0:
+    return read_outcome(words, done.returncode, done.stdout)
+
+
+def read_outcome(words: Sequence[str], status: int, said: bytes) -> str:
+    """The text of a run that is done; else the refusal or the failure is raised."""
+    answer = said.decode("ascii", "replace")
+    if status == 0:
         return answer
-    if done.returncode in REFUSED and answer.startswith("refused: "):
-        raise Refused(done.returncode, answer.rstrip("\n"))
-    raise Failed(f"{' '.join(words)}: {_how_it_ended(done.returncode)}")
+    if status in REFUSED and answer.startswith("refused: "):
+        raise Refused(status, answer.rstrip("\n"))
+    raise Failed(f"{' '.join(words)}: {how_it_ended(status)}")
 
 
-def _how_it_ended(status: int) -> str:
+def how_it_ended(status: int) -> str:
     if status < 0:
         return f"killed by signal {-status}"
     return FAILURES.get(status, f"status {status}")

@@ -1,0 +1,260 @@
+"""The library in this process, and the server: the program's answers, limits, and bad use."""
+import ctypes
+import os
+import shutil
+import signal
+import subprocess
+import tempfile
+import threading
+import time
+import unittest
+import unittest.mock
+from pathlib import Path
+
+import trinorm
+from trinorm import library, server
+from trinorm.program import REPOSITORY
+
+# no command, options that are none, values that are none, a command twice
+NO_WORDS = [[], [""], ["surface"], ["sig", "sig"], ["surfaces", "--coords"], ["surfaces", "--coords=quads"], ["info", "--seed", "1"],
+            ["--help"], ["sig", "--"], ["é"], ["surfaces", "--max-entry", "0"], ["verify", "--coords", "quad", "--coords", "quad"]]
+INPUTS = ["", "sig cPcbbbiht\n", "sig bkaagj\n", "tri 1\n0:1023 0:1023 0:1230 0:3012\n", "tri 0\n", "sig jvLLMQQcdghifhihinktpphggkw\n",
+          "tri 1\n- - - -\n", "cone 3 1\n1 -1 0\n", "sig \udcff\n", "sig bkaagj\0\n", "sig é\n"]
+ASKED = [["surfaces"], ["surfaces", "--coords=quad", "--order", "zeros"], ["surfaces", "--coords", "octagon"], ["surfaces", "--max-entry", "1"],
+         ["info"], ["sig"], ["csig"], ["cover"], ["pi1"], ["descend"], ["rays"], ["make", "--seed", "7", "--moves", "20"],
+         ["bulk", "--seed", "7", "--moves", "2"], ["play"], ["group"], ["same"], ["verify"], ["check"]]
+# a list of 15,129 surfaces, in a good fraction of a second
+LONG = "tri 20\n" + "".join(
+    f"{(it + 1) % 20}:1023 {(it - 1) % 20}:1023 {(it - 1) % 20}:0132 {(it + 1) % 20}:0132\n" for it in range(20))
+
+
+def named():
+    """The library that is tested, or None where it isn't built."""
+    path = os.environ.get("TRINORM_LIBRARY") or Path(os.path.realpath(trinorm.find())).parent / library.NAME
+    return str(path) if os.path.isfile(path) else None
+
+
+def by_process(words, text):
+    done = subprocess.run([trinorm.find(), *words], input=text.encode("utf8", "surrogateescape"), stdout=subprocess.PIPE, check=False)
+    return done.returncode, done.stdout
+
+
+@unittest.skipUnless(named(), "the library isn't built")
+class Library(unittest.TestCase):
+    def setUp(self):
+        self.library = library.at(named())
+
+    def answer(self, words, text="", **limits):
+        return self.library.answer(words, text, **limits)[:2]
+
+    def test_answers_are_the_program_s(self):
+        for text in INPUTS:
+            for words in ASKED:
+                self.assertEqual(self.answer(words, text), by_process(words, text), (words, text))
+
+    def test_words_that_are_none(self):
+        for words in NO_WORDS:
+            self.assertEqual(self.answer(words, INPUTS[1]), (2, b"refused: usage\n"), words)
+            self.assertEqual(by_process(words, INPUTS[1]), (2, b"refused: usage\n"), words)
+
+    def test_words_that_are_no_texts(self):
+        self.assertEqual(self.answer(["\udcff"]), (9, b""))
+        with self.assertRaisesRegex(trinorm.Failed, "not UTF-8"):
+            self.library.run(["sig", "\udcff"])
+        with self.assertRaisesRegex(ValueError, "null byte"):
+            self.library.run(["sig\0"])
+
+    def test_long_inputs(self):
+        for more in (0, 1, 5_000_000):
+            text = "tri 1\n0:1023 0:1023 0:1230 0:3012\n".ljust((1 << 20) + more)
+            self.assertEqual(self.answer(["sig"], text), by_process(["sig"], text), more)
+        self.assertEqual(self.answer(["make", "--seed", "1", "--moves", "1"], "x" * 2_000_000), self.answer(["make", "--seed", "1", "--moves", "1"]))
+
+    def test_four_threads(self):
+        jobs = [(words, text) for words in ASKED for text in INPUTS]
+        wanted = [self.answer(*job) for job in jobs]
+        wrong = []
+
+        def work(first):
+            for at in range(len(jobs)):
+                at = (at * 7 + first * 50) % len(jobs)
+                if self.answer(*jobs[at]) != wanted[at]:
+                    wrong.append(jobs[at])
+
+        threads = [threading.Thread(target=work, args=(it,)) for it in range(4)]
+        for it in threads:
+            it.start()
+        for it in threads:
+            it.join()
+        self.assertEqual(wrong, [])
+
+    def test_a_small_stack(self):
+        told = []
+        before = threading.stack_size(256 << 10)
+        try:
+            thread = threading.Thread(target=lambda: told.append(self.answer(["surfaces", "--coords", "quad"], LONG)[0]))
+            thread.start()
+            thread.join()
+        finally:
+            threading.stack_size(before)
+        self.assertEqual(told, [0])
+
+    def test_a_limit_of_time(self):
+        begun = time.monotonic()
+        with self.assertRaises(trinorm.TimedOut):
+            self.library.run(["surfaces"], LONG, timeout=0.01)
+        self.assertLess(time.monotonic() - begun, 2)
+        self.assertEqual(self.library.run(["sig"], "sig bkaagj\n", timeout=60), "bkaagj\n")
+
+    def test_a_limit_of_memory(self):
+        with self.assertRaisesRegex(trinorm.Failed, "more memory"):
+            self.library.run(["surfaces"], LONG, memory=1 << 20)
+        self.assertEqual(self.library.answer(["surfaces"], LONG, memory=1 << 20), (8, b"", library.MOST_MEMORY))
+        self.assertEqual(self.library.run(["sig"], "sig bkaagj\n", memory=1 << 20), "bkaagj\n")
+
+    def test_each_room_for_memory(self):
+        said = set()
+        for most in range(1, 400_000, 7_001):
+            status, answer, reached = self.library.answer(["surfaces"], INPUTS[5], memory=most)
+            self.assertIn((status, reached), ((0, 0), (8, library.MOST_MEMORY)))
+            said.add((status, answer))
+        self.assertEqual(said, {(8, b""), by_process(["surfaces"], INPUTS[5])})
+
+    def test_a_handler_of_signals_ends_a_call(self):
+        def stop(*_):
+            raise InterruptedError("enough")
+
+        before = signal.signal(signal.SIGALRM, stop)
+        try:
+            signal.setitimer(signal.ITIMER_REAL, 0.05)
+            with self.assertRaisesRegex(InterruptedError, "enough"):
+                while True:
+                    self.library.run(["surfaces"], LONG)
+        finally:
+            signal.setitimer(signal.ITIMER_REAL, 0)
+            signal.signal(signal.SIGALRM, before)
+        self.assertEqual(self.library.run(["sig"], "sig bkaagj\n"), "bkaagj\n")
+
+    def test_it_is_taken_where_no_program_is_named(self):
+        others = {name: value for name, value in os.environ.items() if name != "TRINORM"}
+        with unittest.mock.patch.dict(os.environ, dict(others, TRINORM_LIBRARY=named()), clear=True), \
+                unittest.mock.patch("trinorm.program.run_process", side_effect=AssertionError):
+            self.assertEqual(trinorm.sig("bkaagj"), "bkaagj")
+            with self.assertRaises(AssertionError):
+                trinorm.sig("bkaagj", timeout=5)
+            with self.assertRaises(AssertionError):
+                trinorm.sig("bkaagj", program="trinorm")
+
+
+@unittest.skipUnless(named(), "the library isn't built")
+class Areas(unittest.TestCase):
+    """The function for C, with areas that are none."""
+
+    def setUp(self):
+        self.call = ctypes.CDLL(named()).trinorm_run
+        size, place = ctypes.c_size_t, ctypes.c_void_p
+        self.call.argtypes, self.call.restype = [place, size, place, size, place, size, place], ctypes.c_uint8
+        self.words, self.input = ctypes.create_string_buffer(b"sig", 3), ctypes.create_string_buffer(b"sig bkaagj\n", 11)
+        self.room, self.needed = ctypes.create_string_buffer(b"x" * 64, 64), ctypes.c_size_t(5)
+
+    def run_in(self, room, size, needed=None):
+        return self.call(self.words, 3, self.input, 11, room, size, ctypes.byref(self.needed) if needed is None else needed)
+
+    def test_rooms(self):
+        for size in range(9):
+            status = self.run_in(self.room, size)
+            self.assertEqual((status, self.needed.value), (0 if size >= 7 else 7, 7))
+            self.assertEqual(self.room.raw, (b"bkaagj\n" if size >= 7 else b"").ljust(64, b"x"))
+            self.room.raw = b"x" * 64
+        self.assertEqual((self.run_in(None, 0), self.needed.value), (7, 7))
+
+    def test_null(self):
+        self.assertEqual(self.call(None, 0, None, 0, self.room, 64, ctypes.byref(self.needed)), 2)
+        self.assertEqual(self.call(self.words, 3, None, 0, self.room, 64, None), 3)
+        self.assertEqual(self.run_in(None, 1), 10)
+        self.assertEqual(self.call(None, 1, self.input, 11, self.room, 64, None), 10)
+        self.assertEqual(self.call(self.words, 3, None, 1 << 40, self.room, 64, None), 10)
+
+    def test_areas_that_lie_over_others(self):
+        self.assertEqual(self.run_in(self.input, 11), 10)
+        self.assertEqual(self.run_in(ctypes.addressof(self.words) + 2, 1), 10)
+        self.assertEqual(self.run_in(self.room, 64, ctypes.addressof(self.room) + 32), 10)
+        self.assertEqual(self.call(self.words, 3, self.words, 3, self.room, 64, None), 3)
+        self.assertEqual((self.words.raw, self.input.raw, self.room.raw[:11]), (b"sig", b"sig bkaagj\n", b"refused: in"))
+
+
+@unittest.skipUnless(named() and server.Server.find(), "the server isn't built")
+class Servers(unittest.TestCase):
+    def test_answers_are_the_program_s(self):
+        with server.Server() as it:
+            for text in INPUTS:
+                for words in ASKED + NO_WORDS:
+                    self.assertEqual(it.ask(words, text), by_process(words, text), (words, text))
+            text = "tri 1\n0:1023 0:1023 0:1230 0:3012\n".ljust(5_000_000)
+            self.assertEqual(it.ask(["sig"], text), (3, b"refused: input too-long\n"))
+            self.assertEqual(it.run(["surfaces"], LONG), trinorm.program.run_process(["surfaces"], LONG))
+
+    def test_it_takes_the_place_of_a_program(self):
+        with server.Server() as it:
+            self.assertEqual(trinorm.sig("bkaagj", program=it), "bkaagj")
+            with self.assertRaises(trinorm.Refused):
+                trinorm.sig("bkaagjx", program=it)
+
+    def test_a_limit_of_time(self):
+        with server.Server() as it:
+            begun = time.monotonic()
+            with self.assertRaises(trinorm.TimedOut):
+                it.run(["surfaces"], LONG, timeout=0.01)
+            self.assertLess(time.monotonic() - begun, 2)
+            self.assertEqual(it.run(["sig"], "sig bkaagj\n", timeout=60), "bkaagj\n")
+
+    def test_it_is_started_again(self):
+        with server.Server() as it:
+            self.assertEqual(it.run(["sig"], "sig bkaagj\n"), "bkaagj\n")
+            it._process.kill()
+            it._process.wait()
+            with self.assertRaisesRegex(trinorm.Failed, "signal 9"):
+                it.run(["sig"], "sig bkaagj\n")
+            self.assertEqual(it.run(["sig"], "sig bkaagj\n"), "bkaagj\n")
+
+    def test_requests_that_are_cut_short(self):
+        for given in (b"\1", b"\3\0\0\0\0\0\0\0si", b"\3\0\0\0\xff\0\0\0sig"):
+            done = subprocess.run([server.Server.find()], input=given, stdout=subprocess.PIPE, check=False)
+            self.assertEqual((done.returncode, done.stdout), (6, b""))
+        self.assertEqual(subprocess.run([server.Server.find()], input=b"", check=False).returncode, 0)
+
+
+ARCHIVE = Path(named() or "").parent / "libtrinorm_c.a"
+
+
+@unittest.skipUnless(named() and ARCHIVE.is_file() and shutil.which("cc"), "the archive or a C compiler isn't there")
+class Memory(unittest.TestCase):
+    """The proved function over other functions of memory, which refuse each request in turn."""
+
+    def setUp(self):
+        self.folder = tempfile.TemporaryDirectory()
+        self.program = os.path.join(self.folder.name, "refused")
+        sources = REPOSITORY / "library"
+        subprocess.run(["cc", "-O1", "-I", sources, "-o", self.program, sources / "tests" / "refused.c", ARCHIVE], check=True)
+
+    def tearDown(self):
+        self.folder.cleanup()
+
+    def refused(self, words, text, *before):
+        done = subprocess.run([*before, self.program, *words], input=text, stdout=subprocess.PIPE, text=True, check=False)
+        self.assertEqual(done.returncode, 0, done.stdout)
+        return done.stdout
+
+    def test_each_request_in_turn(self):
+        for words in (["sig"], ["csig"], ["info"], ["surfaces"], ["surfaces", "--coords", "quad"], ["cover"], ["pi1"], ["descend"], ["rays"], ["none"]):
+            self.assertIn("requests refused in turn", self.refused(words, "sig cPcbbbiht\n"))
+
+    @unittest.skipUnless(shutil.which("valgrind"), "valgrind isn't there")
+    def test_nothing_is_lost(self):
+        check = ["valgrind", "--quiet", "--leak-check=full", "--show-leak-kinds=all", "--error-exitcode=9"]
+        for words in (["sig"], ["info"], ["surfaces"]):
+            self.refused(words, "sig bkaagj\n", *check)
+
+
+if __name__ == "__main__":
+    unittest.main()

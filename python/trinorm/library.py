@@ -1,0 +1,118 @@
+"""The workbench in this process: the shared library, called by ctypes, in the place of a process for each call.
+
+Its answers are the program's. A call takes memory of this process and ends on Ctrl-C; a limit of time is kept within a
+second or so, since it is looked at where memory is asked for: a limit that must hold takes a process.
+"""
+from __future__ import annotations
+
+import ctypes
+import mmap
+import os
+import threading
+from pathlib import Path
+from typing import Any, Dict, Optional, Sequence, Tuple
+
+from .program import Failed, TimedOut, read_outcome
+
+NAME = "libtrinorm.so"
+# of a call: no room, no memory; of what ended it: memory, time, a handler of a signal
+TOO_LITTLE_ROOM, NO_MEMORY = 7, 8
+MOST_MEMORY, MOST_TIME, STOPPED = 1, 2, 3
+# pages that no answer reached cost nothing
+ROOM = 1 << 26
+
+_Stop = ctypes.CFUNCTYPE(ctypes.c_int, ctypes.c_void_p)
+
+
+class _Limits(ctypes.Structure):
+    _fields_ = [("most_bytes", ctypes.c_uint64), ("most_nanoseconds", ctypes.c_uint64), ("stop", _Stop),
+                ("stop_argument", ctypes.c_void_p), ("reached", ctypes.c_uint8)]
+
+
+class _Room(threading.local):
+    """Each thread's own room for answers, and what else a call needs."""
+
+    def __init__(self, stop: Any) -> None:
+        self.needed = ctypes.c_size_t()
+        self.limits = _Limits(0, 0, stop, None, 0)
+        self.places = ctypes.byref(self.limits), ctypes.byref(self.needed)
+        self.grow(ROOM)
+
+    def grow(self, size: int) -> None:
+        self.pages = mmap.mmap(-1, size)
+        self.at = ctypes.addressof(ctypes.c_char.from_buffer(self.pages))
+        self.size = size
+
+
+def joined(words: Sequence[str]) -> bytes:
+    """The words with a zero byte between each two."""
+    text = "\0".join(words)
+    if text.count("\0") > max(0, len(words) - 1):
+        raise ValueError("embedded null byte")
+    return text.encode("utf8", "surrogateescape")
+
+
+class Library:
+    """The shared library at a path. Calls may go on in many threads at a time."""
+
+    def __init__(self, path: str) -> None:
+        try:
+            library = ctypes.CDLL(path)
+            area = [ctypes.c_char_p, ctypes.c_size_t]
+            self._call = library.trinorm_run_within
+            self._call.restype = ctypes.c_uint8
+            self._call.argtypes = [ctypes.c_void_p, *area, *area, ctypes.c_void_p, ctypes.c_size_t, ctypes.c_void_p]
+            # asked some ten times a second: in the main thread Python runs its handlers of signals
+            self._room = _Room(_Stop(("trinorm_python_stops", library)))
+            # by a second look at the same library, which keeps Python's lock and raises what is raised in it
+            self._raise = ctypes.PyDLL(path).trinorm_python_raises
+        except (OSError, AttributeError) as fault:
+            raise Failed(f"{path}: {fault}") from None
+        self.path = path
+
+    def answer(self, words: Sequence[str], text: str = "", timeout: Optional[float] = None,
+               memory: Optional[int] = None) -> Tuple[int, bytes, int]:
+        """The status, the bytes of the answer, and the limit that ended the call, or 0.
+
+        timeout: seconds after which it is to end; memory: bytes that it may hold at a time
+        """
+        said, given, room = joined(words), text.encode("utf8", "surrogateescape"), self._room
+        limits = room.limits
+        limits.most_bytes = memory or 0
+        limits.most_nanoseconds = 0 if timeout is None else max(1, int(timeout * 1e9))
+        at_limits, at_needed = room.places
+        while True:
+            status = self._call(at_limits, said, len(said), given, len(given), room.at, room.size, at_needed)
+            if status != TOO_LITTLE_ROOM:
+                return status, ctypes.string_at(room.at, room.needed.value), limits.reached
+            room.grow(room.needed.value)
+
+    def run(self, words: Sequence[str], text: str = "", timeout: Optional[float] = None,
+            memory: Optional[int] = None) -> str:
+        """As `program.run`: what the program writes; a refusal or a call that was ended is raised."""
+        status, said, reached = self.answer(words, text, timeout, memory)
+        if reached == STOPPED:
+            self._raise()
+        if reached == MOST_TIME:
+            raise TimedOut(f"{' '.join(words)}: no answer in {timeout} s")
+        if reached == MOST_MEMORY:
+            raise Failed(f"{' '.join(words)}: more memory than {memory} bytes")
+        return read_outcome(words, status, said)
+
+
+_known: Dict[str, Library] = {}
+_lock = threading.Lock()
+
+
+def at(path: str) -> Library:
+    """The library at this path, which is loaded once."""
+    with _lock:
+        if path not in _known:
+            _known[path] = Library(path)
+        return _known[path]
+
+
+def beside(program: str) -> Optional[Library]:
+    """The library that was built with a program and stands beside it, if there is one."""
+    path = Path(os.path.realpath(program)).parent / NAME
+    return at(str(path)) if path.is_file() else None
