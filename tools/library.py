@@ -11,36 +11,31 @@ import shutil
 import subprocess
 import sys
 import tempfile
+from typing import List
 
 from prove import Kit, NotProved
 
 TOP = os.path.dirname(os.path.dirname(os.path.realpath(__file__)))
 SOURCES = os.path.join(TOP, "library")
-CRATE = "trinorm_c"
-ARCHIVE = f"lib{CRATE}.a"
+ARCHIVE = "libtrinorm_c.a"
 LIBRARY, SERVER = "libtrinorm.so", "trinorm-server"
 # nothing of the machine that compiles stands in what is made
 COMPILED = ["-O2", "-std=gnu11", "-Wall", "-Wextra", "-Werror", "-fPIC", f"-ffile-prefix-map={SOURCES}=library"]
 LINKED = ["-Wl,--build-id=none", "-Wl,-z,relro", "-Wl,-z,now", "-s"]
 
 
-def static_words(kit, to, name=CRATE):
-    """What rattle is told beyond the libraries, so that it makes a static library of a proved crate."""
-    return ["--crate-type", "staticlib", "--backend", "llvm", "--toolchain", f"{kit.at}/toolchain", "-o", f"{to}/lib{name}.a"]
-
-
-def compiler(kit):
+def compiler(kit: Kit) -> str:
     """The system's C compiler, else the kit's."""
     return shutil.which("cc") or f"{kit.at}/toolchain/bin/clang"
 
 
-def run(words, folder):
+def run(words: List[str], folder: str) -> None:
     done = subprocess.run(words, cwd=folder, stdout=subprocess.PIPE, stderr=subprocess.STDOUT, text=True, check=False)
     if done.returncode:
         raise NotProved(f"{' '.join(words[:2])} .. did not link the library:\n{done.stdout}")
 
 
-def build_library(kit, archive, to):
+def build_library(kit: Kit, archive: str, to: str) -> None:
     """Puts the library, the server and the archive into a folder, each at once, in the place of older ones."""
     os.makedirs(to, exist_ok=True)
     with tempfile.TemporaryDirectory(dir=to, prefix=".library-") as room:
@@ -57,7 +52,7 @@ def build_library(kit, archive, to):
             os.replace(f"{room}/{it}", f"{to}/{it}")
 
 
-def main(given):
+def main(given: List[str]) -> None:
     if len(given) != 2:
         sys.exit(__doc__)
     try:

@@ -211,8 +211,8 @@ class Servers(unittest.TestCase):
     def test_it_is_started_again(self):
         with server.Server() as it:
             self.assertEqual(it.run(["sig"], "sig bkaagj\n"), "bkaagj\n")
-            it._process.kill()
-            it._process.wait()
+            it._process.run.kill()
+            it._process.run.wait()
             with self.assertRaisesRegex(trinorm.Failed, "signal 9"):
                 it.run(["sig"], "sig bkaagj\n")
             self.assertEqual(it.run(["sig"], "sig bkaagj\n"), "bkaagj\n")
@@ -254,6 +254,16 @@ class Memory(unittest.TestCase):
         check = ["valgrind", "--quiet", "--leak-check=full", "--show-leak-kinds=all", "--error-exitcode=9"]
         for words in (["sig"], ["info"], ["surfaces"]):
             self.refused(words, "sig bkaagj\n", *check)
+
+
+@unittest.skipUnless(named() and ARCHIVE.is_file() and shutil.which("cargo"), "the archive or cargo isn't there")
+class Rust(unittest.TestCase):
+    def test_the_crate_s_own_tests(self):
+        with tempfile.TemporaryDirectory() as folder:
+            around = dict(os.environ, TRINORM_LIB_DIR=str(ARCHIVE.parent), CARGO_TARGET_DIR=folder)
+            done = subprocess.run(["cargo", "test", "--offline", "--quiet"], cwd=REPOSITORY / "library" / "rust" / "trinorm-sys",
+                                  env=around, stdout=subprocess.PIPE, stderr=subprocess.STDOUT, text=True, check=False)
+        self.assertEqual(done.returncode, 0, done.stdout)
 
 
 if __name__ == "__main__":

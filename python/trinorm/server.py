@@ -2,19 +2,27 @@
 time limit and takes nothing with it where it dies."""
 from __future__ import annotations
 
+import contextlib
 import os
 import select
 import struct
 import subprocess
 import time
 from pathlib import Path
-from typing import Optional, Sequence, Tuple
+from typing import IO, NamedTuple, Optional, Sequence, Tuple
 
 from . import library, program
 
 NAME = "trinorm-server"
 # the lengths of words and input; the status and the length of the answer
 _ASKED, _TOLD = struct.Struct("=II"), struct.Struct("=BI")
+
+
+class _Process(NamedTuple):
+    """The process, and the pipes to it and from it."""
+    run: subprocess.Popen[bytes]
+    to: IO[bytes]
+    come: IO[bytes]
 
 
 class Server:
@@ -29,7 +37,7 @@ class Server:
         if path is None:
             raise program.Failed(f"there is no {NAME} beside the program")
         self.path = path
-        self._process: Optional[subprocess.Popen[bytes]] = None
+        self._process: Optional[_Process] = None
 
     @staticmethod
     def find(beside: Optional[str] = None) -> Optional[str]:
@@ -48,8 +56,8 @@ class Server:
         end = None if timeout is None else time.monotonic() + timeout
         try:
             process = self._process or self._start()
-            process.stdin.write(_ASKED.pack(len(said), len(given)) + said + given)
-            process.stdin.flush()
+            process.to.write(_ASKED.pack(len(said), len(given)) + said + given)
+            process.to.flush()
             status, length = _TOLD.unpack(self._take(process, _TOLD.size, end))
             return status, self._take(process, length, end)
         except TimeoutError:
@@ -64,7 +72,7 @@ class Server:
     def close(self) -> None:
         """Ends the process."""
         if self._process is not None:
-            self._process.kill()
+            self._process.run.kill()
             self._end()
 
     def __enter__(self) -> Server:
@@ -73,13 +81,16 @@ class Server:
     def __exit__(self, *_: object) -> None:
         self.close()
 
-    def _start(self) -> subprocess.Popen[bytes]:
-        self._process = subprocess.Popen([self.path], stdin=subprocess.PIPE, stdout=subprocess.PIPE)
+    def _start(self) -> _Process:
+        run = subprocess.Popen([self.path], stdin=subprocess.PIPE, stdout=subprocess.PIPE)
+        assert run.stdin is not None and run.stdout is not None
+        self._process = _Process(run, run.stdin, run.stdout)
         return self._process
 
-    def _take(self, process: subprocess.Popen[bytes], size: int, end: Optional[float]) -> bytes:
+    @staticmethod
+    def _take(process: _Process, size: int, end: Optional[float]) -> bytes:
         """So many bytes of the answer, or TimeoutError, or OSError where the process ended."""
-        file, taken = process.stdout.fileno(), bytearray()
+        file, taken = process.come.fileno(), bytearray()
         while len(taken) < size:
             if end is not None and not select.select([file], [], [], max(0.0, end - time.monotonic()))[0]:
                 raise TimeoutError
@@ -90,21 +101,20 @@ class Server:
         return bytes(taken)
 
     def _end(self) -> int:
-        """Waits for a process that ends, and says with which status."""
+        """Waits for the process, which ends, and says with which status."""
+        assert self._process is not None
         process, self._process = self._process, None
-        status = process.wait()
-        for pipe in (process.stdin, process.stdout):
-            try:
+        status = process.run.wait()
+        for pipe in (process.to, process.come):
+            with contextlib.suppress(OSError):  # what it didn't take is lost
                 pipe.close()
-            except OSError:  # what it didn't take is lost
-                pass
         return status
 
     def _how_it_ended(self) -> str:
         if self._process is None:
             return f"{self.path} can't be started"
         try:
-            self._process.wait(1)
+            self._process.run.wait(1)
         except subprocess.TimeoutExpired:
-            self._process.kill()
+            self._process.run.kill()
         return program.how_it_ended(self._end())

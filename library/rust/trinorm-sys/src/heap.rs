@@ -1,0 +1,81 @@
+//! The three functions of memory that the archive calls, over the allocator of the program.
+use std::alloc::{alloc, dealloc, realloc, Layout};
+use std::ptr::addr_of;
+
+/// What they answer: whether there is memory, and where. The pointer is never null.
+#[repr(C)]
+pub struct Tried {
+    ok: bool,
+    at: *mut u8,
+}
+
+// A block is given back by its place alone, so its size stands before it.
+const HEAD: usize = 16;
+static NOTHING: u8 = 0;
+
+fn layout(size: usize) -> Option<Layout> {
+    Layout::from_size_align(size.checked_add(HEAD)?, HEAD).ok()
+}
+
+/// # Safety
+/// `head` is null, or the place of a block of `size` bytes behind its head.
+unsafe fn told(head: *mut u8, size: usize) -> Tried {
+    if head.is_null() {
+        return Tried {
+            ok: false,
+            at: addr_of!(NOTHING).cast_mut(),
+        };
+    }
+    // SAFETY: the block begins with room for its head
+    unsafe {
+        head.cast::<usize>().write(size);
+        Tried {
+            ok: true,
+            at: head.add(HEAD),
+        }
+    }
+}
+
+#[no_mangle]
+extern "C" fn rattle_alloc(size: usize, _align: usize) -> Tried {
+    let head = match layout(size) {
+        // SAFETY: the layout has at least the bytes of the head
+        Some(it) => unsafe { alloc(it) },
+        None => std::ptr::null_mut(),
+    };
+    // SAFETY: that is the block
+    unsafe { told(head, size) }
+}
+
+/// # Safety
+/// `old` is what one of these functions answered and was not given back.
+#[no_mangle]
+unsafe extern "C" fn rattle_realloc(
+    old: *mut u8,
+    _kept: usize,
+    size: usize,
+    _align: usize,
+) -> Tried {
+    // SAFETY: the head of the block says its size, with which it was made
+    unsafe {
+        let head = old.sub(HEAD);
+        let made = match (layout(head.cast::<usize>().read()), layout(size)) {
+            (Some(was), Some(is)) => realloc(head, was, is.size()),
+            _ => std::ptr::null_mut(),
+        };
+        told(made, size)
+    }
+}
+
+/// # Safety
+/// `old` is what one of these functions answered and was not given back.
+#[no_mangle]
+unsafe extern "C" fn rattle_dealloc(old: *mut u8) {
+    // SAFETY: the head of the block says its size, with which it was made
+    unsafe {
+        let head = old.sub(HEAD);
+        if let Some(was) = layout(head.cast::<usize>().read()) {
+            dealloc(head, was);
+        }
+    }
+}

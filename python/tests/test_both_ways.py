@@ -1,0 +1,50 @@
+"""The tests of commands once more: by a process for each call, and by the library in this process."""
+import os
+import unittest
+from unittest import mock
+
+import trinorm
+from trinorm import library
+from trinorm.program import find_library
+
+from . import test_commands, test_library, test_questions, test_regina
+
+CHOICES = ("TRINORM", "TRINORM_LIBRARY")
+
+
+def environment(**chosen):
+    return {**{name: value for name, value in os.environ.items() if name not in CHOICES}, **chosen}
+
+
+def within(case, way, chosen, wanted):
+    """The tests of a class, where the environment chooses the way."""
+    class Again(case):
+        @classmethod
+        def setUpClass(cls):
+            cls.around = mock.patch.dict(os.environ, environment(**chosen), clear=True)
+            cls.around.start()
+            super().setUpClass()
+
+        @classmethod
+        def tearDownClass(cls):
+            super().tearDownClass()
+            cls.around.stop()
+
+        def setUp(self):
+            super().setUp()
+            self.assertIs(find_library(), wanted)
+
+    Again.__name__ = Again.__qualname__ = f"{case.__name__}By{way}"
+    return Again
+
+
+def load_tests(loader, tests, _pattern):
+    path, found = test_library.named(), unittest.TestSuite()
+    ways = [("Process", {"TRINORM": trinorm.find()}, None)]
+    if path:
+        ways.append(("Library", {"TRINORM_LIBRARY": path}, library.at(os.path.realpath(path))))
+    for module in (test_commands, test_questions, test_regina):
+        for case in vars(module).values():
+            if isinstance(case, type) and issubclass(case, unittest.TestCase) and case.__module__ == module.__name__:
+                found.addTests(loader.loadTestsFromTestCase(within(case, *way)) for way in ways)
+    return found
