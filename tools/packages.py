@@ -97,7 +97,7 @@ def with_library(made: Made) -> Files:
 
 
 def tar(files: Files, prefix: str = "") -> bytes:
-    raw, packed = io.BytesIO(), io.BytesIO()
+    raw = io.BytesIO()
     folders = {parent.as_posix() for name in files for parent in Path(name).parents} - {"."}
     with tarfile.open(fileobj=raw, mode="w", format=tarfile.USTAR_FORMAT) as out:
         for name in sorted(folders):
@@ -108,8 +108,14 @@ def tar(files: Files, prefix: str = "") -> bytes:
             entry = tarfile.TarInfo(prefix + name)
             entry.size, entry.mode, entry.mtime = len(data), mode, epoch()
             out.addfile(entry, io.BytesIO(data))
+    return gzipped(raw.getvalue())
+
+
+def gzipped(data: bytes) -> bytes:
+    """Packed without a time or a name, and alike by each version of Python."""
+    packed = io.BytesIO()
     with gzip.GzipFile(fileobj=packed, mode="wb", mtime=0, filename="") as out:
-        out.write(raw.getvalue())
+        out.write(data)
     return packed.getvalue()
 
 
@@ -143,7 +149,7 @@ def debian(made: Made) -> Tuple[str, bytes]:
     files: Files = {}
     for name, (data, mode) in with_library(made).items():
         if name.startswith("share/man/"):
-            name, data = f"{name}.gz", gzip.compress(data, mtime=0)
+            name, data = f"{name}.gz", gzipped(data)
         files["usr/" + name.replace("zsh/site-functions", "zsh/vendor-completions")] = (data, mode)
     files[f"usr/share/doc/{PROGRAM}/copyright"] = (copyright_page(), 0o644)
     sums = "".join(f"{hashlib.md5(data).hexdigest()}  {name}\n" for name, (data, _) in sorted(files.items()))
