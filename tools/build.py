@@ -156,7 +156,7 @@ class Build:
     def linked(self, kit: Optional[Kit], files: Dict[str, bytes]) -> Dict[str, bytes]:
         """What was proved, the program and perhaps the archive, with the library and the server that are linked of it."""
         proved = {name: files[name] for name in ("program", "archive") if name in files}
-        if kit is None or "archive" not in files:
+        if kit is None or "archive" not in files or not (TOP / "tools" / "library.py").is_file():
             return proved
         from library import build_library
 
