@@ -143,11 +143,15 @@ class Build:
         place = None if self.given.anew else self.programs.find(self.sources.sum(), kit and kit.name)
         if place is None:
             return False
-        files, told = self.programs.read(place)
+        try:
+            files, told = self.programs.read(place)
+        except (OSError, NoManifest):
+            # another build dropped it just now
+            return False
         if told.sources.linked != self.sources.linked:
             files = self.linked(kit, files)
             told = told._replace(sources=self.sources_of(files), files=sums_of(files))
-            self.programs.keep(place, files, told)
+            self.keep(place, files, told)
         told = told._replace(version=version(TOP), commit=commit(TOP))
         self.installed.install(files, told, self.begun, "here")
         say(f"took the program that was built from the same sources: sha256 {told.files['program']}")
@@ -169,6 +173,12 @@ class Build:
                 say(f"there is no library for other languages, since it wasn't linked: {fault}")
                 return proved
             return {**proved, **{name: Path(folder, "made", FILES[name]).read_bytes() for name in ("library", "server")}}
+
+    def keep(self, place: Path, files: Dict[str, bytes], told: Manifest) -> None:
+        try:
+            self.programs.keep(place, files, told)
+        except OSError as fault:
+            say(f"the program stands, but can't be kept for other clones: {fault}")
 
     def sources_of(self, files: Dict[str, bytes]) -> Sources:
         """What these files were made from: where nothing could be linked it is looked at again by the next build."""
@@ -197,9 +207,10 @@ class Build:
             progress.end()
         if self.given.measure:
             write_times(TIMES, list(self.crates), progress.took, self.to)
+        self.finish(kit, files, workspace)
         if self.given.keep:
             workspace.keep(libraries)
-        self.finish(kit, files, workspace)
+        shutil.rmtree(self.to, ignore_errors=True)
 
     def files(self, kit: Kit, workspace: Workspace) -> Dict[str, bytes]:
         """What was made: the program, and the library where there is a crate for it."""
@@ -211,9 +222,8 @@ class Build:
 
     def finish(self, kit: Kit, files: Dict[str, bytes], workspace: Workspace) -> None:
         told = Manifest(version(TOP), commit(TOP), kit.line, self.sources_of(files), sums_of(files), workspace.anew, workspace.verdicts)
-        self.programs.keep(self.programs.place(self.sources.sum(), kit.name), files, told)
         self.installed.install(files, told, self.begun, "here")
-        shutil.rmtree(self.to, ignore_errors=True)
+        self.keep(self.programs.place(self.sources.sum(), kit.name), files, told)
         say(f"built in {round(time.time() - self.begun)} s: version {told.version}, commit {told.commit}, {told.kit}, "
             f"program sha256 {told.files['program']}")
 

@@ -64,12 +64,15 @@ class Programs:
         """Keeps what a build made, and of all that is kept the last ones."""
         self.folder.mkdir(parents=True, exist_ok=True)
         fresh = Path(tempfile.mkdtemp(prefix=".new-", dir=self.folder))
-        for name, data in files.items():
-            (fresh / FILES[name]).write_bytes(data)
-        (fresh / "MANIFEST").write_text(manifest.text(), "utf8")
-        fresh.chmod(0o755)
-        shutil.rmtree(place, ignore_errors=True)
-        fresh.replace(place)
+        try:
+            for name, data in files.items():
+                (fresh / FILES[name]).write_bytes(data)
+            (fresh / "MANIFEST").write_text(manifest.text(), "utf8")
+            fresh.chmod(0o755)
+            shutil.rmtree(place, ignore_errors=True)
+            fresh.replace(place)
+        finally:
+            shutil.rmtree(fresh, ignore_errors=True)
         kept = sorted((it for it in self.folder.iterdir() if it.is_dir()), key=last_used, reverse=True)
         for old in kept[MOST_PROGRAMS:]:
             shutil.rmtree(old, ignore_errors=True)
@@ -103,11 +106,14 @@ class Libraries:
             return
         self.folder.mkdir(parents=True, exist_ok=True)
         fresh = self.folder / f".new-{os.getpid()}"
-        with self.packing(fresh) as out, tarfile.open(fileobj=out, mode="w|") as files:
-            files.add(library, arcname=".")
-        fresh.replace(self.pack(stamp))
-        fresh.write_text(f"{sum_of_library}\n{verdict}", "utf8")
-        fresh.replace(self.note(stamp))
+        try:
+            with self.packing(fresh) as out, tarfile.open(fileobj=out, mode="w|") as files:
+                files.add(library, arcname=".")
+            fresh.replace(self.pack(stamp))
+            fresh.write_text(f"{sum_of_library}\n{verdict}", "utf8")
+            fresh.replace(self.note(stamp))
+        finally:
+            fresh.unlink(missing_ok=True)
 
     def take(self, stamp: str, library: Path) -> None:
         """Unpacks a library, in place of what stands there."""

@@ -12,6 +12,7 @@ import os
 import shutil
 import signal
 import subprocess
+from contextlib import suppress
 from pathlib import Path
 from typing import IO, Callable, Dict, Iterator, List, NamedTuple, Optional, Sequence
 
@@ -246,10 +247,11 @@ class Workspace:
         self.stamp_file(name).write_text(self.stamps[name], "ascii")
 
     def keep(self, kept: Libraries) -> None:
-        """Keeps what was made of each crate, packed."""
-        for name, sum_of_made in self.sums.items():
-            if self.is_stamped(name, self.stamps[name]):
-                kept.keep(self.stamps[name], self.made(name), sum_of_made, self.verdicts[name])
+        """Keeps what was made of each crate, packed, as far as the disk has room."""
+        with suppress(OSError, subprocess.CalledProcessError):
+            for name, sum_of_made in self.sums.items():
+                if self.is_stamped(name, self.stamps[name]):
+                    kept.keep(self.stamps[name], self.made(name), sum_of_made, self.verdicts[name])
         kept.drop_old()
 
     def product_of(self, name: str) -> Path:

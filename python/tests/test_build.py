@@ -141,6 +141,14 @@ class Build(unittest.TestCase):
                 break
         self.assertEqual(self.clone.launch(), answer)
 
+    def test_the_last_ten_are_kept(self):
+        for count in range(12):
+            self.clone.write("trinorm", f"echo {count}\n")
+            self.assertTrue(self.clone.launch().endswith(f"\n{count}\n"))
+        programs = self.folder / "cache" / "trinorm" / "programs"
+        self.assertEqual(len([path for path in programs.iterdir() if path.is_dir()]), 10)
+        self.assertEqual(len([path for path in programs.iterdir() if path.suffix == ".lock"]), 10)
+
     def test_without_the_kit(self):
         done = self.clone.run(["./trinorm"], kit=False)
         self.assertEqual((done.returncode, done.stdout), (9, ""))
