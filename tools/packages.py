@@ -19,8 +19,9 @@ from commands import read_table
 from manifest import FILES, Manifest
 from repository import PROGRAM, TOP, git
 
-# each file with its mode, by its path
+# each file with its mode, by its path; a link is what it leads to, with this mode
 Files = Dict[str, Tuple[bytes, int]]
+LINK = 0o120777
 # zip knows no earlier time
 EARLIEST = 315532800
 LICENCES = ("LICENSE-MIT", "LICENSE-APACHE", "NOTICES")
@@ -85,9 +86,9 @@ def with_library(made: Made) -> Files:
     files = shared(made)
     if "library" in made.files:
         files[f"include/{PROGRAM}.h"] = plain(TOP / "library" / f"{PROGRAM}.h")
-        for name in ("library", "archive"):
-            files[f"lib/{FILES[name]}"] = (made.files[name], 0o644)
-        for path in (path for path in (TOP / "library").rglob("*") if path.is_file() and path.parent.name != "library"):
+        files[f"lib/{FILES['library']}"] = (f"../libexec/{PROGRAM}/{FILES['library']}".encode(), LINK)
+        files[f"lib/{FILES['archive']}"] = (made.files["archive"], 0o644)
+        for path in (path for path in (TOP / "library" / "rust").rglob("*") if path.is_file() and "target" not in path.parts):
             files[f"share/{PROGRAM}/{path.relative_to(TOP / 'library').as_posix()}"] = plain(path)
     for name in ("README.md", "CHANGELOG.md", "CITATION.cff"):
         files[f"share/doc/{PROGRAM}/{name}"] = plain(TOP / name)
@@ -106,8 +107,13 @@ def tar(files: Files, prefix: str = "") -> bytes:
             out.addfile(entry)
         for name, (data, mode) in sorted(files.items()):
             entry = tarfile.TarInfo(prefix + name)
-            entry.size, entry.mode, entry.mtime = len(data), mode, epoch()
-            out.addfile(entry, io.BytesIO(data))
+            entry.mode, entry.mtime = mode & 0o777, epoch()
+            if mode == LINK:
+                entry.type, entry.linkname = tarfile.SYMTYPE, data.decode()
+                out.addfile(entry)
+            else:
+                entry.size = len(data)
+                out.addfile(entry, io.BytesIO(data))
     return gzipped(raw.getvalue())
 
 
@@ -152,7 +158,7 @@ def debian(made: Made) -> Tuple[str, bytes]:
             name, data = f"{name}.gz", gzipped(data)
         files["usr/" + name.replace("zsh/site-functions", "zsh/vendor-completions")] = (data, mode)
     files[f"usr/share/doc/{PROGRAM}/copyright"] = (copyright_page(), 0o644)
-    sums = "".join(f"{hashlib.md5(data).hexdigest()}  {name}\n" for name, (data, _) in sorted(files.items()))
+    sums = "".join(f"{hashlib.md5(data).hexdigest()}  {name}\n" for name, (data, mode) in sorted(files.items()) if mode != LINK)
     about = tar({"control": (control(made, files).encode(), 0o644), "md5sums": (sums.encode(), 0o644)}, "./")
     parts = [("debian-binary", b"2.0\n"), ("control.tar.gz", about), ("data.tar.gz", tar(files, "./"))]
     return f"{PROGRAM}_{made.version}_amd64.deb", ar(parts)
