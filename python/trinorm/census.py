@@ -15,12 +15,13 @@ import time
 from typing import Any, Dict, Iterable, Iterator, List, Set, TextIO
 
 from .answer_files import Line, Output, read_lines
+from .options import coordinates
 from .program import Failed, find
 from .tasks import COMMANDS, Entry, Task
 from .workers import Pool
 
 # the coordinates of the commands that take some
-COORDS = {"surfaces": ("standard", "quad", "octagon"), "describe": ("standard", "octagon"), "count": ("standard", "octagon")}
+COORDS = {"surfaces": coordinates("surfaces"), "describe": coordinates("describe"), "count": coordinates("describe")}
 
 
 def processors() -> int:

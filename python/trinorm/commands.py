@@ -16,8 +16,9 @@ from typing import Any, Callable, Iterable, List, Optional, Sequence, TypeVar, U
 from . import answers, hints
 from .answers import (Bulk, Cover, Descent, Grouping, Info, Isomorphism, Made, Played, Presentation, Sum, Surface,
                       Vector, Verdict, vector_line)
+from .options import words
 from .program import Failed, Refused, run
-from .regina_surfaces import COORDS, ReginaSurface, is_surface, vector_of
+from .regina_surfaces import ReginaSurface, is_surface, vector_of
 from .tables import BadArgument, Table, Triangulation, document
 
 Answer = TypeVar("Answer")
@@ -25,55 +26,31 @@ Item = TypeVar("Item")
 GivenVector = Union[Sequence[int], ReginaSurface]
 Vectors = Iterable[GivenVector]
 
-ORDERS = ("given", "short", "zeros")
-MOST = 2 ** 127 - 1
 
-
-def _ask(words: Sequence[str], text: str, read: Callable[[List[str]], Answer],
+def _ask(asked: Sequence[str], text: str, read: Callable[[List[str]], Answer],
          timeout: Optional[float], program: Optional[str]) -> Answer:
     try:
-        lines = run(words, text, timeout, program).splitlines()
+        lines = run(asked, text, timeout, program).splitlines()
     except Refused as refused:
         refused.hint = hints.hint(refused.kind, refused.places, text)
         raise
     try:
         return read(lines)
     except (ValueError, IndexError, KeyError, TypeError, StopIteration) as fault:
-        raise Failed(f"{' '.join(words)}: an answer that isn't understood, {lines[:2]}") from fault
-
-
-def _one_of(name: str, value: str, allowed: Sequence[str]) -> List[str]:
-    """The option with this value, where it may have it."""
-    if value not in allowed:
-        raise BadArgument(f"{name} is one of {', '.join(allowed)}, and not {value!r}")
-    return [f"--{name}", value]
-
-
-def _number(name: str, value: int, least: int, most: int) -> List[str]:
-    if not (hasattr(value, "__index__") and least <= value <= most):
-        raise BadArgument(f"{name} is a whole number from {least} to {most}, and not {value!r}")
-    return [f"--{name.replace('_', '-')}", str(int(value))]
-
-
-def _coords(value: str, allowed: Sequence[str] = tuple(COORDS)) -> List[str]:
-    return _one_of("coords", value, allowed)
-
-
-def _order(value: Optional[str]) -> List[str]:
-    return [] if value is None else _one_of("order", value, ORDERS)
-
-
-def _limit(max_entry: Optional[int]) -> List[str]:
-    return [] if max_entry is None else _number("max_entry", max_entry, 1, MOST)
+        raise Failed(f"{' '.join(asked)}: an answer that isn't understood, {lines[:2]}") from fault
 
 
 def _vector(vector: GivenVector, coords: str) -> str:
     """The line of a vector; a `regina.NormalSurface` is taken for its own."""
     if is_surface(vector):
         return vector_line(vector_of(vector, coords)) + "\n"
-    if isinstance(vector, (str, bytes)) or not hasattr(vector, "__iter__") or any(hasattr(it, "__iter__") for it in vector):
+    if isinstance(vector, (str, bytes)) or not hasattr(vector, "__iter__") or _is_nested(vector):
         raise BadArgument(f"a vector is a list of numbers or a regina.NormalSurface, and not {vector!r}")
     return vector_line(vector) + "\n"
+
+
+def _is_nested(values: Iterable[object]) -> bool:
+    return isinstance(values, (list, tuple)) and len(values) > 0 and hasattr(values[0], "__iter__")
 
 
 def _listed(values: Iterable[Item], of: str) -> List[Item]:
@@ -104,8 +81,8 @@ def surfaces(t: Triangulation, coords: str = "standard", order: Optional[str] = 
     order: `given` (where none is said), `short` or `zeros`, in which the equations are taken; the list doesn't depend on it
     max_entry: the greatest number that may occur on the way; 2^127 - 1 where it isn't said
     """
-    words = ["surfaces", *_coords(coords), *_order(order), *_limit(max_entry)]
-    return _ask(words, document(t), answers.read_vectors, timeout, program)
+    asked = words("surfaces", coords=coords, order=order, max_entry=max_entry)
+    return _ask(asked, document(t), answers.read_vectors, timeout, program)
 
 
 def rays(rows: Sequence[Sequence[int]], columns: Optional[int] = None, order: Optional[str] = None,
@@ -121,14 +98,14 @@ def rays(rows: Sequence[Sequence[int]], columns: Optional[int] = None, order: Op
         raise BadArgument("where there are no rows, columns must be said")
     width = len(rows[0]) if columns is None else columns
     text = "".join(" ".join(map(str, row)) + "\n" for row in [("cone", width, len(rows)), *rows])
-    return _ask(["rays", *_order(order), *_limit(max_entry)], text, answers.read_vectors, timeout, program)
+    return _ask(words("rays", order=order, max_entry=max_entry), text, answers.read_vectors, timeout, program)
 
 
 def verify(t: Triangulation, vectors: Vectors, coords: str = "standard", *,
            timeout: Optional[float] = None, program: Optional[str] = None) -> List[Verdict]:
     """For each vector, in order, whether it is an admissible solution, or what fails first."""
     text = _with_vectors(t, vectors, coords)
-    return _ask(["verify", *_coords(coords)], text, answers.read_verdicts, timeout, program)
+    return _ask(words("verify", coords=coords), text, answers.read_verdicts, timeout, program)
 
 
 def info(t: Triangulation, *, timeout: Optional[float] = None, program: Optional[str] = None) -> Info:
@@ -178,7 +155,7 @@ def describe(t: Triangulation, vectors: Vectors, coords: str = "standard", *,
              timeout: Optional[float] = None, program: Optional[str] = None) -> List[Surface]:
     """For each vector, in order, its Euler characteristic and its components; in standard or octagon coordinates."""
     text = _with_vectors(t, vectors, coords)
-    return _ask(["describe", *_coords(coords, ("standard", "octagon"))], text, answers.read_surfaces, timeout, program)
+    return _ask(words("describe", coords=coords), text, answers.read_surfaces, timeout, program)
 
 
 def lift(t: Triangulation, vectors: Vectors, *, timeout: Optional[float] = None, program: Optional[str] = None) -> List[Vector]:
@@ -195,15 +172,15 @@ def crush(t: Triangulation, vector: GivenVector, *, timeout: Optional[float] = N
 def decompose(t: Triangulation, vectors: Vectors, coords: str = "standard", max_entry: Optional[int] = None, *,
               timeout: Optional[float] = None, program: Optional[str] = None) -> List[Sum]:
     """Each vector, in order, as a sum of vertex surfaces; all of the width of the coordinates."""
-    words = ["decompose", *_coords(coords), *_limit(max_entry)]
-    return _ask(words, _with_vectors(t, vectors, coords), answers.read_sums, timeout, program)
+    text = _with_vectors(t, vectors, coords)
+    return _ask(words("decompose", coords=coords, max_entry=max_entry), text, answers.read_sums, timeout, program)
 
 
 def addup(t: Triangulation, sums: Iterable[Sum], coords: str = "standard", *,
           timeout: Optional[float] = None, program: Optional[str] = None) -> bool:
     """True where all vectors and terms are admissible solutions and the terms add up; else `Refused` says what fails."""
     text = document(t) + "".join(map(str, sums))
-    return _ask(["addup", *_coords(coords)], text, answers.read_accepted, timeout, program)
+    return _ask(words("addup", coords=coords), text, answers.read_accepted, timeout, program)
 
 
 def play(t: Triangulation, steps: Iterable[str] = (), *, timeout: Optional[float] = None, program: Optional[str] = None) -> Played:
@@ -224,12 +201,12 @@ def descend(t: Triangulation, *, timeout: Optional[float] = None, program: Optio
 
 def make(seed: int, moves: int, *, timeout: Optional[float] = None, program: Optional[str] = None) -> Made:
     """A triangulated 3-sphere drawn from a seed, with moves that certify it."""
-    return _ask(["make", *_number("seed", seed, 0, 2 ** 64 - 1), *_number("moves", moves, 0, 1000)], "", answers.read_made, timeout, program)
+    return _ask(words("make", seed=seed, moves=moves), "", answers.read_made, timeout, program)
 
 
 def bulk(seed: int, moves: int, *, timeout: Optional[float] = None, program: Optional[str] = None) -> Bulk:
     """A 3-sphere as of `make`, with its certificate checked and its vertex surfaces counted."""
-    return _ask(["bulk", *_number("seed", seed, 0, 2 ** 64 - 1), *_number("moves", moves, 0, 5)], "", answers.read_bulk, timeout, program)
+    return _ask(words("bulk", seed=seed, moves=moves), "", answers.read_bulk, timeout, program)
 
 
 def table(t: Triangulation, *, timeout: Optional[float] = None, program: Optional[str] = None) -> Table:
