@@ -1,5 +1,5 @@
 #!/usr/bin/env python3
-"""Puts crates.txt into the order of the floors, writes the floors and the crates by subject into docs/ARCHITECTURE.md and
+"""Puts crates.txt into the order of the floors, writes the crates by subject into docs/ARCHITECTURE.md, the floors into
 docs/floors.svg, the files that the contracts of law crates cite into docs/DEFINITIONS.md, and the longest chain into
 docs/PROVING.md.
 
@@ -44,7 +44,6 @@ SUBJECTS = {
     " written_answer_laws command_words command_answers workbench trinorm trinorm_c worked_rows worked_tables worked_cones",
 }
 MARKS = {
-    "floors": ("<!-- floors: tools/floors.py -->", "<!-- end of floors -->"),
     "subjects": ("<!-- subjects: tools/floors.py -->", "<!-- end of subjects -->"),
     "laws": ("<!-- laws: tools/floors.py -->", "<!-- end of laws -->"),
     "chain": ("<!-- chain: tools/floors.py -->", "<!-- end of chain -->"),
@@ -83,10 +82,16 @@ def floors(known: Crates) -> Dict[str, int]:
 
 
 def what(name: str) -> str:
-    """The first sentence of the crate's own words."""
+    """The first sentence of the crate's own words, up to a colon where that says enough. What each law crate begins with,
+    that it stands on definitions alone, is left out."""
     root = read(f"crates/{name}/src/lib.rt") or read(f"crates/{name}/src/main.rt")
     said = " ".join(line[3:].strip() for line in root.split("\n") if line.startswith("//!"))
-    return re.split(r"(?<=\.)\s", said)[0]
+    sentence = re.split(r"(?<=\.)\s", said)[0]
+    begun = re.match(r"What follows from .*? alone(, whatever the code)?: ", sentence)
+    if begun and "their" not in sentence[begun.end():].split()[:4]:
+        sentence = sentence[begun.end()].upper() + sentence[begun.end() + 1:]
+    head = re.split(r"[:;] ", sentence.replace(", whatever the code", ""))[0].rstrip(".")
+    return (head if len(head.split()) > 4 else sentence.rstrip(".")) + "."
 
 
 def by_floor(levels: Dict[str, int]) -> Storeys:
@@ -102,13 +107,6 @@ def list_text(known: Crates, storeys: Storeys) -> str:
     for floor, names in enumerate(storeys):
         text += f"# floor {floor}\n" + "".join(f"{head[name]}: {' '.join(known[name])}".rstrip() + "\n" for name in names)
     return text
-
-
-def page_text(storeys: Storeys) -> str:
-    lines = ["| Floor | Crate | What it does |", "|---|---|---|"]
-    for floor in reversed(range(len(storeys))):
-        lines += [f"| {floor} | `{name}` | {what(name)} |" for name in storeys[floor]]
-    return "\n".join(lines)
 
 
 def statements(name: str) -> List[str]:
@@ -131,15 +129,13 @@ def laws_text(storeys: Storeys) -> str:
 
 
 def subjects_text(known: Crates) -> str:
-    columns = ["Definitions", "Laws", "Code", "Commands and program"]
-    lines = ["| Subject | " + " | ".join(columns) + " |", "|---" * (1 + len(columns)) + "|"]
+    """The crates of each subject: definitions, laws, code, and what stands on top."""
+    kinds = list(COLOURS)
+    lines = ["| Subject | Crate | What it does |", "|---|---|---|"]
     for subject, names in SUBJECTS.items():
-        cells: Dict[str, List[str]] = {column: [] for column in columns}
-        for name in (name for name in names.split() if name in known):
-            on_top = name.endswith("_commands") or name == "workbench" or kind(name) == "program"
-            place = {"definitions": "Definitions", "laws": "Laws"}.get(kind(name), "Commands and program" if on_top else "Code")
-            cells[place].append(f"`{name}`")
-        lines.append(f"| {subject} | " + " | ".join(", ".join(cell) for cell in cells.values()) + " |")
+        there = sorted((name for name in names.split() if name in known), key=lambda name: kinds.index(kind(name)))
+        first = [subject] + [""] * len(there)
+        lines += [f"| {head} | `{name}` | {what(name)} |" for head, name in zip(first, there)]
     return "\n".join(lines)
 
 
@@ -180,10 +176,9 @@ def with_part(page: str, part: str, text: str, gap: str = "\n") -> str:
 def wanted_files(known: Crates) -> Dict[str, str]:
     """Each file that this tool writes, as it should be."""
     storeys = by_floor(floors(known))
-    page = with_part(read("docs/ARCHITECTURE.md"), "subjects", subjects_text(known))
     return {
         "crates.txt": list_text(known, storeys),
-        "docs/ARCHITECTURE.md": with_part(page, "floors", page_text(storeys)),
+        "docs/ARCHITECTURE.md": with_part(read("docs/ARCHITECTURE.md"), "subjects", subjects_text(known)),
         "docs/DEFINITIONS.md": with_part(read("docs/DEFINITIONS.md"), "laws", laws_text(storeys)),
         "docs/PROVING.md": with_part(read("docs/PROVING.md"), "chain", chain_text(), " "),
         "docs/floors.svg": picture(storeys),
