@@ -41,7 +41,7 @@ SUBJECTS = {
     " surface_list surface_answers vector_commands",
     "sum": "sum_definitions sum_laws ray_decompose sum_commands",
     "program": "command_definitions outcome_definitions command_laws outcome_laws outcome_existence_laws answer_laws"
-    " written_answer_laws command_words command_answers workbench trinorm trinorm_c worked_rows worked_tables worked_cones",
+    " written_answer_laws list_answer_laws command_words command_answers workbench trinorm trinorm_c worked_rows worked_tables worked_cones",
 }
 MARKS = {
     "subjects": ("<!-- subjects: tools/floors.py -->", "<!-- end of subjects -->"),

@@ -51,7 +51,7 @@ unfolding lifts_text
 same_text lifts = refl
 
 -- what is refused is not done
-never_done : (refusal : Refusal) → refusal_status refusal ≡ Done → ⊥
+pub never_done : (refusal : Refusal) → refusal_status refusal ≡ Done → ⊥
 never_done (Unfit (faults.Length n)) e = cc
 never_done (Unfit (faults.Large i)) e = cc
 never_done (Unfit (faults.NotSolution i)) e = cc

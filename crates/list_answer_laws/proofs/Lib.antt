@@ -1,0 +1,4 @@
+pub mod Zipped
+pub mod ReadLists
+pub mod Described
+pub mod Lists

@@ -1,0 +1,39 @@
+-- What `describe` tells of what `surfaces` listed decides whether a table is 0-efficient by its numbers (Jaco and Rubinstein).
+use Rattle.std.specs.Prelude.{◌≡◌, ◌↔◌, ℕ, pos, ◌<ℤ◌, true, List, ◌++◌, map, Ok}
+use Rattle.std.specs.List.{All}
+use Rattle.cone_definitions.specs.declared.Order.{Order}
+use Rattle.table_definitions.specs.Table.{Row}
+use Rattle.table_definitions.specs.TableText.{table_text}
+use Rattle.skeleton_definitions.specs.Skeleton.{Skeleton, IsSkeleton}
+use Rattle.surface_definitions.specs.declared.Coords.{Coords}
+use Rattle.vector_definitions.specs.Answers.{Description}
+use Rattle.document_definitions.specs.Documents.{table_document}
+use Rattle.command_definitions.specs.declared.Request.TheVariants.{Surfaces, Describe}
+use Rattle.outcome_definitions.specs.declared.Status.TheVariants.{Done}
+use Rattle.outcome_definitions.specs.Outcomes.{Outcome}
+use Rattle.outcome_definitions.specs.Vectors.{describe_outcome}
+use Rattle.surface_laws.specs.MatchingLaws.{HasTriangles}
+use Rattle.coordinates_agree_laws.specs.VertexSurfaces.{IsSurfaceListOf}
+use Rattle.efficiency_laws.specs.Laws.{IsZeroEfficient}
+use Rattle.answer_laws.specs.Asked.{IsOutcomeTo}
+
+-- where the Euler characteristic that is told is above 0, the vector is told to be linking
+abbrev pub IsLinkingWherePositive : Description → Type 0
+IsLinkingWherePositive d = pos 0 <ℤ d.properties.euler → d.properties.linking ≡ true
+
+-- all vertex surfaces of the table are described, and by what is told of them the table is 0-efficient or not
+pub record DecidesEfficiency (coords : Coords) (rows : List Row) (o : Outcome) : Type 0 where
+  pub skeleton : Skeleton
+  pub of_rows : skeleton.rows ≡ rows
+  pub is_skeleton : IsSkeleton skeleton
+  pub told : List Description
+  pub outcome : o ≡ describe_outcome skeleton coords (Ok told)
+  pub surfaces : IsSurfaceListOf skeleton coords (map (λ (d : Description). d.vector) told)
+  pub decides : IsZeroEfficient skeleton coords ↔ All IsLinkingWherePositive told
+
+-- so does each answer of `describe` to what `surfaces` listed behind the table, in standard and octagon coordinates
+abbrev pub DescribedListsDecide : Type 0
+DescribedListsDecide =
+    (words asked : List (List ℕ)) (bytes : List ℕ) (o p : Outcome) (coords : Coords) (order : Order) (most : ℕ) (rows : List Row) → HasTriangles coords
+    → IsOutcomeTo (Surfaces coords order most) words bytes o → table_document bytes ≡ Ok rows → o.status ≡ Done
+    → IsOutcomeTo (Describe coords) asked (table_text rows ++ o.text) p → p.status ≡ Done → DecidesEfficiency coords rows p

@@ -1,0 +1,2 @@
+pub mod Efficiency
+pub mod Lists
