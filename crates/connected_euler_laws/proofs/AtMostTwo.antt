@@ -16,7 +16,8 @@ use Rattle.efficiency_laws.specs.Octagons.{octagons, HasTwiceOctagons}
 use Rattle.efficiency_laws.proofs.Connected.{vertex_surface_connected}
 use Rattle.connected_euler_laws.proofs.ArcList.{length-arc_list}
 use Rattle.connected_euler_laws.proofs.ComponentsConnected.{component_connected}
-use Rattle.connected_euler_laws.proofs.Joined.{one, other, left, right, are_polygons}
+use Rattle.connected_euler_laws.proofs.ArcNumbers.{piece_on, piece_behind, left_point, right_point}
+use Rattle.connected_euler_laws.proofs.Joined.{are_polygons}
 use Rattle.connected_euler_laws.proofs.Labels.{weights, all_points}
 use Rattle.connected_euler_laws.proofs.TwoForests.{at_most_two}
 use Rattle.vector_definitions.specs.Properties.{characteristic}
@@ -28,7 +29,7 @@ few p a r m h = omega (arith, ints)
 pub at_most_two_each : (s : Skeleton) (coords : Coords) (xs components : List ℕ) (count : ℕ) → IsSkeleton s → IsFirstInvalid s None → IsSurface s.rows coords xs → AreComponents s.rows coords xs components count
     → characteristic s coords xs ≤ℤ pos (2 * count)
 at_most_two_each s coords xs components count k valid w c =
-    let all = at_most_two _ _ _ count (one s k valid coords xs w) (other s k valid coords xs w) (left s k valid coords xs w) (right s k valid coords xs w) (are_polygons s k valid coords xs w components count c) in
+    let all = at_most_two _ _ _ count (piece_on s k valid coords xs w) (piece_behind s k valid coords xs w) (left_point s k valid coords xs w) (right_point s k valid coords xs w) (are_polygons s k valid coords xs w components count c) in
     let a : ArePieceNumbers xs = piece_numbers xs in
     let b : ArePieceNumbers (weights s k valid coords xs w) = piece_numbers (weights s k valid coords xs w) in
     few (points coords xs s.edges.classes s.edges.count) (arcs s.rows coords xs) (sum xs) count
