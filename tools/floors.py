@@ -26,7 +26,7 @@ SUBJECTS = {
     "table": "table_definitions permutation_laws walk_laws perm_four finite_walks gluing_table table_commands",
     "skeleton": "skeleton_definitions class_laws skeleton_laws skeleton vertex_links",
     "signature": "signature_definitions signature_text_laws labelling_laws signature_laws signature_codec canonical_labelling signature_census",
-    "move": "move_definitions move_laws kept_laws pachner_moves move_undo move_commands",
+    "move": "move_definitions move_laws kept_laws link_kept_laws pachner_moves move_undo move_commands",
     "certificate": "certificate_definitions certificate_laws making_laws making_length_laws sphere_certificate"
     " tri_build certificate_commands making_commands",
     "cover": "cover_definitions cover_laws double_cover covering_commands",

@@ -1,2 +1,4 @@
 pub mod Whole
 pub mod Linking
+pub mod KeptEnds
+pub mod Kept

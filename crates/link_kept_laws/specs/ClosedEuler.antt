@@ -1,0 +1,14 @@
+-- The Euler characteristic of a closed table by those of its vertex links.
+use Rattle.std.specs.Prelude.{◌≡◌, pos, ◌+ℤ◌, ◌-ℤ◌, List, map, IsTrue}
+use Rattle.table_definitions.specs.Places.{HasValidEdges, is_closed}
+use Rattle.skeleton_definitions.specs.Skeleton.{Skeleton, IsSkeleton, AreLinks}
+use Rattle.skeleton_definitions.specs.declared.Link.{Link}
+use Rattle.outcome_definitions.specs.Information.{characteristic}
+use Rattle.quad_laws.specs.EulerLaws.{integer_sum}
+
+-- where no edge is invalid, twice the Euler characteristic of a closed table is what the links have less than 2, in all: 0 where they
+-- are spheres
+abbrev pub ClosedCharacteristicsAreOfLinks : Type 0
+ClosedCharacteristicsAreOfLinks =
+    (s : Skeleton) (links : List Link) → IsSkeleton s → AreLinks s s.vertices.count links → IsTrue (is_closed s.rows) → HasValidEdges s.rows
+    → characteristic s +ℤ characteristic s ≡ integer_sum (map (λ (link : Link). pos 2 -ℤ link.euler) links)

@@ -1,0 +1,5 @@
+pub mod Valid
+pub mod Certified
+pub mod Links
+pub mod Manifolds
+pub mod ClosedEuler
