@@ -12,3 +12,5 @@ pub mod SmallNumbers
 pub mod TermVerdicts
 pub mod AddedUp
 pub mod ReadAgain
+pub mod Lengths
+pub mod AcceptedByCheck

@@ -8,6 +8,7 @@ ghost use Rattle.written_answer_laws.specs.Lifts.{LiftsAreWithin, LiftsAreRead, 
 ghost use Rattle.written_answer_laws.specs.Tables.{CrushedAreRead, DescentsAreRead};
 ghost use Rattle.written_answer_laws.specs.Covers.{CoversAreRead};
 ghost use Rattle.written_answer_laws.specs.Certificates.{AcceptedAreCertificates, CertificatesAreAccepted, ReachedDescentsAreAccepted, MadeTablesAreAccepted};
+ghost use Rattle.written_answer_laws.specs.Certificates.{WrittenMovesAreShort, CheckAcceptsCertificates, CheckAcceptsDescents, CheckAcceptsMade};
 ghost use Rattle.written_answer_laws.specs.Sums.{DecomposedAreTold, WrittenSumsAreRead, SumsAreAcceptedUnlessLarge, WholeSumsAreAccepted, DecomposedAreReadAgain};
 
 /// What `surfaces` lists, behind what is written for its table, is read as the table and all its vertex surfaces: no entry of
@@ -60,6 +61,15 @@ pub fn certificates_are_accepted()
     ensures certificates { CertificatesAreAccepted }
     ensures descents { ReachedDescentsAreAccepted }
     ensures makings { MadeTablesAreAccepted }
+{}
+
+/// What is written for a certificate is short. So where words ask for `check`, its one outcome is that the moves are accepted: those
+/// of a text that an input may have, those of a descent that reached the standard sphere, and those that `make` writes.
+pub fn check_accepts_certificates()
+    ensures short { WrittenMovesAreShort }
+    ensures certificates { CheckAcceptsCertificates }
+    ensures descents { CheckAcceptsDescents }
+    ensures made { CheckAcceptsMade }
 {}
 
 /// What `decompose` answers where nothing is refused is its table, with the sums of its vectors behind it.

@@ -97,7 +97,7 @@ row_line n (e ∷ row) rest h =
     )
 
 -- what holds at each place holds of each item
-each_from_places : {A : Type 0} (P : A → Type 0) (d : A) (xs : List A) → ((k : ℕ) → k < length xs → P (slice_index_or xs k d)) → AllByRecursion P xs
+pub each_from_places : {A : Type 0} (P : A → Type 0) (d : A) (xs : List A) → ((k : ℕ) → k < length xs → P (slice_index_or xs k d)) → AllByRecursion P xs
 each_from_places P d [] h = tt
 each_from_places P d (x ∷ xs) h = (h 0 (omega arith), each_from_places P d xs (λ k l. h (suc k) (omega arith)))
 
