@@ -223,12 +223,24 @@ def numbers(line: str, skip: int = 1) -> Vector:
     return tuple(map(_number, line.split()[skip:]))
 
 
+# the bytes of digits as numbers
+_DIGITS = bytes(max(0, it - ord("0")) for it in range(ord("9") + 1)).ljust(256, b"\0")
+
+
+def read_vector(line: str) -> Vector:
+    """The vector of a line `vec ..`. Where each entry is one digit, as in most, these are every second character."""
+    digits = line[4::2]
+    if digits.isdigit() and line.count(" ") == len(digits) and len(line) == 2 * len(digits) + 3:
+        return tuple(digits.encode("ascii").translate(_DIGITS))
+    return numbers(line)
+
+
 def is_yes(word: str) -> bool:
     return {"yes": True, "no": False}[word]
 
 
 def read_vectors(lines: List[str]) -> List[Vector]:
-    return [numbers(line) for line in lines if not line.startswith("#")]
+    return [read_vector(line) for line in lines if not line.startswith("#")]
 
 
 def read_verdicts(lines: List[str]) -> List[Verdict]:
@@ -273,7 +285,7 @@ def read_surfaces(lines: List[str]) -> List[Surface]:
         words = lines[at + 1].split()
         last = at + 2 + int(words[7])
         components = tuple(read_component(line) for line in lines[at + 2:last])
-        found.append(Surface(numbers(lines[at]), int(words[1]), is_yes(words[3]), is_yes(words[5]), components))
+        found.append(Surface(read_vector(lines[at]), int(words[1]), is_yes(words[3]), is_yes(words[5]), components))
         at = last
     return found
 
@@ -318,7 +330,7 @@ def read_sums(lines: List[str]) -> List[Sum]:
     while at < len(lines):
         times, terms = numbers(lines[at + 1])
         last = at + 2 + terms
-        found.append(Sum(numbers(lines[at]), times, tuple(read_term(line) for line in lines[at + 2:last])))
+        found.append(Sum(read_vector(lines[at]), times, tuple(read_term(line) for line in lines[at + 2:last])))
         at = last
     return found
 
