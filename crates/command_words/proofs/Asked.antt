@@ -109,11 +109,6 @@ asked_is (w ∷ ws) = go (command_named w)
 
 -- ---- answers
 
--- words that begin with no command ask nothing
-pub none_answers : (words : List Text) → command_before words ≡ None → accepted_request words ≡ None
-none_answers [] e = refl
-none_answers (w ∷ ws) e = ap (λ (o : Option Command). o >>= λ c. options_of c.1 ws >>= λ given. request_given c given) e
-
 pub ok_answers : (words : List Text) (c : Command) (m : ArgMatches) (a : App) → command_before words ≡ Some c → a ≡ program_with c → AreWords words → HasMatchesOf a words m → fault_of a words ≡ []
     → request_found (subcommand_rows_of m) ≡ accepted_request words
 ok_answers words c m a named is are has none =

@@ -1,5 +1,5 @@
 -- The command that the first of the words names.
-use Rattle.std.proofs.Common.{◌≡◌, ◌∙◌, List, [], ◌∷◌, Bor, Some, None, sym, ap}
+use Rattle.std.proofs.Common.{◌≡◌, ◌∙◌, List, [], ◌∷◌, Bor, Some, sym, ap}
 use Rattle.std.specs.Prelude.{slice_get}
 use Rattle.clap.specs.Walk.{Text, texts}
 use Rattle.command_definitions.specs.Words.{command_named}

@@ -1,5 +1,4 @@
-use Rattle.std.proofs.Common.{◌≡◌, ◌∙◌, ap, subst, sym, true, Some, None}
-use Rattle.std.specs.Option.{option_map}
+use Rattle.std.proofs.Common.{◌≡◌, ◌∙◌, ap, subst, sym, true, Some}
 use Rattle.clap.specs.Values.{kind_of}
 use Rattle.clap.specs.Walk.{texts}
 use Rattle.clap.specs.Simple.{app_of}
@@ -7,7 +6,7 @@ use Rattle.clap.specs.Faults.{is_simple_and_free}
 use Rattle.command_definitions.specs.Words.{Command, accepted_request}
 use Rattle.command_words.specs.Apps.{command_before, listed_command}
 use Rattle.command_words.specs.Requests.{AnswersWords, FailsWords}
-use Rattle.command_words.proofs.Asked.{none_answers, ok_answers, err_answers, fault_answers, program_free}
+use Rattle.command_words.proofs.Asked.{ok_answers, err_answers, fault_answers, program_free}
 use Rattle.command_words.proofs.WordLists.{are_words}
 use Rattle.command_words.proofs.reader.parse.Goals as goal
 
