@@ -3,8 +3,9 @@
 
     bench/census.py [PROGRAM] [--jobs N]
 
-They have 3 to 9 tetrahedra, drawn from the censuses that come with Regina: closed ones, and cusped hyperbolic ones. Seconds are
-those of the clock, the start of all processes counted; the least of three runs. Regina is one process, its start not counted.
+They have 3 to 9 tetrahedra, drawn from the censuses that come with Regina: closed ones, and cusped hyperbolic ones. Each stands
+ten times in the file of the census. Seconds are those of the clock, the start of all processes counted; the least of three
+runs. Regina is one process, its start not counted.
 """
 import argparse
 import os
@@ -18,6 +19,7 @@ from common import HERE, TOP, regina_says
 from trinorm import find
 
 SIGNATURES = os.path.join(HERE, "census_signatures.txt")
+TIMES = 10
 COMMANDS: Dict[str, List[str]] = {
     "sig": ["--command", "sig"],
     "info": ["--command", "info"],
@@ -45,17 +47,20 @@ for work in (lambda t: t.isoSig(), lambda t: regina.NormalSurfaces(t, regina.NS_
 PEERS = ("sig", "surfaces, quad", "surfaces, standard", "count")
 
 
-def seconds(program: str, words: List[str], jobs: int) -> float:
+def seconds(program: str, words: List[str], jobs: int, signatures: List[str]) -> float:
     """The least that a census takes in three runs."""
     around = dict(os.environ, PYTHONPATH=os.path.join(TOP, "python"), TRINORM=program)
     least = float("inf")
-    for _ in range(3):
-        with tempfile.TemporaryDirectory() as folder:
-            out = os.path.join(folder, "out")
+    with tempfile.TemporaryDirectory() as folder:
+        given, out = os.path.join(folder, "signatures"), os.path.join(folder, "out")
+        with open(given, "w", encoding="utf8") as file:
+            file.writelines(f"{signature} {number}\n" for number in range(TIMES) for signature in signatures)
+        for _ in range(3):
             begun = time.perf_counter()
-            subprocess.run([sys.executable, "-m", "trinorm", "census", SIGNATURES, *words, "--jobs", str(jobs), "--out", out], env=around,
+            subprocess.run([sys.executable, "-m", "trinorm", "census", given, *words, "--jobs", str(jobs), "--out", out], env=around,
                            stderr=subprocess.DEVNULL, check=True)
             least = min(least, time.perf_counter() - begun)
+            os.unlink(out)
     return least
 
 
@@ -66,12 +71,12 @@ def main() -> None:
     given = reader.parse_args()
     program = find(given.program)
     with open(SIGNATURES, encoding="utf8") as file:
-        many = len(file.readlines())
+        signatures = file.read().split()
     regina = dict(zip(PEERS, map(float, regina_says(REGINA % SIGNATURES) or [])))
     print(f"| Command | one job | {given.jobs} jobs | Regina, one process |")
     for name, words in COMMANDS.items():
-        one, all_jobs = (many / seconds(program, words, jobs) for jobs in (1, given.jobs))
-        peer = f"{many / regina[name]:,.0f}" if name in regina else "–"
+        one, all_jobs = (TIMES * len(signatures) / seconds(program, words, jobs, signatures) for jobs in (1, given.jobs))
+        peer = f"{len(signatures) / regina[name]:,.0f}" if name in regina else "–"
         print(f"| `{name}` | {one:,.0f} | {all_jobs:,.0f} | {peer} |", flush=True)
 
 

@@ -22,11 +22,12 @@ class Task:
     """What is asked of each triangulation.
 
     timeout: seconds after which a run of the program is ended
+    program: the program, or a server that answers in its place
     """
     command: str
     coords: Optional[str] = None
     timeout: Optional[float] = None
-    program: Optional[str] = None
+    program: commands.Program = None
 
     @property
     def words(self) -> str:

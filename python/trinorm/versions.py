@@ -1,7 +1,6 @@
 """The version of this package, and what the build of the program wrote of itself."""
 from __future__ import annotations
 
-import importlib.metadata
 import re
 from pathlib import Path
 
@@ -15,6 +14,7 @@ def version() -> str:
         found = re.search(r'^version = "(.*)"$', project.read_text(encoding="utf8"), re.MULTILINE)
         if found:
             return found[1]
+    import importlib.metadata  # which takes longer to load than all else here
     try:
         return importlib.metadata.version("trinorm")
     except importlib.metadata.PackageNotFoundError:

@@ -8,6 +8,7 @@ from __future__ import annotations
 import collections
 import contextlib
 import ctypes
+import dataclasses
 import json
 import os
 import selectors
@@ -19,7 +20,8 @@ from pathlib import Path
 from types import FrameType
 from typing import BinaryIO, Deque, Iterable, Iterator, List, NamedTuple, NoReturn, Optional
 
-from .program import Failed
+from .program import Failed, how_it_ended
+from .server import Server
 from .tasks import Entry, Task, as_json, head_of, line_of
 
 READY = b"ready"
@@ -48,9 +50,9 @@ class Worker:
     """A process, and the triangulations that it has not yet answered."""
 
     def __init__(self, task: Task) -> None:
-        package = str(Path(__file__).resolve().parents[1])
-        path = os.pathsep.join(filter(None, [package, os.environ.get("PYTHONPATH")]))
-        self.process = subprocess.Popen([sys.executable, "-m", "trinorm.workers", as_json(task)],
+        # the same places of modules as here, so that no others need be looked for
+        path = os.pathsep.join(place or os.getcwd() for place in [str(Path(__file__).resolve().parents[1]), *sys.path])
+        self.process = subprocess.Popen([sys.executable, "-S", "-m", "trinorm.workers", as_json(task)], start_new_session=True,
                                         stdin=subprocess.PIPE, stdout=subprocess.PIPE, env=dict(os.environ, PYTHONPATH=path))
         self.todo: Deque[Entry] = collections.deque()
         self.is_ready = False
@@ -95,20 +97,25 @@ class Worker:
 
     def failed(self, task: Task) -> Done:
         """The line of the triangulation at which it ended."""
-        said = {"failed": f"a worker process: {self.how_it_ended()}"}
+        said = {"failed": f"a worker process: {how_it_ended(self.end())}"}
         return Done("failed", as_json({**head_of(self.todo.popleft(), task, time.monotonic() - self._begun), **said}))
 
-    def how_it_ended(self) -> str:
-        status = self.process.wait()
-        return f"killed by signal {-status}" if status < 0 else f"status {status}"
+    def kill(self) -> None:
+        """Ends it at once, with the program that it runs: they are a group of their own."""
+        with contextlib.suppress(ProcessLookupError):
+            os.killpg(self.process.pid, signal.SIGKILL)
 
-    def end(self) -> None:
-        """Waits for its end: it ends by itself where its input does."""
+    def end(self) -> int:
+        """Its status, once it has ended, as it does by itself where its input does. What it left is ended too."""
         for stream in (self.process.stdin, self.process.stdout):
             with contextlib.suppress(BrokenPipeError):
                 assert stream is not None
                 stream.close()
-        self.process.wait()
+        if self.process.returncode is None:
+            # its number is its own as long as nobody has waited for it
+            os.waitid(os.P_PID, self.process.pid, os.WEXITED | os.WNOWAIT)
+            self.kill()
+        return self.process.wait()
 
 
 class Pool:
@@ -125,7 +132,7 @@ class Pool:
 
     def __exit__(self, *_: object) -> None:
         for worker in self._workers():
-            worker.process.terminate()
+            worker.kill()
         for worker in self._workers():
             self._drop(worker)
 
@@ -174,14 +181,26 @@ class Pool:
 
     def _ended(self, worker: Worker) -> Iterator[Done]:
         """It was killed, as where memory ran out."""
+        self._selector.unregister(worker)  # type: ignore[arg-type]
         if not worker.is_ready:
-            raise Failed(f"a worker process could not start: {worker.how_it_ended()}")
+            raise Failed(f"a worker process could not start: {how_it_ended(worker.end())}")
         if worker.todo:
             yield worker.failed(self.task)
+        worker.end()
         self.waiting.extendleft(reversed(worker.todo))
-        self._drop(worker)
         if self.waiting:
             self._start()
+
+
+@contextlib.contextmanager
+def by_server(task: Task) -> Iterator[Task]:
+    """The task with one server for all runs, where such a program stands beside the one that was found."""
+    beside = task.program if isinstance(task.program, str) else None
+    if Server.find(beside) is None:
+        yield task
+    else:
+        with Server(beside) as server:
+            yield dataclasses.replace(task, program=server)
 
 
 def serve(task: Task, given: BinaryIO, to: BinaryIO) -> None:
@@ -196,19 +215,13 @@ def serve(task: Task, given: BinaryIO, to: BinaryIO) -> None:
             to.flush()
 
 
-def main() -> int:
-    try:
-        signal.signal(signal.SIGTERM, end_as_by_keyboard)
-        ctypes.CDLL(None).prctl(PR_SET_PDEATHSIG, signal.SIGTERM)
-        serve(Task(**json.loads(sys.argv[1])), sys.stdin.buffer, sys.stdout.buffer)
-    except KeyboardInterrupt:
-        return 130
-    except BrokenPipeError:
-        os.dup2(os.open(os.devnull, os.O_WRONLY), 1)
-    finally:
-        signal.signal(signal.SIGTERM, signal.SIG_DFL)
-    return 0
+def main() -> None:
+    # where the census is killed, so are this process and what it runs
+    signal.signal(signal.SIGTERM, lambda *_: os.killpg(0, signal.SIGKILL))
+    ctypes.CDLL(None).prctl(PR_SET_PDEATHSIG, signal.SIGTERM)
+    with by_server(Task(**json.loads(sys.argv[1]))) as task:
+        serve(task, sys.stdin.buffer, sys.stdout.buffer)
 
 
 if __name__ == "__main__":
-    sys.exit(main())
+    main()
