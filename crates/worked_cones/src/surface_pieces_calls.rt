@@ -1,6 +1,12 @@
+ghost use Rattle.std.specs.Prelude.{◌≤◌, sum};
+ghost use Rattle.text_definitions.specs.Written.{limit};
+
 use crate::sample_cones::skeleton_of;
 use gluing_table::Table;
+use matching_equations::equations;
+use quad_condition::check_vector;
 use skeleton::Skeleton;
+use std::alloc::Global;
 use std::test::Fail;
 use surface_definitions::Coords;
 use surface_pieces::Pieces;
@@ -23,26 +29,35 @@ fn pieces_that_meet_none_are_components(rt: HostRuntime) -> Result<(), Fail> {
     Ok(())
 }
 
-// A quad of this table is a component with one side, two of them are one with two, and so are the triangles of its vertex link.
+// The pieces of a vector, where it is a surface.
+fn pieces_of(alloc: Global, skeleton: &Skeleton, x: &[u128]) -> Result<Pieces, Fail>
+    requires { sum x.now ≤ limit }
+{
+    let system = equations(alloc, skeleton, Coords::Standard)?;
+    match check_vector(Coords::Standard, skeleton.table().len(), &system, x) {
+        Ok(()) => Ok(
+            Pieces::build(alloc, skeleton, Coords::Standard, x)
+                .ok()
+                .ok_or("no pieces")?,
+        ),
+        Err(_) => Err("no surface")?,
+    }
+}
+
+// One quad of this table is a component with one side, and two are one with two sides, as are the triangles round its vertex.
 #[test]
 fn pieces_of_a_closed_table_are_joined(rt: HostRuntime) -> Result<(), Fail> {
     let skeleton = skeleton_of(rt.alloc(), b"bkaajj")?;
-    assert_eq!(rt; skeleton.table().len(), 1);
-    let rows: [([u128; 7], bool); 3] = [
-        ([0, 0, 0, 0, 0, 1, 0], false),
-        ([0, 0, 0, 0, 0, 2, 0], true),
-        ([1, 1, 1, 1, 0, 0, 0], true),
-    ];
-    for (x, two_sided) in rows {
-        let pieces = Pieces::build(rt.alloc(), &skeleton, Coords::Standard, &x)
-            .ok()
-            .ok_or("no pieces")?;
+    let one = pieces_of(rt.alloc(), &skeleton, &[0, 0, 0, 0, 0, 1, 0])?;
+    let two = pieces_of(rt.alloc(), &skeleton, &[0, 0, 0, 0, 0, 2, 0])?;
+    let link = pieces_of(rt.alloc(), &skeleton, &[1, 1, 1, 1, 0, 0, 0])?;
+    for (pieces, is_double) in [(&one, false), (&two, true), (&link, true)] {
         assert_eq!(rt; pieces.components(), 1);
         assert_eq!(rt;
             (pieces.two_sided(0), pieces.orientable(0)),
-            (two_sided, two_sided)
+            (is_double, is_double)
         );
-        assert_eq!(rt; pieces.vector(0), x.as_slice());
     }
+    assert_eq!(rt; two.vector(0), [0, 0, 0, 0, 0, 2, 0].as_slice());
     Ok(())
 }

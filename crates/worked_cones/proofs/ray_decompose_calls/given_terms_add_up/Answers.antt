@@ -1,8 +1,9 @@
 use Rattle.std.proofs.Common.{ℕ, zero, suc, ◌<◌, [], ◌∷◌, length, ap, slice_index_or, arith}
-use Rattle.ray_decompose.specs.Sums.{GivenTerm, HasWidth}
+use Rattle.ray_decompose.specs.declared.adding.Given.{Given}
+use Rattle.ray_decompose.specs.Sums.{HasWidth}
 use Rattle.worked_cones.proofs.ray_decompose_calls.given_terms_add_up.Goals as goal
 
-both : (a b : GivenTerm) (n : ℕ) → HasWidth n a → HasWidth n b → (k : ℕ) (d : GivenTerm) → k < 2 → HasWidth n (slice_index_or (a ∷ b ∷ []) k d)
+both : (a b : Given) (n : ℕ) → HasWidth n a → HasWidth n b → (k : ℕ) (d : Given) → k < 2 → HasWidth n (slice_index_or (a ∷ b ∷ []) k d)
 both a b n h i zero d l = h
 both a b n h i (suc zero) d l = i
 both a b n h i (suc (suc k)) d l = absurd (omega arith)
