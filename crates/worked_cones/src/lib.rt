@@ -14,6 +14,8 @@ mod number_bounds_calls;
 #[cfg(test)]
 mod public_calls_cone_core;
 #[cfg(test)]
+mod public_calls_double_description;
+#[cfg(test)]
 mod public_calls_matching_equations;
 #[cfg(test)]
 mod public_calls_quad_condition;
@@ -27,6 +29,8 @@ mod public_calls_support_bits;
 mod public_calls_surface_list;
 #[cfg(test)]
 mod public_calls_surface_pieces;
+#[cfg(test)]
+mod public_calls_surface_properties;
 #[cfg(test)]
 mod quad_condition_calls;
 #[cfg(test)]
