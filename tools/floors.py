@@ -33,8 +33,8 @@ SUBJECTS = {
     "group": "group_definitions group_laws edge_group",
     "part": "part_definitions part_laws part_existence_laws component_signature part_commands",
     "cone": "cone_definitions cone_text_definitions cone_laws minor_laws ray_laws row_operation_laws solved_laws"
-    " support_bits support_table residual_pairs cone_core double_description number_bounds solved_rows ray_pairs late_columns"
-    " ray_answers enumeration_commands",
+    " support_bits support_table residual_pairs cone_core ray_steps double_description late_columns number_bounds solved_rows"
+    " bounded_list ray_answers vector_text enumeration_commands",
     "surface": "surface_definitions vector_definitions coordinate_laws surface_laws equation_laws equation_bounds_laws quad_laws"
     " quad_lift_laws octagon_laws vertex_link_laws coordinates_agree_laws efficiency_laws connected_euler_laws orientation_laws"
     " crushing_laws normal_discs matching_equations quad_condition quad_lift surface_pieces surface_properties crushing"

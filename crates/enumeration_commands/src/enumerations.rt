@@ -6,9 +6,9 @@ use command_answers::Outcome;
 use cone_core::Ray;
 use no_memory::NoMemory;
 use outcome_definitions::Status;
-use ray_answers::write_list;
 use std::alloc::Global;
 use text_io::{append, append_decimal};
+use vector_text::write_list;
 
 /// The number of vectors, and a line for each.
 pub fn list_outcome(alloc: Global, name: &[u8], list: &[Ray]) -> Result<Outcome, NoMemory>

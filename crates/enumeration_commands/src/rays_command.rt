@@ -39,7 +39,7 @@ fn answer(alloc: Global, system: &System, order: Order, limit: u128) -> Result<O
     ensures { IfOk result (IsEnumerationAnswer (codes "rays") (without_pairs system.now order limit)) }
 {
     match ray_answers::rays(alloc, system, order, limit) {
-        Ok(rays) => list_outcome(alloc, b"rays", &rays.list),
+        Ok(rays) => list_outcome(alloc, b"rays", &rays),
         Err(Failure::Fault(large)) => large_outcome(alloc, &large.order, &large.kind),
         Err(Failure::NoMemory) => Err(NoMemory),
     }

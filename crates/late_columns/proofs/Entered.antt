@@ -4,7 +4,7 @@ use Rattle.std.proofs.lemmas.Bool.{cases_Bool, cases_lt}
 use Rattle.std.proofs.lemmas.List.Elements.{All-more, All-weaker}
 use Rattle.cone_definitions.specs.Rows.{Row}
 use Rattle.cone_definitions.specs.Vectors.{unit}
-use Rattle.double_description.specs.Kepts.{rays_of}
+use Rattle.ray_steps.specs.Kepts.{rays_of}
 use Rattle.cone_definitions.specs.Unordered.{HasSurfaces}
 use Rattle.late_columns.specs.declared.entering.LateRays.{LateRays}
 use Rattle.late_columns.specs.Late.{IsUnseen, held_rows, AreSeen, HaveEntered}

@@ -13,12 +13,12 @@ use Rattle.row_operation_laws.proofs.Kept.{same_surfaces}
 use Rattle.row_operation_laws.proofs.Sums.{turned_zero}
 use Rattle.cone_laws.specs.Laws.{HasNoThird}
 use Rattle.cone_laws.proofs.Bound.{union_bound}
-use Rattle.double_description.specs.Clashes.{AreClashes}
-use Rattle.double_description.specs.Kepts.{rays_of, AreOfWidth}
-use Rattle.double_description.specs.Steps.{step_of}
-use Rattle.double_description.specs.Unions.{HaveSmallUnions}
+use Rattle.ray_steps.specs.Clashes.{AreClashes}
+use Rattle.ray_steps.specs.Kepts.{rays_of, AreOfWidth}
+use Rattle.ray_steps.specs.Next.{step_of}
+use Rattle.ray_steps.specs.Unions.{HaveSmallUnions}
 use Rattle.cone_definitions.specs.Unordered.{HasSurfaces}
-use Rattle.double_description.proofs.KeptLemmas.{length-rays_of, ray_at-rays_of}
+use Rattle.ray_steps.proofs.KeptLemmas.{length-rays_of, ray_at-rays_of}
 use Rattle.cone_definitions.proofs.Unordered.{place_of}
 use Rattle.solved_laws.specs.Fresh.{IsUntouched}
 use Rattle.late_columns.specs.declared.entering.LateRays.{LateRays}

@@ -6,3 +6,4 @@ pub mod RaisedLists
 pub mod RaisedSurfaces
 pub mod LateSteps
 pub mod SortedSurfaces
+pub mod Oriented

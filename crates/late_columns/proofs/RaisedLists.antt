@@ -9,15 +9,15 @@ use Rattle.cone_definitions.specs.Enumeration.{ComesFromPair}
 use Rattle.cone_definitions.proofs.Entries.{same_vectors}
 use Rattle.cone_definitions.proofs.Surfaces.{step_gives_next_lem, none_is_kept_and_made}
 use Rattle.cone_definitions.proofs.Rays.{IsSolution-front}
-use Rattle.double_description.specs.declared.kept.Kept.{Kept}
-use Rattle.double_description.specs.declared.signs.Sign.{Sign}
-use Rattle.double_description.specs.declared.signs.Sign.TheVariants.{Zero, Positive, Negative}
-use Rattle.double_description.specs.Kepts.{rays_of}
-use Rattle.double_description.specs.Steps.{step_of}
-use Rattle.double_description.specs.Signs.{IsBoundedSign, ComesFromPlaces, IsMadeUpTo}
-use Rattle.double_description.proofs.KeptLemmas.{rays_of-push}
+use Rattle.ray_steps.specs.declared.kept.Kept.{Kept}
+use Rattle.ray_steps.specs.declared.signs.Sign.{Sign}
+use Rattle.ray_steps.specs.declared.signs.Sign.TheVariants.{Zero, Positive, Negative}
+use Rattle.ray_steps.specs.Kepts.{rays_of}
+use Rattle.ray_steps.specs.Next.{step_of}
+use Rattle.ray_steps.specs.Signs.{IsBoundedSign, ComesFromPlaces, IsMadeUpTo}
+use Rattle.ray_steps.proofs.KeptLemmas.{rays_of-push}
 use Rattle.cone_definitions.proofs.Unordered.{place_is_one}
-use Rattle.double_description.proofs.MadeLemmas.{sign_read, comes_read}
+use Rattle.ray_steps.proofs.MadeLemmas.{sign_read, comes_read}
 use Rattle.solved_laws.proofs.Fresh.{set_zero}
 use Rattle.late_columns.specs.Raised.{IsLeft, HasRoom, AppendsRaised, ComesFromRaised, IsFreshStepAt, IsRaisedFrom}
 

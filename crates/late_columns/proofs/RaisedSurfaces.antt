@@ -5,18 +5,18 @@ use Rattle.cone_definitions.specs.Rows.{Row, plus_part, minus_part}
 use Rattle.cone_definitions.specs.Surfaces.{Clash, IsVertexSurface}
 use Rattle.cone_definitions.specs.Elimination.{IsPair}
 use Rattle.cone_definitions.specs.Enumeration.{ComesFromPair}
-use Rattle.double_description.specs.declared.signs.Sign.{Sign}
-use Rattle.double_description.specs.declared.signs.Sign.TheVariants.{Zero, Positive, Negative}
-use Rattle.double_description.specs.Steps.{step_of}
+use Rattle.ray_steps.specs.declared.signs.Sign.{Sign}
+use Rattle.ray_steps.specs.declared.signs.Sign.TheVariants.{Zero, Positive, Negative}
+use Rattle.ray_steps.specs.Next.{step_of}
 use Rattle.cone_definitions.specs.Unordered.{HasSurfaces}
-use Rattle.double_description.specs.Signs.{IsSignAt, AreSigns, ComesFromPlaces}
+use Rattle.ray_steps.specs.Signs.{IsSignAt, AreSigns, ComesFromPlaces}
 use Rattle.cone_definitions.proofs.Unordered.{place_of}
-use Rattle.double_description.proofs.MadeLemmas.{comes_read}
-use Rattle.double_description.proofs.SurfaceSteps.{the_step, sign_at_place, pair_stands}
+use Rattle.ray_steps.proofs.MadeLemmas.{comes_read}
+use Rattle.ray_steps.proofs.SurfaceSteps.{the_step, sign_at_place, pair_stands}
 use Rattle.solved_laws.specs.Fresh.{IsUntouched, IsFresh, IsRaised, ComesFromOthers}
 use Rattle.solved_laws.proofs.Fresh.{fresh_next}
 use Rattle.late_columns.specs.Late.{IsUnseen, held_rows}
-use Rattle.ray_pairs.specs.Partners.{IsFree}
+use Rattle.late_columns.specs.Fresh.{IsFree}
 use Rattle.late_columns.specs.Raised.{IsLeft, ComesFromRaised, IsFreshStepAt, IsRaisedFrom}
 use Rattle.late_columns.proofs.Held.{held_solution, unseen_after, untouched_held}
 use Rattle.late_columns.proofs.Faces.{surface_of_face, surface_in_face, gone_in_face, column_face}

@@ -1,11 +1,10 @@
 -- Fresh columns of rows.
-use Rattle.std.specs.Prelude.{◌≡◌, ℕ, ◌<◌, List, Bool, true, false}
+use Rattle.std.specs.Prelude.{◌≡◌, ◌≢◌, ℕ, ◌<◌, List, Bool, true, false}
 use Rattle.std.specs.List.{All}
 use Rattle.cone_definitions.specs.Rows.{Row, plus_part, minus_part}
 use Rattle.cone_definitions.specs.Surfaces.{Clash}
 use Rattle.cone_definitions.specs.Vectors.{unit}
 use Rattle.row_operation_laws.specs.Operations.{turned}
-use Rattle.ray_pairs.specs.Partners.{IsFree}
 use Rattle.late_columns.specs.Late.{IsUnseen}
 use Rattle.late_columns.specs.declared.fresh.Fresh.{Fresh}
 
@@ -21,6 +20,10 @@ HasOne columns row column is_turned = (plus_part (oriented is_turned row) (unit 
 -- no column of the row but this one is unseen
 abbrev pub IsLone : Row → List Bool → ℕ → Type 0
 IsLone row seen column = All (λ term. IsUnseen seen term.0 → term.0 ≡ column) row
+
+-- the column clashes with none
+abbrev pub IsFree : List Clash → ℕ → Type 0
+IsFree pairs column = All (λ pair. (pair.0 ≢ column) × (pair.1 ≢ column)) pairs
 
 -- an unseen column with the coefficient 1 or -1, which clashes with none
 pub record IsFreeColumn (columns : ℕ) (row : Row) (pairs : List Clash) (seen : List Bool) (fresh : Fresh) : Type 0 where

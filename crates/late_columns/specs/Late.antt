@@ -3,7 +3,7 @@ use Rattle.std.specs.Prelude.{◌≡◌, ℕ, ◌+◌, ◌≤◌, ◌++◌, List
 use Rattle.std.specs.List.{All}
 use Rattle.cone_definitions.specs.Rows.{Row}
 use Rattle.cone_definitions.specs.Surfaces.{Clash, PairsAreApart}
-use Rattle.double_description.specs.Kepts.{rays_of}
+use Rattle.ray_steps.specs.Kepts.{rays_of}
 use Rattle.cone_definitions.specs.Unordered.{HasSurfaces}
 use Rattle.solved_laws.specs.Fresh.{IsUntouched}
 use Rattle.late_columns.specs.declared.entering.LateRays.{LateRays}
@@ -24,8 +24,9 @@ pub record AreLate (columns : ℕ) (rows : List Row) (pairs : List Clash) (late 
   pub untouched : (column : ℕ) → IsUnseen late.seen.items column → IsUntouched columns rows column
   pub surfaces : HasSurfaces columns (rows ++ held_rows 0 late.seen.items) pairs (rays_of late.kepts.items)
 
--- such rays of rows of which there are so few that the union of a pair has at most so many columns
+-- such rays of rows of which there are so few that the union of a pair has at most so many columns, where no column clashes with itself
 pub record AreLateOfFew (columns most : ℕ) (pairs : List Clash) (late : LateRays) : Type 0 where
+  pub apart : PairsAreApart pairs
   pub rows : List Row
   pub few : length rows + 2 ≤ most
   pub so_far : AreLate columns rows pairs late

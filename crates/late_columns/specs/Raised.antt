@@ -4,10 +4,10 @@ use Rattle.std.specs.List.{All, AllPairs}
 use Rattle.cone_definitions.specs.Vectors.{ray_at}
 use Rattle.cone_definitions.specs.Rows.{Row, IsSolution}
 use Rattle.cone_definitions.specs.Surfaces.{Clash}
-use Rattle.double_description.specs.declared.kept.Kept.{Kept}
-use Rattle.double_description.specs.declared.signs.Sign.{Sign}
-use Rattle.double_description.specs.declared.signs.Sign.TheVariants.{Zero, Positive, Negative}
-use Rattle.double_description.specs.Signs.{AreSigns, IsSignedPair, ComesFromPlaces, GivesFrom, IsStepAt}
+use Rattle.ray_steps.specs.declared.kept.Kept.{Kept}
+use Rattle.ray_steps.specs.declared.signs.Sign.{Sign}
+use Rattle.ray_steps.specs.declared.signs.Sign.TheVariants.{Zero, Positive, Negative}
+use Rattle.ray_steps.specs.Signs.{AreSigns, IsSignedPair, ComesFromPlaces, GivesFrom, IsStepAt}
 
 -- what a row leaves for a column in which it has 1: nothing where it is zero, its magnitude where it is negative
 abbrev pub IsLeft : Sign → ℕ → Type 0

@@ -4,108 +4,94 @@ ghost use Rattle.std.specs.Prelude.{◌≡◌, ℕ, List, IfOk, IfSome};
 ghost use Rattle.cone_core.specs.Sparse.{IsInRange};
 ghost use Rattle.cone_definitions.specs.Rows.{Row};
 ghost use Rattle.cone_definitions.specs.Surfaces.{Clash, IsSurfaceList};
-ghost use Rattle.double_description.specs.Clashes.{DecidesClashes};
-ghost use Rattle.double_description.specs.Kepts.{rays_of};
 ghost use Rattle.cone_definitions.specs.Unordered.{HasSurfaces};
+ghost use Rattle.ray_steps.specs.Kepts.{rays_of};
 ghost use Rattle.late_columns.specs.Late.{AreLateOfFew, AreNextLate};
 ghost use Rattle.late_columns.specs.Fresh.{IsFreeColumn};
-ghost use Rattle.ray_pairs.specs.Partners.{ArePartners};
 
 use crate::elimination::next_rays;
 use crate::entering::{LateRays, enter_all, enter_others, enter_row, none_seen};
 use crate::fresh::{Fresh, free_column};
 use crate::raising::raised_rays;
 use cone_core::{Ray, SparseRow, System};
-use double_description::{Kept, Permit, StepFault, sort_rays, without_supports};
 use no_memory::NoMemory;
-use ray_pairs::partners_of;
+use ray_steps::{Clashes, Compatible, Kept, StepFault, sort_rays, without_supports};
 use std::alloc::Global;
-use support_bits::Support;
 
 /// One row more, all of whose columns enter before.
-fn eliminated<F: Fn(&Support, &Support) -> bool>(
+fn eliminated<C: Compatible>(
     alloc: Global,
-    permit: &Permit<F>,
-    partners: &[Support],
+    clashes: &Clashes<C>,
     row: &SparseRow,
     mut late: LateRays,
     most: u64,
 ) -> Result<LateRays, StepFault>
-    requires decides { DecidesClashes permit.now.columns permit.now.clashes.items (F.pre permit.now.test) (F.post permit.now.test) }
-    requires partners { ArePartners permit.now.columns permit.now.clashes.items partners.now }
-    requires in_range { IsInRange permit.now.columns row.now }
-    requires late { AreLateOfFew permit.now.columns most permit.now.clashes.items late }
-    ensures { IfOk result (AreNextLate permit.now.columns permit.now.clashes.items row.now late) }
+    requires in_range { IsInRange clashes.now.columns row.now }
+    requires late { AreLateOfFew clashes.now.columns most clashes.now.pairs late }
+    ensures { IfOk result (AreNextLate clashes.now.columns clashes.now.pairs row.now late) }
 {
-    enter_row(alloc, permit.columns, row, &mut late)?;
+    enter_row(alloc, clashes.columns(), row, &mut late)?;
     let LateRays { kepts, seen } = late;
-    let next = next_rays(alloc, permit, partners, row, kepts, most)?;
+    let next = next_rays(alloc, clashes, row, kepts, most)?;
     Ok(LateRays { kepts: next, seen })
 }
 
 /// One row more that has a fresh column once its other columns have entered.
-fn extended<F: Fn(&Support, &Support) -> bool>(
+fn extended<C: Compatible>(
     alloc: Global,
-    permit: &Permit<F>,
-    partners: &[Support],
+    clashes: &Clashes<C>,
     row: &SparseRow,
     fresh: Fresh,
     mut late: LateRays,
     most: u64,
 ) -> Result<LateRays, StepFault>
-    requires decides { DecidesClashes permit.now.columns permit.now.clashes.items (F.pre permit.now.test) (F.post permit.now.test) }
-    requires partners { ArePartners permit.now.columns permit.now.clashes.items partners.now }
-    requires in_range { IsInRange permit.now.columns row.now }
-    requires late { AreLateOfFew permit.now.columns most permit.now.clashes.items late }
-    requires fresh { IsFreeColumn permit.now.columns row.now permit.now.clashes.items late.seen.items fresh }
-    ensures { IfOk result (AreNextLate permit.now.columns permit.now.clashes.items row.now late) }
+    requires in_range { IsInRange clashes.now.columns row.now }
+    requires late { AreLateOfFew clashes.now.columns most clashes.now.pairs late }
+    requires fresh { IsFreeColumn clashes.now.columns row.now clashes.now.pairs late.seen.items fresh }
+    ensures { IfOk result (AreNextLate clashes.now.columns clashes.now.pairs row.now late) }
 {
-    enter_others(alloc, permit.columns, row, fresh.column, &mut late)?;
+    enter_others(alloc, clashes.columns(), row, fresh.column, &mut late)?;
     let LateRays { kepts, mut seen } = late;
-    let next = raised_rays(alloc, permit, partners, row, fresh, kepts, most)?;
+    let next = raised_rays(alloc, clashes, row, fresh, kepts, most)?;
     seen[fresh.column as usize] = true;
     Ok(LateRays { kepts: next, seen })
 }
 
 /// One row more.
-fn next_late<F: Fn(&Support, &Support) -> bool>(
+fn next_late<C: Compatible>(
     alloc: Global,
-    permit: &Permit<F>,
-    partners: &[Support],
+    clashes: &Clashes<C>,
     row: &SparseRow,
     late: LateRays,
     most: u64,
 ) -> Result<LateRays, StepFault>
-    requires decides { DecidesClashes permit.now.columns permit.now.clashes.items (F.pre permit.now.test) (F.post permit.now.test) }
-    requires partners { ArePartners permit.now.columns permit.now.clashes.items partners.now }
-    requires in_range { IsInRange permit.now.columns row.now }
-    requires late { AreLateOfFew permit.now.columns most permit.now.clashes.items late }
-    ensures { IfOk result (AreNextLate permit.now.columns permit.now.clashes.items row.now late) }
+    requires in_range { IsInRange clashes.now.columns row.now }
+    requires late { AreLateOfFew clashes.now.columns most clashes.now.pairs late }
+    ensures { IfOk result (AreNextLate clashes.now.columns clashes.now.pairs row.now late) }
 {
-    match free_column(alloc, permit.columns, &permit.clashes, row, &late.seen)? {
-        Some(fresh) => extended(alloc, permit, partners, row, fresh, late, most),
-        None => eliminated(alloc, permit, partners, row, late, most),
+    match free_column(alloc, clashes.columns(), clashes.pairs(), row, &late.seen)? {
+        Some(fresh) => extended(alloc, clashes, row, fresh, late, most),
+        None => eliminated(alloc, clashes, row, late, most),
     }
 }
 
 /// The vertex surfaces of all rows, in any order.
-fn all_rows<F: Fn(&Support, &Support) -> bool>(
+fn all_rows<C: Compatible>(
     alloc: Global,
     system: &System,
-    permit: &Permit<F>,
+    clashes: &Clashes<C>,
 ) -> Result<Vec<Kept>, StepFault>
-    requires columns { permit.now.columns ≡ system.now.columns }
-    requires decides { DecidesClashes permit.now.columns permit.now.clashes.items (F.pre permit.now.test) (F.post permit.now.test) }
-    ensures { IfOk result (λ kepts. HasSurfaces permit.now.columns system.now.rows permit.now.clashes.items (rays_of kepts.items)) }
+    requires columns { clashes.now.columns ≡ system.now.columns }
+    ensures { IfOk result (λ kepts. HasSurfaces clashes.now.columns system.now.rows clashes.now.pairs (rays_of kepts.items)) }
 {
-    let partners = partners_of(alloc, &permit.clashes, permit.columns)?;
-    let mut late = none_seen(alloc, permit.columns)?;
+    let _pairs = clashes.pairs();
+    let mut late = none_seen(alloc, clashes.columns())?;
     for number in 0..system.len() {
         // the union of a pair has at most two columns more than rows were taken
         let most = u64::from(number) + 2;
-        late = next_late(alloc, permit, &partners, system.row(number), late, most)?;
+        late = next_late(alloc, clashes, system.row(number), late, most)?;
     }
-    enter_all(alloc, permit.columns, &mut late)?;
+    enter_all(alloc, clashes.columns(), &mut late)?;
     let LateRays { kepts, seen: _ } = late;
     Ok(kepts)
 }
@@ -119,17 +105,16 @@ fn ascending(alloc: Global, mut kepts: Vec<Kept>) -> Result<Vec<Ray>, NoMemory>
     Ok(rays)
 }
 
-/// All vertex surfaces of a system under a permit, ascending; nothing where a number on the way passes the greatest entry.
-pub fn vertex_surfaces<F: Fn(&Support, &Support) -> bool>(
+/// All vertex surfaces of a system, ascending; nothing where a number on the way passes the greatest entry.
+pub fn vertex_surfaces<C: Compatible>(
     alloc: Global,
     system: &System,
-    permit: &Permit<F>,
+    clashes: &Clashes<C>,
 ) -> Result<Option<Vec<Ray>>, NoMemory>
-    requires columns { permit.now.columns ≡ system.now.columns }
-    requires decides { DecidesClashes permit.now.columns permit.now.clashes.items (F.pre permit.now.test) (F.post permit.now.test) }
-    ensures { IfOk result (λ answer. IfSome answer (λ list. IsSurfaceList system.now.columns system.now.rows permit.now.clashes.items list.items)) }
+    requires columns { clashes.now.columns ≡ system.now.columns }
+    ensures { IfOk result (λ answer. IfSome answer (λ list. IsSurfaceList system.now.columns system.now.rows clashes.now.pairs list.items)) }
 {
-    match all_rows(alloc, system, permit) {
+    match all_rows(alloc, system, clashes) {
         Ok(kepts) => {
             let rays = ascending(alloc, kepts)?;
             Ok(Some(rays))

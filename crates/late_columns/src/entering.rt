@@ -7,8 +7,8 @@ ghost use Rattle.late_columns.specs.Late.{IsUnseen, AreLate, AreSeen, HaveEntere
 ghost use Rattle.late_columns.specs.Fresh.{IsLone};
 
 use cone_core::SparseRow;
-use double_description::Kept;
 use no_memory::NoMemory;
+use ray_steps::Kept;
 use std::alloc::Global;
 
 /// The rays of the rows so far that have none of the columns not seen yet, and which columns were seen.

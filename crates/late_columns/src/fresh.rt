@@ -1,14 +1,12 @@
 // Columns of rows that aren't seen, with the coefficient 1 or -1, and clashing with none.
 
-ghost use Rattle.std.specs.Prelude.{◌≡◌, ◌<◌, length, IfOk, IfSome};
+ghost use Rattle.std.specs.Prelude.{◌≡◌, ◌<◌, length, IsTrue, IfOk, IfSome};
 ghost use Rattle.cone_core.specs.Sparse.{IsInRange};
 ghost use Rattle.late_columns.specs.Late.{IsUnseen};
-ghost use Rattle.late_columns.specs.Fresh.{HasOne, IsFreeColumn};
-ghost use Rattle.ray_pairs.specs.Partners.{IsFree};
+ghost use Rattle.late_columns.specs.Fresh.{HasOne, IsFree, IsFreeColumn};
 
 use cone_core::{MAX_ENTRY, PlusMinus, Ray, SparseRow, parts};
 use no_memory::NoMemory;
-use ray_pairs::is_free;
 use std::alloc::Global;
 
 /// A fresh column, and whether its coefficient is -1, so that the row is to be turned.
@@ -35,6 +33,18 @@ fn turning(
         Ok(PlusMinus { plus: 0, minus: 1 }) => Ok(Some(true)),
         _ => Ok(None),
     }
+}
+
+/// Whether a column clashes with none.
+fn is_free(clashes: &[(u32, u32)], column: u32) -> bool
+    ensures { IsTrue result → IsFree clashes.now column }
+{
+    for (first, second) in clashes {
+        if *first == column || *second == column {
+            return false;
+        }
+    }
+    true
 }
 
 /// The first column of a row that isn't seen and clashes with none.

@@ -4,37 +4,37 @@ ghost use Rattle.std.specs.Prelude.{◌≡◌, ◌<◌, ◌≤◌, List, length,
 ghost use Rattle.std.specs.List.{All};
 ghost use Rattle.cone_core.specs.Sparse.{IsInRange};
 ghost use Rattle.cone_definitions.specs.Surfaces.{Clash};
-ghost use Rattle.double_description.specs.Clashes.{DecidesClashes};
-ghost use Rattle.double_description.specs.Kepts.{rays_of, AreOfWidth};
-ghost use Rattle.double_description.specs.Signs.{AreSigns, IsBoundedSign, IsMadeUpTo};
-ghost use Rattle.double_description.specs.Unions.{HaveSmallUnions, MakeSinglesPairs};
+ghost use Rattle.ray_steps.specs.Kepts.{rays_of};
+ghost use Rattle.ray_steps.specs.Signs.{IsBoundedSign, IsMadeUpTo};
+ghost use Rattle.ray_steps.specs.Steps.{AreStepRays, IsStepOf};
 ghost use Rattle.late_columns.specs.Fresh.{oriented};
 ghost use Rattle.late_columns.specs.Raised.{HasRoom, AppendsRaised, IsRaisedFrom, AreRaised};
-ghost use Rattle.ray_pairs.specs.Partners.{ArePartners};
 
 use crate::fresh::Fresh;
 use cone_core::{MAX_ENTRY, SparseRow};
-use double_description::{Kept, Permit, Sign, StepFault, signs_at};
 use no_memory::NoMemory;
-use ray_pairs::{made_rays, turned_signs};
+use ray_steps::{Clashes, Compatible, Kept, Sign, Step, StepFault};
 use std::alloc::Global;
 use support_bits::Support;
 
-/// The signs of the row at the rays, or of the row with all its signs turned.
-fn signs_of(
+/// The step of a row, or of the row with all its signs turned.
+fn oriented_step<'a, C: Compatible>(
     alloc: Global,
+    clashes: &'a Clashes<C>,
     row: &SparseRow,
     is_turned: bool,
-    kepts: &[Kept],
-) -> Result<Vec<Sign>, StepFault>
-    requires in_range { All (λ kept. IsInRange (length kept.ray) row.now) kepts.now }
-    ensures { IfOk result (λ signs. AreSigns MAX_ENTRY (oriented is_turned row.now) (rays_of kepts.now) signs.items) }
+    kepts: Vec<Kept>,
+    most: u64,
+) -> Result<Step<'a, C>, StepFault>
+    requires rays { AreStepRays clashes.now.columns most clashes.now.pairs kepts.items }
+    requires in_range { IsInRange clashes.now.columns row.now }
+    ensures { IfOk result (IsStepOf MAX_ENTRY clashes.now (oriented is_turned row.now) (rays_of kepts.items)) }
 {
-    let signs = signs_at(alloc, row, kepts, MAX_ENTRY)?;
+    let step = Step::of(alloc, clashes, row, kepts, most, MAX_ENTRY)?;
     if !is_turned {
-        return Ok(signs);
+        return Ok(step);
     }
-    let turned = turned_signs(alloc, &signs)?;
+    let (turned, _signs) = step.turned(alloc)?;
     Ok(turned)
 }
 
@@ -97,28 +97,24 @@ fn raise_all(
     Ok(())
 }
 
-/// The vertex surfaces of one row more that has a fresh column, in any order. The union of a pair has at most so many columns.
-pub fn raised_rays<F: Fn(&Support, &Support) -> bool>(
+/// The vertex surfaces of one row more that has a fresh column, in any order. The union of a pair has at most `most` columns.
+pub fn raised_rays<C: Compatible>(
     alloc: Global,
-    permit: &Permit<F>,
-    partners: &[Support],
+    clashes: &Clashes<C>,
     row: &SparseRow,
     fresh: Fresh,
     kepts: Vec<Kept>,
     most: u64,
 ) -> Result<Vec<Kept>, StepFault>
-    requires decides { DecidesClashes permit.now.columns permit.now.clashes.items (F.pre permit.now.test) (F.post permit.now.test) }
-    requires partners { ArePartners permit.now.columns permit.now.clashes.items partners.now }
-    requires widths { AreOfWidth permit.now.columns kepts.items }
-    requires in_range { IsInRange permit.now.columns row.now }
-    requires small { HaveSmallUnions permit.now.columns most permit.now.clashes.items (rays_of kepts.items) }
-    requires singles { MakeSinglesPairs permit.now.clashes.items (rays_of kepts.items) }
-    requires column { fresh.column < permit.now.columns }
+    requires rays { AreStepRays clashes.now.columns most clashes.now.pairs kepts.items }
+    requires in_range { IsInRange clashes.now.columns row.now }
+    requires column { fresh.column < clashes.now.columns }
     requires room { All (HasRoom fresh.column) kepts.items }
-    ensures { IfOk result (λ next. AreRaised MAX_ENTRY permit.now.clashes.items (oriented fresh.is_turned row.now) fresh.column (rays_of kepts.items) (rays_of next.items)) }
+    ensures { IfOk result (λ next. AreRaised MAX_ENTRY clashes.now.pairs (oriented fresh.is_turned row.now) fresh.column (rays_of kepts.items) (rays_of next.items)) }
 {
-    let signs = signs_of(alloc, row, fresh.is_turned, &kepts)?;
-    let mut next = made_rays(alloc, permit, partners, &kepts, &signs, most)?;
-    raise_all(alloc, kepts, &signs, fresh.column, &mut next)?;
+    let step = oriented_step(alloc, clashes, row, fresh.is_turned, kepts, most)?;
+    let parts = step.combined_by_fewer(alloc)?;
+    let mut next = parts.made;
+    raise_all(alloc, parts.kepts, &parts.signs, fresh.column, &mut next)?;
     Ok(next)
 }

@@ -9,7 +9,7 @@ use Rattle.support_bits.specs.Words.{bit_of, AreWordsOf}
 use Rattle.surface_definitions.specs.Coordinates.{columns, columns_each, triangles_each, is_octagon, is_quad_or_octagon, clash_test, clash_list}
 use Rattle.surface_definitions.specs.declared.Coords.{Coords}
 use Rattle.surface_definitions.specs.declared.Coords.TheVariants.{Standard, Quad, Octagon}
-use Rattle.double_description.specs.Clashes.{AreClashes, IsInUnion, IsClashFree}
+use Rattle.ray_steps.specs.Clashes.{AreClashes, IsInUnion, IsClashFree}
 use Rattle.coordinate_laws.specs.ClashPairs.{is_clash}
 use Rattle.quad_condition.specs.Partners.{partners}
 use Rattle.quad_condition.specs.Bits.{IsOfEither, IsMarkedIn, HasTwo}

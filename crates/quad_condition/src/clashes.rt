@@ -4,7 +4,7 @@ ghost use Rattle.std.specs.Prelude.{◌≡◌, ℕ, ◌+◌, ◌<◌, ◌≤◌,
 ghost use Rattle.table_definitions.specs.Table.{max_tets};
 ghost use Rattle.surface_definitions.specs.Coordinates as coordinates;
 ghost use Rattle.surface_definitions.specs.Verdict.{both_nonzero};
-ghost use Rattle.double_description.specs.Clashes.{AreClashes};
+ghost use Rattle.ray_steps.specs.Clashes.{AreClashes};
 ghost use Rattle.quad_condition.specs.Partners.{partners};
 
 use no_memory::NoMemory;

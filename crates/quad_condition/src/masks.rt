@@ -4,7 +4,7 @@ ghost use Rattle.std.specs.Prelude.{◌≡◌, ℕ, ◌+◌, ◌<◌, ◌≤◌,
 ghost use Rattle.std.specs.declared.alloc.Global.{Global};
 ghost use Rattle.table_definitions.specs.Table.{max_tets};
 ghost use Rattle.surface_definitions.specs.Coordinates as coordinates;
-ghost use Rattle.double_description.specs.Clashes.{IsClashFree};
+ghost use Rattle.ray_steps.specs.Clashes.{IsClashFree};
 ghost use Rattle.quad_condition.specs.Marks as marks;
 ghost use Rattle.quad_condition.specs.Marks.{AreMarks, AreNear, HasNear};
 

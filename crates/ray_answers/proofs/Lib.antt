@@ -1,3 +1,1 @@
-pub mod ListLemmas
-pub mod RowOrderLemmas
-pub mod FourLemmas
+pub mod Bounded

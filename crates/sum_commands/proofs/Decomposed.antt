@@ -19,7 +19,8 @@ use Rattle.surface_definitions.specs.Grammar.{IsVectorLine}
 use Rattle.surface_definitions.specs.QuadEquations.{AreEquations}
 use Rattle.surface_definitions.specs.TableSurfaces.{table_enumeration}
 use Rattle.surface_definitions.proofs.VerdictLaws.{accepted_by}
-use Rattle.surface_list.specs.Surfaces.{AreTableSurfaces, IsTableRefused, IsOnlyListing}
+use Rattle.surface_list.specs.Surfaces.{AreTableSurfaces, IsTableRefused}
+use Rattle.bounded_list.specs.Lists.{IsOnlyListing}
 use Rattle.sum_definitions.specs.Sums.{HasRays}
 use Rattle.sum_laws.proofs.Surfaces.{surfaces_are_rays_lem}
 use Rattle.document_definitions.specs.Documents.{vectors_document}

@@ -4,10 +4,10 @@ ghost use Rattle.std.specs.List.{flat_map};
 ghost use Rattle.document_definitions.specs.Blocks as blocks;
 
 use no_memory::NoMemory;
-use ray_answers::{write_entries, write_vector};
 use ray_decompose::{Sum, Term};
 use std::alloc::Global;
 use text_io::{append, append_decimal};
+use vector_text::{write_entries, write_vector};
 
 // A line `times S T`.
 fn append_times(alloc: Global, out: &mut Vec<u8>, times: u128, count: usize) -> Result<(), NoMemory>

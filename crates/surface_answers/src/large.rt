@@ -6,9 +6,9 @@ use command_answers::Outcome;
 use double_description::LargeKind;
 use no_memory::NoMemory;
 use outcome_definitions::Status;
-use ray_answers::write_entries;
 use std::alloc::Global;
 use text_io::{append, append_decimal};
+use vector_text::write_entries;
 
 // A ray or a pair of rays.
 fn append_kind(alloc: Global, text: &mut Vec<u8>, kind: &LargeKind) -> Result<(), NoMemory>

@@ -1,5 +1,5 @@
 -- What an enumeration of a table's surfaces gives, the rows taken in a named order.
-use Rattle.std.specs.Prelude.{◌≡◌, ℕ, List}
+use Rattle.std.specs.Prelude.{ℕ, List}
 use Rattle.no_memory.specs.declared.Failure.{Failure}
 use Rattle.no_memory.specs.Failures.{IfFault}
 use Rattle.table_definitions.specs.Table.{Row}
@@ -7,16 +7,10 @@ use Rattle.surface_definitions.specs.declared.Coords.{Coords}
 use Rattle.surface_definitions.specs.QuadEquations.{AreEquations}
 use Rattle.surface_definitions.specs.TableSurfaces.{table_enumeration}
 use Rattle.cone_definitions.specs.Rows.{Row as EquationRow}
-use Rattle.cone_definitions.specs.Surfaces.{IsSurfaceList}
-use Rattle.cone_definitions.specs.Listings.{Enumeration, IsListed, IsPastLimit}
+use Rattle.cone_definitions.specs.Listings.{IsPastLimit}
 use Rattle.cone_definitions.specs.declared.Order.{Order}
 use Rattle.double_description.specs.declared.engine.LargeStep.{LargeStep}
-
--- the surface list, which is the only one, its rows taken in the order's own order
-pub record IsOnlyListing (e : Enumeration) (list : List (List ℕ)) : Type 0 where
-  pub taken : List ℕ
-  pub listed : IsListed e taken list
-  pub only : (others : List (List ℕ)) → IsSurfaceList e.system.columns e.system.rows e.pairs others → others ≡ list
+use Rattle.bounded_list.specs.Lists.{IsOnlyListing}
 
 -- the surface list of a table's equations
 abbrev pub AreTableSurfaces : ℕ → Coords → List Row → Order → List (List ℕ) → Type 0

@@ -7,4 +7,4 @@ mod of_skeleton;
 
 pub use listed::{surfaces_by, surfaces_of_table};
 pub use of_skeleton::surfaces;
-pub use ray_answers::write_list;
+pub use vector_text::write_list;

@@ -12,12 +12,12 @@ ghost use Rattle.vector_commands.specs.Describing.{AreSmall};
 use command_answers::yes_or_no;
 use matching_equations::Coords;
 use no_memory::NoMemory;
-use ray_answers::write_vector;
 use skeleton::Skeleton;
 use std::alloc::Global;
 use surface_pieces::Pieces;
 use surface_properties::{Properties, properties_of};
 use text_io::{append, append_decimal};
+use vector_text::write_vector;
 
 fn sides(two_sided: bool) -> &'static [u8]
     ensures { result.now ≡ texts.sides_word two_sided }

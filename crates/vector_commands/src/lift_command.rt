@@ -22,11 +22,11 @@ use matching_equations::{Coords, quad_equations};
 use no_memory::{Failure, NoMemory};
 use outcome_definitions::Status;
 use quad_lift::lift as lift_of;
-use ray_answers::write_vector;
 use skeleton::Skeleton;
 use std::alloc::Global;
 use surface_answers::check;
 use vector_definitions::{LiftFault, Refusal};
+use vector_text::write_vector;
 
 // The lift of a vector that is an admissible solution.
 fn lift_fit(

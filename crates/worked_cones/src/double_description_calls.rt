@@ -1,6 +1,6 @@
 ghost use Rattle.std.specs.Prelude.{◌≡◌, ◌≢◌, ◌+◌, ◌<◌, ◌≤◌, ◌↔◌, length, IsTrue};
 ghost use Rattle.text_definitions.specs.Text.{max_text};
-ghost use Rattle.double_description.specs.Clashes.{AreClashes, IsClashFree, IsInUnion};
+ghost use Rattle.ray_steps.specs.Clashes.{AreClashes, IsClashFree, IsInUnion};
 ghost use Rattle.double_description.specs.Orders.{ChoosesBy};
 
 use crate::sample_cones::{are_rays, cone};

@@ -3,24 +3,20 @@ ghost use Rattle.text_definitions.specs.Text.{max_text};
 
 use crate::sample_cones::{are_rays, cone};
 use cone_core::Ray;
-use double_description::Permit;
 use late_columns::vertex_surfaces;
+use ray_steps::{Clashes, NoClash};
 use std::alloc::Global;
 use std::process::Abort;
 use std::test::Fail;
-use support_bits::Support;
 
 // Without clashing pairs.
 fn rays_of(rt: &impl Abort, alloc: Global, text: &[u8]) -> Result<Option<Vec<Ray>>, Fail>
     requires text { length text.now ≤ max_text }
 {
     let system = cone(rt, alloc, text)?;
-    let permit = Permit::new(
-        Vec::new(alloc),
-        system.columns(),
-        |_: &Support, _: &Support| true,
-    );
-    let rays = vertex_surfaces(alloc, &system, &permit)?;
+    let columns = system.columns();
+    let clashes = Clashes::new(alloc, NoClash { columns })?;
+    let rays = vertex_surfaces(alloc, &system, &clashes)?;
     Ok(rays)
 }
 

@@ -1,8 +1,9 @@
 use cone_core::{MAX_ENTRY, Ray, read_cone};
 use double_description::Order;
-use ray_answers::{rays, write_entries, write_list, write_vector};
+use ray_answers::rays;
 use std::test::Fail;
 use text_io::Lexer;
+use vector_text::{write_entries, write_list, write_vector};
 
 #[test]
 fn writes_the_rays_of_a_cone(rt: HostRuntime) -> Result<(), Fail> {
@@ -12,7 +13,7 @@ fn writes_the_rays_of_a_cone(rt: HostRuntime) -> Result<(), Fail> {
     let system = read_cone(alloc, &mut lexer).ok().ok_or("no cone")?;
     let mut out = Vec::from_slice(alloc, b"# rays 2\n")?;
     match rays(alloc, &system, Order::Given, MAX_ENTRY) {
-        Ok(found) => write_list(alloc, &found.list, &mut out)?,
+        Ok(found) => write_list(alloc, &found, &mut out)?,
         Err(_) => panic!(rt; "a list was expected"),
     }
     assert_eq!(rt;

@@ -1,8 +1,8 @@
 use Rattle.std.proofs.Common.{subst, sym}
 use Rattle.std.proofs.lemmas.List.Sorted.{IsPermutation-map}
 use Rattle.cone_definitions.specs.Surfaces.{IsSurfaceList}
-use Rattle.double_description.specs.declared.kept.Kept.{Kept}
-use Rattle.double_description.specs.Kepts.{rays_of}
+use Rattle.ray_steps.specs.declared.kept.Kept.{Kept}
+use Rattle.ray_steps.specs.Kepts.{rays_of}
 use Rattle.late_columns.proofs.SortedSurfaces.{sorted_surfaces}
 use Rattle.late_columns.proofs.engine.ascending.Goals as goal
 

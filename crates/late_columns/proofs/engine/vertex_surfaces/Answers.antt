@@ -4,5 +4,5 @@ use Rattle.late_columns.proofs.engine.vertex_surfaces.Goals as goal
 
 pub returns-in-Ok : goal.returns-in-Ok
 returns-in-Ok g c =
-    subst (λ columns. IsSurfaceList columns c.args.system.now.rows c.args.permit.now.clashes.items c.in_ok-rays-in-Ok.rays.items) c.requires.columns
-    (c.in_ok-rays-in-Ok.ensures c.args.permit.now.columns c.args.system.now.rows c.args.permit.now.clashes.items c.in-Ok.ensures)
+    subst (λ columns. IsSurfaceList columns c.args.system.now.rows c.args.clashes.now.pairs c.in_ok-rays-in-Ok.rays.items) c.requires.columns
+    (c.in_ok-rays-in-Ok.ensures c.args.clashes.now.columns c.args.system.now.rows c.args.clashes.now.pairs c.in-Ok.ensures)

@@ -1,6 +1,6 @@
 use Rattle.std.proofs.Common.{◌++◌, ◌∷◌, [], ap, refl, ◌∙◌}
-use Rattle.double_description.specs.Kepts.{rays_of}
-use Rattle.double_description.proofs.KeptLemmas.{rays_of-push}
+use Rattle.ray_steps.specs.Kepts.{rays_of}
+use Rattle.ray_steps.proofs.KeptLemmas.{rays_of-push}
 use Rattle.late_columns.proofs.Entered.{entered_one}
 use Rattle.late_columns.proofs.entering.enter.Goals as goal
 

@@ -1,6 +1,6 @@
 use Rattle.std.proofs.Common.{◌≡◌, ◌++◌, [], false, replicate, length, slice_index_or, true, subst₂, sym, ap, ◌∙◌, rules}
 use Rattle.std.proofs.lemmas.List.{length-replicate}
-use Rattle.double_description.specs.Kepts.{rays_of}
+use Rattle.ray_steps.specs.Kepts.{rays_of}
 use Rattle.cone_definitions.specs.Unordered.{HasSurfaces}
 use Rattle.late_columns.specs.Late.{held_rows}
 use Rattle.late_columns.proofs.UnitRays.{no_surfaces, untouched_none, unseen_within}

@@ -1,11 +1,11 @@
 use Rattle.std.proofs.Common.{◌≡◌, length, get_or, subst, sym, ap, ◌∙◌, refl, arith, rules}
 use Rattle.std.proofs.lemmas.List.{take_all}
 use Rattle.cone_core.specs.declared.numbers.TheConstants.{MAX_ENTRY}
-use Rattle.double_description.specs.Kepts.{rays_of}
-use Rattle.double_description.specs.Signs.{IsMadeUpTo}
-use Rattle.double_description.specs.declared.signs.Sign.TheVariants.{Zero}
-use Rattle.double_description.proofs.KeptLemmas.{length-rays_of, ray_at-rays_of}
-use Rattle.double_description.proofs.ZeroLemmas.{popped}
+use Rattle.ray_steps.specs.Kepts.{rays_of}
+use Rattle.ray_steps.specs.Signs.{IsMadeUpTo}
+use Rattle.ray_steps.specs.declared.signs.Sign.TheVariants.{Zero}
+use Rattle.ray_steps.proofs.KeptLemmas.{length-rays_of, ray_at-rays_of}
+use Rattle.ray_steps.proofs.ZeroLemmas.{popped}
 use Rattle.late_columns.specs.Raised.{HasRoom, AppendsRaised, IsRaisedFrom}
 use Rattle.late_columns.proofs.RaisedLists.{raised_none, raised_one}
 use Rattle.late_columns.proofs.raising.raise_all.Goals as goal

@@ -1,8 +1,8 @@
 use Rattle.std.proofs.Common.{◌≡◌, ◌≤◌, List, length, take, vec_len}
 use Rattle.cone_core.specs.declared.numbers.TheConstants.{MAX_ENTRY}
 use Rattle.cone_definitions.specs.Surfaces.{Clash}
-use Rattle.double_description.specs.Kepts.{rays_of}
-use Rattle.double_description.specs.Signs.{IsMadeUpTo}
+use Rattle.ray_steps.specs.Kepts.{rays_of}
+use Rattle.ray_steps.specs.Signs.{IsMadeUpTo}
 use Rattle.late_columns.specs.Raised.{IsRaisedFrom}
 use Rattle.late_columns.proofs.raising.raise_all.Given as goal
 

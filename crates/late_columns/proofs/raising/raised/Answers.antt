@@ -1,6 +1,6 @@
 use Rattle.std.proofs.Common.{◌≡◌, true, set, subst, sym, ap, ◌∙◌}
 use Rattle.support_bits.specs.Columns.{support_of}
-use Rattle.double_description.proofs.InsertedLemmas.{inserted}
+use Rattle.ray_steps.proofs.InsertedLemmas.{inserted}
 use Rattle.late_columns.proofs.raising.raised.Goals as goal
 
 pub invariant_of-result : goal.invariant_of-result

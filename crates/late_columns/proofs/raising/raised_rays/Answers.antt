@@ -1,43 +1,41 @@
-use Rattle.std.proofs.Common.{All, length, subst, subst₂, sym, ◌∙◌}
+use Rattle.std.proofs.Common.{All, length, subst, subst₂, sym, ap, ◌∙◌}
 use Rattle.cone_core.specs.declared.numbers.TheConstants.{MAX_ENTRY}
-use Rattle.double_description.specs.Kepts.{rays_of}
-use Rattle.double_description.specs.Unions.{HaveSmallUnions, MakeSinglesPairs}
-use Rattle.double_description.specs.Signs.{AreSigns, IsBoundedSign, IsMadeUpTo}
-use Rattle.double_description.proofs.KeptLemmas.{length-rays_of}
-use Rattle.double_description.proofs.StepLemmas.{bounded_signs}
+use Rattle.ray_steps.specs.Kepts.{rays_of}
+use Rattle.ray_steps.specs.Signs.{IsBoundedSign, IsMadeUpTo}
+use Rattle.ray_steps.proofs.StepLemmas.{bounded_signs}
 use Rattle.late_columns.specs.Fresh.{oriented}
 use Rattle.late_columns.specs.Raised.{IsRaisedFrom}
+use Rattle.late_columns.proofs.Oriented.{room_of_rays}
 use Rattle.late_columns.proofs.raising.raised_rays.Goals as goal
 
-pub made_rays-requires-clause-bounded : goal.made_rays-requires-clause-bounded
-made_rays-requires-clause-bounded g c =
-    subst (All (IsBoundedSign MAX_ENTRY)) (sym c.deref-3.ensures.value)
-    (bounded_signs MAX_ENTRY (oriented c.args.fresh.is_turned c.args.row.now) (rays_of c.deref.result.now) c.in_ok-signs.signs.items c.in_ok-signs.ensures)
+pub raise_all-requires-clause-count : goal.raise_all-requires-clause-count
+raise_all-requires-clause-count g c = ap length c.deref.ensures.value ∙ c.in_ok-parts.ensures.count
 
-pub made_rays-requires-clause-small : goal.made_rays-requires-clause-small
-made_rays-requires-clause-small g c =
-    subst (λ xs. HaveSmallUnions c.args.permit.now.columns c.args.most c.args.permit.now.clashes.items (rays_of xs)) (sym c.deref-2.ensures.value) c.requires.small
-
-pub made_rays-requires-clause-singles : goal.made_rays-requires-clause-singles
-made_rays-requires-clause-singles g c =
-    subst (λ xs. MakeSinglesPairs c.args.permit.now.clashes.items (rays_of xs)) (sym c.deref-2.ensures.value) c.requires.singles
+pub raise_all-requires-clause-room : goal.raise_all-requires-clause-room
+raise_all-requires-clause-room g c =
+    room_of_rays c.args.fresh.column c.in_ok-parts.parts.kepts.items c.args.kepts.items (c.in_ok-parts.ensures.rays_are ∙ c.in_ok-step.ensures.rays_are) c.requires.room
 
 pub raise_all-requires-clause-bounded : goal.raise_all-requires-clause-bounded
 raise_all-requires-clause-bounded g c =
-    subst (All (IsBoundedSign MAX_ENTRY)) (sym c.deref-4.ensures.value)
-    (bounded_signs MAX_ENTRY (oriented c.args.fresh.is_turned c.args.row.now) (rays_of c.deref.result.now) c.in_ok-signs.signs.items c.in_ok-signs.ensures)
+    let step = c.in_ok-step.step in
+    subst (All (IsBoundedSign MAX_ENTRY)) (sym (c.deref.ensures.value ∙ c.in_ok-parts.ensures.signs_are))
+    (bounded_signs MAX_ENTRY (oriented c.args.fresh.is_turned c.args.row.now) (rays_of c.args.kepts.items) step.signs c.in_ok-step.ensures.signed)
 
 pub returns : goal.returns
 returns g c =
-    let kepts = c.args.kepts.items in
-    let signs = c.in_ok-signs.signs.items in
-    let pairs = c.args.permit.now.clashes.items in
-    let column = c.args.fresh.column in
-    let signed = subst (λ xs. AreSigns MAX_ENTRY (oriented c.args.fresh.is_turned c.args.row.now) (rays_of xs) signs) c.deref.ensures.value c.in_ok-signs.ensures in
-    let made = subst₂ (λ xs ss. IsMadeUpTo MAX_ENTRY pairs (rays_of xs) ss (length ss) 0 (rays_of c.in_ok-next.next.items)) c.deref-2.ensures.value c.deref-3.ensures.value c.in_ok-next.ensures.made in
-    let all = subst₂ (λ ss n. IsMadeUpTo MAX_ENTRY pairs (rays_of kepts) ss n 0 (rays_of c.in_ok-next.next.items)) (sym c.deref-4.ensures.value) (signed.count ∙ length-rays_of kepts) made in
+    let step = c.in_ok-step.step in
+    let h = c.in_ok-step.ensures in
+    let parts = c.in_ok-parts.parts in
+    let p = c.in_ok-parts.ensures in
+    let kepts = rays_of parts.kepts.items in
+    let made = rays_of parts.made.items in
+    let signs = c.deref.ensures.value ∙ p.signs_are in
+    let before = subst₂ (λ rs ss. IsMadeUpTo step.limit step.pairs rs ss (length parts.kepts.items) 0 made) (sym p.rays_are) (sym signs)
+    (subst (λ n. IsMadeUpTo step.limit step.pairs step.rays step.signs n 0 made) (ap length (sym p.signs_are) ∙ p.count) p.made.made) in
+    let all = subst₂ (λ n ps. IsMadeUpTo n ps kepts c.deref.result.now (length parts.kepts.items) 0 made) h.limit_is h.pairs before in
     record {
-      signs = signs;
-      signed = signed;
-      raised = subst (λ ss. IsRaisedFrom MAX_ENTRY pairs (rays_of kepts) ss column 0 (rays_of c.raise_all.new.next.items)) c.deref-4.ensures.value (c.in_ok-raise_all.ensures pairs all);
+      signs = step.signs;
+      signed = h.signed;
+      raised = subst₂ (λ rs ss. IsRaisedFrom MAX_ENTRY c.args.clashes.now.pairs rs ss c.args.fresh.column 0 (rays_of c.raise_all.new.next.items)) (p.rays_are ∙ h.rays_are) signs
+          (c.in_ok-raise_all.ensures c.args.clashes.now.pairs all);
     }

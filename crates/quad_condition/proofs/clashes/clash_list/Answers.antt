@@ -1,6 +1,6 @@
 use Rattle.std.proofs.Common.{◌≡◌, ap, sym, subst, ◌∙◌, arith}
 use Rattle.surface_definitions.specs.Coordinates.{columns}
-use Rattle.double_description.specs.Clashes.{AreClashes}
+use Rattle.ray_steps.specs.Clashes.{AreClashes}
 use Rattle.quad_condition.proofs.MarkLemmas.{are_clashes}
 use Rattle.quad_condition.proofs.Pairs.{pairs_before, pairs_more, all_pairs}
 use Rattle.quad_condition.proofs.clashes.clash_list.Goals as goal

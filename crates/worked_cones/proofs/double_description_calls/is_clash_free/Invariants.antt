@@ -1,6 +1,6 @@
 -- none of the pairs so far has both columns in the union
 use Rattle.std.proofs.Common.{ℕ, ◌<◌, slice_index_or}
-use Rattle.double_description.specs.Clashes.{IsInUnion}
+use Rattle.ray_steps.specs.Clashes.{IsInUnion}
 use Rattle.worked_cones.proofs.double_description_calls.is_clash_free.Given as goal
 
 abbrev pub invariant-loop-first : goal.invariant-loop-first

@@ -1,5 +1,5 @@
 use Rattle.std.proofs.Common.{◌≡◌, ℕ, zero, suc, [], ◌∷◌, arith}
-use Rattle.double_description.specs.Clashes.{AreClashes}
+use Rattle.ray_steps.specs.Clashes.{AreClashes}
 use Rattle.worked_cones.proofs.double_description_calls.surfaces_are.Goals as goal
 
 quads_clash : (columns : ℕ) → columns ≡ 7 → AreClashes columns ((4, 5) ∷ (4, 6) ∷ (5, 6) ∷ [])

@@ -3,7 +3,7 @@ use Rattle.std.specs.Prelude.{IsTrue, ◌↔◌}
 use Rattle.std.specs.declared.alloc.Global.{Global}
 use Rattle.std.proofs.lemmas.Bool.{false≢true}
 use Rattle.surface_definitions.specs.Coordinates.{clash_list}
-use Rattle.double_description.specs.Clashes.{IsClashFree}
+use Rattle.ray_steps.specs.Clashes.{IsClashFree}
 use Rattle.quad_condition.specs.Bits.{HasTwo}
 use Rattle.quad_condition.specs.Marks.{Masked, HasNear}
 use Rattle.quad_condition.proofs.MarkLemmas.{decides_two, decides_near}

@@ -1,0 +1,111 @@
+// The two ways to a list: from solved rows where all numbers are bounded, or row by row in a named order.
+
+ghost use Rattle.std.specs.Prelude.{◌≡◌, ◌≢◌, ◌≤◌, IsTrue, IfOk, IfErr, IfSome};
+ghost use Rattle.cone_definitions.specs.Listings.{IsListed};
+ghost use Rattle.cone_definitions.specs.Surfaces.{IsSurfaceList};
+ghost use Rattle.bounded_list.specs.Lists.{enumeration_of, AreAlwaysWithin, IsOnlyListing, AreRefused};
+
+use cone_core::{MAX_ENTRY, Ray, System};
+use double_description::{LargeStep, Order, Picker, Rays, choice, eliminate};
+use late_columns::vertex_surfaces;
+use no_memory::{Failure, NoMemory};
+use ray_steps::{Clashes, Compatible};
+use solved_rows::{SolveFault, solve};
+use std::alloc::Global;
+
+/// In which order the rows are taken, the greatest number, and whether no number passes it in any order.
+#[derive(Clone, Copy)]
+pub struct Terms {
+    pub order: Order,
+    pub limit: u128,
+    pub is_bounded: bool,
+}
+
+/// The vertex surfaces of a system whose numbers don't matter, found from its rows solved for the pivots, where blocks have
+/// so many columns each; nothing where a coefficient or a number gets too large.
+fn found<C: Compatible>(
+    alloc: Global,
+    system: &System,
+    clashes: &Clashes<C>,
+    each: u32,
+    pivots: &[u32],
+) -> Result<Option<Vec<Ray>>, NoMemory>
+    requires columns { clashes.now.columns ≡ system.now.columns }
+    ensures { IfOk result (λ answer. IfSome answer (λ list. IsSurfaceList system.now.columns system.now.rows clashes.now.pairs list.items)) }
+{
+    match solve(alloc, system, each, pivots) {
+        Ok(solved) => vertex_surfaces(alloc, &solved, clashes),
+        Err(SolveFault::Passed) => Ok(None),
+        Err(SolveFault::NoMemory) => Err(NoMemory),
+    }
+}
+
+/// The vertex surfaces, by elimination of the rows in a named order.
+fn eliminated<C: Compatible>(
+    alloc: Global,
+    system: &System,
+    clashes: &Clashes<C>,
+    order: Order,
+    limit: u128,
+) -> Result<Rays, Failure<LargeStep>>
+    requires columns { clashes.now.columns ≡ system.now.columns }
+    requires named { order ≢ Order.Free }
+    requires some_limit { 1 ≤ limit }
+    requires most_limit { limit ≤ MAX_ENTRY }
+    ensures ok { IfOk result (λ rays. IsListed (enumeration_of system.now clashes.now.pairs order limit) rays.order.items rays.list.items) }
+    ensures err { IfErr result (AreRefused (enumeration_of system.now clashes.now.pairs order limit)) }
+{
+    let picker = Picker::new(order, |s: &System, rows: &[u32]| choice(order, s, rows));
+    eliminate(alloc, system, clashes, &picker, limit)
+}
+
+/// The list by the quick way where all numbers are bounded, or else in the order.
+fn listed<C: Compatible>(
+    alloc: Global,
+    system: &System,
+    clashes: &Clashes<C>,
+    each: u32,
+    pivots: &[u32],
+    terms: Terms,
+) -> Result<Vec<Ray>, Failure<LargeStep>>
+    requires columns { clashes.now.columns ≡ system.now.columns }
+    requires named { terms.order ≢ Order.Free }
+    requires some_limit { 1 ≤ terms.limit }
+    requires most_limit { terms.limit ≤ MAX_ENTRY }
+    requires bounded { IsTrue terms.is_bounded → AreAlwaysWithin terms.limit system.now clashes.now.pairs }
+    ensures ok { IfOk result (λ list. IsOnlyListing (enumeration_of system.now clashes.now.pairs terms.order terms.limit) list.items) }
+    ensures err { IfErr result (AreRefused (enumeration_of system.now clashes.now.pairs terms.order terms.limit)) }
+{
+    // Where no number can pass the limit, it doesn't matter how the list was found.
+    if terms.is_bounded
+        && let Some(known) = found(alloc, system, clashes, each, pivots)?
+    {
+        return Ok(known);
+    }
+    let rays = eliminated(alloc, system, clashes, terms.order, terms.limit)?;
+    let Rays { list, order: _ } = rays;
+    Ok(list)
+}
+
+/// All vertex surfaces of a system, strictly ascending, its rows taken in a named order; refused exactly where a number of a
+/// step passes the limit. The pivots are the columns that rows may be solved for, in blocks of so many columns each.
+pub fn vertex_list<C: Compatible>(
+    alloc: Global,
+    system: &System,
+    test: C,
+    each: u32,
+    pivots: &[u32],
+    terms: Terms,
+) -> Result<Vec<Ray>, Failure<LargeStep>>
+    requires columns { C.width test ≡ system.now.columns }
+    requires decides { C.decides test }
+    requires named { terms.order ≢ Order.Free }
+    requires some_limit { 1 ≤ terms.limit }
+    requires most_limit { terms.limit ≤ MAX_ENTRY }
+    requires bounded { IsTrue terms.is_bounded → AreAlwaysWithin terms.limit system.now (C.clashing test) }
+    ensures ok { IfOk result (λ list. IsOnlyListing (enumeration_of system.now (C.clashing test) terms.order terms.limit) list.items) }
+    ensures err { IfErr result (AreRefused (enumeration_of system.now (C.clashing test) terms.order terms.limit)) }
+{
+    let clashes = Clashes::new(alloc, test)?;
+    listed(alloc, system, &clashes, each, pivots, terms)
+}

@@ -1,7 +1,0 @@
--- the lines so far are written behind the text
-use Rattle.std.proofs.Common.{◌≡◌, ◌++◌, take}
-use Rattle.cone_text_definitions.specs.VectorText.{list_text}
-use Rattle.ray_answers.proofs.text.lines_behind.Given as goal
-
-abbrev pub invariant-loop-ray : goal.invariant-loop-ray
-invariant-loop-ray l = l.text.items ≡ l.front ++ list_text (take l.ray-index l.list)

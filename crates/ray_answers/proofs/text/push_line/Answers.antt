@@ -1,8 +1,0 @@
--- The word, the entries and the line's end are the line.
-use Rattle.std.proofs.Common.{◌∙◌}
-use Rattle.ray_answers.proofs.ListLemmas.{vector_line}
-use Rattle.ray_answers.proofs.text.push_line.Goals as goal
-
-pub returns : goal.returns
-returns c =
-    c.in_ok-append-2.ensures.ok ∙ vector_line c.args.text.now.items c.append.new.out.items c.push_entries.new.text.items c.args.x.now c.in_ok-append.ensures.ok c.in_ok-push_entries.ensures

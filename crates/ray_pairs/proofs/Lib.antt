@@ -1,3 +1,0 @@
-pub mod TurnedLemmas
-pub mod JoinLemmas
-pub mod PartnerLemmas

@@ -1,0 +1,57 @@
+-- Lemmas on the negative rays that are far from a positive one.
+use Rattle.std.proofs.Common.{◌≡◌, ℕ, ◌<◌, ◌≤◌, ◌↔◌, ⊎_elim, List, Bool, length, get_or, [], subst, sym, ◌∙◌, arith}
+use Rattle.cone_definitions.specs.Surfaces.{Clash}
+use Rattle.support_bits.specs.Columns.{support_of, Meets}
+use Rattle.support_bits.specs.Words.{AreWordsOf, HaveCommon}
+use Rattle.support_table.specs.Joins.{AreJoinedTo}
+use Rattle.ray_steps.specs.declared.negatives.Negatives.{Negatives}
+use Rattle.ray_steps.specs.declared.signs.Sign.{Sign}
+use Rattle.cone_definitions.specs.Vectors.{ray_at}
+use Rattle.ray_steps.specs.Signs.{IsFacePair}
+use Rattle.ray_steps.specs.declared.kept.Kept.{Kept}
+use Rattle.ray_steps.specs.Kepts.{rays_of, AreOfWidth}
+use Rattle.ray_steps.specs.Unions.{HaveSmallUnions}
+use Rattle.ray_steps.specs.Negatives.{AreNegatives, IsFar, IsFirstNear}
+use Rattle.ray_steps.proofs.KeptLemmas.{length-rays_of, ray_width}
+use Rattle.ray_steps.proofs.RivalLemmas.{support_read, support_of_rival, count_of_rivals, not_face_clash}
+use Rattle.ray_steps.proofs.PlaceLemmas.{HaveTaken, taken_to}
+use Rattle.ray_steps.proofs.UnionLemmas.{not_face_large}
+
+-- words have a common bit where their supports have a common column
+pub common_iff : (s t : List Bool) (words other : List ℕ) → AreWordsOf s words → AreWordsOf t other → HaveCommon words other ↔ Meets s t
+common_iff s t words other of_s of_t = (
+  λ h. (h.0, sym (of_s.bits h.0) ∙ h.1, sym (of_t.bits h.0) ∙ h.2),
+  λ h. (h.0, of_s.bits h.0 ∙ h.1, of_t.bits h.0 ∙ h.2),
+)
+
+-- a far ray makes no pair
+pub not_face_far : (pairs : List Clash) (rays : List (List ℕ)) (signs : List Sign) (i columns most k : ℕ) (joined : List Bool) (negatives : Negatives) (a : List Bool) →
+    AreJoinedTo pairs (support_of (ray_at rays i)) joined → HaveSmallUnions columns most pairs rays → AreNegatives rays signs columns negatives → length signs ≡ length rays →
+    i < length rays → length (ray_at rays i) ≡ columns → a ≡ support_of (ray_at rays i) → k < length negatives.places.items →
+    IsFar a joined most (get_or negatives.table.supports k []) → ¬ IsFacePair pairs rays i (get_or negatives.places.items k 0)
+not_face_far pairs rays signs i columns most k joined negatives a h small n count i_in wide a_is within far =
+    let j = get_or negatives.places.items k 0 in
+    let b_is = support_of_rival rays columns negatives.places.items negatives.table k n.table within in
+    let j_in : j < length rays = let less = n.places.in_range k 0 within in omega (arith, count) in
+    ⊎_elim
+    (λ meets. not_face_clash pairs rays i j joined h (subst (λ s. Meets s joined) b_is meets))
+    (λ large. not_face_large columns most pairs rays i j a (get_or negatives.table.supports k []) small i_in j_in a_is b_is wide large)
+    far
+
+-- up to the first ray that isn't far, the pairs are taken
+pub near_taken : (limit : ℕ) (pairs : List Clash) (kepts : List Kept) (signs : List Sign) (i columns most m n : ℕ) (joined : List Bool) (negatives : Negatives) (u : Kept) (made : List (List ℕ)) →
+    AreJoinedTo pairs (support_of (ray_at (rays_of kepts) i)) joined → HaveSmallUnions columns most pairs (rays_of kepts) → AreNegatives (rays_of kepts) signs columns negatives → length signs ≡ length kepts →
+    i < length kepts → AreOfWidth columns kepts → ray_at (rays_of kepts) i ≡ u.ray → IsFirstNear u.support joined most negatives.table.supports m n →
+    HaveTaken limit pairs (rays_of kepts) signs negatives.places.items i m made → (n ≤ length negatives.places.items) × HaveTaken limit pairs (rays_of kepts) signs negatives.places.items i n made
+near_taken limit pairs kepts signs i columns most m n joined negatives u made h small neg count i_in widths read near taken =
+    let rays = rays_of kepts in
+    let places = negatives.places.items in
+    let all = length-rays_of kepts in
+    let same = count_of_rivals rays columns places negatives.table neg.table in
+    let within : n ≤ length places = let w = near.within in omega (arith, same) in (
+      within,
+      taken_to limit pairs rays signs places i m n made neg.places near.least within
+          (λ k low less p. not_face_far pairs rays signs i columns most k joined negatives u.support h small neg (omega (arith, count)) (omega arith)
+          (ray_width kepts i columns i_in widths) (support_read u (ray_at rays i) read) (omega arith) (near.earlier k low less) p.face)
+          taken,
+    )

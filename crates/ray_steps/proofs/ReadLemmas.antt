@@ -1,0 +1,39 @@
+-- What holds at the places that a step reads, over plain values, so that no goal of a long function is searched.
+use Rattle.std.proofs.Common.{◌≡◌, ℕ, ◌+◌, ◌-◌, ◌<◌, ◌≤◌, List, length, get_or, slice_index_or, subst, sym, ◌∙◌, ap, arith}
+use Rattle.std.specs.List.{All}
+use Rattle.support_table.specs.Tables.{Table}
+use Rattle.ray_steps.specs.declared.kept.Kept.{Kept}
+use Rattle.ray_steps.specs.declared.signs.Sign.{Sign}
+use Rattle.ray_steps.specs.declared.signs.Sign.TheVariants.{Zero}
+use Rattle.ray_steps.specs.Kepts.{AreOfWidth}
+use Rattle.ray_steps.specs.Signs.{AreNegativePlaces, IsBoundedSign}
+use Rattle.ray_steps.specs.Rivals.{HasSupportsOf}
+use Rattle.ray_steps.proofs.RivalLemmas.{count_of_rivals}
+
+-- a place that was read from the list of the negative ones
+pub place_within : (signs : List Sign) (places read : List ℕ) (m : ℕ) → AreNegativePlaces signs (length signs) places → read ≡ places → m < length read → get_or read m 0 < length signs
+place_within signs places read m h same less = subst (All (λ place. place < length signs)) (sym same) h.in_range m 0 less
+
+-- it is one of a ray too
+pub place_of_kept : (signs : List Sign) (kepts : List Kept) (places read : List ℕ) (m : ℕ) → length signs ≡ length kepts → AreNegativePlaces signs (length signs) places → read ≡ places → m < length read →
+    get_or read m 0 < length kepts
+place_of_kept signs kepts places read m count h same less = subst (λ n. get_or read m 0 < n) count (place_within signs places read m h same less)
+
+-- the supports go as far as the places
+pub place_next : (rays : List (List ℕ)) (columns : ℕ) (places read : List ℕ) (table : Table) (m : ℕ) → HasSupportsOf rays columns places table → read ≡ places → m < length read → m + 1 ≤ length table.supports
+place_next rays columns places read table m h same less =
+    let n = ap length same in
+    let k = count_of_rivals rays columns places table h in
+    omega arith
+
+-- fewer places are left
+pub fewer_left : (places read : List ℕ) (m n : ℕ) → read ≡ places → m < length read → m + 1 ≤ n → length places - n < length places - m
+fewer_left places read m n same less more = let k = ap length same in omega arith
+
+-- the value of a sign that was read
+pub sign_bounds : (limit : ℕ) (signs : List Sign) (k : ℕ) (sign : Sign) → All (IsBoundedSign limit) signs → k < length signs → slice_index_or signs k Zero ≡ sign → IsBoundedSign limit sign
+sign_bounds limit signs k sign h within is = subst (IsBoundedSign limit) is (h k Zero within)
+
+-- the width of a ray that was read
+pub read_width : (kepts : List Kept) (k columns : ℕ) (kept : Kept) → k < length kepts → kept ≡ get_or kepts k kept → AreOfWidth columns kepts → length kept.ray ≡ columns
+read_width kepts k columns kept within is widths = ap (λ x. length x.ray) is ∙ widths k kept within

@@ -1,0 +1,149 @@
+-- Lemmas on the rays that can lie in the union of one ray and another.
+use Rattle.std.proofs.Common.{◌≡◌, ◌≢◌, ℕ, ◌+◌, ◌<◌, ◌↔◌, inl, inr, ⊎_elim, Bool, true, IsTrue, List, [], ◌∷◌, ◌++◌, Contains, length, get_or, ltb, subst, subst₂, sym, ◌∙◌, ap, arith}
+use Rattle.std.specs.Prelude.{Result, Ok, Err, IfOk}
+use Rattle.std.proofs.lemmas.Bool.{cases_lt, cases_eq}
+use Rattle.std.proofs.lemmas.List.Elements.{All-push, Contains-push, Contains-append_left}
+use Rattle.cone_definitions.specs.Vectors.{IsInsideUnion, ray_at}
+use Rattle.cone_definitions.specs.Surfaces.{Clash, IsAdmissibleUnion}
+use Rattle.cone_definitions.proofs.Decided.{IsFreeOf}
+use Rattle.support_bits.specs.Columns.{support_of, HasColumn, IsInsideUnionOf, Meets}
+use Rattle.std.proofs.lemmas.List.{get_or_default, get_or-map, length-map}
+use Rattle.support_table.specs.Tables.{Table}
+use Rattle.support_table.specs.Joins.{AreJoinedTo}
+use Rattle.ray_steps.specs.declared.kept.Kept.{Kept}
+use Rattle.ray_steps.specs.Signs.{IsFacePair}
+use Rattle.ray_steps.specs.declared.rivals.Rivals.{Rivals}
+use Rattle.ray_steps.specs.Kepts.{rays_of}
+use Rattle.ray_steps.specs.Rivals.{IsApart, AreApart, HasSupportsOf, HaveRivals, AreRivals, IsThirdInside}
+use Rattle.ray_steps.proofs.SupportLemmas.{inside_iff, clash_free_iff}
+use Rattle.ray_steps.specs.Clashes.{IsClashFree}
+use Rattle.support_table.proofs.JoinLemmas.{nonzero_from_column}
+
+-- the support of a ray that was read
+pub support_read : (v : Kept) (x : List ℕ) → x ≡ v.ray → v.support ≡ support_of x
+support_read v x x_is = v.matches ∙ ap support_of (sym x_is)
+
+-- the clashes of two rays that were read
+pub clash_read : (clashes : List Clash) (u w : Kept) (y z : List ℕ) → y ≡ u.ray → z ≡ w.ray → IsClashFree clashes u.support w.support ↔ IsAdmissibleUnion clashes y z
+clash_read clashes u w y z y_is z_is =
+    let i = clash_free_iff clashes u.ray w.ray in (
+      λ h. subst₂ (IsAdmissibleUnion clashes) (sym y_is) (sym z_is) (i.0 (subst₂ (IsClashFree clashes) u.matches w.matches h)),
+      λ h. subst₂ (IsClashFree clashes) (sym u.matches) (sym w.matches) (i.1 (subst₂ (IsAdmissibleUnion clashes) y_is z_is h)),
+    )
+
+-- the support of a ray has the width of a table
+pub width_read : (v : Kept) (x : List ℕ) (columns wide : ℕ) → x ≡ v.ray → length x ≡ columns → wide ≡ columns → length v.support ≡ wide
+width_read v x columns wide x_is x_wide same = ap length (support_read v x x_is) ∙ length-map x (λ entry. ltb 0 entry) ∙ x_wide ∙ sym same
+
+pub meets_from_test : (v : Kept) (x : List ℕ) (columns : List Bool) (test : Bool) → x ≡ v.ray → IsTrue test ↔ Meets v.support columns → test ≡ true → Meets (support_of x) columns
+meets_from_test v x columns test x_is answers is = subst (λ s. Meets s columns) (support_read v x x_is) (answers.0 is)
+
+-- one place more
+pub apart_push : (rays : List (List ℕ)) (columns : List Bool) (n : ℕ) (places : List ℕ) → AreApart rays columns n places → AreApart rays columns (n + 1) (places ++ n ∷ [])
+apart_push rays columns n places h = record {
+  in_range = All-push (λ k. k < n + 1) places n (λ k d within. let less = h.in_range k d within in omega arith) (omega arith);
+  complete = λ k less apart. ⊎_elim
+      (λ old. Contains-append_left places (n ∷ []) k (h.complete k old apart))
+      (λ last. let e : n ≡ k = omega arith in subst (Contains (places ++ n ∷ [])) e (Contains-push places n))
+      (cases_lt k n);
+}
+
+pub apart_skip : (rays : List (List ℕ)) (columns : List Bool) (n : ℕ) (places : List ℕ) → AreApart rays columns n places → ¬ IsApart rays columns n → AreApart rays columns (n + 1) places
+apart_skip rays columns n places h none = record {
+  in_range = λ k d within. let less = h.in_range k d within in omega arith;
+  complete = λ k less apart. ⊎_elim
+      (λ old. h.complete k old apart)
+      (λ last. let e : k ≡ n = omega arith in absurd (none (subst (IsApart rays columns) e apart)))
+      (cases_lt k n);
+}
+
+-- a pair with a column of u and one of a ray inside the union
+holds_pair : (v u w : List ℕ) (column other : ℕ) → IsInsideUnion v u w → HasColumn (support_of v) column → HasColumn (support_of u) other →
+    ¬ IsFreeOf u w (column, other) × ¬ IsFreeOf u w (other, column)
+holds_pair v u w column other inside has_v has_u = (
+  λ free. ⊎_elim at_column at_other free,
+  λ free. ⊎_elim at_other at_column free,
+)
+  where
+    at_column : (get_or u column 0 ≡ 0) × (get_or w column 0 ≡ 0) → ⊥
+    at_column h = nonzero_from_column v column has_v (inside column h.0 h.1)
+
+    at_other : (get_or u other 0 ≡ 0) × (get_or w other 0 ≡ 0) → ⊥
+    at_other h = nonzero_from_column u other has_u h.0
+
+-- a ray inside an admissible union has no column that clashes with one of the first ray
+pub apart_inside : (pairs : List Clash) (v u w : List ℕ) (joined : List Bool) → AreJoinedTo pairs (support_of u) joined → IsAdmissibleUnion pairs u w → IsInsideUnion v u w → ¬ Meets (support_of v) joined
+apart_inside pairs v u w joined joins admissible inside meets =
+    let is = (joins.each meets.0).0 meets.2 in
+    let none = holds_pair v u w meets.0 is.0 inside meets.1 is.1 in
+    ⊎_elim
+    (λ c. none.0 (subst (IsFreeOf u w) c.2 (admissible c.0 (meets.0, is.0) c.1)))
+    (λ c. none.1 (subst (IsFreeOf u w) c.2 (admissible c.0 (is.0, meets.0) c.1)))
+    is.2
+
+-- a pair whose second ray has a column that clashes with one of the first
+pub not_face_clash : (pairs : List Clash) (rays : List (List ℕ)) (i j : ℕ) (joined : List Bool) → AreJoinedTo pairs (support_of (ray_at rays i)) joined → Meets (support_of (ray_at rays j)) joined → ¬ IsFacePair pairs rays i j
+not_face_clash pairs rays i j joined joins meets face =
+    apart_inside pairs (ray_at rays j) (ray_at rays i) (ray_at rays j) joined joins face.no_clash (λ column at_u at_w. at_w) meets
+
+-- the support of a rival
+pub support_of_rival : (rays : List (List ℕ)) (columns : ℕ) (places : List ℕ) (table : Table) (m : ℕ) → HasSupportsOf rays columns places table → m < length places →
+    get_or table.supports m [] ≡ support_of (ray_at rays (get_or places m 0))
+support_of_rival rays columns places table m h within =
+    ap (λ ss. get_or ss m []) h.supports ∙ get_or-map (λ k. support_of (ray_at rays k)) places m 0 [] within
+
+pub count_of_rivals : (rays : List (List ℕ)) (columns : ℕ) (places : List ℕ) (table : Table) → HasSupportsOf rays columns places table → length table.supports ≡ length places
+count_of_rivals rays columns places table h = ap length h.supports ∙ length-map places (λ k. support_of (ray_at rays k))
+
+-- the support of a rival lies inside the union of two exactly where its ray does
+inside_rival : (rays : List (List ℕ)) (i j columns m : ℕ) (places : List ℕ) (table : Table) (a b : List Bool) → HasSupportsOf rays columns places table → m < length places →
+    a ≡ support_of (ray_at rays i) → b ≡ support_of (ray_at rays j) →
+    IsInsideUnionOf (get_or table.supports m []) a b ↔ IsInsideUnion (ray_at rays (get_or places m 0)) (ray_at rays i) (ray_at rays j)
+inside_rival rays i j columns m places table a b h within a_is b_is =
+    rw (support_of_rival rays columns places table m h within, a_is, b_is) (inside_iff (ray_at rays (get_or places m 0)) (ray_at rays i) (ray_at rays j))
+
+-- a pair with a third ray
+pub not_face_third : (pairs : List Clash) (rays : List (List ℕ)) (i j columns m : ℕ) (rivals : Rivals) (a b : List Bool) → AreRivals pairs rays i columns rivals → a ≡ support_of (ray_at rays i) → b ≡ support_of (ray_at rays j) →
+    m < length rivals.places.items → IsThirdInside rivals.places.items rivals.table.supports i j a b m → ¬ IsFacePair pairs rays i j
+not_face_third pairs rays i j columns m rivals a b h a_is b_is within third face =
+    let k = get_or rivals.places.items m 0 in
+    ⊎_elim third.0 third.1
+    (face.no_third k (h.listed.places.in_range m 0 within) ((inside_rival rays i j columns m rivals.places.items rivals.table a b h.listed.table within a_is b_is).0 third.2))
+
+-- where no third rival lies inside, an admissible union makes a pair
+pub face_from_rivals : (pairs : List Clash) (rays : List (List ℕ)) (i j columns : ℕ) (rivals : Rivals) (a b : List Bool) → AreRivals pairs rays i columns rivals → a ≡ support_of (ray_at rays i) → b ≡ support_of (ray_at rays j) →
+    ((m : ℕ) → m < length rivals.places.items → ¬ IsThirdInside rivals.places.items rivals.table.supports i j a b m) →
+    IsAdmissibleUnion pairs (ray_at rays i) (ray_at rays j) → IsFacePair pairs rays i j
+face_from_rivals pairs rays i j columns rivals a b h a_is b_is none admissible = record {
+  no_clash = admissible;
+  no_third = λ k within inside. ⊎_elim
+      (λ first. inl first)
+      (λ other. ⊎_elim (λ second. inr second) (λ third. absurd (not_listed k (h.listed.places.complete k within (apart k inside)) inside other third)) (cases_eq k j))
+      (cases_eq k i);
+}
+  where
+    apart : (k : ℕ) → IsInsideUnion (ray_at rays k) (ray_at rays i) (ray_at rays j) → ¬ Meets (support_of (ray_at rays k)) rivals.joined
+    apart k inside = apart_inside pairs (ray_at rays k) (ray_at rays i) (ray_at rays j) rivals.joined h.joined admissible inside
+
+    not_listed : (k : ℕ) → Contains rivals.places.items k → IsInsideUnion (ray_at rays k) (ray_at rays i) (ray_at rays j) → k ≢ i → k ≢ j → ⊥
+    not_listed k stands inside other third =
+        let at : get_or rivals.places.items stands.0 0 ≡ k = get_or_default rivals.places.items stands.0 0 k stands.1 ∙ stands.2 in
+        none stands.0 stands.1 (
+          (λ e. other (sym at ∙ e)),
+          (λ e. third (sym at ∙ e)),
+          (inside_rival rays i j columns stands.0 rivals.places.items rivals.table a b h.listed.table stands.1 a_is b_is).1
+              (subst (λ n. IsInsideUnion (ray_at rays n) (ray_at rays i) (ray_at rays j)) (sym at) inside),
+        )
+
+-- the same columns clash with the ray at i, so the rivals at hand are its own
+pub rivals_kept : (pairs : List Clash) (kepts : List Kept) (i columns : ℕ) (before : Rivals) (v : Kept) (joined : List Bool) → ray_at (rays_of kepts) i ≡ v.ray → AreJoinedTo pairs v.support joined → joined ≡ before.joined →
+    HaveRivals (rays_of kepts) columns before → AreRivals pairs (rays_of kepts) i columns before
+rivals_kept pairs kepts i columns before v joined read joins same listed = record {
+  joined = subst₂ (AreJoinedTo pairs) (support_read v (ray_at (rays_of kepts) i) read) same joins;
+  listed = listed;
+}
+
+pub rivals_made : {E : Type 0} (pairs : List Clash) (kepts : List Kept) (i columns : ℕ) (v : Kept) (joined : List Bool) (made : Result Rivals E) → ray_at (rays_of kepts) i ≡ v.ray → AreJoinedTo pairs v.support joined →
+    IfOk made (λ rivals. rivals.joined ≡ joined) → IfOk made (HaveRivals (rays_of kepts) columns) → IfOk made (AreRivals pairs (rays_of kepts) i columns)
+rivals_made pairs kepts i columns v joined (Ok rivals) read joins same listed = rivals_kept pairs kepts i columns rivals v joined read joins (sym same) listed
+rivals_made pairs kepts i columns v joined (Err fault) read joins same listed = tt

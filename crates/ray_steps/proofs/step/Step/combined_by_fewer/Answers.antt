@@ -1,0 +1,35 @@
+-- With the signs turned the same pairs are taken.
+use Rattle.std.proofs.Common.{◌≡◌, length, subst, sym, ap, ◌∙◌}
+use Rattle.ray_steps.specs.Kepts.{rays_of, AreOfWidth}
+use Rattle.ray_steps.proofs.KeptLemmas.{length-rays_of}
+use Rattle.ray_steps.proofs.TurnedLemmas.{made-turned}
+use Rattle.ray_steps.specs.Steps.{StepData, AreMadeOf}
+use Rattle.ray_steps.proofs.step.Step.combined_by_fewer.Goals as goal
+
+pub returns-then-has_more_positives : goal.returns-then-has_more_positives
+returns-then-has_more_positives g c =
+    let d = c.args.self in
+    let kepts = c.step.inside.kepts.items in
+    let made = c.in_ok-made.made.items in
+    let turned = c.in_ok-step.ensures.step in
+    let count : length d.signs ≡ length d.rays =
+    subst (λ (s : StepData). length s.signs ≡ length s.rays) c.self.view_is (c.self.invariant.count ∙ sym (length-rays_of c.self.inside.kepts.items)) in
+    let all = subst (λ (s : StepData). AreMadeOf s made) turned c.in_ok-made.ensures.ok in
+    let rays : rays_of kepts ≡ d.rays = ap (λ (s : StepData). s.rays) c.step.view_is ∙ ap (λ (s : StepData). s.rays) turned in
+    record {
+      rays_are = rays;
+      signs_are = c.in_ok-step.ensures.signs;
+      widths = subst (λ n. AreOfWidth n kepts) (ap (λ (s : StepData). s.columns) c.step.view_is ∙ ap (λ (s : StepData). s.columns) turned) c.step.invariant.rays.widths;
+      made = record { made = made-turned d.limit d.pairs d.rays d.signs (rays_of made) count all.made; widths = all.widths };
+      count = ap length c.in_ok-step.ensures.signs ∙ count ∙ ap length (sym rays) ∙ length-rays_of kepts;
+    }
+
+pub returns : goal.returns
+returns g c =
+    record {
+      rays_are = ap (λ (s : StepData). s.rays) c.self.view_is;
+      signs_are = ap (λ (s : StepData). s.signs) c.self.view_is;
+      widths = subst (λ n. AreOfWidth n c.self.inside.kepts.items) (ap (λ (s : StepData). s.columns) c.self.view_is) c.self.invariant.rays.widths;
+      made = c.in_ok-made-2.ensures.ok;
+      count = c.self.invariant.count;
+    }

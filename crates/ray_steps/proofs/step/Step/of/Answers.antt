@@ -1,0 +1,18 @@
+use Rattle.std.proofs.Common.{subst, subst₂, ◌∙◌}
+use Rattle.ray_steps.specs.Kepts.{rays_of}
+use Rattle.ray_steps.specs.Negatives.{AreNegatives}
+use Rattle.ray_steps.specs.Signs.{AreSigns}
+use Rattle.ray_steps.proofs.KeptLemmas.{length-rays_of}
+use Rattle.ray_steps.proofs.StepLemmas.{bounded_signs}
+use Rattle.ray_steps.proofs.step.Step.of.Goals as goal
+
+pub invariant_of-result : goal.invariant_of-result
+invariant_of-result g c =
+    let signs = c.in_ok-signs.signs.items in
+    let signed = subst (λ xs. AreSigns c.args.limit c.args.row.now (rays_of xs) signs) c.deref.ensures.value c.in_ok-signs.ensures.ok in
+    record {
+      rays = c.requires.rays;
+      count = signed.count ∙ length-rays_of c.args.kepts.items;
+      bounded = bounded_signs c.args.limit c.args.row.now (rays_of c.args.kepts.items) signs signed;
+      limit_is = c.requires.limit;
+    }

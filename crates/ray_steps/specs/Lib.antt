@@ -1,0 +1,12 @@
+pub mod Clashes
+pub mod Kepts
+pub mod Signs
+pub mod Turned
+pub mod Faults
+pub mod Rivals
+pub mod Negatives
+pub mod Unions
+pub mod Next
+pub mod Appended
+pub mod Partners
+pub mod Steps

@@ -1,0 +1,84 @@
+-- A step as one value, the facts that hold of its fields, and what its pairs are combined to.
+use Rattle.std.specs.Prelude.{◌≡◌, ℕ, ◌<◌, ◌≤◌, List, length, map, IfSome}
+use Rattle.std.specs.List.{All}
+use Rattle.cone_core.specs.declared.numbers.TheConstants.{MAX_ENTRY}
+use Rattle.cone_definitions.specs.Surfaces.{Clash}
+use Rattle.ray_steps.specs.declared.kept.Kept.{Kept}
+use Rattle.ray_steps.specs.declared.signs.Sign.{Sign}
+use Rattle.ray_steps.specs.Kepts.{rays_of, AreOfWidth}
+use Rattle.ray_steps.specs.Signs.{IsBoundedSign, IsMadeUpTo, AreSigns}
+use Rattle.ray_steps.specs.Rivals.{HaveRivals}
+use Rattle.ray_steps.specs.Faults.{IsFirstLargeSum}
+use Rattle.cone_definitions.specs.Elimination.{Named}
+use Rattle.cone_definitions.specs.Rows.{Row}
+use Rattle.cone_definitions.specs.Vectors.{ray_at}
+use Rattle.support_bits.specs.Columns.{support_of}
+use Rattle.support_table.specs.Joins.{AreJoinedTo}
+use Rattle.ray_steps.specs.Turned.{turned_sign}
+use Rattle.ray_steps.specs.declared.made.Combined.{Combined}
+use Rattle.ray_steps.specs.declared.made.Made.{Made}
+use Rattle.ray_steps.specs.declared.made.Search.{Search}
+use Rattle.ray_steps.specs.Clashes.{ClashData}
+use Rattle.ray_steps.specs.Unions.{HaveSmallUnions, MakeSinglesPairs}
+
+-- what a step is: so many columns, the pairs of them that clash, its rays, a row's sign at each, and the greatest entry
+pub record StepData : Type 0 where
+  pub columns : ℕ
+  pub pairs : List Clash
+  pub rays : List (List ℕ)
+  pub signs : List Sign
+  pub limit : ℕ
+
+-- rays that a step can be made of: each of so many columns, no pair's union with more than so many, single columns make pairs
+pub record AreStepRays (columns most : ℕ) (pairs : List Clash) (kepts : List Kept) : Type 0 where
+  pub widths : AreOfWidth columns kepts
+  pub small : HaveSmallUnions columns most pairs (rays_of kepts)
+  pub singles : MakeSinglesPairs pairs (rays_of kepts)
+
+-- the facts that hold of the fields of a step
+pub record IsStep (columns : ℕ) (pairs : List Clash) (kepts : List Kept) (signs : List Sign) (most limit : ℕ) : Type 0 where
+  pub rays : AreStepRays columns most pairs kepts
+  pub count : length signs ≡ length kepts
+  pub bounded : All (IsBoundedSign limit) signs
+  pub limit_is : limit ≤ MAX_ENTRY
+
+-- what the pairs of the places before i are combined to, and rivals where some are at hand
+pub record AreMadeBelow (step : StepData) (i : ℕ) (made : Made) : Type 0 where
+  pub so_far : IsMadeUpTo step.limit step.pairs step.rays step.signs i 0 (rays_of made.kepts.items)
+  pub widths : AreOfWidth step.columns made.kepts.items
+  pub rivals : IfSome made.rivals (HaveRivals step.rays step.columns)
+
+-- a search for third rays beside the ray at i
+pub record IsSearchAt (step : StepData) (i : ℕ) (search : Search) : Type 0 where
+  pub in_range : i < length step.rays
+  pub joined : AreJoinedTo step.pairs (support_of (ray_at step.rays i)) search.joined
+  pub rivals : IfSome search.rivals (HaveRivals step.rays step.columns)
+
+-- what all pairs of a step are combined to
+pub record AreMadeOf (step : StepData) (kepts : List Kept) : Type 0 where
+  pub made : IsMadeUpTo step.limit step.pairs step.rays step.signs (length step.signs) 0 (rays_of kepts)
+  pub widths : AreOfWidth step.columns kepts
+
+-- the pair of a step is named, the first whose combination has an entry past the limit
+abbrev pub IsFirstLargeOf : StepData → Named → Type 0
+IsFirstLargeOf step = IsFirstLargeSum step.limit step.pairs step.rays step.signs
+
+-- the step of a row at rays, under what clashes
+pub record IsStepOf (limit : ℕ) (clashes : ClashData) (row : Row) (rays : List (List ℕ)) (step : StepData) : Type 0 where
+  pub columns : step.columns ≡ clashes.columns
+  pub pairs : step.pairs ≡ clashes.pairs
+  pub rays_are : step.rays ≡ rays
+  pub limit_is : step.limit ≡ limit
+  pub signed : AreSigns limit row rays step.signs
+
+-- the step of the row with all signs turned
+abbrev pub turned_step : StepData → StepData
+turned_step step = record { columns = step.columns; pairs = step.pairs; rays = step.rays; signs = map turned_sign step.signs; limit = step.limit }
+
+-- the rays and the signs of a step, and what all its pairs are combined to
+pub record AreCombinedOf (step : StepData) (parts : Combined) : Type 0 where
+  pub rays_are : rays_of parts.kepts.items ≡ step.rays
+  pub signs_are : parts.signs.items ≡ step.signs
+  pub widths : AreOfWidth step.columns parts.kepts.items
+  pub made : AreMadeOf step parts.made.items
+  pub count : length parts.signs.items ≡ length parts.kepts.items

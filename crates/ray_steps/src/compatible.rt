@@ -1,0 +1,102 @@
+// Which columns go together: a test that a step asks, and for each column those that clash with it.
+
+ghost use Rattle.std.specs.Prelude.{◌≡◌, ℕ, ◌↔◌, List, length, IsTrue, IfOk};
+ghost use Rattle.cone_definitions.specs.Surfaces.{Clash};
+ghost use Rattle.ray_steps.specs.Clashes.{AreClashes, IsClashFree};
+ghost use Rattle.support_table.specs.Joins.{AreJoinedTo};
+
+use crate::partners::{joined_by, partners_of};
+use no_memory::NoMemory;
+use std::alloc::Global;
+use std::marker::Model;
+use support_bits::Support;
+
+/// A test whether the union of two supports is free of clashing pairs, which names these pairs.
+pub trait Compatible: Drop {
+    /// How many columns there are.
+    ghost width: { Self → ℕ };
+
+    /// The pairs of columns that clash.
+    ghost clashing: { Self → List Clash };
+
+    /// What has to hold of a test for it to be asked.
+    ghost decides: { Self → Type 0 };
+
+    /// How many columns there are.
+    fn columns(&self) -> u32
+        ensures { result ≡ width self.now };
+
+    /// The pairs of columns that clash.
+    fn pairs(&self) -> &[(u32, u32)]
+        ensures pairs { result.now ≡ clashing self.now }
+        ensures different { AreClashes (width self.now) result.now };
+
+    /// Whether the union of two supports holds no clashing pair.
+    fn allows(&self, a: &Support, b: &Support) -> bool
+        requires decides { decides self.now }
+        requires first { length a.now ≡ width self.now }
+        requires second { length b.now ≡ width self.now }
+        ensures { IsTrue result ↔ IsClashFree (clashing self.now) a.now b.now };
+}
+
+/// A test beside the partners of each column: the columns that clash with it.
+#[derive(Drop)]
+pub struct Clashes<C: Compatible> {
+    test: C,
+    partners: Vec<Support>,
+}
+
+impl<C: Compatible> Model for Clashes<C> {
+    ghost use Rattle.ray_steps.specs.Partners.{ArePartners};
+    ghost use Rattle.ray_steps.specs.Clashes.{ClashData};
+
+    ghost Value = { ClashData };
+
+    ghost view = { λ c. record { columns = C.width c.test; pairs = C.clashing c.test } };
+
+    ghost invariant = { λ c. ArePartners (C.width c.test) (C.clashing c.test) c.partners.items × C.decides c.test };
+}
+
+impl<C: Compatible> Clashes<C> {
+    /// A test beside its partners.
+    pub fn new(alloc: Global, test: C) -> Result<Clashes<C>, NoMemory>
+        requires { C.decides test }
+        ensures columns { IfOk result (λ clashes. clashes.columns ≡ C.width test) }
+        ensures pairs { IfOk result (λ clashes. clashes.pairs ≡ C.clashing test) }
+    {
+        let partners = partners_of(alloc, test.pairs(), test.columns())?;
+        Ok(Clashes { test, partners })
+    }
+
+    /// How many columns there are.
+    pub fn columns(&self) -> u32
+        ensures { result ≡ self.now.columns }
+    {
+        self.test.columns()
+    }
+
+    /// The pairs of columns that clash.
+    pub fn pairs(&self) -> &[(u32, u32)]
+        ensures pairs { result.now ≡ self.now.pairs }
+        ensures different { AreClashes self.now.columns self.now.pairs }
+    {
+        self.test.pairs()
+    }
+
+    /// Whether the union of two supports holds no clashing pair.
+    pub fn allows(&self, a: &Support, b: &Support) -> bool
+        requires first { length a.now ≡ self.now.columns }
+        requires second { length b.now ≡ self.now.columns }
+        ensures { IsTrue result ↔ IsClashFree self.now.pairs a.now b.now }
+    {
+        self.test.allows(a, b)
+    }
+
+    /// The columns that clash with one of a support.
+    pub fn joined(&self, alloc: Global, support: &Support) -> Result<Support, NoMemory>
+        requires { length support.now ≡ self.now.columns }
+        ensures { IfOk result (AreJoinedTo self.now.pairs support.now) }
+    {
+        joined_by(alloc, &self.partners, support)
+    }
+}

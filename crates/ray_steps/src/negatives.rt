@@ -1,0 +1,85 @@
+// The negative rays of a step, and the search among them for one that a positive ray can make a pair with.
+
+ghost use Rattle.std.specs.Prelude.{◌≡◌, ◌<◌, ◌≤◌, ◌↔◌, [], length, IsTrue, IfOk, slice_index_or};
+ghost use Rattle.ray_steps.specs.Kepts.{rays_of, AreOfWidth};
+ghost use Rattle.ray_steps.specs.Signs.{AreNegativePlaces};
+ghost use Rattle.ray_steps.specs.Negatives.{AreNegatives, IsFar, IsFirstNear};
+
+use crate::kept::Kept;
+use crate::rivals::supports_at;
+use crate::signs::{Sign, is_negative};
+use no_memory::NoMemory;
+use std::alloc::Global;
+use support_bits::{Support, have_common};
+use support_table::{SupportTable, union_count};
+
+/// The places of the negative rays, ascending, with their supports.
+#[derive(Drop)]
+pub struct Negatives {
+    pub places: Vec<usize>,
+    pub table: SupportTable,
+}
+
+/// The places with a negative sign, ascending.
+fn negative_places(alloc: Global, signs: &[Sign]) -> Result<Vec<usize>, NoMemory>
+    ensures { IfOk result (λ places. AreNegativePlaces signs.now (length signs.now) places.items) }
+{
+    let mut places = Vec::new(alloc);
+    for (place, sign) in signs.iter().enumerate() {
+        if is_negative(*sign) {
+            places.push(place)?;
+        }
+    }
+    Ok(places)
+}
+
+/// The negative rays, with their supports.
+pub fn negatives_of(
+    alloc: Global,
+    kepts: &[Kept],
+    signs: &[Sign],
+    columns: u32,
+) -> Result<Negatives, NoMemory>
+    requires count { length signs.now ≡ length kepts.now }
+    requires widths { AreOfWidth columns kepts.now }
+    ensures { IfOk result (AreNegatives (rays_of kepts.now) signs.now columns) }
+{
+    let places = negative_places(alloc, signs)?;
+    let table = supports_at(alloc, kepts, columns, &places)?;
+    Ok(Negatives { places, table })
+}
+
+/// Whether the support at a place has one of some columns, or together with `a` more than so many.
+fn is_far(table: &SupportTable, place: usize, a: &Support, joined: &Support, most: u64) -> bool
+    requires in_range { place < length table.now.supports }
+    requires first { length a.now ≡ table.now.columns }
+    requires second { length joined.now ≡ table.now.columns }
+    ensures { IsTrue result ↔ IsFar a.now joined.now most (slice_index_or table.now.supports place []) }
+{
+    let _columns = a.columns();
+    let words = table.words_at(place);
+    have_common(words, joined.words()) || union_count(a.words(), words) > most
+}
+
+/// The least place from `start` on whose support isn't far from `a`, or else the number of supports.
+pub fn first_near(
+    table: &SupportTable,
+    a: &Support,
+    joined: &Support,
+    most: u64,
+    start: usize,
+) -> usize
+    requires start { start ≤ length table.now.supports }
+    requires first { length a.now ≡ table.now.columns }
+    requires second { length joined.now ≡ table.now.columns }
+    ensures { IsFirstNear a.now joined.now most table.now.supports start result }
+{
+    let mut place = start;
+    while place < table.len() {
+        if !is_far(table, place, a, joined, most) {
+            return place;
+        }
+        place += 1;
+    }
+    place
+}

@@ -1,0 +1,32 @@
+// Nothing clashes.
+
+ghost use Rattle.std.specs.Prelude.{[]};
+
+use crate::compatible::Compatible;
+use support_bits::Support;
+
+/// So many columns of which no two clash.
+#[derive(Drop)]
+pub struct NoClash {
+    pub columns: u32,
+}
+
+impl Compatible for NoClash {
+    ghost width = { λ it. it.columns };
+
+    ghost clashing = { λ _. [] };
+
+    ghost decides = { λ _. Unit {0} };
+
+    fn columns(&self) -> u32 {
+        self.columns
+    }
+
+    fn pairs(&self) -> &[(u32, u32)] {
+        &[]
+    }
+
+    fn allows(&self, _a: &Support, _b: &Support) -> bool {
+        true
+    }
+}

@@ -1,0 +1,41 @@
+// What a pair of a step's rays is combined to.
+
+ghost use Rattle.std.specs.Prelude.{◌≡◌, ◌≤◌, length, IfOk, IfErr};
+ghost use Rattle.cone_core.specs.Combinations.{IsReducedBy};
+ghost use Rattle.ray_steps.specs.Faults.{IfLarge, IsLargeSumOf};
+
+use crate::kept::{Kept, LargeKind, StepFault};
+use cone_core::{CombineFault, MAX_ENTRY, combine_inside};
+use std::alloc::Global;
+
+/// The combination of two rays at which a row has these values, beside its support, which is the union of theirs.
+pub fn combine_pair(
+    alloc: Global,
+    u: &Kept,
+    w: &Kept,
+    at_u: u128,
+    at_w: u128,
+    limit: u128,
+) -> Result<Kept, StepFault>
+    requires lengths { length u.now.ray ≡ length w.now.ray }
+    requires some_u { 1 ≤ at_u }
+    requires some_w { 1 ≤ at_w }
+    requires most_u { at_u ≤ limit }
+    requires most_w { at_w ≤ limit }
+    requires limit { limit ≤ MAX_ENTRY }
+    ensures ok { IfOk result (λ kept. IsReducedBy limit at_u at_w u.now.ray w.now.ray kept.ray) }
+    ensures err { IfErr result (IfLarge (IsLargeSumOf limit at_u at_w u.now.ray w.now.ray)) }
+{
+    let _columns = u.ray.columns();
+    let mut support = u.support.copy(alloc)?;
+    support.add(&w.support);
+    match combine_inside(alloc, &u.ray, &w.ray, &support, at_u, at_w, limit) {
+        Ok(ray) => Ok(Kept { ray, support }),
+        Err(CombineFault::Passed { column: _ }) => {
+            let first = u.ray.copy(alloc)?;
+            let second = w.ray.copy(alloc)?;
+            Err(StepFault::Large(LargeKind::Pair(first, second)))
+        }
+        Err(CombineFault::NoMemory) => Err(StepFault::NoMemory),
+    }
+}

@@ -1,0 +1,66 @@
+// For each column the columns that clash with it, and those that clash with one of a support.
+
+ghost use Rattle.std.specs.Prelude.{◌≡◌, ◌<◌, [], length, slice_index_or, IfOk};
+ghost use Rattle.std.specs.List.{All};
+ghost use Rattle.ray_steps.specs.Clashes.{AreClashes};
+ghost use Rattle.ray_steps.specs.Partners.{IsNoted, ArePartners, IsJoinedBelow};
+
+use no_memory::NoMemory;
+use std::alloc::Global;
+use support_bits::Support;
+
+/// No partner of any column.
+fn no_partners(alloc: Global, columns: u32) -> Result<Vec<Support>, NoMemory>
+    ensures { IfOk result (λ partners. ArePartners columns [] partners.items) }
+{
+    let mut partners = Vec::with_capacity(alloc, columns as usize)?;
+    for _number in 0..columns {
+        partners.push(Support::none(alloc, columns)?)?;
+    }
+    Ok(partners)
+}
+
+/// Notes that one column is a partner of another.
+fn note(partners: &mut Vec<Support>, one: u32, other: u32)
+    requires one { one < length partners.old.items }
+    requires other { other < length (slice_index_or partners.old.items one []) }
+    ensures { IsNoted one other partners.old.items partners.new.items }
+{
+    partners[one as usize].insert(other);
+}
+
+/// For each column the columns that clash with it.
+pub fn partners_of(
+    alloc: Global,
+    clashes: &[(u32, u32)],
+    columns: u32,
+) -> Result<Vec<Support>, NoMemory>
+    requires { AreClashes columns clashes.now }
+    ensures { IfOk result (λ partners. ArePartners columns clashes.now partners.items) }
+{
+    let mut partners = no_partners(alloc, columns)?;
+    for pair in clashes {
+        note(&mut partners, pair.0, pair.1);
+        note(&mut partners, pair.1, pair.0);
+    }
+    Ok(partners)
+}
+
+/// The columns that clash with one of a support.
+pub fn joined_by(
+    alloc: Global,
+    partners: &[Support],
+    support: &Support,
+) -> Result<Support, NoMemory>
+    requires count { length partners.now ≡ length support.now }
+    requires widths { All (λ partner. length partner ≡ length support.now) partners.now }
+    ensures { IfOk result (IsJoinedBelow (length support.now) partners.now support.now) }
+{
+    let mut joined = Support::none(alloc, support.columns())?;
+    for column in 0..support.columns() {
+        if support.contains(column) {
+            joined.add(&partners[column as usize]);
+        }
+    }
+    Ok(joined)
+}

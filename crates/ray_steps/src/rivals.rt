@@ -1,0 +1,74 @@
+// The rays that can lie in the union of one ray and another.
+
+ghost use Rattle.std.specs.Prelude.{◌≡◌, ◌<◌, length, IfOk};
+ghost use Rattle.std.specs.List.{All};
+ghost use Rattle.ray_steps.specs.Kepts.{rays_of, AreOfWidth};
+ghost use Rattle.ray_steps.specs.Rivals.{AreApart, HasSupportsOf, HaveRivals};
+
+use crate::kept::Kept;
+use no_memory::NoMemory;
+use std::alloc::Global;
+use support_bits::Support;
+use support_table::SupportTable;
+
+/// The columns that clash with one of a ray, and the places of all rays that have none of them, with their supports.
+#[derive(Drop)]
+pub struct Rivals {
+    pub joined: Support,
+    pub places: Vec<usize>,
+    pub table: SupportTable,
+}
+
+/// The places whose rays have none of some columns.
+fn places_apart(alloc: Global, kepts: &[Kept], columns: &Support) -> Result<Vec<usize>, NoMemory>
+    requires widths { AreOfWidth (length columns.now) kepts.now }
+    ensures { IfOk result (λ places. AreApart (rays_of kepts.now) columns.now (length kepts.now) places.items) }
+{
+    let mut places = Vec::new(alloc);
+    for (k, kept) in kepts.iter().enumerate() {
+        if !kept.support.meets(columns) {
+            places.push(k)?;
+        }
+    }
+    Ok(places)
+}
+
+/// The supports of the rays at some places.
+pub fn supports_at(
+    alloc: Global,
+    kepts: &[Kept],
+    columns: u32,
+    places: &[usize],
+) -> Result<SupportTable, NoMemory>
+    requires widths { AreOfWidth columns kepts.now }
+    requires in_range { All (λ k. k < length kepts.now) places.now }
+    ensures { IfOk result (HasSupportsOf (rays_of kepts.now) columns places.now) }
+{
+    let mut table = SupportTable::new(alloc, columns);
+    for place in places {
+        let kept = &kepts[*place];
+        table.push(&kept.support)?;
+    }
+    Ok(table)
+}
+
+/// The rays that have none of some columns.
+pub fn rivals_with(
+    alloc: Global,
+    kepts: &[Kept],
+    columns: u32,
+    joined: Support,
+) -> Result<Rivals, NoMemory>
+    requires count { length joined ≡ columns }
+    requires widths { AreOfWidth columns kepts.now }
+    ensures joined { IfOk result (λ rivals. rivals.joined ≡ joined) }
+    ensures rivals { IfOk result (HaveRivals (rays_of kepts.now) columns) }
+{
+    let places = places_apart(alloc, kepts, &joined)?;
+    let table = supports_at(alloc, kepts, columns, &places)?;
+    Ok(Rivals {
+        joined,
+        places,
+        table,
+    })
+}

@@ -1,0 +1,80 @@
+// The signs of a step's row at its rays.
+
+ghost use Rattle.std.specs.Prelude.{◌≡◌, ◌↔◌, IsTrue, ◌<◌, ◌≤◌, length, ◌-◌, IfOk, IfErr, OnOk, OnErr};
+ghost use Rattle.cone_core.specs.Sparse.{IsInRange};
+ghost use Rattle.cone_definitions.specs.Elimination.{HasPartsWithin, HasLargePart};
+ghost use Rattle.ray_steps.specs.Signs.{IsNegative, IsSignAt, AreSigns};
+ghost use Rattle.ray_steps.specs.Kepts.{rays_of};
+ghost use Rattle.ray_steps.specs.Faults.{IfLarge, IsFirstLargeValue};
+ghost use Rattle.std.specs.List.{All};
+
+use crate::kept::{Kept, LargeKind, StepFault};
+use cone_core::{MAX_ENTRY, Passed, PlusMinus, SparseRow, parts};
+use std::alloc::Global;
+
+/// Whether a row is zero, positive or negative at a ray, and its value or magnitude there.
+#[derive(Clone, Copy)]
+pub enum Sign {
+    Zero,
+    Positive(u128),
+    Negative(u128),
+}
+
+/// Whether a sign is negative.
+pub fn is_negative(sign: Sign) -> bool
+    ensures { IsTrue result ↔ IsNegative sign }
+{
+    matches!(sign, Sign::Negative(_))
+}
+
+/// The sign of a row with these parts.
+fn sign_of(parts: PlusMinus) -> Sign
+    ensures zero { parts.plus ≡ parts.minus → result ≡ Sign.Zero }
+    ensures positive { parts.minus < parts.plus → result ≡ Sign.Positive (parts.plus - parts.minus) }
+    ensures negative { parts.plus < parts.minus → result ≡ Sign.Negative (parts.minus - parts.plus) }
+{
+    if parts.minus < parts.plus {
+        Sign::Positive(parts.plus - parts.minus)
+    } else if parts.plus < parts.minus {
+        Sign::Negative(parts.minus - parts.plus)
+    } else {
+        Sign::Zero
+    }
+}
+
+/// The sign of a row at a ray, where no part passes the limit.
+fn sign_at(row: &SparseRow, kept: &Kept, limit: u128) -> Result<Sign, Passed>
+    requires in_range { IsInRange (length kept.now.ray) row.now }
+    requires limit { limit ≤ MAX_ENTRY }
+    ensures sign { IfOk result (IsSignAt row.now kept.now.ray) }
+    ensures within { OnOk result (HasPartsWithin limit row.now kept.now.ray) }
+    ensures passed { OnErr result (HasLargePart limit row.now kept.now.ray) }
+{
+    let parts = parts(row, &kept.ray, limit)?;
+    Ok(sign_of(parts))
+}
+
+/// The sign of a row at each ray; refused with the first ray at which a part passes the limit.
+pub fn signs_at(
+    alloc: Global,
+    row: &SparseRow,
+    kepts: &[Kept],
+    limit: u128,
+) -> Result<Vec<Sign>, StepFault>
+    requires in_range { All (λ kept. IsInRange (length kept.ray) row.now) kepts.now }
+    requires limit { limit ≤ MAX_ENTRY }
+    ensures ok { IfOk result (λ signs. AreSigns limit row.now (rays_of kepts.now) signs.items) }
+    ensures err { IfErr result (IfLarge (IsFirstLargeValue limit row.now (rays_of kepts.now))) }
+{
+    let mut signs = Vec::with_capacity(alloc, kepts.len())?;
+    for kept in kepts {
+        match sign_at(row, kept, limit) {
+            Ok(sign) => signs.push(sign)?,
+            Err(Passed) => {
+                let ray = kept.ray.copy(alloc)?;
+                return Err(StepFault::Large(LargeKind::Value(ray)));
+            }
+        }
+    }
+    Ok(signs)
+}

@@ -1,0 +1,272 @@
+// A step: the rays so far, a row's signs at them, and what the search for its pairs needs.
+
+ghost use Rattle.std.specs.Prelude.{◌≡◌, ◌+◌, ◌<◌, ◌≤◌, ◌↔◌, length, IsTrue, IfOk, IfErr, IfSome, OnOk};
+ghost use Rattle.cone_core.specs.Sparse.{IsInRange};
+ghost use Rattle.ray_steps.specs.Faults.{IfLarge, IsFirstLargeValue};
+ghost use Rattle.ray_steps.specs.Kepts.{rays_of, AreOfWidth};
+ghost use Rattle.ray_steps.specs.Negatives.{AreNegatives};
+ghost use Rattle.ray_steps.specs.Rivals.{HaveRivals};
+ghost use Rattle.ray_steps.specs.Signs.{IsFacePair, IsNextFrom};
+ghost use Rattle.ray_steps.specs.Steps.{AreStepRays, IsStepOf, IsSearchAt, AreMadeBelow, AreMadeOf, AreCombinedOf, IsFirstLargeOf, turned_step};
+
+use crate::compatible::{Clashes, Compatible};
+use crate::kept::{Kept, StepFault};
+use crate::made::{Combined, Made, Search};
+use crate::negatives::{Negatives, first_near, negatives_of};
+use crate::pairs::combine_pair;
+use crate::rivals::{Rivals, rivals_with};
+use crate::signs::{Sign, signs_at};
+use crate::thirds::{has_single, third_inside};
+use crate::turned::{has_more_positives, has_positive, turned_signs};
+use crate::zeros::keep_zeros;
+use cone_core::{MAX_ENTRY, SparseRow};
+use no_memory::NoMemory;
+use std::alloc::Global;
+use std::marker::Model;
+use support_bits::Support;
+
+/// The rays so far with their supports, a row's sign at each, and what clashes. No union of a pair has more than `most`
+/// columns, and no entry may pass the limit.
+#[derive(Drop)]
+pub struct Step<'a, C: Compatible> {
+    clashes: &'a Clashes<C>,
+    kepts: Vec<Kept>,
+    signs: Vec<Sign>,
+    most: u64,
+    limit: u128,
+}
+
+impl<'a, C: Compatible> Model for Step<'a, C> {
+    ghost use Rattle.ray_steps.specs.Kepts.{rays_of};
+    ghost use Rattle.ray_steps.specs.Steps.{StepData, IsStep};
+
+    ghost Value = { StepData };
+
+    ghost view = { λ s. record { columns = s.clashes.now.columns; pairs = s.clashes.now.pairs; rays = rays_of s.kepts.items; signs = s.signs.items; limit = s.limit } };
+
+    ghost invariant = { λ s. IsStep s.clashes.now.columns s.clashes.now.pairs s.kepts.items s.signs.items s.most s.limit };
+}
+
+impl<'a, C: Compatible> Step<'a, C> {
+    /// The step of a row, or the first ray at which a part of it passes the limit.
+    pub fn of(
+        alloc: Global,
+        clashes: &'a Clashes<C>,
+        row: &SparseRow,
+        kepts: Vec<Kept>,
+        most: u64,
+        limit: u128,
+    ) -> Result<Step<'a, C>, StepFault>
+        requires rays { AreStepRays clashes.now.columns most clashes.now.pairs kepts.items }
+        requires in_range { IsInRange clashes.now.columns row.now }
+        requires limit { limit ≤ MAX_ENTRY }
+        ensures ok { IfOk result (IsStepOf limit clashes.now row.now (rays_of kepts.items)) }
+        ensures err { IfErr result (IfLarge (IsFirstLargeValue limit row.now (rays_of kepts.items))) }
+    {
+        let signs = signs_at(alloc, row, &kepts, limit)?;
+        Ok(Step {
+            clashes,
+            kepts,
+            signs,
+            most,
+            limit,
+        })
+    }
+
+    /// A search for third rays beside the ray at a place.
+    fn search_at(&self, alloc: Global, i: usize, rivals: Option<Rivals>) -> Result<Search, NoMemory>
+        requires in_range { i < length self.now.rays }
+        requires rivals { IfSome rivals (HaveRivals self.now.rays self.now.columns) }
+        ensures { IfOk result (IsSearchAt self.now i) }
+    {
+        let clashes = self.clashes;
+        let joined = clashes.joined(alloc, &self.kepts[i].support)?;
+        Ok(Search {
+            joined,
+            rivals,
+            hint: 0,
+        })
+    }
+
+    /// The rivals of the ray at a place: those at hand where they have the same columns joined, and else they are gathered.
+    fn gather(
+        &self,
+        alloc: Global,
+        joined: &Support,
+        before: Option<Rivals>,
+    ) -> Result<Rivals, NoMemory>
+        requires count { length joined.now ≡ self.now.columns }
+        requires before { IfSome before (HaveRivals self.now.rays self.now.columns) }
+        ensures joined { IfOk result (λ rivals. rivals.joined ≡ joined.now) }
+        ensures rivals { IfOk result (HaveRivals self.now.rays self.now.columns) }
+    {
+        if let Some(rivals) = before {
+            if rivals.joined.same(joined) {
+                return Ok(rivals);
+            }
+        }
+        let clashes = self.clashes;
+        let joined = joined.copy(alloc)?;
+        rivals_with(alloc, &self.kepts, clashes.columns(), joined)
+    }
+
+    /// Whether the union of the supports at two places holds no clashing pair and contains the support at no third place. The
+    /// rivals of the first are gathered only where one is looked for among them.
+    fn is_face(
+        &self,
+        alloc: Global,
+        i: usize,
+        j: usize,
+        search: &mut Search,
+    ) -> Result<bool, NoMemory>
+        requires second { j < length self.now.rays }
+        requires search { IsSearchAt self.now i search.old }
+        ensures face { IfOk result (λ face. IsTrue face ↔ IsFacePair self.now.pairs self.now.rays i j) }
+        ensures search { OnOk result (IsSearchAt self.now i search.new) }
+        ensures joined { search.new.joined ≡ search.old.joined }
+    {
+        let clashes = self.clashes;
+        let u = &self.kepts[i];
+        let w = &self.kepts[j];
+        if has_single(&u.support, &w.support) {
+            return Ok(clashes.allows(&u.support, &w.support));
+        }
+        let rivals = self.gather(alloc, &search.joined, search.rivals.take())?;
+        let third = third_inside(&rivals, &u.support, &w.support, i, j, search.hint);
+        search.rivals = Some(rivals);
+        match third {
+            Some(m) => {
+                search.hint = m;
+                Ok(false)
+            }
+            None => Ok(clashes.allows(&u.support, &w.support)),
+        }
+    }
+
+    /// Combines the ray at a place, where it is positive, with each negative ray that it makes a pair with.
+    fn combine_with(
+        &self,
+        alloc: Global,
+        i: usize,
+        negatives: &Negatives,
+        made: &mut Made,
+    ) -> Result<(), StepFault>
+        requires in_range { i < length self.now.rays }
+        requires negatives { AreNegatives self.now.rays self.now.signs self.now.columns negatives.now }
+        requires made { AreMadeBelow self.now i made.old }
+        ensures ok { OnOk result (AreMadeBelow self.now (i + 1) made.new) }
+        ensures err { IfErr result (IfLarge (IsFirstLargeOf self.now)) }
+    {
+        let Sign::Positive(at_u) = self.signs[i] else {
+            return Ok(());
+        };
+        let u = &self.kepts[i];
+        let mut search = self.search_at(alloc, i, made.rivals.take())?;
+        let places = negatives.places.as_slice();
+        let table = &negatives.table;
+        let mut m = first_near(table, &u.support, &search.joined, self.most, 0);
+        while m < places.len() {
+            let j = places[m];
+            if let Sign::Negative(at_w) = self.signs[j] {
+                if self.is_face(alloc, i, j, &mut search)? {
+                    let kept = combine_pair(alloc, u, &self.kepts[j], at_u, at_w, self.limit)?;
+                    made.kepts.push(kept)?;
+                }
+            }
+            m = first_near(table, &u.support, &search.joined, self.most, m + 1);
+        }
+        made.rivals = search.rivals;
+        Ok(())
+    }
+
+    /// What the pairs of all rays with these negative ones are combined to.
+    fn combine_each(&self, alloc: Global, negatives: &Negatives) -> Result<Vec<Kept>, StepFault>
+        requires { AreNegatives self.now.rays self.now.signs self.now.columns negatives.now }
+        ensures ok { IfOk result (λ made. AreMadeOf self.now made.items) }
+        ensures err { IfErr result (IfLarge (IsFirstLargeOf self.now)) }
+    {
+        let mut made = Made {
+            kepts: Vec::with_capacity(alloc, self.kepts.len())?,
+            rivals: None,
+        };
+        for i in 0..self.kepts.len() {
+            self.combine_with(alloc, i, negatives, &mut made)?;
+        }
+        Ok(made.kepts)
+    }
+
+    /// What all pairs are combined to, or the first pair of which an entry passes the limit.
+    pub fn combine_all(&self, alloc: Global) -> Result<Vec<Kept>, StepFault>
+        ensures ok { IfOk result (λ made. AreMadeOf self.now made.items) }
+        ensures err { IfErr result (IfLarge (IsFirstLargeOf self.now)) }
+    {
+        if !has_positive(&self.signs) {
+            // there is no pair, and all rays may be kept
+            let made = Vec::with_capacity(alloc, self.kepts.len())?;
+            return Ok(made);
+        }
+        let clashes = self.clashes;
+        let negatives = negatives_of(alloc, &self.kepts, &self.signs, clashes.columns())?;
+        self.combine_each(alloc, &negatives)
+    }
+
+    /// The rays of one row more: what all pairs are combined to, and behind it the rays with the sign zero.
+    pub fn next(self, alloc: Global) -> Result<Vec<Kept>, StepFault>
+        ensures ok { IfOk result (λ next. IsNextFrom self.entry.limit self.entry.pairs self.entry.rays self.entry.signs 0 (rays_of next.items)) }
+        ensures widths { IfOk result (λ next. AreOfWidth self.entry.columns next.items) }
+        ensures err { IfErr result (IfLarge (IsFirstLargeOf self.entry)) }
+    {
+        let mut next = self.combine_all(alloc)?;
+        keep_zeros(self.kepts, &self.signs, &mut next)?;
+        Ok(next)
+    }
+
+    /// The step with all signs turned, beside the signs before.
+    pub fn turned(self, alloc: Global) -> Result<(Step<'a, C>, Vec<Sign>), NoMemory>
+        ensures step { IfOk result (λ both. both.0 ≡ turned_step self.entry) }
+        ensures signs { IfOk result (λ both. both.1.items ≡ self.entry.signs) }
+    {
+        let signs = turned_signs(alloc, &self.signs)?;
+        let turned = Step {
+            clashes: self.clashes,
+            kepts: self.kepts,
+            signs,
+            most: self.most,
+            limit: self.limit,
+        };
+        Ok((turned, self.signs))
+    }
+
+    /// What all pairs are combined to, in any order, beside the rays and the signs. The rays of the sign that fewer have are
+    /// taken in turn, since for each the rivals are gathered.
+    pub fn combined_by_fewer(self, alloc: Global) -> Result<Combined, StepFault>
+        ensures { IfOk result (AreCombinedOf self.entry) }
+    {
+        if has_more_positives(&self.signs) {
+            let (step, signs) = self.turned(alloc)?;
+            let made = step.combine_all(alloc)?;
+            return Ok(Combined {
+                kepts: step.kepts,
+                signs,
+                made,
+            });
+        }
+        let made = self.combine_all(alloc)?;
+        Ok(Combined {
+            kepts: self.kepts,
+            signs: self.signs,
+            made,
+        })
+    }
+
+    /// The rays of one row more, in any order.
+    pub fn next_by_fewer(self, alloc: Global) -> Result<Vec<Kept>, StepFault>
+        ensures ok { IfOk result (λ next. IsNextFrom self.entry.limit self.entry.pairs self.entry.rays self.entry.signs 0 (rays_of next.items)) }
+        ensures widths { IfOk result (λ next. AreOfWidth self.entry.columns next.items) }
+    {
+        let parts = self.combined_by_fewer(alloc)?;
+        let mut next = parts.made;
+        keep_zeros(parts.kepts, &parts.signs, &mut next)?;
+        Ok(next)
+    }
+}

@@ -1,0 +1,52 @@
+// Signs with positive and negative turned, and which of the two are fewer.
+
+ghost use Rattle.std.specs.Prelude.{◌≡◌, ◌↔◌, map, IsTrue, IfOk};
+ghost use Rattle.ray_steps.specs.Turned.{turned_sign, HasPositive};
+
+use crate::signs::Sign;
+use no_memory::NoMemory;
+use std::alloc::Global;
+
+/// The sign of the row with all signs turned.
+fn turned_sign(sign: Sign) -> Sign
+    ensures { result ≡ turned_sign sign }
+{
+    match sign {
+        Sign::Zero => Sign::Zero,
+        Sign::Positive(value) => Sign::Negative(value),
+        Sign::Negative(value) => Sign::Positive(value),
+    }
+}
+
+/// The signs of the row with all signs turned.
+pub fn turned_signs(alloc: Global, signs: &[Sign]) -> Result<Vec<Sign>, NoMemory>
+    ensures { IfOk result (λ turned. turned.items ≡ map turned_sign signs.now) }
+{
+    let turned = signs.iter().map(|sign| turned_sign(*sign)).collect(alloc)?;
+    Ok(turned)
+}
+
+/// Whether more signs are positive than negative. Any answer will do, so nothing is said of it.
+pub fn has_more_positives(signs: &[Sign]) -> bool {
+    let positives = signs
+        .iter()
+        .filter(|sign| matches!(sign, Sign::Positive(_)))
+        .count();
+    let negatives = signs
+        .iter()
+        .filter(|sign| matches!(sign, Sign::Negative(_)))
+        .count();
+    negatives < positives
+}
+
+/// Whether a sign is positive.
+pub fn has_positive(signs: &[Sign]) -> bool
+    ensures { IsTrue result ↔ HasPositive signs.now }
+{
+    for (place, _) in signs.iter().enumerate() {
+        if let Sign::Positive(_) = signs[place] {
+            return true;
+        }
+    }
+    false
+}

@@ -1,0 +1,39 @@
+// The rays that a step keeps: those with the sign zero.
+
+ghost use Rattle.std.specs.Prelude.{◌≡◌, ℕ, List, length, IfErr, OnOk};
+ghost use Rattle.cone_definitions.specs.Surfaces.{Clash};
+ghost use Rattle.ray_steps.specs.Appended.{AppendsIfZero};
+ghost use Rattle.ray_steps.specs.Kepts.{rays_of, AreOfWidth};
+ghost use Rattle.ray_steps.specs.Signs.{IsMadeUpTo, IsNextFrom};
+
+use crate::kept::{Kept, StepFault};
+use crate::signs::Sign;
+
+/// Appends a ray with the sign zero.
+fn keep_if_zero(kept: Kept, sign: Sign, next: &mut Vec<Kept>) -> Result<(), StepFault>
+    ensures ok { OnOk result (AppendsIfZero sign kept next.old.items next.new.items) }
+    ensures err { IfErr result (λ fault. fault ≡ StepFault.NoMemory) }
+{
+    if let Sign::Zero = sign {
+        next.push(kept)?;
+    }
+    Ok(())
+}
+
+/// Appends the rays with the sign zero.
+pub fn keep_zeros(
+    mut kepts: Vec<Kept>,
+    signs: &[Sign],
+    next: &mut Vec<Kept>,
+) -> Result<(), StepFault>
+    requires { length signs.now ≡ length kepts.items }
+    ensures keeps { OnOk result ((limit : ℕ) (pairs : List Clash) → IsMadeUpTo limit pairs (rays_of kepts.items) signs.now (length kepts.items) 0 (rays_of next.old.items)
+        → IsNextFrom limit pairs (rays_of kepts.items) signs.now 0 (rays_of next.new.items)) }
+    ensures widths { OnOk result ((columns : ℕ) → AreOfWidth columns kepts.items → AreOfWidth columns next.old.items → AreOfWidth columns next.new.items) }
+    ensures err { IfErr result (λ fault. fault ≡ StepFault.NoMemory) }
+{
+    while let Some(kept) = kepts.pop() {
+        keep_if_zero(kept, signs[kepts.len()], next)?;
+    }
+    Ok(())
+}

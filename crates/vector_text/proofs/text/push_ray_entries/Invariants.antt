@@ -1,0 +1,13 @@
+-- the entries so far are appended
+use Rattle.std.proofs.Common.{◌≡◌, ◌≤◌, ◌++◌, ◌-◌, take, length}
+use Rattle.cone_text_definitions.specs.VectorText.{entries_text}
+use Rattle.vector_text.proofs.text.push_ray_entries.Given as goal
+
+abbrev pub invariant-loop-column : goal.invariant-loop-column
+invariant-loop-column l = record {
+  in_range : l.column ≤ length l.ray;
+  appended : l.text.items ≡ l.fn.text.items ++ entries_text (take l.column l.ray);
+}
+
+abbrev pub decreases-loop-column : goal.decreases-loop-column
+decreases-loop-column l = length l.ray - l.column

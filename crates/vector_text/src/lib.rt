@@ -1,0 +1,6 @@
+//! Vectors and lists of rays as text.
+#![tactic(auto)]
+
+mod text;
+
+pub use text::{write_entries, write_list, write_vector};

@@ -1,0 +1,167 @@
+// Vectors as text: a line `vec` with the entries for each.
+
+ghost use Rattle.std.specs.Prelude.{◌≡◌, ◌<◌, ◌≤◌, ◌+◌, [], ◌∷◌, ◌++◌, decimal, drop, length, OnOk, OnErr, IfOk};
+ghost use Rattle.cone_text_definitions.specs.VectorText.{vector_text, entries_text, list_text};
+ghost use Rattle.vector_text.specs.Four.{four_from};
+
+use cone_core::Ray;
+use no_memory::NoMemory;
+use std::alloc::Global;
+use text_io::{append, append_decimal};
+
+/// Appends the digits of an entry after a space. Most entries are below 10, and their one digit is appended as it is.
+fn push_entry(alloc: Global, text: &mut Vec<u8>, entry: u128) -> Result<(), NoMemory>
+    ensures { OnOk result (text.new.items ≡ text.old.items ++ 32 ∷ decimal entry) }
+{
+    if entry < 10 {
+        append(text, &[b' ', b'0' + entry as u8])
+    } else {
+        append(text, b" ")?;
+        append_decimal(alloc, text, entry)
+    }
+}
+
+/// Appends the entries, each after a space.
+fn push_entries(alloc: Global, text: &mut Vec<u8>, x: &[u128]) -> Result<(), NoMemory>
+    ensures { OnOk result (text.new.items ≡ text.old.items ++ entries_text x.now) }
+{
+    for entry in x {
+        push_entry(alloc, text, *entry)?;
+    }
+    Ok(())
+}
+
+/// Appends four digits, each after a space.
+fn push_digits(text: &mut Vec<u8>, a: u8, b: u8, c: u8, d: u8) -> Result<(), NoMemory>
+    requires { (a < 10) × (b < 10) × (c < 10) × (d < 10) }
+    ensures { OnOk result (text.new.items ≡ text.old.items ++ entries_text (a ∷ b ∷ c ∷ d ∷ [])) }
+{
+    append(
+        text,
+        &[
+            b' ',
+            b'0' + a,
+            b' ',
+            b'0' + b,
+            b' ',
+            b'0' + c,
+            b' ',
+            b'0' + d,
+        ],
+    )
+}
+
+/// Appends the four entries from a column on, each after a space; at once where each has one digit, as most have.
+fn push_four(alloc: Global, text: &mut Vec<u8>, ray: &Ray, column: usize) -> Result<(), NoMemory>
+    requires { column + 4 ≤ length ray.now }
+    ensures { OnOk result (text.new.items ≡ text.old.items ++ entries_text (four_from ray.now column)) }
+{
+    let a = ray.entry(column);
+    let b = ray.entry(column + 1);
+    let c = ray.entry(column + 2);
+    let d = ray.entry(column + 3);
+    if a < 10 && b < 10 && c < 10 && d < 10 {
+        return push_digits(text, a as u8, b as u8, c as u8, d as u8);
+    }
+    push_entry(alloc, text, a)?;
+    push_entry(alloc, text, b)?;
+    push_entry(alloc, text, c)?;
+    push_entry(alloc, text, d)
+}
+
+/// Appends the entries of a ray from a column on, each after a space.
+fn push_rest(alloc: Global, text: &mut Vec<u8>, ray: &Ray, first: usize) -> Result<(), NoMemory>
+    requires { first ≤ length ray.now }
+    ensures { OnOk result (text.new.items ≡ text.old.items ++ entries_text (drop first ray.now)) }
+{
+    for column in first..ray.columns() {
+        push_entry(alloc, text, ray.entry(column))?;
+    }
+    Ok(())
+}
+
+/// Appends the entries of a ray, each after a space.
+fn push_ray_entries(alloc: Global, text: &mut Vec<u8>, ray: &Ray) -> Result<(), NoMemory>
+    ensures { OnOk result (text.new.items ≡ text.old.items ++ entries_text ray.now) }
+{
+    let columns = ray.columns();
+    let mut column = 0;
+    while columns - column >= 4 {
+        push_four(alloc, text, ray, column)?;
+        column += 4;
+    }
+    push_rest(alloc, text, ray, column)
+}
+
+/// Appends the entries, each after a space. Without memory nothing is appended.
+pub fn write_entries(alloc: Global, ray: &Ray, out: &mut Vec<u8>) -> Result<(), NoMemory>
+    ensures ok { OnOk result (out.new.items ≡ out.old.items ++ entries_text ray.now) }
+    ensures err { OnErr result (out.new.items ≡ out.old.items) }
+{
+    let mut text = Vec::new(alloc);
+    push_ray_entries(alloc, &mut text, ray)?;
+    append(out, &text)
+}
+
+/// Appends the line of a vector.
+fn push_line(alloc: Global, text: &mut Vec<u8>, x: &[u128]) -> Result<(), NoMemory>
+    ensures { OnOk result (text.new.items ≡ text.old.items ++ vector_text x.now) }
+{
+    append(text, b"vec")?;
+    push_entries(alloc, text, x)?;
+    append(text, b"\n")?;
+    Ok(())
+}
+
+/// Appends the line of a ray.
+fn push_ray(alloc: Global, text: &mut Vec<u8>, ray: &Ray) -> Result<(), NoMemory>
+    ensures { OnOk result (text.new.items ≡ text.old.items ++ vector_text ray.now) }
+{
+    append(text, b"vec")?;
+    push_ray_entries(alloc, text, ray)?;
+    append(text, b"\n")?;
+    Ok(())
+}
+
+/// Appends the line `vec` with the entries of a vector. Without memory nothing is appended.
+pub fn write_vector(alloc: Global, x: &[u128], out: &mut Vec<u8>) -> Result<(), NoMemory>
+    ensures ok { OnOk result (out.new.items ≡ out.old.items ++ vector_text x.now) }
+    ensures err { OnErr result (out.new.items ≡ out.old.items) }
+{
+    let mut text = Vec::new(alloc);
+    push_line(alloc, &mut text, x)?;
+    append(out, &text)
+}
+
+/// How many bytes the lines of rays have at least.
+fn least_bytes(list: &[Ray]) -> usize {
+    match list.first() {
+        Some(ray) => {
+            let line = ray.columns().saturating_mul(2).saturating_add(4);
+            list.len().saturating_mul(line)
+        }
+        None => 0,
+    }
+}
+
+/// A text, and the lines of all rays behind it.
+fn lines_behind(alloc: Global, front: &[u8], list: &[Ray]) -> Result<Vec<u8>, NoMemory>
+    ensures { IfOk result (λ text. text.items ≡ front.now ++ list_text list.now) }
+{
+    let mut text = Vec::with_capacity(alloc, least_bytes(list).saturating_add(front.len()))?;
+    append(&mut text, front)?;
+    for ray in list {
+        push_ray(alloc, &mut text, ray)?;
+    }
+    Ok(text)
+}
+
+/// Appends a line `vec` with the entries for each ray. Without memory nothing is appended.
+pub fn write_list(alloc: Global, list: &[Ray], out: &mut Vec<u8>) -> Result<(), NoMemory>
+    ensures ok { OnOk result (out.new.items ≡ out.old.items ++ list_text list.now) }
+    ensures err { OnErr result (out.new.items ≡ out.old.items) }
+{
+    // The lines are far longer than what stands before them, so that is copied and not they.
+    *out = lines_behind(alloc, out, list)?;
+    Ok(())
+}
