@@ -4,6 +4,7 @@ import os
 import shutil
 import signal
 import subprocess
+import sys
 import tempfile
 import threading
 import time
@@ -87,6 +88,28 @@ class Library(unittest.TestCase):
         for it in threads:
             it.join()
         self.assertEqual(wrong, [])
+
+    def test_forked_children(self):
+        wanted = self.answer(["surfaces"], LONG), self.answer(["surfaces", "--coords", "quad"], LONG)
+
+        def is_right():
+            return all(self.answer(["surfaces", "--coords", "quad"], LONG) == wanted[1] and self.answer(["surfaces"], LONG) == wanted[0]
+                       for _ in range(2))
+
+        child = os.fork()
+        if child == 0:
+            os._exit(0 if is_right() else 1)
+        self.assertTrue(is_right())
+        self.assertEqual(os.waitpid(child, 0)[1], 0)
+
+    def test_little_room_in_the_system(self):
+        script = ("import resource; from trinorm import library; it = library.at(%r)\n"
+                  "now = int(open('/proc/self/statm').read().split()[0]) << 12\n"
+                  "resource.setrlimit(resource.RLIMIT_AS, (now + (6 << 20),) * 2)\n"
+                  "print(it.answer(['sig'], 'sig bkaagj\\n'), it.answer(['surfaces'], %r)[0], it.answer(['sig'], 'sig bkaagj\\n')[0])")
+        around = dict(os.environ, PYTHONPATH=str(REPOSITORY / "python"))
+        done = subprocess.run([sys.executable, "-c", script % (named(), LONG)], stdout=subprocess.PIPE, text=True, env=around, check=False)
+        self.assertIn(done.stdout, [f"(0, b'bkaagj\\n', 0) {it} 0\n" for it in (0, 8)])
 
     def test_a_small_stack(self):
         told = []

@@ -18,8 +18,8 @@ NAME = "libtrinorm.so"
 # of a call: no room, no memory; of what ended it: memory, time, a handler of a signal
 TOO_LITTLE_ROOM, NO_MEMORY = 7, 8
 MOST_MEMORY, MOST_TIME, STOPPED = 1, 2, 3
-# pages that no answer reached cost nothing
-ROOM = 1 << 26
+# pages that no answer reached cost nothing, and those of a long one are given back
+ROOM, LONG = 1 << 26, 1 << 20
 
 _Stop = ctypes.CFUNCTYPE(ctypes.c_int, ctypes.c_void_p)
 
@@ -36,12 +36,23 @@ class _Room(threading.local):
         self.needed = ctypes.c_size_t()
         self.limits = _Limits(0, 0, stop, None, 0)
         self.places = ctypes.byref(self.limits), ctypes.byref(self.needed)
-        self.grow(ROOM)
+        try:
+            self.grow(ROOM)
+        except OSError:  # where the system gives this process little room
+            self.grow(LONG)
 
     def grow(self, size: int) -> None:
-        self.pages = mmap.mmap(-1, size)
+        # a forked child gets pages of its own
+        self.pages = mmap.mmap(-1, size, flags=mmap.MAP_PRIVATE | mmap.MAP_ANONYMOUS)
         self.at = ctypes.addressof(ctypes.c_char.from_buffer(self.pages))
         self.size = size
+
+    def answer(self) -> bytes:
+        """What stands in it."""
+        told = ctypes.string_at(self.at, self.needed.value)
+        if len(told) > LONG:
+            self.pages.madvise(mmap.MADV_DONTNEED)
+        return told
 
 
 def joined(words: Sequence[str]) -> bytes:
@@ -66,6 +77,7 @@ class Library:
             self._room = _Room(_Stop(("trinorm_python_stops", library)))
             # by a second look at the same library, which keeps Python's lock and raises what is raised in it
             self._raise = ctypes.PyDLL(path).trinorm_python_raises
+            self._raise.restype = None
         except (OSError, AttributeError) as fault:
             raise Failed(f"{path}: {fault}") from None
         self.path = path
@@ -84,8 +96,11 @@ class Library:
         while True:
             status = self._call(at_limits, said, len(said), given, len(given), room.at, room.size, at_needed)
             if status != TOO_LITTLE_ROOM:
-                return status, ctypes.string_at(room.at, room.needed.value), limits.reached
-            room.grow(room.needed.value)
+                return status, room.answer(), limits.reached
+            try:
+                room.grow(room.needed.value)
+            except OSError:
+                return NO_MEMORY, b"", 0
 
     def run(self, words: Sequence[str], text: str = "", timeout: Optional[float] = None,
             memory: Optional[int] = None) -> str:
