@@ -13,8 +13,16 @@ tab=$(printf '\t')
 
 say() { printf 'trinorm: %s\n' "$1" >&2; }
 
+# A word as a shell reads it.
+quoted() {
+  case $1 in
+    *[!A-Za-z0-9_./=+:@%,-]*) printf "'%s'" "$(printf %s "$1" | sed "s/'/'\\\\''/g")" ;;
+    *) printf %s "$1" ;;
+  esac
+}
+
 # How the launcher was called: by its path, or found by its name.
-me=$0
+me=$(quoted "$0")
 [ "$(command -v trinorm)" != "$0" ] || me=trinorm
 
 # Sets document, options, example and answers to what the table says of a command.
@@ -108,12 +116,6 @@ is_signature() {
   printf 'sig %s\n' "${1%%_*}" | "$program" csig >/dev/null
 }
 
-quoted() {
-  case $1 in
-    *[!A-Za-z0-9_./=+:@%,-]*) printf "'%s'" "$(printf %s "$1" | sed "s/'/'\\\\''/g")" ;;
-    *) printf %s "$1" ;;
-  esac
-}
 
 # Where a file's name, a signature or `-` stands among the words of a command: how it is given. The other words stay.
 say_input() {

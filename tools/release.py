@@ -13,7 +13,7 @@ import argparse
 import shutil
 import sys
 from pathlib import Path
-from typing import Dict, List, Tuple
+from typing import Dict, List, NoReturn, Tuple
 
 import commands
 import packages
@@ -23,7 +23,7 @@ from prove import Kit
 from repository import TOP, changed, commit, crates_of_build, read_sources, sum_of, version
 
 
-def refuse(why: str) -> None:
+def refuse(why: str) -> NoReturn:
     sys.exit(f"release: {why}")
 
 
@@ -33,7 +33,6 @@ def proved() -> Tuple[Dict[str, bytes], Manifest]:
     place = programs.find(sources.sum(), Kit(command).name if command else None)
     if place is None:
         refuse("no program of these sources is kept here: tools/build.py --anew proves and builds it")
-    assert place is not None
     files, told = programs.read(place)
     if not told.anew:
         refuse("the program was built over libraries that were proved before: tools/build.py --anew proves all at once")

@@ -1,6 +1,7 @@
 """A release of a made-up repository: its files, that they are the same whenever they are made, and that they can be used."""
 import os
 import pty
+import re
 import subprocess
 import sys
 import tempfile
@@ -142,6 +143,17 @@ class Table(unittest.TestCase):
     def test_commands_are_current(self):
         done = subprocess.run([sys.executable, str(REPOSITORY / "tools" / "commands.py"), "--check"], capture_output=True, text=True, check=False)
         self.assertEqual((done.returncode, done.stdout), (0, ""))
+
+    def test_one_version(self):
+        """The version stands in pyproject.toml; what tells it too tells the same."""
+        sys.path.insert(0, str(REPOSITORY / "tools"))
+        self.addCleanup(sys.path.remove, str(REPOSITORY / "tools"))
+        from repository import version
+
+        told = version(REPOSITORY)
+        self.assertRegex(told, r"^\d+\.\d+\.\d+$")
+        self.assertIn(f"\nversion: {told}\n", (REPOSITORY / "CITATION.cff").read_text("utf8"))
+        self.assertEqual(set(re.findall(r"trinorm[-_](\d[\d.]*)[-_]", (REPOSITORY / "README.md").read_text("utf8"))), {told})
 
 
 if __name__ == "__main__":
