@@ -169,7 +169,7 @@ class Build:
             archive.write_bytes(files["archive"])
             try:
                 build_library(kit, str(archive), f"{folder}/made")
-            except NotProved as fault:
+            except (NotProved, OSError) as fault:
                 say(f"there is no library for other languages, since it wasn't linked: {fault}")
                 return proved
             return {**proved, **{name: Path(folder, "made", FILES[name]).read_bytes() for name in ("library", "server")}}

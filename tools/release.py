@@ -4,8 +4,8 @@
     tools/release.py [--gate FILE] [--out FOLDER]
 
 It wants a clean checkout, and a program that was proved from nothing by one build (`tools/build.py --anew`) from these
-very sources. --gate names what the gate said (`rt ci`): its last line goes into MANIFEST. Made again, each file is the same
-bit for bit.
+very sources. --gate names what the gate said (`rt ci`): its last line goes into MANIFEST. Made of that build again, each file is the
+same bit for bit.
 """
 from __future__ import annotations
 
