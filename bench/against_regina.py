@@ -2,7 +2,8 @@
 
     regina-python bench/against_regina.py [PROGRAM]
 
-Says of each subject on how many triangulations (or vectors) both say the same. Quad lists and lifts are compared where all
+Says of each subject on how many triangulations (or vectors) both say the same. 0-efficiency is compared on the first 1,000 of
+Regina's own closed orientable census too, where its file is there. Quad lists and lifts are compared where all
 edges are valid: at an internal edge that is joined to its own reverse the quad equations differ.
 """
 import itertools
@@ -71,6 +72,8 @@ def check_surfaces(count: Count, t: Any) -> None:
         count("crush", trinorm.crush(t, it).to_regina().isIsomorphicTo(it.crush()) is not None)
     if valid:
         check_described(count, t, surfaces)
+        if not t.hasTwoSphereBoundaryComponents():  # by which Regina says no
+            count("0-efficiency", bool(trinorm.zero_efficient(t)) == t.isZeroEfficient())
         for it in regina.NormalSurfaces(t, regina.NS_QUAD):
             count("lift", lifted(t, it) == (trinorm.vector_of(it) if it.isCompact() else None))
 
@@ -99,6 +102,13 @@ def check(count: Count, size: int) -> None:
         check_surfaces(count, t)
 
 
+def check_census(count: Count) -> None:
+    path = os.path.join(regina.GlobalDirs.examples(), "closed-or-census.rga")
+    closed = (it for it in regina.open(path) if isinstance(it, regina.Triangulation3)) if os.path.exists(path) else ()
+    for t in itertools.islice(closed, 1000):
+        count("0-efficiency, Regina's census", bool(trinorm.zero_efficient(t)) == t.isZeroEfficient())
+
+
 def main() -> None:
     if len(sys.argv) > 1:
         os.environ["TRINORM"] = sys.argv[1]
@@ -112,6 +122,7 @@ def main() -> None:
 
     for _ in range(2000):
         check(count, random.randint(1, 9))
+    check_census(count)
     for subject, of in all_of.items():
         print(f"{subject}: {same[subject]} of {of}")
 

@@ -70,6 +70,8 @@ class Hints(unittest.TestCase):
         self.assertEqual(self.hint("# a comment\ncPcbbbiht"), "put `sig` before cPcbbbiht")
         self.assertEqual(self.hint("# a comment\ncPcbbbiht_BaCB"), "put `sig` before cPcbbbiht")
         self.assertEqual(self.hint("bkaagjx"), "")
+        for name in ("m004", "s776", "4_1", "K8n1"):
+            self.assertIn(f"{name} is the name of a manifold", self.hint(name))
 
     def test_files(self):
         self.assertEqual(self.hint("\n"), "the input is empty")

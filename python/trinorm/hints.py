@@ -1,6 +1,7 @@
 """What a refusal most likely means, in a sentence for people. The program's own answer stays as it is."""
 from __future__ import annotations
 
+import re
 import string
 from typing import List, Sequence
 
@@ -25,7 +26,7 @@ def hint(kind: str, places: Sequence[Place], text: str) -> str:
     if kind == "input too-long":
         return "an input has at most 1,048,576 bytes; for `group` of more, sort the signatures that `sig` answers"
     if kind.startswith("signature "):
-        return _decoration(text.split("\n"))
+        return _no_signature(text.split("\n"))
     if not kind.startswith("input "):
         return ""
     if not text.strip():
@@ -39,12 +40,14 @@ def hint(kind: str, places: Sequence[Place], text: str) -> str:
     return ""
 
 
-def _decoration(lines: List[str]) -> str:
-    """What is said of a signature as SnapPy writes it."""
+def _no_signature(lines: List[str]) -> str:
+    """What is said of a signature as SnapPy writes it, and of a manifold's name."""
     for line in lines:
-        _, mark, rest = line.partition("_")
-        if line.startswith("sig ") and mark:
-            return f"_{rest.strip()} is SnapPy's decoration: leave it out, or ask for triangulation_isosig(decorated=False)"
+        word = line[4:].strip()
+        if line.startswith("sig ") and re.fullmatch(r"[mstvo]\d{2,}|[1-9]\d*_\d+|[KL]\d+[an]\d+", word):
+            return f"{word} is the name of a manifold: ask Regina or SnapPy for its signature"
+        if line.startswith("sig ") and "_" in word:
+            return f"_{word.partition('_')[2]} is SnapPy's decoration: leave it out, or ask for triangulation_isosig(decorated=False)"
     return ""
 
 
