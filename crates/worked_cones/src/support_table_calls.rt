@@ -23,6 +23,9 @@ fn finds_the_first_inside(rt: HostRuntime) -> Result<(), NoMemory> {
     table.push(&a)?;
     assert_eq!(rt; table.len(), 4);
     assert!(rt; table.is_covered(3, &a, &b) && !table.is_covered(2, &a, &b));
+    assert!(rt; table.is_inside(3, &b, 2) && !table.is_inside(2, &b, 3));
+    assert!(rt; table.meets(2, &a) && !table.meets(1, &a));
+    assert_eq!(rt; table.union_count(2, &b), 3);
     assert_eq!(rt; table.first_covered(&a, &b, 0), 1);
     assert_eq!(rt; table.first_covered(&a, &b, 2), 3);
     assert_eq!(rt; table.first_covered(&b, &b, 2), 4);
