@@ -1,8 +1,8 @@
 -- The vector of a component is a connected surface: its pieces are those of the component, each numbered by how many stand before it, and so are its arcs.
-use Rattle.std.proofs.Common.{◌≡◌, ℕ, zero, suc, ◌+◌, ◌-◌, ◌<◌, ◌≤◌, Bool, true, false, cond, List, [], ◌∷◌, length, ◌⊎◌, inl, inr, refl, sym, ap, ◌∙◌, subst, subst₂, arith}
+use Rattle.std.proofs.Common.{◌≡◌, ℕ, ◌+◌, ◌-◌, ◌<◌, ◌≤◌, Bool, true, false, cond, List, [], ◌∷◌, length, ◌⊎◌, inl, inr, refl, sym, ap, ◌∙◌, subst, subst₂, arith}
 use Rattle.std.specs.Prelude.{◌==◌, sum_by, slice_index}
 use Rattle.std.specs.List.{slice_index_or}
-use Rattle.std.proofs.lemmas.Bool.{cases_lt, lt-ltb, le-ltb, eqb-true}
+use Rattle.std.proofs.lemmas.Bool.{cases_lt, eqb-true}
 use Rattle.cone_definitions.proofs.Entries.{nonzero_before}
 use Rattle.table_definitions.specs.Lists.{below}
 use Rattle.table_definitions.specs.Permutation.{image}
@@ -17,62 +17,13 @@ use Rattle.surface_laws.proofs.ArcPieces.{from_end, from_end_below, arcs_are, tr
 use Rattle.surface_laws.proofs.ComponentCounts.{belongs, component_count, component_width, component_inside}
 use Rattle.surface_laws.proofs.ComponentsFound.{components_found}
 use Rattle.surface_laws.proofs.ComponentSurfaces.{one_component, component_surface}
-use Rattle.surface_laws.proofs.Counting.{sum_by_same, below_sum, sum_back, last_term}
+use Rattle.surface_laws.proofs.Counting.{sum_by_same, below_sum}
 use Rattle.surface_laws.proofs.Glued.{IsGlued, glued_is}
 use Rattle.surface_laws.proofs.MeetingArcs.{arc_at, meets_back}
 use Rattle.surface_laws.proofs.PieceNumbers.{piece_at, no_piece, IsFound, piece_found, listed_piece}
 use Rattle.efficiency_laws.specs.Laws.{IsConnectedSurface}
 use Rattle.efficiency_laws.proofs.Connected.{component_nonzero}
-use Rattle.connected_euler_laws.proofs.Shapes.{first_test}
-
-abbrev mark : Bool → ℕ
-mark b = cond b 1 0
-
-first_part : (f : ℕ → ℕ) (j n : ℕ) → j < n → sum_by f (below j) + f j ≤ sum_by f (below n)
-first_part f j n l =
-    let e : suc j + (n - suc j) ≡ n = omega arith in
-    let all : sum_by f (below (suc j + (n - suc j))) ≡ sum_by f (below (suc j)) + sum_by (λ a. f (suc j + a)) (below (n - suc j)) = below_sum f (suc j) (n - suc j) in
-    let same : sum_by f (below (suc j + (n - suc j))) ≡ sum_by f (below n) = ap (λ m. sum_by f (below m)) e in
-    let last = last_term f j in
-    omega arith
-
--- the place at which so many stand before
-select : (f : ℕ → ℕ) → ((j : ℕ) → (f j ≡ 0) ⊎ (f j ≡ 1)) → (n r : ℕ) → r < sum_by f (below n) → (j : ℕ) × (j < n) × (f j ≡ 1) × (sum_by f (below j) ≡ r)
-select f each zero r l = absurd (omega arith)
-select f each (suc n) r l = elim (cases_lt r (sum_by f (below n))) [
-  | inl low ↦ (let s = select f each n r low in let m : s.0 < suc n = omega (arith, s.1) in (s.0, m, s.2, s.3))
-  | inr high ↦ (let last = last_term f n in elim (each n) [
-    | inl z ↦ absurd (omega arith)
-    | inr o ↦ (let m : n < suc n = omega arith in (n, m, o, omega arith))
-  ])
-]
-
--- counted from the end, as many stand before
-from_either : (f : ℕ → ℕ) (e j : ℕ) (b : Bool) → j < e → f (from_end e b j) ≡ 1 → from_end (sum_by f (below e)) b (sum_by (λ a. f (from_end e b a)) (below j)) ≡ sum_by f (below (from_end e b j))
-from_either f e j true l one = refl
-from_either f e j false l one =
-    let z : ℕ = e - 1 - j in
-    let whole : suc (e - 1 - j) + j ≡ e = omega arith in
-    let g : ℕ → ℕ = λ a. f (suc (e - 1 - j) + a) in
-    let split : sum_by f (below (suc (e - 1 - j) + j)) ≡ sum_by f (below (suc (e - 1 - j))) + sum_by (λ a. f (suc (e - 1 - j) + a)) (below j) = below_sum f (suc (e - 1 - j)) j in
-    let same : sum_by f (below (suc (e - 1 - j) + j)) ≡ sum_by f (below e) = ap (λ m. sum_by f (below m)) whole in
-    let last : sum_by f (below (suc (e - 1 - j))) ≡ sum_by f (below (e - 1 - j)) + f (e - 1 - j) = last_term f (e - 1 - j) in
-    let back : sum_by (λ a. f (e - 1 - a)) (below j) ≡ sum_by (λ a. f (suc (e - 1 - j) + a)) (below j) =
-    sum_by_same (λ a. f (e - 1 - a)) (λ a. f (suc (e - 1 - j) + (j - 1 - a))) (below j) (λ a m. let la : a < j = below-among a j m in let q : e - 1 - a ≡ suc (e - 1 - j) + (j - 1 - a) = omega arith in ap f q)
-    ∙ sum_back (λ a. f (suc (e - 1 - j) + a)) j in
-    omega arith
-
--- where the entry there isn't 0, the first nonzero column is the same in a vector inside
-first_same : (xs ys : List ℕ) → ((c : ℕ) → slice_index xs c ≡ 0 → slice_index ys c ≡ 0) → (os : List ℕ) (q : ℕ) → 0 < slice_index ys (first_nonzero xs os q) → first_nonzero ys os q ≡ first_nonzero xs os q
-first_same xs ys inside [] q l = refl
-first_same xs ys inside (o ∷ os) q l = elim (cases_lt 0 (slice_index xs o)) [
-  | inl some ↦ (let e : first_nonzero xs (o ∷ os) q ≡ o = first_test xs o os q true (lt-ltb 0 (slice_index xs o) some) in
-      let there : 0 < slice_index ys o = subst (λ c. 0 < slice_index ys c) e l in
-      first_test ys o os q true (lt-ltb 0 (slice_index ys o) there) ∙ sym e)
-  | inr none ↦ (let e : first_nonzero xs (o ∷ os) q ≡ first_nonzero xs os q = first_test xs o os q false (le-ltb 0 (slice_index xs o) none) in
-      let z : slice_index ys o ≡ 0 = inside o (omega arith) in
-      first_test ys o os q false (le-ltb 0 (slice_index ys o) (omega arith)) ∙ first_same xs ys inside os q (subst (λ c. 0 < slice_index ys c) e l) ∙ sym e)
-]
+use Rattle.connected_euler_laws.proofs.Ranks.{mark, first_part, select, from_either, first_same}
 
 module _ (s : Skeleton) (coords : Coords) (xs components : List ℕ) (count : ℕ) (numbered : AreComponents s.rows coords xs components count) (w : IsSurface s.rows coords xs) (i : ℕ) where
   abbrev ys : List ℕ

@@ -12,7 +12,8 @@ use Rattle.surface_laws.proofs.MeetingArcs.{arc_at}
 use Rattle.surface_laws.proofs.PieceNumbers.{no_piece, number-piece, IsFound, piece_found}
 use Rattle.connected_euler_laws.specs.Polygons.{AreJoined, ArePolygons}
 use Rattle.connected_euler_laws.proofs.Four.{Four, third, fourth, rest_four, first_two, middle_two}
-use Rattle.connected_euler_laws.proofs.Labels.{IsEdge, wide, wide_is, weights, point, point_back, IsPoint, is_point}
+use Rattle.connected_euler_laws.proofs.EdgeDirections.{IsEdge}
+use Rattle.connected_euler_laws.proofs.Labels.{wide, wide_is, weights, point, point_back, IsPoint, is_point}
 use Rattle.connected_euler_laws.proofs.ArcList.{IsArc, meets_is, arc_list}
 use Rattle.connected_euler_laws.proofs.ArcNumbers.{piece_on, piece_behind, left_point, right_point, number, agrees_number, both_sides}
 use Rattle.connected_euler_laws.proofs.AroundPieces.{arcs_colour, go_round}
@@ -66,7 +67,7 @@ module _ (s : Skeleton) (k : IsSkeleton s) (valid : (c : ℕ) → c < s.edges.co
   end_of : (x : ℕ) → x < length (pieces_of (weights s k valid coords xs surface)) → IsEnd x
   end_of x l =
       let p : IsPoint s k valid coords xs surface x = is_point s k valid coords xs surface x l in
-      let e : IsEdge s k valid coords xs surface p.t p.v p.u = p.edge in
+      let e : IsEdge s k valid p.t p.v p.u = p.edge in
       let f : ℕ = third p.v p.u in
       let w : ℕ = fourth p.v p.u in
       let four : Four p.v p.u f w = rest_four p.v p.u e.lv e.lu e.ne in

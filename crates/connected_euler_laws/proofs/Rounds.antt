@@ -7,13 +7,13 @@ use Rattle.surface_definitions.specs.Coordinates.{columns_each, tri_column, quad
 use Rattle.surface_definitions.specs.declared.Coords.{Coords}
 use Rattle.surface_definitions.specs.Pieces.{SurfacePiece, arcs_round, type_in, keeps_by_zero}
 use Rattle.surface_laws.specs.PieceLaws.{IsSurface, first_nonzero}
-use Rattle.surface_laws.proofs.ArcPieces.{from_end, from_end_below, from_end_twice}
+use Rattle.surface_laws.proofs.ArcPieces.{from_end, from_end_twice}
 use Rattle.surface_laws.proofs.PieceNumbers.{piece_at}
 use Rattle.surface_laws.proofs.ColumnKinds.{high_behind, low_triangle, one_triangle}
-use Rattle.connected_euler_laws.proofs.Four.{Four, first_two, middle_two, last_two, opposite, other_type, type_below, one_of_types, one_of_rest}
-use Rattle.connected_euler_laws.proofs.Shapes.{octagons_are, behind_type, shape}
-use Rattle.connected_euler_laws.proofs.Widths.{width, width_by_type}
-use Rattle.connected_euler_laws.proofs.Sides.{colour, piece, arcs_are, low_piece, high_piece, Once, Kind, IsGood, arc_there, arc_is, far, end_colour}
+use Rattle.connected_euler_laws.proofs.Four.{Four, middle_two, last_two, other_type, type_below, one_of_types, one_of_rest}
+use Rattle.connected_euler_laws.proofs.Shapes.{octagons_are, behind_type}
+use Rattle.connected_euler_laws.proofs.Sides.{colour, piece, arcs_are, low_piece, high_piece, Kind, IsGood, arc_there, arc_is, far, end_colour}
+use Rattle.connected_euler_laws.proofs.FurtherPieces.{IsFurther, further}
 
 module _ (s : Skeleton) (k : IsSkeleton s) (valid : (c : ℕ) → c < s.edges.count → IsValidClass s c) (coords : Coords) (xs : List ℕ) (surface : IsSurface s.rows coords xs)
     (t : ℕ) (lt : t < length s.rows) (h : ℕ → Bool) where
@@ -26,89 +26,21 @@ module _ (s : Skeleton) (k : IsSkeleton s) (valid : (c : ℕ) → c < s.edges.co
   abbrev from_v : ℕ → ℕ → ℕ → ℕ → ℕ
   from_v col o i v = slice_index xs (tri_column coords t v) + from_end (slice_index xs col) (keeps_by_zero o v) i
 
-  -- an arc behind the triangles, of a quad or an octagon
-  record IsFurther (v f j : ℕ) : Type 0 where
-    o : ℕ
-    i : ℕ
-    lo : o < 3
-    type_is : type_in coords (col_at v f) ≡ o
-    li : i < slice_index xs (col_at v f)
-    at_is : from_v (col_at v f) o i v ≡ j
-    once : Once s k valid coords xs surface t lt h (col_at v f) o i lo type_is li
-    kind : (o ≡ keeping v f) ⊎ ((j : ℕ) → j < 3 → j ≢ o → behind_type coords xs t j ≡ col_at v f)
-
-  -- the widths of the edges that a piece of type o meets once
-  once_by : (q o : ℕ) → o < 3
-      → ((a b : ℕ) → a < 3 → b < 3 → o ≡ a → o ≢ b → slice_index xs (behind_type coords xs t a) + slice_index xs (behind_type coords xs t b) ≡ q)
-      → (v u f w : ℕ) → Four v u f w → o ≢ keeping v u → width s.rows coords xs surface t f v u ≡ tri v + tri u + q
-  once_by q o lo sums v u f w four ne =
-      let wide = width_by_type s.rows coords xs surface t v u f w lt four in
-      let a : Four v f u w = middle_two v u f w four in
-      let b : Four u f v w = middle_two u v f w (first_two v u f w four) in
-      let la = type_below v f u w a in
-      let lb = type_below u f v w b in
-      let e : keeping v w ≡ keeping u f = opposite v w u f (middle_two v u w f (last_two v u f w four)) in
-      let apart : keeping v f ≢ keeping v w = other_type v f w u (middle_two v w f u (first_swap v f u w a)) in
-      elim (one_of_types v u f w o four lo) [
-        | inl d ↦ absurd (ne d)
-        | inr (inl d) ↦ (let z = sums (keeping v f) (keeping u f) la lb d (λ g. apart (sym d ∙ g ∙ sym e)) in omega arith)
-        | inr (inr d) ↦ (let z = sums (keeping u f) (keeping v f) lb la (d ∙ e) (λ g. apart (sym g ∙ d)) in omega arith)
-      ]
-    where
-      first_swap : (v f u w : ℕ) → Four v f u w → Four v w f u
-      first_swap v f u w a = middle_two v f w u (last_two v f u w a)
-
-  further : (v f u w j : ℕ) → Four v f u w → tri v ≤ j → j < arcs_round coords xs t f v → IsFurther v f j
-  further v f u w j four low l =
-      let all = arcs_are s k valid coords xs surface t lt h v f u w four in
-      let jj : ℕ = j - tri v in
-      let lj : jj < slice_index xs (col_at v f) = omega arith in
-      let lk = type_below v f u w four in
-      elim (shape (length s.rows) xs t lt coords surface.triangles surface.admissible (keeping v f) lk (omega arith)) [
-        | inl a ↦ record {
-          o = keeping v f;
-          i = from_end (slice_index xs (col_at v f)) (keeps_by_zero (keeping v f) v) jj;
-          lo = lk;
-          type_is = a.type_is;
-          li = from_end_below (slice_index xs (col_at v f)) (keeps_by_zero (keeping v f) v) jj lj;
-          at_is = placed v f j jj (keeping v f) (omega arith) lj;
-          once = once_by (slice_index xs (col_at v f)) (keeping v f) lk (λ x y lx ly ex ny.
-              let none = a.no_other y ly (λ g. ny (sym g)) in
-              let some = ap (λ z. slice_index xs (behind_type coords xs t z)) ex in omega arith);
-          kind = inl refl;
-        }
-        | inr a ↦ record {
-          o = a.o;
-          i = from_end (slice_index xs (col_at v f)) (keeps_by_zero a.o v) jj;
-          lo = a.below_three;
-          type_is = a.type_is;
-          li = from_end_below (slice_index xs (col_at v f)) (keeps_by_zero a.o v) jj lj;
-          at_is = placed v f j jj a.o (omega arith) lj;
-          once = once_by (slice_index xs (col_at v f)) a.o a.below_three (λ x y lx ly ex ny.
-              let some = ap (slice_index xs) (a.same y ly (λ g. ny (sym g))) in
-              let none = ap (λ z. slice_index xs (behind_type coords xs t z)) (sym ex) ∙ a.none in omega arith);
-          kind = inr a.same;
-        }
-      ]
-    where
-      placed : (v f j jj o : ℕ) → tri v + jj ≡ j → jj < slice_index xs (col_at v f) → from_v (col_at v f) o (from_end (slice_index xs (col_at v f)) (keeps_by_zero o v) jj) v ≡ j
-      placed v f j jj o e l = ap (λ z. tri v + z) (from_end_twice (slice_index xs (col_at v f)) (keeps_by_zero o v) jj l) ∙ e
-
-  abbrev place : {v f j : ℕ} → IsFurther v f j → ℕ → ℕ
+  abbrev place : {v f j : ℕ} → IsFurther s k valid coords xs surface t lt h v f j → ℕ → ℕ
   place {v} {f} x a = from_v (col_at v f) x.o x.i a
 
-  kind_of : (v f j : ℕ) (x : IsFurther v f j) → Kind s k valid coords xs surface t lt h (col_at v f) x.o x.i x.lo x.type_is x.li
+  kind_of : (v f j : ℕ) (x : IsFurther s k valid coords xs surface t lt h v f j) → Kind s k valid coords xs surface t lt h (col_at v f) x.o x.i x.lo x.type_is x.li
   kind_of v f j x = elim x.kind [ inl e ↦ inl (ap (behind_type coords xs t) e) | inr g ↦ inr g ]
 
   -- the arcs of its piece
-  same_piece : (v f u w j : ℕ) → Four v f u w → (x : IsFurther v f j) → (v' f' u' w' : ℕ) → Four v' f' u' w' → behind_type coords xs t (keeping v' f') ≡ col_at v f
+  same_piece : (v f u w j : ℕ) → Four v f u w → (x : IsFurther s k valid coords xs surface t lt h v f j) → (v' f' u' w' : ℕ) → Four v' f' u' w' → behind_type coords xs t (keeping v' f') ≡ col_at v f
       → piece s k valid coords xs surface t lt h f' v' (place x v') ≡ piece s k valid coords xs surface t lt h f v j
   same_piece v f u w j four x v' f' u' w' other e =
       arc_is s k valid coords xs surface t lt h (col_at v f) x.o x.i x.lo x.type_is x.li v' f' u' w' other e
       ∙ sym (arc_is s k valid coords xs surface t lt h (col_at v f) x.o x.i x.lo x.type_is x.li v f u w four refl)
       ∙ ap (piece s k valid coords xs surface t lt h f v) x.at_is
 
-  in_range : (v f u w j : ℕ) → Four v f u w → (x : IsFurther v f j) → (v' f' u' w' : ℕ) → Four v' f' u' w' → behind_type coords xs t (keeping v' f') ≡ col_at v f → place x v' < arcs_round coords xs t f' v'
+  in_range : (v f u w j : ℕ) → Four v f u w → (x : IsFurther s k valid coords xs surface t lt h v f j) → (v' f' u' w' : ℕ) → Four v' f' u' w' → behind_type coords xs t (keeping v' f') ≡ col_at v f → place x v' < arcs_round coords xs t f' v'
   in_range v f u w j four x v' f' u' w' other e = arc_there s k valid coords xs surface t lt h (col_at v f) x.o x.i x.lo x.type_is x.li v' f' u' w' other e
 
   -- the other sides of the piece of an arc have ends of one colour
@@ -126,7 +58,7 @@ module _ (s : Skeleton) (k : IsSkeleton s) (valid : (c : ℕ) → c < s.edges.co
     | inl low ↦ (let one = triangle u f w (middle_two v f u w four) (λ q. four.uf (sym q)) low in
         let two = triangle w f u (middle_two v f w u (last_two v f u w four)) (λ q. four.uw (sym q)) low in
         sym two ∙ one)
-    | inr high ↦ by_kind (further v f u w j four high l)
+    | inr high ↦ by_kind (further s k valid coords xs surface t lt h v f u w j four high l)
   ]
     where
       triangle : (f' a b : ℕ) → Four v f' a b → f' ≢ f → j < tri v → c v a j ≡ c v b j
@@ -134,7 +66,7 @@ module _ (s : Skeleton) (k : IsSkeleton s) (valid : (c : ℕ) → c < s.edges.co
           let all = arcs_are s k valid coords xs surface t lt h v f' a b four' in
           others v f' a b j four' (omega arith) (low_piece s k valid coords xs surface t lt h v f' a b j four' low ∙ sym (low_piece s k valid coords xs surface t lt h v f u w j four low)) (inr ne)
 
-      by_kind : IsFurther v f j → c v u j ≡ c v w j
+      by_kind : IsFurther s k valid coords xs surface t lt h v f j → c v u j ≡ c v w j
       by_kind x = subst (λ z. c v u z ≡ c v w z) x.at_is (by_partner x.kind (one_of_types v f u w x.o four x.lo))
         where
           good : (v' : ℕ) → v' ≢ v → IsGood s k valid coords xs surface t lt h (col_at v f) x.o x.i x.lo x.type_is x.li v'
@@ -217,7 +149,7 @@ module _ (s : Skeleton) (k : IsSkeleton s) (valid : (c : ℕ) → c < s.edges.co
             let e : tri v + (j - tri v) ≡ j = omega arith in
             ap (piece s k valid coords xs surface t lt h f v) (sym e) ∙ high_piece s k valid coords xs surface t lt h v f u w (j - tri v) four
 
-        both_high : IsFurther v f j → tri v' ≤ j' → c v u j ≡ c v' u' j'
+        both_high : IsFurther s k valid coords xs surface t lt h v f j → tri v' ≤ j' → c v u j ≡ c v' u' j'
         both_high x low =
             let is : piece_at (col_at v f) x.i ≡ piece_at (col_at v' f') (from_end (slice_index xs (col_at v' f')) (keeps_by_zero (type_in coords (col_at v' f')) v') (j' - tri v')) =
             sym (arc_is s k valid coords xs surface t lt h (col_at v f) x.o x.i x.lo x.type_is x.li v f u w four refl) ∙ ap (piece s k valid coords xs surface t lt h f v) x.at_is ∙ same ∙ high_is v' f' u' w' j' four' low in
@@ -243,4 +175,4 @@ module _ (s : Skeleton) (k : IsSkeleton s) (valid : (c : ℕ) → c < s.edges.co
             round_one v' j' (sym o.1) (sym (number e)) four' a
         by_cases (inl a) (inr b) = absurd (apart v f v' f' u' w' four.lv four' (column (sym (low_piece s k valid coords xs surface t lt h v f u w j four a) ∙ same ∙ high_is v' f' u' w' j' four' b)))
         by_cases (inr a) (inl b) = absurd (apart v' f' v f u w four'.lv four (column (sym (low_piece s k valid coords xs surface t lt h v' f' u' w' j' four' b) ∙ sym same ∙ high_is v f u w j four a)))
-        by_cases (inr a) (inr b) = both_high (further v f u w j four a l) b
+        by_cases (inr a) (inr b) = both_high (further s k valid coords xs surface t lt h v f u w j four a l) b

@@ -1,5 +1,5 @@
 -- The component of a level is the link of its class.
-use Rattle.std.proofs.Common.{◌≡◌, ℕ, ◌-◌, ◌%◌, ◌<◌, ◌≤◌, cond, ap₂, List, length, inl, inr, refl, sym, ap, ◌∙◌, subst₂, arith}
+use Rattle.std.proofs.Common.{◌≡◌, ℕ, ◌%◌, ◌<◌, ◌≤◌, cond, ap₂, List, length, inl, inr, refl, sym, ap, ◌∙◌, subst₂, arith}
 use Rattle.std.specs.Prelude.{◌==◌, slice_index}
 use Rattle.std.proofs.lemmas.Bool.{cases_lt, cases_eq, eq-eqb, ne_eqb}
 use Rattle.cone_definitions.proofs.Entries.{same_vectors, entry_past}

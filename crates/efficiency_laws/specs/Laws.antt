@@ -1,5 +1,5 @@
 -- The listed vertex surfaces of a table decide by their Euler characteristics whether it is 0-efficient (Jaco and Oertel; Jaco and Rubinstein).
-use Rattle.std.specs.Prelude.{◌≡◌, ℕ, ◌<◌, ◌⊎◌, ◌↔◌, ℤ, pos, ◌<ℤ◌, List}
+use Rattle.std.specs.Prelude.{◌≡◌, ℕ, ◌⊎◌, ◌↔◌, pos, ◌<ℤ◌, List}
 use Rattle.std.specs.List.{Contains}
 use Rattle.cone_definitions.specs.Vectors.{IsInside}
 use Rattle.table_definitions.specs.Table.{IsTable}
