@@ -37,6 +37,7 @@ pub mod SignsAgree
 pub mod LinkSignsBack
 pub mod SignsAgreeBack
 pub mod ClosedEuler
+pub mod ClosedManifolds
 pub mod Characteristic
 pub mod TakenAway
 pub mod Correspond

@@ -5,7 +5,7 @@
 ghost use Rattle.link_kept_laws.specs.Valid.{MovesKeepValid, PlaysKeepValid, MovesKeepInvalid};
 ghost use Rattle.link_kept_laws.specs.Links.{MovesKeepLinks, TakenAwayAreSpheres, PutInAreSpheres};
 ghost use Rattle.link_kept_laws.specs.Certified.{CertifiedHaveValidEdges, CertifiedHaveSphereLinks, CertifiedHaveCharacteristicZero};
-ghost use Rattle.link_kept_laws.specs.ClosedEuler.{ClosedCharacteristicsAreOfLinks};
+ghost use Rattle.link_kept_laws.specs.ClosedEuler.{ClosedCharacteristicsAreOfLinks, ClosedManifoldsHaveCharacteristicZero};
 ghost use Rattle.link_kept_laws.specs.Manifolds.{CertifiedHaveManifoldNumbers, AcceptedHaveManifoldNumbers};
 
 /// A move leads to a table with valid edges exactly from tables with valid edges, and leaves the number of invalid edge classes.
@@ -23,9 +23,11 @@ pub fn moves_keep_links()
     ensures put_in { PutInAreSpheres }
 {}
 
-/// Twice the Euler characteristic of a closed table without invalid edges is what the vertex links have less than 2, in all.
+/// Twice the Euler characteristic of a closed table without invalid edges is what the vertex links have less than 2, in all. So it is at
+/// least 0, and 0 exactly where each link has Euler characteristic 2, as a sphere has.
 pub fn closed_characteristics()
-    ensures { ClosedCharacteristicsAreOfLinks }
+    ensures links { ClosedCharacteristicsAreOfLinks }
+    ensures zero { ClosedManifoldsHaveCharacteristicZero }
 {}
 
 /// A table with a certificate has valid edges, its vertex links are spheres, and its Euler characteristic is 0.
