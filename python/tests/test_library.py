@@ -16,6 +16,8 @@ import trinorm
 from trinorm import library, server
 from trinorm.program import REPOSITORY
 
+from .programs import script
+
 # no command, options that are none, values that are none, a command twice
 NO_WORDS = [[], [""], ["surface"], ["sig", "sig"], ["surfaces", "--coords"], ["surfaces", "--coords=quads"], ["info", "--seed", "1"],
             ["--help"], ["sig", "--"], ["é"], ["surfaces", "--max-entry", "0"], ["verify", "--coords", "quad", "--coords", "quad"]]
@@ -167,6 +169,19 @@ class Library(unittest.TestCase):
                 trinorm.sig("bkaagj", timeout=5)
             with self.assertRaises(AssertionError):
                 trinorm.sig("bkaagj", program="trinorm")
+
+
+class NoLibrary(unittest.TestCase):
+    def test_one_that_cannot_be_loaded_is_passed_over(self):
+        with tempfile.TemporaryDirectory() as folder:
+            os.rename(script(folder, "echo by a process\n"), os.path.join(folder, "trinorm"))
+            Path(folder, library.NAME).write_text("no library", "ascii")
+            others = {name: value for name, value in os.environ.items() if not name.startswith("TRINORM")}
+            around = unittest.mock.patch.dict(os.environ, dict(others, PATH=f"{folder}:{os.environ['PATH']}"), clear=True)
+            with around, unittest.mock.patch("trinorm.program.REPOSITORY", Path(folder)):
+                self.assertEqual(trinorm.program.run(["sig"]), "by a process\n")
+            with self.assertRaises(trinorm.Failed):
+                library.at(os.path.join(folder, library.NAME))
 
 
 @unittest.skipUnless(named(), "the library isn't built")

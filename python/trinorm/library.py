@@ -128,6 +128,9 @@ def at(path: str) -> Library:
 
 
 def beside(program: str) -> Optional[Library]:
-    """The library that was built with a program and stands beside it, if there is one."""
+    """The library that was built with a program and stands beside it, if there is one that can be loaded here."""
     path = Path(os.path.realpath(program)).parent / NAME
-    return at(str(path)) if path.is_file() else None
+    try:
+        return at(str(path)) if path.is_file() else None
+    except Failed:
+        return None
