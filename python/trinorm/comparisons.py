@@ -2,10 +2,11 @@
 from __future__ import annotations
 
 from dataclasses import dataclass
-from typing import Any, Dict, List, Optional, Sequence
+from typing import Dict, List, Optional, Sequence
 
 from . import commands
 from .answers import Vector, vector_line
+from .commands import Program
 from .regina_surfaces import COORDS, vertex_surfaces
 from .tables import Triangulation
 
@@ -31,13 +32,14 @@ class Comparison:
                 *(f"  {whose} alone: {vector_line(vector)}" for whose, vector in alone)]
 
 
-def compare(t: Triangulation, coords: Optional[str] = None, **run: Any) -> Dict[str, Comparison]:
+def compare(t: Triangulation, coords: Optional[str] = None, *,
+            timeout: Optional[float] = None, program: Program = None) -> Dict[str, Comparison]:
     """The lists beside each other in these coordinates, or in each of the three."""
-    table = commands.table(t, **run)
+    table = commands.table(t, timeout=timeout, program=program)
     theirs = table.to_regina()
     compared = {}
     for name in [coords] if coords else COORDS:
-        ours = commands.surfaces(table, name, **run)
+        ours = commands.surfaces(table, name, timeout=timeout, program=program)
         compared[name] = _beside(ours, vertex_surfaces(theirs, name))
     return compared
 

@@ -7,10 +7,11 @@ from __future__ import annotations
 
 import collections
 from dataclasses import dataclass
-from typing import Any, Dict, List, Union
+from typing import Dict, List, Optional, Union
 
 from . import commands
 from .answers import Surface
+from .commands import Program
 from .tables import Triangulation
 
 
@@ -32,37 +33,40 @@ class Count:
     greatest: int
 
 
-def described(t: Triangulation, coords: str = "standard", **run: Any) -> List[Surface]:
+def described(t: Triangulation, coords: str = "standard", *,
+              timeout: Optional[float] = None, program: Program = None) -> List[Surface]:
     """What `describe` says of each vertex surface, in standard or octagon coordinates."""
-    return commands.describe(t, commands.surfaces(t, coords, **run), coords, **run)
+    vectors = commands.surfaces(t, coords, timeout=timeout, program=program)
+    return commands.describe(t, vectors, coords, timeout=timeout, program=program)
 
 
-def count(t: Triangulation, coords: str = "standard", **run: Any) -> Count:
+def count(t: Triangulation, coords: str = "standard", *,
+          timeout: Optional[float] = None, program: Program = None) -> Count:
     """The vertex surfaces counted, in standard or octagon coordinates."""
-    surfaces = described(t, coords, **run)
+    surfaces = described(t, coords, timeout=timeout, program=program)
     by_euler = collections.Counter(it.euler for it in surfaces)
     greatest = max((max(it.vector) for it in surfaces), default=0)
     return Count(len(surfaces), dict(sorted(by_euler.items(), reverse=True)), sum(it.linking for it in surfaces), greatest)
 
 
-def spheres(t: Triangulation, **run: Any) -> List[Surface]:
+def spheres(t: Triangulation, *, timeout: Optional[float] = None, program: Program = None) -> List[Surface]:
     """The vertex surfaces that are spheres, but not vertex links. A projective plane is none, though its double is one."""
-    return [it for it in described(t, **run) if it.euler == 2 and not it.linking and not it.boundary]
+    return [it for it in described(t, timeout=timeout, program=program) if it.euler == 2 and not it.linking and not it.boundary]
 
 
-def tori(t: Triangulation, **run: Any) -> List[Surface]:
+def tori(t: Triangulation, *, timeout: Optional[float] = None, program: Program = None) -> List[Surface]:
     """The vertex surfaces that are tori, but not vertex links. A Klein bottle is none, though its double may be one."""
-    closed = (it for it in described(t, **run) if it.euler == 0 and not it.linking and not it.boundary)
+    closed = (it for it in described(t, timeout=timeout, program=program) if it.euler == 0 and not it.linking and not it.boundary)
     return [it for it in closed if it.components[0].orientable]
 
 
-def zero_efficient(t: Triangulation, **run: Any) -> Union[bool, Contrary]:
+def zero_efficient(t: Triangulation, *, timeout: Optional[float] = None, program: Program = None) -> Union[bool, Contrary]:
     """True where each connected normal surface of positive Euler characteristic is a vertex link; else a listed one that
     is none, which counts as False: a sphere, a projective plane or a disc.
 
     That the list decides it is proved. For closed orientable triangulations it is the 0-efficiency of Jaco and Rubinstein.
     """
-    for it in described(t, **run):
+    for it in described(t, timeout=timeout, program=program):
         if it.euler > 0 and not it.linking:
             return Contrary(it.vector, it.euler, it.linking, it.boundary, it.components)
     return True

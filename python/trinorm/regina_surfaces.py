@@ -44,7 +44,7 @@ def vector_of(surface: ReginaSurface, coords: str = "standard") -> Vector:
 
     surface: in quad coordinates it may be spun-normal; else it has finitely many triangles
     """
-    entries: List[Any] = []
+    entries: List[object] = []
     for tet in range(surface.triangulation().size()):
         if coords != "quad":
             entries += [surface.triangles(tet, vertex) for vertex in range(4)]

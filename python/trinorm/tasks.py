@@ -4,7 +4,7 @@ from __future__ import annotations
 import dataclasses
 import json
 import time
-from typing import Any, Callable, Dict, NamedTuple, Optional
+from typing import Callable, Dict, NamedTuple, Optional
 
 from . import commands, comparisons, questions
 from .program import Error, Refused
@@ -35,28 +35,28 @@ class Task:
         return self.command if self.coords is None else f"{self.command} --coords {self.coords}"
 
 
-def _surfaces(text: str, task: Task) -> Any:
+def _surfaces(text: str, task: Task) -> object:
     return commands.surfaces(text, task.coords or "standard", timeout=task.timeout, program=task.program)
 
 
-def _described(text: str, task: Task) -> Any:
+def _described(text: str, task: Task) -> object:
     return questions.described(text, task.coords or "standard", timeout=task.timeout, program=task.program)
 
 
-def _counted(text: str, task: Task) -> Any:
+def _counted(text: str, task: Task) -> object:
     return questions.count(text, task.coords or "standard", timeout=task.timeout, program=task.program)
 
 
-def _compared(text: str, task: Task) -> Any:
+def _compared(text: str, task: Task) -> object:
     return comparisons.compare(text, task.coords, timeout=task.timeout, program=task.program)
 
 
-def _plainly(command: Callable[..., Any]) -> Callable[[str, Task], Any]:
+def _plainly(command: Callable[..., object]) -> Callable[[str, Task], object]:
     return lambda text, task: command(text, timeout=task.timeout, program=task.program)
 
 
 # the commands of one triangulation; `describe` and `count` take its vertex surfaces, and `crosscheck` is not the program's
-COMMANDS: Dict[str, Callable[[str, Task], Any]] = {
+COMMANDS: Dict[str, Callable[[str, Task], object]] = {
     "surfaces": _surfaces,
     "describe": _described,
     "count": _counted,
@@ -70,11 +70,11 @@ COMMANDS: Dict[str, Callable[[str, Task], Any]] = {
 }
 
 
-def fields_of(value: Any) -> Any:
+def fields_of(value: object) -> object:
     """What JSON has in the place of a table, its text, or of a record, its fields."""
     if isinstance(value, Table):
         return str(value)
-    if dataclasses.is_dataclass(value):
+    if dataclasses.is_dataclass(value) and not isinstance(value, type):
         return {field.name: getattr(value, field.name) for field in dataclasses.fields(value)}
     raise TypeError(f"{type(value).__name__} is no answer")
 
@@ -83,11 +83,11 @@ def fields_of(value: Any) -> Any:
 as_json = json.JSONEncoder(default=fields_of).encode
 
 
-def line_of(entry: Entry, task: Task) -> Dict[str, Any]:
+def line_of(entry: Entry, task: Task) -> Dict[str, object]:
     """Runs the command on one triangulation; a refusal or a failed run is an answer too."""
     begun = time.monotonic()
     try:
-        said = {"answer": COMMANDS[task.command](f"sig {entry.signature}\n", task)}
+        said: Dict[str, object] = {"answer": COMMANDS[task.command](f"sig {entry.signature}\n", task)}
     except Refused as refused:
         said = {"refused": {key: getattr(refused, key) for key in ("status", "line", "kind", "places")}}
     except Error as failed:
@@ -95,6 +95,6 @@ def line_of(entry: Entry, task: Task) -> Dict[str, Any]:
     return {**head_of(entry, task, time.monotonic() - begun), **said}
 
 
-def head_of(entry: Entry, task: Task, seconds: float) -> Dict[str, Any]:
+def head_of(entry: Entry, task: Task, seconds: float) -> Dict[str, object]:
     """What begins each line of the output."""
     return {"name": entry.name, "signature": entry.signature, "command": task.words, "seconds": round(seconds, 4)}
