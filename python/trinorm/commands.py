@@ -11,7 +11,7 @@ program: the program to run, or what runs in its place (a `server.Server`)
 """
 from __future__ import annotations
 
-from typing import Any, Callable, Iterable, List, Optional, Sequence, TypeVar, Union
+from typing import Callable, Iterable, List, Optional, Sequence, TypeVar, Union
 
 from . import answers, hints
 from .answers import (Bulk, Cover, Descent, Grouping, Info, Isomorphism, Made, Played, Presentation, Sum, Surface,

@@ -47,7 +47,8 @@ def _no_signature(lines: List[str]) -> str:
         if line.startswith("sig ") and re.fullmatch(r"[mstvo]\d{2,}|[1-9]\d*_\d+|[KL]\d+[an]\d+", word):
             return f"{word} is the name of a manifold: ask Regina or SnapPy for its signature"
         if line.startswith("sig ") and "_" in word:
-            return f"_{word.partition('_')[2]} is SnapPy's decoration: leave it out, or ask for triangulation_isosig(decorated=False)"
+            decoration = word[word.index("_"):]
+            return f"{decoration} is SnapPy's decoration: leave it out, or ask for triangulation_isosig(decorated=False)"
     return ""
 
 

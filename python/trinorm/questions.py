@@ -51,16 +51,18 @@ def count(t: Triangulation, coords: str = "standard", *,
 
 def spheres(t: Triangulation, *, timeout: Optional[float] = None, program: Program = None) -> List[Surface]:
     """The vertex surfaces that are spheres, but not vertex links. A projective plane is none, though its double is one."""
-    return [it for it in described(t, timeout=timeout, program=program) if it.euler == 2 and not it.linking and not it.boundary]
+    surfaces = described(t, timeout=timeout, program=program)
+    return [it for it in surfaces if it.euler == 2 and not it.linking and not it.boundary]
 
 
 def tori(t: Triangulation, *, timeout: Optional[float] = None, program: Program = None) -> List[Surface]:
     """The vertex surfaces that are tori, but not vertex links. A Klein bottle is none, though its double may be one."""
-    closed = (it for it in described(t, timeout=timeout, program=program) if it.euler == 0 and not it.linking and not it.boundary)
-    return [it for it in closed if it.components[0].orientable]
+    surfaces = described(t, timeout=timeout, program=program)
+    return [it for it in surfaces if it.euler == 0 and not it.linking and not it.boundary and it.components[0].orientable]
 
 
-def zero_efficient(t: Triangulation, *, timeout: Optional[float] = None, program: Program = None) -> Union[bool, Contrary]:
+def zero_efficient(t: Triangulation, *,
+                   timeout: Optional[float] = None, program: Program = None) -> Union[bool, Contrary]:
     """True where each connected normal surface of positive Euler characteristic is a vertex link; else a listed one that
     is none, which counts as False: a sphere, a projective plane or a disc.
 

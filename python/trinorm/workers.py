@@ -52,8 +52,9 @@ class Worker:
     def __init__(self, task: Task) -> None:
         # the same places of modules as here, so that no others need be looked for
         path = os.pathsep.join(place or os.getcwd() for place in [str(Path(__file__).resolve().parents[1]), *sys.path])
-        self.process = subprocess.Popen([sys.executable, "-S", "-m", "trinorm.workers", as_json(task)], start_new_session=True,
-                                        stdin=subprocess.PIPE, stdout=subprocess.PIPE, env=dict(os.environ, PYTHONPATH=path))
+        words = [sys.executable, "-S", "-m", "trinorm.workers", as_json(task)]
+        self.process = subprocess.Popen(words, start_new_session=True, stdin=subprocess.PIPE, stdout=subprocess.PIPE,
+                                        env=dict(os.environ, PYTHONPATH=path))
         self.todo: Deque[Entry] = collections.deque()
         self.is_ready = False
         self.seconds, self.answers = 0.0, 0
@@ -137,7 +138,7 @@ class Pool:
             self._drop(worker)
 
     def _workers(self) -> List[Worker]:
-        return [key.fileobj for key in self._selector.get_map().values()]  # type: ignore[misc]
+        return [key.data for key in self._selector.get_map().values()]
 
     def answers(self, todo: Iterable[Entry]) -> Iterator[Done]:
         """The lines as they are done."""
@@ -146,13 +147,14 @@ class Pool:
             self._start()
         while self._selector.get_map():
             for key, _ in self._selector.select():
-                yield from self._step(key.fileobj)  # type: ignore[arg-type]
+                yield from self._step(key.data)
 
     def _start(self) -> None:
-        self._selector.register(Worker(self.task), selectors.EVENT_READ)  # type: ignore[arg-type]
+        worker = Worker(self.task)
+        self._selector.register(worker.fileno(), selectors.EVENT_READ, worker)
 
     def _drop(self, worker: Worker) -> None:
-        self._selector.unregister(worker)  # type: ignore[arg-type]
+        self._selector.unregister(worker.fileno())
         worker.end()
 
     def _step(self, worker: Worker) -> Iterator[Done]:
@@ -181,7 +183,7 @@ class Pool:
 
     def _ended(self, worker: Worker) -> Iterator[Done]:
         """It was killed, as where memory ran out."""
-        self._selector.unregister(worker)  # type: ignore[arg-type]
+        self._selector.unregister(worker.fileno())
         if not worker.is_ready:
             raise Failed(f"a worker process could not start: {how_it_ended(worker.end())}")
         if worker.todo:
