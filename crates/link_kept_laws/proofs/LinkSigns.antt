@@ -49,7 +49,6 @@ module _ (old : List Row) (m : Move) (new : List Row) (table : IsTable old) (tab
   pub new_spot : (p q : Place) → IsSpot (length old) p → Tie p q → IsSpot (length new) q
   new_spot p q s t = tie_spot old m new table h p q s t
 
-  -- ---- forth
   module _ (signs : List Bool) (are : AreLinkSigns old vs c signs) where
     facet_sign : (i k j : ℕ) (f g : Facet) (ls : List ℕ) → Old i f → Old k g → j < length m.core → Below5 ls → has ls i ≡ false → has ls k ≡ false → IsSpot (length old) (in_facet f ls) → class_of vs (in_facet f ls) ≡ c
         → flip (is_odd (crossing i j f.labels)) (S signs (in_facet f ls)) ≡ flip (is_odd (crossing k j g.labels)) (S signs (in_facet g ls))

@@ -1,5 +1,5 @@
 //! What a legal move keeps: valid edges, and the links of vertex classes. So a table with a certificate, and each that `check` accepts, is
-//! a closed 3-manifold's by its numbers. The functions here have no code: their contracts are laws over the definitions.
+//! a closed 3-manifold's by its numbers; and the Euler characteristic of a closed table by those of its links. The functions here have no code: their contracts are laws over the definitions.
 #![tactic(auto)]
 
 ghost use Rattle.link_kept_laws.specs.Valid.{MovesKeepValid, PlaysKeepValid, MovesKeepInvalid};
