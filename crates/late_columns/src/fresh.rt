@@ -5,7 +5,7 @@ ghost use Rattle.cone_core.specs.Sparse.{IsInRange};
 ghost use Rattle.late_columns.specs.Late.{IsUnseen};
 ghost use Rattle.late_columns.specs.Fresh.{HasOne, IsFree, IsFreeColumn};
 
-use cone_core::{MAX_ENTRY, PlusMinus, Ray, SparseRow, parts};
+use cone_core::{MAX_ENTRY, PlusMinus, Ray, SparseRow};
 use no_memory::NoMemory;
 use std::alloc::Global;
 
@@ -28,7 +28,7 @@ fn turning(
     ensures { IfOk result (λ turn. IfSome turn (HasOne columns row.now column)) }
 {
     let unit = Ray::unit(alloc, columns, column)?;
-    match parts(row, &unit, MAX_ENTRY) {
+    match unit.parts(row, MAX_ENTRY) {
         Ok(PlusMinus { plus: 1, minus: 0 }) => Ok(Some(false)),
         Ok(PlusMinus { plus: 0, minus: 1 }) => Ok(Some(true)),
         _ => Ok(None),

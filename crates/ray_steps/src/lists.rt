@@ -7,7 +7,7 @@ ghost use Rattle.std.specs.List.Sorted.{IsPermutation, IsSorted};
 ghost use Rattle.ray_steps.specs.Kepts.{rays_of};
 
 use crate::kept::Kept;
-use cone_core::{Ray, compare};
+use cone_core::Ray;
 use no_memory::NoMemory;
 use std::alloc::{AllocError, Global};
 
@@ -16,7 +16,7 @@ pub fn sort_rays(kepts: &mut Vec<Kept>) -> Result<(), AllocError>
     ensures permutation { IsPermutation kepts.old.items kepts.new.items }
     ensures sorted { OnOk result (IsSorted (slice_cmp nat_cmp) (rays_of kepts.new.items)) }
 {
-    kepts.sort_by(|a, b| compare(&a.ray, &b.ray))
+    kepts.sort_by(|a, b| a.ray.compare(&b.ray))
 }
 
 /// The rays alone.

@@ -9,7 +9,7 @@ ghost use Rattle.ray_steps.specs.Faults.{IfLarge, IsFirstLargeValue};
 ghost use Rattle.std.specs.List.{All};
 
 use crate::kept::{Kept, LargeKind, StepFault};
-use cone_core::{MAX_ENTRY, Passed, PlusMinus, SparseRow, parts};
+use cone_core::{MAX_ENTRY, Passed, PlusMinus, SparseRow};
 use std::alloc::Global;
 
 /// Whether a row is zero, positive or negative at a ray, and its value or magnitude there.
@@ -50,7 +50,7 @@ fn sign_at(row: &SparseRow, kept: &Kept, limit: u128) -> Result<Sign, Passed>
     ensures within { OnOk result (HasPartsWithin limit row.now kept.now.ray) }
     ensures passed { OnErr result (HasLargePart limit row.now kept.now.ray) }
 {
-    let parts = parts(row, &kept.ray, limit)?;
+    let parts = kept.ray.parts(row, limit)?;
     Ok(sign_of(parts))
 }
 

@@ -39,11 +39,12 @@ fn compares_rays(rt: HostRuntime) -> Result<(), Fail> {
         .ok()
         .ok_or("too large")?;
     is_ray(&rt, &steep, &[18446744073709551616, 1]);
-    assert_eq!(rt; compare(&one, &other), Ordering::Greater);
-    assert_eq!(rt; compare(&one, &longer), Ordering::Less);
-    assert_eq!(rt; compare(&one, &steep), Ordering::Less);
-    assert_eq!(rt; compare(&steep, &other), Ordering::Greater);
-    assert_eq!(rt; compare(&steep, &steep), Ordering::Equal);
+    assert_eq!(rt; one.compare(&other), Ordering::Greater);
+    assert_eq!(rt; one.compare(&longer), Ordering::Less);
+    assert_eq!(rt; one.compare(&steep), Ordering::Less);
+    assert_eq!(rt; steep.compare(&other), Ordering::Greater);
+    assert_eq!(rt; steep.compare(&steep), Ordering::Equal);
+    assert_eq!(rt; compare(&[1, 0], &[1, 0, 0]), Ordering::Less);
     Ok(())
 }
 

@@ -2,14 +2,14 @@
 use Rattle.std.proofs.Common.{◌≡◌, ap, ◌∙◌, sym, rules}
 use Rattle.cone_core.specs.RayEntries.{numbers_of}
 use Rattle.cone_core.proofs.PartLemmas.{err_iff_large}
-use Rattle.cone_core.proofs.ray.parts.Goals as goal
-use Rattle.cone_core.proofs.ray.parts.Goals.{After-small_parts, After-parts_of}
+use Rattle.cone_core.proofs.ray.Ray.parts.Goals as goal
+use Rattle.cone_core.proofs.ray.Ray.parts.Goals.{After-small_parts, After-parts_of}
 
-small_are : (c : After-small_parts) → c.deref.result.now ≡ c.args.ray.now
-small_are c = c.deref.ensures.value ∙ sym (ap numbers_of c.in-Small.is) ∙ c.ray.view_is
+small_are : (c : After-small_parts) → c.deref.result.now ≡ c.args.self.now
+small_are c = c.deref.ensures.value ∙ sym (ap numbers_of c.in-Small.is) ∙ c.self.view_is
 
-large_are : (c : After-parts_of) → c.deref-in-Large.result.now ≡ c.args.ray.now
-large_are c = c.deref-in-Large.ensures.value ∙ sym (ap numbers_of c.in-Large.is) ∙ c.ray.view_is
+large_are : (c : After-parts_of) → c.deref-in-Large.result.now ≡ c.args.self.now
+large_are c = c.deref-in-Large.ensures.value ∙ sym (ap numbers_of c.in-Large.is) ∙ c.self.view_is
 
 pub returns-in-Small-clause-within : goal.returns-in-Small-clause-within
 returns-in-Small-clause-within c = (rw (c.entries.ensures.entries, small_are c) at c.small_parts.ensures).within
@@ -17,7 +17,7 @@ returns-in-Small-clause-within c = (rw (c.entries.ensures.entries, small_are c) 
 pub returns-in-Small-clause-passed : goal.returns-in-Small-clause-passed
 returns-in-Small-clause-passed c =
     let e = rw (c.entries.ensures.entries, small_are c) at c.small_parts.ensures in
-    err_iff_large c.small_parts.result c.args.limit c.args.row.now c.args.ray.now e.within e.passed
+    err_iff_large c.small_parts.result c.args.limit c.args.row.now c.args.self.now e.within e.passed
 
 pub returns-in-Large-clause-within : goal.returns-in-Large-clause-within
 returns-in-Large-clause-within c = (rw (c.entries-in-Large.ensures.entries, large_are c) at c.parts_of.ensures).within
@@ -25,4 +25,4 @@ returns-in-Large-clause-within c = (rw (c.entries-in-Large.ensures.entries, larg
 pub returns-in-Large-clause-passed : goal.returns-in-Large-clause-passed
 returns-in-Large-clause-passed c =
     let e = rw (c.entries-in-Large.ensures.entries, large_are c) at c.parts_of.ensures in
-    err_iff_large c.parts_of.result c.args.limit c.args.row.now c.args.ray.now e.within e.passed
+    err_iff_large c.parts_of.result c.args.limit c.args.row.now c.args.self.now e.within e.passed
