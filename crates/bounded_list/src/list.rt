@@ -6,9 +6,9 @@ ghost use Rattle.cone_definitions.specs.Surfaces.{IsSurfaceList};
 ghost use Rattle.bounded_list.specs.Lists.{enumeration_of, AreAlwaysWithin, IsOnlyListing, AreRefused};
 
 use cone_core::{MAX_ENTRY, Ray, System};
-use double_description::{LargeStep, Order, Picker, Rays, choice, eliminate};
+use double_description::{EnumFault, Order, Picker, Rays, choice, eliminate};
 use late_columns::vertex_surfaces;
-use no_memory::{Failure, NoMemory};
+use no_memory::NoMemory;
 use ray_steps::{Clashes, Compatible};
 use solved_rows::{SolveFault, solve};
 use std::alloc::Global;
@@ -47,7 +47,7 @@ fn eliminated<C: Compatible>(
     clashes: &Clashes<C>,
     order: Order,
     limit: u128,
-) -> Result<Rays, Failure<LargeStep>>
+) -> Result<Rays, EnumFault>
     requires columns { clashes.now.columns ≡ system.now.columns }
     requires named { order ≢ Order.Free }
     requires some_limit { 1 ≤ limit }
@@ -67,7 +67,7 @@ fn listed<C: Compatible>(
     each: u32,
     pivots: &[u32],
     terms: Terms,
-) -> Result<Vec<Ray>, Failure<LargeStep>>
+) -> Result<Vec<Ray>, EnumFault>
     requires columns { clashes.now.columns ≡ system.now.columns }
     requires named { terms.order ≢ Order.Free }
     requires some_limit { 1 ≤ terms.limit }
@@ -96,7 +96,7 @@ pub fn vertex_list<C: Compatible>(
     each: u32,
     pivots: &[u32],
     terms: Terms,
-) -> Result<Vec<Ray>, Failure<LargeStep>>
+) -> Result<Vec<Ray>, EnumFault>
     requires columns { C.width test ≡ system.now.columns }
     requires decides { C.decides test }
     requires named { terms.order ≢ Order.Free }

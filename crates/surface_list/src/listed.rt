@@ -9,10 +9,10 @@ ghost use Rattle.surface_list.specs.Surfaces.{AreTableSurfaces, IsTableRefused};
 use crate::bounds::numbers_fit;
 use bounded_list::{Terms, vertex_list};
 use cone_core::{MAX_ENTRY, Ray, System};
-use double_description::{LargeStep, Order};
+use double_description::{EnumFault, Order};
 use gluing_table::Table;
 use matching_equations::{Coords, equations_of_table};
-use no_memory::{Failure, NoMemory};
+use no_memory::NoMemory;
 use normal_discs::{columns_each, is_quad_or_octagon};
 use quad_condition::MaskedClashes;
 use std::alloc::Global;
@@ -44,7 +44,7 @@ pub fn surfaces_by(
     coords: Coords,
     order: Order,
     limit: u128,
-) -> Result<Vec<Ray>, Failure<LargeStep>>
+) -> Result<Vec<Ray>, EnumFault>
     requires columns { system.now.columns ≡ coordinates.columns coords (length table.now) }
     requires equations { AreEquations coords table.now system.now.rows }
     requires named { order ≢ Order.Free }
@@ -71,7 +71,7 @@ pub fn surfaces_of_table(
     coords: Coords,
     order: Order,
     limit: u128,
-) -> Result<Vec<Ray>, Failure<LargeStep>>
+) -> Result<Vec<Ray>, EnumFault>
     requires named { order ≢ Order.Free }
     requires some_limit { 1 ≤ limit }
     requires most_limit { limit ≤ MAX_ENTRY }

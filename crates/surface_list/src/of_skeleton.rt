@@ -5,9 +5,8 @@ ghost use Rattle.surface_list.specs.Surfaces.{AreTableSurfaces, IsTableRefused};
 
 use crate::listed::surfaces_by;
 use cone_core::{MAX_ENTRY, Ray};
-use double_description::{LargeStep, Order};
+use double_description::{EnumFault, Order};
 use matching_equations::{Coords, equations};
-use no_memory::Failure;
 use skeleton::Skeleton;
 use std::alloc::Global;
 
@@ -19,7 +18,7 @@ pub fn surfaces(
     coords: Coords,
     order: Order,
     limit: u128,
-) -> Result<Vec<Ray>, Failure<LargeStep>>
+) -> Result<Vec<Ray>, EnumFault>
     requires named { order ≢ Order.Free }
     requires some_limit { 1 ≤ limit }
     requires most_limit { limit ≤ MAX_ENTRY }
