@@ -4,10 +4,11 @@ ghost use Rattle.text_definitions.specs.Written.{limit};
 use crate::sample_cones::skeleton_of;
 use gluing_table::Table;
 use matching_equations::equations;
-use quad_condition::check_vector;
 use skeleton::Skeleton;
 use std::alloc::Global;
+use std::process::Abort;
 use std::test::Fail;
+use surface_answers::check;
 use surface_definitions::Coords;
 use surface_pieces::Pieces;
 
@@ -34,7 +35,7 @@ fn pieces_of(alloc: Global, skeleton: &Skeleton, x: &[u128]) -> Result<Pieces, F
     requires { sum x.now ≤ limit }
 {
     let system = equations(alloc, skeleton, Coords::Standard)?;
-    match check_vector(Coords::Standard, skeleton.table().len(), &system, x) {
+    match check(Coords::Standard, skeleton.table(), &system, x) {
         Ok(()) => Ok(
             Pieces::build(alloc, skeleton, Coords::Standard, x)
                 .ok()
@@ -44,20 +45,21 @@ fn pieces_of(alloc: Global, skeleton: &Skeleton, x: &[u128]) -> Result<Pieces, F
     }
 }
 
-// One quad of this table is a component with one side, and two are one with two sides, as are the triangles round its vertex.
+// Whether a surface of one component is two-sided, and whether it is orientable.
+fn sides_of_one(rt: &impl Abort, pieces: &Pieces) -> (bool, bool) {
+    assert_eq!(rt; pieces.components(), 1);
+    (pieces.two_sided(0), pieces.orientable(0))
+}
+
+// One quad of this table has one side, and two have two sides, as have the triangles round its vertex.
 #[test]
 fn pieces_of_a_closed_table_are_joined(rt: HostRuntime) -> Result<(), Fail> {
     let skeleton = skeleton_of(rt.alloc(), b"bkaajj")?;
     let one = pieces_of(rt.alloc(), &skeleton, &[0, 0, 0, 0, 0, 1, 0])?;
+    assert_eq!(rt; sides_of_one(&rt, &one), (false, false));
     let two = pieces_of(rt.alloc(), &skeleton, &[0, 0, 0, 0, 0, 2, 0])?;
+    assert_eq!(rt; sides_of_one(&rt, &two), (true, true));
     let link = pieces_of(rt.alloc(), &skeleton, &[1, 1, 1, 1, 0, 0, 0])?;
-    for (pieces, is_double) in [(&one, false), (&two, true), (&link, true)] {
-        assert_eq!(rt; pieces.components(), 1);
-        assert_eq!(rt;
-            (pieces.two_sided(0), pieces.orientable(0)),
-            (is_double, is_double)
-        );
-    }
-    assert_eq!(rt; two.vector(0), [0, 0, 0, 0, 0, 2, 0].as_slice());
+    assert_eq!(rt; sides_of_one(&rt, &link), (true, true));
     Ok(())
 }
