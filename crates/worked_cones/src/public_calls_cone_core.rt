@@ -1,24 +1,18 @@
-// The calls of `cone_core`, each once with its type.
-use bench_io::{Lexer, NoMemory};
-use cone_core::{
-    CombineFault, ConeFault, Ray, SolutionFault, SparseRow, System, combine, gcd, is_solution,
-    read_cone,
-};
+// The calls of `cone_core`, each once with its type. One that reads or gives out a borrow is named where it is called.
+use bench_io::NoMemory;
+use cone_core::{CombineFault, Ray, SolutionFault, SparseRow, System, combine, gcd, is_solution};
 use std::alloc::Global;
 
 #[test]
 fn calls_have_their_types(_rt: HostRuntime) {
     let _row: fn(Global, &[(u32, i32)]) -> Result<SparseRow, NoMemory> = SparseRow::new;
-    let _row_entries: fn(&SparseRow) -> &[(u32, i32)] = SparseRow::entries;
     let _system: fn(Global, u32) -> System = System::new;
     let _push_row: fn(&mut System, SparseRow) -> Result<(), NoMemory> = System::push_row;
     let _columns: fn(&System) -> u32 = System::columns;
     let _len: fn(&System) -> u32 = System::len;
-    let _row_at: fn(&System, u32) -> &SparseRow = System::row;
     let _unit: fn(Global, u32, u32) -> Result<Ray, NoMemory> = Ray::unit;
     let _copy: fn(&Ray, Global) -> Result<Ray, NoMemory> = Ray::copy;
     let _gcd: fn(u128, u128) -> u128 = gcd;
     let _combine: fn(Global, &Ray, &Ray, u128, u128, u128) -> Result<Ray, CombineFault> = combine;
     let _is_solution: fn(&System, &[u128]) -> Result<(), SolutionFault> = is_solution;
-    let _read_cone: fn(Global, &mut Lexer<'_>) -> Result<System, ConeFault> = read_cone;
 }

@@ -1,4 +1,4 @@
-// The calls of `support_bits`, each once with its type.
+// The calls of `support_bits`, each once with its type. One that reads or gives out a borrow is named where it is called.
 use no_memory::NoMemory;
 use std::alloc::Global;
 use support_bits::Support;
@@ -11,5 +11,4 @@ fn calls_have_their_types(_rt: HostRuntime) {
     let _same: fn(&Support, &Support) -> bool = Support::same;
     let _inside_union: fn(&Support, &Support, &Support) -> bool = Support::inside_union;
     let _meets: fn(&Support, &Support) -> bool = Support::meets;
-    let _words: fn(&Support) -> &[u64] = Support::words;
 }

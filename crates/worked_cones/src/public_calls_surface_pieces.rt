@@ -1,4 +1,4 @@
-// The calls of `surface_pieces`, each once with its type.
+// The calls of `surface_pieces`, each once with its type. One that reads or gives out a borrow is named where it is called.
 use matching_equations::Coords;
 use skeleton::Skeleton;
 use std::alloc::Global;
@@ -9,7 +9,6 @@ fn calls_have_their_types(_rt: HostRuntime) {
     let _build: fn(Global, &Skeleton, Coords, &[u128]) -> Result<Pieces, PiecesFault> =
         Pieces::build;
     let _components: fn(&Pieces) -> u32 = Pieces::components;
-    let _vector: fn(&Pieces, u32) -> &[u128] = Pieces::vector;
     let _two_sided: fn(&Pieces, u32) -> bool = Pieces::two_sided;
     let _orientable: fn(&Pieces, u32) -> bool = Pieces::orientable;
 }

@@ -1,4 +1,4 @@
-// The calls of `bench_io`, each once with its type.
+// The calls of `bench_io`, each once with its type. One that reads or gives out a borrow is named where it is called.
 use bench_io::{
     LexFault, LexKind, Lexer, MemorySink, MemorySource, NoMemory, NullSink, Place, SteadySource,
     Words, read_all, write_all,
@@ -11,12 +11,10 @@ fn calls_have_their_types(_rt: HostRuntime) {
     let _source: fn(Vec<u8>, Vec<u64>, usize) -> MemorySource = MemorySource::new;
     let _steady: fn(Vec<u8>) -> SteadySource = SteadySource::new;
     let _sink: fn(Global, usize, Vec<u64>, usize) -> Result<MemorySink, NoMemory> = MemorySink::new;
-    let _bytes: fn(&MemorySink) -> &[u8] = MemorySink::bytes;
     let _null: fn() -> NullSink = NullSink::new;
     let _new: fn(Global) -> Words = Words::new;
     let _push: fn(&mut Words, &str) -> Result<(), NoMemory> = Words::push;
     let _len: fn(&Words) -> usize = Words::len;
-    let _word: fn(&Words, usize) -> &str = Words::word;
 }
 
 #[test]

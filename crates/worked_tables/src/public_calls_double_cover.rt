@@ -1,6 +1,6 @@
-// The calls of `double_cover`, each once with its type.
+// The calls of `double_cover`, each once with its type. One that reads or gives out a borrow is named where it is called.
 use double_cover::{Cover, CoverFault};
-use gluing_table::{Relabelling, Table};
+use gluing_table::Relabelling;
 use no_memory::NoMemory;
 use skeleton::Skeleton;
 use std::alloc::Global;
@@ -8,7 +8,6 @@ use std::alloc::Global;
 #[test]
 fn calls_have_their_types(_rt: HostRuntime) {
     let _of: fn(Global, &Skeleton) -> Result<Cover, CoverFault> = Cover::of;
-    let _table: fn(&Cover) -> &Table = Cover::table;
     let _over: fn(&Cover, u32) -> u32 = Cover::over;
     let _sheet: fn(&Cover, u32) -> u8 = Cover::sheet;
     let _exchange: fn(&Cover, Global) -> Result<Relabelling, NoMemory> = Cover::exchange;

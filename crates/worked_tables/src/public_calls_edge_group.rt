@@ -1,5 +1,5 @@
-// The calls of `edge_group`, each once with its type.
-use edge_group::{Group, GroupFault, Letter};
+// The calls of `edge_group`, each once with its type. One that reads or gives out a borrow is named where it is called.
+use edge_group::{Group, GroupFault};
 use gluing_table::Face;
 use no_memory::Failure;
 use skeleton::Skeleton;
@@ -13,6 +13,5 @@ fn calls_have_their_types(_rt: HostRuntime) {
     let _turns: fn(&Group, u32) -> bool = Group::turns;
     let _relators: fn(&Group) -> u32 = Group::relators;
     let _edge_of: fn(&Group, u32) -> u32 = Group::edge_of;
-    let _relator: fn(&Group, u32) -> &[Letter] = Group::relator;
     let _tree_face: fn(&Group, u32) -> Option<Face> = Group::tree_face;
 }

@@ -1,8 +1,7 @@
-// The calls of `gluing_table`, each once with its type.
-use bench_io::{Lexer, NoMemory};
+// The calls of `gluing_table`, each once with its type. One that reads or gives out a borrow is named where it is called.
+use bench_io::NoMemory;
 use gluing_table::{
-    Face, Glue, MAX_TETS, Probe, Relabelling, RelabellingFault, Row, Table, TableFault, TextFault,
-    read_rows, write_table,
+    Face, Glue, MAX_TETS, Relabelling, RelabellingFault, Row, Table, TableFault, write_table,
 };
 use perm_four::Perm4;
 use std::alloc::Global;
@@ -22,6 +21,5 @@ fn calls_have_their_types(_rt: HostRuntime) {
         Relabelling::new;
     let _image: fn(&Relabelling, u32) -> u32 = Relabelling::image;
     let _perm: fn(&Relabelling, u32) -> Perm4 = Relabelling::perm;
-    let _read_rows: fn(Global, &mut Lexer<'_>) -> Result<Table, TextFault> = read_rows;
     let _write_table: fn(Global, &Table, &mut Vec<u8>) -> Result<(), NoMemory> = write_table;
 }

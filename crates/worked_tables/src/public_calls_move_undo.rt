@@ -1,7 +1,7 @@
-// The calls of `move_undo`, each once with its type.
-use bench_io::{LexFault, Lexer, NoMemory};
+// The calls of `move_undo`, each once with its type. One that reads or gives out a borrow is named where it is called.
+use bench_io::NoMemory;
 use gluing_table::Table;
-use move_undo::{PlayFault, Session, Step, read_move, read_step, write_move};
+use move_undo::{PlayFault, Session, write_move};
 use pachner_moves::Move;
 use std::alloc::Global;
 
@@ -11,10 +11,7 @@ fn calls_have_their_types(_rt: HostRuntime) {
     let _play: fn(&mut Session, Move) -> Result<(), PlayFault> = Session::play;
     let _undo: fn(&mut Session) -> bool = Session::undo;
     let _redo: fn(&mut Session) -> bool = Session::redo;
-    let _table: fn(&Session) -> &Table = Session::table;
     let _played: fn(&Session) -> u32 = Session::played;
     let _played_at: fn(&Session, u32) -> Move = Session::played_at;
-    let _read_step: fn(&mut Lexer<'_>) -> Result<Step, LexFault> = read_step;
-    let _read_move: fn(&mut Lexer<'_>) -> Result<Move, LexFault> = read_move;
     let _write_move: fn(Global, Move, &mut Vec<u8>) -> Result<(), NoMemory> = write_move;
 }

@@ -1,13 +1,12 @@
-// The calls of `skeleton`, each once with its type.
+// The calls of `skeleton`, each once with its type. One that reads or gives out a borrow is named where it is called.
 use gluing_table::Table;
 use no_memory::NoMemory;
-use skeleton::{Corner, Skeleton};
+use skeleton::Skeleton;
 use std::alloc::Global;
 
 #[test]
 fn calls_have_their_types(_rt: HostRuntime) {
     let _of: fn(Global, &Table) -> Result<Skeleton, NoMemory> = Skeleton::of;
-    let _table: fn(&Skeleton) -> &Table = Skeleton::table;
     let _vertices: fn(&Skeleton) -> u32 = Skeleton::vertices;
     let _edges: fn(&Skeleton) -> u32 = Skeleton::edges;
     let _faces: fn(&Skeleton) -> u32 = Skeleton::faces;
@@ -20,6 +19,4 @@ fn calls_have_their_types(_rt: HostRuntime) {
     let _is_valid_edge: fn(&Skeleton, u32) -> bool = Skeleton::is_valid_edge;
     let _first_invalid: fn(&Skeleton) -> Option<u32> = Skeleton::first_invalid;
     let _is_closed: fn(&Skeleton) -> bool = Skeleton::is_closed;
-    let _orientation: fn(&Skeleton) -> Option<&[bool]> = Skeleton::orientation;
-    let _around: fn(&Skeleton, u32) -> &[Corner] = Skeleton::around;
 }
