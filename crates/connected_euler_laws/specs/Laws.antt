@@ -1,17 +1,18 @@
 -- A connected normal surface in a table without invalid edges has Euler characteristic at most 2.
-use Rattle.std.specs.Prelude.{◌≡◌, ℕ, ◌*◌, ◌<◌, ◌⊎◌, pos, ◌≤ℤ◌, List, None}
+use Rattle.std.specs.Prelude.{◌≡◌, ℕ, ◌*◌, ◌<◌, ◌⊎◌, pos, ◌≤ℤ◌, List, None, ◌↔◌}
+use Rattle.std.specs.List.{Contains}
 use Rattle.skeleton_definitions.specs.Skeleton.{Skeleton, IsSkeleton, IsFirstInvalid}
 use Rattle.skeleton_definitions.specs.declared.Link.{Link}
 use Rattle.surface_definitions.specs.declared.Coords.{Coords}
-use Rattle.surface_definitions.specs.declared.Coords.TheVariants.{Octagon}
+use Rattle.surface_definitions.specs.declared.Coords.TheVariants.{Octagon, Standard}
 use Rattle.surface_definitions.specs.Pieces.{AreComponents, component_vector}
 use Rattle.surface_laws.specs.MatchingLaws.{HasTriangles}
 use Rattle.surface_laws.specs.PieceLaws.{IsSurface}
 use Rattle.quad_lift_laws.specs.Laws.{HasLink}
-use Rattle.efficiency_laws.specs.Laws.{IsPositive, IsConnectedSurface}
+use Rattle.efficiency_laws.specs.Laws.{IsPositive, IsConnectedSurface, IsZeroEfficient}
 use Rattle.efficiency_laws.specs.Octagons.{octagons, HasTwiceOctagons}
 use Rattle.vector_definitions.specs.Properties.{characteristic}
-use Rattle.coordinates_agree_laws.specs.VertexSurfaces.{IsVertexSurfaceOf}
+use Rattle.coordinates_agree_laws.specs.VertexSurfaces.{IsVertexSurfaceOf, IsSurfaceListOf}
 
 -- a surface has at most 2 for each of its components, in standard and octagon coordinates
 abbrev pub SurfacesHaveAtMostTwoEach : Type 0
@@ -58,3 +59,15 @@ abbrev pub TwiceOctagonsAreSpheres : Type 0
 TwiceOctagonsAreSpheres =
     (s : Skeleton) (xs : List ℕ) → IsSkeleton s → IsFirstInvalid s None → IsConnectedSurface s Octagon xs → HasTwiceOctagons s xs
     → (octagons s xs ≡ 1) × (characteristic s Octagon xs ≡ pos 2)
+
+-- a connected surface with one octagon and Euler characteristic 2: an almost normal sphere, by its numbers
+pub record IsAlmostNormalSphere (s : Skeleton) (xs : List ℕ) : Type 0 where
+  pub connected : IsConnectedSurface s Octagon xs
+  pub one_octagon : octagons s xs ≡ 1
+  pub two : characteristic s Octagon xs ≡ pos 2
+
+-- where the table is 0-efficient by its numbers, there is one exactly where one is listed
+abbrev pub AlmostNormalSphereIsListed : Type 0
+AlmostNormalSphereIsListed =
+    (s : Skeleton) (surfaces : List (List ℕ)) → IsSkeleton s → IsFirstInvalid s None → IsSurfaceListOf s Octagon surfaces → IsZeroEfficient s Standard
+    → ((xs : List ℕ) × IsAlmostNormalSphere s xs) ↔ ((v : List ℕ) × Contains surfaces v × IsAlmostNormalSphere s v)

@@ -31,13 +31,13 @@ use Rattle.list_answer_laws.proofs.ReadLists.{list_of}
 use Rattle.list_answer_laws.proofs.Zipped.{zip_back, zip_on, zip_map}
 
 module _ (s : Skeleton) (k : IsSkeleton s) (coords : Coords) (triangles : HasTriangles coords) (equations : List EquationRow) where
-  abbrev IsTold : List ℕ → Description → Type 0
+  abbrev pub IsTold : List ℕ → Description → Type 0
   IsTold v d = IsDescription s coords equations v (Ok d)
 
   properties : (v : List ℕ) (d : Description) → IsTold v d → AreProperties s coords v d.properties
   properties v d t = t.2.1
 
-  euler_is : (v : List ℕ) (d : Description) → IsTold v d → d.properties.euler ≡ characteristic s coords v
+  pub euler_is : (v : List ℕ) (d : Description) → IsTold v d → d.properties.euler ≡ characteristic s coords v
   euler_is v d t = let p : AreProperties s coords v d.properties = properties v d t in p.euler ∙ (λ i. euler (p.points i) (p.arcs i) (p.pieces i))
 
   module _ (list : List (List ℕ)) (told : List Description) (surfaces : IsSurfaceListOf s coords list) (zipped : AllZip IsTold list told) where
@@ -78,7 +78,7 @@ module _ (s : Skeleton) (k : IsSkeleton s) (coords : Coords) (triangles : HasTri
     decides = decided list told surfaces t;
   }
 
-refused_not_done : (o : Outcome) (text : List ℕ) → o ≡ record { status = Refused; text = text } → o.status ≡ Done → ⊥
+pub refused_not_done : (o : Outcome) (text : List ℕ) → o ≡ record { status = Refused; text = text } → o.status ≡ Done → ⊥
 refused_not_done o text e done = let same : Refused ≡ Done = sym (ap (λ (q : Outcome). q.status) e) ∙ done in cc
 
 pub described_lists_decide_lem : DescribedListsDecide

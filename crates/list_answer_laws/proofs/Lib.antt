@@ -1,4 +1,5 @@
 pub mod Zipped
 pub mod ReadLists
 pub mod Described
+pub mod DescribedOctagons
 pub mod Lists

@@ -3,13 +3,19 @@
 //! definitions.
 #![tactic(auto)]
 
-ghost use Rattle.list_answer_laws.specs.Efficiency.{DescribedListsDecide};
+ghost use Rattle.list_answer_laws.specs.Efficiency.{DescribedListsDecide, DescribedOctagonsDecide};
 ghost use Rattle.list_answer_laws.specs.Lists.{LiftedListsAreListed, OctagonListsHaveStandard};
 
 /// Where `describe` tells of what `surfaces` listed, the table is 0-efficient by its numbers exactly where each line with an Euler
 /// characteristic above 0 says that the surface is linking.
 pub fn described_lists_decide_efficiency()
     ensures { DescribedListsDecide }
+{}
+
+/// Where that is so, there is an almost normal sphere, by its numbers, exactly where a line of `describe` of what `surfaces` listed in
+/// octagon coordinates has Euler characteristic 2, for a vector with one octagon.
+pub fn described_octagons_decide_spheres()
+    ensures { DescribedOctagonsDecide }
 {}
 
 /// What `lift` answers of what `surfaces` listed in quad coordinates stands in what it lists in standard ones.
