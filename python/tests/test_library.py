@@ -206,6 +206,14 @@ class Areas(unittest.TestCase):
             self.room.raw = b"x" * 64
         self.assertEqual((self.run_in(None, 0), self.needed.value), (7, 7))
 
+    def test_the_proved_function_itself(self):
+        call = ctypes.CDLL(named()).trinorm_answer
+        call.argtypes, call.restype = self.call.argtypes, ctypes.c_uint8
+        for size, wanted in ((6, 7), (7, 0), (64, 0)):
+            self.assertEqual(call(self.words, 3, self.input, 11, self.room, size, ctypes.byref(self.needed)), wanted)
+            self.assertEqual(self.needed.value, 7)
+        self.assertEqual(self.room.raw, b"bkaagj\n".ljust(64, b"x"))
+
     def test_null(self):
         self.assertEqual(self.call(None, 0, None, 0, self.room, 64, ctypes.byref(self.needed)), 2)
         self.assertEqual(self.call(self.words, 3, None, 0, self.room, 64, None), 3)
