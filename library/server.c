@@ -3,6 +3,7 @@
  * is a byte, the status, a length of 4 bytes, and so many bytes. Status 6: the input ended within a request; 7: an answer
  * was not taken; 8: no memory for a request or for an answer. */
 #include "trinorm.h"
+#include <malloc.h>
 #include <stdio.h>
 #include <stdlib.h>
 #include <sys/mman.h>
@@ -44,6 +45,9 @@ int main(void) {
     uint32_t lengths[2];
     if (!text || !make_room((size_t)1 << 26))
         return TRINORM_MEMORY;
+    /* what a call gives back is kept for the next one, and not handed to the system each time */
+    mallopt(M_MMAP_THRESHOLD, 1 << 24);
+    mallopt(M_TRIM_THRESHOLD, 1 << 24);
     for (;;) {
         size_t got = fread(lengths, 1, sizeof lengths, stdin);
         if (got < sizeof lengths)
