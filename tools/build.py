@@ -325,7 +325,7 @@ def main() -> None:
     if build.is_installed() or build.is_taken(kit):
         return
     if kit is None:
-        sys.exit(f"{PROGRAM}: the command rt of the Rattle kit is not there; README.md says which kit")
+        sys.exit(f"{PROGRAM}: the command rt of the Rattle kit is not there; README.md says which kit, and how a release is taken")
     if given.no_proof:
         say("the program isn't built yet: ./trinorm or tools/build.py builds it")
         sys.exit(9)
