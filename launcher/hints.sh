@@ -179,7 +179,8 @@ say_lone_signature() {
   word=$(LC_ALL=C awk '/^[ \t\r]*(#|$)/ { next } { sub(/\r$/, "", $1); print $1; exit }' <"$input")
   is_signature "$word" || return 1
   decoration=${word#"${word%%_*}"}
-  say "put \`sig\` before ${word%%_*}${decoration:+, and leave SnapPy's decoration $decoration out}"
+  [ -z "$decoration" ] || decoration=", and leave SnapPy's decoration $decoration out"
+  say "put \`sig\` before ${word%%_*}$decoration"
 }
 
 # What the refusal of an input is about.

@@ -1,6 +1,7 @@
 """The launcher: what it says where standard error is a terminal, and that nothing else of a run changes."""
 import os
 import pty
+import shutil
 import subprocess
 import tempfile
 import unittest
@@ -71,6 +72,13 @@ class Launcher(unittest.TestCase):
         for name in names:
             example = self.said([name, "--help"]).rpartition("for example: ")[2]
             self.assertEqual(subprocess.run(["sh", "-c", example], stdout=subprocess.PIPE, check=False).returncode, 0, example)
+
+    def test_other_shells(self):
+        """What plays the part of sh elsewhere reads the launcher too, and says the same."""
+        for shell in filter(shutil.which, ("bash", "dash", "ksh", "busybox")):
+            words = [shutil.which(shell), *(["sh"] if shell == "busybox" else []), self.launcher]
+            for given, text in ((["surfaces", "--help"], b""), (["info"], b"cPcbbbiht_BaCB"), (["surfaces", "a'b", "cPcbbbiht"], b""), (["verify"], b"tri 0\nvec -1\n")):
+                self.assertEqual(self.run_with(words[0], [*words[1:], *given], text), self.run_with(self.launcher, given, text), (shell, given))
 
     def test_version(self):
         for words in (["--version"], ["version"]):
@@ -187,7 +195,7 @@ class Launcher(unittest.TestCase):
         ours, theirs = pty.openpty()
         run = subprocess.Popen([self.launcher, "sig"], stdin=theirs, stdout=subprocess.PIPE, stderr=theirs)
         said = b""
-        while b"Ctrl-D" not in said:
+        while b"Ctrl-D" not in said and run.poll() is None:
             said += os.read(ours, 10000)
         self.assertIn(b"trinorm: sig reads a triangulation from the terminal", said)
         os.write(ours, b"sig bkaagj\n\x04")
