@@ -134,7 +134,7 @@ class Workspace:
 
     def is_stamped(self, name: str, stamp: str) -> bool:
         try:
-            return self.stamp_file(name).read_text("ascii") == stamp and self.made(name).is_dir()
+            return self.stamp_file(name).read_text("ascii") == stamp and self.made(name).is_dir() and self.log(name).is_file()
         except OSError:
             return False
 
@@ -157,6 +157,7 @@ class Workspace:
             assert self.kept is not None
             self.stamp_file(name).unlink(missing_ok=True)
             self.kept.take(self.stamps[name], self.made(name))
+            self.log(name).write_text(f"{self.verdicts[name]}\n", "utf8")
             self.stamp_file(name).write_text(self.stamps[name], "ascii")
 
     def words(self, name: str, jobs: int) -> List[str]:

@@ -120,6 +120,16 @@ class Build(unittest.TestCase):
                 self.clone.write("ground", "echo ground\n")
                 self.clone.write("left", "echo left\n")
 
+    def test_a_build_over_kept_libraries_goes_on(self):
+        self.clone.build("--keep")
+        self.clone.write("left", "echo wrong\n")
+        self.assertIn("the crate left did not build", self.clone.launch())
+        self.clone.proved()
+        self.clone.write("left", "echo other\n")
+        self.assert_answers(self.clone, ANSWER.replace("left", "other"), ["left", "trinorm"])
+        manifests = (self.folder / "cache" / "trinorm" / "programs").glob("*/MANIFEST")
+        self.assertFalse(any("unknown" in path.read_text() for path in manifests))
+
     def hide_zstd(self):
         """A path on which no zstd stands."""
         commands = self.folder / "commands"
