@@ -144,12 +144,15 @@ class Table(unittest.TestCase):
         done = subprocess.run([sys.executable, str(REPOSITORY / "tools" / "commands.py"), "--check"], capture_output=True, text=True, check=False)
         self.assertEqual((done.returncode, done.stdout), (0, ""))
 
-    def test_one_version(self):
-        """The version stands in pyproject.toml; what tells it too tells the same."""
+    def test_one_version_and_all_notices(self):
+        """The version stands in pyproject.toml, and what tells it too tells the same; each library of the kit has its notice."""
         sys.path.insert(0, str(REPOSITORY / "tools"))
         self.addCleanup(sys.path.remove, str(REPOSITORY / "tools"))
-        from repository import version
+        from repository import crates_of_build, version
 
+        notices = (REPOSITORY / "NOTICES").read_text("utf8")
+        for name in {name for crate in crates_of_build(REPOSITORY).values() for name in crate.of_kit}:
+            self.assertIn(f"\n{name}\n", notices)
         told = version(REPOSITORY)
         self.assertRegex(told, r"^\d+\.\d+\.\d+$")
         self.assertIn(f"\nversion: {told}\n", (REPOSITORY / "CITATION.cff").read_text("utf8"))
