@@ -106,6 +106,14 @@ class Census(Folder):
         self.assertEqual((self.ran, len(told)), (Ran(0, 5, 1), 5))
         self.assertEqual(told["a name with spaces"]["failed"], "a worker process: killed by signal 9")
 
+    def test_a_run_past_its_limit_loses_no_other(self):
+        self.put(self.given, "bkaagj one\nuLMzMzMzMzMzMPcbcdefghijklmnopqrsttthhhhhhhhhhhhhhhhhhhah slow\nbkaajj two\n")
+        told = self.run_it(task=Task("surfaces", "standard", timeout=0.02))
+        self.assertIn("no answer in 0.02 s", told["slow"]["failed"])
+        self.assertEqual(len(told), 3)
+        told = self.run_it(task=Task("surfaces", "standard", timeout=60), retry=True)
+        self.assertEqual({name: len(it["answer"]) for name, it in told.items()}, {"one": 2, "slow": 15129, "two": 2})
+
     def test_many(self):
         self.put(self.given, "".join(f"bkaagj {number}\n" for number in range(300)))
         self.assertEqual(set(self.run_it(task=Task("sig"))), set(map(str, range(300))))
