@@ -126,7 +126,9 @@ def census(given: str, out: str, task: Task, jobs: int, retry: bool = False) -> 
                 for done_now in pool.answers(todo):
                     output.write(done_now.line)
                     progress.add(done_now.kind)
-    except (OSError, ValueError) as fault:
+    except OSError as fault:
+        raise Failed(f"{fault.filename or out}: {fault.strerror}") from None
+    except ValueError as fault:
         raise Failed(str(fault)) from None
     progress.end(out)
     return Ran(len(wanted) - len(todo), len(todo), progress.kinds["failed"])
