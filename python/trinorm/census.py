@@ -7,6 +7,7 @@ A line of the input is `SIGNATURE` or `SIGNATURE NAME`, with `sig` before it or 
 from __future__ import annotations
 
 import argparse
+import contextlib
 import dataclasses
 import json
 import os
@@ -114,22 +115,29 @@ class Ran:
     failed: int
 
 
+@contextlib.contextmanager
+def faults_of_files(path: str) -> Iterator[None]:
+    """What is wrong with files, as a failed run that names the file."""
+    try:
+        yield
+    except OSError as fault:
+        raise Failed(f"{fault.filename or path}: {fault.strerror}") from None
+    except ValueError as fault:
+        raise Failed(str(fault)) from None
+
+
 def census(given: str, out: str, task: Task, jobs: int, retry: bool = False) -> Ran:
     """Runs what of a file of signatures is missing in the output."""
-    try:
+    with faults_of_files(out):
         wanted = read_entries(given)
         with Output(out) as output:
             done = started_again(output, task, retry)
             todo = [it for it in wanted if it not in done]
             progress = Progress(len(todo), len(wanted) - len(todo), sys.stderr)
             with Pool(task, jobs) as pool:
-                for done_now in pool.answers(todo):
-                    output.write(done_now.line)
-                    progress.add(done_now.kind)
-    except OSError as fault:
-        raise Failed(f"{fault.filename or out}: {fault.strerror}") from None
-    except ValueError as fault:
-        raise Failed(str(fault)) from None
+                for answered in pool.answers(todo):
+                    output.write(answered.line)
+                    progress.add(answered.kind)
     progress.end(out)
     return Ran(len(wanted) - len(todo), len(todo), progress.kinds["failed"])
 

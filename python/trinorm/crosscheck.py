@@ -33,6 +33,12 @@ def print_all(entries: Iterable[Entry], task: Task, jobs: int) -> bool:
     return are_same
 
 
+def all_are_same(path: str) -> bool:
+    """Whether the lists are the same in each line of an output."""
+    with census.faults_of_files(path), open(path, "rb") as file:
+        return all(told(json.loads(line))[0] for line in file)
+
+
 def add_arguments(reader: argparse.ArgumentParser) -> None:
     reader.add_argument("signatures", nargs="*", metavar="SIGNATURE")
     reader.add_argument("--file", help="a file of lines SIGNATURE or SIGNATURE NAME, in their place")
@@ -46,14 +52,13 @@ def main(given: argparse.Namespace) -> int:
         import regina  # noqa: F401
     except ImportError:
         raise Failed("this Python has no module regina; run it by the one that has, often /usr/bin/python3") from None
-    if bool(given.signatures) == bool(given.file) or (given.out and not given.file):
-        raise Failed("either signatures are given, or --file with or without --out")
+    if bool(given.signatures) == bool(given.file) or (given.out and not given.file) or given.out == "-":
+        raise Failed("either signatures are given, or --file, with or without a file behind --out")
     task = Task("crosscheck", given.coords, given.timeout, find())
-    if not given.file:
-        return 0 if print_all([Entry(it, it) for it in given.signatures], task, given.jobs or 1) else 1
-    jobs = given.jobs or census.processors()
-    if not given.out:
-        return 0 if print_all(census.read_entries(given.file), task, jobs) else 1
-    census.census(given.file, given.out, task, jobs)
-    with open(given.out, "rb") as file:
-        return 0 if all(told(json.loads(line))[0] for line in file) else 1
+    if given.out:
+        census.census(given.file, given.out, task, given.jobs or census.processors())
+        return 0 if all_are_same(given.out) else 1
+    with census.faults_of_files("standard output"):
+        entries = census.read_entries(given.file) if given.file else [Entry(it, it) for it in given.signatures]
+        jobs = given.jobs or (census.processors() if given.file else 1)
+        return 0 if print_all(entries, task, jobs) else 1
