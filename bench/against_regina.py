@@ -72,7 +72,8 @@ def check_surfaces(count: Count, t: Any) -> None:
         count("crush", trinorm.crush(t, it).to_regina().isIsomorphicTo(it.crush()) is not None)
     if valid:
         check_described(count, t, surfaces)
-        if not t.hasTwoSphereBoundaryComponents():  # by which Regina says no
+        # Regina says no by a sphere in the boundary, and not by a projective plane with two sides
+        if t.isOrientable() and not t.hasTwoSphereBoundaryComponents():
             count("0-efficiency", bool(trinorm.zero_efficient(t)) == t.isZeroEfficient())
         for it in regina.NormalSurfaces(t, regina.NS_QUAD):
             count("lift", lifted(t, it) == (trinorm.vector_of(it) if it.isCompact() else None))

@@ -60,6 +60,11 @@ class BesideRegina(unittest.TestCase):
         for t in self.closed():
             self.assertEqual(bool(trinorm.zero_efficient(t)), t.isZeroEfficient(), t.isoSig())
 
+    def test_projective_planes_with_two_sides(self):
+        t = regina.Example3.rp2xs1()
+        shown = trinorm.zero_efficient(t)
+        self.assertEqual((shown.euler, shown.components[0].sides, t.isZeroEfficient()), (1, 2, True))
+
     def test_spheres_and_tori(self):
         for t in self.closed():
             theirs = [it for it in regina.NormalSurfaces(t, regina.NS_STANDARD) if not it.isVertexLinking() and it.isCompact()]

@@ -66,7 +66,8 @@ def zero_efficient(t: Triangulation, *,
     """True where each connected normal surface of positive Euler characteristic is a vertex link; else a listed one that
     is none, which counts as False: a sphere, a projective plane or a disc.
 
-    That the list decides it is proved. For closed orientable triangulations it is the 0-efficiency of Jaco and Rubinstein.
+    That the list decides it is proved. For closed orientable triangulations it is the 0-efficiency of Jaco and Rubinstein;
+    in others a projective plane with two sides counts too, though its double is no sphere.
     """
     for it in described(t, timeout=timeout, program=program):
         if it.euler > 0 and not it.linking:
