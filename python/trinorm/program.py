@@ -76,7 +76,7 @@ _is_built = False
 
 
 def _built_in_repository() -> str:
-    """The repository's program; where it isn't built, or a source is newer, it is built first, once a process."""
+    """The repository's program; where it isn't built, or a source was changed, it is built first, once a process."""
     global _is_built
     program = REPOSITORY / "crates" / "trinorm" / "out" / "trinorm"
     with _build:
