@@ -21,3 +21,4 @@ pub mod ZeroLemmas
 pub mod SurfaceSteps
 pub mod StepLemmas
 pub mod ViewLemmas
+pub mod FoundLemmas

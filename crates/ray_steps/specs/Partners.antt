@@ -1,6 +1,5 @@
 -- For each column the columns that clash with it.
 use Rattle.std.specs.Prelude.{◌≡◌, ℕ, ◌<◌, ◌⊎◌, ◌↔◌, List, Bool, [], length, slice_index_or, Contains}
-use Rattle.std.specs.List.{All}
 use Rattle.cone_definitions.specs.Surfaces.{Clash}
 use Rattle.support_bits.specs.Columns.{HasColumn}
 

@@ -22,6 +22,11 @@ pub record HasSupportsOf (rays : List (List ℕ)) (columns : ℕ) (places : List
   pub width : table.columns ≡ columns
   pub supports : table.supports ≡ map (λ k. support_of (ray_at rays k)) places
 
+-- the table has the supports of all rays
+pub record HasAllSupports (rays : List (List ℕ)) (columns : ℕ) (table : Table) : Type 0 where
+  pub width : table.columns ≡ columns
+  pub supports : table.supports ≡ map support_of rays
+
 -- the places of all rays that have none of the columns at hand, with their supports
 pub record HaveRivals (rays : List (List ℕ)) (columns : ℕ) (rivals : Rivals) : Type 0 where
   pub count : length rivals.joined ≡ columns

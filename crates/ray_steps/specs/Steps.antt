@@ -2,11 +2,11 @@
 use Rattle.std.specs.Prelude.{◌≡◌, ℕ, ◌<◌, ◌≤◌, List, length, map, IfSome}
 use Rattle.std.specs.List.{All}
 use Rattle.cone_core.specs.declared.numbers.TheConstants.{MAX_ENTRY}
-use Rattle.cone_definitions.specs.Surfaces.{Clash}
+use Rattle.cone_definitions.specs.Surfaces.{Clash, IsAdmissibleUnion}
 use Rattle.ray_steps.specs.declared.kept.Kept.{Kept}
 use Rattle.ray_steps.specs.declared.signs.Sign.{Sign}
 use Rattle.ray_steps.specs.Kepts.{rays_of, AreOfWidth}
-use Rattle.ray_steps.specs.Signs.{IsBoundedSign, IsMadeUpTo, AreSigns}
+use Rattle.ray_steps.specs.Signs.{IsBoundedSign, IsFacePair, IsMadeUpTo, AreSigns}
 use Rattle.ray_steps.specs.Rivals.{HaveRivals}
 use Rattle.ray_steps.specs.Faults.{IsFirstLargeSum}
 use Rattle.cone_definitions.specs.Elimination.{Named}
@@ -47,6 +47,15 @@ pub record AreMadeBelow (step : StepData) (i : ℕ) (made : Made) : Type 0 where
   pub so_far : IsMadeUpTo step.limit step.pairs step.rays step.signs i 0 (rays_of made.kepts.items)
   pub widths : AreOfWidth step.columns made.kepts.items
   pub rivals : IfSome made.rivals (HaveRivals step.rays step.columns)
+
+-- what the pairs before the places i and j are combined to
+pub record AreMadeTo (step : StepData) (i j : ℕ) (kepts : List Kept) : Type 0 where
+  pub so_far : IsMadeUpTo step.limit step.pairs step.rays step.signs i j (rays_of kepts)
+  pub widths : AreOfWidth step.columns kepts
+
+-- two places are a face pair where their union holds no clashing pair
+abbrev pub IsFaceIfAdmissible : StepData → ℕ → ℕ → Type 0
+IsFaceIfAdmissible step i j = IsAdmissibleUnion step.pairs (ray_at step.rays i) (ray_at step.rays j) → IsFacePair step.pairs step.rays i j
 
 -- a search for third rays beside the ray at i
 pub record IsSearchAt (step : StepData) (i : ℕ) (search : Search) : Type 0 where

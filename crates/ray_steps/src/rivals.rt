@@ -3,7 +3,7 @@
 ghost use Rattle.std.specs.Prelude.{◌≡◌, ◌<◌, length, IfOk};
 ghost use Rattle.std.specs.List.{All};
 ghost use Rattle.ray_steps.specs.Kepts.{rays_of, AreOfWidth};
-ghost use Rattle.ray_steps.specs.Rivals.{AreApart, HasSupportsOf, HaveRivals};
+ghost use Rattle.ray_steps.specs.Rivals.{AreApart, HasSupportsOf, HasAllSupports, HaveRivals};
 
 use crate::kept::Kept;
 use no_memory::NoMemory;
@@ -71,4 +71,16 @@ pub fn rivals_with(
         places,
         table,
     })
+}
+
+/// The supports of all rays.
+pub fn all_supports(alloc: Global, kepts: &[Kept], columns: u32) -> Result<SupportTable, NoMemory>
+    requires { AreOfWidth columns kepts.now }
+    ensures { IfOk result (HasAllSupports (rays_of kepts.now) columns) }
+{
+    let mut table = SupportTable::new(alloc, columns);
+    for kept in kepts {
+        table.push(&kept.support)?;
+    }
+    Ok(table)
 }

@@ -5,25 +5,30 @@ ghost use Rattle.cone_core.specs.Sparse.{IsInRange};
 ghost use Rattle.ray_steps.specs.Faults.{IfLarge, IsFirstLargeValue};
 ghost use Rattle.ray_steps.specs.Kepts.{rays_of, AreOfWidth};
 ghost use Rattle.ray_steps.specs.Negatives.{AreNegatives};
-ghost use Rattle.ray_steps.specs.Rivals.{HaveRivals};
+ghost use Rattle.ray_steps.specs.Rivals.{HaveRivals, HasAllSupports};
 ghost use Rattle.ray_steps.specs.Signs.{IsFacePair, IsNextFrom};
-ghost use Rattle.ray_steps.specs.Steps.{AreStepRays, IsStepOf, IsSearchAt, AreMadeBelow, AreMadeOf, AreCombinedOf, IsFirstLargeOf, turned_step};
+ghost use Rattle.ray_steps.specs.Steps.{AreStepRays, IsStepOf, IsSearchAt, AreMadeBelow, AreMadeTo, AreMadeOf, IsFaceIfAdmissible, AreCombinedOf, IsFirstLargeOf, turned_step};
 
 use crate::compatible::{Clashes, Compatible};
 use crate::kept::{Kept, StepFault};
 use crate::made::{Combined, Made, Search};
 use crate::negatives::{Negatives, first_near, negatives_of};
 use crate::pairs::combine_pair;
-use crate::rivals::{Rivals, rivals_with};
+use crate::rivals::{Rivals, all_supports, rivals_with};
 use crate::signs::{Sign, signs_at};
-use crate::thirds::{has_single, third_inside};
+use crate::thirds::{has_single, is_single, third_inside};
 use crate::turned::{has_more_positives, has_positive, turned_signs};
 use crate::zeros::keep_zeros;
 use cone_core::{MAX_ENTRY, SparseRow};
 use no_memory::NoMemory;
+use residual_pairs::minimal_places;
 use std::alloc::Global;
 use std::marker::Model;
 use support_bits::Support;
+use support_table::SupportTable;
+
+/// From so many rays on pairs are looked for by residuals, which pays in large steps alone.
+const MANY_RAYS: usize = 1000;
 
 /// The rays so far with their supports, a row's sign at each, and what clashes. No union of a pair has more than `most`
 /// columns, and no entry may pass the limit.
@@ -179,9 +184,99 @@ impl<'a, C: Compatible> Step<'a, C> {
         Ok(())
     }
 
+    /// Combines the rays at two places, where they are a positive and a negative one whose union holds no clashing pair.
+    fn combine_found(
+        &self,
+        alloc: Global,
+        i: usize,
+        j: usize,
+        made: &mut Vec<Kept>,
+    ) -> Result<(), StepFault>
+        requires first { i < length self.now.rays }
+        requires second { j < length self.now.rays }
+        requires face { IsFaceIfAdmissible self.now i j }
+        requires made { AreMadeTo self.now i j made.old.items }
+        ensures ok { OnOk result (AreMadeTo self.now i (j + 1) made.new.items) }
+        ensures err { IfErr result (IfLarge (IsFirstLargeOf self.now)) }
+    {
+        let Sign::Positive(at_u) = self.signs[i] else {
+            return Ok(());
+        };
+        let Sign::Negative(at_w) = self.signs[j] else {
+            return Ok(());
+        };
+        let clashes = self.clashes;
+        let u = &self.kepts[i];
+        let w = &self.kepts[j];
+        if clashes.allows(&u.support, &w.support) {
+            let kept = combine_pair(alloc, u, w, at_u, at_w, self.limit)?;
+            made.push(kept)?;
+        }
+        Ok(())
+    }
+
+    /// Combines the ray at a place, where it is positive, with each negative ray that it makes a pair with. These are looked
+    /// for by residuals among all rays at once.
+    fn combine_minimal(
+        &self,
+        alloc: Global,
+        i: usize,
+        supports: &SupportTable,
+        made: &mut Vec<Kept>,
+    ) -> Result<(), StepFault>
+        requires in_range { i < length self.now.rays }
+        requires supports { HasAllSupports self.now.rays self.now.columns supports.now }
+        requires made { AreMadeTo self.now i 0 made.old.items }
+        ensures ok { OnOk result (AreMadeTo self.now (i + 1) 0 made.new.items) }
+        ensures err { IfErr result (IfLarge (IsFirstLargeOf self.now)) }
+    {
+        let Sign::Positive(_) = self.signs[i] else {
+            return Ok(());
+        };
+        let clashes = self.clashes;
+        let u = &self.kepts[i];
+        let joined = clashes.joined(alloc, &u.support)?;
+        let places = minimal_places(alloc, supports, &u.support, &joined, i)?;
+        for place in &places {
+            self.combine_found(alloc, i, *place, made)?;
+        }
+        Ok(())
+    }
+
+    /// Combines the ray at a place by residuals, where the supports of all rays are at hand and it has more than one column,
+    /// and else by looking for third rays.
+    fn combine_one(
+        &self,
+        alloc: Global,
+        i: usize,
+        negatives: &Negatives,
+        supports: &Option<SupportTable>,
+        made: &mut Made,
+    ) -> Result<(), StepFault>
+        requires in_range { i < length self.now.rays }
+        requires negatives { AreNegatives self.now.rays self.now.signs self.now.columns negatives.now }
+        requires supports { IfSome supports.now (HasAllSupports self.now.rays self.now.columns) }
+        requires made { AreMadeBelow self.now i made.old }
+        ensures ok { OnOk result (AreMadeBelow self.now (i + 1) made.new) }
+        ensures err { IfErr result (IfLarge (IsFirstLargeOf self.now)) }
+    {
+        if let Some(table) = supports {
+            if !is_single(&self.kepts[i].support) {
+                return self.combine_minimal(alloc, i, table, &mut made.kepts);
+            }
+        }
+        self.combine_with(alloc, i, negatives, made)
+    }
+
     /// What the pairs of all rays with these negative ones are combined to.
-    fn combine_each(&self, alloc: Global, negatives: &Negatives) -> Result<Vec<Kept>, StepFault>
-        requires { AreNegatives self.now.rays self.now.signs self.now.columns negatives.now }
+    fn combine_each(
+        &self,
+        alloc: Global,
+        negatives: &Negatives,
+        supports: &Option<SupportTable>,
+    ) -> Result<Vec<Kept>, StepFault>
+        requires negatives { AreNegatives self.now.rays self.now.signs self.now.columns negatives.now }
+        requires supports { IfSome supports.now (HasAllSupports self.now.rays self.now.columns) }
         ensures ok { IfOk result (λ made. AreMadeOf self.now made.items) }
         ensures err { IfErr result (IfLarge (IsFirstLargeOf self.now)) }
     {
@@ -190,9 +285,21 @@ impl<'a, C: Compatible> Step<'a, C> {
             rivals: None,
         };
         for i in 0..self.kepts.len() {
-            self.combine_with(alloc, i, negatives, &mut made)?;
+            self.combine_one(alloc, i, negatives, supports, &mut made)?;
         }
         Ok(made.kepts)
+    }
+
+    /// The supports of all rays, where these are many. Either way the same pairs are found, so nothing is said of when.
+    fn supports_of_many(&self, alloc: Global) -> Result<Option<SupportTable>, NoMemory>
+        ensures { IfOk result (λ supports. IfSome supports (HasAllSupports self.now.rays self.now.columns)) }
+    {
+        if self.kepts.len() < MANY_RAYS {
+            return Ok(None);
+        }
+        let clashes = self.clashes;
+        let supports = all_supports(alloc, &self.kepts, clashes.columns())?;
+        Ok(Some(supports))
     }
 
     /// What all pairs are combined to, or the first pair of which an entry passes the limit.
@@ -207,7 +314,8 @@ impl<'a, C: Compatible> Step<'a, C> {
         }
         let clashes = self.clashes;
         let negatives = negatives_of(alloc, &self.kepts, &self.signs, clashes.columns())?;
-        self.combine_each(alloc, &negatives)
+        let supports = self.supports_of_many(alloc)?;
+        self.combine_each(alloc, &negatives, &supports)
     }
 
     /// The rays of one row more: what all pairs are combined to, and behind it the rays with the sign zero.

@@ -10,7 +10,7 @@ use support_bits::Support;
 use support_table::union_count;
 
 /// Whether a support has at most one column.
-fn is_single(support: &Support) -> bool
+pub fn is_single(support: &Support) -> bool
     ensures { IsTrue result ↔ columns_in_either support.now support.now ≤ 1 }
 {
     let _columns = support.columns();

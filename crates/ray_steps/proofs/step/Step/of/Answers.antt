@@ -1,6 +1,5 @@
-use Rattle.std.proofs.Common.{subst, subst₂, ◌∙◌}
+use Rattle.std.proofs.Common.{subst, ◌∙◌}
 use Rattle.ray_steps.specs.Kepts.{rays_of}
-use Rattle.ray_steps.specs.Negatives.{AreNegatives}
 use Rattle.ray_steps.specs.Signs.{AreSigns}
 use Rattle.ray_steps.proofs.KeptLemmas.{length-rays_of}
 use Rattle.ray_steps.proofs.StepLemmas.{bounded_signs}

@@ -1,7 +1,5 @@
-use Rattle.std.proofs.Common.{◌≡◌, All, length, map, subst, subst₂, sym, ap, ◌∙◌}
+use Rattle.std.proofs.Common.{◌≡◌, All, length, map, subst, sym, ap, ◌∙◌}
 use Rattle.std.proofs.lemmas.List.{length-map}
-use Rattle.ray_steps.specs.Kepts.{rays_of}
-use Rattle.ray_steps.specs.Negatives.{AreNegatives}
 use Rattle.ray_steps.specs.Signs.{IsBoundedSign}
 use Rattle.ray_steps.specs.Turned.{turned_sign}
 use Rattle.ray_steps.proofs.TurnedLemmas.{all_bounded-turned}

@@ -1,0 +1,10 @@
+-- the pairs of the places so far are taken
+use Rattle.ray_steps.specs.Kepts.{rays_of, AreOfWidth}
+use Rattle.ray_steps.proofs.PlaceLemmas.{HaveTaken}
+use Rattle.ray_steps.proofs.step.Step.combine_minimal.Given as goal
+
+abbrev pub invariant-loop-place : goal.invariant-loop-place
+invariant-loop-place g l = record {
+  taken : HaveTaken l.self.limit l.self.pairs l.self.rays l.self.signs l.place-items l.i l.place-index (rays_of l.made.items);
+  widths : AreOfWidth l.self.columns l.made.items;
+}
