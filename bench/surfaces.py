@@ -13,7 +13,7 @@ import math
 from typing import Iterator, List, Optional, Tuple
 
 from common import ENDED, layered_loop, regina_python, regina_says, run
-from tables import BOUNDARY, CLOSED, HYPERBOLIC, IDEAL, SLOW
+from tables import BOUNDARY, CLOSED, HYPERBOLIC, IDEAL, LARGE, SLOW
 from trinorm import find
 from trinorm.regina_surfaces import COORDS
 
@@ -118,7 +118,7 @@ def tables(least: int, most: int) -> Iterator[Tuple[str, str, str]]:
 def words() -> argparse.Namespace:
     asked = argparse.ArgumentParser(description=str(__doc__).split("\n", maxsplit=1)[0])
     asked.add_argument("program", nargs="?")
-    asked.add_argument("--families", default="closed,hyperbolic,ideal,boundary,loop,twenty,quad,octagon,decompose,slow")
+    asked.add_argument("--families", default="closed,hyperbolic,ideal,boundary,loop,twenty,quad,octagon,decompose,slow,large")
     asked.add_argument("--straight", action="store_true")
     asked.add_argument("--best", type=int, default=3)
     asked.add_argument("--cut", type=int, default=60)
@@ -130,7 +130,8 @@ def main() -> None:
     chosen = told.families.split(",")
     bench = Bench(find(told.program), told.best, told.cut)
     names = {"default": "standard, Regina's default", "straight": "standard, Regina's straight way", "twenty": "20, Regina's default",
-             "quad": "quad, Regina's default", "octagon": "octagon, Regina's default", "decompose": "decompose, the list"}
+             "quad": "quad, Regina's default", "octagon": "octagon, Regina's default", "decompose": "decompose, the list",
+             "large": "over 50,000 surfaces, Regina's default"}
     ratios = {key: Ratios(name) for key, name in names.items()}
     peers = [(ratios["default"], DEFAULT)] + ([(ratios["straight"], STRAIGHT)] if told.straight else [])
     for family, name, text in tables(12, 18):
@@ -151,6 +152,9 @@ def main() -> None:
     for count, text in SLOW.items():
         if "slow" in chosen:
             bench.compare(f"{count} numbered badly", text, "standard", [])
+    for count, signature in LARGE.items():
+        if "large" in chosen:
+            bench.compare(f"{count} large", f"sig {signature}\n", "standard", [(ratios["large"], DEFAULT)])
     for them in ratios.values():
         them.tell()
 

@@ -93,3 +93,9 @@ SLOW = {
 9:2031 5:3021 9:1302 2:3201
 """,
 }
+
+# with more than 50,000 vertex surfaces: a handlebody, and a table that `make` grows from the sphere
+LARGE = {
+    13: "nHbfjbqryeiKabfjlmttisl",
+    24: "yLLvLAwwwAALAMQMQaeheiikjolrrpuqsrvtwvuxxxbavgaaxoroaalapcssbxvcurr",
+}
