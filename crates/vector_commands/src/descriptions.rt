@@ -4,6 +4,7 @@ ghost use Rattle.std.specs.Fmt.{signed_decimal};
 ghost use Rattle.std.specs.List.{flat_map, slice_index_or};
 ghost use Rattle.text_definitions.specs.Written.{limit};
 ghost use Rattle.surface_definitions.specs.Coordinates.{columns};
+ghost use Rattle.vector_definitions.specs.Properties as definitions;
 ghost use Rattle.vector_definitions.specs.Properties.{first_large};
 ghost use Rattle.vector_definitions.specs.Texts as texts;
 ghost use Rattle.surface_pieces.specs.Told.{no_component};
@@ -60,7 +61,7 @@ fn characteristic(skeleton: &Skeleton, coords: Coords, x: &[u128]) -> i128
     requires coords { coords ≢ Coords.Quad }
     requires width { length x.now ≡ columns coords (length skeleton.now.rows) }
     requires small { first_large limit skeleton.now coords x.now ≡ None }
-    ensures { result ≡ texts.characteristic skeleton.now coords x.now }
+    ensures { result ≡ definitions.characteristic skeleton.now coords x.now }
 {
     match properties_of(skeleton, coords, x) {
         Ok(properties) => properties.euler,
