@@ -142,11 +142,14 @@ def subjects_text(known: Crates) -> str:
 def chain_text() -> str:
     """The longest chain of a build, with the seconds that build_times.txt has."""
     below = {name: crate.below for name, crate in crates_of_build(TOP).items()}
-    plan = Plan(below, read_times(TOP / "build_times.txt"), 1)
+    times = read_times(TOP / "build_times.txt")
+    plan = Plan(below, times, 1)
     names = plan.longest_chain()
     told = ", ".join(f"`{name}` {round(plan.seconds[name])}" for name in names[:-1])
     total = round(sum(plan.seconds[name] for name in names))
-    return f"It takes {total:,} s of a processor: {told} and `{names[-1]}` {round(plan.seconds[names[-1]])}."
+    unmeasured = [f"`{name}`" for name in below if name not in times.crates]
+    left_out = f" Not measured yet, and so left out: {', '.join(unmeasured)}." if unmeasured else ""
+    return f"It takes {total:,} s of a processor: {told} and `{names[-1]}` {round(plan.seconds[names[-1]])}.{left_out}"
 
 
 def picture(storeys: Storeys) -> str:
