@@ -17,17 +17,16 @@ use crate::pairs::combine_pair;
 use crate::rivals::{Rivals, all_supports, rivals_with};
 use crate::signs::{Sign, signs_at};
 use crate::thirds::{has_single, is_single, third_inside};
-use crate::turned::{has_more_positives, has_positive, turned_signs};
+use crate::turned::{has_more_positives, has_positive, positive_count, turned_signs};
 use crate::zeros::keep_zeros;
 use cone_core::{MAX_ENTRY, SparseRow};
 use no_memory::NoMemory;
-use residual_pairs::minimal_places;
+use residual_pairs::{RayTable, minimal_places};
 use std::alloc::Global;
 use std::marker::Model;
 use support_bits::Support;
-use support_table::SupportTable;
 
-/// From so many rays on pairs are looked for by residuals, which pays in large steps alone.
+/// From so many rays on residuals can pay.
 const MANY_RAYS: usize = 1000;
 
 /// The rays so far with their supports, a row's sign at each, and what clashes. No union of a pair has more than `most`
@@ -221,7 +220,7 @@ impl<'a, C: Compatible> Step<'a, C> {
         &self,
         alloc: Global,
         i: usize,
-        supports: &SupportTable,
+        supports: &RayTable,
         made: &mut Vec<Kept>,
     ) -> Result<(), StepFault>
         requires in_range { i < length self.now.rays }
@@ -250,7 +249,7 @@ impl<'a, C: Compatible> Step<'a, C> {
         alloc: Global,
         i: usize,
         negatives: &Negatives,
-        supports: &Option<SupportTable>,
+        supports: &Option<RayTable>,
         made: &mut Made,
     ) -> Result<(), StepFault>
         requires in_range { i < length self.now.rays }
@@ -273,7 +272,7 @@ impl<'a, C: Compatible> Step<'a, C> {
         &self,
         alloc: Global,
         negatives: &Negatives,
-        supports: &Option<SupportTable>,
+        supports: &Option<RayTable>,
     ) -> Result<Vec<Kept>, StepFault>
         requires negatives { AreNegatives self.now.rays self.now.signs self.now.columns negatives.now }
         requires supports { IfSome supports.now (HasAllSupports self.now.rays self.now.columns) }
@@ -290,15 +289,26 @@ impl<'a, C: Compatible> Step<'a, C> {
         Ok(made.kepts)
     }
 
-    /// The supports of all rays, where these are many. Either way the same pairs are found, so nothing is said of when.
-    fn supports_of_many(&self, alloc: Global) -> Result<Option<SupportTable>, NoMemory>
+    /// Whether residuals pay: there are many rays, and more positive ones than columns, for each of which all rays are gone
+    /// through once. Any answer will do, so nothing is said of it.
+    fn is_large(&self) -> bool {
+        let clashes = self.clashes;
+        self.kepts.len() >= MANY_RAYS && positive_count(&self.signs) >= clashes.columns() as usize
+    }
+
+    /// The supports of all rays, where residuals pay. Either way the same pairs are found.
+    fn supports_if_large(&self, alloc: Global) -> Result<Option<RayTable>, NoMemory>
         ensures { IfOk result (λ supports. IfSome supports (HasAllSupports self.now.rays self.now.columns)) }
     {
-        if self.kepts.len() < MANY_RAYS {
+        if !self.is_large() {
             return Ok(None);
         }
+        let Ok(count) = u32::try_from(self.kepts.len()) else {
+            return Ok(None);
+        };
         let clashes = self.clashes;
-        let supports = all_supports(alloc, &self.kepts, clashes.columns())?;
+        let table = all_supports(alloc, &self.kepts, clashes.columns())?;
+        let supports = RayTable::of(alloc, table, count)?;
         Ok(Some(supports))
     }
 
@@ -314,7 +324,7 @@ impl<'a, C: Compatible> Step<'a, C> {
         }
         let clashes = self.clashes;
         let negatives = negatives_of(alloc, &self.kepts, &self.signs, clashes.columns())?;
-        let supports = self.supports_of_many(alloc)?;
+        let supports = self.supports_if_large(alloc)?;
         self.combine_each(alloc, &negatives, &supports)
     }
 

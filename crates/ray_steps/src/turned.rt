@@ -26,17 +26,21 @@ pub fn turned_signs(alloc: Global, signs: &[Sign]) -> Result<Vec<Sign>, NoMemory
     Ok(turned)
 }
 
-/// Whether more signs are positive than negative. Any answer will do, so nothing is said of it.
-pub fn has_more_positives(signs: &[Sign]) -> bool {
-    let positives = signs
+/// How many signs are positive. It decides only how pairs are looked for, so nothing is said of it.
+pub fn positive_count(signs: &[Sign]) -> usize {
+    signs
         .iter()
         .filter(|sign| matches!(sign, Sign::Positive(_)))
-        .count();
+        .count()
+}
+
+/// Whether more signs are positive than negative. Any answer will do, so nothing is said of it.
+pub fn has_more_positives(signs: &[Sign]) -> bool {
     let negatives = signs
         .iter()
         .filter(|sign| matches!(sign, Sign::Negative(_)))
         .count();
-    negatives < positives
+    negatives < positive_count(signs)
 }
 
 /// Whether a sign is positive.

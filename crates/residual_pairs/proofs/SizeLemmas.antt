@@ -19,7 +19,7 @@ or_weaker : (x y z : Bool) → (y ≡ true → (x ≡ true) ⊎ (z ≡ true)) �
 or_weaker true y z h is = refl
 or_weaker false y z h is = elim (h is) [ inl none ↦ absurd (false≢true none) | inr e ↦ e ]
 
-column_within : (s : List Bool) (column : ℕ) → HasColumn s column → column < length s
+pub column_within : (s : List Bool) (column : ℕ) → HasColumn s column → column < length s
 column_within s column has = elim (cases_lt column (length s)) [
   | inl less ↦ less
   | inr past ↦ absurd (false≢true (sym (get_or_past s column false past) ∙ has))

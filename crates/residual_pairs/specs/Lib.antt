@@ -1,2 +1,3 @@
 pub mod Residuals
 pub mod Rivals
+pub mod Holders

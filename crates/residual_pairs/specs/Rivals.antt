@@ -1,11 +1,12 @@
 -- Lists of rivals on the way to those of minimal residual.
 use Rattle.std.specs.Prelude.{◌≡◌, ◌≢◌, ℕ, ◌+◌, ◌/◌, ◌<◌, ◌≤◌, ◌⊎◌, List, [], ◌∷◌, ◌++◌, Bool, true, false, length, map, Contains, slice_index_or, slice_set}
 use Rattle.std.specs.List.{All, AllPairs}
-use Rattle.support_bits.specs.Columns.{HasColumn, IsInsideUnionOf}
+use Rattle.support_bits.specs.Columns.{HasColumn, IsInsideUnionOf, Meets}
 use Rattle.support_bits.specs.Words.{bit_of}
 use Rattle.support_table.specs.Counts.{columns_in_either}
 use Rattle.residual_pairs.specs.declared.least.Least.{Least}
 use Rattle.residual_pairs.specs.declared.rivals.Rival.{Rival}
+use Rattle.residual_pairs.specs.Holders.{TellsMeeting}
 use Rattle.residual_pairs.specs.Residuals.{support_at, IsRival, IsMinimal}
 
 -- a rival with the number of columns that it and the outer ray have together
@@ -132,3 +133,13 @@ pub record AreAlone (least : Least) (n : ℕ) (places : List ℕ) : Type 0 where
   pub apart : ((i j : ℕ) → i < j → j < length least.rivals.items → (rival_at least.rivals.items i).place ≢ (rival_at least.rivals.items j).place) →
       AllPairs (λ p q. p ≢ q) places
   pub complete : (i : ℕ) → i < n → slice_index_or least.doubled.items i false ≡ false → Contains places (rival_at least.rivals.items i).place
+
+-- the ray at a place, with none of some columns, is one of the rivals unless it is the outer one
+abbrev pub IsRivalPushed : List (List Bool) → List Bool → ℕ → ℕ → List Rival → List Rival → Type 0
+IsRivalPushed supports outer own place old new = (joined : List Bool) → ¬ Meets (support_at supports place) joined → AreRivals supports outer joined own place old →
+    AreRivals supports outer joined own (place + 1) new
+
+-- the rivals at 64 places more
+abbrev pub AreRivalsPushed : List (List Bool) → List Bool → ℕ → ℕ → ℕ → List Rival → List Rival → Type 0
+AreRivalsPushed supports outer own first word old new = (joined : List Bool) → TellsMeeting supports joined first word → AreRivals supports outer joined own first old →
+    AreRivals supports outer joined own (first + 64) new

@@ -5,6 +5,8 @@
 mod least;
 mod marks;
 mod minimal;
+mod ray_table;
 mod rivals;
 
 pub use minimal::minimal_places;
+pub use ray_table::RayTable;

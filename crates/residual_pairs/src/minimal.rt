@@ -8,11 +8,12 @@ ghost use Rattle.residual_pairs.specs.Rivals.{AreCandidates, AreAlone};
 
 use crate::least::{Least, least_of};
 use crate::marks::{marks_of, unhit};
+use crate::ray_table::RayTable;
 use crate::rivals::{Rival, rivals_of};
 use no_memory::NoMemory;
 use std::alloc::Global;
 use support_bits::Support;
-use support_table::{SupportTable, union_count};
+use support_table::union_count;
 
 /// How many columns a ray has together with the outer one, where its residual has a single one.
 fn single_size(outer: &Support) -> u64
@@ -25,16 +26,17 @@ fn single_size(outer: &Support) -> u64
 /// Rivals among which all of minimal residual are, and each whose residual lies inside that of one.
 fn candidates(
     alloc: Global,
-    table: &SupportTable,
+    rays: &RayTable,
     outer: &Support,
     joined: &Support,
     own: usize,
 ) -> Result<Vec<Rival>, NoMemory>
-    requires outer { length outer.now ≡ table.now.columns }
-    requires joined { length joined.now ≡ table.now.columns }
-    ensures { IfOk result (λ candidates. AreCandidates table.now.supports outer.now joined.now own candidates.items) }
+    requires outer { length outer.now ≡ rays.now.columns }
+    requires joined { length joined.now ≡ rays.now.columns }
+    ensures { IfOk result (λ candidates. AreCandidates rays.now.supports outer.now joined.now own candidates.items) }
 {
-    let rivals = rivals_of(alloc, table, outer, joined, own)?;
+    let rivals = rivals_of(alloc, rays, outer, joined, own)?;
+    let table = rays.table();
     let single = single_size(outer);
     let marks = marks_of(alloc, table, outer, single, &rivals)?;
     unhit(alloc, table, &marks, single, &rivals)
@@ -67,18 +69,18 @@ fn alone(alloc: Global, least: &Least) -> Result<Vec<usize>, NoMemory>
 /// and rivals are the other rays with none of the `joined` columns, which clash with one of it. Without memory there are none.
 pub fn minimal_places(
     alloc: Global,
-    table: &SupportTable,
+    rays: &RayTable,
     outer: &Support,
     joined: &Support,
     own: usize,
 ) -> Result<Vec<usize>, NoMemory>
-    requires outer { length outer.now ≡ table.now.columns }
-    requires joined { length joined.now ≡ table.now.columns }
-    ensures { IfOk result (λ places. AreMinimal table.now.supports outer.now joined.now own places.items) }
+    requires outer { length outer.now ≡ rays.now.columns }
+    requires joined { length joined.now ≡ rays.now.columns }
+    ensures { IfOk result (λ places. AreMinimal rays.now.supports outer.now joined.now own places.items) }
 {
-    let mut order = candidates(alloc, table, outer, joined, own)?;
+    let mut order = candidates(alloc, rays, outer, joined, own)?;
     sort_by_size(&mut order);
-    let least = least_of(alloc, table, outer, &order)?;
+    let least = least_of(alloc, rays.table(), outer, &order)?;
     let mut places = alone(alloc, &least)?;
     places.sort_unstable();
     Ok(places)

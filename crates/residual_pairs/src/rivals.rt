@@ -1,9 +1,9 @@
 // The rivals of an outer ray: the other rays that have none of the columns that clash with one of it.
 
-ghost use Rattle.std.specs.Prelude.{◌≡◌, ◌<◌, ◌↔◌, length, IsTrue, IfOk};
-ghost use Rattle.residual_pairs.specs.Residuals.{IsRival};
-ghost use Rattle.residual_pairs.specs.Rivals.{AreRivals};
+ghost use Rattle.std.specs.Prelude.{◌≡◌, ◌+◌, ◌<◌, ◌^◌, length, IfOk, OnOk};
+ghost use Rattle.residual_pairs.specs.Rivals.{AreRivals, IsRivalPushed, AreRivalsPushed};
 
+use crate::ray_table::RayTable;
 use no_memory::NoMemory;
 use std::alloc::Global;
 use support_bits::Support;
@@ -16,33 +16,67 @@ pub struct Rival {
     pub size: u64,
 }
 
-/// Whether the ray at a place is a rival of the one at `own`, with whose columns some clash.
-fn is_rival(table: &SupportTable, joined: &Support, own: usize, place: usize) -> bool
-    requires in_range { place < length table.now.supports }
-    requires joined { length joined.now ≡ table.now.columns }
-    ensures { IsTrue result ↔ IsRival table.now.supports joined.now own place }
+/// Appends the ray at a place, where there is one other than the outer one.
+fn push_rival(
+    table: &SupportTable,
+    outer: &Support,
+    own: usize,
+    place: usize,
+    rivals: &mut Vec<Rival>,
+) -> Result<(), NoMemory>
+    requires { length outer.now ≡ table.now.columns }
+    ensures { OnOk result (IsRivalPushed table.now.supports outer.now own place rivals.old.items rivals.new.items) }
 {
-    place != own && !table.meets(place, joined)
+    if place != own && place < table.len() {
+        let size = table.union_count(place, outer);
+        rivals.push(Rival { place, size })?;
+    }
+    Ok(())
+}
+
+/// Appends the rivals at 64 places from one on, those whose bits aren't set.
+fn push_rivals(
+    table: &SupportTable,
+    outer: &Support,
+    own: usize,
+    first: usize,
+    word: u64,
+    rivals: &mut Vec<Rival>,
+) -> Result<(), NoMemory>
+    requires outer { length outer.now ≡ table.now.columns }
+    requires room { first + 64 < 2 ^ 64 }
+    ensures { OnOk result (AreRivalsPushed table.now.supports outer.now own first word rivals.old.items rivals.new.items) }
+{
+    let mut rest = !word;
+    let mut place = first;
+    while rest != 0 {
+        let skip = rest.trailing_zeros();
+        let next = place + skip as usize;
+        push_rival(table, outer, own, next, rivals)?;
+        rest = (rest >> skip) >> 1;
+        place = next + 1;
+    }
+    Ok(())
 }
 
 /// The rivals of the ray at a place, in the order of their places.
 pub fn rivals_of(
     alloc: Global,
-    table: &SupportTable,
+    rays: &RayTable,
     outer: &Support,
     joined: &Support,
     own: usize,
 ) -> Result<Vec<Rival>, NoMemory>
-    requires outer { length outer.now ≡ table.now.columns }
-    requires joined { length joined.now ≡ table.now.columns }
-    ensures { IfOk result (λ rivals. AreRivals table.now.supports outer.now joined.now own (length table.now.supports) rivals.items) }
+    requires outer { length outer.now ≡ rays.now.columns }
+    requires joined { length joined.now ≡ rays.now.columns }
+    ensures { IfOk result (λ rivals. AreRivals rays.now.supports outer.now joined.now own (length rays.now.supports) rivals.items) }
 {
+    let places = rays.meeting(alloc, joined)?;
+    let _count = places.columns();
+    let table = rays.table();
     let mut rivals = Vec::new(alloc);
-    for place in 0..table.len() {
-        if is_rival(table, joined, own, place) {
-            let size = table.union_count(place, outer);
-            rivals.push(Rival { place, size })?;
-        }
+    for (k, word) in places.words().iter().enumerate() {
+        push_rivals(table, outer, own, 64 * k, *word, &mut rivals)?;
     }
     Ok(rivals)
 }

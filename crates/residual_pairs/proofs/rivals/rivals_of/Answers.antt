@@ -1,22 +1,19 @@
-use Rattle.std.proofs.Common.{◌+◌, subst, sym, ap, ◌∙◌, refl}
-use Rattle.std.proofs.lemmas.Bool.{false≢true}
-use Rattle.residual_pairs.specs.Rivals.{AreRivals}
-use Rattle.residual_pairs.proofs.RivalLemmas.{rival_push, rival_skip}
-use Rattle.residual_pairs.proofs.rivals.rivals_of.Goals.{then-is_rival+in_ok-push, else-is_rival}
+use Rattle.std.proofs.Common.{◌≡◌, ◌+◌, ◌*◌, get_or, subst, ap, arith}
+use Rattle.support_table.specs.Tables.{Table}
+use Rattle.residual_pairs.specs.Rivals.{AreRivals, AreRivalsPushed}
+use Rattle.residual_pairs.proofs.HolderLemmas.{word_tells, rivals_all}
 use Rattle.residual_pairs.proofs.rivals.rivals_of.Goals as goal
 
-pub loop-place-preserved : goal.loop-place-preserved
-loop-place-preserved c =
-    let supports = c.args.table.now.supports in
-    let outer = c.args.outer.now in
-    let joined = c.args.joined.now in
-    let own = c.args.own in
-    let place = c.loop-place.place in
-    let rivals = c.loop-place.rivals.items in
-    elim c.if-is_rival.branch [
-      | then-is_rival+in_ok-push w ↦ subst (AreRivals supports outer joined own (place + 1)) (sym (ap (λ v. v.items) w.rivals-is ∙ w.in_ok-push.ensures.items))
-          (rival_push supports outer joined own place rivals c.loop-place.invariant (record { place = place; size = w.union_count-size.result }) refl
-          (record { rival = c.is_rival.ensures.0 w.if-is_rival.true; wide = w.union_count-size.ensures.width ∙ sym c.requires.outer; size = w.union_count-size.ensures.value }))
-      | else-is_rival w ↦ subst (AreRivals supports outer joined own (place + 1)) (sym (ap (λ v. v.items) w.rivals-is))
-          (rival_skip supports outer joined own place rivals c.loop-place.invariant (λ r. false≢true (sym w.if-is_rival.false ∙ c.is_rival.ensures.1 r)))
-    ]
+pub loop-k-preserved : goal.loop-k-preserved
+loop-k-preserved c =
+    let supports = c.args.rays.now.supports in
+    let k = c.loop-k.k in
+    let e : 64 * k + 64 ≡ 64 * (k + 1) = omega arith in
+    subst (λ n. AreRivals supports c.args.outer.now c.args.joined.now c.args.own n c.push_rivals.new.rivals.items) e
+    (subst (λ t. AreRivalsPushed t c.args.outer.now c.args.own (64 * k) (get_or c.words-word-items.result.now k 0) c.loop-k.rivals.items c.push_rivals.new.rivals.items) (ap (λ (t : Table). t.supports) c.table-table.ensures) c.in_ok-push_rivals.ensures
+    c.args.joined.now
+    (word_tells supports c.args.joined.now c.in_ok-places.places c.words-word-items.result.now c.in_ok-places.ensures c.words-word-items.ensures k) c.loop-k.invariant)
+
+pub returns : goal.returns
+returns c = rivals_all c.args.rays.now.supports c.args.joined.now c.args.outer.now c.args.own (64 * c.loop-k.k) c.loop-k.rivals.items
+    (let n = c.in_ok-places.ensures.count_is in let w = c.words-word-items.ensures.count in let all = c.loop-k-test.false in omega (arith, n, w, all)) c.loop-k.invariant

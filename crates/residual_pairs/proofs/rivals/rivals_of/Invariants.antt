@@ -1,6 +1,7 @@
--- the rivals at places so far
+-- the rivals at the places of the words so far
+use Rattle.std.proofs.Common.{◌*◌}
 use Rattle.residual_pairs.specs.Rivals.{AreRivals}
 use Rattle.residual_pairs.proofs.rivals.rivals_of.Given as goal
 
-abbrev pub invariant-loop-place : goal.invariant-loop-place
-invariant-loop-place l = AreRivals l.table.supports l.outer l.joined l.own l.place l.rivals.items
+abbrev pub invariant-loop-k : goal.invariant-loop-k
+invariant-loop-k l = AreRivals l.rays.supports l.outer l.joined l.own (64 * l.k) l.rivals.items

@@ -1,0 +1,16 @@
+use Rattle.std.proofs.Common.{length, subst}
+use Rattle.std.specs.Prelude.{IfOk}
+use Rattle.std.proofs.lemmas.Result.{IfOk-weaker}
+use Rattle.support_table.specs.Tables.{Table}
+use Rattle.residual_pairs.specs.Holders.{AreHolders, IsMeetingBelow, IsMeeting}
+use Rattle.residual_pairs.proofs.HolderLemmas.{meeting_of}
+use Rattle.residual_pairs.proofs.ray_table.RayTable.meeting.Goals as goal
+
+pub returns : goal.returns
+returns c =
+    let columns = c.args.columns.now in
+    let holders = c.self.inside.holders.items in
+    let count = c.self.inside.count in
+    IfOk-weaker c.united.result (IsMeetingBelow holders columns count (length columns)) (IsMeeting c.args.self.now.supports columns)
+    (λ places h. meeting_of c.args.self.now count holders columns places (subst (λ (t : Table). AreHolders t count holders) c.self.view_is c.self.invariant) c.requires h)
+    (subst (λ hs. IfOk c.united.result (IsMeetingBelow hs columns count (length columns))) c.deref.ensures.value c.united.ensures)

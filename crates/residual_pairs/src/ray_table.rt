@@ -1,0 +1,113 @@
+// The supports of rays, and for each column the places of the rays that have it: which rays have one of many columns is told
+// word by word.
+
+ghost use Rattle.std.specs.Prelude.{◌≡◌, ◌<◌, length, IfOk};
+ghost use Rattle.residual_pairs.specs.Holders.{IsHolder, AreHolders, AreAsLong, IsMeetingBelow, IsMeeting};
+
+use no_memory::NoMemory;
+use std::alloc::Global;
+use std::marker::Model;
+use support_bits::Support;
+use support_table::SupportTable;
+
+/// The supports of so many rays, and for each column the places of the rays that have it.
+#[derive(Drop)]
+pub struct RayTable {
+    table: SupportTable,
+    count: u32,
+    holders: Vec<Support>,
+}
+
+impl Model for RayTable {
+    ghost use Rattle.support_table.specs.Tables.{Table};
+
+    ghost Value = { Table };
+
+    ghost view = { λ r. r.table };
+
+    ghost use Rattle.residual_pairs.specs.Holders.{AreHolders};
+
+    ghost invariant = { λ r. AreHolders r.table r.count r.holders.items };
+}
+
+/// The places of the rays that have a column.
+fn holder_of(
+    alloc: Global,
+    table: &SupportTable,
+    column: u32,
+    count: u32,
+) -> Result<Support, NoMemory>
+    requires column { column < table.now.columns }
+    requires count { count ≡ length table.now.supports }
+    ensures { IfOk result (IsHolder table.now.supports column count) }
+{
+    let mut places = Support::none(alloc, count)?;
+    for place in 0..count {
+        if table.contains(place as usize, column) {
+            places.insert(place);
+        }
+    }
+    Ok(places)
+}
+
+/// For each column the places of the rays that have it.
+fn holders_of(alloc: Global, table: &SupportTable, count: u32) -> Result<Vec<Support>, NoMemory>
+    requires { count ≡ length table.now.supports }
+    ensures { IfOk result (λ holders. AreHolders table.now count holders.items) }
+{
+    let mut holders = Vec::with_capacity(alloc, table.columns() as usize)?;
+    for column in 0..table.columns() {
+        holders.push(holder_of(alloc, table, column, count)?)?;
+    }
+    Ok(holders)
+}
+
+/// The places in one of the listed rows of bits whose numbers are among some columns.
+fn united(
+    alloc: Global,
+    holders: &[Support],
+    columns: &Support,
+    count: u32,
+) -> Result<Support, NoMemory>
+    requires holders { length holders.now ≡ length columns.now }
+    requires widths { AreAsLong count holders.now }
+    ensures { IfOk result (IsMeetingBelow holders.now columns.now count (length columns.now)) }
+{
+    let mut places = Support::none(alloc, count)?;
+    for column in 0..columns.columns() {
+        if columns.contains(column) {
+            places.add(&holders[column as usize]);
+        }
+    }
+    Ok(places)
+}
+
+impl RayTable {
+    /// The rays of a table, of which there are so many.
+    pub fn of(alloc: Global, table: SupportTable, count: u32) -> Result<RayTable, NoMemory>
+        requires { count ≡ length table.supports }
+        ensures { IfOk result (λ rays. rays ≡ table) }
+    {
+        let holders = holders_of(alloc, &table, count)?;
+        Ok(RayTable {
+            table,
+            count,
+            holders,
+        })
+    }
+
+    /// The supports.
+    pub fn table(&self) -> &SupportTable
+        ensures { result.now ≡ self.now }
+    {
+        &self.table
+    }
+
+    /// The places of the rays that have one of some columns.
+    pub fn meeting(&self, alloc: Global, columns: &Support) -> Result<Support, NoMemory>
+        requires { length columns.now ≡ self.now.columns }
+        ensures { IfOk result (IsMeeting self.now.supports columns.now) }
+    {
+        united(alloc, &self.holders, columns, self.count)
+    }
+}
