@@ -1,24 +1,14 @@
 -- Lemmas on sums that are filled in at the columns that words of bits name.
-use Rattle.std.proofs.Common.{◌≡◌, ℕ, suc, ◌+◌, ◌-◌, ◌*◌, ◌/◌, ◌%◌, ◌^◌, ◌<◌, ◌≤◌, Bool, true, false, eqb, List, length, get_or, set, length-set, get_or-set_other, get_or-set_same, slice_index, slice_index_or, ⊎_elim, subst, sym, ◌∙◌, ap, ap₂, refl, arith, replicate, w64}
+use Rattle.std.proofs.Common.{◌≡◌, ℕ, suc, ◌+◌, ◌-◌, ◌*◌, ◌/◌, ◌^◌, ◌<◌, ◌≤◌, Bool, true, false, eqb, List, length, get_or, set, length-set, get_or-set_other, get_or-set_same, slice_index, slice_index_or, ⊎_elim, subst, sym, ◌∙◌, ap, ap₂, refl, arith, replicate, w64}
 use Rattle.std.proofs.lemmas.Bool.{cases_lt, cases_eq, eq-eqb, true≢false}
 use Rattle.std.proofs.lemmas.List.{get_or_past, ext_get_or, get_or-replicate, length-replicate}
-use Rattle.std.proofs.lemmas.Nat.{pow-add}
-use Rattle.std.proofs.lemmas.Nat.Bits.{bit_at-zero, bit_at-suc, bit_at_above, bit_at-trailing_zeros}
-use Rattle.std.proofs.Math.Nat.{div-div-eq-div-mul}
+use Rattle.std.proofs.lemmas.Nat.Bits.{bit_at-zero, bit_at_above, bit_at-trailing_zeros}
 use Rattle.std.specs.Int.{bit_at, trailing_zeros}
 use Rattle.cone_definitions.specs.Vectors.{multiple, sum_of}
 use Rattle.support_bits.specs.Words.{AreWordsOf}
-use Rattle.support_bits.proofs.WordLemmas.{bit_of-column}
+use Rattle.support_bits.proofs.WordLemmas.{bit_of-column, bit_after}
 use Rattle.cone_core.proofs.EntryLemmas.{entry-sums, length-sums}
 use Rattle.cone_core.specs.Filled.{AreFilled, NamesColumns, NameColumns, AreInside}
-
--- the bits from one on
-bit_from : (n k i : ℕ) → bit_at (n / 2 ^ k) i ≡ bit_at n (k + i)
-bit_from n k i = ap (λ m. m % 2) (div-div-eq-div-mul n (2 ^ k) (2 ^ i) ∙ ap (λ p. n / p) (sym (pow-add 2 k i)))
-
--- the bits after one
-bit_after : (n k i : ℕ) → bit_at (n / 2 ^ k / 2) i ≡ bit_at n (k + suc i)
-bit_after n k i = sym (bit_at-suc (n / 2 ^ k) i) ∙ bit_from n k (suc i)
 
 -- no sum is filled in yet
 pub filled_none : (limit : ℕ) (z sums : List ℕ) (n : ℕ) → sums ≡ replicate n 0 → n ≡ length z → AreFilled limit z 0 sums

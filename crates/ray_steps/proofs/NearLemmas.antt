@@ -1,8 +1,7 @@
 -- Lemmas on the negative rays that are far from a positive one.
-use Rattle.std.proofs.Common.{◌≡◌, ℕ, ◌<◌, ◌≤◌, ◌↔◌, ⊎_elim, List, Bool, length, get_or, [], subst, sym, ◌∙◌, arith}
+use Rattle.std.proofs.Common.{◌≡◌, ℕ, ◌<◌, ◌≤◌, ⊎_elim, List, Bool, length, get_or, [], subst, arith}
 use Rattle.cone_definitions.specs.Surfaces.{Clash}
 use Rattle.support_bits.specs.Columns.{support_of, Meets}
-use Rattle.support_bits.specs.Words.{AreWordsOf, HaveCommon}
 use Rattle.support_table.specs.Joins.{AreJoinedTo}
 use Rattle.ray_steps.specs.declared.negatives.Negatives.{Negatives}
 use Rattle.ray_steps.specs.declared.signs.Sign.{Sign}
@@ -16,13 +15,6 @@ use Rattle.ray_steps.proofs.KeptLemmas.{length-rays_of, ray_width}
 use Rattle.ray_steps.proofs.RivalLemmas.{support_read, support_of_rival, count_of_rivals, not_face_clash}
 use Rattle.ray_steps.proofs.PlaceLemmas.{HaveTaken, taken_to}
 use Rattle.ray_steps.proofs.UnionLemmas.{not_face_large}
-
--- words have a common bit where their supports have a common column
-pub common_iff : (s t : List Bool) (words other : List ℕ) → AreWordsOf s words → AreWordsOf t other → HaveCommon words other ↔ Meets s t
-common_iff s t words other of_s of_t = (
-  λ h. (h.0, sym (of_s.bits h.0) ∙ h.1, sym (of_t.bits h.0) ∙ h.2),
-  λ h. (h.0, of_s.bits h.0 ∙ h.1, of_t.bits h.0 ∙ h.2),
-)
 
 -- a far ray makes no pair
 pub not_face_far : (pairs : List Clash) (rays : List (List ℕ)) (signs : List Sign) (i columns most k : ℕ) (joined : List Bool) (negatives : Negatives) (a : List Bool) →

@@ -1,5 +1,5 @@
 -- The negative places, one place on, and the words of their supports.
-use Rattle.std.proofs.Common.{◌≡◌, ℕ, ◌+◌, ◌/◌, ◌^◌, ◌<◌, ⊎_elim, Bool, List, [], ◌∷◌, ◌++◌, Contains, length, slice_index_or, subst, sym, ◌∙◌, ap, arith}
+use Rattle.std.proofs.Common.{◌≡◌, ℕ, ◌+◌, ◌/◌, ◌<◌, ⊎_elim, Bool, List, [], ◌∷◌, ◌++◌, Contains, length, slice_index_or, subst, sym, ◌∙◌, ap, arith}
 use Rattle.std.proofs.lemmas.Bool.{cases_lt}
 use Rattle.std.proofs.lemmas.List.Elements.{All-push, Contains-push, Contains-append_left}
 use Rattle.std.proofs.lemmas.List.Quantifiers.{all_pairs_push}
@@ -31,6 +31,3 @@ negative_skip signs n places h none = record {
 -- supports of as many columns have as many words
 pub same_words : (s t : List Bool) (words other : List ℕ) → AreWordsOf s words → AreWordsOf t other → length s ≡ length t → length words ≡ length other
 same_words s t words other of_s of_t same = of_s.count ∙ ap (λ n. (n + 63) / 64) same ∙ sym of_t.count
-
-pub short_words : (s : List Bool) (words : List ℕ) (n : ℕ) → AreWordsOf s words → n ≡ length s → n < 2 ^ 32 → length words < 2 ^ 32
-short_words s words n of_s same short = let count = of_s.count in omega arith

@@ -1,14 +1,12 @@
 -- The rays that have a column, and those that have one of many.
-use Rattle.std.proofs.Common.{◌≡◌, ℕ, zero, suc, ◌+◌, ◌-◌, ◌*◌, ◌/◌, ◌%◌, ◌^◌, ◌<◌, ◌≤◌, ◌||◌, inl, inr, ⊎_elim, Bool, true, false, eqb, List, [], length, get_or, set, length-set, get_or-set_same, get_or-set_other, replicate, w64, subst, sym, ap, ◌∙◌, arith}
-use Rattle.std.proofs.Math.Nat.{div-div-eq-div-mul}
-use Rattle.std.proofs.lemmas.Nat.{pow-add}
+use Rattle.std.proofs.Common.{◌≡◌, ℕ, zero, suc, ◌+◌, ◌-◌, ◌*◌, ◌/◌, ◌^◌, ◌<◌, ◌≤◌, ◌||◌, inl, inr, ⊎_elim, Bool, true, false, eqb, List, [], length, get_or, set, length-set, get_or-set_same, get_or-set_other, replicate, w64, subst, sym, ap, ◌∙◌, arith}
 use Rattle.std.specs.Int.{bit_at, bit_not, trailing_zeros}
 use Rattle.std.proofs.lemmas.Bool.{cases_eq, cases_lt, cases_Bool, eq-eqb, false≢true, or_right}
 use Rattle.std.proofs.lemmas.List.{get_or_default, get_or_past, get_or-replicate, length-replicate}
-use Rattle.std.proofs.lemmas.Nat.Bits.{bit_at-lt, bit_at-zero, bit_at-suc, bit_at_above, bit_at_not, bit_at-trailing_zeros}
+use Rattle.std.proofs.lemmas.Nat.Bits.{bit_at-lt, bit_at-zero, bit_at_above, bit_at_not, bit_at-trailing_zeros}
 use Rattle.support_bits.specs.Columns.{HasColumn, IsUnion, Meets}
 use Rattle.support_bits.specs.Words.{AreWordsOf}
-use Rattle.support_bits.proofs.WordLemmas.{bit_of-column}
+use Rattle.support_bits.proofs.WordLemmas.{bit_of-column, bit_after}
 use Rattle.support_table.specs.Tables.{Table}
 use Rattle.residual_pairs.specs.Holders.{IsHolder, AreHolders, AreAsLong, IsMeetingBelow, IsMeeting, TellsMeeting, NamesApart}
 use Rattle.residual_pairs.specs.Residuals.{support_at}
@@ -124,12 +122,6 @@ module _ (supports : List (List Bool)) (columns places : List Bool) (words : Lis
   }
 
 -- ---- bit by bit
-
-bit_from : (n k i : ℕ) → bit_at (n / 2 ^ k) i ≡ bit_at n (k + i)
-bit_from n k i = ap (λ m. m % 2) (div-div-eq-div-mul n (2 ^ k) (2 ^ i) ∙ ap (λ p. n / p) (sym (pow-add 2 k i)))
-
-bit_after : (n k i : ℕ) → bit_at (n / 2 ^ k / 2) i ≡ bit_at n (k + suc i)
-bit_after n k i = sym (bit_at-suc (n / 2 ^ k) i) ∙ bit_from n k (suc i)
 
 -- the bits that are left are those of places before the end
 abbrev pub AreBefore : ℕ → ℕ → ℕ → Type 0

@@ -1,7 +1,7 @@
 use Rattle.std.proofs.Common.{◌<◌, [], inl, inr, ⊎_elim, get_or, subst, sym, ◌∙◌}
 use Rattle.std.proofs.lemmas.Bool.{false≢true, ltb-true, lt-ltb}
-use Rattle.ray_steps.proofs.NearLemmas.{common_iff}
-use Rattle.ray_steps.proofs.NegativeLemmas.{same_words, short_words}
+use Rattle.support_table.proofs.TableLemmas.{common_iff, short_words}
+use Rattle.ray_steps.proofs.NegativeLemmas.{same_words}
 use Rattle.ray_steps.proofs.negatives.is_far.Goals as goal
 
 pub have_common-requires : goal.have_common-requires
