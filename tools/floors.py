@@ -82,16 +82,12 @@ def floors(known: Crates) -> Dict[str, int]:
 
 
 def what(name: str) -> str:
-    """The first sentence of the crate's own words, up to a colon where that says enough. What each law crate begins with,
-    that it stands on definitions alone, is left out."""
+    """The first sentence of the crate's own words, up to a colon where that says enough."""
     root = read(f"crates/{name}/src/lib.rt") or read(f"crates/{name}/src/main.rt")
     said = " ".join(line[3:].strip() for line in root.split("\n") if line.startswith("//!"))
-    sentence = re.split(r"(?<=\.)\s", said)[0]
-    begun = re.match(r"What follows from .*? alone(, whatever the code)?: ", sentence)
-    if begun and "their" not in sentence[begun.end():].split()[:4]:
-        sentence = sentence[begun.end()].upper() + sentence[begun.end() + 1:]
-    head = re.split(r"[:;] ", sentence.replace(", whatever the code", ""))[0].rstrip(".")
-    return (head if len(head.split()) > 4 else sentence.rstrip(".")) + "."
+    sentence = re.split(r"(?<=\.)\s", said)[0].rstrip(".")
+    head = re.split(r"[:;] ", sentence)[0]
+    return (head if len(head.split()) > 4 else sentence) + "."
 
 
 def by_floor(levels: Dict[str, int]) -> Storeys:
@@ -129,14 +125,15 @@ def laws_text(storeys: Storeys) -> str:
 
 
 def subjects_text(known: Crates) -> str:
-    """The crates of each subject: definitions, laws, code, and what stands on top."""
-    kinds = list(COLOURS)
-    lines = ["| Subject | Crate | What it does |", "|---|---|---|"]
+    """Of each subject the names of its definitions and laws, and what its code does."""
+    parts = []
     for subject, names in SUBJECTS.items():
-        there = sorted((name for name in names.split() if name in known), key=lambda name: kinds.index(kind(name)))
-        first = [subject] + [""] * len(there)
-        lines += [f"| {head} | `{name}` | {what(name)} |" for head, name in zip(first, there)]
-    return "\n".join(lines)
+        there = [name for name in names.split() if name in known]
+        theory = [name for name in there if kind(name) in ("definitions", "laws")]
+        head = f"**{subject}**: " + ", ".join(f"`{name}`" for name in theory)
+        code = [f"- `{name}`: {what(name)}" for name in there if name not in theory]
+        parts.append("\n".join([head, *code]))
+    return "\n\n".join(parts)
 
 
 def chain_text() -> str:
