@@ -145,8 +145,8 @@ def chain_text() -> str:
     told = ", ".join(f"`{name}` {round(plan.seconds[name])}" for name in names[:-1])
     total = round(sum(plan.seconds[name] for name in names))
     unmeasured = [f"`{name}`" for name in below if name not in times.crates]
-    left_out = f" Not measured yet, and so left out: {', '.join(unmeasured)}." if unmeasured else ""
-    return f"It takes {total:,} s of a processor: {told} and `{names[-1]}` {round(plan.seconds[names[-1]])}.{left_out}"
+    left_out = f" Not measured yet: {', '.join(unmeasured)}." if unmeasured else ""
+    return f"It takes {total:,} s: {told} and `{names[-1]}` {round(plan.seconds[names[-1]])}.{left_out}"
 
 
 def picture(storeys: Storeys) -> str:
