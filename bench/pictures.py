@@ -14,24 +14,25 @@ TOP = os.path.dirname(os.path.dirname(os.path.realpath(__file__)))
 WIDE, HIGH, LEFT, BELOW = 720, 400, 70, 50
 # of each name its points: tetrahedra and seconds
 Series = Dict[str, List[Tuple[float, float]]]
-COLOURS = {"trinorm": "#1f6fb4", "Regina, default": "#c2571a", "Regina, straight": "#d9a066"}
+COLOURS = {"trinorm": "#1f6fb4", "Regina, default": "#c2571a"}
 
 
 def figures() -> Series:
-    """Of each series its points: tetrahedra (ideal tables a little to the right) and seconds, where a figure stands."""
+    """Of each series its points: tetrahedra (ideal tables a little to the right) and seconds. A cell has the number of surfaces,
+    and behind it the seconds of each series."""
     series: Series = {name: [] for name in COLOURS}
-    names: List[str] = []
+    families: List[str] = []
     with open(os.path.join(TOP, "docs", "SPEED.md"), encoding="utf8") as file:
         for line in file:
             cells = [cell.strip() for cell in line.strip().strip("|").split("|")]
-            row = re.fullmatch(r"(\d+) (closed|ideal)", cells[0])
-            if cells[0] == "Table":
-                names = cells
-            elif row:
-                at = int(row[1]) + (0.25 if row[2] == "ideal" else 0)
-                for name, cell in zip(names, cells):
-                    if name in series and re.fullmatch(r"[\d.]+", cell):
-                        series[name].append((at, float(cell)))
+            if cells[0] == "Tetrahedra":
+                families = cells
+            for family, cell in zip(families, cells):
+                told = re.fullmatch(r"[\d,]+: ([\d.]+), ([\d.]+)", cell)
+                if told and family in ("closed", "ideal"):
+                    at = int(cells[0]) + (0.25 if family == "ideal" else 0)
+                    for name, seconds in zip(COLOURS, told.groups()):
+                        series[name].append((at, float(seconds)))
     return {name: points for name, points in series.items() if points}
 
 
