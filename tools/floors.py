@@ -119,9 +119,10 @@ def statements(name: str) -> List[str]:
 
 
 def laws_text(storeys: Storeys) -> str:
+    """The files of statements of each crate of laws that has more than Laws."""
     lines = ["| Crate | Files |", "|---|---|"]
     laws = {name: statements(name) for names in storeys for name in names if kind(name) == "laws"}
-    return "\n".join(lines + [f"| `{name}` | {', '.join(files)} |" for name, files in laws.items() if files])
+    return "\n".join(lines + [f"| `{name}` | {', '.join(files)} |" for name, files in laws.items() if files not in ([], ["Laws"])])
 
 
 def subjects_text(known: Crates) -> str:
