@@ -8,7 +8,7 @@ use Rattle.std.proofs.lemmas.List.Sums.{sum_by_more}
 use Rattle.cone_definitions.specs.Rows.{Row}
 use Rattle.minor_laws.specs.Caps.{magnitude, row_weight, column_weight, row_size}
 
-magnitude_is : (z : ℤ) → unsigned_abs z ≡ magnitude z
+pub magnitude_is : (z : ℤ) → unsigned_abs z ≡ magnitude z
 magnitude_is (pos n) = omega arith
 magnitude_is (negsuc n) = omega arith
 
@@ -27,7 +27,7 @@ greatest_more rows i old new size row before most is same k l = elim (cases_eq k
 pub all_small : (rows : List Row) (i greatest : ℕ) → ((k : ℕ) → k < i → row_size (get_or rows k []) ≤ greatest) → length rows ≤ i → All (λ row. row_size row ≤ greatest) rows
 all_small rows i greatest before past k d l = subst (λ r. row_size r ≤ greatest) (get_or_default rows k [] d l) (before k (omega arith))
 
-own : (column j : ℕ) (z : ℤ) → j ≡ column → (if column == j then magnitude z else 0) ≡ magnitude z
+pub own : (column j : ℕ) (z : ℤ) → j ≡ column → (if column == j then magnitude z else 0) ≡ magnitude z
 own column j z e = grind (arith, nat_tests)
 
 other : (column j : ℕ) (z : ℤ) → j ≢ column → (if column == j then magnitude z else 0) ≡ 0

@@ -1,7 +1,8 @@
-use Rattle.std.proofs.Common.{◌≤◌, length, ap, sym, ◌∙◌, arith}
+use Rattle.std.proofs.Common.{◌^◌, ◌≤◌, length, ap, sym, ◌∙◌, arith}
 use Rattle.std.proofs.lemmas.List.{take_all}
 use Rattle.minor_laws.specs.Caps.{column_weight}
 use Rattle.cone_core.proofs.EntryLemmas.{refilled}
+use Rattle.number_bounds.proofs.Past.{column_past}
 use Rattle.number_bounds.proofs.Tallies.{rows_more}
 use Rattle.number_bounds.proofs.weights.column_weights.Goals as goal
 
@@ -13,11 +14,20 @@ loop-number-preserved c =
       count = ap length kept ∙ c.add_row.auto.weights ∙ ap length c.deref_mut.ensures.value ∙ c.loop-number.invariant.count;
       each = rows_more c.args.system.now.rows c.loop-number.number c.entries.result.now c.loop-number.weights.items _ c.add_row.new.weights _
           (omega (arith, c.loop-number-test.true, c.len-number-end.ensures)) (c.entries.ensures.entries ∙ c.row.ensures.row) c.loop-number.invariant.each
-          c.deref_mut.ensures.value (c.add_row.ensures c.if-not-add_row.false) kept;
+          c.deref_mut.ensures.value (c.add_row.ensures.added c.if-not-add_row.false) kept;
     }
 
-pub returns : goal.returns
-returns c =
+pub returns-then-not-add_row-clause-none : goal.returns-then-not-add_row-clause-none
+returns-then-not-add_row-clause-none c =
+    let heavy = c.add_row.ensures.past c.if-not-add_row.true in (
+      heavy.0,
+      omega (arith, heavy.1, ap length c.deref_mut.ensures.value, c.loop-number.invariant.count),
+      column_past c.args.system.now.rows c.loop-number.number heavy.0 (2 ^ 32) c.entries.result.now c.loop-number.weights.items c.deref_mut.result.now
+          (omega (arith, c.loop-number-test.true, c.len-number-end.ensures)) (c.entries.ensures.entries ∙ c.row.ensures.row) (c.loop-number.invariant.each heavy.0) c.deref_mut.ensures.value heavy.2,
+    )
+
+pub returns-clause-some : goal.returns-clause-some
+returns-clause-some c =
     let past : length c.args.system.now.rows ≤ c.loop-number.number = omega (arith, c.len-number-end.ensures, c.loop-number-test.false) in
     record {
       count = c.loop-number.invariant.count;

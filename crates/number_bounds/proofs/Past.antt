@@ -1,0 +1,161 @@
+-- What passes a bound: a row, a column, the product of the weights, or the numbers that they lead to.
+use Rattle.std.proofs.Common.{◌≡◌, ℕ, zero, suc, ◌+◌, ◌*◌, ◌<◌, ◌≤◌, ℤ, pos, Bool, true, false, Option, None, Some, IfNone, ◌⊎◌, inl, inr, List, [], take, length, get_or, max, refl, ap, ap₂, sym, subst, ◌∙◌, arith}
+use Rattle.std.specs.Prelude.{◌==◌, ◌↔◌, nat_le, unsigned_abs, if◌then◌else◌, IsTrue, IsFalse}
+use Rattle.std.specs.List.{All, Any, sum_by}
+use Rattle.std.proofs.lemmas.Bool.{cases_lt, iff_false, false≢true}
+use Rattle.std.proofs.lemmas.Bool.Decides.{nat_tests}
+use Rattle.std.proofs.lemmas.List.{get_or_default}
+use Rattle.std.proofs.lemmas.List.Sums.{sum_by_more_le, sum_by-le-sum_by, sum_by-le}
+use Rattle.std.proofs.lemmas.Nat.{mul-le}
+use Rattle.cone_definitions.specs.Rows.{Row}
+use Rattle.cone_definitions.specs.Systems.{System}
+use Rattle.minor_laws.specs.Caps.{magnitude, row_weight, column_weight, row_size, caps_product}
+use Rattle.number_bounds.specs.Columns.{cap_by, weights_product, ArePastBounds}
+use Rattle.number_bounds.specs.Weights.{AreWeights}
+use Rattle.number_bounds.proofs.Tallies.{magnitude_is, own}
+use Rattle.number_bounds.proofs.ColumnCaps.{product_more, some_cap}
+
+-- what holds anyway holds where there is nothing
+pub if_none : {A : Type 0} (o : Option A) {P : Type 0} → P → IfNone o P
+if_none None p = p
+if_none (Some x) p = tt
+
+-- a test that fails
+pub reached : (n most : ℕ) → (n < most → ⊥) → most ≤ n
+reached n most fails = elim (cases_lt n most) [ inl less ↦ absurd (fails less) | inr more ↦ more ]
+
+pub refused : (result : Bool) (n limit : ℕ) → (IsTrue result ↔ (n ≤ limit)) → IsFalse result → limit < n
+refused result n limit exact is = elim (cases_lt limit n) [ inl more ↦ more | inr within ↦ absurd (iff_false exact is within) ]
+
+pub is_within : (most n limit : ℕ) → most ≡ n → IsTrue (nat_le most limit) ↔ (n ≤ limit)
+is_within most n limit is = (λ yes. grind (arith, nat_tests), λ within. grind (arith, nat_tests))
+
+pub is_past : (n limit most : ℕ) → limit < most → most ≤ n → IsTrue false ↔ (n ≤ limit)
+is_past n limit most small past = (λ no. absurd (false≢true no), λ within. absurd (omega arith))
+
+-- what the terms so far and the next one reach, the row does
+pub size_past : (row : Row) (i old n most : ℕ) → i < length row → old ≡ row_size (take i row) → n ≡ unsigned_abs (get_or row i (0, pos 0)).1 → most ≤ old + n → most ≤ row_size row
+size_past row i old n most l so_far one past =
+    let whole = sum_by_more_le (λ (term : ℕ × ℤ). magnitude term.1) row i (0, pos 0) l in
+    let m : n ≡ magnitude (get_or row i (0, pos 0)).1 = one ∙ magnitude_is (get_or row i (0, pos 0)).1 in
+    omega (arith, whole, m, so_far, past)
+
+pub weight_past : (old start : List ℕ) (row : Row) (i n most : ℕ) → i < length row → ((j : ℕ) → get_or old j 0 ≡ get_or start j 0 + row_weight j (take i row)) →
+    n ≡ unsigned_abs (get_or row i (0, pos 0)).1 → most ≤ get_or old (get_or row i (0, pos 0)).0 0 + n →
+    most ≤ get_or start (get_or row i (0, pos 0)).0 0 + row_weight (get_or row i (0, pos 0)).0 row
+weight_past old start row i n most l so_far one past =
+    let column : ℕ = (get_or row i (0, pos 0)).0 in
+    let z : ℤ = (get_or row i (0, pos 0)).1 in
+    let whole : row_weight column (take i row) + (if column == column then magnitude z else 0) ≤ row_weight column row =
+    sum_by_more_le (λ (term : ℕ × ℤ). if term.0 == column then magnitude term.1 else 0) row i (0, pos 0) l in
+    let m : n ≡ magnitude z = one ∙ magnitude_is z in
+    omega (arith, whole, own column column z refl, m, so_far column, past)
+
+pub column_past : (rows : List Row) (i j most : ℕ) (row : Row) (old lent : List ℕ) → i < length rows → row ≡ get_or rows i [] → get_or old j 0 ≡ column_weight (take i rows) j → lent ≡ old →
+    most ≤ get_or lent j 0 + row_weight j row → most ≤ column_weight rows j
+column_past rows i j most row old lent l same so_far is past =
+    let whole = sum_by_more_le (λ r. row_weight j r) rows i [] l in
+    let a : get_or lent j 0 ≡ column_weight (take i rows) j = ap (λ xs. get_or xs j 0) is ∙ so_far in
+    let b : row_weight j row ≡ row_weight j (get_or rows i []) = ap (λ r. row_weight j r) same in
+    omega (arith, whole, a, b, past)
+
+-- what holds at a place of the rows holds of some row
+pub any_at : (P : Row → Type 0) (rows : List Row) (k : ℕ) → k < length rows → P (get_or rows k []) → Any P rows
+any_at P rows k l p = (k, get_or rows k [], l, sym (get_or_default rows k [] (get_or rows k []) l), p)
+
+-- one row more: the greatest size is the one before or the new row's
+pub attained_more : (rows : List Row) (i old new size : ℕ) (row : Row) → (old ≡ 0) ⊎ ((k : ℕ) × (k < i) × (row_size (get_or rows k []) ≡ old)) → new ≡ max size old →
+    size ≡ row_size row → row ≡ get_or rows i [] → (new ≡ 0) ⊎ ((k : ℕ) × (k < i + 1) × (row_size (get_or rows k []) ≡ new))
+attained_more rows i old new size row before greater is same =
+    let here : row_size (get_or rows i []) ≡ size = sym (is ∙ ap (λ r. row_size r) same) in
+    elim (cases_lt old size) [
+      | inl l ↦ let e : new ≡ size = omega (arith, greater, l) in inr (i, omega arith, here ∙ sym e)
+      | inr l ↦
+          let e : new ≡ old = omega (arith, greater, l) in
+          elim before [
+            | inl none ↦ inl (e ∙ none)
+            | inr some ↦ inr (some.0, omega (arith, some.1), some.2 ∙ sym e)
+          ]
+    ]
+
+pub attained_all : (rows : List Row) (i greatest : ℕ) → (greatest ≡ 0) ⊎ ((k : ℕ) × (k < i) × (row_size (get_or rows k []) ≡ greatest)) → i ≤ length rows →
+    (greatest ≡ 0) ⊎ Any (λ row. row_size row ≡ greatest) rows
+attained_all rows i greatest before within = elim before [
+  | inl none ↦ inl none
+  | inr some ↦ inr (any_at (λ row. row_size row ≡ greatest) rows some.0 (omega (arith, some.1, within)) some.2)
+]
+
+-- the product of more caps is greater
+caps_up : (cap : ℕ → ℕ) (some : (g : ℕ) → 1 ≤ cap g) (n m : ℕ) → n ≤ m → caps_product cap n ≤ caps_product cap m
+unfolding caps_product
+caps_up cap some n zero l = let e : n ≡ 0 = omega arith in rw e (omega arith)
+caps_up cap some n (suc m) l = elim (cases_lt m n) [
+  | inl less ↦ let e : n ≡ suc m = omega arith in rw e (omega arith)
+  | inr more ↦
+      let before = caps_up cap some n m more in
+      let step : 1 * caps_product cap m ≤ cap m * caps_product cap m = mul-le 1 (caps_product cap m) (cap m) (caps_product cap m) (some m) (omega arith) in
+      omega (arith, before, step)
+]
+
+-- what the weights so far and the next one reach, all weights do
+pub product_past : (weights : List ℕ) (i old factor most : ℕ) → i < length weights → old ≡ caps_product (cap_by weights) i → factor ≡ cap_by weights i → most ≤ old * factor →
+    most ≤ caps_product (cap_by weights) (length weights)
+product_past weights i old factor most l so_far one past =
+    let here = product_more (cap_by weights) i old (old * factor) factor so_far one refl in
+    let up = caps_up (cap_by weights) (some_cap weights) (i + 1) (length weights) (omega arith) in
+    omega (arith, here, up, past)
+
+-- the product that is made is that of the columns
+weights_are : (system : System) (weights : List ℕ) → AreWeights system weights → caps_product (cap_by weights) (length weights) ≡ weights_product system
+weights_are system weights weighed = λ i. caps_product (λ column. max (weighed.each column i) 1) (weighed.count i)
+
+-- where no row has a size no column has a weight, and the product is 1
+ones : (cap : ℕ → ℕ) (n : ℕ) → ((g : ℕ) → cap g ≡ 1) → caps_product cap n ≡ 1
+unfolding caps_product
+ones cap zero one = refl
+ones cap (suc n) one = ap₂ (λ a b. a * b) (one n) (ones cap n one)
+
+part : (b : Bool) (n : ℕ) → (if b then n else 0) ≤ n
+part true n = omega arith
+part false n = omega arith
+
+weight_within : (row : Row) (j : ℕ) → row_weight j row ≤ row_size row
+weight_within row j = sum_by-le-sum_by (λ (term : ℕ × ℤ). if term.0 == j then magnitude term.1 else 0) (λ (term : ℕ × ℤ). magnitude term.1) row (λ term. part (term.0 == j) (magnitude term.1))
+
+no_weight : (rows : List Row) (j : ℕ) → All (λ row. row_size row ≤ 0) rows → column_weight rows j ≡ 0
+no_weight rows j none =
+    let within : column_weight rows j ≤ sum_by (λ r. row_size r) rows = sum_by-le-sum_by (λ r. row_weight j r) (λ r. row_size r) rows (λ r. weight_within r j) in
+    let all = sum_by-le (λ (r : Row). row_size r) 0 rows none in
+    omega (arith, within, all)
+
+no_product : (system : System) → All (λ row. row_size row ≤ 0) system.rows → weights_product system ≡ 1
+no_product system none = ones (λ column. max (column_weight system.rows column) 1) system.columns (λ j. ap (λ w. max w 1) (no_weight system.rows j none))
+
+-- the square of a large product, taken once at least, is large
+pub square_past : (size product limit : ℕ) → 1 ≤ size → limit < product → limit < size * (product * product)
+square_past size product limit some past =
+    let once : 1 * product ≤ product * product = mul-le 1 product product product (omega arith) (omega arith) in
+    let more : 1 * (product * product) ≤ size * (product * product) = mul-le 1 (product * product) size (product * product) some (omega arith) in
+    omega (arith, once, more, past)
+
+-- the numbers of some row pass the limit
+pub past_limit : (system : System) (limit : ℕ) (weights : List ℕ) (size product : ℕ) → AreWeights system weights → (size ≡ 0) ⊎ Any (λ row. row_size row ≡ size) system.rows →
+    product ≡ caps_product (cap_by weights) (length weights) → limit < size * (product * product) → ArePastBounds system limit
+past_limit system limit weights size product weighed attained is past = elim attained [
+  | inl none ↦ absurd (let l : limit < 0 * (product * product) = subst (λ s. limit < s * (product * product)) none past in omega (arith, l))
+  | inr some ↦
+      let one : limit < size * (weights_product system * weights_product system) = subst (λ p. limit < size * (p * p)) (is ∙ weights_are system weights weighed) past in
+      inr (inr (some.0, some.1, some.2, some.3, subst (λ s. limit < s * (weights_product system * weights_product system)) (sym some.4) one))
+]
+
+-- the same where the product has no room, so that some row has a size
+pub past_product : (system : System) (limit : ℕ) (weights : List ℕ) (size most : ℕ) → AreWeights system weights → All (λ row. row_size row ≤ size) system.rows →
+    (size ≡ 0) ⊎ Any (λ row. row_size row ≡ size) system.rows → most ≤ caps_product (cap_by weights) (length weights) → limit < most → 1 < most → ArePastBounds system limit
+past_product system limit weights size most weighed small attained large within two = elim (cases_lt 0 size) [
+  | inl some ↦ past_limit system limit weights size (caps_product (cap_by weights) (length weights)) weighed attained refl (square_past size (caps_product (cap_by weights) (length weights)) limit some (omega arith))
+  | inr none ↦ absurd (
+      let nothing : All (λ row. row_size row ≤ 0) system.rows = subst (λ s. All (λ row. row_size row ≤ s) system.rows) (let e : size ≡ 0 = omega arith in e) small in
+      let one = no_product system nothing in
+      let same = weights_are system weights weighed in
+      omega (arith, one, same, large, two))
+]
