@@ -1,9 +1,11 @@
 // Rows made sparser: a row gives way to itself plus or less another row, where that has fewer terms.
 
-ghost use Rattle.std.specs.Prelude.{◌≡◌, ◌<◌, ◌≢◌, ◌≤◌, length, OnOk};
+ghost use Rattle.std.specs.Prelude.{◌≡◌, ◌<◌, ◌≢◌, ◌≤◌, ◌⊎◌, pos, negsuc, length, IfSome, OnOk, IfErr};
 ghost use Rattle.std.specs.List.{All};
 ghost use Rattle.cone_core.specs.Sparse.{IsInRange};
 ghost use Rattle.row_operation_laws.specs.Solutions.{HaveSameZeros};
+ghost use Rattle.solved_rows.specs.Merging.{IsCoefficientSum};
+ghost use Rattle.solved_rows.specs.Passing.{TakesTerm, IsDerived, HasPassedSum, IfPassed};
 
 use crate::clear::{add_at, copy};
 use crate::fault::SolveFault;
@@ -34,7 +36,10 @@ fn place_from(terms: &[(u32, i32)], from: usize, column: u32) -> usize
 }
 
 /// One column more that both rows have.
-fn with_column(shared: Shared, one: i32, other: i32) -> Shared {
+fn with_column(shared: Shared, one: i32, other: i32) -> Shared
+    ensures same { 0 < result.same → (0 < shared.same) ⊎ IsCoefficientSum one (negsuc 0) other (pos 0) }
+    ensures opposite { 0 < result.opposite → (0 < shared.opposite) ⊎ IsCoefficientSum one (pos 1) other (pos 0) }
+{
     Shared {
         same: shared.same.saturating_add(usize::from(one == other)),
         opposite: shared
@@ -45,7 +50,10 @@ fn with_column(shared: Shared, one: i32, other: i32) -> Shared {
 }
 
 /// What two rows share.
-fn shared_by(row: &[(u32, i32)], other: &[(u32, i32)]) -> Shared {
+fn shared_by(row: &[(u32, i32)], other: &[(u32, i32)]) -> Shared
+    ensures same { 0 < result.same → TakesTerm row.now (negsuc 0) other.now }
+    ensures opposite { 0 < result.opposite → TakesTerm row.now (pos 1) other.now }
+{
     let mut shared = Shared {
         same: 0,
         opposite: 0,
@@ -62,9 +70,12 @@ fn shared_by(row: &[(u32, i32)], other: &[(u32, i32)]) -> Shared {
 }
 
 /// The factor, 1 or -1, by which another row leaves fewer terms in a row when it is added, if there is one.
-fn thinning_factor(row: &[(u32, i32)], other: &[(u32, i32)]) -> Option<i32> {
+fn thinning_factor(row: &[(u32, i32)], other: &[(u32, i32)]) -> Option<i32>
+    ensures { IfSome result (λ factor. TakesTerm row.now factor other.now) }
+{
     let shared = shared_by(row, other);
-    if shared.any.saturating_add(shared.opposite.max(shared.same)) <= other.len() {
+    let taken = shared.opposite.max(shared.same);
+    if taken == 0 || shared.any.saturating_add(taken) <= other.len() {
         None
     } else if shared.opposite >= shared.same {
         Some(1)
@@ -88,6 +99,8 @@ fn thin_by(
     ensures count { OnOk result (length rows.new.items ≡ length rows.old.items) }
     ensures same { OnOk result (HaveSameZeros rows.old.items rows.new.items) }
     ensures in_range { OnOk result (All (IsInRange columns) rows.new.items) }
+    ensures derived { OnOk result (All (IsDerived rows.old.items) rows.new.items) }
+    ensures passed { IfErr result (IfPassed (HasPassedSum rows.old.items)) }
 {
     match thinning_factor(rows[i].entries(), rows[j].entries()) {
         Some(factor) => {
@@ -132,6 +145,8 @@ fn thin_pair(
     ensures count { OnOk result (length rows.new.items ≡ length rows.old.items) }
     ensures same { OnOk result (HaveSameZeros rows.old.items rows.new.items) }
     ensures in_range { OnOk result (All (IsInRange columns) rows.new.items) }
+    ensures derived { OnOk result (All (IsDerived rows.old.items) rows.new.items) }
+    ensures passed { IfErr result (IfPassed (HasPassedSum rows.old.items)) }
 {
     if !is_due(rounds, i, round) && !is_due(rounds, j, round) {
         return Ok(false);
@@ -157,6 +172,8 @@ fn thin_row(
     ensures count { OnOk result (length rows.new.items ≡ length rows.old.items) }
     ensures same { OnOk result (HaveSameZeros rows.old.items rows.new.items) }
     ensures in_range { OnOk result (All (IsInRange columns) rows.new.items) }
+    ensures derived { OnOk result (All (IsDerived rows.old.items) rows.new.items) }
+    ensures passed { IfErr result (IfPassed (HasPassedSum rows.old.items)) }
 {
     let mut thinner = false;
     for j in 0..rows.len() {
@@ -178,6 +195,8 @@ fn thin_once(
     requires in_range { All (IsInRange columns) rows.old.items }
     ensures same { OnOk result (HaveSameZeros rows.old.items rows.new.items) }
     ensures in_range { OnOk result (All (IsInRange columns) rows.new.items) }
+    ensures derived { OnOk result (All (IsDerived rows.old.items) rows.new.items) }
+    ensures passed { IfErr result (IfPassed (HasPassedSum rows.old.items)) }
 {
     let mut thinner = false;
     for i in 0..rows.len() {
@@ -195,6 +214,8 @@ pub(crate) fn thin_rows(
     requires in_range { All (IsInRange columns) rows.old.items }
     ensures same { OnOk result (HaveSameZeros rows.old.items rows.new.items) }
     ensures in_range { OnOk result (All (IsInRange columns) rows.new.items) }
+    ensures derived { OnOk result (All (IsDerived rows.old.items) rows.new.items) }
+    ensures passed { IfErr result (IfPassed (HasPassedSum rows.old.items)) }
 {
     let mut rounds = vec![in alloc; 0u32; rows.len()]?;
     for round in 0..ROUNDS {

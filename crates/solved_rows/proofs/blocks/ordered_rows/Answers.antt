@@ -1,5 +1,7 @@
 -- Each step keeps where the rows are 0.
 use Rattle.std.proofs.lemmas.List.Sorted.{All-permutation}
+use Rattle.std.proofs.lemmas.Result.{err_from_is_err_and}
+use Rattle.solved_rows.proofs.PassingLemmas.{rows_stand, fault_again}
 use Rattle.cone_core.specs.Sparse.{IsInRange}
 use Rattle.solved_rows.proofs.RowLemmas.{zeros_follow, zeros_reordered}
 use Rattle.solved_rows.proofs.blocks.ordered_rows.Goals as goal
@@ -12,3 +14,8 @@ returns-clause-same c =
 
 pub returns-clause-in_range : goal.returns-clause-in_range
 returns-clause-in_range c = All-permutation (IsInRange c.args.columns) _ _ (rw c.deref.ensures.value at c.in_ok-in_cheapest_order.ensures) c.in_ok-thin_rows.ensures.in_range
+
+pub returns-in_err-thin_rows-clause-passed : goal.returns-in_err-thin_rows-clause-passed
+returns-in_err-thin_rows-clause-passed c =
+    let p = err_from_is_err_and c.from_residual-in_err-thin_rows.result c.from_residual-in_err-thin_rows.ensures.1 in
+    rw (p.1, p.2) (fault_again _ _ (rows_stand c.args.unsolved.now _ c.in_ok-rows.ensures.stand) _ c.in_err-thin_rows.ensures.passed)
