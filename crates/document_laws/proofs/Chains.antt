@@ -9,9 +9,9 @@ use Rattle.text_definitions.specs.Reading.{Reading, ◌>>=◌, need_line_at, end
 use Rattle.text_definitions.proofs.Readers.{numbers_at-end}
 use Rattle.table_definitions.proofs.LineLaws.{line_found}
 use Rattle.document_definitions.specs.Symbols.{Symbol}
-use Rattle.document_laws.proofs.Local.{shows, Goes, goes_chained, goes_pure, alone, alone_bind}
-use Rattle.document_laws.proofs.LocalWords.{as_is, word_with, ending, goes_word, goes_end}
-use Rattle.document_laws.proofs.LocalLines.{next_line, goes_line}
+use Rattle.document_laws.proofs.Local.{shows, Goes, goes_chained, goes_pure, alone, alone_bind, moved}
+use Rattle.document_laws.proofs.LocalWords.{as_is, word_with, goes_word, goes_end}
+use Rattle.document_laws.proofs.LocalLines.{goes_line}
 use Rattle.document_laws.proofs.LocalForms.{exact_test, exact_word, exactly, plain_test, number_word, goes_numbers}
 use Rattle.document_laws.proofs.Ways.{Sat, Then, Well, WellOpen, Alike, alike_goes, line_before, again_from, sat_both, well_free, well_goes, well_open, well_behind, from_sat, sat_mapped, well_mapped, well_open_mapped}
 use Rattle.document_laws.proofs.WordWays.{free_word, sat_word, well_word, sat_end, well_end, free_line, well_line, naught_passes}
@@ -72,36 +72,36 @@ ends_numbers = record {
 }
 
 -- the end of a line; the next line
-pub ends_ending : Ends ending
+pub ends_ending : Ends (moved end_line_at)
 ends_ending = record { goes = goes_end; sat = λ Aim k none a. sat_end Aim k none (a tt); well = λ Aim k none a c. well_end Aim c (sat_end Aim k none (a tt)) }
 
-pub ends_lines : {A : Type 0} (r : Reader A) → Opens r → Ends (λ c. ending c >>= λ (u : ⊤ × Reading). r u.1)
+pub ends_lines : {A : Type 0} (r : Reader A) → Opens r → Ends (λ c. moved end_line_at c >>= λ (u : ⊤ × Reading). r u.1)
 ends_lines {A} r g =
-    let end : (Aim : Aims A) (k : Reading) → k.current.tokens ≡ [] → ((x : A) → Aim x (shows k)) → Sat ending (Then (λ u. r) Aim) =
+    let end : (Aim : Aims A) (k : Reading) → k.current.tokens ≡ [] → ((x : A) → Aim x (shows k)) → Sat (moved end_line_at) (Then (λ u. r) Aim) =
     λ Aim k none a. (let t = g.sat Aim k none a in sat_end (Then (λ u. r) Aim) t.0.start t.1 (from_sat r Aim t.0)) in
     record {
-      goes = λ c. goes_chained ending (λ u. r) c (goes_end c) (λ u d e. g.goes d);
-      sat = λ Aim k none a. sat_both as_is ending (λ u. r) Aim (λ u. alike_goes r g.goes) (end Aim k none a);
-      well = λ Aim k none a c. well_goes as_is ending (λ u. r) Aim (λ u. alike_goes r g.goes) c (goes_end c) (well_end (Then (λ u. r) Aim) c (end Aim k none a)) (λ u d e. g.well Aim k none a d);
+      goes = λ c. goes_chained (moved end_line_at) (λ u. r) c (goes_end c) (λ u d e. g.goes d);
+      sat = λ Aim k none a. sat_both as_is (moved end_line_at) (λ u. r) Aim (λ u. alike_goes r g.goes) (end Aim k none a);
+      well = λ Aim k none a c. well_goes as_is (moved end_line_at) (λ u. r) Aim (λ u. alike_goes r g.goes) c (goes_end c) (well_end (Then (λ u. r) Aim) c (end Aim k none a)) (λ u d e. g.well Aim k none a d);
     }
 
 pub ends_line : {A : Type 0} (r : Reader A) → Opens r → Ends (λ c. end_line_at c >>= r)
 ends_line {A} r g = subst (λ (q : Reader A). Ends q) (λ i c. alone_bind (end_line_at c) r i) (ends_lines r g)
 
 -- the line of a reading is begun behind an empty line
-pub in_next_line : {A : Type 0} (r : Reader A) (Aim : Aims A) → Sat r Aim → SatBehind (λ c. next_line c >>= λ (u : ⊤ × Reading). r u.1) Aim
+pub in_next_line : {A : Type 0} (r : Reader A) (Aim : Aims A) → Sat r Aim → SatBehind (λ c. moved need_line_at c >>= λ (u : ⊤ × Reading). r u.1) Aim
 unfolding line_before
 in_next_line r Aim s = (
   record { start = line_before s.start; value = s.value; next = s.next; reads = ap (λ (q : Result Reading LexFault). alone q >>= λ (u : ⊤ × Reading). r u.1) (line_found (line_before s.start) s.start.current s.start.later refl) ∙ s.reads; aim = s.aim },
   refl,
 )
 
-pub opens_next : {A : Type 0} (r : Reader A) → Ends r → Opens (λ c. next_line c >>= λ (u : ⊤ × Reading). r u.1)
+pub opens_next : {A : Type 0} (r : Reader A) → Ends r → Opens (λ c. moved need_line_at c >>= λ (u : ⊤ × Reading). r u.1)
 opens_next r g = record {
-  goes = λ c. goes_chained next_line (λ u. r) c (goes_line c) (λ u d e. g.goes d);
+  goes = λ c. goes_chained (moved need_line_at) (λ u. r) c (goes_line c) (λ u d e. g.goes d);
   sat = λ Aim k none a. in_next_line r Aim (g.sat Aim k none a);
   well = λ Aim k none a c. (let s = g.sat Aim k none a in
-      well_behind as_is next_line (λ u. r) Aim (λ u. alike_goes r g.goes) c (free_line c) (well_line (Then (λ u. r) Aim) c s.start (from_sat r Aim s)) (λ u d e. g.well Aim k none a d));
+      well_behind as_is (moved need_line_at) (λ u. r) Aim (λ u. alike_goes r g.goes) c (free_line c) (well_line (Then (λ u. r) Aim) c s.start (from_sat r Aim s)) (λ u d e. g.well Aim k none a d));
 }
 
 pub opens_line : {A : Type 0} (r : Reader A) → Ends r → Opens (λ c. need_line_at c >>= r)

@@ -20,7 +20,7 @@ use Rattle.document_laws.proofs.SumDocuments.{any_most}
 use Rattle.document_laws.proofs.BlockWays.{ends_block}
 use Rattle.document_laws.proofs.Local.{shows}
 use Rattle.document_laws.proofs.LocalWords.{as_is}
-use Rattle.document_laws.proofs.LocalLines.{by_lines}
+use Rattle.document_laws.proofs.LocalLines.{none_stop, by_lines}
 use Rattle.document_laws.proofs.LocalTables.{in_text}
 use Rattle.document_laws.proofs.Ways.{Then, WellOpen, well_open}
 use Rattle.document_laws.proofs.TextReaders.{Read, next_text, left_only, Copies, copy_bind, copy_then, copy_same, copy_worded, FaultsAs, faults_bind, copy_next_table}
@@ -83,7 +83,7 @@ copy_blocks [] c = refl
 copy_blocks (m ∷ most) c = by_lines_left c.later (copy_blocks most)
   where
     by_lines_left : (ls : List Line) → ((d : Reading) → Copies as_is left_only (blocks_from most d) (each_from block_at most d))
-        → Copies as_is left_only (blocks_on ls c (λ d. blocks_from most d)) (by_lines (λ d. Ok (tt, d)) (λ b. block_at b >>= λ (x : Block × Reading). each_from block_at most x.1) ls c)
+        → Copies as_is left_only (blocks_on ls c (λ d. blocks_from most d)) (by_lines none_stop (λ b. block_at b >>= λ (x : Block × Reading). each_from block_at most x.1) ls c)
     by_lines_left [] others = refl
     by_lines_left (l ∷ ls) others =
         copy_bind as_is (λ (x : Whole). x) left_only (block_at (begun l ls c)) (block_at (begun l ls c)) (λ (x : Block × Reading). blocks_from most x.1 >>= λ (bs : Blocks). Ok (x.0 ∷ bs.0, bs.1)) (λ (x : Whole). each_from block_at most x.1)

@@ -17,14 +17,14 @@ use Rattle.document_laws.specs.FormLaws.{FaultsStandFirst}
 use Rattle.document_laws.proofs.Documents.{end_at}
 use Rattle.document_laws.proofs.Local.{shows}
 use Rattle.document_laws.proofs.LocalWords.{as_is}
-use Rattle.document_laws.proofs.LocalLines.{by_lines}
+use Rattle.document_laws.proofs.LocalLines.{none_stop, by_lines}
 use Rattle.document_laws.proofs.LocalTables.{in_text}
 use Rattle.document_laws.proofs.Ways.{From, Then, Alike, alike_goes, Well, WellOpen, well_open, from_sat}
 use Rattle.document_laws.proofs.Chains.{SatBehind, behind_both}
 use Rattle.document_laws.proofs.TextReaders.{Read, text_at, next_text, left_only, Copies, copy_bind, copy_then, FaultsAs, faults_bind, copy_table, copy_next_table}
 use Rattle.document_laws.proofs.TextWays.{ends_text, opens_next_text}
 use Rattle.document_laws.proofs.TextGrammar.{text_taken, text_given, text_blocks}
-use Rattle.document_laws.proofs.TextEnds.{first_fault, closed_from, closing, Any, closing_none, none_closing, alike_closing, well_closing, alike_chained, AtEnd, nothing, each_from, well_each, each_sound, each_complete}
+use Rattle.document_laws.proofs.TextEnds.{first_fault, refused_line, closing, Any, closing_none, none_closing, alike_closing, well_closing, alike_chained, AtEnd, nothing, each_from, well_each, each_sound, each_complete}
 use Rattle.document_laws.proofs.FirstFaults.{stands_first}
 use Rattle.document_laws.proofs.Given.{Tables}
 
@@ -41,7 +41,7 @@ pub closing_faults : {X : Type 0} (x : X) (d : Reading) → FaultsAs in_text (en
 unfolding end_line_at
 closing_faults {X} x d = by_lines_left d.later
   where
-    by_lines_left : (ls : List Line) → FaultsAs in_text (worded (no_line_from ls d) >>= λ (last : Reading). Ok x) (closed_from ls d)
+    by_lines_left : (ls : List Line) → FaultsAs in_text (worded (no_line_from ls d) >>= λ (last : Reading). Ok x) (by_lines none_stop refused_line ls d)
     by_lines_left [] f e = absurd cc
     by_lines_left (l ∷ ls) f e = end_faults x l.tokens (begun l ls d) f e
 
@@ -116,20 +116,17 @@ two_tables_faults_stand_first bytes f e =
     (λ t p. one_faults t.0 t.1) f e))
 
 -- the text of any number of tables
-abbrev pub many_texts : List Line → Reading → Read
-many_texts most c = each_from text_at most c
-
-pub copy_tables : (most : List Line) (c : Reading) → Copies in_text left_only (tables_from most c) (many_texts most c)
+pub copy_tables : (most : List Line) (c : Reading) → Copies in_text left_only (tables_from most c) (each_from text_at most c)
 unfolding tables_from each_from
 copy_tables [] c = refl
 copy_tables (m ∷ most) c = by_lines_left c.later (copy_tables most)
   where
-    by_lines_left : (ls : List Line) → ((d : Reading) → Copies in_text left_only (tables_from most d) (many_texts most d))
-        → Copies in_text left_only (tables_on ls c (λ d. tables_from most d)) (by_lines (λ d. Ok (tt, d)) (λ b. text_at b >>= λ (x : ⊤ × Reading). many_texts most x.1) ls c)
+    by_lines_left : (ls : List Line) → ((d : Reading) → Copies in_text left_only (tables_from most d) (each_from text_at most d))
+        → Copies in_text left_only (tables_on ls c (λ d. tables_from most d)) (by_lines none_stop (λ b. text_at b >>= λ (x : ⊤ × Reading). each_from text_at most x.1) ls c)
     by_lines_left [] others = refl
     by_lines_left (l ∷ ls) others =
-        copy_bind in_text left_only left_only (any_table_at (begun l ls c)) (text_at (begun l ls c)) (λ (t : List Row × Reading). tables_from most t.1 >>= λ (ts : Tables). Ok (t.0 ∷ ts.0, ts.1)) (λ (x : ⊤ × Reading). many_texts most x.1)
-        (copy_table (begun l ls c)) (λ t. copy_then in_text left_only left_only (tables_from most t.1) (many_texts most t.1) (λ (ts : Tables). Ok (t.0 ∷ ts.0, ts.1)) (others t.1) (λ ts. refl))
+        copy_bind in_text left_only left_only (any_table_at (begun l ls c)) (text_at (begun l ls c)) (λ (t : List Row × Reading). tables_from most t.1 >>= λ (ts : Tables). Ok (t.0 ∷ ts.0, ts.1)) (λ (x : ⊤ × Reading). each_from text_at most x.1)
+        (copy_table (begun l ls c)) (λ t. copy_then in_text left_only left_only (tables_from most t.1) (each_from text_at most t.1) (λ (ts : Tables). Ok (t.0 ∷ ts.0, ts.1)) (others t.1) (λ ts. refl))
 
 one_table : (b : Reading) (u : ⊤) (d : Reading) → text_at b ≡ Ok (u, d) → AreTablesText d.later → AreTablesText (b.current ∷ b.later)
 one_table b u d e h =
@@ -155,16 +152,16 @@ next_table b (suc n, h) = first_table b n h.0 h.1 h.2 h.3 h.4
 pub well_line_text : (Aim : ⊤ → List Symbol → Type 0) (k : Reading) → k.current.tokens ≡ [] → ((x : ⊤) → Aim x (shows k)) → (c : Reading) → Well as_is text_at Aim c
 well_line_text Aim k none a c = ends_text.well Aim k none a c
 
-pub many_sound : (most : List Line) (o : Reading) (u : ⊤) (next : Reading) → many_texts most o ≡ Ok (u, next) → AtEnd u (shows next) → AreTablesText o.later
+pub many_sound : (most : List Line) (o : Reading) (u : ⊤) (next : Reading) → each_from text_at most o ≡ Ok (u, next) → AtEnd u (shows next) → AreTablesText o.later
 many_sound most o u next e a = each_sound text_at AreTablesText (0, refl) one_table most o u next e (a next refl)
 
 pub tables_faults_stand_first : FaultsStandFirst tables_document AreTablesText
 unfolding tables_document
 tables_faults_stand_first bytes f e =
     let most : List Line = lines_of bytes in
-    stands_first (many_texts most) AtEnd AreTablesText (each_complete text_at AreTablesText next_table most) (many_sound most) bytes f.place
+    stands_first (each_from text_at most) AtEnd AreTablesText (each_complete text_at AreTablesText next_table most) (many_sound most) bytes f.place
     (well_each text_at ends_text.goes well_line_text most (start_of bytes) f
-    (copied (tables_from most (start_of bytes)) (many_texts most (start_of bytes)) (copy_tables most (start_of bytes)) e))
+    (copied (tables_from most (start_of bytes)) (each_from text_at most (start_of bytes)) (copy_tables most (start_of bytes)) e))
   where
     copied : (r : Result Tables InputFault) (s : Read) → Copies in_text left_only r s → ◌≡◌ {A = Result (List (List Row)) InputFault} (r >>= λ (ts : Tables). Ok ts.0) (Err (in_text f)) → s ≡ Err f
     copied (Ok x) s c e = absurd cc

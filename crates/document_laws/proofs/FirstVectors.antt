@@ -19,9 +19,9 @@ use Rattle.document_laws.specs.FormLaws.{FaultsStandFirst}
 use Rattle.document_laws.specs.FaultLaws.{SomeTableAndVector, VectorsFaultsLeaveFirst, VectorFaultsLeaveFirst}
 use Rattle.document_laws.proofs.Tables.{table_read}
 use Rattle.document_laws.proofs.Documents.{reads_vectors, end_at}
-use Rattle.document_laws.proofs.Local.{shows}
+use Rattle.document_laws.proofs.Local.{shows, moved}
 use Rattle.document_laws.proofs.LocalWords.{as_is}
-use Rattle.document_laws.proofs.LocalLines.{next_line, goes_line}
+use Rattle.document_laws.proofs.LocalLines.{goes_line}
 use Rattle.document_laws.proofs.LocalTables.{in_text}
 use Rattle.document_laws.proofs.Ways.{Sat, Then, Alike, alike_goes, Well, WellOpen, well_goes, well_open, well_behind, from_sat}
 use Rattle.document_laws.proofs.WordWays.{free_line, well_line}
@@ -49,7 +49,7 @@ abbrev last_vector : Reading → Read
 last_vector c = vector_at c >>= λ (v : Numbers). closing v.1
 
 abbrev vector_line : Reading → Read
-vector_line c = next_line c >>= λ (u : ⊤ × Reading). last_vector u.1
+vector_line c = moved need_line_at c >>= λ (u : ⊤ × Reading). last_vector u.1
 
 abbrev read : Reading → Read
 read c = next_text c >>= λ (u : ⊤ × Reading). vector_line u.1
@@ -58,7 +58,7 @@ alike_last : Alike last_vector
 alike_last = alike_chained vector_at (λ v. closing) (alike_goes vector_at ends_vector.goes) (λ v. alike_closing)
 
 alike_line : Alike vector_line
-alike_line = alike_chained next_line (λ u. last_vector) (alike_goes next_line goes_line) (λ u. alike_last)
+alike_line = alike_chained (moved need_line_at) (λ u. last_vector) (alike_goes (moved need_line_at) goes_line) (λ u. alike_last)
 
 well_last : (c : Reading) → Well as_is last_vector Any c
 well_last c = well_goes as_is vector_at (λ v. closing) Any (λ v. alike_closing) c (ends_vector.goes c) (ends_vector.well (Then (λ v. closing) Any) nothing refl (λ v. from_closing) c) (λ v d e. well_closing d)
@@ -91,7 +91,7 @@ sat_line = in_next_line last_vector Any sat_last
 
 well_vector_behind : (c : Reading) → WellOpen as_is vector_line Any c
 well_vector_behind c =
-    well_behind as_is next_line (λ u. last_vector) Any (λ u. alike_last) c (free_line c) (well_line (Then (λ u. last_vector) Any) c sat_last.start (from_sat last_vector Any sat_last)) (λ u d e. well_last d)
+    well_behind as_is (moved need_line_at) (λ u. last_vector) Any (λ u. alike_last) c (free_line c) (well_line (Then (λ u. last_vector) Any) c sat_last.start (from_sat last_vector Any sat_last)) (λ u d e. well_last d)
 
 well_read : (c : Reading) → WellOpen as_is read Any c
 well_read c =
@@ -136,7 +136,7 @@ line_taken c b l v = (
 
 vector_sound : (o : Reading) (u : ⊤) (next : Reading) → vector_line o ≡ Ok (u, next) → Any u (shows next) → OneVector o.later
 vector_sound o u next e a =
-    let q : (x : ⊤ × Reading) × (next_line o ≡ Ok x) × (last_vector x.1 ≡ Ok (u, next)) = bind_ok (next_line o) (λ (x : ⊤ × Reading). last_vector x.1) (u, next) e in
+    let q : (x : ⊤ × Reading) × (moved need_line_at o ≡ Ok x) × (last_vector x.1 ≡ Ok (u, next)) = bind_ok (moved need_line_at o) (λ (x : ⊤ × Reading). last_vector x.1) (u, next) e in
     line_taken o (q.0).1 (begins o (q.0).0 (q.0).1 q.1) (last_taken (q.0).1 u next q.2)
 
 sound : (o : Reading) (u : ⊤) (next : Reading) → read o ≡ Ok (u, next) → Any u (shows next) → AreTableAndVectorText o.later
@@ -154,8 +154,8 @@ vector_on rows d = worded (need_line_at d) >>= λ (line : Reading). line_on rows
 
 behind_faults : (rows : List Row) (d : Reading) → FaultsAs in_text (vector_on rows d) (vector_line d)
 behind_faults rows d =
-    faults_bind in_text shown_only (worded (need_line_at d)) (next_line d) (λ (line : Reading). line_on rows line) (λ (u : ⊤ × Reading). last_vector u.1)
-    (copy_worded shown_only (need_line_at d) (next_line d) (copy_alone (need_line_at d)))
+    faults_bind in_text shown_only (worded (need_line_at d)) (moved need_line_at d) (λ (line : Reading). line_on rows line) (λ (u : ⊤ × Reading). last_vector u.1)
+    (copy_worded shown_only (need_line_at d) (moved need_line_at d) (copy_alone (need_line_at d)))
     (λ line q. faults_bind in_text (λ (v : Numbers). v) (worded (vector_at line)) (vector_at line) (λ (v : Numbers). end_at v.1 >>= λ (last : Reading). Ok (rows, v.0)) (λ (v : Numbers). closing v.1)
     (copy_worded (λ (v : Numbers). v) (vector_at line) (vector_at line) (copy_same (vector_at line))) (λ v s. closing_faults (rows, v.0) v.1))
 

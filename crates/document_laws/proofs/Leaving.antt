@@ -1,15 +1,12 @@
 -- Documents: where one is refused, its lines leave the grammar.
 use Rattle.std.proofs.Common.{◌≡◌, ◌≢◌, ℕ, List, [], ◌∷◌, ◌++◌, Some, Result, Ok, refl, sym, ap, ◌∙◌}
-use Rattle.std.specs.Prelude.{⊤}
 use Rattle.text_definitions.specs.declared.Place.{Place}
-use Rattle.text_definitions.specs.declared.LexFault.{LexFault}
 use Rattle.text_definitions.specs.Text.{Line, lines_of, end_of}
-use Rattle.text_definitions.specs.Reading.{Reading, begun, start_of}
+use Rattle.text_definitions.specs.Reading.{Reading, begun, start_of, end_line_at}
 use Rattle.document_definitions.specs.Documents.{no_line_at, no_line_from}
 use Rattle.document_definitions.specs.Symbols.{Symbol, input_end, Placed, symbols_of, plain, LeavesAt}
-use Rattle.document_laws.proofs.Local.{left_symbols, shows, opening, opening_more, plain-append, StopsAt, alone}
-use Rattle.document_laws.proofs.LocalWords.{ending}
-use Rattle.document_laws.proofs.LocalLines.{by_lines, Further, further_in, no_input_end}
+use Rattle.document_laws.proofs.Local.{left_symbols, shows, opening, opening_more, plain-append, StopsAt, alone, moved}
+use Rattle.document_laws.proofs.LocalLines.{by_lines, Further, further_in, no_input_end, none_stop}
 
 -- a reading of which no line is begun, and where it stops among the lines that are left
 pub record StopsBehind {X E : Type 0} (read : Reading → Result X E) (c : Reading) (p : Place) : Type 0 where
@@ -75,12 +72,9 @@ leaves read InGrammar bytes p h found = record {
 }
 
 -- no further line
-abbrev pub none_stop : Reading → Result (⊤ × Reading) LexFault
-none_stop c = Ok (tt, c)
-
-pub no_line_alone : (c : Reading) → by_lines none_stop ending c.later c ≡ alone (no_line_at c)
+pub no_line_alone : (c : Reading) → by_lines none_stop (moved end_line_at) c.later c ≡ alone (no_line_at c)
 no_line_alone c = by_list c.later
   where
-    by_list : (ls : List Line) → by_lines none_stop ending ls c ≡ alone (no_line_from ls c)
+    by_list : (ls : List Line) → by_lines none_stop (moved end_line_at) ls c ≡ alone (no_line_from ls c)
     by_list [] = refl
     by_list (l ∷ ls) = refl

@@ -5,7 +5,7 @@ use Rattle.std.proofs.lemmas.List.{append-nil, append_assoc}
 use Rattle.text_definitions.specs.declared.Place.{Place}
 use Rattle.text_definitions.specs.declared.LexFault.{LexFault}
 use Rattle.text_definitions.specs.Text.{Token, word, stray, Line, lines_of, end_of}
-use Rattle.text_definitions.specs.Reading.{Reading, ◌>>=◌, begun, start_of}
+use Rattle.text_definitions.specs.Reading.{Reading, ◌>>=◌, begun, start_of, end_line_at}
 use Rattle.cone_text_definitions.specs.ConeText.{Cone, cone_at}
 use Rattle.document_definitions.specs.ConeGrammar.{AreConeLines}
 use Rattle.document_definitions.specs.Documents.{no_line_at, no_line_from, cone_document}
@@ -13,10 +13,10 @@ use Rattle.document_definitions.specs.Symbols.{Symbol, line_end, input_end, Plac
 use Rattle.document_laws.specs.FaultLaws.{ConeFaultsLeave, SomeCone}
 use Rattle.document_laws.proofs.ConeReading.{ConeRead, cone_read}
 use Rattle.document_laws.proofs.Cones.{closed_cone, cone_on, cone_document_found}
-use Rattle.document_laws.proofs.Local.{shows, opening, plain-append, GoesOn, StopsAt, bind_err, stops_early, stops_late, alone, alone_bind}
-use Rattle.document_laws.proofs.LocalWords.{ending, StopsHere, stops_end_here}
-use Rattle.document_laws.proofs.LocalLines.{by_lines, in_line, rest_here, line_split, behind_line as behind_rest, no_input_end}
-use Rattle.document_laws.proofs.Leaving.{StopsBehind, behind_end, behind_line, start_with, leaves, none_stop, no_line_alone}
+use Rattle.document_laws.proofs.Local.{shows, opening, plain-append, GoesOn, StopsAt, bind_err, stops_early, stops_late, alone, alone_bind, moved}
+use Rattle.document_laws.proofs.LocalWords.{StopsHere, stops_end_here}
+use Rattle.document_laws.proofs.LocalLines.{by_lines, in_line, rest_here, line_split, behind_line as behind_rest, no_input_end, none_stop}
+use Rattle.document_laws.proofs.Leaving.{StopsBehind, behind_end, behind_line, start_with, leaves, no_line_alone}
 use Rattle.document_laws.proofs.LeavingDocuments.{no_line, no_line_ends, cone_by_line}
 use Rattle.document_laws.proofs.Ways.{Way, graft}
 use Rattle.document_laws.proofs.WordWays.{opens_rest}
@@ -100,11 +100,11 @@ first_of_cone bytes l ls p split u =
 abbrev StopsPast : {X : Type 0} → (Reading → Result X LexFault) → Reading → Place → Type 0
 StopsPast read d p = (h : StopsAt read d p) × (h.front ≡ rest_here d)
 
-past_in : (ls : List Line) (d : Reading) → d.later ≡ ls → (f : LexFault) → no_line_from ls d ≡ Err f → StopsPast (λ c. by_lines none_stop ending c.later c) d f.place
+past_in : (ls : List Line) (d : Reading) → d.later ≡ ls → (f : LexFault) → no_line_from ls d ≡ Err f → StopsPast (λ c. by_lines none_stop (moved end_line_at) c.later c) d f.place
 past_in [] d split f e = absurd cc
 past_in (l ∷ ls) d split f e =
-    let h : StopsHere ending (begun l ls d) f.place = stops_end_here l.tokens (begun l ls d) f (ap alone e) in
-    (in_line none_stop ending d l ls f.place split h.0, ap (λ (fr : List Placed). rest_here d ++ fr) h.1 ∙ append-nil (rest_here d))
+    let h : StopsHere (moved end_line_at) (begun l ls d) f.place = stops_end_here l.tokens (begun l ls d) f (ap alone e) in
+    (in_line none_stop (moved end_line_at) d l ls f.place split h.0, ap (λ (fr : List Placed). rest_here d ++ fr) h.1 ∙ append-nil (rest_here d))
 
 past_cone : (cone : Cone) (d : Reading) (f : LexFault) → no_line_at d ≡ Err f → StopsPast (closed_cone cone) d f.place
 past_cone cone d f e =

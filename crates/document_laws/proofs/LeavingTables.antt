@@ -19,10 +19,10 @@ use Rattle.document_laws.proofs.Documents.{end_at}
 use Rattle.document_laws.proofs.Tables.{table_read, TableFound, table_found}
 use Rattle.document_laws.proofs.LocalTables.{in_text}
 use Rattle.document_laws.proofs.TextReaders.{Read, text_at, left_only, Copies}
-use Rattle.document_laws.proofs.TextEnds.{closing, Any, closing_none, none_closing, well_closing, AtEnd, well_each, each_complete}
+use Rattle.document_laws.proofs.TextEnds.{closing, Any, closing_none, none_closing, well_closing, AtEnd, each_from, well_each, each_complete}
 use Rattle.document_laws.proofs.TextWays.{ends_text}
 use Rattle.document_laws.proofs.FirstFaults.{left_first}
-use Rattle.document_laws.proofs.FirstTables.{closing_faults, one_text, one_complete, one_sound, well_one, one_faults, many_texts, copy_tables, next_table, well_line_text, many_sound}
+use Rattle.document_laws.proofs.FirstTables.{closing_faults, one_text, one_complete, one_sound, well_one, one_faults, copy_tables, next_table, well_line_text, many_sound}
 use Rattle.document_laws.proofs.BehindTables.{first_line, first_behind}
 use Rattle.document_laws.proofs.Given.{Table, Tables}
 
@@ -109,8 +109,8 @@ behind m most c rows d f table e =
 tables_first : (most : List Line) (c : Reading) → c.current.tokens ≡ [] → (tables : List (List Row)) (front back : List Line) → c.later ≡ front ++ back → AreTables front tables → (f : LexFault) → tables_from most c ≡ Err (in_text f)
     → FirstLeavesAt (SomeTablesAndText (length tables)) c.input_end c.later f.place
 tables_first most c none [] front back split h f e =
-    left_first (many_texts most) AtEnd AreTablesText (each_complete text_at AreTablesText next_table most) (many_sound most) c none f.place
-    (well_each text_at ends_text.goes well_line_text most c f (refused (tables_from most c) (many_texts most c) f (copy_tables most c) e))
+    left_first (each_from text_at most) AtEnd AreTablesText (each_complete text_at AreTablesText next_table most) (many_sound most) c none f.place
+    (well_each text_at ends_text.goes well_line_text most c f (refused (tables_from most c) (each_from text_at most c) f (copy_tables most c) e))
 tables_first [] c none (rows ∷ tables) front back split h f e = absurd (none_counted c f e)
 tables_first (m ∷ most) c none (rows ∷ tables) front back split h f e =
     let t : TableFound c rows (h.1 ++ back) = table_found c rows h.0 (h.1 ++ back) (split ∙ ap (λ (ls : List Line). ls ++ back) h.2 ∙ append_assoc h.0 h.1 back) h.3 in

@@ -7,7 +7,7 @@ use Rattle.text_definitions.specs.declared.LexFault.{LexFault}
 use Rattle.text_definitions.specs.Text.{Token, word, decimal_value}
 use Rattle.text_definitions.specs.Reading.{Reading, ◌>>=◌, word_at, number_up_to, number_at, signed_at, magnitude, is_negative, with_sign, exactly_at, same_word, numbers_from, numbers_at, word_fault}
 use Rattle.table_definitions.proofs.ReadingLaws.{TakesNumber, number_read}
-use Rattle.document_laws.proofs.Local.{Goes, goes_chained, goes_pure, goes_same, alone}
+use Rattle.document_laws.proofs.Local.{Goes, goes_chained, goes_pure, goes_same, alone, moved}
 use Rattle.document_laws.proofs.LocalWords.{tested, word_with, goes_word}
 use Rattle.document_laws.proofs.LocalLines.{by_end, by_ends, goes_by_end}
 use Rattle.document_laws.proofs.Given.{Numbers}
@@ -63,7 +63,7 @@ unfoldable pub exact_test : List ℕ → List ℕ → Result ⊤ LexKind
 exact_test wanted w = if same_word w wanted then Ok tt else Err BadWord
 
 abbrev pub exactly : List ℕ → Reading → Result (⊤ × Reading) LexFault
-exactly wanted c = alone (exactly_at wanted c)
+exactly wanted c = moved (exactly_at wanted) c
 
 pub exact_word : (wanted : List ℕ) (c : Reading) → word_with (exact_test wanted) c ≡ exactly wanted c
 unfolding exactly_at exact_test

@@ -10,7 +10,7 @@ use Rattle.text_definitions.specs.Reading.{Reading, begun, need_line_at, line_fr
 use Rattle.document_definitions.specs.Symbols.{Symbol, line_end, input_end, Placed, token_symbol, line_symbols, symbols_of, plain}
 use Rattle.table_definitions.proofs.ReadingLaws.{ok_parts, with_tokens}
 use Rattle.table_definitions.proofs.LineLaws.{line_found}
-use Rattle.document_laws.proofs.Local.{left_symbols, shows, opening, opening_more, plain-append, regrouped, GoesOn, StopsAt, Goes, alone}
+use Rattle.document_laws.proofs.Local.{left_symbols, shows, opening, opening_more, plain-append, regrouped, GoesOn, StopsAt, Goes, alone, moved}
 use Rattle.document_laws.proofs.LocalWords.{end_there}
 
 -- the tokens that are left in a line, and its end
@@ -71,14 +71,11 @@ split_line c l ls e =
     ∙ line_split c.current.number c.current.tokens c.current.end (left_symbols (begun l ls c))
 
 -- the next line
-abbrev pub next_line : Reading → Result (⊤ × Reading) LexFault
-next_line c = alone (need_line_at c)
-
-goes_line_in : (ls : List Line) (c : Reading) → c.later ≡ ls → (x : ⊤) (d : Reading) → alone (line_from ls c) ≡ Ok (x, d) → GoesOn next_line c x d
+goes_line_in : (ls : List Line) (c : Reading) → c.later ≡ ls → (x : ⊤) (d : Reading) → alone (line_from ls c) ≡ Ok (x, d) → GoesOn (moved need_line_at) c x d
 goes_line_in [] c split x d e = absurd cc
 goes_line_in (l ∷ ls) c split x d e =
     let parts : (tt ≡ x) × (begun l ls c ≡ d) = ok_parts (tt, begun l ls c) (x, d) e in
-    let made : GoesOn next_line c tt (begun l ls c) = record {
+    let made : GoesOn (moved need_line_at) c tt (begun l ls c) = record {
       front = rest_here c;
       split = split_line c l ls split;
       same =
@@ -86,9 +83,9 @@ goes_line_in (l ∷ ls) c split x d e =
           let f : Further other more = further c other more s none in
           (begun f.line f.rest other, ap alone (line_found other f.line f.rest f.lines), f.there));
     } in
-    subst (λ (y : ⊤). GoesOn next_line c y d) parts.0 (subst (λ (r : Reading). GoesOn next_line c tt r) parts.1 made)
+    subst (λ (y : ⊤). GoesOn (moved need_line_at) c y d) parts.0 (subst (λ (r : Reading). GoesOn (moved need_line_at) c tt r) parts.1 made)
 
-pub goes_line : (c : Reading) → Goes next_line c
+pub goes_line : (c : Reading) → Goes (moved need_line_at) c
 unfolding need_line_at
 goes_line c x d e = goes_line_in c.later c refl x d e
 
@@ -99,7 +96,7 @@ no_line_more (l ∷ ls) other more e x p = no_input_end l.number l.tokens l.end 
 
 -- it stops where the input ends
 abbrev pub StopsAfterLine : Reading → Place → Type 0
-StopsAfterLine c p = (h : StopsAt next_line c p) × (h.front ≡ rest_here c)
+StopsAfterLine c p = (h : StopsAt (moved need_line_at) c p) × (h.front ≡ rest_here c)
 
 pub stops_line_in : (ls : List Line) (c : Reading) → c.later ≡ ls → (f : LexFault) → alone (line_from ls c) ≡ Err f → StopsAfterLine c f.place
 unfolding need_line_at symbols_of
@@ -119,6 +116,10 @@ stops_line_in [] c split f e =
       refl,
     )
 stops_line_in (l ∷ ls) c split f e = absurd cc
+
+-- no further line
+abbrev pub none_stop : Reading → Result (⊤ × Reading) LexFault
+none_stop c = Ok (tt, c)
 
 -- a reader of the next line, where one is left
 abbrev pub by_lines : {X E : Type 0} → (Reading → Result X E) → (Reading → Result X E) → List Line → Reading → Result X E

@@ -19,7 +19,7 @@ use Rattle.signature_definitions.specs.declared.InputFault.TheVariants.{Text}
 use Rattle.signature_definitions.specs.declared.SigFault.{SigFault}
 use Rattle.signature_definitions.specs.SignatureText.{texted, decoded, signature_table, signature_at, named_table_at, any_table_at}
 use Rattle.document_definitions.specs.Documents.{worded}
-use Rattle.document_laws.proofs.Local.{Goes, goes_chained, goes_pure, goes_same, alone, goes_moved, Lift, goes_lifted}
+use Rattle.document_laws.proofs.Local.{Goes, goes_chained, goes_pure, goes_same, alone, moved, goes_moved, Lift, goes_lifted}
 use Rattle.document_laws.proofs.LocalWords.{tested, word_with, goes_word, goes_end}
 use Rattle.document_laws.proofs.LocalLines.{goes_line}
 use Rattle.document_laws.proofs.LocalForms.{goes_number}
@@ -68,12 +68,12 @@ pub worded_alone : (r : Result Reading LexFault) → worded (alone r) ≡ alone 
 worded_alone (Ok d) = refl
 worded_alone (Err f) = refl
 
-module _ (move : Reading → Result Reading LexFault) (c : Reading) (g : Goes (λ d. alone (move d)) c) where
-  goes_lexed : Goes (λ d. alone (lexed (move d))) c
-  goes_lexed = goes_same (λ d. lexed (alone (move d))) (λ d. alone (lexed (move d))) (λ d. lexed_alone (move d)) c (goes_lifted (λ r. lexed r) lexed_lift (λ d. alone (move d)) c g)
+module _ (move : Reading → Result Reading LexFault) (c : Reading) (g : Goes (moved move) c) where
+  goes_lexed : Goes (moved (λ d. lexed (move d))) c
+  goes_lexed = goes_same (λ d. lexed (alone (move d))) (moved (λ d. lexed (move d))) (λ d. lexed_alone (move d)) c (goes_lifted (λ r. lexed r) lexed_lift (moved move) c g)
 
-  pub goes_worded : Goes (λ d. alone (worded (move d))) c
-  goes_worded = goes_same (λ d. worded (alone (move d))) (λ d. alone (worded (move d))) (λ d. worded_alone (move d)) c (goes_lifted (λ r. worded r) worded_lift (λ d. alone (move d)) c g)
+  pub goes_worded : Goes (moved (λ d. worded (move d))) c
+  goes_worded = goes_same (λ d. worded (alone (move d))) (moved (λ d. worded (move d))) (λ d. worded_alone (move d)) c (goes_lifted (λ r. worded r) worded_lift (moved move) c g)
 
 -- entries
 unfoldable pub gluing_test : Option Gluing → Result (Option Gluing) LexKind
@@ -193,11 +193,12 @@ any_word c = by_word (word_at c)
     by_word (Ok w) = refl
     by_word (Err f) = refl
 
-abbrev pub a_word : Reading → Result (List ℕ × Reading) InputFault
-a_word c = worded (word_at c)
+-- the next word, put to a test, with the faults of a document
+abbrev pub worded_word : {A : Type 0} → (List ℕ → Result A LexKind) → Reading → Result (A × Reading) InputFault
+worded_word test c = worded (word_with test c)
 
-goes_a_word : (c : Reading) → Goes a_word c
-goes_a_word c = goes_lifted (λ r. worded r) worded_lift word_at c (goes_same (word_with any_text) word_at any_word c (goes_word any_text c))
+goes_worded_word : {A : Type 0} (test : List ℕ → Result A LexKind) (c : Reading) → Goes (worded_word test) c
+goes_worded_word test c = goes_lifted (λ r. worded r) worded_lift (word_with test) c (goes_word test c)
 
 goes_decoded : (r : Result (List tables.Row) SigFault) (c : Reading) → Goes (λ d. decoded d r) c
 goes_decoded (Ok rows) c = goes_pure rows c
@@ -206,11 +207,15 @@ goes_decoded (Err f) c = λ x d e. absurd cc
 abbrev pub text_on : List ℕ → Reading → Result Rows InputFault
 text_on w d = worded (end_line_at d) >>= λ (end : Reading). decoded end (signature_table w)
 
-goes_signature : (c : Reading) → Goes signature_at c
+signature_named : (c : Reading) → (worded_word any_text c >>= λ (w : List ℕ × Reading). text_on w.0 w.1) ≡ signature_at c
 unfolding signature_at
+signature_named c = ap (λ (r : Result (List ℕ × Reading) LexFault). worded r >>= λ (w : List ℕ × Reading). text_on w.0 w.1) (any_word c)
+
+goes_signature : (c : Reading) → Goes signature_at c
 goes_signature c =
-    goes_chained a_word text_on c (goes_a_word c)
-    (λ w d e. goes_moved (λ b. worded (end_line_at b)) (λ end. decoded end (signature_table w)) d (goes_worded end_line_at d (goes_end d)) (λ end q. goes_decoded (signature_table w) end))
+    goes_same (λ d. worded_word any_text d >>= λ (w : List ℕ × Reading). text_on w.0 w.1) signature_at signature_named c
+    (goes_chained (worded_word any_text) text_on c (goes_worded_word any_text c)
+    (λ w d e. goes_moved (λ b. worded (end_line_at b)) (λ end. decoded end (signature_table w)) d (goes_worded end_line_at d (goes_end d)) (λ end q. goes_decoded (signature_table w) end)))
 
 -- a table by its first word: true for `tri`, false for `sig`
 unfoldable pub name_test : List ℕ → Result Bool LexKind
@@ -220,10 +225,7 @@ unfoldable pub by_name : Bool → Reading → Result Rows InputFault
 by_name true c = texted (table_at c)
 by_name false c = signature_at c
 
-abbrev pub a_name : Reading → Result (Bool × Reading) InputFault
-a_name c = worded (word_with name_test c)
-
-pub table_named : (c : Reading) → (a_name c >>= λ (b : Bool × Reading). by_name b.0 b.1) ≡ any_table_at c
+pub table_named : (c : Reading) → (worded_word name_test c >>= λ (b : Bool × Reading). by_name b.0 b.1) ≡ any_table_at c
 unfolding any_table_at name_test by_name
 table_named c = by_word (word_at c)
   where
@@ -243,8 +245,5 @@ unfolding by_name
 goes_by_name true c = goes_lifted (λ r. texted r) texted_lift table_at c (goes_table c)
 goes_by_name false c = goes_signature c
 
-goes_a_name : (c : Reading) → Goes a_name c
-goes_a_name c = goes_lifted (λ r. worded r) worded_lift (word_with name_test) c (goes_word name_test c)
-
 pub goes_any_table : (c : Reading) → Goes any_table_at c
-goes_any_table c = goes_same (λ d. a_name d >>= λ (b : Bool × Reading). by_name b.0 b.1) any_table_at table_named c (goes_chained a_name by_name c (goes_a_name c) (λ b d e. goes_by_name b d))
+goes_any_table c = goes_same (λ d. worded_word name_test d >>= λ (b : Bool × Reading). by_name b.0 b.1) any_table_at table_named c (goes_chained (worded_word name_test) by_name c (goes_worded_word name_test c) (λ b d e. goes_by_name b d))

@@ -9,7 +9,7 @@ use Rattle.text_definitions.specs.Text.{Token, word, stray}
 use Rattle.text_definitions.specs.Reading.{Reading, ◌>>=◌, column_at, fault_at, word_fault, word_at, end_line_at, end_from}
 use Rattle.document_definitions.specs.Symbols.{Symbol, shown, strange, line_end, line_symbols, symbols_of}
 use Rattle.table_definitions.proofs.ReadingLaws.{ok_parts, with_tokens, behind}
-use Rattle.document_laws.proofs.Local.{left_symbols, shows, opening, GoesOn, StopsAt, Goes, alone}
+use Rattle.document_laws.proofs.Local.{left_symbols, shows, opening, GoesOn, StopsAt, Goes, alone, moved}
 
 abbrev pub as_is : LexFault → LexFault
 as_is f = f
@@ -134,39 +134,36 @@ module _ {A : Type 0} (test : List ℕ → Result A LexKind) where
           (record { front = []; symbol = shown w; after = left_symbols (with_tokens ts c); split = refl; same = λ other more s x p. none_refused w k other more t s x p }, refl)
 
 -- the end of a line
-abbrev pub ending : Reading → Result (⊤ × Reading) LexFault
-ending c = alone (end_line_at c)
-
-pub ends_again : (other : Reading) → opening (shows other) ≡ Some line_end → ending other ≡ Ok (tt, other)
+pub ends_again : (other : Reading) → opening (shows other) ≡ Some line_end → moved end_line_at other ≡ Ok (tt, other)
 unfolding end_line_at
 ends_again other o = ap (λ (ts : List Token). alone (end_from ts other)) (end_there other.current.tokens other o)
 
-goes_end_here : (ts : List Token) (c : Reading) → Goes ending (with_tokens ts c)
+goes_end_here : (ts : List Token) (c : Reading) → Goes (moved end_line_at) (with_tokens ts c)
 unfolding end_line_at line_symbols
 goes_end_here [] c x d e =
     let parts : (tt ≡ x) × (with_tokens [] c ≡ d) = ok_parts (tt, with_tokens [] c) (x, d) e in
-    subst (λ (y : ⊤). GoesOn ending (with_tokens [] c) y d) parts.0
-    (subst (λ (r : Reading). GoesOn ending (with_tokens [] c) tt r) parts.1 (record { front = []; split = refl; same = λ other more s o. (other, ends_again other (ap opening s ∙ o), s) }))
+    subst (λ (y : ⊤). GoesOn (moved end_line_at) (with_tokens [] c) y d) parts.0
+    (subst (λ (r : Reading). GoesOn (moved end_line_at) (with_tokens [] c) tt r) parts.1 (record { front = []; split = refl; same = λ other more s o. (other, ends_again other (ap opening s ∙ o), s) }))
 goes_end_here (stray column ∷ ts) c x d e = absurd cc
 goes_end_here (word column w ∷ ts) c x d e = absurd cc
 
-pub goes_end : (c : Reading) → Goes ending c
+pub goes_end : (c : Reading) → Goes (moved end_line_at) c
 goes_end c = goes_end_here c.current.tokens c
 
-token_more : (ts : List Token) (c : Reading) (s : Symbol) → opening (shows (with_tokens ts c)) ≡ Some s → s ≢ line_end → (x : ⊤ × Reading) → ending (with_tokens ts c) ≢ Ok x
+token_more : (ts : List Token) (c : Reading) (s : Symbol) → opening (shows (with_tokens ts c)) ≡ Some s → s ≢ line_end → (x : ⊤ × Reading) → moved end_line_at (with_tokens ts c) ≢ Ok x
 unfolding end_line_at line_symbols
 token_more [] c s e n x p = (let same : s ≡ line_end = cc in n same)
 token_more (stray column ∷ ts) c s e n x p = absurd cc
 token_more (word column w ∷ ts) c s e n x p = absurd cc
 
-pub stops_end_here : (ts : List Token) (c : Reading) (f : LexFault) → ending (with_tokens ts c) ≡ Err f → StopsHere ending (with_tokens ts c) f.place
+pub stops_end_here : (ts : List Token) (c : Reading) (f : LexFault) → moved end_line_at (with_tokens ts c) ≡ Err f → StopsHere (moved end_line_at) (with_tokens ts c) f.place
 unfolding end_line_at line_symbols
 stops_end_here [] c f e = absurd cc
 stops_end_here (stray column ∷ ts) c f e =
     let same : fault_at c column BadByte ≡ f = cc in
-    subst (λ (g : LexFault). StopsHere ending (with_tokens (stray column ∷ ts) c) g.place) same
+    subst (λ (g : LexFault). StopsHere (moved end_line_at) (with_tokens (stray column ∷ ts) c) g.place) same
     (record { front = []; symbol = strange; after = left_symbols (with_tokens ts c); split = refl; same = λ other more s x p. token_more other.current.tokens other strange (ap opening s) (λ q. cc) x p }, refl)
 stops_end_here (word column w ∷ ts) c f e =
     let same : fault_at c column ExtraWord ≡ f = cc in
-    subst (λ (g : LexFault). StopsHere ending (with_tokens (word column w ∷ ts) c) g.place) same
+    subst (λ (g : LexFault). StopsHere (moved end_line_at) (with_tokens (word column w ∷ ts) c) g.place) same
     (record { front = []; symbol = shown w; after = left_symbols (with_tokens ts c); split = refl; same = λ other more s x p. token_more other.current.tokens other (shown w) (ap opening s) (λ q. cc) x p }, refl)

@@ -12,7 +12,7 @@ use Rattle.document_definitions.specs.Symbols.{Symbol, shown, strange, line_end,
 use Rattle.table_definitions.proofs.ReadingLaws.{ok_parts, with_tokens}
 use Rattle.document_laws.proofs.Local.{left_symbols, shows, opening, plain-append, StopsAt, Goes}
 use Rattle.document_laws.proofs.LocalWords.{as_is}
-use Rattle.document_laws.proofs.LocalLines.{by_lines, in_line, rest_here, split_line, further, Further, no_input_end, behind_line as behind_rest}
+use Rattle.document_laws.proofs.LocalLines.{none_stop, by_lines, by_line, in_line, rest_here, split_line, further, Further, no_input_end, behind_line as behind_rest}
 use Rattle.document_laws.proofs.Ways.{From, Way, Alike, alike_goes, Well, WellOpen, well_goes}
 use Rattle.document_laws.proofs.WordWays.{opens_rest}
 use Rattle.document_laws.proofs.ConeWays.{of_lines}
@@ -25,12 +25,11 @@ first_fault [] c = fault_at c c.current.end ExtraWord
 first_fault (stray column ∷ ts) c = fault_at c column BadByte
 first_fault (word column w ∷ ts) c = fault_at c column ExtraWord
 
-abbrev pub closed_from : List Line → Reading → Read
-closed_from [] c = Ok (tt, c)
-closed_from (l ∷ ls) c = Err (first_fault l.tokens (begun l ls c))
+abbrev pub refused_line : Reading → Read
+refused_line b = Err (first_fault b.current.tokens b)
 
 abbrev pub closing : Reading → Read
-closing c = closed_from c.later c
+closing c = by_line none_stop refused_line c
 
 abbrev pub Any : ⊤ → List Symbol → Type 0
 Any u ss = ⊤
@@ -40,12 +39,12 @@ pub none_later : (c o : Reading) → c.later ≡ [] → shows o ≡ shows c → 
 none_later c o none same = no_lines o.input_end o.later (behind_rest c o (input_end ∷ []) (same ∙ ap (λ (ls : List Line). shows (record c { later = ls })) none ∙ cut_shows c))
 
 pub closing_none : (c : Reading) → c.later ≡ [] → closing c ≡ Ok (tt, c)
-closing_none c none = ap (λ (ls : List Line). closed_from ls c) none
+closing_none c none = ap (λ (ls : List Line). by_lines none_stop refused_line ls c) none
 
 pub none_closing : (c : Reading) (u : ⊤) (d : Reading) → closing c ≡ Ok (u, d) → (c.later ≡ []) × (c ≡ d)
 none_closing c u d e = by_lines_left c.later refl e
   where
-    by_lines_left : (ls : List Line) → c.later ≡ ls → closed_from ls c ≡ Ok (u, d) → (c.later ≡ []) × (c ≡ d)
+    by_lines_left : (ls : List Line) → c.later ≡ ls → by_lines none_stop refused_line ls c ≡ Ok (u, d) → (c.later ≡ []) × (c ≡ d)
     by_lines_left [] split e = (split, (ok_parts (tt, c) (u, d) e).1)
     by_lines_left (l ∷ ls) split e = absurd cc
 
@@ -68,7 +67,7 @@ some_further : (symbol : Symbol) (more : List Symbol) → symbol ≢ input_end �
 some_further symbol more n e = (let same : symbol ≡ input_end = cc in n same)
 
 closed_further : (other : Reading) (more : List Symbol) → Further other more → (x : ⊤ × Reading) → closing other ≢ Ok x
-closed_further other more f x e = (let err : closed_from (f.line ∷ f.rest) other ≡ Ok x = sym (ap (λ (ls : List Line). closed_from ls other) f.lines) ∙ e in absurd cc)
+closed_further other more f x e = (let err : by_lines none_stop refused_line (f.line ∷ f.rest) other ≡ Ok x = sym (ap (λ (ls : List Line). by_lines none_stop refused_line ls other) f.lines) ∙ e in absurd cc)
 
 closed_at : (c : Reading) (l : Line) (ls : List Line) → c.later ≡ l ∷ ls → OpenAt closing Any c (first_fault l.tokens (begun l ls c)).place
 closed_at c l ls split =
@@ -87,7 +86,7 @@ closed_at c l ls split =
 pub well_closing : (c : Reading) → WellOpen as_is closing Any c
 well_closing c f e = by_lines_left c.later refl e
   where
-    by_lines_left : (ls : List Line) → c.later ≡ ls → closed_from ls c ≡ Err f → OpenAt closing Any c f.place
+    by_lines_left : (ls : List Line) → c.later ≡ ls → by_lines none_stop refused_line ls c ≡ Err f → OpenAt closing Any c f.place
     by_lines_left [] split e = absurd cc
     by_lines_left (l ∷ ls) split e = (let same : first_fault l.tokens (begun l ls c) ≡ f = cc in subst (λ (g : LexFault). OpenAt closing Any c g.place) same (closed_at c l ls split))
 
@@ -110,10 +109,7 @@ nothing = of_lines []
 module _ {A : Type 0} (line : Reading → Result (A × Reading) LexFault) where
   unfoldable pub each_from : List Line → Reading → Read
   each_from [] c = Ok (tt, c)
-  each_from (m ∷ most) c = by_lines (λ d. Ok (tt, d)) (λ b. line b >>= λ (x : A × Reading). each_from most x.1) c.later c
-
-  abbrev pub stop_each : Reading → Read
-  stop_each c = Ok (tt, c)
+  each_from (m ∷ most) c = by_lines none_stop (λ b. line b >>= λ (x : A × Reading). each_from most x.1) c.later c
 
   abbrev pub go_each : List Line → Reading → Read
   go_each most b = line b >>= λ (x : A × Reading). each_from most x.1
@@ -121,11 +117,11 @@ module _ {A : Type 0} (line : Reading → Result (A × Reading) LexFault) where
   pub each_none : (most : List Line) (c : Reading) → c.later ≡ [] → each_from most c ≡ Ok (tt, c)
   unfolding each_from
   each_none [] c none = refl
-  each_none (m ∷ most) c none = ap (λ (ls : List Line). by_lines stop_each (go_each most) ls c) none
+  each_none (m ∷ most) c none = ap (λ (ls : List Line). by_lines none_stop (go_each most) ls c) none
 
   pub each_more : (m : Line) (most : List Line) (c : Reading) (l : Line) (ls : List Line) → c.later ≡ l ∷ ls → each_from (m ∷ most) c ≡ go_each most (begun l ls c)
   unfolding each_from
-  each_more m most c l ls split = ap (λ (ks : List Line). by_lines stop_each (go_each most) ks c) split
+  each_more m most c l ls split = ap (λ (ks : List Line). by_lines none_stop (go_each most) ks c) split
 
   same_left : (c o : Reading) (x : ⊤) (d : Reading) (most : List Line) → c.later ≡ [] → each_from most c ≡ Ok (x, d) → shows o ≡ shows c → (next : Reading) × (each_from most o ≡ Ok (x, next)) × (shows next ≡ shows d)
   same_left c o x d most none e same =
@@ -164,7 +160,7 @@ module _ {A : Type 0} (line : Reading → Result (A × Reading) LexFault) where
         let w : Way (go_each most) u.0.front AtEnd = u.1 in
         let o : Reading = record w.other { current = c.current; later = w.other.current ∷ w.other.later } in
         let there : shows o ≡ plain (rest_here c) ++ shows w.other = ap plain (split_line o w.other.current w.other.later refl) ∙ plain-append (rest_here c) (left_symbols w.other) in (
-          in_line stop_each (go_each most) c l ls p split u.0,
+          in_line none_stop (go_each most) c l ls p split u.0,
           record {
             other = o;
             more = w.more;
@@ -185,7 +181,7 @@ module _ {A : Type 0} (line : Reading → Result (A × Reading) LexFault) where
       well_each [] c f e = absurd cc
       well_each (m ∷ most) c f e = by_lines_left c.later refl (well_each most) e
         where
-          by_lines_left : (ls : List Line) → c.later ≡ ls → ((d : Reading) → WellOpen as_is (each_from most) AtEnd d) → by_lines stop_each (go_each most) ls c ≡ Err f → OpenAt (each_from (m ∷ most)) AtEnd c f.place
+          by_lines_left : (ls : List Line) → c.later ≡ ls → ((d : Reading) → WellOpen as_is (each_from most) AtEnd d) → by_lines none_stop (go_each most) ls c ≡ Err f → OpenAt (each_from (m ∷ most)) AtEnd c f.place
           by_lines_left [] split others e = absurd cc
           by_lines_left (l ∷ ls) split others e =
               in_next m most c l ls f.place split
@@ -199,7 +195,7 @@ module _ {A : Type 0} (line : Reading → Result (A × Reading) LexFault) where
     each_sound none more [] c u d e end = (let parts : (tt ≡ u) × (c ≡ d) = ok_parts (tt, c) (u, d) e in subst (λ (ls : List Line). Many ls) (sym (ap (λ (r : Reading). r.later) parts.1 ∙ end)) none)
     each_sound none more (m ∷ most) c u d e end = by_lines_left c.later (λ b q. each_sound none more most b u d q end) e
       where
-        by_lines_left : (ls : List Line) → ((b : Reading) → each_from most b ≡ Ok (u, d) → Many b.later) → by_lines stop_each (go_each most) ls c ≡ Ok (u, d) → Many ls
+        by_lines_left : (ls : List Line) → ((b : Reading) → each_from most b ≡ Ok (u, d) → Many b.later) → by_lines none_stop (go_each most) ls c ≡ Ok (u, d) → Many ls
         by_lines_left [] others e = none
         by_lines_left (l ∷ ls) others e =
             let p : (x : A × Reading) × (line (begun l ls c) ≡ Ok x) × (each_from most x.1 ≡ Ok (u, d)) = bind_ok (line (begun l ls c)) (λ (x : A × Reading). each_from most x.1) (u, d) e in
@@ -210,7 +206,7 @@ module _ {A : Type 0} (line : Reading → Result (A × Reading) LexFault) where
     each_complete one [] c h = ((tt, c), refl)
     each_complete one (m ∷ most) c h = by_lines_left c.later (each_complete one most) h
       where
-        by_lines_left : (ls : List Line) → ((b : Reading) → Many b.later → (y : ⊤ × Reading) × (each_from most b ≡ Ok y)) → Many ls → (y : ⊤ × Reading) × (by_lines stop_each (go_each most) ls c ≡ Ok y)
+        by_lines_left : (ls : List Line) → ((b : Reading) → Many b.later → (y : ⊤ × Reading) × (each_from most b ≡ Ok y)) → Many ls → (y : ⊤ × Reading) × (by_lines none_stop (go_each most) ls c ≡ Ok y)
         by_lines_left [] others h = ((tt, c), refl)
         by_lines_left (l ∷ ls) others h =
             let b : (x : A) × (d : Reading) × (line (begun l ls c) ≡ Ok (x, d)) × Many d.later = one (begun l ls c) h in

@@ -14,17 +14,16 @@ use Rattle.document_definitions.specs.TextForms.{IsRowText, AreTriText, AreTable
 use Rattle.signature_definitions.specs.Grammar.{AreTableLines}
 use Rattle.document_laws.specs.FormLaws.{HaveForm}
 use Rattle.document_laws.proofs.Blocks.{ReadsBlocks}
-use Rattle.document_laws.proofs.Local.{alone, alone_ok}
-use Rattle.document_laws.proofs.LocalWords.{word_with, ending}
-use Rattle.document_laws.proofs.LocalLines.{next_line}
+use Rattle.document_laws.proofs.Local.{alone, alone_ok, moved}
+use Rattle.document_laws.proofs.LocalWords.{word_with}
 use Rattle.document_laws.proofs.LocalTables.{entry_test, any_text, name_test}
 use Rattle.document_laws.proofs.TextReaders.{Read, words_at, row_text, row_line, rows_text, counted_text, tri_text, sig_text, text_named, text_at, next_text}
 use Rattle.document_laws.proofs.TextWords.{Passes, word_passed, word_put, WordsTaken, words_taken, words_given, entries_of, entries_pass, name_passed}
 
-pub begins : (c : Reading) (u : ⊤) (b : Reading) → next_line c ≡ Ok (u, b) → BeginsLine c b
+pub begins : (c : Reading) (u : ⊤) (b : Reading) → moved need_line_at c ≡ Ok (u, b) → BeginsLine c b
 begins c u b e = line_begun c b (alone_ok (need_line_at c) u b e)
 
-pub next_found : (c : Reading) (l : Line) (ls : List Line) → c.later ≡ l ∷ ls → next_line c ≡ Ok (tt, begun l ls c)
+pub next_found : (c : Reading) (l : Line) (ls : List Line) → c.later ≡ l ∷ ls → moved need_line_at c ≡ Ok (tt, begun l ls c)
 next_found c l ls e = ap (λ (r : Result Reading LexFault). alone r) (line_found c l ls e)
 
 -- a row
@@ -65,7 +64,7 @@ unfolding rows_text
 rows_taken zero c u d e = none_taken c u d e
 rows_taken (suc n) c u d e =
     let b1 : (x : ⊤ × Reading) × (row_line c ≡ Ok x) × (rows_text n x.1 ≡ Ok (u, d)) = bind_ok (row_line c) (λ (x : ⊤ × Reading). rows_text n x.1) (u, d) e in
-    let b2 : (y : ⊤ × Reading) × (next_line c ≡ Ok y) × (row_text y.1 ≡ Ok b1.0) = bind_ok (next_line c) (λ (y : ⊤ × Reading). row_text y.1) b1.0 b1.1 in
+    let b2 : (y : ⊤ × Reading) × (moved need_line_at c ≡ Ok y) × (row_text y.1 ≡ Ok b1.0) = bind_ok (moved need_line_at c) (λ (y : ⊤ × Reading). row_text y.1) b1.0 b1.1 in
     row_joined n c (b2.0).1 (b1.0).1 d (begins c (b2.0).0 (b2.0).1 b2.1) (words_taken entry_test 4 (b2.0).1 (b1.0).0 (b1.0).1 b2.2) (rows_taken n (b1.0).1 u d b1.2)
 
 abbrev RowsGiven : ℕ → Reading → List Line → Type 0
@@ -116,7 +115,7 @@ tri_joined c b e d n t l r =
 tri_taken : (c : Reading) (u : ⊤) (d : Reading) → tri_text c ≡ Ok (u, d) → TriTaken c d
 tri_taken c u d e =
     let b1 : (n : ℕ × Reading) × (number_at max_tets c ≡ Ok n) × (counted_text n.0 n.1 ≡ Ok (u, d)) = bind_ok (number_at max_tets c) (λ (n : ℕ × Reading). counted_text n.0 n.1) (u, d) e in
-    let b2 : (x : ⊤ × Reading) × (ending (b1.0).1 ≡ Ok x) × (rows_text (b1.0).0 x.1 ≡ Ok (u, d)) = bind_ok (ending (b1.0).1) (λ (x : ⊤ × Reading). rows_text (b1.0).0 x.1) (u, d) b1.2 in
+    let b2 : (x : ⊤ × Reading) × (moved end_line_at (b1.0).1 ≡ Ok x) × (rows_text (b1.0).0 x.1 ≡ Ok (u, d)) = bind_ok (moved end_line_at (b1.0).1) (λ (x : ⊤ × Reading). rows_text (b1.0).0 x.1) (u, d) b1.2 in
     tri_joined c (b1.0).1 (b2.0).1 d (b1.0).0 (number_read max_tets c.current.tokens c (b1.0).0 (b1.0).1 b1.1)
     (line_ended (b1.0).1.current.tokens (b1.0).1 (b2.0).1 (alone_ok (end_line_at (b1.0).1) (b2.0).0 (b2.0).1 b2.1)) (rows_taken (b1.0).0 (b2.0).1 u d b2.2)
 
@@ -145,7 +144,7 @@ record SigTaken (c d : Reading) : Type 0 where
 
 sig_taken : (c : Reading) (u : ⊤) (d : Reading) → sig_text c ≡ Ok (u, d) → SigTaken c d
 sig_taken c u d e =
-    let b1 : (w : List ℕ × Reading) × (word_with any_text c ≡ Ok w) × (ending w.1 ≡ Ok (u, d)) = bind_ok (word_with any_text c) (λ (w : List ℕ × Reading). ending w.1) (u, d) e in
+    let b1 : (w : List ℕ × Reading) × (word_with any_text c ≡ Ok w) × (moved end_line_at w.1 ≡ Ok (u, d)) = bind_ok (word_with any_text c) (λ (w : List ℕ × Reading). moved end_line_at w.1) (u, d) e in
     let p : Passes any_text c (b1.0).0 (b1.0).1 = word_passed any_text c (b1.0).0 (b1.0).1 b1.1 in
     let l : ((b1.0).1.current.tokens ≡ []) × (d ≡ with_tokens [] (b1.0).1) = line_ended (b1.0).1.current.tokens (b1.0).1 d (alone_ok (end_line_at (b1.0).1) u d b1.2) in
     let rest : p.rest ≡ [] = ap (λ (q : Reading). q.current.tokens) (sym p.left) ∙ l.0 in
@@ -162,7 +161,7 @@ sig_given c text rest a split =
     let f : FirstWord c.current.tokens text [] = first_word c.current.tokens text [] a in
     let b : Reading = with_tokens f.rest (behind f.column c) in (
       with_tokens [] b,
-      ap (λ (q : Result (List ℕ × Reading) LexFault). q >>= λ (w : List ℕ × Reading). ending w.1) (word_put any_text c f.column text f.rest text f.tokens refl)
+      ap (λ (q : Result (List ℕ × Reading) LexFault). q >>= λ (w : List ℕ × Reading). moved end_line_at w.1) (word_put any_text c f.column text f.rest text f.tokens refl)
           ∙ ap (λ (q : Result Reading LexFault). alone q) (end_found f.rest b (no_words f.rest f.others)),
       split,
     )
@@ -233,7 +232,7 @@ IsText lines u = AreTableText lines
 
 next_taken : (c : Reading) (u : ⊤) (d : Reading) → next_text c ≡ Ok (u, d) → (lines : List Line) × (c.later ≡ lines ++ d.later) × IsText lines u
 next_taken c u d e =
-    let b1 : (x : ⊤ × Reading) × (next_line c ≡ Ok x) × (text_at x.1 ≡ Ok (u, d)) = bind_ok (next_line c) (λ (x : ⊤ × Reading). text_at x.1) (u, d) e in
+    let b1 : (x : ⊤ × Reading) × (moved need_line_at c ≡ Ok x) × (text_at x.1 ≡ Ok (u, d)) = bind_ok (moved need_line_at c) (λ (x : ⊤ × Reading). text_at x.1) (u, d) e in
     joined (b1.0).1 (begins c (b1.0).0 (b1.0).1 b1.1) (text_taken (b1.0).1 u d b1.2)
   where
     joined : (b : Reading) → BeginsLine c b → (lines : List Line) × (b.later ≡ lines ++ d.later) × AreTableText (b.current ∷ lines) → (lines : List Line) × (c.later ≡ lines ++ d.later) × IsText lines u

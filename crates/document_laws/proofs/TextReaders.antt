@@ -18,10 +18,9 @@ use Rattle.signature_definitions.specs.declared.InputFault.{InputFault}
 use Rattle.signature_definitions.specs.declared.SigFault.{SigFault}
 use Rattle.signature_definitions.specs.SignatureText.{texted, decoded, signature_table, signature_at, any_table_at}
 use Rattle.document_definitions.specs.Documents.{worded, next_table_at}
-use Rattle.document_laws.proofs.Local.{alone}
-use Rattle.document_laws.proofs.LocalWords.{as_is, word_with, ending}
-use Rattle.document_laws.proofs.LocalLines.{next_line}
-use Rattle.document_laws.proofs.LocalTables.{in_text, entry_test, entry_word, first, second, third, fourth, entries, Rows, looked_at, rows_on, if_few, any_text, any_word, text_on, name_test, by_name, a_name, table_named}
+use Rattle.document_laws.proofs.Local.{alone, moved}
+use Rattle.document_laws.proofs.LocalWords.{as_is, word_with}
+use Rattle.document_laws.proofs.LocalTables.{in_text, entry_test, entry_word, first, second, third, fourth, entries, Rows, looked_at, rows_on, if_few, any_text, any_word, text_on, name_test, by_name, worded_word, table_named}
 use Rattle.document_laws.proofs.Given.{Entry}
 
 abbrev pub Read : Type 0
@@ -29,7 +28,7 @@ Read = Result (⊤ × Reading) LexFault
 
 -- so many words that pass a test, and the end of the line
 unfoldable pub words_at : {A : Type 0} → (List ℕ → Result A LexKind) → ℕ → Reading → Read
-words_at test zero c = ending c
+words_at test zero c = moved end_line_at c
 words_at {A} test (suc n) c = word_with test c >>= λ (x : A × Reading). words_at test n x.1
 
 -- a line of four entries, and so many of them
@@ -37,7 +36,7 @@ abbrev pub row_text : Reading → Read
 row_text c = words_at entry_test 4 c
 
 abbrev pub row_line : Reading → Read
-row_line c = next_line c >>= λ (u : ⊤ × Reading). row_text u.1
+row_line c = moved need_line_at c >>= λ (u : ⊤ × Reading). row_text u.1
 
 unfoldable pub rows_text : ℕ → Reading → Read
 rows_text zero c = Ok (tt, c)
@@ -45,13 +44,13 @@ rows_text (suc n) c = row_line c >>= λ (x : ⊤ × Reading). rows_text n x.1
 
 -- what follows the word `tri`, and the word `sig`
 abbrev pub counted_text : ℕ → Reading → Read
-counted_text n c = ending c >>= λ (u : ⊤ × Reading). rows_text n u.1
+counted_text n c = moved end_line_at c >>= λ (u : ⊤ × Reading). rows_text n u.1
 
 abbrev pub tri_text : Reading → Read
 tri_text c = number_at max_tets c >>= λ (n : ℕ × Reading). counted_text n.0 n.1
 
 abbrev pub sig_text : Reading → Read
-sig_text c = word_with any_text c >>= λ (w : List ℕ × Reading). ending w.1
+sig_text c = word_with any_text c >>= λ (w : List ℕ × Reading). moved end_line_at w.1
 
 -- a table by its first word, on the current line and on the next lines
 unfoldable pub text_named : Bool → Reading → Read
@@ -62,7 +61,7 @@ abbrev pub text_at : Reading → Read
 text_at c = word_with name_test c >>= λ (b : Bool × Reading). text_named b.0 b.1
 
 abbrev pub next_text : Reading → Read
-next_text c = next_line c >>= λ (u : ⊤ × Reading). text_at u.1
+next_text c = moved need_line_at c >>= λ (u : ⊤ × Reading). text_at u.1
 
 -- a reader gives what another gives, of which a part is kept, and the same faults of the lexer
 abbrev pub Copies : {X Y E : Type 0} → (LexFault → E) → (X → Y) → Result X E → Result Y LexFault → Type 0
@@ -135,7 +134,7 @@ after n e = words_at entry_test n e.1
 
 copy_fourth : (e0 e1 e2 e3 : Option Gluing) (c : Reading) → Copies as_is left_only (fourth e0 e1 e2 e3 c) (words_at entry_test 0 c)
 unfolding words_at
-copy_fourth e0 e1 e2 e3 c = copy_then as_is shown_only left_only (end_line_at c) (ending c) (λ (end : Reading). Ok (e0 ∷ e1 ∷ e2 ∷ e3 ∷ [], end)) (copy_alone (end_line_at c)) (λ end. refl)
+copy_fourth e0 e1 e2 e3 c = copy_then as_is shown_only left_only (end_line_at c) (moved end_line_at c) (λ (end : Reading). Ok (e0 ∷ e1 ∷ e2 ∷ e3 ∷ [], end)) (copy_alone (end_line_at c)) (λ end. refl)
 
 copy_third : (e0 e1 e2 : Option Gluing) (c : Reading) → Copies as_is left_only (third e0 e1 e2 c) (words_at entry_test 1 c)
 unfolding words_at
@@ -156,7 +155,7 @@ copy_entries c = copy_bind as_is one_entry left_only (entry_at c) (word_with ent
 
 copy_row : (c : Reading) → Copies as_is left_only (row_at c) (row_line c)
 unfolding row_at
-copy_row c = copy_bind as_is shown_only left_only (need_line_at c) (next_line c) entries (λ (u : ⊤ × Reading). row_text u.1) (copy_alone (need_line_at c)) (λ d. copy_entries d)
+copy_row c = copy_bind as_is shown_only left_only (need_line_at c) (moved need_line_at c) entries (λ (u : ⊤ × Reading). row_text u.1) (copy_alone (need_line_at c)) (λ d. copy_entries d)
 
 copy_rows : (n : ℕ) (c : Reading) → Copies as_is left_only (rows_at n c) (rows_text n c)
 unfolding rows_at rows_text
@@ -173,7 +172,7 @@ copy_checked (Some g) x = λ f p. absurd cc
 copy_counted : (n : ℕ) (c : Reading) → Copies Lex left_only (counted_rows_at n c) (counted_text n c)
 unfolding counted_rows_at
 copy_counted n c =
-    copy_bind Lex shown_only left_only (lexed (end_line_at c)) (ending c) (rows_on n) (λ (u : ⊤ × Reading). rows_text n u.1) (copy_lexed shown_only (end_line_at c) (ending c) (copy_alone (end_line_at c)))
+    copy_bind Lex shown_only left_only (lexed (end_line_at c)) (moved end_line_at c) (rows_on n) (λ (u : ⊤ × Reading). rows_text n u.1) (copy_lexed shown_only (end_line_at c) (moved end_line_at c) (copy_alone (end_line_at c)))
     (λ d. copy_then Lex left_only left_only (lexed (rows_at n d)) (rows_text n d) (λ (rows : Rows). looked_at rows.0 rows.1) (copy_lexed left_only (rows_at n d) (rows_text n d) (copy_rows n d))
     (λ rows. copy_checked (table_fault rows.0) rows))
 
@@ -221,9 +220,9 @@ copy_decoded c (Err g) = λ f p. absurd cc
 copy_sig : (c : Reading) → Copies in_text left_only (signature_at c) (sig_text c)
 unfolding signature_at
 copy_sig c =
-    copy_bind in_text (λ (w : List ℕ × Reading). w) left_only (worded (word_at c)) (word_with any_text c) (λ (w : List ℕ × Reading). text_on w.0 w.1) (λ (w : List ℕ × Reading). ending w.1)
+    copy_bind in_text (λ (w : List ℕ × Reading). w) left_only (worded (word_at c)) (word_with any_text c) (λ (w : List ℕ × Reading). text_on w.0 w.1) (λ (w : List ℕ × Reading). moved end_line_at w.1)
     (copy_worded (λ (w : List ℕ × Reading). w) (word_at c) (word_with any_text c) (copy_equal (word_at c) (word_with any_text c) (any_word c)))
-    (λ w. copy_then in_text shown_only left_only (worded (end_line_at w.1)) (ending w.1) (λ (end : Reading). decoded end (signature_table w.0)) (copy_worded shown_only (end_line_at w.1) (ending w.1) (copy_alone (end_line_at w.1)))
+    (λ w. copy_then in_text shown_only left_only (worded (end_line_at w.1)) (moved end_line_at w.1) (λ (end : Reading). decoded end (signature_table w.0)) (copy_worded shown_only (end_line_at w.1) (moved end_line_at w.1) (copy_alone (end_line_at w.1)))
     (λ end. copy_decoded end (signature_table w.0)))
 
 -- tables
@@ -235,11 +234,11 @@ copy_named false c = copy_sig c
 pub copy_table : (c : Reading) → Copies in_text left_only (any_table_at c) (text_at c)
 copy_table c =
     subst (λ (r : Result Rows InputFault). Copies in_text left_only r (text_at c)) (table_named c)
-    (copy_bind in_text (λ (b : Bool × Reading). b) left_only (a_name c) (word_with name_test c) (λ (b : Bool × Reading). by_name b.0 b.1) (λ (b : Bool × Reading). text_named b.0 b.1)
+    (copy_bind in_text (λ (b : Bool × Reading). b) left_only (worded_word name_test c) (word_with name_test c) (λ (b : Bool × Reading). by_name b.0 b.1) (λ (b : Bool × Reading). text_named b.0 b.1)
     (copy_worded (λ (b : Bool × Reading). b) (word_with name_test c) (word_with name_test c) (copy_same (word_with name_test c))) (λ b. copy_named b.0 b.1))
 
 pub copy_next_table : (c : Reading) → Copies in_text left_only (next_table_at c) (next_text c)
 unfolding next_table_at
 copy_next_table c =
-    copy_bind in_text shown_only left_only (worded (need_line_at c)) (next_line c) any_table_at (λ (u : ⊤ × Reading). text_at u.1) (copy_worded shown_only (need_line_at c) (next_line c) (copy_alone (need_line_at c)))
+    copy_bind in_text shown_only left_only (worded (need_line_at c)) (moved need_line_at c) any_table_at (λ (u : ⊤ × Reading). text_at u.1) (copy_worded shown_only (need_line_at c) (moved need_line_at c) (copy_alone (need_line_at c)))
     (λ d. copy_table d)

@@ -3,11 +3,12 @@ use Rattle.std.proofs.Common.{◌≡◌, ℕ, zero, suc, Bool, true, false, List
 use Rattle.std.specs.Prelude.{codes}
 use Rattle.text_definitions.specs.declared.LexKind.{LexKind}
 use Rattle.table_definitions.specs.Table.{max_tets}
-use Rattle.document_laws.proofs.LocalWords.{ending}
 use Rattle.document_laws.proofs.LocalTables.{entry_test, any_text, name_test}
 use Rattle.document_laws.proofs.TextReaders.{words_at, row_text, row_line, rows_text, counted_text, text_named, text_at, next_text}
 use Rattle.document_laws.proofs.TextGrammar.{tri_passes}
 use Rattle.document_laws.proofs.Chains.{Ends, Opens, ends_word, ends_number, ends_ending, ends_lines, opens_next, opens_pure, opens_both}
+use Rattle.document_laws.proofs.Local.{moved}
+use Rattle.text_definitions.specs.Reading.{end_line_at}
 
 -- so many words of which one passes the test, and the end of the line
 ends_words : {A : Type 0} (test : List ℕ → Result A LexKind) (w : List ℕ) (x : A) → test w ≡ Ok x → (n : ℕ) → Ends (words_at test n)
@@ -31,7 +32,7 @@ letter_passes = refl
 ends_named : (b : Bool) → Ends (text_named b)
 unfolding text_named
 ends_named true = ends_number max_tets counted_text (λ n. ends_lines (rows_text n) (opens_rows n))
-ends_named false = ends_word any_text (codes "a") (codes "a") letter_passes (λ w. ending) (λ w. ends_ending)
+ends_named false = ends_word any_text (codes "a") (codes "a") letter_passes (λ w. moved end_line_at) (λ w. ends_ending)
 
 -- the text of a table to the end of its last line, and on the next lines
 pub ends_text : Ends text_at

@@ -15,8 +15,8 @@ use Rattle.table_definitions.specs.TableText.{gluing_of}
 use Rattle.table_definitions.specs.Grammar.{AreWords, IsEntry}
 use Rattle.table_definitions.proofs.EntryLaws.{gluing_of-some, gluing_of-word}
 use Rattle.table_definitions.proofs.ReadingLaws.{ok_parts, with_tokens, behind, TakesWord, word_taken}
-use Rattle.document_laws.proofs.Local.{alone, alone_ok}
-use Rattle.document_laws.proofs.LocalWords.{tested, word_with, at_word, ending}
+use Rattle.document_laws.proofs.Local.{alone, alone_ok, moved}
+use Rattle.document_laws.proofs.LocalWords.{tested, word_with, at_word}
 use Rattle.document_laws.proofs.LocalTables.{gluing_test, entry_test, name_test}
 use Rattle.document_laws.proofs.TextReaders.{words_at}
 use Rattle.table_definitions.proofs.TableFoundLaws.{no_dash}
@@ -71,7 +71,7 @@ module _ {A : Type 0} (test : List ℕ → Result A LexKind) where
         later = t.later ∙ ap (λ (r : Reading). r.later) p.left;
       }
 
-  ended : (c : Reading) (u : ⊤) (d : Reading) → ending c ≡ Ok (u, d) → WordsTaken 0 c d
+  ended : (c : Reading) (u : ⊤) (d : Reading) → moved end_line_at c ≡ Ok (u, d) → WordsTaken 0 c d
   ended c u d e =
       let l : (c.current.tokens ≡ []) × (d ≡ with_tokens [] c) = line_ended c.current.tokens c d (alone_ok (end_line_at c) u d e) in
       record { ws = []; are_words = subst (λ (ts : List Token). AreWords ts []) (sym l.0) tt; pass = tt; many = refl; later = ap (λ (r : Reading). r.later) l.1 }

@@ -5,14 +5,14 @@ use Rattle.std.proofs.lemmas.Bool.{le-ltb}
 use Rattle.text_definitions.specs.declared.LexKind.{LexKind}
 use Rattle.text_definitions.specs.declared.LexFault.{LexFault}
 use Rattle.text_definitions.specs.Text.{Token, word, stray, Line}
-use Rattle.text_definitions.specs.Reading.{Reading, begun, column_at, need_line_at, word_at, line_from, number_at}
+use Rattle.text_definitions.specs.Reading.{Reading, begun, column_at, need_line_at, word_at, line_from, number_at, end_line_at}
 use Rattle.text_definitions.specs.declared.LexKind.TheVariants.{NumberTooWide}
 use Rattle.document_definitions.specs.Symbols.{Symbol, shown, input_end, Placed, line_symbols, symbols_of, plain}
 use Rattle.table_definitions.proofs.ReadingLaws.{ok_parts, with_tokens, behind}
 use Rattle.table_definitions.proofs.LineLaws.{line_found}
-use Rattle.document_laws.proofs.Local.{shows, opening, plain-append, alone}
-use Rattle.document_laws.proofs.LocalWords.{as_is, tested, word_with, at_word, again, StopsHere, stops_here, ending, ends_again, stops_end_here}
-use Rattle.document_laws.proofs.LocalLines.{rest_of_line, line_split, rest_here, split_line, further, Further, no_input_end, next_line, StopsAfterLine, stops_line_in, ends_shown}
+use Rattle.document_laws.proofs.Local.{shows, opening, plain-append, alone, moved}
+use Rattle.document_laws.proofs.LocalWords.{as_is, tested, word_with, at_word, again, StopsHere, stops_here, ends_again, stops_end_here}
+use Rattle.document_laws.proofs.LocalLines.{rest_of_line, line_split, rest_here, split_line, further, Further, no_input_end, StopsAfterLine, stops_line_in, ends_shown}
 use Rattle.document_laws.proofs.Ways.{Sat, Way, Well, WellOpen, FreeOn, Free, free_same, well_same}
 use Rattle.document_laws.proofs.LocalForms.{number_test, plain_test, number_word}
 
@@ -60,11 +60,11 @@ module _ {A : Type 0} (test : List ℕ → Result A LexKind) where
   well_word Aim c s f e = (let h : StopsHere rd c f.place = stops_here test c.current.tokens c f e in (h.0, way_here rd Aim h.0.front h.1 s))
 
 -- the end of a line
-pub sat_end : (Aim : ⊤ → List Symbol → Type 0) (k : Reading) → k.current.tokens ≡ [] → Aim tt (shows k) → Sat ending Aim
+pub sat_end : (Aim : ⊤ → List Symbol → Type 0) (k : Reading) → k.current.tokens ≡ [] → Aim tt (shows k) → Sat (moved end_line_at) Aim
 sat_end Aim k none a = record { start = k; value = tt; next = k; reads = ends_again k (ends_shown k.current.tokens k none); aim = a }
 
-pub well_end : (Aim : ⊤ → List Symbol → Type 0) (c : Reading) → Sat ending Aim → Well as_is ending Aim c
-well_end Aim c s f e = (let h : StopsHere ending c f.place = stops_end_here c.current.tokens c f e in (h.0, way_here ending Aim h.0.front h.1 s))
+pub well_end : (Aim : ⊤ → List Symbol → Type 0) (c : Reading) → Sat (moved end_line_at) Aim → Well as_is (moved end_line_at) Aim c
+well_end Aim c s f e = (let h : StopsHere (moved end_line_at) c f.place = stops_end_here c.current.tokens c f e in (h.0, way_here (moved end_line_at) Aim h.0.front h.1 s))
 
 -- the next line
 opening_rest : (n : ℕ) (ts : List Token) (end : ℕ) (ss : List Symbol) (others : List Placed) → opening (plain (rest_of_line n ts end) ++ ss) ≡ opening (plain (line_symbols n ts end others))
@@ -76,7 +76,7 @@ pub opens_rest : (c : Reading) (ss : List Symbol) → opening (plain (rest_here 
 opens_rest c ss = opening_rest c.current.number c.current.tokens c.current.end ss (symbols_of c.input_end c.later)
 
 abbrev FreeLine : Reading → ⊤ → Reading → Type 0
-FreeLine c x d = (fr : FreeOn next_line c x d) × ((ss : List Symbol) → opening (plain fr.goes.front ++ ss) ≡ opening (shows c))
+FreeLine c x d = (fr : FreeOn (moved need_line_at) c x d) × ((ss : List Symbol) → opening (plain fr.goes.front ++ ss) ≡ opening (shows c))
 
 free_line_in : (ls : List Line) (c : Reading) → c.later ≡ ls → (x : ⊤) (d : Reading) → alone (line_from ls c) ≡ Ok (x, d) → FreeLine c x d
 free_line_in [] c split x d e = absurd cc
@@ -100,22 +100,22 @@ free_line_in (l ∷ ls) c split x d e =
     ) in
     subst (λ (y : ⊤). FreeLine c y d) parts.0 (subst (λ (r : Reading). FreeLine c tt r) parts.1 made)
 
-pub free_line : (c : Reading) (x : ⊤) (d : Reading) → next_line c ≡ Ok (x, d) → FreeLine c x d
+pub free_line : (c : Reading) (x : ⊤) (d : Reading) → moved need_line_at c ≡ Ok (x, d) → FreeLine c x d
 unfolding need_line_at
 free_line c x d e = free_line_in c.later c refl x d e
 
-pub well_line : (Aim : ⊤ → List Symbol → Type 0) (c k : Reading) → Aim tt (shows k) → WellOpen as_is next_line Aim c
+pub well_line : (Aim : ⊤ → List Symbol → Type 0) (c k : Reading) → Aim tt (shows k) → WellOpen as_is (moved need_line_at) Aim c
 unfolding need_line_at symbols_of
 well_line Aim c k a f e =
     let h : StopsAfterLine c f.place = stops_line_in c.later c refl f e in
     let o : Reading = record c { later = k.current ∷ k.later; input_end = k.input_end } in
     let others : List Placed = symbols_of k.input_end (k.current ∷ k.later) in
     let there : shows o ≡ plain (rest_here c) ++ plain others = ap plain (line_split c.current.number c.current.tokens c.current.end others) ∙ plain-append (rest_here c) others in
-    let way : (w : Way next_line (rest_here c) Aim) × (opening (shows w.other) ≡ opening (shows c)) = (
+    let way : (w : Way (moved need_line_at) (rest_here c) Aim) × (opening (shows w.other) ≡ opening (shows c)) = (
       record { other = o; more = plain others; there = there; value = tt; next = begun k.current k.later o; reads = ap alone (line_found o k.current k.later refl); aim = a },
       ap opening there ∙ opens_rest c (plain others),
     ) in
-    let at_front = subst (λ (fr : List Placed). (w : Way next_line fr Aim) × (opening (shows w.other) ≡ opening (shows c))) (sym h.1) way in
+    let at_front = subst (λ (fr : List Placed). (w : Way (moved need_line_at) fr Aim) × (opening (shows w.other) ≡ opening (shows c))) (sym h.1) way in
     (h.0, at_front.0, at_front.1)
 
 -- a number up to a limit, of which 0 is one
