@@ -1,5 +1,5 @@
 -- A step as one value, the facts that hold of its fields, and what its pairs are combined to.
-use Rattle.std.specs.Prelude.{◌≡◌, ℕ, ◌<◌, ◌≤◌, List, length, map, IfSome}
+use Rattle.std.specs.Prelude.{◌≡◌, ℕ, ◌<◌, ◌≤◌, ◌⊎◌, List, length, map, IfSome}
 use Rattle.std.specs.List.{All}
 use Rattle.cone_core.specs.declared.numbers.TheConstants.{MAX_ENTRY}
 use Rattle.cone_definitions.specs.Surfaces.{Clash, IsAdmissibleUnion}
@@ -83,6 +83,10 @@ pub record IsStepOf (limit : ℕ) (clashes : ClashData) (row : Row) (rays : List
 -- the step of the row with all signs turned
 abbrev pub turned_step : StepData → StepData
 turned_step step = record { columns = step.columns; pairs = step.pairs; rays = step.rays; signs = map turned_sign step.signs; limit = step.limit }
+
+-- the pair is named, the first past the limit, of the step or of the step with all signs turned
+abbrev pub IsFirstLargeEitherWay : StepData → Named → Type 0
+IsFirstLargeEitherWay step kind = IsFirstLargeOf step kind ⊎ IsFirstLargeOf (turned_step step) kind
 
 -- the rays and the signs of a step, and what all its pairs are combined to
 pub record AreCombinedOf (step : StepData) (parts : Combined) : Type 0 where

@@ -7,7 +7,7 @@ ghost use Rattle.ray_steps.specs.Kepts.{rays_of, AreOfWidth};
 ghost use Rattle.ray_steps.specs.Negatives.{AreNegatives};
 ghost use Rattle.ray_steps.specs.Rivals.{HaveRivals, HasAllSupports};
 ghost use Rattle.ray_steps.specs.Signs.{IsFacePair, IsNextFrom};
-ghost use Rattle.ray_steps.specs.Steps.{AreStepRays, IsStepOf, IsSearchAt, AreMadeBelow, AreMadeTo, AreMadeOf, IsFaceIfAdmissible, AreCombinedOf, IsFirstLargeOf, turned_step};
+ghost use Rattle.ray_steps.specs.Steps.{AreStepRays, IsStepOf, IsSearchAt, AreMadeBelow, AreMadeTo, AreMadeOf, IsFaceIfAdmissible, AreCombinedOf, IsFirstLargeOf, IsFirstLargeEitherWay, turned_step};
 
 use crate::compatible::{Clashes, Compatible};
 use crate::kept::{Kept, StepFault};
@@ -355,10 +355,11 @@ impl<'a, C: Compatible> Step<'a, C> {
         Ok((turned, self.signs))
     }
 
-    /// What all pairs are combined to, in any order, beside the rays and the signs. The rays of the sign that fewer have are
-    /// taken in turn, since for each the rivals are gathered.
+    /// What all pairs are combined to, in any order, beside the rays and the signs, or a pair of which an entry passes the
+    /// limit. The rays of the sign that fewer have are taken in turn, since for each the rivals are gathered.
     pub fn combined_by_fewer(self, alloc: Global) -> Result<Combined, StepFault>
-        ensures { IfOk result (AreCombinedOf self.entry) }
+        ensures ok { IfOk result (AreCombinedOf self.entry) }
+        ensures err { IfErr result (IfLarge (IsFirstLargeEitherWay self.entry)) }
     {
         if has_more_positives(&self.signs) {
             let (step, signs) = self.turned(alloc)?;
@@ -377,10 +378,11 @@ impl<'a, C: Compatible> Step<'a, C> {
         })
     }
 
-    /// The rays of one row more, in any order.
+    /// The rays of one row more, in any order, or a pair of which an entry passes the limit.
     pub fn next_by_fewer(self, alloc: Global) -> Result<Vec<Kept>, StepFault>
         ensures ok { IfOk result (λ next. IsNextFrom self.entry.limit self.entry.pairs self.entry.rays self.entry.signs 0 (rays_of next.items)) }
         ensures widths { IfOk result (λ next. AreOfWidth self.entry.columns next.items) }
+        ensures err { IfErr result (IfLarge (IsFirstLargeEitherWay self.entry)) }
     {
         let parts = self.combined_by_fewer(alloc)?;
         let mut next = parts.made;

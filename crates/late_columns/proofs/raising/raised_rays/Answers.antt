@@ -9,16 +9,16 @@ use Rattle.late_columns.proofs.Oriented.{room_of_rays}
 use Rattle.late_columns.proofs.raising.raised_rays.Goals as goal
 
 pub raise_all-requires-clause-count : goal.raise_all-requires-clause-count
-raise_all-requires-clause-count g c = ap length c.deref.ensures.value ∙ c.in_ok-parts.ensures.count
+raise_all-requires-clause-count g c = ap length c.deref.ensures.value ∙ c.in_ok-parts.ensures.ok.count
 
 pub raise_all-requires-clause-room : goal.raise_all-requires-clause-room
 raise_all-requires-clause-room g c =
-    room_of_rays c.args.fresh.column c.in_ok-parts.parts.kepts.items c.args.kepts.items (c.in_ok-parts.ensures.rays_are ∙ c.in_ok-step.ensures.rays_are) c.requires.room
+    room_of_rays c.args.fresh.column c.in_ok-parts.parts.kepts.items c.args.kepts.items (c.in_ok-parts.ensures.ok.rays_are ∙ c.in_ok-step.ensures.rays_are) c.requires.room
 
 pub raise_all-requires-clause-bounded : goal.raise_all-requires-clause-bounded
 raise_all-requires-clause-bounded g c =
     let step = c.in_ok-step.step in
-    subst (All (IsBoundedSign MAX_ENTRY)) (sym (c.deref.ensures.value ∙ c.in_ok-parts.ensures.signs_are))
+    subst (All (IsBoundedSign MAX_ENTRY)) (sym (c.deref.ensures.value ∙ c.in_ok-parts.ensures.ok.signs_are))
     (bounded_signs MAX_ENTRY (oriented c.args.fresh.is_turned c.args.row.now) (rays_of c.args.kepts.items) step.signs c.in_ok-step.ensures.signed)
 
 pub returns : goal.returns
@@ -26,7 +26,7 @@ returns g c =
     let step = c.in_ok-step.step in
     let h = c.in_ok-step.ensures in
     let parts = c.in_ok-parts.parts in
-    let p = c.in_ok-parts.ensures in
+    let p = c.in_ok-parts.ensures.ok in
     let kepts = rays_of parts.kepts.items in
     let made = rays_of parts.made.items in
     let signs = c.deref.ensures.value ∙ p.signs_are in

@@ -6,8 +6,8 @@ use Rattle.ray_steps.proofs.TurnedLemmas.{made-turned}
 use Rattle.ray_steps.specs.Steps.{StepData, AreMadeOf}
 use Rattle.ray_steps.proofs.step.Step.combined_by_fewer.Goals as goal
 
-pub returns-then-has_more_positives : goal.returns-then-has_more_positives
-returns-then-has_more_positives g c =
+pub returns-then-has_more_positives-clause-ok : goal.returns-then-has_more_positives-clause-ok
+returns-then-has_more_positives-clause-ok g c =
     let d = c.args.self in
     let kepts = c.step.inside.kepts.items in
     let made = c.in_ok-made.made.items in
@@ -24,8 +24,8 @@ returns-then-has_more_positives g c =
       count = ap length c.in_ok-step.ensures.signs ∙ count ∙ ap length (sym rays) ∙ length-rays_of kepts;
     }
 
-pub returns : goal.returns
-returns g c =
+pub returns-clause-ok : goal.returns-clause-ok
+returns-clause-ok g c =
     record {
       rays_are = ap (λ (s : StepData). s.rays) c.self.view_is;
       signs_are = ap (λ (s : StepData). s.signs) c.self.view_is;
