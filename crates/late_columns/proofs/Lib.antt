@@ -7,3 +7,4 @@ pub mod RaisedSurfaces
 pub mod LateSteps
 pub mod SortedSurfaces
 pub mod Oriented
+pub mod Passed

@@ -1,3 +1,4 @@
 pub mod Late
 pub mod Fresh
 pub mod Raised
+pub mod Passing

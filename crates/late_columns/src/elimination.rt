@@ -1,17 +1,20 @@
 // The elimination of a row all of whose columns are seen.
 
-ghost use Rattle.std.specs.Prelude.{◌∷◌, [], ◌++◌, List, IfOk};
+ghost use Rattle.std.specs.Prelude.{◌∷◌, [], ◌++◌, List, IfOk, IfErr};
 ghost use Rattle.cone_core.specs.Sparse.{IsInRange};
 ghost use Rattle.cone_definitions.specs.Rows.{Row};
 ghost use Rattle.cone_definitions.specs.Unordered.{HasSurfaces};
+ghost use Rattle.ray_steps.specs.Faults.{IfLarge};
 ghost use Rattle.ray_steps.specs.Kepts.{rays_of};
 ghost use Rattle.ray_steps.specs.Steps.{AreStepRays};
+ghost use Rattle.late_columns.specs.Passing.{PassesAt};
 
 use cone_core::{MAX_ENTRY, SparseRow};
 use ray_steps::{Clashes, Compatible, Kept, Step, StepFault};
 use std::alloc::Global;
 
-/// The vertex surfaces of one row more, in any order. The union of a pair has at most `most` columns.
+/// The vertex surfaces of one row more, in any order, or what has a number past the greatest entry. The union of a pair has at
+/// most `most` columns.
 pub fn next_rays<C: Compatible>(
     alloc: Global,
     clashes: &Clashes<C>,
@@ -21,8 +24,9 @@ pub fn next_rays<C: Compatible>(
 ) -> Result<Vec<Kept>, StepFault>
     requires rays { AreStepRays clashes.now.columns most clashes.now.pairs kepts.items }
     requires in_range { IsInRange clashes.now.columns row.now }
-    ensures { IfOk result (λ next. (before : List Row) → HasSurfaces clashes.now.columns before clashes.now.pairs (rays_of kepts.items)
+    ensures ok { IfOk result (λ next. (before : List Row) → HasSurfaces clashes.now.columns before clashes.now.pairs (rays_of kepts.items)
         → HasSurfaces clashes.now.columns (before ++ row.now ∷ []) clashes.now.pairs (rays_of next.items)) }
+    ensures err { IfErr result (IfLarge (PassesAt clashes.now row.now (rays_of kepts.items))) }
 {
     let step = Step::of(alloc, clashes, row, kepts, most, MAX_ENTRY)?;
     step.next_by_fewer(alloc)

@@ -1,13 +1,15 @@
 // All steps, in the order of the rows.
 
-ghost use Rattle.std.specs.Prelude.{◌≡◌, ℕ, List, IfOk, IfSome};
+ghost use Rattle.std.specs.Prelude.{◌≡◌, ℕ, List, IfOk, IfErr, IfSome, IfNone};
 ghost use Rattle.cone_core.specs.Sparse.{IsInRange};
 ghost use Rattle.cone_definitions.specs.Rows.{Row};
 ghost use Rattle.cone_definitions.specs.Surfaces.{Clash, IsSurfaceList};
 ghost use Rattle.cone_definitions.specs.Unordered.{HasSurfaces};
+ghost use Rattle.ray_steps.specs.Faults.{IfLarge};
 ghost use Rattle.ray_steps.specs.Kepts.{rays_of};
 ghost use Rattle.late_columns.specs.Late.{AreLateOfFew, AreNextLate};
 ghost use Rattle.late_columns.specs.Fresh.{IsFreeColumn};
+ghost use Rattle.late_columns.specs.Passing.{PassesNext, HasPassedStep};
 
 use crate::elimination::next_rays;
 use crate::entering::{LateRays, enter_all, enter_others, enter_row, none_seen};
@@ -28,7 +30,8 @@ fn eliminated<C: Compatible>(
 ) -> Result<LateRays, StepFault>
     requires in_range { IsInRange clashes.now.columns row.now }
     requires late { AreLateOfFew clashes.now.columns most clashes.now.pairs late }
-    ensures { IfOk result (AreNextLate clashes.now.columns clashes.now.pairs row.now late) }
+    ensures ok { IfOk result (AreNextLate clashes.now.columns clashes.now.pairs row.now late) }
+    ensures err { IfErr result (IfLarge (PassesNext clashes.now row.now late)) }
 {
     enter_row(alloc, clashes.columns(), row, &mut late)?;
     let LateRays { kepts, seen } = late;
@@ -48,7 +51,8 @@ fn extended<C: Compatible>(
     requires in_range { IsInRange clashes.now.columns row.now }
     requires late { AreLateOfFew clashes.now.columns most clashes.now.pairs late }
     requires fresh { IsFreeColumn clashes.now.columns row.now clashes.now.pairs late.seen.items fresh }
-    ensures { IfOk result (AreNextLate clashes.now.columns clashes.now.pairs row.now late) }
+    ensures ok { IfOk result (AreNextLate clashes.now.columns clashes.now.pairs row.now late) }
+    ensures err { IfErr result (IfLarge (PassesNext clashes.now row.now late)) }
 {
     enter_others(alloc, clashes.columns(), row, fresh.column, &mut late)?;
     let LateRays { kepts, mut seen } = late;
@@ -67,7 +71,8 @@ fn next_late<C: Compatible>(
 ) -> Result<LateRays, StepFault>
     requires in_range { IsInRange clashes.now.columns row.now }
     requires late { AreLateOfFew clashes.now.columns most clashes.now.pairs late }
-    ensures { IfOk result (AreNextLate clashes.now.columns clashes.now.pairs row.now late) }
+    ensures ok { IfOk result (AreNextLate clashes.now.columns clashes.now.pairs row.now late) }
+    ensures err { IfErr result (IfLarge (PassesNext clashes.now row.now late)) }
 {
     match free_column(alloc, clashes.columns(), clashes.pairs(), row, &late.seen)? {
         Some(fresh) => extended(alloc, clashes, row, fresh, late, most),
@@ -82,7 +87,8 @@ fn all_rows<C: Compatible>(
     clashes: &Clashes<C>,
 ) -> Result<Vec<Kept>, StepFault>
     requires columns { clashes.now.columns ≡ system.now.columns }
-    ensures { IfOk result (λ kepts. HasSurfaces clashes.now.columns system.now.rows clashes.now.pairs (rays_of kepts.items)) }
+    ensures ok { IfOk result (λ kepts. HasSurfaces clashes.now.columns system.now.rows clashes.now.pairs (rays_of kepts.items)) }
+    ensures err { IfErr result (IfLarge (λ _. HasPassedStep clashes.now system.now.rows)) }
 {
     let _pairs = clashes.pairs();
     let mut late = none_seen(alloc, clashes.columns())?;
@@ -105,14 +111,16 @@ fn ascending(alloc: Global, mut kepts: Vec<Kept>) -> Result<Vec<Ray>, NoMemory>
     Ok(rays)
 }
 
-/// All vertex surfaces of a system, ascending; nothing where a number on the way passes the greatest entry.
+/// All vertex surfaces of a system, ascending; nothing only where, some of the first rows being taken, a number of the next
+/// row's step passes the greatest entry.
 pub fn vertex_surfaces<C: Compatible>(
     alloc: Global,
     system: &System,
     clashes: &Clashes<C>,
 ) -> Result<Option<Vec<Ray>>, NoMemory>
     requires columns { clashes.now.columns ≡ system.now.columns }
-    ensures { IfOk result (λ answer. IfSome answer (λ list. IsSurfaceList system.now.columns system.now.rows clashes.now.pairs list.items)) }
+    ensures some { IfOk result (λ answer. IfSome answer (λ list. IsSurfaceList system.now.columns system.now.rows clashes.now.pairs list.items)) }
+    ensures none { IfOk result (λ answer. IfNone answer (HasPassedStep clashes.now system.now.rows)) }
 {
     match all_rows(alloc, system, clashes) {
         Ok(kepts) => {

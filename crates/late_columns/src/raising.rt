@@ -1,13 +1,15 @@
 // The step of a row with a fresh column: what the row leaves for the column mustn't be negative.
 
-ghost use Rattle.std.specs.Prelude.{◌≡◌, ◌<◌, ◌≤◌, List, length, slice_set, IfOk, OnOk};
+ghost use Rattle.std.specs.Prelude.{◌≡◌, ◌<◌, ◌≤◌, List, length, slice_set, IfOk, IfErr, OnOk};
 ghost use Rattle.std.specs.List.{All};
 ghost use Rattle.cone_core.specs.Sparse.{IsInRange};
 ghost use Rattle.cone_definitions.specs.Surfaces.{Clash};
+ghost use Rattle.ray_steps.specs.Faults.{IfLarge, IsFirstLargeValue};
 ghost use Rattle.ray_steps.specs.Kepts.{rays_of};
 ghost use Rattle.ray_steps.specs.Signs.{IsBoundedSign, IsMadeUpTo};
 ghost use Rattle.ray_steps.specs.Steps.{AreStepRays, IsStepOf};
 ghost use Rattle.late_columns.specs.Fresh.{oriented};
+ghost use Rattle.late_columns.specs.Passing.{PassesAt};
 ghost use Rattle.late_columns.specs.Raised.{HasRoom, AppendsRaised, IsRaisedFrom, AreRaised};
 
 use crate::fresh::Fresh;
@@ -17,7 +19,8 @@ use ray_steps::{Clashes, Compatible, Kept, Sign, Step, StepFault};
 use std::alloc::Global;
 use support_bits::Support;
 
-/// The step of a row, or of the row with all its signs turned.
+/// The step of a row, or of the row with all its signs turned, or the first ray at which a part of the row passes the
+/// greatest entry.
 fn oriented_step<'a, C: Compatible>(
     alloc: Global,
     clashes: &'a Clashes<C>,
@@ -28,7 +31,8 @@ fn oriented_step<'a, C: Compatible>(
 ) -> Result<Step<'a, C>, StepFault>
     requires rays { AreStepRays clashes.now.columns most clashes.now.pairs kepts.items }
     requires in_range { IsInRange clashes.now.columns row.now }
-    ensures { IfOk result (IsStepOf MAX_ENTRY clashes.now (oriented is_turned row.now) (rays_of kepts.items)) }
+    ensures ok { IfOk result (IsStepOf MAX_ENTRY clashes.now (oriented is_turned row.now) (rays_of kepts.items)) }
+    ensures err { IfErr result (IfLarge (IsFirstLargeValue MAX_ENTRY row.now (rays_of kepts.items))) }
 {
     let step = Step::of(alloc, clashes, row, kepts, most, MAX_ENTRY)?;
     if !is_turned {
@@ -58,7 +62,7 @@ fn raise(
     sign: Sign,
     column: u32,
     next: &mut Vec<Kept>,
-) -> Result<(), StepFault>
+) -> Result<(), NoMemory>
     requires room { HasRoom column kept }
     requires bounded { IsBoundedSign MAX_ENTRY sign }
     ensures { OnOk result (AppendsRaised column sign kept next.old.items next.new.items) }
@@ -84,7 +88,7 @@ fn raise_all(
     signs: &[Sign],
     column: u32,
     next: &mut Vec<Kept>,
-) -> Result<(), StepFault>
+) -> Result<(), NoMemory>
     requires count { length signs.now ≡ length kepts.items }
     requires room { All (HasRoom column) kepts.items }
     requires bounded { All (IsBoundedSign MAX_ENTRY) signs.now }
@@ -97,7 +101,8 @@ fn raise_all(
     Ok(())
 }
 
-/// The vertex surfaces of one row more that has a fresh column, in any order. The union of a pair has at most `most` columns.
+/// The vertex surfaces of one row more that has a fresh column, in any order, or what has a number past the greatest entry.
+/// The union of a pair has at most `most` columns.
 pub fn raised_rays<C: Compatible>(
     alloc: Global,
     clashes: &Clashes<C>,
@@ -110,7 +115,8 @@ pub fn raised_rays<C: Compatible>(
     requires in_range { IsInRange clashes.now.columns row.now }
     requires column { fresh.column < clashes.now.columns }
     requires room { All (HasRoom fresh.column) kepts.items }
-    ensures { IfOk result (λ next. AreRaised MAX_ENTRY clashes.now.pairs (oriented fresh.is_turned row.now) fresh.column (rays_of kepts.items) (rays_of next.items)) }
+    ensures ok { IfOk result (λ next. AreRaised MAX_ENTRY clashes.now.pairs (oriented fresh.is_turned row.now) fresh.column (rays_of kepts.items) (rays_of next.items)) }
+    ensures err { IfErr result (IfLarge (PassesAt clashes.now row.now (rays_of kepts.items))) }
 {
     let step = oriented_step(alloc, clashes, row, fresh.is_turned, kepts, most)?;
     let parts = step.combined_by_fewer(alloc)?;

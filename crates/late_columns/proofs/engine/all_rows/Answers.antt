@@ -1,7 +1,10 @@
 use Rattle.std.proofs.Common.{take, take_all, subst, arith, []}
 use Rattle.std.proofs.lemmas.List.{length-take-le}
+use Rattle.std.proofs.lemmas.Result.{err_from_is_err_and}
 use Rattle.late_columns.specs.Late.{AreLate, HaveEntered}
 use Rattle.late_columns.proofs.LateSteps.{pairs_apart, late_taken, all_seen}
+use Rattle.late_columns.specs.Passing.{PassesNext, HasPassedStep}
+use Rattle.late_columns.proofs.Passed.{fault_weaker, passed_next}
 use Rattle.late_columns.proofs.engine.all_rows.Goals as goal
 
 pub loop-number-init : goal.loop-number-init
@@ -12,10 +15,10 @@ loop-number-preserved g c =
     let rows = c.args.system.now.rows in
     let number = c.loop-number.number in
     late_taken c.args.clashes.now.columns rows c.args.clashes.now.pairs number c.row.result.now c.in_ok-late-2.late (omega (arith, c.len-number-end.ensures, c.loop-number-test.true)) c.row.ensures.row
-    (c.in_ok-late-2.ensures (take number rows) c.loop-number.invariant)
+    (c.in_ok-late-2.ensures.ok (take number rows) c.loop-number.invariant)
 
-pub returns : goal.returns
-returns g c =
+pub returns-clause-ok : goal.returns-clause-ok
+returns-clause-ok g c =
     let rows = c.args.system.now.rows in
     let pairs = c.args.clashes.now.pairs in
     let columns = c.args.clashes.now.columns in
@@ -31,3 +34,14 @@ next_late-requires-clause-late g c = record {
   few = (let rows = c.args.system.now.rows in let n = length-take-le c.loop-number.number rows (omega (arith, c.len-number-end.ensures, c.loop-number-test.true)) in omega (arith, n, c.from-most.ensures));
   so_far = c.loop-number.invariant;
 }
+
+pub returns-in_err-late-2-clause-err : goal.returns-in_err-late-2-clause-err
+returns-in_err-late-2-clause-err g c =
+    let clashes = c.args.clashes.now in
+    let rows = c.args.system.now.rows in
+    let number = c.loop-number.number in
+    let row = c.row.result.now in
+    let p = err_from_is_err_and c.from_residual-in_err-late-2.result c.from_residual-in_err-late-2.ensures.1 in
+    rw (p.1, p.2) (fault_weaker (PassesNext clashes row c.loop-number.late) (λ _. HasPassedStep clashes rows)
+    (λ named h. passed_next clashes rows number row (omega (arith, c.len-number-end.ensures, c.loop-number-test.true)) c.row.ensures.row named (h (take number rows) c.loop-number.invariant)) _
+    c.in_err-late-2.ensures.err)

@@ -1,0 +1,42 @@
+-- What it tells that no list is found: the next row's step, at late rays of the rows before, has a number past the greatest entry.
+use Rattle.std.specs.Prelude.{◌≡◌, ℕ, ◌⊎◌, List, ◌∷◌, ◌++◌, Bool}
+use Rattle.cone_core.specs.declared.numbers.TheConstants.{MAX_ENTRY}
+use Rattle.cone_definitions.specs.Rows.{Row}
+use Rattle.cone_definitions.specs.Elimination.{Named}
+use Rattle.ray_steps.specs.Clashes.{ClashData}
+use Rattle.ray_steps.specs.Faults.{IsFirstLargeValue}
+use Rattle.ray_steps.specs.Kepts.{rays_of}
+use Rattle.ray_steps.specs.Steps.{StepData, IsStepOf, IsFirstLargeOf}
+use Rattle.late_columns.specs.declared.entering.LateRays.{LateRays}
+use Rattle.late_columns.specs.Late.{AreLate}
+use Rattle.late_columns.specs.Fresh.{oriented}
+
+-- a pair is named, the first of the row's step at the rays, with or without all signs turned, whose combination has an entry past the greatest
+pub record PassesAtPair (clashes : ClashData) (row : Row) (rays : List (List ℕ)) (named : Named) : Type 0 where
+  pub is_turned : Bool
+  pub step : StepData
+  pub is : IsStepOf MAX_ENTRY clashes (oriented is_turned row) rays step
+  pub passes : IsFirstLargeOf step named
+
+-- what is named has a number past the greatest entry: a ray at which a part of the row passes it, or a pair
+abbrev pub PassesAt : ClashData → Row → List (List ℕ) → Named → Type 0
+PassesAt clashes row rays named = IsFirstLargeValue MAX_ENTRY row rays named ⊎ PassesAtPair clashes row rays named
+
+-- the same at the vertex surfaces of the rows before that have none of the columns not entered yet
+pub record PassesBehind (clashes : ClashData) (before : List Row) (row : Row) (named : Named) : Type 0 where
+  pub late : LateRays
+  pub are_late : AreLate clashes.columns before clashes.pairs late
+  pub passes : PassesAt clashes row (rays_of late.kepts.items) named
+
+-- so it is behind any rows that these are late rays of
+abbrev pub PassesNext : ClashData → Row → LateRays → Named → Type 0
+PassesNext clashes row late named = (before : List Row) → AreLate clashes.columns before clashes.pairs late → PassesBehind clashes before row named
+
+-- when some of the first rows were taken, the next row's step has a number past the greatest entry
+pub record HasPassedStep (clashes : ClashData) (rows : List Row) : Type 0 where
+  pub before : List Row
+  pub row : Row
+  pub after : List Row
+  pub rows_are : rows ≡ before ++ row ∷ after
+  pub named : Named
+  pub passes : PassesBehind clashes before row named
