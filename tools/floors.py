@@ -22,26 +22,31 @@ from repository import TOP, crates_of_build, lines_of_crates
 # what each crate is about; its kind is told by its name
 SUBJECTS = {
     "below all": "plain_facts no_memory",
-    "text": "text_definitions document_definitions document_laws partial_table_laws written_laws text_io memory_streams bench_io",
-    "table": "table_definitions permutation_laws walk_laws perm_four finite_walks gluing_table table_commands",
-    "skeleton": "skeleton_definitions class_laws skeleton_laws skeleton vertex_links",
-    "signature": "signature_definitions signature_text_laws labelling_laws signature_laws signature_codec canonical_labelling signature_census",
-    "move": "move_definitions move_laws kept_laws link_kept_laws pachner_moves move_undo move_commands",
-    "certificate": "certificate_definitions certificate_laws making_laws making_length_laws sphere_certificate"
+    "text": "text_definitions text_document_definitions text_document_laws text_partial_laws text_written_laws text_io"
+    " memory_streams bench_io",
+    "table": "table_definitions table_permutation_laws table_walk_laws perm_four finite_walks gluing_table table_commands",
+    "skeleton": "skeleton_definitions skeleton_class_laws skeleton_laws skeleton vertex_links",
+    "signature": "signature_definitions signature_text_laws signature_labelling_laws signature_laws signature_codec"
+    " canonical_labelling signature_census",
+    "move": "move_definitions move_laws move_kept_laws move_link_laws pachner_moves move_undo move_commands",
+    "certificate": "certificate_definitions certificate_laws certificate_making_laws certificate_length_laws sphere_certificate"
     " tri_build certificate_commands making_commands",
-    "cover": "cover_definitions cover_laws double_cover covering_commands",
-    "group": "group_definitions group_laws edge_group",
-    "part": "part_definitions part_laws part_existence_laws component_signature part_commands",
-    "cone": "cone_definitions cone_text_definitions cone_laws minor_laws ray_laws row_operation_laws solved_laws"
-    " support_bits support_table residual_pairs cone_core ray_steps double_description late_columns number_bounds solved_rows"
-    " bounded_list ray_answers vector_text enumeration_commands",
-    "surface": "surface_definitions vector_definitions coordinate_laws surface_laws equation_laws equation_bounds_laws quad_laws"
-    " quad_lift_laws octagon_laws vertex_link_laws coordinates_agree_laws efficiency_laws connected_euler_laws orientation_laws"
-    " crushing_laws normal_discs matching_equations quad_condition quad_lift surface_pieces surface_properties crushing"
-    " surface_list surface_answers vector_commands",
+    "cover": "cover_definitions cover_laws double_cover cover_commands",
+    "presentation": "presentation_definitions presentation_laws edge_group",
+    "component": "component_definitions component_laws component_existence_laws component_signature component_commands",
+    "cone": "cone_definitions cone_text_definitions cone_laws cone_bound_laws cone_ray_laws cone_row_laws cone_solved_laws"
+    " support_bits support_table residual_pairs cone_core ray_steps double_description late_columns number_bounds"
+    " solved_rows bounded_list ray_answers vector_text enumeration_commands",
+    "surface": "surface_definitions surface_vector_definitions surface_coordinate_laws surface_laws surface_equation_laws"
+    " surface_bound_laws surface_quad_laws surface_quad_lift_laws surface_octagon_laws surface_link_laws"
+    " surface_agreement_laws surface_efficiency_laws surface_euler_laws surface_orientation_laws"
+    " surface_crushing_laws normal_discs matching_equations quad_condition quad_lift surface_pieces"
+    " surface_properties crushing surface_list surface_answers vector_commands",
     "sum": "sum_definitions sum_laws ray_decompose sum_commands",
-    "program": "command_definitions outcome_definitions command_laws outcome_laws outcome_existence_laws answer_laws"
-    " written_answer_laws list_answer_laws command_words command_answers workbench trinorm trinorm_c worked_rows worked_tables worked_cones",
+    "command": "command_definitions command_laws command_words command_answers",
+    "outcome": "outcome_definitions outcome_laws outcome_existence_laws outcome_answer_laws outcome_written_laws"
+    " outcome_list_laws",
+    "program": "workbench trinorm trinorm_c worked_rows worked_tables worked_cones",
 }
 MARKS = {
     "subjects": ("<!-- subjects: tools/floors.py -->", "<!-- end of subjects -->"),
@@ -131,7 +136,7 @@ def subjects_text(known: Crates) -> str:
     for subject, names in SUBJECTS.items():
         there = [name for name in names.split() if name in known]
         theory = [name for name in there if kind(name) in ("definitions", "laws")]
-        head = f"**{subject}**: " + ", ".join(f"`{name}`" for name in theory)
+        head = f"**{subject}**" + (": " if theory else "") + ", ".join(f"`{name}`" for name in theory)
         code = [f"- `{name}`: {what(name)}" for name in there if name not in theory]
         parts.append("\n".join([head, *code]))
     return "\n\n".join(parts)
@@ -151,7 +156,7 @@ def chain_text() -> str:
 
 
 def picture(storeys: Storeys) -> str:
-    wide, high, gap = 172, 24, 6
+    wide, high, gap = 190, 24, 6
     columns = max(len(names) for names in storeys)
     across, down = columns * (wide + gap) + 40, len(storeys) * (high + 14) + 60
     parts = [f'<svg xmlns="http://www.w3.org/2000/svg" width="{across}" height="{down}" font-family="sans-serif" font-size="12">']

@@ -23,7 +23,7 @@ pub struct Terms {
 
 /// The vertex surfaces of a system whose numbers don't matter, found from its rows solved for the pivots, where blocks have
 /// so many columns each; nothing where a coefficient or a number gets too large.
-fn found<C: Compatible>(
+fn list_by_solving<C: Compatible>(
     alloc: Global,
     system: &System,
     clashes: &Clashes<C>,
@@ -41,7 +41,7 @@ fn found<C: Compatible>(
 }
 
 /// The vertex surfaces, by elimination of the rows in a named order.
-fn eliminated<C: Compatible>(
+fn list_by_elimination<C: Compatible>(
     alloc: Global,
     system: &System,
     clashes: &Clashes<C>,
@@ -60,7 +60,7 @@ fn eliminated<C: Compatible>(
 }
 
 /// The list by the quick way where all numbers are bounded, or else in the order.
-fn listed<C: Compatible>(
+fn quickest_list<C: Compatible>(
     alloc: Global,
     system: &System,
     clashes: &Clashes<C>,
@@ -78,11 +78,11 @@ fn listed<C: Compatible>(
 {
     // Where no number can pass the limit, it doesn't matter how the list was found.
     if terms.is_bounded
-        && let Some(known) = found(alloc, system, clashes, each, pivots)?
+        && let Some(known) = list_by_solving(alloc, system, clashes, each, pivots)?
     {
         return Ok(known);
     }
-    let rays = eliminated(alloc, system, clashes, terms.order, terms.limit)?;
+    let rays = list_by_elimination(alloc, system, clashes, terms.order, terms.limit)?;
     let Rays { list, order: _ } = rays;
     Ok(list)
 }
@@ -107,5 +107,5 @@ pub fn vertex_list<C: Compatible>(
     ensures err { IfErr result (AreRefused (enumeration_of system.now (C.clashing test) terms.order terms.limit)) }
 {
     let clashes = Clashes::new(alloc, test)?;
-    listed(alloc, system, &clashes, each, pivots, terms)
+    quickest_list(alloc, system, &clashes, each, pivots, terms)
 }

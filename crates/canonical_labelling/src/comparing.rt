@@ -7,12 +7,12 @@ ghost use Rattle.table_definitions.specs.Table.{max_tets, IsTable};
 ghost use Rattle.signature_definitions.specs.Spelling as spellings;
 ghost use Rattle.signature_definitions.specs.Spelling.{character, packed};
 ghost use Rattle.signature_text_laws.specs.Texts.{destinations_text, indices_text};
-ghost use Rattle.labelling_laws.specs.Starts.{IsTextFrom};
-ghost use Rattle.canonical_labelling.specs.Tries as tries;
-ghost use Rattle.canonical_labelling.specs.Tries.{IsTrying, FollowsWalks, ReadsFew, IsTold, IsUntold, head_text, told_by, tried_shown};
+ghost use Rattle.signature_labelling_laws.specs.Starts.{IsTextFrom};
+ghost use Rattle.canonical_labelling.specs.Comparisons as comparisons;
+ghost use Rattle.canonical_labelling.specs.Comparisons.{IsComparison, FollowsWalks, ReadsFew, IsDecided, IsUndecided, head_text, compare_by, comparison_view};
 
 use crate::Start;
-use crate::order::{Walking, begun, face_from, follow};
+use crate::order::{Walking, face_from, follow, walking_from};
 use gluing_table::{Face, Glue, Probe};
 use no_memory::NoMemory;
 use signature_codec::{
@@ -23,7 +23,7 @@ use std::alloc::{AllocError, Global};
 /// A walk with the place of each tetrahedron in the order, the new faces that were met from their other sides, the types
 /// of the faces that were read, and the new gluings of those of type 2.
 #[derive(Drop)]
-struct Trying {
+struct Comparison {
     walking: Walking,
     numbers: Vec<u32>,
     crossed: Vec<bool>,
@@ -46,8 +46,8 @@ pub fn is_before(first: &[u8], second: &[u8]) -> bool
 }
 
 /// Whether a text with this character at a place stands before the bound, where they agree up to there and differ here.
-fn told_at(bound: &[u8], place: usize, character: u8) -> Option<bool>
-    ensures { result ≡ told_by (slice_get bound.now place) character }
+fn compare_at(bound: &[u8], place: usize, character: u8) -> Option<bool>
+    ensures { result ≡ compare_by (slice_get bound.now place) character }
 {
     if place >= bound.len() {
         return Some(false);
@@ -59,12 +59,12 @@ fn told_at(bound: &[u8], place: usize, character: u8) -> Option<bool>
 }
 
 /// Whether a text that begins so stands before the bound, where its first characters tell.
-fn told(text: &[u8], bound: &[u8]) -> Option<bool>
-    ensures { result ≡ tries.told text.now bound.now }
+fn compare_head(text: &[u8], bound: &[u8]) -> Option<bool>
+    ensures { result ≡ comparisons.told text.now bound.now }
 {
     let mut i = 0;
     while i < text.len() {
-        let told = told_at(bound, i, text[i]);
+        let told = compare_at(bound, i, text[i]);
         if told.is_some() {
             return told;
         }
@@ -74,26 +74,26 @@ fn told(text: &[u8], bound: &[u8]) -> Option<bool>
 }
 
 /// Gives the tetrahedron behind a gluing a number, if it has none.
-fn number(trying: &mut Trying, from: Start, glue: Glue) -> Result<(), AllocError>
-    requires met { glue.tet < length trying.old.walking.met.items }
-    requires numbers { glue.tet < length trying.old.numbers.items }
-    requires few { length trying.old.walking.order.items < 2 ^ 32 }
-    ensures { OnOk result (tried_shown trying.new ≡ tries.numbered (slice_index_or trying.old.walking.met.items glue.tet false) from glue (tried_shown trying.old)) }
+fn number(comparison: &mut Comparison, from: Start, glue: Glue) -> Result<(), AllocError>
+    requires met { glue.tet < length comparison.old.walking.met.items }
+    requires numbers { glue.tet < length comparison.old.numbers.items }
+    requires few { length comparison.old.walking.order.items < 2 ^ 32 }
+    ensures { OnOk result (comparison_view comparison.new ≡ comparisons.numbered (slice_index_or comparison.old.walking.met.items glue.tet false) from glue (comparison_view comparison.old)) }
 {
-    if !trying.walking.met[glue.tet as usize] {
-        trying.numbers[glue.tet as usize] = trying.walking.order.len() as u32;
+    if !comparison.walking.met[glue.tet as usize] {
+        comparison.numbers[glue.tet as usize] = comparison.walking.order.len() as u32;
     }
-    follow(&mut trying.walking, from, glue)
+    follow(&mut comparison.walking, from, glue)
 }
 
 /// The new gluing that stands for a gluing of a tetrahedron with a number to one with a number.
-fn new_gluing(trying: &Trying, from: Start, glue: Glue) -> Glue
-    requires numbers { glue.tet < length trying.now.numbers.items }
-    requires order { slice_index trying.now.numbers.items glue.tet < length trying.now.walking.order.items }
-    ensures { result ≡ tries.new_gluing from glue (tried_shown trying.now) }
+fn new_gluing(comparison: &Comparison, from: Start, glue: Glue) -> Glue
+    requires numbers { glue.tet < length comparison.now.numbers.items }
+    requires order { slice_index comparison.now.numbers.items glue.tet < length comparison.now.walking.order.items }
+    ensures { result ≡ comparisons.new_gluing from glue (comparison_view comparison.now) }
 {
-    let number = trying.numbers[glue.tet as usize];
-    let there = trying.walking.order[number as usize];
+    let number = comparison.numbers[glue.tet as usize];
+    let there = comparison.walking.order[number as usize];
     Glue {
         tet: number,
         perm: there.perm.compose(glue.perm.compose(from.perm.inverse())),
@@ -101,109 +101,114 @@ fn new_gluing(trying: &Trying, from: Start, glue: Glue) -> Glue
 }
 
 /// Crosses the face at a place by a new gluing to a tetrahedron that was met, or was not.
-fn cross(trying: &mut Trying, place: u32, glue: Glue, met: bool) -> Result<(), AllocError>
-    requires in_range { 4 * glue.tet + 3 < length trying.old.crossed.items }
-    requires few { length trying.old.crossed.items ≤ 4000 }
-    ensures { OnOk result (tried_shown trying.new ≡ tries.crossed met place glue (tried_shown trying.old)) }
+fn cross(comparison: &mut Comparison, place: u32, glue: Glue, met: bool) -> Result<(), AllocError>
+    requires in_range { 4 * glue.tet + 3 < length comparison.old.crossed.items }
+    requires few { length comparison.old.crossed.items ≤ 4000 }
+    ensures { OnOk result (comparison_view comparison.new ≡ comparisons.crossed met place glue (comparison_view comparison.old)) }
 {
     let other = glue.other_side(Face {
         tet: place / 4,
         face: (place % 4) as u8,
     });
-    trying.crossed[(4 * other.tet + u32::from(other.face)) as usize] = true;
+    comparison.crossed[(4 * other.tet + u32::from(other.face)) as usize] = true;
     if !met {
-        trying.types.push(1)?;
+        comparison.types.push(1)?;
         return Ok(());
     }
-    trying.types.push(2)?;
-    trying.gluings.push(glue)?;
+    comparison.types.push(2)?;
+    comparison.gluings.push(glue)?;
     Ok(())
 }
 
 /// Takes a face that is glued.
-fn take_glued(trying: &mut Trying, place: u32, from: Start, glue: Glue) -> Result<(), AllocError>
-    requires trying { IsTrying place (tried_shown trying.old) }
-    requires in_range { glue.tet < length trying.old.numbers.items }
-    ensures takes { OnOk result (tried_shown trying.new ≡ tries.take_glued place from glue (tried_shown trying.old)) }
-    ensures trying { OnOk result (IsTrying (place + 1) (tried_shown trying.new)) }
-    ensures size { OnOk result (length trying.new.numbers.items ≡ length trying.old.numbers.items) }
+fn take_glued(
+    comparison: &mut Comparison,
+    place: u32,
+    from: Start,
+    glue: Glue,
+) -> Result<(), AllocError>
+    requires comparison { IsComparison place (comparison_view comparison.old) }
+    requires in_range { glue.tet < length comparison.old.numbers.items }
+    ensures takes { OnOk result (comparison_view comparison.new ≡ comparisons.take_glued place from glue (comparison_view comparison.old)) }
+    ensures comparison { OnOk result (IsComparison (place + 1) (comparison_view comparison.new)) }
+    ensures size { OnOk result (length comparison.new.numbers.items ≡ length comparison.old.numbers.items) }
 {
-    let met = trying.walking.met[glue.tet as usize];
-    number(trying, from, glue)?;
-    let there = new_gluing(trying, from, glue);
-    cross(trying, place, there, met)?;
+    let met = comparison.walking.met[glue.tet as usize];
+    number(comparison, from, glue)?;
+    let there = new_gluing(comparison, from, glue);
+    cross(comparison, place, there, met)?;
     Ok(())
 }
 
 /// Takes the face at a place, and reads it unless it was met from its other side.
-fn take(trying: &mut Trying, probe: &mut Probe<'_>, place: u32) -> Result<(), AllocError>
+fn take(comparison: &mut Comparison, probe: &mut Probe<'_>, place: u32) -> Result<(), AllocError>
     requires table { IsTable probe.old.rows }
     requires in_range { place < 4 * length probe.old.rows }
-    requires trying { IsTrying place (tried_shown trying.old) }
-    requires size { length trying.old.numbers.items ≡ length probe.old.rows }
-    ensures takes { OnOk result (tried_shown trying.new ≡ tries.take_place probe.old.rows place (tried_shown trying.old)) }
-    ensures trying { OnOk result (IsTrying (place + 1) (tried_shown trying.new)) }
-    ensures size { OnOk result (length trying.new.numbers.items ≡ length trying.old.numbers.items) }
+    requires comparison { IsComparison place (comparison_view comparison.old) }
+    requires size { length comparison.old.numbers.items ≡ length probe.old.rows }
+    ensures takes { OnOk result (comparison_view comparison.new ≡ comparisons.take_place probe.old.rows place (comparison_view comparison.old)) }
+    ensures comparison { OnOk result (IsComparison (place + 1) (comparison_view comparison.new)) }
+    ensures size { OnOk result (length comparison.new.numbers.items ≡ length comparison.old.numbers.items) }
     ensures rows { probe.new.rows ≡ probe.old.rows }
-    ensures reads { OnOk result (probe.new.taken + length trying.old.types.items ≤ probe.old.taken + length trying.new.types.items) }
+    ensures reads { OnOk result (probe.new.taken + length comparison.old.types.items ≤ probe.old.taken + length comparison.new.types.items) }
 {
-    if trying.crossed[place as usize] {
+    if comparison.crossed[place as usize] {
         return Ok(());
     }
     let number = (place / 4) as usize;
     // A table that isn't connected runs out of tetrahedra that are met.
-    if number >= trying.walking.order.len() {
+    if number >= comparison.walking.order.len() {
         return Ok(());
     }
-    let from = trying.walking.order[number];
+    let from = comparison.walking.order[number];
     let Some(glue) = probe.glue(face_from(from, (place % 4) as u8)) else {
-        trying.types.push(0)?;
+        comparison.types.push(0)?;
         return Ok(());
     };
-    take_glued(trying, place, from, glue)
+    take_glued(comparison, place, from, glue)
 }
 
 /// Whether the character of the types from a place on tells, in a text with so many characters before those of the types.
-fn told_by_character(types: &[u8], bound: &[u8], head: usize, i: usize) -> Option<bool>
+fn compare_character(types: &[u8], bound: &[u8], head: usize, i: usize) -> Option<bool>
     requires small { All (λ t. t < 3) types.now }
     requires few { length types.now ≤ 4000 }
     requires in_range { i < length types.now }
     requires few_before { head ≤ 4000 }
-    ensures { result ≡ told_by (slice_get bound.now (head + i / 3)) (tries.type_character types.now i) }
+    ensures { result ≡ compare_by (slice_get bound.now (head + i / 3)) (comparisons.type_character types.now i) }
 {
-    told_at(bound, head + i / 3, type_character(types, i))
+    compare_at(bound, head + i / 3, type_character(types, i))
 }
 
 /// Whether the last character tells, where its three types were found.
-fn told_by_three(types: &[u8], bound: &[u8], head: usize) -> Option<bool>
+fn compare_full_character(types: &[u8], bound: &[u8], head: usize) -> Option<bool>
     requires small { All (λ t. t < 3) types.now }
     requires few { length types.now ≤ 4000 }
     requires few_before { head ≤ 4000 }
-    ensures { result ≡ tries.told_by_three types.now bound.now head }
+    ensures { result ≡ comparisons.compare_full_character types.now bound.now head }
 {
     if types.is_empty() || types.len() % 3 != 0 {
         return None;
     }
-    told_by_character(types, bound, head, types.len() - 3)
+    compare_character(types, bound, head, types.len() - 3)
 }
 
 /// Whether the last character tells, where one or two types were found for it.
-fn told_by_rest(types: &[u8], bound: &[u8], head: usize) -> Option<bool>
+fn compare_last_character(types: &[u8], bound: &[u8], head: usize) -> Option<bool>
     requires small { All (λ t. t < 3) types.now }
     requires few { length types.now ≤ 4000 }
     requires few_before { head ≤ 4000 }
-    ensures { result ≡ tries.told_by_rest types.now bound.now head }
+    ensures { result ≡ comparisons.compare_last_character types.now bound.now head }
 {
     let rest = types.len() % 3;
     if rest == 0 {
         return None;
     }
-    told_by_character(types, bound, head, types.len() - rest)
+    compare_character(types, bound, head, types.len() - rest)
 }
 
 /// Whether the types of the walk tell, which are found up to the first character that does.
-fn told_by_types(
-    trying: &mut Trying,
+fn compare_types(
+    comparison: &mut Comparison,
     probe: &mut Probe<'_>,
     start: Start,
     bound: &[u8],
@@ -211,41 +216,41 @@ fn told_by_types(
 ) -> Result<Option<bool>, AllocError>
     requires table { IsTable probe.old.rows }
     requires in_range { start.tet < length probe.old.rows }
-    requires trying { IsTrying 0 (tried_shown trying.old) }
-    requires size { length trying.old.numbers.items ≡ length probe.old.rows }
-    requires follows { FollowsWalks probe.old.rows start 0 (tried_shown trying.old) }
+    requires comparison { IsComparison 0 (comparison_view comparison.old) }
+    requires size { length comparison.old.numbers.items ≡ length probe.old.rows }
+    requires follows { FollowsWalks probe.old.rows start 0 (comparison_view comparison.old) }
     requires head { head ≡ length (head_text (length probe.old.rows)) }
-    requires agreed { tries.told (head_text (length probe.old.rows)) bound.now ≡ None }
-    ensures told { IfOk result (λ r. IfSome r (IsTold probe.old.rows start bound.now (probe.new.taken - probe.old.taken))) }
-    ensures untold { IfOk result (λ r. IfNone r (IsUntold probe.old.rows start bound.now (tried_shown trying.new))) }
-    ensures trying { OnOk result (IsTrying (4 * length probe.old.rows) (tried_shown trying.new)) }
+    requires agreed { comparisons.told (head_text (length probe.old.rows)) bound.now ≡ None }
+    ensures told { IfOk result (λ r. IfSome r (IsDecided probe.old.rows start bound.now (probe.new.taken - probe.old.taken))) }
+    ensures untold { IfOk result (λ r. IfNone r (IsUndecided probe.old.rows start bound.now (comparison_view comparison.new))) }
+    ensures comparison { OnOk result (IsComparison (4 * length probe.old.rows) (comparison_view comparison.new)) }
     ensures rows { probe.new.rows ≡ probe.old.rows }
 {
     for place in 0..4 * probe.len() {
-        take(trying, probe, place)?;
-        let told = told_by_three(&trying.types, bound, head);
+        take(comparison, probe, place)?;
+        let told = compare_full_character(&comparison.types, bound, head);
         if told.is_some() {
             return Ok(told);
         }
     }
-    Ok(told_by_rest(&trying.types, bound, head))
+    Ok(compare_last_character(&comparison.types, bound, head))
 }
 
 /// The walk that has met its start alone.
-fn trying_begun(alloc: Global, count: u32, start: Start) -> Result<Trying, AllocError>
+fn comparison_from(alloc: Global, count: u32, start: Start) -> Result<Comparison, AllocError>
     requires in_range { start.tet < count }
     requires few { count ≤ max_tets }
     ensures order { IfOk result (λ t. t.walking.order.items ≡ start ∷ []) }
     ensures size { IfOk result (λ t. length t.numbers.items ≡ count) }
-    ensures trying { IfOk result (λ t. IsTrying 0 (tried_shown t)) }
+    ensures comparison { IfOk result (λ t. IsComparison 0 (comparison_view t)) }
     ensures crossed { IfOk result (λ t. t.crossed.items ≡ replicate (4 * count) false) }
     ensures types { IfOk result (λ t. t.types.items ≡ []) }
     ensures gluings { IfOk result (λ t. t.gluings.items ≡ []) }
 {
-    let walking = begun(alloc, count, start)?;
+    let walking = walking_from(alloc, count, start)?;
     let numbers = vec![in alloc; 0u32; count as usize]?;
     let crossed = vec![in alloc; false; 4 * count as usize]?;
-    Ok(Trying {
+    Ok(Comparison {
         walking,
         numbers,
         crossed,
@@ -255,14 +260,14 @@ fn trying_begun(alloc: Global, count: u32, start: Start) -> Result<Trying, Alloc
 }
 
 /// Appends the types, the destinations and the places of the permutations, which make the text whole.
-fn append_parts(text: &mut Vec<u8>, count: u32, trying: &Trying) -> Result<(), NoMemory>
-    requires small { All (λ t. t < 3) trying.now.types.items }
-    requires few { length trying.now.types.items ≤ 4000 }
-    ensures { OnOk result (text.new.items ≡ ((text.old.items ++ map character (packed trying.now.types.items)) ++ destinations_text (spellings.width count) trying.now.gluings.items) ++ indices_text trying.now.gluings.items) }
+fn append_parts(text: &mut Vec<u8>, count: u32, comparison: &Comparison) -> Result<(), NoMemory>
+    requires small { All (λ t. t < 3) comparison.now.types.items }
+    requires few { length comparison.now.types.items ≤ 4000 }
+    ensures { OnOk result (text.new.items ≡ ((text.old.items ++ map character (packed comparison.now.types.items)) ++ destinations_text (spellings.width count) comparison.now.gluings.items) ++ indices_text comparison.now.gluings.items) }
 {
-    append_types(text, &trying.types)?;
-    append_destinations(text, width(count), &trying.gluings)?;
-    append_indices(text, &trying.gluings)
+    append_types(text, &comparison.types)?;
+    append_destinations(text, width(count), &comparison.gluings)?;
+    append_indices(text, &comparison.gluings)
 }
 
 /// Whether the text that spells the walk of a table from a start, if one does, stands before the bound. Where it doesn't,
@@ -282,13 +287,13 @@ pub fn lesser(
 {
     let mut text = Vec::new(alloc);
     append_head(&mut text, probe.len())?;
-    if let Some(before) = told(&text, bound) {
+    if let Some(before) = compare_head(&text, bound) {
         return Ok(before);
     }
-    let mut trying = trying_begun(alloc, probe.len(), start)?;
-    if let Some(before) = told_by_types(&mut trying, probe, start, bound, text.len())? {
+    let mut comparison = comparison_from(alloc, probe.len(), start)?;
+    if let Some(before) = compare_types(&mut comparison, probe, start, bound, text.len())? {
         return Ok(before);
     }
-    append_parts(&mut text, probe.len(), &trying)?;
+    append_parts(&mut text, probe.len(), &comparison)?;
     Ok(is_before(&text, bound))
 }

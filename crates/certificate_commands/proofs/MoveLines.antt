@@ -7,8 +7,8 @@ use Rattle.text_definitions.proofs.LineCount.{few_lines}
 use Rattle.table_definitions.specs.Table.{Row}
 use Rattle.move_definitions.specs.Moves.{Move}
 use Rattle.move_definitions.specs.Grammar.{IsMoveLine}
-use Rattle.document_definitions.specs.Documents.{moves_document}
-use Rattle.document_laws.proofs.Lawful.{moves_laws}
+use Rattle.text_document_definitions.specs.Documents.{moves_document}
+use Rattle.text_document_laws.proofs.Lawful.{moves_laws}
 
 pub few_moves : (bytes : List ℕ) (rows : List Row) (moves : List Move) → moves_document bytes ≡ Ok (rows, moves) → length moves ≤ length bytes + 1
 few_moves bytes rows moves e =

@@ -1,7 +1,7 @@
 // The command `check`: whether moves certify a table as a triangulated 3-sphere.
 ghost use Rattle.std.specs.Prelude.{◌<◌, ◌≤◌, ◌-◌, ◌^◌, length, IfOk};
 ghost use Rattle.text_definitions.specs.Text.{max_text};
-ghost use Rattle.document_definitions.specs.Documents.{moves_document};
+ghost use Rattle.text_document_definitions.specs.Documents.{moves_document};
 ghost use Rattle.outcome_definitions.specs.Outcomes.{IsReadOutcome};
 ghost use Rattle.outcome_definitions.specs.Certificates.{IsCheckAnswer};
 

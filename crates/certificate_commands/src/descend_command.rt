@@ -1,7 +1,7 @@
 // The command `descend`: the moves of a table's descent, and the table at which it ends.
 ghost use Rattle.std.specs.Prelude.{◌≡◌, ◌≤◌, ◌++◌, length, decimal, Ok, IfOk, OnOk};
 ghost use Rattle.text_definitions.specs.Text.{max_text};
-ghost use Rattle.document_definitions.specs.Documents.{table_document};
+ghost use Rattle.text_document_definitions.specs.Documents.{table_document};
 ghost use Rattle.text_definitions.specs.Written.{line};
 ghost use Rattle.outcome_definitions.specs.Outcomes.{IsReadOutcome};
 ghost use Rattle.outcome_definitions.specs.Certificates as certificates;
@@ -51,11 +51,11 @@ fn descent_text(alloc: Global, descent: &Descent) -> Result<Vec<u8>, NoMemory>
 }
 
 // The outcome of a descent.
-fn told(alloc: Global, descent: &Descent) -> Result<Outcome, NoMemory>
+fn outcome_of(alloc: Global, descent: &Descent) -> Result<Outcome, NoMemory>
     ensures { IfOk result (λ o. o ≡ certificates.descend_outcome (Ok (record { reached = descent.now.reached; moves = descent.now.moves.items; table = descent.now.table }))) }
 {
     let text = descent_text(alloc, descent)?;
-    Ok(Outcome::built(Status::Done, text))
+    Ok(Outcome::with_text(Status::Done, text))
 }
 
 // The answer to a table.
@@ -63,7 +63,7 @@ fn answer(alloc: Global, table: &Table) -> Result<Outcome, NoMemory>
     ensures { IfOk result (IsDescendAnswer table.now) }
 {
     match descend_from(alloc, table) {
-        Ok(descent) => told(alloc, &descent),
+        Ok(descent) => outcome_of(alloc, &descent),
         Err(Failure::Fault(fault)) => not_connected_outcome(alloc, 0, fault.tet),
         Err(Failure::NoMemory) => Err(NoMemory),
     }

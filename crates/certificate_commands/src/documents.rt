@@ -1,7 +1,7 @@
 // The document of a table and moves.
 ghost use Rattle.std.specs.Prelude.{◌≤◌, length};
 ghost use Rattle.text_definitions.specs.Text.{max_text};
-ghost use Rattle.document_definitions.specs.Documents.{moves_document};
+ghost use Rattle.text_document_definitions.specs.Documents.{moves_document};
 ghost use Rattle.text_definitions.specs.Reading.{Reads};
 
 use crate::moves::read_moves;
@@ -20,7 +20,7 @@ pub struct TableAndMoves {
 }
 
 /// The document of a table and moves.
-#[tactic(auto, unfolding(document_definitions::specs::Documents::table_and_lines))]
+#[tactic(auto, unfolding(text_document_definitions::specs::Documents::table_and_lines))]
 pub fn read_table_and_moves(alloc: Global, bytes: &[u8]) -> Result<TableAndMoves, InputFault>
     requires { length bytes.now ≤ max_text }
     ensures { Reads InputFault.NoMemory (λ d. (d.table, d.moves.items)) result (moves_document bytes.now) }

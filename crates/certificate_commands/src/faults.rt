@@ -24,7 +24,7 @@ fn illegal_outcome(alloc: Global, step: u32, fault: MoveFault) -> Result<Outcome
     append(&mut text, b" ")?;
     append_move_fault(alloc, &mut text, fault)?;
     append(&mut text, b"\n")?;
-    Ok(Outcome::built(Status::Refused, text))
+    Ok(Outcome::with_text(Status::Refused, text))
 }
 
 // The signature of the last table, which isn't that of the standard sphere.
@@ -36,7 +36,7 @@ fn not_standard_outcome(alloc: Global, signature: &[u8]) -> Result<Outcome, NoMe
     append(&mut text, b"refused: check not-standard ")?;
     append(&mut text, signature)?;
     append(&mut text, b"\n")?;
-    Ok(Outcome::built(Status::Refused, text))
+    Ok(Outcome::with_text(Status::Refused, text))
 }
 
 // The last table isn't connected.

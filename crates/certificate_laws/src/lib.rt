@@ -61,7 +61,7 @@ pub fn descents_certify()
 {}
 
 /// Whether a table is standard is decided, and a table has one descent.
-pub fn descents_are_told()
+pub fn descents_are_determined()
     ensures standard { StandardOrNot }
     ensures some { DescentsExist }
     ensures one { OneDescent }

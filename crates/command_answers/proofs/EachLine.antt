@@ -6,7 +6,7 @@ use Rattle.std.proofs.lemmas.List.{map-append}
 use Rattle.text_definitions.specs.Text.{Line}
 use Rattle.text_definitions.specs.declared.LexFault.{LexFault}
 use Rattle.text_definitions.specs.Reading.{Reading, ◌>>=◌, begun, line_from, need_line_at, Fails}
-use Rattle.document_definitions.specs.Documents.{each_line_from}
+use Rattle.text_document_definitions.specs.Documents.{each_line_from}
 use Rattle.table_definitions.specs.declared.TextFault.{TextFault}
 use Rattle.table_definitions.specs.declared.TextFault.TheVariants.{NoMemory, Lex}
 use Rattle.table_definitions.specs.TableText.{lexed}

@@ -2,7 +2,7 @@
 use Rattle.std.proofs.Common.{◌≡◌, List, [], ◌∷◌, Ok, refl, ap, ◌∙◌}
 use Rattle.text_definitions.specs.Text.{Line}
 use Rattle.text_definitions.specs.Reading.{Reading, begun, line_from, need_line_at, end_line_at}
-use Rattle.document_definitions.specs.Documents.{no_line_from, no_line_at}
+use Rattle.text_document_definitions.specs.Documents.{no_line_from, no_line_at}
 
 pub no_line_at-begun : (c d : Reading) → need_line_at c ≡ Ok d → no_line_at c ≡ end_line_at d
 unfolding need_line_at

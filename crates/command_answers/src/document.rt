@@ -2,7 +2,7 @@
 ghost use Rattle.std.specs.Prelude.{◌≤◌, length};
 ghost use Rattle.text_definitions.specs.Text.{max_text};
 ghost use Rattle.text_definitions.specs.Reading.{Moves, Reads, ReadsFrom};
-ghost use Rattle.document_definitions.specs.Documents.{next_table_at, no_line_at, table_document, two_tables_document, vector_document, vectors_document};
+ghost use Rattle.text_document_definitions.specs.Documents.{next_table_at, no_line_at, table_document, two_tables_document, vector_document, vectors_document};
 ghost use Rattle.command_answers.specs.Reads.{entries_of};
 
 use crate::vectors::{read_vector, read_vectors};
@@ -43,7 +43,7 @@ pub fn end_document(lexer: &mut Lexer<'_>) -> Result<(), LexFault>
 }
 
 /// A table on the next lines, as rows or as a signature.
-#[tactic(auto, unfolding(document_definitions::specs::Documents::next_table_at))]
+#[tactic(auto, unfolding(text_document_definitions::specs::Documents::next_table_at))]
 pub fn read_table(alloc: Global, lexer: &mut Lexer<'_>) -> Result<Table, InputFault>
     ensures { ReadsFrom InputFault.NoMemory (λ table. table) result lexer.new (next_table_at lexer.old) }
 {
@@ -52,7 +52,7 @@ pub fn read_table(alloc: Global, lexer: &mut Lexer<'_>) -> Result<Table, InputFa
 }
 
 /// The document of one table.
-#[tactic(auto, unfolding(document_definitions::specs::Documents::table_document))]
+#[tactic(auto, unfolding(text_document_definitions::specs::Documents::table_document))]
 pub fn read_table_document(alloc: Global, bytes: &[u8]) -> Result<Table, InputFault>
     requires { length bytes.now ≤ max_text }
     ensures { Reads InputFault.NoMemory (λ table. table) result (table_document bytes.now) }
@@ -64,7 +64,7 @@ pub fn read_table_document(alloc: Global, bytes: &[u8]) -> Result<Table, InputFa
 }
 
 /// The document of two tables.
-#[tactic(auto, unfolding(document_definitions::specs::Documents::two_tables_document))]
+#[tactic(auto, unfolding(text_document_definitions::specs::Documents::two_tables_document))]
 pub fn read_two_tables(alloc: Global, bytes: &[u8]) -> Result<TwoTables, InputFault>
     requires { length bytes.now ≤ max_text }
     ensures { Reads InputFault.NoMemory (λ d. (d.first, d.second)) result (two_tables_document bytes.now) }
@@ -77,7 +77,7 @@ pub fn read_two_tables(alloc: Global, bytes: &[u8]) -> Result<TwoTables, InputFa
 }
 
 /// The document of a table and vectors.
-#[tactic(auto, unfolding(document_definitions::specs::Documents::table_and_lines))]
+#[tactic(auto, unfolding(text_document_definitions::specs::Documents::table_and_lines))]
 pub fn read_table_and_vectors(alloc: Global, bytes: &[u8]) -> Result<TableAndVectors, InputFault>
     requires { length bytes.now ≤ max_text }
     ensures { Reads InputFault.NoMemory (λ d. (d.table, entries_of d.vectors)) result (vectors_document bytes.now) }
@@ -89,7 +89,7 @@ pub fn read_table_and_vectors(alloc: Global, bytes: &[u8]) -> Result<TableAndVec
 }
 
 /// The document of a table and one vector.
-#[tactic(auto, unfolding(document_definitions::specs::Documents::vector_document))]
+#[tactic(auto, unfolding(text_document_definitions::specs::Documents::vector_document))]
 pub fn read_table_and_vector(alloc: Global, bytes: &[u8]) -> Result<TableAndVector, InputFault>
     requires { length bytes.now ≤ max_text }
     ensures { Reads InputFault.NoMemory (λ d. (d.table, d.vector.items)) result (vector_document bytes.now) }

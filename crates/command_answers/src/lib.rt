@@ -2,9 +2,9 @@
 #![tactic(auto)]
 
 mod document;
+mod lines;
 mod outcome;
 mod refusals;
-mod told;
 mod vectors;
 mod verdicts;
 
@@ -12,8 +12,8 @@ pub use document::{
     TableAndVector, TableAndVectors, TwoTables, end_document, read_table, read_table_and_vector,
     read_table_and_vectors, read_table_document, read_two_tables,
 };
+pub use lines::{accepted_outcome, append_flag, append_number_line, line_outcome, yes_or_no};
 pub use outcome::Outcome;
 pub use refusals::{fault_outcome, invalid_edge_outcome, not_connected_outcome, refused_vector};
-pub use told::{accepted_outcome, append_numbered, append_told, line_outcome, yes_or_no};
 pub use vectors::{read_numbers, read_vector};
 pub use verdicts::append_checked;

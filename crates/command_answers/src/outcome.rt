@@ -31,7 +31,7 @@ impl Model for Outcome {
 
 impl Outcome {
     /// A text that was built.
-    pub fn built(status: Status, text: Vec<u8>) -> Outcome
+    pub fn with_text(status: Status, text: Vec<u8>) -> Outcome
         ensures { result ≡ record { status = status; text = text.items } }
     {
         Outcome {

@@ -2,7 +2,7 @@
 ghost use Rattle.std.specs.Prelude.{◌≡◌, ◌≢◌, ◌++◌, codes, decimal, IfOk, OnOk};
 ghost use Rattle.outcome_definitions.specs.Lines as lines;
 ghost use Rattle.outcome_definitions.specs.Canonical as canonical;
-ghost use Rattle.vector_definitions.specs.Texts.{invalid_edge_line};
+ghost use Rattle.surface_vector_definitions.specs.Texts.{invalid_edge_line};
 ghost use Rattle.command_answers.specs.Refusals.{IsFaultOutcome};
 
 use crate::outcome::Outcome;
@@ -153,11 +153,11 @@ pub fn not_connected_outcome(alloc: Global, table: u32, tet: u32) -> Result<Outc
     ensures { IfOk result (λ o. o ≡ canonical.not_connected_outcome table tet) }
 {
     let text = not_connected_line(alloc, table, tet)?;
-    Ok(Outcome::built(Status::Refused, text))
+    Ok(Outcome::with_text(Status::Refused, text))
 }
 
 /// The outcome where an edge class is invalid.
-#[tactic(auto, unfolding(vector_definitions::specs::Texts::invalid_edge_line))]
+#[tactic(auto, unfolding(surface_vector_definitions::specs::Texts::invalid_edge_line))]
 pub fn invalid_edge_outcome(alloc: Global, class: u32) -> Result<Outcome, NoMemory>
     ensures { IfOk result (λ o. o ≡ record { status = Status.Refused; text = invalid_edge_line class }) }
 {
@@ -165,7 +165,7 @@ pub fn invalid_edge_outcome(alloc: Global, class: u32) -> Result<Outcome, NoMemo
     append(&mut text, b"refused: invalid-edge ")?;
     append_decimal(alloc, &mut text, u128::from(class))?;
     append(&mut text, b"\n")?;
-    Ok(Outcome::built(Status::Refused, text))
+    Ok(Outcome::with_text(Status::Refused, text))
 }
 
 /// The line where the vector of this number, which counts from 0, is refused, up to why.
@@ -184,5 +184,5 @@ pub fn fault_outcome(alloc: Global, fault: InputFault) -> Result<Outcome, NoMemo
     ensures { IfOk result (IsFaultOutcome fault) }
 {
     let text = input_line(alloc, fault)?;
-    Ok(Outcome::built(Status::Input, text))
+    Ok(Outcome::with_text(Status::Input, text))
 }

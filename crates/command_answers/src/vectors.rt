@@ -1,7 +1,7 @@
 // Vectors from text.
 ghost use Rattle.text_definitions.specs.Written.{limit};
 ghost use Rattle.cone_text_definitions.specs.VectorText.{vector_at};
-ghost use Rattle.document_definitions.specs.Documents.{each_line_from};
+ghost use Rattle.text_document_definitions.specs.Documents.{each_line_from};
 ghost use Rattle.text_definitions.specs.Reading.{ReadsFrom, numbers_at};
 ghost use Rattle.table_definitions.specs.TableText.{lexed};
 ghost use Rattle.command_answers.specs.Reads.{entries_of};

@@ -3,7 +3,7 @@ ghost use Rattle.std.specs.Prelude.{◌≡◌, ◌++◌, codes, decimal, OnOk};
 ghost use Rattle.text_definitions.specs.Written.{line};
 ghost use Rattle.surface_definitions.specs.Verdict.{verdict_text};
 
-use crate::append_numbered;
+use crate::append_number_line;
 use no_memory::NoMemory;
 use std::alloc::Global;
 use surface_definitions::VectorFault;
@@ -39,9 +39,14 @@ pub fn append_checked(
 {
     match checked {
         Ok(()) => append_solution(out),
-        Err(VectorFault::Length { got }) => append_numbered(alloc, out, b"length ", got as u128),
-        Err(VectorFault::Large { row }) => append_numbered(alloc, out, b"large ", u128::from(row)),
-        Err(VectorFault::NotSolution { row }) => append_numbered(
+        Err(VectorFault::Length { got }) => append_number_line(alloc, out, b"length ", got as u128),
+        Err(VectorFault::Large { row }) => append_number_line(
+            alloc,
+            out,
+            b"large ",
+            u128::from(row),
+        ),
+        Err(VectorFault::NotSolution { row }) => append_number_line(
             alloc,
             out,
             b"fails ",

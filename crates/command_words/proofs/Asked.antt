@@ -20,7 +20,7 @@ use Rattle.command_definitions.specs.Options.{Given, options_of, value_of}
 use Rattle.command_definitions.specs.Values.{request_with, values_of, ◌>>=◌}
 use Rattle.command_definitions.specs.Words.{Command, command_named, commands, request_given, accepted_request}
 use Rattle.plain_facts.proofs.Options.{some≢none}
-use Rattle.command_words.specs.Apps.{command_before, option_argument, program_with, request_found, values_found}
+use Rattle.command_words.specs.Apps.{command_before, option_argument, program_with, request_in, values_in}
 use Rattle.command_words.specs.Requests.{FailsWords, parse_fault}
 use Rattle.command_words.proofs.OptionRules.{option_rule, row, rows, rules_for}
 use Rattle.command_words.proofs.WordSteps.{leaf}
@@ -85,7 +85,7 @@ first_value name (g ∷ gs) = go (bytes_eq g.0 name) (first_value name gs)
     go true h = refl
     go false h = h
 
-values_same : (given : List Given) → values_found (rows given) ≡ values_of given
+values_same : (given : List Given) → values_in (rows given) ≡ values_of given
 values_same given = λ i. record {
   coords = first_value (codes "coords") given i;
   order = first_value (codes "order") given i;
@@ -94,15 +94,15 @@ values_same given = λ i. record {
   moves = first_value (codes "moves") given i;
 }
 
-given_same : (c : Command) (os : Option (List Given)) → request_found (option_map (λ given. (c.0, rows given)) os) ≡ (os >>= λ given. request_given c given)
+given_same : (c : Command) (os : Option (List Given)) → request_in (option_map (λ given. (c.0, rows given)) os) ≡ (os >>= λ given. request_given c given)
 given_same c None = refl
 given_same c (Some given) = ap (λ v. request_with c.0 v) (values_same given)
 
-pub asked_is : (words : List Text) → request_found (asked commands words) ≡ accepted_request words
+pub asked_is : (words : List Text) → request_in (asked commands words) ≡ accepted_request words
 asked_is [] = refl
 asked_is (w ∷ ws) = go (command_named w)
   where
-    go : (o : Option Command) → request_found (option_and_then (λ (c : Command). option_map (λ given. (c.0, rows given)) (options_of c.1 ws)) o)
+    go : (o : Option Command) → request_in (option_and_then (λ (c : Command). option_map (λ given. (c.0, rows given)) (options_of c.1 ws)) o)
         ≡ (o >>= λ c. options_of c.1 ws >>= λ given. request_given c given)
     go None = refl
     go (Some c) = given_same c (options_of c.1 ws)
@@ -110,15 +110,15 @@ asked_is (w ∷ ws) = go (command_named w)
 -- ---- answers
 
 pub ok_answers : (words : List Text) (c : Command) (m : ArgMatches) (a : App) → command_before words ≡ Some c → a ≡ program_with c → AreWords words → HasMatchesOf a words m → fault_of a words ≡ []
-    → request_found (subcommand_rows_of m) ≡ accepted_request words
+    → request_in (subcommand_rows_of m) ≡ accepted_request words
 ok_answers words c m a named is are has none =
     let matches = has (ap is_simple is ∙ program_simple words c named) in
     let faults : built_fault (app (c ∷ [])) nothing_held words ≡ [] = sym (program_faults c words) ∙ sym (ap (λ (x : App). fault_of x words) is) ∙ none in
     let enters = program_enters c words ∙ enters_asked (c ∷ []) words are faults ∙ asked_alone words c named in
-    ap request_found (matches.1 ∙ ap (λ (x : App). subcommand_of x words) is ∙ enters) ∙ asked_is words
+    ap request_in (matches.1 ∙ ap (λ (x : App). subcommand_of x words) is ∙ enters) ∙ asked_is words
 
 asks_something : (words : List Text) (r : Request) → accepted_request words ≡ Some r → (o : Option (Text × List Row)) → asked commands words ≡ o → (p : Text × List Row) × (asked commands words ≡ Some p)
-asks_something words r some None e = absurd (some≢none r (sym some ∙ sym (asked_is words) ∙ ap request_found e))
+asks_something words r some None e = absurd (some≢none r (sym some ∙ sym (asked_is words) ∙ ap request_in e))
 asks_something words r some (Some p) e = (p, e)
 
 pub err_answers : (words : List Text) (c : Command) (e : Error) (a : App) → command_before words ≡ Some c → a ≡ program_with c → AreWords words → HasKind (fault_of a words) e → (kind_of e ≡ OutOfMemory → ⊥) → accepted_request words ≡ None

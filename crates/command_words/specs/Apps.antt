@@ -51,8 +51,8 @@ command_before [] = None
 command_before (w ∷ ws) = command_named w
 
 -- the values of the options among what was found
-abbrev pub values_found : List Row → Values
-values_found found = record {
+abbrev pub values_in : List Row → Values
+values_in found = record {
   coords = first_of (codes "coords") found;
   order = first_of (codes "order") found;
   max_entry = first_of (codes "max-entry") found;
@@ -61,6 +61,6 @@ values_found found = record {
 }
 
 -- the request of the subcommand that was met, with what was found for its options
-abbrev pub request_found : Option (Text × List Row) → Option Request
-request_found None = None
-request_found (Some p) = request_with p.0 (values_found p.1)
+abbrev pub request_in : Option (Text × List Row) → Option Request
+request_in None = None
+request_in (Some p) = request_with p.0 (values_in p.1)

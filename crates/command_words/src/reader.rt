@@ -8,7 +8,7 @@ ghost use Rattle.clap.specs.Simple.{subcommand_rows_of};
 ghost use Rattle.clap.specs.Walk.{rows_of, texts};
 ghost use Rattle.command_definitions.specs.Requests.{HoldsRange};
 ghost use Rattle.command_definitions.specs.Words.{accepted_request};
-ghost use Rattle.command_words.specs.Apps.{request_found, values_found};
+ghost use Rattle.command_words.specs.Apps.{request_in, values_in};
 ghost use Rattle.command_words.specs.Requests.{parse_fault, texts_of, AnswersWords};
 ghost use Rattle.command_words.specs.Texts.{AreTexts, has_dashes, ends_option, is_naming, is_repeated, has_repeats};
 
@@ -22,8 +22,8 @@ use std::alloc::{AllocError, Global};
 use text_io::Words;
 
 // What was found for each option.
-fn values_found<'a>(matches: &ArgMatches<'a>) -> Values<'a>
-    ensures { texts_of result ≡ values_found (rows_of (found_of matches.now)) }
+fn values_in<'a>(matches: &ArgMatches<'a>) -> Values<'a>
+    ensures { texts_of result ≡ values_in (rows_of (found_of matches.now)) }
 {
     Values {
         coords: matches.get_str("coords"),
@@ -35,20 +35,20 @@ fn values_found<'a>(matches: &ArgMatches<'a>) -> Values<'a>
 }
 
 // The request of the command that was met.
-fn request_found(matches: &ArgMatches<'_>) -> Option<Request>
-    ensures { result ≡ request_found (subcommand_rows_of matches.now) }
+fn request_in(matches: &ArgMatches<'_>) -> Option<Request>
+    ensures { result ≡ request_in (subcommand_rows_of matches.now) }
 {
     match matches.subcommand() {
-        Some((name, found)) => request_with(name, &values_found(found)),
+        Some((name, found)) => request_with(name, &values_in(found)),
         None => None,
     }
 }
 
 // The same, where no request is a fault.
-fn asked(matches: &ArgMatches<'_>) -> Result<Request, WordsFault>
-    ensures { AnswersWords result (request_found (subcommand_rows_of matches.now)) }
+fn request_or_usage(matches: &ArgMatches<'_>) -> Result<Request, WordsFault>
+    ensures { AnswersWords result (request_in (subcommand_rows_of matches.now)) }
 {
-    match request_found(matches) {
+    match request_in(matches) {
         Some(request) => Ok(request),
         None => Err(WordsFault::Usage),
     }
@@ -139,7 +139,7 @@ fn parse(alloc: Global, words: &[&str]) -> Result<Request, WordsFault>
     };
     let program = program_with(alloc, name, options)?;
     match program.try_get_matches_from(words) {
-        Ok(matches) => asked(&matches),
+        Ok(matches) => request_or_usage(&matches),
         Err(error) => Err(fault_of(&error)),
     }
 }

@@ -3,8 +3,8 @@ use Rattle.std.proofs.Common.{ℕ, List, subst}
 use Rattle.std.specs.Prelude.{◌↔◌, Contains}
 use Rattle.table_definitions.specs.Table.{Row, other_side, way_back, IsTable}
 use Rattle.table_definitions.specs.Places.{whole, SameComponent}
-use Rattle.walk_laws.specs.Joined as walks
-use Rattle.walk_laws.specs.Joined.{IsSymmetric}
+use Rattle.table_walk_laws.specs.Joined as walks
+use Rattle.table_walk_laws.specs.Joined.{IsSymmetric}
 use Rattle.gluing_table.proofs.Chains.{neighbours, behind_a_face, is_neighbour, path_joins, along_leads}
 
 -- gluings lead back

@@ -1,7 +1,7 @@
 -- The classes of what neighbours join are the components of the table.
 use Rattle.std.proofs.Common.{◌≡◌, ℕ, ◌<◌, ◌^◌, List, length, Option, subst, sym, ap, ◌∙◌, arith}
 use Rattle.table_definitions.specs.Table.{Row, IsTable}
-use Rattle.walk_laws.specs.Joined.{IsJoined, HasNeighboursBelow, IsSymmetric, neighbours_of}
+use Rattle.table_walk_laws.specs.Joined.{IsJoined, HasNeighboursBelow, IsSymmetric, neighbours_of}
 use Rattle.table_definitions.specs.Places.{SameComponent}
 use Rattle.table_definitions.specs.Classes.{IsNumbering}
 use Rattle.table_definitions.proofs.ClassLaws.{numbering_same}

@@ -1,7 +1,7 @@
 pub mod Agreeing
 pub mod Chains
 pub mod ComponentLemmas
-pub mod DraftedParts
+pub mod DraftsOfParts
 pub mod Filtered
 pub mod JoinedText
 pub mod PartLemmas

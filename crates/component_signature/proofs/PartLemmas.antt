@@ -10,8 +10,8 @@ use Rattle.table_definitions.specs.Table.{Row, IsTable}
 use Rattle.table_definitions.proofs.Bijections.{below_contains}
 use Rattle.table_definitions.specs.Places.{SameComponent}
 use Rattle.table_definitions.specs.Classes.{IsNumbering, members}
-use Rattle.part_definitions.specs.Parts.{Part, first_of, IsPart, AreParts}
-use Rattle.part_laws.proofs.Members.{first_least}
+use Rattle.component_definitions.specs.Parts.{Part, first_of, IsPart, AreParts}
+use Rattle.component_laws.proofs.Members.{first_least}
 use Rattle.component_signature.specs.Components.{part_of}
 use Rattle.component_signature.proofs.Filtered.{passes, keeps, ascends, below_holds}
 

@@ -7,33 +7,33 @@ use Rattle.table_definitions.specs.Table.{Row, IsTable}
 use Rattle.table_definitions.specs.Relabelling.{Relabelling, stand_in}
 use Rattle.table_definitions.proofs.Carried.{length-images, image_in_range, permutation_apart}
 use Rattle.signature_definitions.specs.Labellings.{IsLeastRelabelling}
-use Rattle.part_definitions.specs.Parts.{Part, IsPart}
-use Rattle.part_definitions.specs.SameParts.{GoesBy}
-use Rattle.part_laws.proofs.Members.{part_at, no_part, member_below, length-part, part_is_table, one_part}
-use Rattle.component_signature.specs.declared.order.Signed.{Signed}
-use Rattle.part_laws.specs.Ordered.{Entry, numbers_of, AreInOrder}
+use Rattle.component_definitions.specs.Parts.{Part, IsPart}
+use Rattle.component_definitions.specs.SameParts.{GoesBy}
+use Rattle.component_laws.proofs.Members.{part_at, no_part, member_below, length-part, part_is_table, one_part}
+use Rattle.component_signature.specs.declared.order.PartSignature.{PartSignature}
+use Rattle.component_laws.specs.Ordered.{Entry, numbers_of, AreInOrder}
 use Rattle.component_signature.specs.Entries.{entries_of}
-use Rattle.part_laws.specs.Drafts.{AreMatched, AreWritten}
-use Rattle.part_laws.proofs.OrderLemmas.{permutes, number_below, numbers_long}
-use Rattle.part_laws.proofs.MatchLemmas.{part_in, there}
+use Rattle.component_laws.specs.Drafts.{AreMatched, AreWritten}
+use Rattle.component_laws.proofs.OrderLemmas.{permutes, number_below, numbers_long}
+use Rattle.component_laws.proofs.MatchLemmas.{part_in, there}
 
 -- the part that stands at a place
 
-pub entries_count : (S : List Signed) → length (entries_of S) ≡ length S
+pub entries_count : (S : List PartSignature) → length (entries_of S) ≡ length S
 entries_count S = length-map S _
 
-pub in_entries : (S : List Signed) (i : ℕ) → i < length S → i < length (entries_of S)
+pub in_entries : (S : List PartSignature) (i : ℕ) → i < length S → i < length (entries_of S)
 in_entries S i l = let e = entries_count S in omega (arith, e, l)
 
-pub in_others : (n : ℕ) (P : List Part) (S : List Signed) (Q : List Part) (T : List Signed) → AreMatched n P (entries_of S) Q (entries_of T) → (i : ℕ) → i < length S → i < length T
+pub in_others : (n : ℕ) (P : List Part) (S : List PartSignature) (Q : List Part) (T : List PartSignature) → AreMatched n P (entries_of S) Q (entries_of T) → (i : ℕ) → i < length S → i < length T
 in_others n P S Q T m i l = let e = entries_count T in let t = there n P (entries_of S) Q (entries_of T) m i (in_entries S i l) in omega (arith, e, t)
 
-number_here : (S : List Signed) (i : ℕ) (s : Signed) → i < length S → s ≡ get_or S i s → slice_index (numbers_of (entries_of S)) i ≡ s.part
+number_here : (S : List PartSignature) (i : ℕ) (s : PartSignature) → i < length S → s ≡ get_or S i s → slice_index (numbers_of (entries_of S)) i ≡ s.part
 number_here [] i s l is = absurd (omega arith)
-number_here (x ∷ S) zero s l is = ap (λ (r : Signed). r.part) (sym is)
+number_here (x ∷ S) zero s l is = ap (λ (r : PartSignature). r.part) (sym is)
 number_here (x ∷ S) (suc i) s l is = number_here S i s (omega arith) is
 
-module _ (P : List Part) (S : List Signed) (o : AreInOrder P (entries_of S)) (i : ℕ) (s : Signed) (l : i < length S) (is : s ≡ get_or S i s) where
+module _ (P : List Part) (S : List PartSignature) (o : AreInOrder P (entries_of S)) (i : ℕ) (s : PartSignature) (l : i < length S) (is : s ≡ get_or S i s) where
   pub number_in : s.part < length P
   number_in = subst (λ n. n < length P) (number_here S i s l is) (number_below P (entries_of S) o i (omega (arith, l, entries_count S)))
 

@@ -7,9 +7,9 @@ use Rattle.std.proofs.lemmas.List.Elements.{All-get_or}
 use Rattle.plain_facts.proofs.Members.{Ascends}
 use Rattle.table_definitions.specs.Table.{Gluing, Row, IsTable, glue}
 use Rattle.table_definitions.proofs.ListFacts.{four_made}
-use Rattle.part_definitions.specs.Parts.{Part, place_in, renumbered, rows_of, IsPart}
-use Rattle.part_laws.proofs.Numbers.{place_at, entry_of}
-use Rattle.part_laws.proofs.Members.{member_below, length-part, part_is_table}
+use Rattle.component_definitions.specs.Parts.{Part, place_in, renumbered, rows_of, IsPart}
+use Rattle.component_laws.proofs.Numbers.{place_at, entry_of}
+use Rattle.component_laws.proofs.Members.{member_below, length-part, part_is_table}
 use Rattle.component_signature.specs.Components.{row_of}
 
 pub rising : (numbers : List ℕ) → Ascends numbers → (i j : ℕ) → i ≤ j → j < length numbers → slice_index numbers i ≤ slice_index numbers j

@@ -8,11 +8,11 @@ use Rattle.table_definitions.specs.Table.{Row, IsTable}
 use Rattle.table_definitions.specs.Places.{IsConnected}
 use Rattle.table_definitions.proofs.Bijections.{below-push}
 use Rattle.signature_definitions.specs.Spelling.{IsSignature}
-use Rattle.part_definitions.specs.Parts.{Part, AreParts}
-use Rattle.part_definitions.specs.SameParts.{part_at}
-use Rattle.part_laws.proofs.Alone.{part_is_connected}
-use Rattle.component_signature.specs.declared.order.Signed.{Signed}
-use Rattle.part_laws.specs.Ordered.{Entry, numbers_of, AreSigned, compared, AreInOrder}
+use Rattle.component_definitions.specs.Parts.{Part, AreParts}
+use Rattle.component_definitions.specs.SameParts.{part_at}
+use Rattle.component_laws.proofs.Alone.{part_is_connected}
+use Rattle.component_signature.specs.declared.order.PartSignature.{PartSignature}
+use Rattle.component_laws.specs.Ordered.{Entry, numbers_of, AreSigned, compared, AreInOrder}
 use Rattle.component_signature.specs.Entries.{entry_of, entries_of}
 
 -- the first i parts are signed
@@ -20,10 +20,10 @@ pub record AreSignedUpTo (parts : List Part) (i : ℕ) (entries : List Entry) : 
   pub each : All (λ (e : Entry). IsSignature (part_at parts e.number).rows e.text) entries
   pub numbers : numbers_of entries ≡ below i
 
-pub none_signed : (parts : List Part) (signed : List Signed) → signed ≡ [] → AreSignedUpTo parts 0 (entries_of signed)
-none_signed parts signed e = subst (λ (ss : List Signed). AreSignedUpTo parts 0 (entries_of ss)) (sym e) (record { each = λ i d l. absurd (omega arith); numbers = refl })
+pub none_signed : (parts : List Part) (signed : List PartSignature) → signed ≡ [] → AreSignedUpTo parts 0 (entries_of signed)
+none_signed parts signed e = subst (λ (ss : List PartSignature). AreSignedUpTo parts 0 (entries_of ss)) (sym e) (record { each = λ i d l. absurd (omega arith); numbers = refl })
 
-pub one_signed : (parts : List Part) (i : ℕ) (part : Part) (before now : List Signed) (s : Signed) → i < length parts → part ≡ get_or parts i part → IsSignature part.rows s.signature.items → s.part ≡ i → now ≡ before ++ s ∷ []
+pub one_signed : (parts : List Part) (i : ℕ) (part : Part) (before now : List PartSignature) (s : PartSignature) → i < length parts → part ≡ get_or parts i part → IsSignature part.rows s.signature.items → s.part ≡ i → now ≡ before ++ s ∷ []
     → AreSignedUpTo parts i (entries_of before) → AreSignedUpTo parts (i + 1) (entries_of now)
 one_signed parts i part before now s l is signature number grown a = subst (AreSignedUpTo parts (i + 1)) (sym (ap entries_of grown ∙ map-append entry_of before (s ∷ []))) (record {
   each = All-push (λ (e : Entry). IsSignature (part_at parts e.number).rows e.text) (entries_of before) (entry_of s) a.each
@@ -36,7 +36,7 @@ all_signed parts i entries whole a = record { each = a.each; numbers = a.numbers
 
 -- ---- in order
 
-sorted_entries : (signed : List Signed) → IsSorted (λ s r. compared (entry_of s) (entry_of r)) signed → IsSorted compared (entries_of signed)
+sorted_entries : (signed : List PartSignature) → IsSorted (λ s r. compared (entry_of s) (entry_of r)) signed → IsSorted compared (entries_of signed)
 sorted_entries [] sorted k d low h = absurd (omega arith)
 sorted_entries (s ∷ signed) sorted k d low h =
     let n = length-map (s ∷ signed) entry_of in
@@ -44,7 +44,7 @@ sorted_entries (s ∷ signed) sorted k d low h =
     (sym (get_or-map entry_of (s ∷ signed) (k + 1) s d (omega (arith, n, h)))) (sym (get_or-map entry_of (s ∷ signed) k s d (omega (arith, n, h))))
     (sorted k s low (omega (arith, n, h)))
 
-pub put_in_order : (parts : List Part) (before now : List Signed) → AreSigned parts (entries_of before) → IsPermutation before now → IsSorted (λ s r. compared (entry_of s) (entry_of r)) now → AreInOrder parts (entries_of now)
+pub put_in_order : (parts : List Part) (before now : List PartSignature) → AreSigned parts (entries_of before) → IsPermutation before now → IsSorted (λ s r. compared (entry_of s) (entry_of r)) now → AreInOrder parts (entries_of now)
 put_in_order parts before now a p sorted = record { made = entries_of before; are_signed = a; same = IsPermutation-map entry_of before now p; sorted = sorted_entries now sorted }
 
 pub all_connected : (rows : List Row) (parts : List Part) → IsTable rows → AreParts rows parts → All (λ (part : Part). IsConnected part.rows) parts

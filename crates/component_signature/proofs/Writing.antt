@@ -4,8 +4,8 @@ use Rattle.std.proofs.lemmas.Bool.{cases_order}
 use Rattle.std.proofs.lemmas.List.{get_or-set_same, get_or-set_other, length-set}
 use Rattle.plain_facts.proofs.Members.{contains_at, Ascends}
 use Rattle.table_definitions.specs.Relabelling.{Relabelling, stand_in}
-use Rattle.part_definitions.specs.Parts.{Part}
-use Rattle.part_laws.proofs.Numbers.{stands_once}
+use Rattle.component_definitions.specs.Parts.{Part}
+use Rattle.component_laws.proofs.Numbers.{stands_once}
 
 -- the first i tetrahedra of the part are written, and no others
 pub record IsWritten (old now : Relabelling) (part other : Part) (by : Relabelling) (i : ℕ) : Type 0 where

@@ -3,7 +3,7 @@ use Rattle.std.specs.Prelude.{ℕ, List, [], map, option_map}
 use Rattle.std.specs.List.{slice_index_or}
 use Rattle.table_definitions.specs.Table.{Row}
 use Rattle.table_definitions.specs.Classes.{members}
-use Rattle.part_definitions.specs.Parts.{Part, renumbered, rows_of}
+use Rattle.component_definitions.specs.Parts.{Part, renumbered, rows_of}
 
 -- the row of a tetrahedron, renumbered
 abbrev pub row_of : List Row → List ℕ → ℕ → Row

@@ -3,7 +3,7 @@
 ghost use Rattle.std.specs.Prelude.{◌≡◌, ◌<◌, ◌^◌, ℕ, length, slice_index, slice_set, All, AllPairs, Contains, IfOk};
 ghost use Rattle.table_definitions.specs.Permutation.{identity};
 ghost use Rattle.table_definitions.specs.Relabelling.{IsRelabelling, stand_in};
-ghost use Rattle.part_definitions.specs.SameParts.{GoesBy};
+ghost use Rattle.component_definitions.specs.SameParts.{GoesBy};
 
 use crate::split::Part;
 use gluing_table::Relabelling;
@@ -28,7 +28,7 @@ impl Model for Draft {
 }
 
 /// Room for so many tetrahedra.
-pub fn unwritten(alloc: Global, tets: u32) -> Result<Draft, NoMemory>
+pub fn blank_draft(alloc: Global, tets: u32) -> Result<Draft, NoMemory>
     ensures images { IfOk result (λ draft. length draft.images ≡ tets) }
     ensures perms { IfOk result (λ draft. length draft.perms ≡ tets) }
 {

@@ -4,20 +4,20 @@ ghost use Rattle.std.specs.Prelude.{◌≡◌, ◌<◌, ◌+◌, ◌↔◌, leng
 ghost use Rattle.table_definitions.specs.Places.{IsConnected};
 ghost use Rattle.table_definitions.specs.Relabelling.{IsRelabelled};
 ghost use Rattle.signature_definitions.specs.Labellings.{IsLeastRelabelling, Relabels};
-ghost use Rattle.part_definitions.specs.SameParts.{IsSameParts};
+ghost use Rattle.component_definitions.specs.SameParts.{IsSameParts};
 ghost use Rattle.component_signature.specs.Entries.{entries_of};
-ghost use Rattle.part_laws.specs.Ordered.{texts_of, numbers_of};
-ghost use Rattle.part_laws.specs.Drafts.{AreMatched, AreWritten};
+ghost use Rattle.component_laws.specs.Ordered.{texts_of, numbers_of};
+ghost use Rattle.component_laws.specs.Drafts.{AreMatched, AreWritten};
 
-use crate::drafts::{Draft, unwritten, write_part};
-use crate::order::{Ordered, Signed, in_order};
+use crate::drafts::{Draft, blank_draft, write_part};
+use crate::order::{OrderedParts, PartSignature, in_order};
 use canonical_labelling::same_of_connected;
 use gluing_table::{Relabelling, Table};
 use no_memory::NoMemory;
 use std::alloc::Global;
 
 /// Whether the signatures are the same, place by place.
-fn agree(first: &[Signed], second: &[Signed]) -> bool
+fn agree(first: &[PartSignature], second: &[PartSignature]) -> bool
     ensures { IsTrue result ↔ (texts_of (entries_of first.now) ≡ texts_of (entries_of second.now)) }
 {
     if first.len() != second.len() {
@@ -32,7 +32,11 @@ fn agree(first: &[Signed], second: &[Signed]) -> bool
 }
 
 /// The relabelling that is told of two connected tables of which one can be relabelled to the other.
-fn told(alloc: Global, first: &Table, second: &Table) -> Result<Relabelling, NoMemory>
+fn relabelling_of_connected(
+    alloc: Global,
+    first: &Table,
+    second: &Table,
+) -> Result<Relabelling, NoMemory>
     requires connected { IsConnected first.now }
     requires second_connected { IsConnected second.now }
     requires relabelled { IsRelabelled first.now second.now }
@@ -48,8 +52,8 @@ fn told(alloc: Global, first: &Table, second: &Table) -> Result<Relabelling, NoM
 fn write_place(
     alloc: Global,
     draft: &mut Draft,
-    first: &Ordered,
-    second: &Ordered,
+    first: &OrderedParts,
+    second: &OrderedParts,
     place: usize,
 ) -> Result<(), NoMemory>
     requires matched { AreMatched (length draft.old.images) first.now.parts.items (entries_of first.now.signed.items) second.now.parts.items (entries_of second.now.signed.items) }
@@ -62,19 +66,24 @@ fn write_place(
 {
     let part = &first.parts[first.signed[place].part];
     let other = &second.parts[second.signed[place].part];
-    let by = told(alloc, &part.table, &other.table)?;
+    let by = relabelling_of_connected(alloc, &part.table, &other.table)?;
     write_part(draft, part, other, &by);
     Ok(())
 }
 
 /// Where the tetrahedra of all parts go.
-fn drafted(alloc: Global, tets: u32, first: &Ordered, second: &Ordered) -> Result<Draft, NoMemory>
+fn draft_of_parts(
+    alloc: Global,
+    tets: u32,
+    first: &OrderedParts,
+    second: &OrderedParts,
+) -> Result<Draft, NoMemory>
     requires { AreMatched tets first.now.parts.items (entries_of first.now.signed.items) second.now.parts.items (entries_of second.now.signed.items) }
     ensures written { IfOk result (AreWritten first.now.parts.items (numbers_of (entries_of first.now.signed.items)) second.now.parts.items (numbers_of (entries_of second.now.signed.items)) (length first.now.signed.items)) }
     ensures images { IfOk result (λ draft. length draft.images ≡ tets) }
     ensures perms { IfOk result (λ draft. length draft.perms ≡ tets) }
 {
-    let mut draft = unwritten(alloc, tets)?;
+    let mut draft = blank_draft(alloc, tets)?;
     for place in 0..first.signed.len() {
         write_place(alloc, &mut draft, first, second, place)?;
     }
@@ -99,6 +108,6 @@ pub fn same_parts(
     if !agree(&parts.signed, &others.signed) {
         return Ok(None);
     }
-    let draft = drafted(alloc, first.len(), &parts, &others)?;
+    let draft = draft_of_parts(alloc, first.len(), &parts, &others)?;
     Ok(Some(draft.relabelling()))
 }

@@ -3,10 +3,10 @@
 ghost use Rattle.std.specs.Prelude.{All, IfOk, OnOk};
 ghost use Rattle.table_definitions.specs.Table.{IsTable};
 ghost use Rattle.table_definitions.specs.Places.{IsConnected};
-ghost use Rattle.part_definitions.specs.Parts as definition;
-ghost use Rattle.part_definitions.specs.Parts.{AreParts};
+ghost use Rattle.component_definitions.specs.Parts as definition;
+ghost use Rattle.component_definitions.specs.Parts.{AreParts};
 ghost use Rattle.component_signature.specs.Entries.{entries_of};
-ghost use Rattle.part_laws.specs.Ordered.{AreSigned, AreInOrder};
+ghost use Rattle.component_laws.specs.Ordered.{AreSigned, AreInOrder};
 
 use crate::split::{Part, parts};
 use canonical_labelling::signature_of_connected;
@@ -16,20 +16,20 @@ use std::alloc::Global;
 
 /// The signature of a part, and the number of the part. The order is by the signature and then by the number.
 #[derive(PartialEq, Eq, PartialOrd, Ord, Drop)]
-pub struct Signed {
+pub struct PartSignature {
     pub signature: Vec<u8>,
     pub part: usize,
 }
 
 /// The parts of a table, and the signatures of all of them in order.
 #[derive(Drop)]
-pub struct Ordered {
+pub struct OrderedParts {
     pub parts: Vec<Part>,
-    pub signed: Vec<Signed>,
+    pub signed: Vec<PartSignature>,
 }
 
 /// The signature of each part.
-fn sign_parts(alloc: Global, parts: &[Part]) -> Result<Vec<Signed>, NoMemory>
+fn sign_parts(alloc: Global, parts: &[Part]) -> Result<Vec<PartSignature>, NoMemory>
     requires { All (λ (part : definition.Part). IsConnected part.rows) parts.now }
     ensures { IfOk result (λ signed. AreSigned parts.now (entries_of signed.items)) }
 {
@@ -37,7 +37,7 @@ fn sign_parts(alloc: Global, parts: &[Part]) -> Result<Vec<Signed>, NoMemory>
     for number in 0..parts.len() {
         let part = &parts[number];
         let signature = signature_of_connected(alloc, &part.table)?;
-        signed.push(Signed {
+        signed.push(PartSignature {
             signature,
             part: number,
         })?;
@@ -47,7 +47,7 @@ fn sign_parts(alloc: Global, parts: &[Part]) -> Result<Vec<Signed>, NoMemory>
 
 /// The parts of a table in the order of their signatures, and those of one signature in the order of their least
 /// tetrahedra.
-pub fn in_order(alloc: Global, table: &Table) -> Result<Ordered, NoMemory>
+pub fn in_order(alloc: Global, table: &Table) -> Result<OrderedParts, NoMemory>
     ensures parts { IfOk result (λ ordered. AreParts table.now ordered.parts.items) }
     ensures order { IfOk result (λ ordered. AreInOrder ordered.parts.items (entries_of ordered.signed.items)) }
     ensures is_table { OnOk result (IsTable table.now) }
@@ -55,5 +55,5 @@ pub fn in_order(alloc: Global, table: &Table) -> Result<Ordered, NoMemory>
     let parts = parts(alloc, table)?;
     let mut signed = sign_parts(alloc, &parts)?;
     signed.sort_unstable();
-    Ok(Ordered { parts, signed })
+    Ok(OrderedParts { parts, signed })
 }

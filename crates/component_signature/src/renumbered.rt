@@ -3,8 +3,8 @@
 ghost use Rattle.std.specs.Prelude.{◌≡◌, ◌<◌, ◌^◌, length, option_map, Contains, AllPairs, IfOk};
 ghost use Rattle.table_definitions.specs.Table as gluings;
 ghost use Rattle.table_definitions.specs.Table.{IsTable};
-ghost use Rattle.part_definitions.specs.Parts as parts;
-ghost use Rattle.part_definitions.specs.Parts.{IsPart, rows_of};
+ghost use Rattle.component_definitions.specs.Parts as parts;
+ghost use Rattle.component_definitions.specs.Parts.{IsPart, rows_of};
 ghost use Rattle.component_signature.specs.Components.{row_of};
 
 use gluing_table::{Face, Glue, Row, Table};

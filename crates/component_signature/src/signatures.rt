@@ -1,18 +1,18 @@
 //! The component signature of a table.
 
 ghost use Rattle.std.specs.Prelude.{◌≡◌, IfOk};
-ghost use Rattle.part_definitions.specs.ComponentSignature.{component_text, IsComponentSignature};
+ghost use Rattle.component_definitions.specs.ComponentSignature.{component_text, IsComponentSignature};
 ghost use Rattle.component_signature.specs.Entries.{entries_of};
-ghost use Rattle.part_laws.specs.Ordered.{texts_of};
+ghost use Rattle.component_laws.specs.Ordered.{texts_of};
 
-use crate::order::{Signed, in_order};
+use crate::order::{PartSignature, in_order};
 use gluing_table::Table;
 use no_memory::NoMemory;
 use std::alloc::Global;
 use text_io::append;
 
 /// The signatures with a full stop between each two; `a` where there is none.
-fn joined(alloc: Global, signed: &[Signed]) -> Result<Vec<u8>, NoMemory>
+fn join_signatures(alloc: Global, signed: &[PartSignature]) -> Result<Vec<u8>, NoMemory>
     ensures { IfOk result (λ text. text.items ≡ component_text (texts_of (entries_of signed.now))) }
 {
     let mut text = Vec::new(alloc);
@@ -35,6 +35,6 @@ pub fn component_signature(alloc: Global, table: &Table) -> Result<Vec<u8>, NoMe
     ensures { IfOk result (λ text. IsComponentSignature table.now text.items) }
 {
     let ordered = in_order(alloc, table)?;
-    let text = joined(alloc, &ordered.signed)?;
+    let text = join_signatures(alloc, &ordered.signed)?;
     Ok(text)
 }

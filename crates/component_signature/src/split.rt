@@ -3,7 +3,7 @@
 ghost use Rattle.std.specs.Prelude.{◌≡◌, ◌<◌, ◌^◌, length, IfOk, OnOk};
 ghost use Rattle.table_definitions.specs.Table.{IsTable};
 ghost use Rattle.table_definitions.specs.Classes.{members};
-ghost use Rattle.part_definitions.specs.Parts.{IsPart, AreParts};
+ghost use Rattle.component_definitions.specs.Parts.{IsPart, AreParts};
 ghost use Rattle.component_signature.specs.Components as components;
 
 use crate::components::components;
@@ -21,7 +21,7 @@ pub struct Part {
 }
 
 impl Model for Part {
-    ghost use Rattle.part_definitions.specs.Parts as definition;
+    ghost use Rattle.component_definitions.specs.Parts as definition;
 
     ghost Value = { definition.Part };
 

@@ -15,7 +15,7 @@ pub(crate) enum Entries {
 }
 
 /// Numbers of 64 bits, in 128 bits each.
-fn widened(alloc: Global, small: &[u64]) -> Result<Vec<u128>, NoMemory>
+fn widen(alloc: Global, small: &[u64]) -> Result<Vec<u128>, NoMemory>
     ensures { IfOk result (λ wide. wide.items ≡ small.now) }
 {
     let mut wide = Vec::with_capacity(alloc, small.len())?;
@@ -61,7 +61,7 @@ pub(crate) fn wide_entries(alloc: Global, entries: &Entries) -> Result<Vec<u128>
     ensures { IfOk result (λ wide. wide.items ≡ numbers_of entries.now) }
 {
     match entries {
-        Entries::Small(small) => widened(alloc, small),
+        Entries::Small(small) => widen(alloc, small),
         Entries::Large(large) => {
             let mut wide = Vec::with_capacity(alloc, large.len())?;
             wide.extend_from_slice(large)?;
@@ -71,7 +71,7 @@ pub(crate) fn wide_entries(alloc: Global, entries: &Entries) -> Result<Vec<u128>
 }
 
 /// The same entries once more.
-pub(crate) fn copied(alloc: Global, entries: &Entries) -> Result<Entries, NoMemory>
+pub(crate) fn copy_entries(alloc: Global, entries: &Entries) -> Result<Entries, NoMemory>
     ensures { IfOk result (λ copy. numbers_of copy ≡ numbers_of entries.now) }
 {
     match entries {
@@ -100,7 +100,7 @@ pub(crate) fn with_entry(
                 small[column] = value as u64;
                 return Ok(Entries::Small(small));
             }
-            let mut wide = widened(alloc, &small)?;
+            let mut wide = widen(alloc, &small)?;
             wide[column] = value;
             Ok(Entries::Large(wide))
         }

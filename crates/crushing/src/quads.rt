@@ -41,7 +41,7 @@ pub fn is_removed(x: &[u128], tet: u32) -> bool
 }
 
 /// Where the exchange of v and w takes a vertex.
-fn exchanged(v: u8, w: u8, u: u8) -> u8
+fn exchange_image(v: u8, w: u8, u: u8) -> u8
     ensures { result ≡ (if u == v then w else in_place_of w v u) }
 {
     if u == v {
@@ -61,10 +61,10 @@ pub fn exchange(v: u8, w: u8) -> Perm4
     ensures permutes { IsPermutationOfFour result }
 {
     Perm4::new(
-        exchanged(v, w, 0),
-        exchanged(v, w, 1),
-        exchanged(v, w, 2),
-        exchanged(v, w, 3),
+        exchange_image(v, w, 0),
+        exchange_image(v, w, 1),
+        exchange_image(v, w, 2),
+        exchange_image(v, w, 3),
     )
     .unwrap()
 }

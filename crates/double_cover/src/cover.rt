@@ -9,7 +9,7 @@ ghost use Rattle.skeleton_definitions.specs.Orientation.{AreSigns};
 ghost use Rattle.skeleton.specs.Parts.{items_of};
 ghost use Rattle.cover_definitions.specs.Cover as definition;
 
-use crate::images::{by_images, exchanged, parted};
+use crate::images::{by_images, exchange_images, split_images};
 use crate::rows::cover_table;
 use crate::sheets;
 use cover_definitions::LargeCover;
@@ -46,7 +46,7 @@ impl Model for Cover {
 pub type CoverFault = Failure<LargeCover>;
 
 /// The same signs once more.
-fn copied(alloc: Global, signs: Option<&[bool]>) -> Result<Option<Vec<bool>>, AllocError>
+fn copy_signs(alloc: Global, signs: Option<&[bool]>) -> Result<Option<Vec<bool>>, AllocError>
     ensures { IfOk result (λ copy. option_map items_of copy ≡ option_copied signs.entry) }
 {
     match signs {
@@ -72,7 +72,7 @@ impl Cover {
             return Err(Failure::Fault(LargeCover));
         }
         let table = cover_table(alloc, base)?;
-        let signs = copied(alloc, skeleton.orientation())?;
+        let signs = copy_signs(alloc, skeleton.orientation())?;
         let base = base.copy(alloc)?;
         Ok(Cover { base, table, signs })
     }
@@ -112,7 +112,7 @@ impl Cover {
         ensures exchange { IfOk result (λ by. by ≡ definition.exchange (length self.now)) }
         ensures carries { IfOk result (λ by. Carries by (definition.cover self.now) (definition.cover self.now)) }
     {
-        let images = exchanged(alloc, self.base.len())?;
+        let images = exchange_images(alloc, self.base.len())?;
         let by = by_images(alloc, images)?;
         Ok(by)
     }
@@ -128,7 +128,7 @@ impl Cover {
         let Some(signs) = &self.signs else {
             return Ok(None);
         };
-        let images = parted(alloc, self.base.len(), signs)?;
+        let images = split_images(alloc, self.base.len(), signs)?;
         let by = by_images(alloc, images)?;
         Ok(Some(by))
     }

@@ -13,7 +13,7 @@ use perm_four::Perm4;
 use std::alloc::{AllocError, Global};
 
 /// Where each tetrahedron goes by the exchange.
-pub fn exchanged(alloc: Global, tets: u32) -> Result<Vec<u32>, AllocError>
+pub fn exchange_images(alloc: Global, tets: u32) -> Result<Vec<u32>, AllocError>
     requires { tets ≤ max_tets }
     ensures { IfOk result (λ images. images.items ≡ map (λ u. definition.above tets (definition.over tets u) (definition.other_sheet (definition.sheet tets u))) (below (2 * tets))) }
 {
@@ -41,7 +41,7 @@ fn copy_of(tets: u32, signs: &[bool], tet: u32) -> u8
 }
 
 /// Where each tetrahedron goes by the split.
-pub fn parted(alloc: Global, tets: u32, signs: &[bool]) -> Result<Vec<u32>, AllocError>
+pub fn split_images(alloc: Global, tets: u32, signs: &[bool]) -> Result<Vec<u32>, AllocError>
     requires few { tets ≤ max_tets }
     requires one_each { length signs.now ≡ tets }
     ensures { IfOk result (λ images. images.items ≡ map (λ u. definition.above tets (definition.over tets u) (definition.copy_of tets signs.now u)) (below (2 * tets))) }

@@ -24,7 +24,7 @@ fn sheet_behind(glue: Glue, sheet: u8) -> u8
 }
 
 /// The gluing of the cover over a gluing that leaves a tetrahedron on a sheet.
-fn lifted(tets: u32, sheet: u8, glue: Glue) -> Glue
+fn lift_glue(tets: u32, sheet: u8, glue: Glue) -> Glue
     requires few { tets ≤ max_tets }
     requires two { sheet ≤ 1 }
     requires in_range { glue.tet < tets }
@@ -49,7 +49,7 @@ fn cover_glue(table: &Table, face: Face) -> Option<Glue>
         face: face.face,
     };
     match table.glue(below) {
-        Some(glue) => Some(lifted(tets, sheet(tets, face.tet), glue)),
+        Some(glue) => Some(lift_glue(tets, sheet(tets, face.tet), glue)),
         None => None,
     }
 }

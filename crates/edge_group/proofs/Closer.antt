@@ -8,9 +8,9 @@ use Rattle.table_definitions.specs.Places.{IsConnected}
 use Rattle.table_definitions.proofs.TableLaws.{glued_tet, glued_face}
 use Rattle.table_definitions.proofs.PermutationLaws.{image-of_inverse}
 use Rattle.table_definitions.proofs.Faces.{face_at}
-use Rattle.group_definitions.specs.Trees.{IsDistance, LeadsCloser}
-use Rattle.group_definitions.specs.Groups.{IsTreeFaceAt}
-use Rattle.group_laws.proofs.TreeLaws.{tree_face_of}
+use Rattle.presentation_definitions.specs.Trees.{IsDistance, LeadsCloser}
+use Rattle.presentation_definitions.specs.Groups.{IsTreeFaceAt}
+use Rattle.presentation_laws.proofs.TreeLaws.{tree_face_of}
 use Rattle.edge_group.specs.Searches.{mark_of, AreDistances}
 use Rattle.edge_group.specs.Behind.{IsOneLess, IsCloser, IsCloserFace, IsNotAfter, IsLeastOf, IsLeastCloser}
 

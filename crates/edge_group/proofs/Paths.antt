@@ -3,8 +3,8 @@ use Rattle.std.proofs.Common.{◌≡◌, ℕ, ◌+◌, ◌<◌, Bool, true, fals
 use Rattle.std.specs.Bool.{beq}
 use Rattle.table_definitions.specs.Table.{Row, Face, IsTable, glue}
 use Rattle.table_definitions.proofs.TableLaws.{glued_tet}
-use Rattle.group_definitions.specs.Trees.{IsTreeFace, IsTreePath, is_even_gluing, evens, is_odd_number}
-use Rattle.group_laws.proofs.Parity.{differs, differs_assoc, differs_false, odd_more}
+use Rattle.presentation_definitions.specs.Trees.{IsTreeFace, IsTreePath, is_even_gluing, evens, is_odd_number}
+use Rattle.presentation_laws.proofs.Parity.{differs, differs_assoc, differs_false, odd_more}
 use Rattle.edge_group.specs.Searches.{mark_of, AreDistances}
 use Rattle.edge_group.specs.Turns.{IsPathOdd}
 

@@ -18,8 +18,8 @@ use Rattle.table_definitions.proofs.ListFacts.{below_next}
 use Rattle.table_definitions.proofs.Bijections.{contains_has}
 use Rattle.skeleton_definitions.specs.Corners.{Corner, step, corner_behind, first_corner, GoesRound, IsWalk, inner_edges, left_through}
 use Rattle.skeleton_definitions.specs.Skeleton.{Skeleton, IsAround}
-use Rattle.group_definitions.specs.declared.Letter.{Letter}
-use Rattle.group_laws.specs.Classes.{generator_number, LeavesInRange}
+use Rattle.presentation_definitions.specs.declared.Letter.{Letter}
+use Rattle.presentation_laws.specs.Classes.{generator_number, LeavesInRange}
 
 -- ---- the number of a generator
 

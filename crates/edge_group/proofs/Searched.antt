@@ -10,8 +10,8 @@ use Rattle.plain_facts.proofs.Members.{contains_one, contains_nil}
 use Rattle.table_definitions.specs.Table.{Gluing, Row, Face, IsTable, glue}
 use Rattle.table_definitions.proofs.TableLaws.{glued_tet}
 use Rattle.table_definitions.proofs.Faces.{face_at}
-use Rattle.group_definitions.specs.Trees.{IsDistance}
-use Rattle.group_laws.proofs.Levels.{Level, LastStep, level_more, level_last, level_zero, some_distance, distance_level, distance_least, one_distance}
+use Rattle.presentation_definitions.specs.Trees.{IsDistance}
+use Rattle.presentation_laws.proofs.Levels.{Level, LastStep, level_more, level_last, level_zero, some_distance, distance_level, distance_least, one_distance}
 use Rattle.edge_group.specs.Searches.{mark_of, unmarked, IsBehind, IsGrown, IsFaceOfSome, IsSearched, AreDistances}
 
 module _ (rows : List Row) (table : IsTable rows) where

@@ -1,7 +1,7 @@
 -- Faces that lead to a tetrahedron, as the other sides of its faces.
 use Rattle.std.specs.Prelude.{◌≡◌, ◌⊎◌, ℕ, ◌+◌, ◌<◌, false, List, Option, Some, None}
 use Rattle.table_definitions.specs.Table.{Gluing, Row, Face, glue, other_side, is_face_before}
-use Rattle.group_definitions.specs.Trees.{LeadsCloser}
+use Rattle.presentation_definitions.specs.Trees.{LeadsCloser}
 
 -- the one number is one less than the other
 abbrev pub IsOneLess : Option ℕ → Option ℕ → Type 0

@@ -1,4 +1,4 @@
 pub mod Searches
 pub mod Behind
 pub mod Turns
-pub mod Kept
+pub mod Fields

@@ -2,7 +2,7 @@
 use Rattle.std.specs.Prelude.{◌≡◌, ℕ, ◌+◌, ◌<◌, ◌≤◌, ◌⊎◌, ◌↔◌, List, ◌++◌, length, Option, Some, None, Contains, count_by, is_none}
 use Rattle.std.specs.List.{slice_index_or}
 use Rattle.table_definitions.specs.Table.{Gluing, Row, Face, glue}
-use Rattle.group_definitions.specs.Trees.{IsDistance}
+use Rattle.presentation_definitions.specs.Trees.{IsDistance}
 
 -- the mark of a tetrahedron
 abbrev pub mark_of : List (Option ℕ) → ℕ → Option ℕ

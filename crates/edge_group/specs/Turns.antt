@@ -1,8 +1,8 @@
 -- Paths of tree faces, and the even gluings on them.
 use Rattle.std.specs.Prelude.{◌≡◌, ℕ, Bool, List, Option}
 use Rattle.table_definitions.specs.Table.{Row, Face}
-use Rattle.group_definitions.specs.Trees.{IsTreePath, evens, is_odd_number}
-use Rattle.group_definitions.specs.Groups.{IsTree}
+use Rattle.presentation_definitions.specs.Trees.{IsTreePath, evens, is_odd_number}
+use Rattle.presentation_definitions.specs.Groups.{IsTree}
 use Rattle.edge_group.specs.Searches.{AreDistances}
 
 -- the tree faces, with the distances

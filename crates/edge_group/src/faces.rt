@@ -3,9 +3,9 @@
 ghost use Rattle.std.specs.Prelude.{◌≡◌, ◌<◌, ◌^◌, ◌↔◌, length, IsTrue, IfOk};
 ghost use Rattle.table_definitions.specs.Places as places;
 ghost use Rattle.skeleton_definitions.specs.Skeleton.{IsSkeleton};
-ghost use Rattle.group_definitions.specs.Groups.{IsTree};
-ghost use Rattle.group_definitions.specs.Presentations.{AreGenerators};
-ghost use Rattle.group_laws.specs.Classes.{AreLeastFaces, AreTreeClasses, IsGenerator};
+ghost use Rattle.presentation_definitions.specs.Groups.{IsTree};
+ghost use Rattle.presentation_definitions.specs.Presentations.{AreGenerators};
+ghost use Rattle.presentation_laws.specs.Classes.{AreLeastFaces, AreTreeClasses, IsGenerator};
 
 use gluing_table::Face;
 use no_memory::NoMemory;

@@ -5,15 +5,15 @@ ghost use Rattle.std.specs.List.{slice_index_or};
 ghost use Rattle.no_memory.specs.Failures.{IfFault};
 ghost use Rattle.table_definitions.specs.Places.{IsConnected};
 ghost use Rattle.skeleton_definitions.specs.Skeleton.{IsSkeleton};
-ghost use Rattle.group_definitions.specs.Groups.{IsGroup, HasGroup, IsGroupFault};
+ghost use Rattle.presentation_definitions.specs.Groups.{IsGroup, HasGroup, IsGroupFault};
 
 use crate::faces::{first_faces, generators};
 use crate::relators::{inner_edges, relators};
 use crate::tree::shortest_tree;
 use crate::turning::turning;
 use gluing_table::Face;
-use group_definitions::{GroupFault, Letter};
 use no_memory::{Failure, NoMemory};
+use presentation_definitions::{GroupFault, Letter};
 use skeleton::Skeleton;
 use std::alloc::Global;
 use std::marker::Model;
@@ -30,9 +30,9 @@ pub struct Group {
 
 impl Model for Group {
     ghost use Rattle.std.specs.Prelude.{map};
-    ghost use Rattle.group_definitions.specs.Groups as definition;
-    ghost use Rattle.edge_group.specs.Kept.{letters_of};
-    ghost use Rattle.edge_group.specs.Kept.{IsKept};
+    ghost use Rattle.presentation_definitions.specs.Groups as definition;
+    ghost use Rattle.edge_group.specs.Fields.{letters_of};
+    ghost use Rattle.edge_group.specs.Fields.{IsKept};
 
     ghost Value = { definition.Group };
 
@@ -50,7 +50,7 @@ impl Model for Group {
 }
 
 /// The tree faces and the presentation of a connected table.
-fn presented(alloc: Global, skeleton: &Skeleton) -> Result<Group, NoMemory>
+fn presentation_of(alloc: Global, skeleton: &Skeleton) -> Result<Group, NoMemory>
     requires skeleton { IsSkeleton skeleton.now }
     requires connected { IsConnected skeleton.now.rows }
     ensures { IfOk result (IsGroup skeleton.now) }
@@ -87,7 +87,7 @@ impl Group {
         if let Some(class) = skeleton.first_invalid() {
             return Err(Failure::Fault(GroupFault::InvalidEdge { class }));
         }
-        let group = presented(alloc, skeleton)?;
+        let group = presentation_of(alloc, skeleton)?;
         Ok(group)
     }
 

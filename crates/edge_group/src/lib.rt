@@ -10,5 +10,5 @@ mod tree;
 mod turning;
 
 pub use group::Group;
-pub use group_definitions::{GroupFault, Letter};
 pub use no_memory::Failure;
+pub use presentation_definitions::{GroupFault, Letter};

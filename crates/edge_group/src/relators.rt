@@ -6,13 +6,13 @@ ghost use Rattle.skeleton_definitions.specs.Corners as definition;
 ghost use Rattle.skeleton_definitions.specs.Corners.{left_through};
 ghost use Rattle.skeleton_definitions.specs.Skeleton.{IsSkeleton};
 ghost use Rattle.table_definitions.specs.Table.{face_number};
-ghost use Rattle.group_definitions.specs.Presentations.{AreGenerators, IsRelator, letter_of};
-ghost use Rattle.group_laws.specs.Classes.{AreLeastFaces, generator_number, LeavesInRange};
-ghost use Rattle.edge_group.specs.Kept.{letters_of};
+ghost use Rattle.presentation_definitions.specs.Presentations.{AreGenerators, IsRelator, letter_of};
+ghost use Rattle.presentation_laws.specs.Classes.{AreLeastFaces, generator_number, LeavesInRange};
+ghost use Rattle.edge_group.specs.Fields.{letters_of};
 
 use gluing_table::Face;
-use group_definitions::Letter;
 use no_memory::NoMemory;
+use presentation_definitions::Letter;
 use skeleton::{Corner, Skeleton};
 use std::alloc::{AllocError, Global};
 

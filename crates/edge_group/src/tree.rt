@@ -3,7 +3,7 @@
 ghost use Rattle.std.specs.Prelude.{◌<◌, ◌↔◌, length, IsTrue, IfOk};
 ghost use Rattle.table_definitions.specs.Table.{IsTable};
 ghost use Rattle.table_definitions.specs.Places.{IsConnected};
-ghost use Rattle.group_definitions.specs.Groups.{IsTree, IsTreeFaceAt};
+ghost use Rattle.presentation_definitions.specs.Groups.{IsTree, IsTreeFaceAt};
 ghost use Rattle.edge_group.specs.Searches.{AreDistances};
 ghost use Rattle.edge_group.specs.Behind.{IsOneLess, IsCloserFace, IsLeastOf};
 ghost use Rattle.edge_group.specs.Turns.{IsTreeWith};

@@ -5,9 +5,9 @@ ghost use Rattle.std.specs.List.{AllZip};
 ghost use Rattle.table_definitions.specs.Table as gluings;
 ghost use Rattle.table_definitions.specs.Table.{IsTable};
 ghost use Rattle.skeleton_definitions.specs.Skeleton.{IsSkeleton};
-ghost use Rattle.group_definitions.specs.Trees.{is_even_gluing};
-ghost use Rattle.group_definitions.specs.Presentations.{AreGenerators, IsTurning, IsTurningFace};
-ghost use Rattle.group_laws.specs.Classes.{AreLeastFaces};
+ghost use Rattle.presentation_definitions.specs.Trees.{is_even_gluing};
+ghost use Rattle.presentation_definitions.specs.Presentations.{AreGenerators, IsTurning, IsTurningFace};
+ghost use Rattle.presentation_laws.specs.Classes.{AreLeastFaces};
 ghost use Rattle.edge_group.specs.Turns.{IsPathOdd, IsTreeWith};
 
 use crate::faces::face_of;

@@ -21,5 +21,5 @@ pub fn list_outcome(alloc: Global, name: &[u8], list: &[Ray]) -> Result<Outcome,
     append_decimal(alloc, &mut text, list.len() as u128)?;
     append(&mut text, b"\n")?;
     write_list(alloc, list, &mut text)?;
-    Ok(Outcome::built(Status::Done, text))
+    Ok(Outcome::with_text(Status::Done, text))
 }

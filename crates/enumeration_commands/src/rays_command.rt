@@ -2,7 +2,7 @@
 ghost use Rattle.std.specs.Prelude.{◌≢◌, ◌≤◌, length, codes, IfOk};
 ghost use Rattle.text_definitions.specs.Text.{max_text};
 ghost use Rattle.cone_definitions.specs.Listings.{without_pairs};
-ghost use Rattle.document_definitions.specs.Documents.{worded, cone_document};
+ghost use Rattle.text_document_definitions.specs.Documents.{worded, cone_document};
 ghost use Rattle.outcome_definitions.specs.Outcomes.{IsReadOutcome};
 ghost use Rattle.outcome_definitions.specs.Enumerations.{IsEnumerationAnswer, ray_enumeration};
 ghost use Rattle.enumeration_commands.specs.Cones.{GivesConeDocument};
@@ -19,7 +19,7 @@ use surface_answers::large_outcome;
 use text_io::Lexer;
 
 // The document of a cone.
-#[tactic(auto, unfolding(document_definitions::specs::Documents::cone_document))]
+#[tactic(auto, unfolding(text_document_definitions::specs::Documents::cone_document))]
 fn read_cone_document(alloc: Global, bytes: &[u8]) -> Result<System, ConeFault>
     requires { length bytes.now ≤ max_text }
     ensures { GivesConeDocument result (cone_document bytes.now) }

@@ -2,11 +2,11 @@
 ghost use Rattle.std.specs.Prelude.{◌≡◌, ◌≤◌, ◌++◌, length, map, IfOk, OnOk};
 ghost use Rattle.text_definitions.specs.Text.{max_text};
 ghost use Rattle.surface_definitions.specs.Coordinates as coordinates;
-ghost use Rattle.document_definitions.specs.Documents.{vectors_document, verdicts_text};
+ghost use Rattle.text_document_definitions.specs.Documents.{vectors_document, verdicts_text};
 ghost use Rattle.command_answers.specs.Reads.{all_entries};
 ghost use Rattle.surface_definitions.specs.Verdict.{verdict_text};
 ghost use Rattle.outcome_definitions.specs.Outcomes.{IsReadOutcome};
-ghost use Rattle.vector_definitions.specs.Answers.{verdict_in};
+ghost use Rattle.surface_vector_definitions.specs.Answers.{verdict_in};
 ghost use Rattle.outcome_definitions.specs.Answers.{IsVerdictsAnswer};
 
 use command_answers::{Outcome, append_checked, fault_outcome, read_table_and_vectors};
@@ -63,7 +63,7 @@ fn answer(
 {
     let system = equations_of_table(alloc, table, coords)?;
     let text = verdicts(alloc, coords, table, &system, vectors)?;
-    Ok(Outcome::built(Status::Done, text))
+    Ok(Outcome::with_text(Status::Done, text))
 }
 
 /// The outcome of `verify` on an input that isn't too long.

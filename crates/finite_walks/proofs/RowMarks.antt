@@ -2,12 +2,12 @@
 use Rattle.std.proofs.Common.{◌≡◌, ℕ, ◌+◌, ◌<◌, ◌≤◌, List, [], ◌∷◌, ◌++◌, length, take, drop, Bool, true, false, set, Contains, Option, Some, None, refl, sym, ap, ap₂, subst, subst₂, ◌∙◌, arith}
 use Rattle.std.specs.List.{slice_index_or}
 use Rattle.std.proofs.lemmas.List.{length-set, length_push, drop-append-le, get_or_default}
-use Rattle.walk_laws.specs.Joined.{HasNeighboursBelow, present, neighbours_of}
-use Rattle.walk_laws.specs.Search.{IsMarked, IsSearch, IsTurn, AreMembers, work_left}
+use Rattle.table_walk_laws.specs.Joined.{HasNeighboursBelow, present, neighbours_of}
+use Rattle.table_walk_laws.specs.Search.{IsMarked, IsSearch, IsTurn, AreMembers, work_left}
 use Rattle.finite_walks.specs.Rows.{IsRowMarked}
-use Rattle.walk_laws.proofs.Rows.{entry_marks, entry_passes, entry_skips}
-use Rattle.walk_laws.proofs.SearchLemmas.{turn_ends, has_few_turns}
-use Rattle.walk_laws.proofs.Members.{members_grow}
+use Rattle.table_walk_laws.proofs.Rows.{entry_marks, entry_passes, entry_skips}
+use Rattle.table_walk_laws.proofs.SearchLemmas.{turn_ends, has_few_turns}
+use Rattle.table_walk_laws.proofs.Members.{members_grow}
 
 pub none_done : (row : List ℕ) (marked : List Bool) (pending : List ℕ) → IsRowMarked row [] marked marked pending pending
 none_done row marked pending = record { size = refl; behind = omega arith; turn = λ neighbours first x k same l t. t; members = λ old m. m; work = λ k l. refl }

@@ -1,6 +1,6 @@
 -- The marks of a row of neighbours, in the turn of a search.
 use Rattle.std.specs.Prelude.{◌≡◌, ℕ, ◌≤◌, List, [], length, drop, Bool}
-use Rattle.walk_laws.specs.Search.{IsTurn, AreMembers, work_left}
+use Rattle.table_walk_laws.specs.Search.{IsTurn, AreMembers, work_left}
 
 -- those of the numbers of a row that are done are marked, and what was not marked is pending behind the others: turns go on, members are kept, and the work is the same
 pub record IsRowMarked (row done : List ℕ) (before after : List Bool) (pending longer : List ℕ) : Type 0 where

@@ -122,7 +122,7 @@ fn back_to_fresh(fresh: &[(u32, Row)], target: Face) -> Option<Glue>
 }
 
 /// What `face` of the new table is glued to, where its row was kept and had the number `tet`.
-fn kept_glue(
+fn retained_glue(
     rows: &[Row],
     removed: &[u32],
     fresh: &[(u32, Row)],
@@ -151,7 +151,7 @@ fn kept_glue(
 }
 
 /// The row `number` of the new table, where it was kept and had the number `tet`.
-fn kept_row(rows: &[Row], removed: &[u32], fresh: &[(u32, Row)], tet: u32, number: u32) -> Row
+fn retained_row(rows: &[Row], removed: &[u32], fresh: &[(u32, Row)], tet: u32, number: u32) -> Row
     requires table { IsTable rows.now }
     requires can { CanReplace rows.now (record { removed = removed.now; fresh = fresh.now }) }
     requires in_range { tet < length rows.now }
@@ -159,10 +159,10 @@ fn kept_row(rows: &[Row], removed: &[u32], fresh: &[(u32, Row)], tet: u32, numbe
 {
     let face = |face| Face { tet: number, face };
     [
-        kept_glue(rows, removed, fresh, tet, face(0)),
-        kept_glue(rows, removed, fresh, tet, face(1)),
-        kept_glue(rows, removed, fresh, tet, face(2)),
-        kept_glue(rows, removed, fresh, tet, face(3)),
+        retained_glue(rows, removed, fresh, tet, face(0)),
+        retained_glue(rows, removed, fresh, tet, face(1)),
+        retained_glue(rows, removed, fresh, tet, face(2)),
+        retained_glue(rows, removed, fresh, tet, face(3)),
     ]
 }
 
@@ -177,7 +177,7 @@ fn new_row(rows: &[Row], removed: &[u32], fresh: &[(u32, Row)], number: u32) -> 
         return row;
     }
     let tet = opened_number(removed, closed_row(fresh, number));
-    kept_row(rows, removed, fresh, tet, number)
+    retained_row(rows, removed, fresh, tet, number)
 }
 
 /// Writes the rows of the new table where none are yet and there is room for all.

@@ -4,7 +4,7 @@ use Rattle.std.proofs.lemmas.Bool.{cases_Bool, cases_lt}
 use Rattle.std.proofs.lemmas.List.Elements.{All-more, All-weaker}
 use Rattle.cone_definitions.specs.Rows.{Row}
 use Rattle.cone_definitions.specs.Vectors.{unit}
-use Rattle.ray_steps.specs.Kepts.{rays_of}
+use Rattle.ray_steps.specs.Rays.{rays_of}
 use Rattle.cone_definitions.specs.Unordered.{HasSurfaces}
 use Rattle.late_columns.specs.declared.entering.LateRays.{LateRays}
 use Rattle.late_columns.specs.Late.{IsUnseen, held_rows, AreSeen, HaveEntered}
@@ -14,13 +14,13 @@ use Rattle.late_columns.proofs.UnitRays.{entered_surfaces}
 
 -- one column enters
 pub entered_one : (columns : ℕ) (old new : LateRays) (column : ℕ) → IsUnseen old.seen.items column → new.seen.items ≡ set old.seen.items column true →
-    rays_of new.kepts.items ≡ rays_of old.kepts.items ++ unit columns column ∷ [] → HaveEntered columns old new
+    rays_of new.ray_list.items ≡ rays_of old.ray_list.items ++ unit columns column ∷ [] → HaveEntered columns old new
 entered_one columns old new column unseen seen_is rays_is = record {
   late = λ rows pairs apart h. record {
     count = ap length seen_is ∙ length-set old.seen.items column true ∙ h.count;
     untouched = λ j still. h.untouched j (before j still);
     surfaces = subst₂ (λ seen rays. HasSurfaces columns (rows ++ held_rows 0 seen) pairs rays) (sym seen_is) (sym rays_is)
-        (entered_surfaces columns rows pairs old.seen.items (rays_of old.kepts.items) column unseen apart (h.untouched column unseen) h.surfaces);
+        (entered_surfaces columns rows pairs old.seen.items (rays_of old.ray_list.items) column unseen apart (h.untouched column unseen) h.surfaces);
   };
   unseen = before;
 }

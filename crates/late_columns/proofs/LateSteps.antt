@@ -8,19 +8,19 @@ use Rattle.cone_definitions.specs.Rows.{Row, plus_part, minus_part, IsZeroAt, Is
 use Rattle.cone_definitions.specs.Surfaces.{Clash, PairsAreApart, IsVertexSurface}
 use Rattle.cone_definitions.proofs.Rays.{IsSolution-front, IsSolution-last, IsSolution-push}
 use Rattle.cone_definitions.proofs.Unions.{third_ray}
-use Rattle.row_operation_laws.specs.Solutions.{HaveSameSolutions}
-use Rattle.row_operation_laws.proofs.Kept.{same_surfaces}
-use Rattle.row_operation_laws.proofs.Sums.{turned_zero}
+use Rattle.cone_row_laws.specs.Solutions.{HaveSameSolutions}
+use Rattle.cone_row_laws.proofs.Agreement.{same_surfaces}
+use Rattle.cone_row_laws.proofs.Sums.{turned_zero}
 use Rattle.cone_laws.specs.Laws.{HasNoThird}
 use Rattle.cone_laws.proofs.Bound.{union_bound}
 use Rattle.ray_steps.specs.Clashes.{AreClashes}
-use Rattle.ray_steps.specs.Kepts.{rays_of, AreOfWidth}
+use Rattle.ray_steps.specs.Rays.{rays_of, AreOfWidth}
 use Rattle.ray_steps.specs.Next.{step_of}
 use Rattle.ray_steps.specs.Unions.{HaveSmallUnions}
 use Rattle.cone_definitions.specs.Unordered.{HasSurfaces}
-use Rattle.ray_steps.proofs.KeptLemmas.{length-rays_of, ray_at-rays_of}
+use Rattle.ray_steps.proofs.RayLemmas.{length-rays_of, ray_at-rays_of}
 use Rattle.cone_definitions.proofs.Unordered.{place_of}
-use Rattle.solved_laws.specs.Fresh.{IsUntouched}
+use Rattle.cone_solved_laws.specs.Fresh.{IsUntouched}
 use Rattle.late_columns.specs.declared.entering.LateRays.{LateRays}
 use Rattle.late_columns.specs.declared.fresh.Fresh.{Fresh}
 use Rattle.late_columns.specs.Late.{IsUnseen, held_rows, AreLate, AreSeen}
@@ -57,9 +57,9 @@ module _ (columns : ℕ) (rows : List Row) (pairs : List Clash) (seen : List Boo
           ]
 
 pub few_unions : (columns most : ℕ) (rows : List Row) (pairs : List Clash) (late : LateRays) → length rows + 2 ≤ most → AreLate columns rows pairs late →
-    HaveSmallUnions columns most pairs (rays_of late.kepts.items)
+    HaveSmallUnions columns most pairs (rays_of late.ray_list.items)
 few_unions columns most rows pairs late few h i j i_in j_in face =
-    let small = small_unions columns rows pairs late.seen.items (rays_of late.kepts.items) h.surfaces i j i_in j_in face in omega (arith, small, few)
+    let small = small_unions columns rows pairs late.seen.items (rays_of late.ray_list.items) h.surfaces i j i_in j_in face in omega (arith, small, few)
 
 -- the clashing columns differ
 pub pairs_apart : (columns : ℕ) (pairs : List Clash) → AreClashes columns pairs → PairsAreApart pairs
@@ -67,20 +67,20 @@ pairs_apart columns pairs h = All-weaker (λ (pair : Clash). (pair.0 < columns) 
 
 -- ---- widths
 
-pub late_widths : (columns : ℕ) (rows : List Row) (pairs : List Clash) (late : LateRays) → AreLate columns rows pairs late → AreOfWidth columns late.kepts.items
+pub late_widths : (columns : ℕ) (rows : List Row) (pairs : List Clash) (late : LateRays) → AreLate columns rows pairs late → AreOfWidth columns late.ray_list.items
 late_widths columns rows pairs late h k d within =
-    let n = length-rays_of late.kepts.items in
+    let n = length-rays_of late.ray_list.items in
     let surface = h.surfaces.vertex_surfaces k [] (omega (arith, n, within)) in
-    sym (ap length (ray_at-rays_of late.kepts.items k d within)) ∙ surface.extreme.solution.width
+    sym (ap length (ray_at-rays_of late.ray_list.items k d within)) ∙ surface.extreme.solution.width
 
 pub have_room : (columns : ℕ) (rows : List Row) (pairs : List Clash) (late : LateRays) (column : ℕ) → AreLate columns rows pairs late → IsUnseen late.seen.items column →
-    All (HasRoom column) late.kepts.items
+    All (HasRoom column) late.ray_list.items
 have_room columns rows pairs late column h unseen k d within =
-    let n = length-rays_of late.kepts.items in
-    let in_rays : k < length (rays_of late.kepts.items) = omega (arith, n, within) in record {
+    let n = length-rays_of late.ray_list.items in
+    let in_rays : k < length (rays_of late.ray_list.items) = omega (arith, n, within) in record {
       in_range = let w = late_widths columns rows pairs late h k d within in let l = (h.untouched column unseen).in_range in omega (arith, w, l);
-      gone = subst (λ x. slice_index x column ≡ 0) (ray_at-rays_of late.kepts.items k d within)
-          (gone columns rows pairs late.seen.items (rays_of late.kepts.items) h.surfaces k in_rays column unseen);
+      gone = subst (λ x. slice_index x column ≡ 0) (ray_at-rays_of late.ray_list.items k d within)
+          (gone columns rows pairs late.seen.items (rays_of late.ray_list.items) h.surfaces k in_rays column unseen);
     }
 
 -- ---- the row behind the rows that hold columns, and before them
@@ -108,7 +108,7 @@ untouched_more columns rows row column h differs = let parts = parts_without col
 
 -- all columns of the row are seen
 pub late_eliminated : (columns : ℕ) (rows : List Row) (pairs : List Clash) (row : Row) (late next : LateRays) → AreSeen late.seen.items row → next.seen.items ≡ late.seen.items →
-    ((before : List Row) → HasSurfaces columns before pairs (rays_of late.kepts.items) → HasSurfaces columns (before ++ row ∷ []) pairs (rays_of next.kepts.items)) →
+    ((before : List Row) → HasSurfaces columns before pairs (rays_of late.ray_list.items) → HasSurfaces columns (before ++ row ∷ []) pairs (rays_of next.ray_list.items)) →
     AreLate columns rows pairs late → AreLate columns (rows ++ row ∷ []) pairs next
 late_eliminated columns rows pairs row late next seen same step h = record {
   count = ap length same ∙ h.count;
@@ -116,8 +116,8 @@ late_eliminated columns rows pairs row late next seen same step h = record {
       let still = subst (λ s. IsUnseen s column) same unseen in
       untouched_more columns rows row column (h.untouched column still)
       (λ k d within e. true≢false (sym (seen k d within) ∙ ap (λ j. slice_index_or late.seen.items j true) e ∙ still));
-  surfaces = subst (λ s. HasSurfaces columns ((rows ++ row ∷ []) ++ held_rows 0 s) pairs (rays_of next.kepts.items)) (sym same)
-      (same_surfaces columns ((rows ++ held_rows 0 late.seen.items) ++ row ∷ []) ((rows ++ row ∷ []) ++ held_rows 0 late.seen.items) pairs (rays_of next.kepts.items)
+  surfaces = subst (λ s. HasSurfaces columns ((rows ++ row ∷ []) ++ held_rows 0 s) pairs (rays_of next.ray_list.items)) (sym same)
+      (same_surfaces columns ((rows ++ held_rows 0 late.seen.items) ++ row ∷ []) ((rows ++ row ∷ []) ++ held_rows 0 late.seen.items) pairs (rays_of next.ray_list.items)
       (same_zeros columns rows row row late.seen.items (λ x. (λ z. z, λ z. z))) (step (rows ++ held_rows 0 late.seen.items) h.surfaces));
 }
 
@@ -128,18 +128,18 @@ oriented_zero false row x = (λ z. z, λ z. z)
 -- the row has a fresh column
 pub late_extended : (limit columns : ℕ) (rows : List Row) (pairs : List Clash) (row : Row) (fresh : Fresh) (late next : LateRays) → IsFreshColumn columns row pairs late.seen.items fresh →
     next.seen.items ≡ set late.seen.items fresh.column true →
-    AreRaised limit pairs (oriented fresh.is_turned row) fresh.column (rays_of late.kepts.items) (rays_of next.kepts.items) → AreLate columns rows pairs late → AreLate columns (rows ++ row ∷ []) pairs next
+    AreRaised limit pairs (oriented fresh.is_turned row) fresh.column (rays_of late.ray_list.items) (rays_of next.ray_list.items) → AreLate columns rows pairs late → AreLate columns (rows ++ row ∷ []) pairs next
 late_extended limit columns rows pairs row fresh late next f same raised h = record {
   count = ap length same ∙ length-set late.seen.items fresh.column true ∙ h.count;
   untouched = λ column unseen.
       let u = unseen_after late.seen.items fresh.column column f.unseen (subst (λ s. IsUnseen s column) same unseen) in
       untouched_more columns rows row column (h.untouched column u.0)
       (λ k d within e. u.1 (sym e ∙ f.lone k d within (subst (IsUnseen late.seen.items) (sym e) u.0)));
-  surfaces = subst (λ s. HasSurfaces columns ((rows ++ row ∷ []) ++ held_rows 0 s) pairs (rays_of next.kepts.items)) (sym same)
+  surfaces = subst (λ s. HasSurfaces columns ((rows ++ row ∷ []) ++ held_rows 0 s) pairs (rays_of next.ray_list.items)) (sym same)
       (same_surfaces columns ((rows ++ held_rows 0 (set late.seen.items fresh.column true)) ++ oriented fresh.is_turned row ∷ [])
-      ((rows ++ row ∷ []) ++ held_rows 0 (set late.seen.items fresh.column true)) pairs (rays_of next.kepts.items)
+      ((rows ++ row ∷ []) ++ held_rows 0 (set late.seen.items fresh.column true)) pairs (rays_of next.ray_list.items)
       (same_zeros columns rows row (oriented fresh.is_turned row) (set late.seen.items fresh.column true) (oriented_zero fresh.is_turned row))
-      (raised_surfaces limit columns rows pairs (oriented fresh.is_turned row) late.seen.items (rays_of late.kepts.items) (rays_of next.kepts.items) raised.signs fresh.column f.unseen
+      (raised_surfaces limit columns rows pairs (oriented fresh.is_turned row) late.seen.items (rays_of late.ray_list.items) (rays_of next.ray_list.items) raised.signs fresh.column f.unseen
       (h.untouched fresh.column f.unseen) f.one.0 f.one.1 f.free h.surfaces raised.signed raised.raised));
 }
 
@@ -153,8 +153,8 @@ late_taken columns rows pairs number row late less is h =
 
 -- with all columns seen
 pub all_seen : (columns : ℕ) (rows : List Row) (pairs : List Clash) (late : LateRays) → ((column : ℕ) → slice_index_or late.seen.items column true ≡ true) → AreLate columns rows pairs late →
-    HasSurfaces columns rows pairs (rays_of late.kepts.items)
-all_seen columns rows pairs late seen h = same_surfaces columns (rows ++ held_rows 0 late.seen.items) rows pairs (rays_of late.kepts.items)
+    HasSurfaces columns rows pairs (rays_of late.ray_list.items)
+all_seen columns rows pairs late seen h = same_surfaces columns (rows ++ held_rows 0 late.seen.items) rows pairs (rays_of late.ray_list.items)
     (λ x. (
       λ s. ((held_solution columns rows late.seen.items x).0 s).0,
       λ s. (held_solution columns rows late.seen.items x).1 (s, λ j unseen. absurd (true≢false (sym (seen j) ∙ unseen))),

@@ -3,12 +3,12 @@ use Rattle.std.proofs.Common.{◌≡◌, ℕ, ◌<◌, List, length, get_or, sli
 use Rattle.std.specs.List.{All}
 use Rattle.cone_definitions.specs.Rows.{Row}
 use Rattle.cone_definitions.specs.Vectors.{ray_at}
-use Rattle.row_operation_laws.specs.Operations.{turned}
-use Rattle.ray_steps.specs.declared.kept.Kept.{Kept}
+use Rattle.cone_row_laws.specs.Operations.{turned}
+use Rattle.ray_steps.specs.declared.rays.RayWithSupport.{RayWithSupport}
 use Rattle.ray_steps.specs.Clashes.{ClashData}
-use Rattle.ray_steps.specs.Kepts.{rays_of}
+use Rattle.ray_steps.specs.Rays.{rays_of}
 use Rattle.ray_steps.specs.Steps.{StepData, IsStepOf, turned_step}
-use Rattle.ray_steps.proofs.KeptLemmas.{length-rays_of, ray_at-rays_of}
+use Rattle.ray_steps.proofs.RayLemmas.{length-rays_of, ray_at-rays_of}
 use Rattle.ray_steps.proofs.TurnedLemmas.{signs-turned}
 use Rattle.late_columns.specs.Raised.{HasRoom}
 
@@ -23,10 +23,10 @@ turned_step_of limit clashes row rays step after h is = subst (IsStepOf limit cl
 })
 
 -- the same rays leave the same room
-pub room_of_rays : (column : ℕ) (kepts others : List Kept) → rays_of kepts ≡ rays_of others → All (HasRoom column) others → All (HasRoom column) kepts
-room_of_rays column kepts others same h k d less =
-    let within : k < length others = subst (λ n. k < n) (sym (length-rays_of kepts) ∙ ap length same ∙ length-rays_of others) less in
-    let is : (get_or kepts k d).ray ≡ (get_or others k d).ray = sym (ray_at-rays_of kepts k d less) ∙ ap (λ rays. ray_at rays k) same ∙ ray_at-rays_of others k d within in
+pub room_of_rays : (column : ℕ) (ray_list others : List RayWithSupport) → rays_of ray_list ≡ rays_of others → All (HasRoom column) others → All (HasRoom column) ray_list
+room_of_rays column ray_list others same h k d less =
+    let within : k < length others = subst (λ n. k < n) (sym (length-rays_of ray_list) ∙ ap length same ∙ length-rays_of others) less in
+    let is : (get_or ray_list k d).ray ≡ (get_or others k d).ray = sym (ray_at-rays_of ray_list k d less) ∙ ap (λ rays. ray_at rays k) same ∙ ray_at-rays_of others k d within in
     let room = h k d within in
     record {
       in_range = subst (λ x. column < length x) (sym is) room.in_range;

@@ -4,12 +4,12 @@ use Rattle.std.proofs.lemmas.List.{take-append-drop, drop_more}
 use Rattle.cone_core.specs.declared.numbers.TheConstants.{MAX_ENTRY}
 use Rattle.cone_definitions.specs.Rows.{Row}
 use Rattle.cone_definitions.specs.Elimination.{Named}
-use Rattle.row_operation_laws.specs.Operations.{turned}
+use Rattle.cone_row_laws.specs.Operations.{turned}
 use Rattle.ray_steps.specs.Clashes.{ClashData}
 use Rattle.ray_steps.specs.Faults.{IfLarge}
 use Rattle.ray_steps.specs.Steps.{StepData, IsStepOf, IsFirstLargeEitherWay, turned_step}
-use Rattle.ray_steps.specs.declared.kept.StepFault.{StepFault}
-use Rattle.ray_steps.specs.declared.kept.StepFault.TheVariants.{Large, NoMemory}
+use Rattle.ray_steps.specs.declared.rays.StepFault.{StepFault}
+use Rattle.ray_steps.specs.declared.rays.StepFault.TheVariants.{Large, NoMemory}
 use Rattle.late_columns.specs.Fresh.{oriented}
 use Rattle.late_columns.specs.Passing.{PassesAtPair, PassesBehind, HasPassedStep}
 use Rattle.late_columns.proofs.Oriented.{turned_step_of}

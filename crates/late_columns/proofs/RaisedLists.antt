@@ -9,16 +9,16 @@ use Rattle.cone_definitions.specs.Enumeration.{ComesFromPair}
 use Rattle.cone_definitions.proofs.Entries.{same_vectors}
 use Rattle.cone_definitions.proofs.Surfaces.{step_gives_next_lem, none_is_kept_and_made}
 use Rattle.cone_definitions.proofs.Rays.{IsSolution-front}
-use Rattle.ray_steps.specs.declared.kept.Kept.{Kept}
+use Rattle.ray_steps.specs.declared.rays.RayWithSupport.{RayWithSupport}
 use Rattle.ray_steps.specs.declared.signs.Sign.{Sign}
 use Rattle.ray_steps.specs.declared.signs.Sign.TheVariants.{Zero, Positive, Negative}
-use Rattle.ray_steps.specs.Kepts.{rays_of}
+use Rattle.ray_steps.specs.Rays.{rays_of}
 use Rattle.ray_steps.specs.Next.{step_of}
 use Rattle.ray_steps.specs.Signs.{IsBoundedSign, ComesFromPlaces, IsMadeUpTo}
-use Rattle.ray_steps.proofs.KeptLemmas.{rays_of-push}
+use Rattle.ray_steps.proofs.RayLemmas.{rays_of-push}
 use Rattle.cone_definitions.proofs.Unordered.{place_is_one}
-use Rattle.ray_steps.proofs.MadeLemmas.{sign_read, comes_read}
-use Rattle.solved_laws.proofs.Fresh.{set_zero}
+use Rattle.ray_steps.proofs.CombinationLemmas.{sign_read, comes_read}
+use Rattle.cone_solved_laws.proofs.Fresh.{set_zero}
 use Rattle.late_columns.specs.Raised.{IsLeft, HasRoom, AppendsRaised, ComesFromRaised, IsFreshStepAt, IsRaisedFrom}
 
 -- vectors without a column are the same where they are with it set
@@ -118,7 +118,7 @@ module _ (limit : ℕ) (pairs : List Clash) (rays : List (List ℕ)) (signs : Li
   }
 
   -- a ray by its sign
-  pub raised_one : (m : ℕ) (sign : Sign) (kept : Kept) (old new : List Kept) → m < length rays → slice_index_or signs m Zero ≡ sign → kept.ray ≡ ray_at rays m → HasRoom column kept →
+  pub raised_one : (m : ℕ) (sign : Sign) (kept : RayWithSupport) (old new : List RayWithSupport) → m < length rays → slice_index_or signs m Zero ≡ sign → kept.ray ≡ ray_at rays m → HasRoom column kept →
       IsBoundedSign limit sign → AppendsRaised column sign kept old new → IsRaisedFrom limit pairs rays signs column (m + 1) (rays_of old) → IsRaisedFrom limit pairs rays signs column m (rays_of new)
   raised_one m Zero kept old new within sign is room bounded appends h =
       subst (IsRaisedFrom limit pairs rays signs column m) (sym (ap rays_of appends ∙ rays_of-push old kept))

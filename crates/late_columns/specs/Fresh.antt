@@ -4,7 +4,7 @@ use Rattle.std.specs.List.{All}
 use Rattle.cone_definitions.specs.Rows.{Row, plus_part, minus_part}
 use Rattle.cone_definitions.specs.Surfaces.{Clash}
 use Rattle.cone_definitions.specs.Vectors.{unit}
-use Rattle.row_operation_laws.specs.Operations.{turned}
+use Rattle.cone_row_laws.specs.Operations.{turned}
 use Rattle.late_columns.specs.Late.{IsUnseen}
 use Rattle.late_columns.specs.declared.fresh.Fresh.{Fresh}
 

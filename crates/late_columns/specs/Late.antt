@@ -3,9 +3,9 @@ use Rattle.std.specs.Prelude.{◌≡◌, ℕ, ◌+◌, ◌≤◌, ◌++◌, List
 use Rattle.std.specs.List.{All}
 use Rattle.cone_definitions.specs.Rows.{Row}
 use Rattle.cone_definitions.specs.Surfaces.{Clash, PairsAreApart}
-use Rattle.ray_steps.specs.Kepts.{rays_of}
+use Rattle.ray_steps.specs.Rays.{rays_of}
 use Rattle.cone_definitions.specs.Unordered.{HasSurfaces}
-use Rattle.solved_laws.specs.Fresh.{IsUntouched}
+use Rattle.cone_solved_laws.specs.Fresh.{IsUntouched}
 use Rattle.late_columns.specs.declared.entering.LateRays.{LateRays}
 
 -- the column isn't seen; a column past the end isn't among those
@@ -22,7 +22,7 @@ held_rows column (false ∷ seen) = ((column, pos 1) ∷ []) ∷ held_rows (colu
 pub record AreLate (columns : ℕ) (rows : List Row) (pairs : List Clash) (late : LateRays) : Type 0 where
   pub count : length late.seen.items ≡ columns
   pub untouched : (column : ℕ) → IsUnseen late.seen.items column → IsUntouched columns rows column
-  pub surfaces : HasSurfaces columns (rows ++ held_rows 0 late.seen.items) pairs (rays_of late.kepts.items)
+  pub surfaces : HasSurfaces columns (rows ++ held_rows 0 late.seen.items) pairs (rays_of late.ray_list.items)
 
 -- such rays of rows of which there are so few that the union of a pair has at most so many columns, where no column clashes with itself
 pub record AreLateOfFew (columns most : ℕ) (pairs : List Clash) (late : LateRays) : Type 0 where

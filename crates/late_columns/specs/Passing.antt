@@ -5,7 +5,7 @@ use Rattle.cone_definitions.specs.Rows.{Row}
 use Rattle.cone_definitions.specs.Elimination.{Named}
 use Rattle.ray_steps.specs.Clashes.{ClashData}
 use Rattle.ray_steps.specs.Faults.{IsFirstLargeValue}
-use Rattle.ray_steps.specs.Kepts.{rays_of}
+use Rattle.ray_steps.specs.Rays.{rays_of}
 use Rattle.ray_steps.specs.Steps.{StepData, IsStepOf, IsFirstLargeOf}
 use Rattle.late_columns.specs.declared.entering.LateRays.{LateRays}
 use Rattle.late_columns.specs.Late.{AreLate}
@@ -26,7 +26,7 @@ PassesAt clashes row rays named = IsFirstLargeValue MAX_ENTRY row rays named ⊎
 pub record PassesBehind (clashes : ClashData) (before : List Row) (row : Row) (named : Named) : Type 0 where
   pub late : LateRays
   pub are_late : AreLate clashes.columns before clashes.pairs late
-  pub passes : PassesAt clashes row (rays_of late.kepts.items) named
+  pub passes : PassesAt clashes row (rays_of late.ray_list.items) named
 
 -- so it is behind any rows that these are late rays of
 abbrev pub PassesNext : ClashData → Row → LateRays → Named → Type 0

@@ -4,7 +4,7 @@ use Rattle.std.specs.List.{All, AllPairs}
 use Rattle.cone_definitions.specs.Vectors.{ray_at}
 use Rattle.cone_definitions.specs.Rows.{Row, IsSolution}
 use Rattle.cone_definitions.specs.Surfaces.{Clash}
-use Rattle.ray_steps.specs.declared.kept.Kept.{Kept}
+use Rattle.ray_steps.specs.declared.rays.RayWithSupport.{RayWithSupport}
 use Rattle.ray_steps.specs.declared.signs.Sign.{Sign}
 use Rattle.ray_steps.specs.declared.signs.Sign.TheVariants.{Zero, Positive, Negative}
 use Rattle.ray_steps.specs.Signs.{AreSigns, IsSignedPair, ComesFromPlaces, GivesFrom, IsStepAt}
@@ -16,15 +16,15 @@ IsLeft (Positive value) left = ⊥
 IsLeft (Negative value) left = left ≡ value
 
 -- the ray has the column, and is 0 there
-pub record HasRoom (column : ℕ) (kept : Kept) : Type 0 where
+pub record HasRoom (column : ℕ) (kept : RayWithSupport) : Type 0 where
   pub in_range : column < length kept.ray
   pub gone : slice_index kept.ray column ≡ 0
 
 -- the ray is appended with what is left for the column, or left out
-abbrev pub AppendsRaised : ℕ → Sign → Kept → List Kept → List Kept → Type 0
+abbrev pub AppendsRaised : ℕ → Sign → RayWithSupport → List RayWithSupport → List RayWithSupport → Type 0
 AppendsRaised column Zero kept old new = new ≡ old ++ kept ∷ []
 AppendsRaised column (Positive value) kept old new = new ≡ old
-AppendsRaised column (Negative value) kept old new = (raised : Kept) × (raised.ray ≡ slice_set kept.ray column value) × (new ≡ old ++ raised ∷ [])
+AppendsRaised column (Negative value) kept old new = (raised : RayWithSupport) × (raised.ray ≡ slice_set kept.ray column value) × (new ≡ old ++ raised ∷ [])
 
 -- x is a ray at a place from m on with what is left for the column
 pub record ComesFromRaised (rays : List (List ℕ)) (signs : List Sign) (column m : ℕ) (x : List ℕ) : Type 0 where

@@ -6,7 +6,7 @@ ghost use Rattle.cone_definitions.specs.Rows.{Row};
 ghost use Rattle.cone_definitions.specs.Surfaces.{Clash, IsSurfaceList};
 ghost use Rattle.cone_definitions.specs.Unordered.{HasSurfaces};
 ghost use Rattle.ray_steps.specs.Faults.{IfLarge};
-ghost use Rattle.ray_steps.specs.Kepts.{rays_of};
+ghost use Rattle.ray_steps.specs.Rays.{rays_of};
 ghost use Rattle.late_columns.specs.Late.{AreLateOfFew, AreNextLate};
 ghost use Rattle.late_columns.specs.Fresh.{IsFreeColumn};
 ghost use Rattle.late_columns.specs.Passing.{PassesNext, HasPassedStep};
@@ -17,11 +17,11 @@ use crate::fresh::{Fresh, free_column};
 use crate::raising::raised_rays;
 use cone_core::{Ray, SparseRow, System};
 use no_memory::NoMemory;
-use ray_steps::{Clashes, Compatible, Kept, StepFault, sort_rays, without_supports};
+use ray_steps::{Clashes, Compatible, RayWithSupport, StepFault, sort_rays, without_supports};
 use std::alloc::Global;
 
 /// One row more, all of whose columns enter before.
-fn eliminated<C: Compatible>(
+fn eliminate_row<C: Compatible>(
     alloc: Global,
     clashes: &Clashes<C>,
     row: &SparseRow,
@@ -34,13 +34,16 @@ fn eliminated<C: Compatible>(
     ensures err { IfErr result (IfLarge (PassesNext clashes.now row.now late)) }
 {
     enter_row(alloc, clashes.columns(), row, &mut late)?;
-    let LateRays { kepts, seen } = late;
-    let next = next_rays(alloc, clashes, row, kepts, most)?;
-    Ok(LateRays { kepts: next, seen })
+    let LateRays { ray_list, seen } = late;
+    let next = next_rays(alloc, clashes, row, ray_list, most)?;
+    Ok(LateRays {
+        ray_list: next,
+        seen,
+    })
 }
 
 /// One row more that has a fresh column once its other columns have entered.
-fn extended<C: Compatible>(
+fn eliminate_with_fresh<C: Compatible>(
     alloc: Global,
     clashes: &Clashes<C>,
     row: &SparseRow,
@@ -55,10 +58,13 @@ fn extended<C: Compatible>(
     ensures err { IfErr result (IfLarge (PassesNext clashes.now row.now late)) }
 {
     enter_others(alloc, clashes.columns(), row, fresh.column, &mut late)?;
-    let LateRays { kepts, mut seen } = late;
-    let next = raised_rays(alloc, clashes, row, fresh, kepts, most)?;
+    let LateRays { ray_list, mut seen } = late;
+    let next = raised_rays(alloc, clashes, row, fresh, ray_list, most)?;
     seen[fresh.column as usize] = true;
-    Ok(LateRays { kepts: next, seen })
+    Ok(LateRays {
+        ray_list: next,
+        seen,
+    })
 }
 
 /// One row more.
@@ -75,8 +81,8 @@ fn next_late<C: Compatible>(
     ensures err { IfErr result (IfLarge (PassesNext clashes.now row.now late)) }
 {
     match free_column(alloc, clashes.columns(), clashes.pairs(), row, &late.seen)? {
-        Some(fresh) => extended(alloc, clashes, row, fresh, late, most),
-        None => eliminated(alloc, clashes, row, late, most),
+        Some(fresh) => eliminate_with_fresh(alloc, clashes, row, fresh, late, most),
+        None => eliminate_row(alloc, clashes, row, late, most),
     }
 }
 
@@ -85,9 +91,9 @@ fn all_rows<C: Compatible>(
     alloc: Global,
     system: &System,
     clashes: &Clashes<C>,
-) -> Result<Vec<Kept>, StepFault>
+) -> Result<Vec<RayWithSupport>, StepFault>
     requires columns { clashes.now.columns ≡ system.now.columns }
-    ensures ok { IfOk result (λ kepts. HasSurfaces clashes.now.columns system.now.rows clashes.now.pairs (rays_of kepts.items)) }
+    ensures ok { IfOk result (λ ray_list. HasSurfaces clashes.now.columns system.now.rows clashes.now.pairs (rays_of ray_list.items)) }
     ensures err { IfErr result (IfLarge (λ _. HasPassedStep clashes.now system.now.rows)) }
 {
     let _pairs = clashes.pairs();
@@ -98,16 +104,16 @@ fn all_rows<C: Compatible>(
         late = next_late(alloc, clashes, system.row(number), late, most)?;
     }
     enter_all(alloc, clashes.columns(), &mut late)?;
-    let LateRays { kepts, seen: _ } = late;
-    Ok(kepts)
+    let LateRays { ray_list, seen: _ } = late;
+    Ok(ray_list)
 }
 
 /// The rays, ascending.
-fn ascending(alloc: Global, mut kepts: Vec<Kept>) -> Result<Vec<Ray>, NoMemory>
-    ensures { IfOk result (λ rays. (columns : ℕ) (rows : List Row) (pairs : List Clash) → HasSurfaces columns rows pairs (rays_of kepts.items) → IsSurfaceList columns rows pairs rays.items) }
+fn ascending(alloc: Global, mut ray_list: Vec<RayWithSupport>) -> Result<Vec<Ray>, NoMemory>
+    ensures { IfOk result (λ rays. (columns : ℕ) (rows : List Row) (pairs : List Clash) → HasSurfaces columns rows pairs (rays_of ray_list.items) → IsSurfaceList columns rows pairs rays.items) }
 {
-    sort_rays(&mut kepts)?;
-    let rays = without_supports(alloc, kepts)?;
+    sort_rays(&mut ray_list)?;
+    let rays = without_supports(alloc, ray_list)?;
     Ok(rays)
 }
 
@@ -123,8 +129,8 @@ pub fn vertex_surfaces<C: Compatible>(
     ensures none { IfOk result (λ answer. IfNone answer (HasPassedStep clashes.now system.now.rows)) }
 {
     match all_rows(alloc, system, clashes) {
-        Ok(kepts) => {
-            let rays = ascending(alloc, kepts)?;
+        Ok(ray_list) => {
+            let rays = ascending(alloc, ray_list)?;
             Ok(Some(rays))
         }
         Err(StepFault::Large(_)) => Ok(None),

@@ -8,13 +8,13 @@ ghost use Rattle.late_columns.specs.Fresh.{IsLone};
 
 use cone_core::SparseRow;
 use no_memory::NoMemory;
-use ray_steps::Kept;
+use ray_steps::RayWithSupport;
 use std::alloc::Global;
 
 /// The rays of the rows so far that have none of the columns not seen yet, and which columns were seen.
 #[derive(Drop)]
 pub struct LateRays {
-    pub kepts: Vec<Kept>,
+    pub ray_list: Vec<RayWithSupport>,
     pub seen: Vec<bool>,
 }
 
@@ -22,9 +22,9 @@ pub struct LateRays {
 pub fn none_seen(alloc: Global, columns: u32) -> Result<LateRays, NoMemory>
     ensures { IfOk result (λ late. (pairs : List Clash) → AreLate columns [] pairs late) }
 {
-    let kepts = Vec::new(alloc);
+    let ray_list = Vec::new(alloc);
     let seen = vec![in alloc; false; columns as usize]?;
-    Ok(LateRays { kepts, seen })
+    Ok(LateRays { ray_list, seen })
 }
 
 /// A column that isn't seen enters.
@@ -35,7 +35,8 @@ fn enter(alloc: Global, columns: u32, column: u32, late: &mut LateRays) -> Resul
     ensures entered { OnOk result (HaveEntered columns late.old late.new) }
     ensures seen { OnOk result (late.new.seen.items ≡ slice_set late.old.seen.items column true) }
 {
-    late.kepts.push(Kept::unit(alloc, columns, column)?)?;
+    late.ray_list
+        .push(RayWithSupport::unit(alloc, columns, column)?)?;
     late.seen[column as usize] = true;
     Ok(())
 }

@@ -5,7 +5,7 @@ ghost use Rattle.std.specs.List.{All};
 ghost use Rattle.cone_core.specs.Sparse.{IsInRange};
 ghost use Rattle.cone_definitions.specs.Surfaces.{Clash};
 ghost use Rattle.ray_steps.specs.Faults.{IfLarge, IsFirstLargeValue};
-ghost use Rattle.ray_steps.specs.Kepts.{rays_of};
+ghost use Rattle.ray_steps.specs.Rays.{rays_of};
 ghost use Rattle.ray_steps.specs.Signs.{IsBoundedSign, IsMadeUpTo};
 ghost use Rattle.ray_steps.specs.Steps.{AreStepRays, IsStepOf};
 ghost use Rattle.late_columns.specs.Fresh.{oriented};
@@ -15,7 +15,7 @@ ghost use Rattle.late_columns.specs.Raised.{HasRoom, AppendsRaised, IsRaisedFrom
 use crate::fresh::Fresh;
 use cone_core::{MAX_ENTRY, SparseRow};
 use no_memory::NoMemory;
-use ray_steps::{Clashes, Compatible, Kept, Sign, Step, StepFault};
+use ray_steps::{Clashes, Compatible, RayWithSupport, Sign, Step, StepFault};
 use std::alloc::Global;
 use support_bits::Support;
 
@@ -26,15 +26,15 @@ fn oriented_step<'a, C: Compatible>(
     clashes: &'a Clashes<C>,
     row: &SparseRow,
     is_turned: bool,
-    kepts: Vec<Kept>,
+    ray_list: Vec<RayWithSupport>,
     most: u64,
 ) -> Result<Step<'a, C>, StepFault>
-    requires rays { AreStepRays clashes.now.columns most clashes.now.pairs kepts.items }
+    requires rays { AreStepRays clashes.now.columns most clashes.now.pairs ray_list.items }
     requires in_range { IsInRange clashes.now.columns row.now }
-    ensures ok { IfOk result (IsStepOf MAX_ENTRY clashes.now (oriented is_turned row.now) (rays_of kepts.items)) }
-    ensures err { IfErr result (IfLarge (IsFirstLargeValue MAX_ENTRY row.now (rays_of kepts.items))) }
+    ensures ok { IfOk result (IsStepOf MAX_ENTRY clashes.now (oriented is_turned row.now) (rays_of ray_list.items)) }
+    ensures err { IfErr result (IfLarge (IsFirstLargeValue MAX_ENTRY row.now (rays_of ray_list.items))) }
 {
-    let step = Step::of(alloc, clashes, row, kepts, most, MAX_ENTRY)?;
+    let step = Step::of(alloc, clashes, row, ray_list, most, MAX_ENTRY)?;
     if !is_turned {
         return Ok(step);
     }
@@ -43,25 +43,30 @@ fn oriented_step<'a, C: Compatible>(
 }
 
 /// A ray with what is left for a column.
-fn raised(alloc: Global, kept: Kept, column: u32, left: u128) -> Result<Kept, NoMemory>
+fn raise_ray(
+    alloc: Global,
+    kept: RayWithSupport,
+    column: u32,
+    left: u128,
+) -> Result<RayWithSupport, NoMemory>
     requires room { HasRoom column kept }
     requires some { 1 ≤ left }
     requires most { left ≤ MAX_ENTRY }
     ensures { IfOk result (λ after. after.ray ≡ slice_set kept.ray column left) }
 {
-    let Kept { ray, mut support } = kept;
-    let ray = ray.raised(alloc, column, left)?;
+    let RayWithSupport { ray, mut support } = kept;
+    let ray = ray.with_new_entry(alloc, column, left)?;
     support.insert(column);
-    Ok(Kept { ray, support })
+    Ok(RayWithSupport { ray, support })
 }
 
 /// Appends a ray with what is left for a column, unless that is less than nothing.
 fn raise(
     alloc: Global,
-    kept: Kept,
+    kept: RayWithSupport,
     sign: Sign,
     column: u32,
-    next: &mut Vec<Kept>,
+    next: &mut Vec<RayWithSupport>,
 ) -> Result<(), NoMemory>
     requires room { HasRoom column kept }
     requires bounded { IsBoundedSign MAX_ENTRY sign }
@@ -74,7 +79,7 @@ fn raise(
         }
         Sign::Positive(_) => Ok(()),
         Sign::Negative(left) => {
-            let after = raised(alloc, kept, column, left)?;
+            let after = raise_ray(alloc, kept, column, left)?;
             next.push(after)?;
             Ok(())
         }
@@ -84,19 +89,19 @@ fn raise(
 /// Appends the rays with what is left for a column, but for those for which that is less than nothing.
 fn raise_all(
     alloc: Global,
-    mut kepts: Vec<Kept>,
+    mut ray_list: Vec<RayWithSupport>,
     signs: &[Sign],
     column: u32,
-    next: &mut Vec<Kept>,
+    next: &mut Vec<RayWithSupport>,
 ) -> Result<(), NoMemory>
-    requires count { length signs.now ≡ length kepts.items }
-    requires room { All (HasRoom column) kepts.items }
+    requires count { length signs.now ≡ length ray_list.items }
+    requires room { All (HasRoom column) ray_list.items }
     requires bounded { All (IsBoundedSign MAX_ENTRY) signs.now }
-    ensures { OnOk result ((pairs : List Clash) → IsMadeUpTo MAX_ENTRY pairs (rays_of kepts.items) signs.now (length kepts.items) 0 (rays_of next.old.items)
-        → IsRaisedFrom MAX_ENTRY pairs (rays_of kepts.items) signs.now column 0 (rays_of next.new.items)) }
+    ensures { OnOk result ((pairs : List Clash) → IsMadeUpTo MAX_ENTRY pairs (rays_of ray_list.items) signs.now (length ray_list.items) 0 (rays_of next.old.items)
+        → IsRaisedFrom MAX_ENTRY pairs (rays_of ray_list.items) signs.now column 0 (rays_of next.new.items)) }
 {
-    while let Some(kept) = kepts.pop() {
-        raise(alloc, kept, signs[kepts.len()], column, next)?;
+    while let Some(kept) = ray_list.pop() {
+        raise(alloc, kept, signs[ray_list.len()], column, next)?;
     }
     Ok(())
 }
@@ -108,19 +113,19 @@ pub fn raised_rays<C: Compatible>(
     clashes: &Clashes<C>,
     row: &SparseRow,
     fresh: Fresh,
-    kepts: Vec<Kept>,
+    ray_list: Vec<RayWithSupport>,
     most: u64,
-) -> Result<Vec<Kept>, StepFault>
-    requires rays { AreStepRays clashes.now.columns most clashes.now.pairs kepts.items }
+) -> Result<Vec<RayWithSupport>, StepFault>
+    requires rays { AreStepRays clashes.now.columns most clashes.now.pairs ray_list.items }
     requires in_range { IsInRange clashes.now.columns row.now }
     requires column { fresh.column < clashes.now.columns }
-    requires room { All (HasRoom fresh.column) kepts.items }
-    ensures ok { IfOk result (λ next. AreRaised MAX_ENTRY clashes.now.pairs (oriented fresh.is_turned row.now) fresh.column (rays_of kepts.items) (rays_of next.items)) }
-    ensures err { IfErr result (IfLarge (PassesAt clashes.now row.now (rays_of kepts.items))) }
+    requires room { All (HasRoom fresh.column) ray_list.items }
+    ensures ok { IfOk result (λ next. AreRaised MAX_ENTRY clashes.now.pairs (oriented fresh.is_turned row.now) fresh.column (rays_of ray_list.items) (rays_of next.items)) }
+    ensures err { IfErr result (IfLarge (PassesAt clashes.now row.now (rays_of ray_list.items))) }
 {
-    let step = oriented_step(alloc, clashes, row, fresh.is_turned, kepts, most)?;
-    let parts = step.combined_by_fewer(alloc)?;
+    let step = oriented_step(alloc, clashes, row, fresh.is_turned, ray_list, most)?;
+    let parts = step.combinations_by_fewer(alloc)?;
     let mut next = parts.made;
-    raise_all(alloc, parts.kepts, &parts.signs, fresh.column, &mut next)?;
+    raise_all(alloc, parts.ray_list, &parts.signs, fresh.column, &mut next)?;
     Ok(next)
 }

@@ -29,7 +29,7 @@ fn accept(alloc: Global, made: &Made) -> Result<(), NoMemory>
 }
 
 // What is told of a table that was made.
-fn summed_up(alloc: Global, numbers: Numbers, table: &Table) -> Result<Outcome, NoMemory>
+fn outcome_of_making(alloc: Global, numbers: Numbers, table: &Table) -> Result<Outcome, NoMemory>
     ensures { IfOk result (IsSummary numbers table.now) }
 {
     match surface_list::surfaces_of_table(alloc, table, Coords::Standard, Order::Given, MAX_ENTRY) {
@@ -52,5 +52,5 @@ pub fn bulk(alloc: Global, seed: u64, moves: u32) -> Result<Outcome, NoMemory>
         moves: made.certificate.len() as u32,
         tetrahedra: made.table.len(),
     };
-    summed_up(alloc, numbers, &made.table)
+    outcome_of_making(alloc, numbers, &made.table)
 }

@@ -28,5 +28,5 @@ pub fn make(alloc: Global, seed: u64, moves: u32) -> Result<Outcome, NoMemory>
 {
     let made = tri_build::make(alloc, seed, moves)?;
     let text = text_of(alloc, &made)?;
-    Ok(Outcome::built(Status::Done, text))
+    Ok(Outcome::with_text(Status::Done, text))
 }

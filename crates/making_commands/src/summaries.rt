@@ -5,7 +5,7 @@ ghost use Rattle.surface_definitions.specs.Characteristic as characteristic;
 ghost use Rattle.outcome_definitions.specs.Makings.{IsGreatestEntry, summary_text, summary_outcome};
 ghost use Rattle.making_commands.specs.Entries.{IsGreatestOf};
 
-use command_answers::{Outcome, append_numbered};
+use command_answers::{Outcome, append_number_line};
 use cone_core::Ray;
 use no_memory::NoMemory;
 use outcome_definitions::Status;
@@ -74,18 +74,18 @@ fn summary_text(alloc: Global, numbers: Numbers, list: &[Ray]) -> Result<Vec<u8>
 {
     let moves = u128::from(numbers.moves);
     let mut text = Vec::new(alloc);
-    append_numbered(alloc, &mut text, b"seed ", u128::from(numbers.seed))?;
-    append_numbered(alloc, &mut text, b"moves ", moves)?;
-    append_numbered(
+    append_number_line(alloc, &mut text, b"seed ", u128::from(numbers.seed))?;
+    append_number_line(alloc, &mut text, b"moves ", moves)?;
+    append_number_line(
         alloc,
         &mut text,
         b"tetrahedra ",
         u128::from(numbers.tetrahedra),
     )?;
-    append_numbered(alloc, &mut text, b"certificate accepted ", moves)?;
-    append_numbered(alloc, &mut text, b"surfaces ", list.len() as u128)?;
-    append_numbered(alloc, &mut text, b"largest ", greatest_entry(list))?;
-    append_numbered(
+    append_number_line(alloc, &mut text, b"certificate accepted ", moves)?;
+    append_number_line(alloc, &mut text, b"surfaces ", list.len() as u128)?;
+    append_number_line(alloc, &mut text, b"largest ", greatest_entry(list))?;
+    append_number_line(
         alloc,
         &mut text,
         b"linking ",
@@ -99,5 +99,5 @@ pub fn summary_outcome(alloc: Global, numbers: Numbers, list: &[Ray]) -> Result<
     ensures { IfOk result (λ o. (greatest : ℕ) × IsGreatestEntry list.now greatest × (o ≡ summary_outcome numbers list.now greatest)) }
 {
     let text = summary_text(alloc, numbers, list)?;
-    Ok(Outcome::built(Status::Done, text))
+    Ok(Outcome::with_text(Status::Done, text))
 }

@@ -13,8 +13,8 @@ use Rattle.surface_definitions.specs.declared.Coords.TheVariants.{Quad}
 use Rattle.surface_definitions.specs.Equations.{row_of}
 use Rattle.surface_definitions.specs.QuadEquations.{quad_equation, IsQuadRow}
 use Rattle.matching_equations.specs.Quads.{IsRowAppended}
-use Rattle.coordinate_laws.proofs.Ranges.{filter-more}
-use Rattle.class_laws.proofs.EdgeCorners.{IsRound}
+use Rattle.surface_coordinate_laws.proofs.Ranges.{filter-more}
+use Rattle.skeleton_class_laws.proofs.EdgeCorners.{IsRound}
 
 -- the row of these corners is that of the class
 pub row_appended : (s : Skeleton) (c n : ℕ) (corners : List Corner) (before now : List EquationRow) → is_boundary_edge s.rows s.edges.classes c ≡ false → IsRound s c corners

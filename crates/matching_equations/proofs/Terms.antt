@@ -12,7 +12,7 @@ use Rattle.surface_definitions.specs.Equations.{Equation, coefficient, term_of, 
 use Rattle.cone_core.specs.Sparse.{IsSparse, IsInRange}
 use Rattle.std.specs.Prelude.{Result, Ok, Err, IfOk}
 use Rattle.no_memory.specs.declared.NoMemory.{NoMemory}
-use Rattle.coordinate_laws.proofs.Ranges.{quiet, filter_map-more}
+use Rattle.surface_coordinate_laws.proofs.Ranges.{quiet, filter_map-more}
 
 abbrev pub NoneBefore : List ℕ → ℕ → ℕ → Type 0
 NoneBefore xs from next = (i : ℕ) → i < length xs → from ≤ slice_index xs i → next ≤ slice_index xs i

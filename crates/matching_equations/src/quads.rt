@@ -6,7 +6,7 @@ ghost use Rattle.surface_definitions.specs.Coordinates as coordinates;
 ghost use Rattle.surface_definitions.specs.Equations as equations;
 ghost use Rattle.surface_definitions.specs.QuadEquations.{AreQuadRows, quad_equation};
 ghost use Rattle.skeleton_definitions.specs.Skeleton.{IsSkeleton};
-ghost use Rattle.class_laws.specs.CornersIn.{AreCornersIn};
+ghost use Rattle.skeleton_class_laws.specs.CornersIn.{AreCornersIn};
 ghost use Rattle.matching_equations.specs.Quads.{IsRowAppended};
 
 use crate::equation::row_of;

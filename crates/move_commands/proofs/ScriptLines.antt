@@ -6,7 +6,7 @@ use Rattle.std.proofs.lemmas.List.{take_more, map-append}
 use Rattle.text_definitions.specs.declared.LexFault.{LexFault}
 use Rattle.text_definitions.specs.Reading.{Reading}
 use Rattle.text_definitions.specs.Written.{line}
-use Rattle.document_definitions.specs.Documents.{each_line_from}
+use Rattle.text_document_definitions.specs.Documents.{each_line_from}
 use Rattle.move_definitions.specs.Moves as moves
 use Rattle.move_definitions.specs.MoveText as text
 use Rattle.move_definitions.specs.Sessions.{Session, StepAnswer, illegal, IsStep, AreSteps, move_fault_text, step_answer_text}

@@ -1,7 +1,7 @@
 // The document of a table and steps.
 ghost use Rattle.std.specs.Prelude.{◌≤◌, length};
 ghost use Rattle.text_definitions.specs.Text.{max_text};
-ghost use Rattle.document_definitions.specs.Documents.{steps_document};
+ghost use Rattle.text_document_definitions.specs.Documents.{steps_document};
 ghost use Rattle.text_definitions.specs.Reading.{Reads};
 ghost use Rattle.move_commands.specs.Scripts.{steps_of};
 
@@ -21,7 +21,7 @@ pub struct TableAndSteps {
 }
 
 /// The document of a table and steps.
-#[tactic(auto, unfolding(document_definitions::specs::Documents::table_and_lines))]
+#[tactic(auto, unfolding(text_document_definitions::specs::Documents::table_and_lines))]
 pub fn read_table_and_steps(alloc: Global, bytes: &[u8]) -> Result<TableAndSteps, InputFault>
     requires { length bytes.now ≤ max_text }
     ensures { Reads InputFault.NoMemory (λ d. (d.table, steps_of d.steps)) result (steps_document bytes.now) }

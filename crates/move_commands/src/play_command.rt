@@ -1,7 +1,7 @@
 // The command `play`: a line for each step of a script, and the table then.
 ghost use Rattle.std.specs.Prelude.{◌≤◌, length, IfOk};
 ghost use Rattle.text_definitions.specs.Text.{max_text};
-ghost use Rattle.document_definitions.specs.Documents.{steps_document};
+ghost use Rattle.text_document_definitions.specs.Documents.{steps_document};
 ghost use Rattle.outcome_definitions.specs.Outcomes.{IsReadOutcome};
 ghost use Rattle.outcome_definitions.specs.Scripts.{IsScriptAnswer};
 ghost use Rattle.move_commands.specs.Scripts.{all_steps};
@@ -22,7 +22,7 @@ fn answer(alloc: Global, table: Table, steps: &[Step]) -> Result<Outcome, NoMemo
     let mut session = Session::new(alloc, table);
     let mut text = take_steps(alloc, &mut session, steps)?;
     write_table(alloc, session.table(), &mut text)?;
-    Ok(Outcome::built(Status::Done, text))
+    Ok(Outcome::with_text(Status::Done, text))
 }
 
 /// The outcome of `play` on an input that isn't too long.

@@ -1,6 +1,6 @@
 // Steps from text.
 ghost use Rattle.move_definitions.specs.MoveText.{step_at};
-ghost use Rattle.document_definitions.specs.Documents.{each_line_from};
+ghost use Rattle.text_document_definitions.specs.Documents.{each_line_from};
 ghost use Rattle.text_definitions.specs.Reading.{ReadsFrom};
 ghost use Rattle.table_definitions.specs.TableText.{lexed};
 ghost use Rattle.move_commands.specs.Scripts.{steps_of};

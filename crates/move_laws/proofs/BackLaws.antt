@@ -17,7 +17,7 @@ use Rattle.table_definitions.proofs.Faces.{there_and_back, back_again}
 use Rattle.table_definitions.proofs.Permutations.{image_below}
 use Rattle.table_definitions.specs.Replaceable.{fresh_numbers, fresh_glue, IsFreed, CanReplace}
 use Rattle.table_definitions.proofs.Ranks.{rank, stays, closed_up-rank, at_rank, rank_all}
-use Rattle.table_definitions.proofs.Kept.{IsKeptAs, kept_as, length-replaced, fresh_row_at, kept_row_at, glue-fresh, glue-kept}
+use Rattle.table_definitions.proofs.Retained.{IsKeptAs, kept_as, length-replaced, fresh_row_at, kept_row_at, glue-fresh, glue-kept}
 use Rattle.table_definitions.proofs.FreshRows.{fresh_tet, length-fresh_row, back_is}
 use Rattle.move_definitions.specs.Moves.{Move, Facet, kept, kept_stand_in, stand_in_at, moved_gluing, IsMoved, Plays, facet_gluing, old_tets}
 use Rattle.move_definitions.specs.Undos.{Undo, taken_numbers, undo_of, back_exchange, former, CanTakeBack, IsTakenBack, TakesBack}

@@ -13,7 +13,7 @@ use Rattle.table_definitions.proofs.Permutations.{image_below, identity_permutes
 use Rattle.table_definitions.proofs.TableLaws.{glued_tet}
 use Rattle.table_definitions.proofs.Faces.{there_and_back, back_again}
 use Rattle.table_definitions.specs.Replaceable.{fresh_numbers, fresh_glue, CanReplace}
-use Rattle.table_definitions.proofs.Kept.{IsKeptAs, kept_as, length-replaced, glue-fresh, glue-kept}
+use Rattle.table_definitions.proofs.Retained.{IsKeptAs, kept_as, length-replaced, glue-fresh, glue-kept}
 use Rattle.table_definitions.proofs.FreshRows.{back_is}
 use Rattle.table_definitions.proofs.Replaced.{replaced_is_table}
 use Rattle.move_definitions.specs.declared.MoveFault.TheVariants.{TooMany}

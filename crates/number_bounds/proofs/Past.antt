@@ -9,7 +9,7 @@ use Rattle.std.proofs.lemmas.List.Sums.{sum_by_more_le, sum_by-le-sum_by, sum_by
 use Rattle.std.proofs.lemmas.Nat.{mul-le}
 use Rattle.cone_definitions.specs.Rows.{Row}
 use Rattle.cone_definitions.specs.Systems.{System}
-use Rattle.minor_laws.specs.Caps.{magnitude, row_weight, column_weight, row_size, caps_product}
+use Rattle.cone_bound_laws.specs.Caps.{magnitude, row_weight, column_weight, row_size, caps_product}
 use Rattle.number_bounds.specs.Columns.{cap_by, weights_product, ArePastBounds}
 use Rattle.number_bounds.specs.Weights.{AreWeights}
 use Rattle.number_bounds.proofs.Tallies.{magnitude_is, own}

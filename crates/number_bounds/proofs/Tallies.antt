@@ -6,7 +6,7 @@ use Rattle.std.proofs.lemmas.Bool.Decides.{nat_tests}
 use Rattle.std.proofs.lemmas.List.{get_or-set_same, get_or-set_other, get_or_default}
 use Rattle.std.proofs.lemmas.List.Sums.{sum_by_more}
 use Rattle.cone_definitions.specs.Rows.{Row}
-use Rattle.minor_laws.specs.Caps.{magnitude, row_weight, column_weight, row_size}
+use Rattle.cone_bound_laws.specs.Caps.{magnitude, row_weight, column_weight, row_size}
 
 pub magnitude_is : (z : ℤ) → unsigned_abs z ≡ magnitude z
 magnitude_is (pos n) = omega arith

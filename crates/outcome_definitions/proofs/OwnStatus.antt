@@ -8,8 +8,8 @@ use Rattle.surface_definitions.specs.declared.Coords.{Coords}
 use Rattle.surface_definitions.specs.declared.VectorFault.{VectorFault}
 use Rattle.cone_definitions.specs.Listings.{Enumeration}
 use Rattle.signature_definitions.specs.declared.InputFault.{InputFault}
-use Rattle.document_definitions.specs.Documents.{worded, table_document, two_tables_document, tables_document, vectors_document, vector_document, steps_document, moves_document, cone_document}
-use Rattle.document_definitions.specs.Blocks.{Block, blocks_document}
+use Rattle.text_document_definitions.specs.Documents.{worded, table_document, two_tables_document, tables_document, vectors_document, vector_document, steps_document, moves_document, cone_document}
+use Rattle.text_document_definitions.specs.Blocks.{Block, blocks_document}
 use Rattle.command_definitions.specs.declared.Request.{Request}
 use Rattle.command_definitions.specs.declared.Request.TheVariants.{Verify, Info, Surfaces, Rays, Describe, Lift, Crush, Play, Sig, Same, Group, Check, Descend, Make, Bulk, Decompose, Addup, Cover, Pi1, Csig, Csame}
 use Rattle.outcome_definitions.specs.Outcomes.{Outcome, IsReadOutcome, IsOwnStatus, fault_outcome}
@@ -18,21 +18,21 @@ use Rattle.outcome_definitions.specs.Information.{IsInformationAnswer}
 use Rattle.outcome_definitions.specs.Scripts.{IsScriptAnswer}
 use Rattle.outcome_definitions.specs.Canonical.{IsNotConnected, IsSignatureAnswer, IsCompared, IsSameAnswer, IsGroupAnswer}
 use Rattle.surface_definitions.specs.declared.VectorFault.TheVariants as faults
-use Rattle.vector_definitions.specs.Answers.{Description}
+use Rattle.surface_vector_definitions.specs.Answers.{Description}
 use Rattle.sum_definitions.specs.declared.AddFault.TheVariants as adding
 use Rattle.sum_definitions.specs.declared.AddFault.TheVariants.{ZeroTimes, NotEqual}
 use Rattle.sum_definitions.specs.declared.LargeTurn.{LargeTurn}
 use Rattle.cover_definitions.specs.Cover.{cover_fault}
 use Rattle.cover_definitions.specs.declared.LargeCover.{LargeCover}
-use Rattle.group_definitions.specs.Groups.{HasGroup}
-use Rattle.vector_definitions.specs.declared.Refusal.{Refusal}
-use Rattle.vector_definitions.specs.declared.Refusal.TheVariants.{Unfit, LargeSum, TooManyPieces, LargeLift, NoLift}
-use Rattle.outcome_definitions.specs.Vectors.{refusal_outcome, crush_outcome, IsCrushAnswer, lift_outcome, IsLiftsAnswer, describe_outcome, IsDescribeAnswer, IsInvalidTold}
+use Rattle.presentation_definitions.specs.Groups.{HasGroup}
+use Rattle.surface_vector_definitions.specs.declared.Refusal.{Refusal}
+use Rattle.surface_vector_definitions.specs.declared.Refusal.TheVariants.{Unfit, LargeSum, TooManyPieces, LargeLift, NoLift}
+use Rattle.outcome_definitions.specs.Vectors.{refusal_outcome, crush_outcome, IsCrushAnswer, lift_outcome, IsLiftsAnswer, describe_outcome, IsDescribeAnswer, IsInvalidAnswered}
 use Rattle.outcome_definitions.specs.declared.SumRefusal.{SumRefusal}
 use Rattle.outcome_definitions.specs.declared.SumRefusal.TheVariants as sums
 use Rattle.outcome_definitions.specs.declared.SumRefusal.TheVariants.{UnfitTerm, LargeTimes, NoSum}
 use Rattle.outcome_definitions.specs.Sums.{sum_refusal_outcome, sums_outcome, IsDecomposed, IsDecomposeAnswer, addup_outcome, IsAddupAnswer}
-use Rattle.outcome_definitions.specs.Covers.{IsCoverTold, IsCoverAnswer, large_cover_outcome}
+use Rattle.outcome_definitions.specs.Covers.{IsCoverAnswered, IsCoverAnswer, large_cover_outcome}
 use Rattle.outcome_definitions.specs.Presented.{IsPresented, IsPresentationAnswer}
 use Rattle.outcome_definitions.specs.Parts.{IsComponentSignatureAnswer, IsSamePartsAnswer}
 use Rattle.outcome_definitions.specs.Certificates.{IsCheckAnswer, IsDescendAnswer}
@@ -96,7 +96,7 @@ describe_text_own : (s : Skeleton) (coords : Coords) (told : Result (List Descri
 describe_text_own s coords (Ok descriptions) = tt
 describe_text_own s coords (Err p) = refusal_own p.0 p.1
 
-invalid_own : (s : Skeleton) (o : Outcome) → IsInvalidTold s o → IsOwnStatus o.status
+invalid_own : (s : Skeleton) (o : Outcome) → IsInvalidAnswered s o → IsOwnStatus o.status
 invalid_own s o h = is_own o _ h.2 tt
 
 describe_own : (coords : Coords) (d : List Row × List (List ℕ)) (o : Outcome) → IsDescribeAnswer coords d o → IsOwnStatus o.status
@@ -136,11 +136,11 @@ addup_own : (told : Result (List (Unit {0})) (ℕ × SumRefusal)) → IsOwnStatu
 addup_own (Ok accepted) = tt
 addup_own (Err p) = sum_refusal_own p.0 p.1
 
-cover_own : (fault : Option LargeCover) (rows : List Row) (o : Outcome) → MatchOption fault (IsCoverTold rows o) (λ _. o ≡ large_cover_outcome) → IsOwnStatus o.status
+cover_own : (fault : Option LargeCover) (rows : List Row) (o : Outcome) → MatchOption fault (IsCoverAnswered rows o) (λ _. o ≡ large_cover_outcome) → IsOwnStatus o.status
 cover_own None rows o h = is_own o _ h.2 tt
 cover_own (Some fault) rows o h = is_own o _ h tt
 
-presented_own : (s : Skeleton) (o : Outcome) → IsNotConnected 0 s.rows o ⊎ (IsConnected s.rows × IsInvalidTold s o) ⊎ (HasGroup s × IsPresented s o) → IsOwnStatus o.status
+presented_own : (s : Skeleton) (o : Outcome) → IsNotConnected 0 s.rows o ⊎ (IsConnected s.rows × IsInvalidAnswered s o) ⊎ (HasGroup s × IsPresented s o) → IsOwnStatus o.status
 presented_own s o (inl h) = not_connected_own 0 s.rows o h
 presented_own s o (inr (inl h)) = invalid_own s o h.1
 presented_own s o (inr (inr h)) = is_own o _ (h.1).2 tt

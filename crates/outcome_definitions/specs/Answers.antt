@@ -5,9 +5,9 @@ use Rattle.table_definitions.specs.Table.{Row}
 use Rattle.cone_definitions.specs.Rows.{Row as EquationRow}
 use Rattle.surface_definitions.specs.declared.Coords.{Coords}
 use Rattle.surface_definitions.specs.QuadEquations.{AreEquations}
-use Rattle.vector_definitions.specs.Answers.{verdict_in}
-use Rattle.document_definitions.specs.Documents.{worded, table_document, two_tables_document, tables_document, vectors_document, vector_document, steps_document, moves_document, cone_document, verdicts_text}
-use Rattle.document_definitions.specs.Blocks.{blocks_document}
+use Rattle.surface_vector_definitions.specs.Answers.{verdict_in}
+use Rattle.text_document_definitions.specs.Documents.{worded, table_document, two_tables_document, tables_document, vectors_document, vector_document, steps_document, moves_document, cone_document, verdicts_text}
+use Rattle.text_document_definitions.specs.Blocks.{blocks_document}
 use Rattle.command_definitions.specs.declared.Request.{Request}
 use Rattle.command_definitions.specs.declared.Request.TheVariants.{Verify, Info, Surfaces, Rays, Describe, Lift, Crush, Play, Sig, Same, Group, Check, Descend, Make, Bulk, Decompose, Addup, Cover, Pi1, Csig, Csame}
 use Rattle.command_definitions.specs.Requests.{reads_input}

@@ -25,9 +25,9 @@ abbrev pub large_cover_outcome : Outcome
 large_cover_outcome = record { status = Refused; text = large_cover_line }
 
 -- the cover is told
-abbrev pub IsCoverTold : List Row → Outcome → Type 0
-IsCoverTold rows o = (connected : Bool) × (IsTrue connected ↔ IsConnected (cover rows)) × (o ≡ done (cover_text rows connected))
+abbrev pub IsCoverAnswered : List Row → Outcome → Type 0
+IsCoverAnswered rows o = (connected : Bool) × (IsTrue connected ↔ IsConnected (cover rows)) × (o ≡ done (cover_text rows connected))
 
 -- the answer of `cover` to a table: its cover, or that this would have too many tetrahedra
 abbrev pub IsCoverAnswer : List Row → Outcome → Type 0
-IsCoverAnswer rows o = MatchOption (cover_fault rows) (IsCoverTold rows o) (λ _. o ≡ large_cover_outcome)
+IsCoverAnswer rows o = MatchOption (cover_fault rows) (IsCoverAnswered rows o) (λ _. o ≡ large_cover_outcome)

@@ -2,8 +2,8 @@
 use Rattle.std.specs.Prelude.{◌≡◌, ◌⊎◌, ℕ, List}
 use Rattle.table_definitions.specs.Table.{Row}
 use Rattle.table_definitions.specs.Relabelling.{Relabelling, IsRelabelled}
-use Rattle.part_definitions.specs.ComponentSignature.{IsComponentSignature}
-use Rattle.part_definitions.specs.SameParts.{IsSameParts}
+use Rattle.component_definitions.specs.ComponentSignature.{IsComponentSignature}
+use Rattle.component_definitions.specs.SameParts.{IsSameParts}
 use Rattle.text_definitions.specs.Written.{line}
 use Rattle.outcome_definitions.specs.Outcomes.{Outcome}
 use Rattle.outcome_definitions.specs.Canonical.{done, relabelling_text, different_outcome}

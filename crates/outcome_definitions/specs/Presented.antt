@@ -4,15 +4,15 @@ use Rattle.std.specs.List.{slice_index_or, flat_map}
 use Rattle.table_definitions.specs.Table.{Row}
 use Rattle.table_definitions.specs.Places.{IsConnected}
 use Rattle.skeleton_definitions.specs.Skeleton.{Skeleton, IsSkeleton}
-use Rattle.group_definitions.specs.declared.Letter.{Letter}
-use Rattle.group_definitions.specs.Presentations.{Presentation, IsPresentation}
-use Rattle.group_definitions.specs.Groups.{HasGroup}
+use Rattle.presentation_definitions.specs.declared.Letter.{Letter}
+use Rattle.presentation_definitions.specs.Presentations.{Presentation, IsPresentation}
+use Rattle.presentation_definitions.specs.Groups.{HasGroup}
 use Rattle.text_definitions.specs.Written.{line, yes_or_no}
 use Rattle.outcome_definitions.specs.Lines.{number_line}
 use Rattle.outcome_definitions.specs.Outcomes.{Outcome}
 use Rattle.outcome_definitions.specs.Information.{classes_text}
 use Rattle.outcome_definitions.specs.Canonical.{done, IsNotConnected}
-use Rattle.outcome_definitions.specs.Vectors.{IsInvalidTold}
+use Rattle.outcome_definitions.specs.Vectors.{IsInvalidAnswered}
 
 -- a space, a minus sign for an inverse, and the number of the generator
 abbrev pub sign_text : Bool → List ℕ
@@ -50,4 +50,4 @@ pub record IsPresentationAnswer (rows : List Row) (o : Outcome) : Type 0 where
   pub skeleton : Skeleton
   pub of_rows : skeleton.rows ≡ rows
   pub is_skeleton : IsSkeleton skeleton
-  pub told : IsNotConnected 0 skeleton.rows o ⊎ (IsConnected skeleton.rows × IsInvalidTold skeleton o) ⊎ (HasGroup skeleton × IsPresented skeleton o)
+  pub told : IsNotConnected 0 skeleton.rows o ⊎ (IsConnected skeleton.rows × IsInvalidAnswered skeleton o) ⊎ (HasGroup skeleton × IsPresented skeleton o)

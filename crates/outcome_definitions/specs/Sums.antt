@@ -13,19 +13,19 @@ use Rattle.surface_definitions.specs.declared.VectorFault.TheVariants as faults
 use Rattle.surface_definitions.specs.QuadEquations.{AreEquations}
 use Rattle.surface_definitions.specs.TableSurfaces.{table_enumeration}
 use Rattle.surface_definitions.specs.Verdict.{Verdict, verdict_text}
-use Rattle.vector_definitions.specs.Answers.{verdict_in, IsFit, IsUnfit}
+use Rattle.surface_vector_definitions.specs.Answers.{verdict_in, IsFit, IsUnfit}
 use Rattle.sum_definitions.specs.Sums.{Term, IsSum, IsLargeTurn}
 use Rattle.sum_definitions.specs.declared.LargeTurn.{LargeTurn}
 use Rattle.sum_definitions.specs.Adding.{add_fault}
 use Rattle.sum_definitions.specs.declared.AddFault.TheVariants.{ZeroTimes, Large, NotEqual}
-use Rattle.document_definitions.specs.Blocks.{Block, blocks_text}
+use Rattle.text_document_definitions.specs.Blocks.{Block, blocks_text}
 use Rattle.outcome_definitions.specs.declared.SumRefusal.{SumRefusal}
 use Rattle.outcome_definitions.specs.declared.SumRefusal.TheVariants.{Unfit, UnfitTerm, LargeTimes, NoSum}
 use Rattle.outcome_definitions.specs.declared.Status.{Status}
 use Rattle.outcome_definitions.specs.declared.Status.TheVariants as statuses
 use Rattle.outcome_definitions.specs.Lines.{accepted_text}
 use Rattle.outcome_definitions.specs.Outcomes.{Outcome}
-use Rattle.outcome_definitions.specs.Enumerations.{IsPastTold}
+use Rattle.outcome_definitions.specs.Enumerations.{IsPastAnswered}
 
 -- the item of this number is the first of a list that fails
 pub record IsFirst {A : Type 0} (Passes Fails : A → Type 0) (list : List A) (number : ℕ) : Type 0 where
@@ -42,9 +42,9 @@ abbrev pub IsFirstRefused : {A B E : Type 0} → (A → Result B E → Type 0) �
 IsFirstRefused {A} {B} IsTold list v refusal = IsFirst (λ x. (answer : B) × IsTold x (Ok answer)) (λ x. IsTold x (Err refusal)) list v
 
 -- what is told of all of a list: the answer to each, or the number of the first that is refused, and why
-abbrev pub AreTold : {A B E : Type 0} → (A → Result B E → Type 0) → List A → Result (List B) (ℕ × E) → Type 0
-AreTold IsTold list (Ok answers) = AllZip (λ x answer. IsTold x (Ok answer)) list answers
-AreTold IsTold list (Err refusal) = IsFirstRefused IsTold list refusal.0 refusal.1
+abbrev pub AreAnswered : {A B E : Type 0} → (A → Result B E → Type 0) → List A → Result (List B) (ℕ × E) → Type 0
+AreAnswered IsTold list (Ok answers) = AllZip (λ x answer. IsTold x (Ok answer)) list answers
+AreAnswered IsTold list (Err refusal) = IsFirstRefused IsTold list refusal.0 refusal.1
 
 -- a number is too large, or the vector doesn't allow what is asked
 abbrev pub unfit_status : VectorFault → Status
@@ -101,12 +101,12 @@ pub record AreSums (most : ℕ) (e : Enumeration) (rows : List Row) (vectors : L
   pub list : List (List ℕ)
   pub listed : IsListed e taken list
   pub told : Result (List Block) (ℕ × LargeTurn)
-  pub sums : AreTold (IsSummed most list) vectors told
+  pub sums : AreAnswered (IsSummed most list) vectors told
   pub outcome : o ≡ sums_outcome rows told
 
 -- vectors that pass the check are told as sums of the vertex surfaces, unless a number of the enumeration passes the limit
 abbrev pub IsDecomposed : ℕ → Enumeration → List Row → List (List ℕ) → Result (List (Unit {0})) (ℕ × VectorFault) → Outcome → Type 0
-IsDecomposed most e rows vectors (Ok passed) o = AreSums most e rows vectors o ⊎ IsPastTold e o
+IsDecomposed most e rows vectors (Ok passed) o = AreSums most e rows vectors o ⊎ IsPastAnswered e o
 IsDecomposed most e rows vectors (Err unfit) o = o ≡ sum_refusal_outcome unfit.0 (Unfit unfit.1)
 
 -- the answer of `decompose` to a table and vectors: the check of each vector comes first
@@ -114,7 +114,7 @@ pub record IsDecomposeAnswer (coords : Coords) (most : ℕ) (d : List Row × Lis
   pub equations : List EquationRow
   pub of_table : AreEquations coords d.0 equations
   pub checked : Result (List (Unit {0})) (ℕ × VectorFault)
-  pub verdicts : AreTold (IsVerdict coords d.0 equations) d.1 checked
+  pub verdicts : AreAnswered (IsVerdict coords d.0 equations) d.1 checked
   pub told : IsDecomposed most (table_enumeration coords Given most d.0 equations) d.0 d.1 checked o
 
 -- the verdict on a term
@@ -147,5 +147,5 @@ pub record IsAddupAnswer (coords : Coords) (d : List Row × List Block) (o : Out
   pub equations : List EquationRow
   pub of_table : AreEquations coords d.0 equations
   pub told : Result (List (Unit {0})) (ℕ × SumRefusal)
-  pub added : AreTold (IsAddedUp coords d.0 equations) d.1 told
+  pub added : AreAnswered (IsAddedUp coords d.0 equations) d.1 told
   pub outcome : o ≡ addup_outcome told

@@ -9,10 +9,10 @@ use Rattle.surface_definitions.specs.declared.Coords.{Coords}
 use Rattle.surface_definitions.specs.declared.Coords.TheVariants.{Standard, Quad}
 use Rattle.surface_definitions.specs.declared.VectorFault.TheVariants as faults
 use Rattle.surface_definitions.specs.QuadEquations.{AreEquations}
-use Rattle.vector_definitions.specs.declared.Refusal.{Refusal}
-use Rattle.vector_definitions.specs.declared.Refusal.TheVariants.{Unfit, LargeSum, TooManyPieces, LargeLift, NoLift}
-use Rattle.vector_definitions.specs.Answers.{Description, IsDescription, IsLifted, IsCrushedAlong, AreTold}
-use Rattle.vector_definitions.specs.Texts.{description_text, lifts_text, refusal_line, invalid_edge_line}
+use Rattle.surface_vector_definitions.specs.declared.Refusal.{Refusal}
+use Rattle.surface_vector_definitions.specs.declared.Refusal.TheVariants.{Unfit, LargeSum, TooManyPieces, LargeLift, NoLift}
+use Rattle.surface_vector_definitions.specs.Answers.{Description, IsDescription, IsLifted, IsCrushedAlong, AreAnswered}
+use Rattle.surface_vector_definitions.specs.Texts.{description_text, lifts_text, refusal_line, invalid_edge_line}
 use Rattle.outcome_definitions.specs.declared.Status.{Status}
 use Rattle.outcome_definitions.specs.declared.Status.TheVariants.{Done, Refused, Large}
 use Rattle.outcome_definitions.specs.Outcomes.{Outcome}
@@ -58,7 +58,7 @@ pub record IsLiftsAnswer (d : List Row × List (List ℕ)) (o : Outcome) : Type 
   pub equations : List EquationRow
   pub of_table : AreEquations Quad d.0 equations
   pub told : Result (List (List ℕ)) (ℕ × Refusal)
-  pub lifted : AreTold (IsLifted skeleton equations) d.1 told
+  pub lifted : AreAnswered (IsLifted skeleton equations) d.1 told
   pub outcome : o ≡ lift_outcome told
 
 -- the lines of each vector, or the first that is refused
@@ -71,16 +71,16 @@ pub record AreDescribed (s : Skeleton) (coords : Coords) (vectors : List (List �
   pub equations : List EquationRow
   pub of_table : AreEquations coords s.rows equations
   pub told : Result (List Description) (ℕ × Refusal)
-  pub described : AreTold (IsDescription s coords equations) vectors told
+  pub described : AreAnswered (IsDescription s coords equations) vectors told
   pub outcome : o ≡ describe_outcome s coords told
 
 -- an edge class is invalid: the least such is told
-abbrev pub IsInvalidTold : Skeleton → Outcome → Type 0
-IsInvalidTold s o = (c : ℕ) × IsFirstInvalid s (Some c) × (o ≡ record { status = Refused; text = invalid_edge_line c })
+abbrev pub IsInvalidAnswered : Skeleton → Outcome → Type 0
+IsInvalidAnswered s o = (c : ℕ) × IsFirstInvalid s (Some c) × (o ≡ record { status = Refused; text = invalid_edge_line c })
 
 -- the answer of `describe` to a table and vectors
 pub record IsDescribeAnswer (coords : Coords) (d : List Row × List (List ℕ)) (o : Outcome) : Type 0 where
   pub skeleton : Skeleton
   pub of_rows : skeleton.rows ≡ d.0
   pub is_skeleton : IsSkeleton skeleton
-  pub told : IsInvalidTold skeleton o ⊎ (IsFirstInvalid skeleton None × AreDescribed skeleton coords d.1 o)
+  pub told : IsInvalidAnswered skeleton o ⊎ (IsFirstInvalid skeleton None × AreDescribed skeleton coords d.1 o)

@@ -8,24 +8,24 @@ use Rattle.table_definitions.specs.Table.{Row, IsTable}
 use Rattle.surface_definitions.specs.declared.Coords.{Coords}
 use Rattle.surface_definitions.specs.declared.VectorFault.{VectorFault}
 use Rattle.surface_definitions.specs.Verdict.{Verdict}
-use Rattle.vector_definitions.specs.Answers.{verdict_in, IsFit}
+use Rattle.surface_vector_definitions.specs.Answers.{verdict_in, IsFit}
 use Rattle.sum_definitions.specs.Sums.{Term}
 use Rattle.sum_definitions.specs.Adding.{add_fault}
 use Rattle.sum_definitions.specs.declared.AddFault.{AddFault}
-use Rattle.document_definitions.specs.Blocks.{Block}
+use Rattle.text_document_definitions.specs.Blocks.{Block}
 use Rattle.skeleton_laws.proofs.Equated.{some_equations}
 use Rattle.outcome_definitions.specs.declared.SumRefusal.{SumRefusal}
 use Rattle.outcome_definitions.specs.declared.SumRefusal.TheVariants.{Unfit, UnfitTerm, NoSum}
 use Rattle.outcome_definitions.specs.Outcomes.{Outcome}
-use Rattle.outcome_definitions.specs.Sums.{AreTold, IsVerdict, IsTermVerdict, AreFit, IsAddedUp, IsAddupAnswer, addup_outcome}
-use Rattle.outcome_existence_laws.proofs.ToldLists.{told_of}
+use Rattle.outcome_definitions.specs.Sums.{AreAnswered, IsVerdict, IsTermVerdict, AreFit, IsAddedUp, IsAddupAnswer, addup_outcome}
+use Rattle.outcome_existence_laws.proofs.AnsweredLists.{told_of}
 
 any_each : {A : Type 0} (xs : List A) → AllByRecursion (λ x. Unit {0}) xs
 any_each [] = tt
 any_each (x ∷ xs) = (tt, any_each xs)
 
 module _ (coords : Coords) (rows : List Row) (equations : List EquationRow) where
-  pub verdicts_told : (vectors : List (List ℕ)) → (t : Result (List (Unit {0})) (ℕ × VectorFault)) × AreTold (IsVerdict coords rows equations) vectors t
+  pub verdicts_told : (vectors : List (List ℕ)) → (t : Result (List (Unit {0})) (ℕ × VectorFault)) × AreAnswered (IsVerdict coords rows equations) vectors t
   verdicts_told vectors = told_of (IsVerdict coords rows equations) (λ x. Unit {0}) vectors (λ x u. (verdict_in coords rows equations x, refl)) (any_each vectors)
 
   all_terms_fit : (terms : List Term) (passed : List (Unit {0})) → AllZip (λ term a. IsTermVerdict coords rows equations term (Ok a)) terms passed
@@ -43,7 +43,7 @@ module _ (coords : Coords) (rows : List Row) (equations : List EquationRow) wher
   by_sum block fit (Some fault) e = (Err (NoSum fault), (fit, e))
 
   by_terms : (block : Block) → IsFit coords rows equations block.vector → (t : Result (List (Unit {0})) (ℕ × VectorFault))
-      → AreTold (IsTermVerdict coords rows equations) block.terms t → Told block
+      → AreAnswered (IsTermVerdict coords rows equations) block.terms t → Told block
   by_terms block fit (Err refusal) h = (Err (UnfitTerm refusal.0 refusal.1), (fit, h))
   by_terms block fit (Ok passed) h =
       by_sum block

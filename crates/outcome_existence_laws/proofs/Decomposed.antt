@@ -9,21 +9,21 @@ use Rattle.surface_definitions.specs.Coordinates.{columns, clash_list}
 use Rattle.surface_definitions.specs.declared.Coords.{Coords}
 use Rattle.surface_definitions.specs.declared.VectorFault.{VectorFault}
 use Rattle.surface_definitions.specs.TableSurfaces.{table_enumeration}
-use Rattle.vector_definitions.specs.Answers.{IsFit}
+use Rattle.surface_vector_definitions.specs.Answers.{IsFit}
 use Rattle.sum_definitions.specs.declared.LargeTurn.{LargeTurn}
 use Rattle.surface_laws.proofs.FitSurfaces.{fit_accepted}
 use Rattle.sum_laws.specs.Laws.{Answer, sum, large, IsAnswer}
 use Rattle.sum_laws.proofs.Runs.{some_answer}
 use Rattle.sum_laws.proofs.Surfaces.{surfaces_are_rays_lem}
-use Rattle.document_definitions.specs.Blocks.{Block}
+use Rattle.text_document_definitions.specs.Blocks.{Block}
 use Rattle.cone_laws.proofs.Ended.{enumeration_ends}
 use Rattle.skeleton_laws.proofs.Equated.{some_equations}
 use Rattle.outcome_definitions.specs.declared.SumRefusal.TheVariants.{Unfit}
 use Rattle.outcome_definitions.specs.Outcomes.{Outcome}
 use Rattle.outcome_definitions.specs.Enumerations.{large_outcome}
-use Rattle.outcome_definitions.specs.Sums.{AreTold, IsVerdict, IsSummed, sums_outcome, sum_refusal_outcome, IsDecomposed, IsDecomposeAnswer}
-use Rattle.outcome_existence_laws.proofs.ToldLists.{told_of}
-use Rattle.coordinate_laws.proofs.ClashPairs.{clashes_apart}
+use Rattle.outcome_definitions.specs.Sums.{AreAnswered, IsVerdict, IsSummed, sums_outcome, sum_refusal_outcome, IsDecomposed, IsDecomposeAnswer}
+use Rattle.outcome_existence_laws.proofs.AnsweredLists.{told_of}
+use Rattle.surface_coordinate_laws.proofs.ClashPairs.{clashes_apart}
 use Rattle.outcome_laws.proofs.Summed.{verdicts_fit}
 use Rattle.outcome_existence_laws.proofs.AddedUp.{verdicts_told}
 
@@ -44,7 +44,7 @@ module _ (coords : Coords) (most : ℕ) (rows : List Row) (equations : List Equa
       let s = some_answer (columns coords (length rows)) equations list x rays most in
       by_answer list x s.0 s.1
 
-  decomposed : (vectors : List (List ℕ)) (checked : Result (List (Unit {0})) (ℕ × VectorFault)) → AreTold (IsVerdict coords rows equations) vectors checked
+  decomposed : (vectors : List (List ℕ)) (checked : Result (List (Unit {0})) (ℕ × VectorFault)) → AreAnswered (IsVerdict coords rows equations) vectors checked
       → (o : Outcome) × IsDecomposed most enumeration rows vectors checked o
   decomposed vectors (Err unfit) h = (sum_refusal_outcome unfit.0 (Unfit unfit.1), refl)
   decomposed vectors (Ok passed) h = elim (enumeration_ends enumeration (clashes_apart coords (length rows))) [

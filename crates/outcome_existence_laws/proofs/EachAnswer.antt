@@ -4,8 +4,8 @@ use Rattle.std.specs.Prelude.{codes}
 use Rattle.std.specs.Bool.{MatchBool}
 use Rattle.cone_text_definitions.specs.VectorText.{vector_at}
 use Rattle.move_definitions.specs.MoveText.{step_at}
-use Rattle.document_definitions.specs.Documents.{worded, table_document, two_tables_document, tables_document, vectors_document, vector_document, steps_document, cone_document}
-use Rattle.document_definitions.specs.Blocks.{blocks_document}
+use Rattle.text_document_definitions.specs.Documents.{worded, table_document, two_tables_document, tables_document, vectors_document, vector_document, steps_document, cone_document}
+use Rattle.text_document_definitions.specs.Blocks.{blocks_document}
 use Rattle.command_definitions.specs.declared.Request.{Request}
 use Rattle.command_definitions.specs.declared.Request.TheVariants.{Verify, Info, Surfaces, Rays, Describe, Lift, Crush, Play, Sig, Same, Group, Check, Descend, Make, Bulk, Decompose, Addup, Cover, Pi1, Csig, Csame}
 use Rattle.command_definitions.specs.Requests.{HoldsRange}
@@ -27,7 +27,7 @@ use Rattle.outcome_laws.proofs.Certified.{answered, table_alone, table_with_line
 use Rattle.outcome_laws.proofs.Covered.{some_cover}
 use Rattle.outcome_laws.proofs.Making.{some_make}
 use Rattle.outcome_laws.proofs.ReadPairs.{both_are_tables, table_with_vector}
-use Rattle.part_existence_laws.proofs.Answers.{some_signature_answer, some_same_answer}
+use Rattle.component_existence_laws.proofs.Answers.{some_signature_answer, some_same_answer}
 use Rattle.outcome_existence_laws.proofs.ReadTables.{all_are_tables, table_with_blocks, steps_with_cores}
 use Rattle.outcome_existence_laws.proofs.SignedTables.{some_signature, some_same, some_group}
 use Rattle.outcome_existence_laws.proofs.PlayedSteps.{some_script}

@@ -8,8 +8,8 @@ use Rattle.table_definitions.specs.Table.{Row, IsTable}
 use Rattle.table_definitions.specs.Places.{IsConnected}
 use Rattle.skeleton_definitions.specs.Skeleton.{Skeleton, IsSkeleton, IsValidClass, IsFirstInvalid}
 use Rattle.signature_laws.proofs.Connected.{connected_or_unreached_lem}
-use Rattle.group_laws.proofs.Existing.{some_presentation}
-use Rattle.vector_definitions.specs.Texts.{invalid_edge_line}
+use Rattle.presentation_laws.proofs.Existing.{some_presentation}
+use Rattle.surface_vector_definitions.specs.Texts.{invalid_edge_line}
 use Rattle.skeleton_laws.proofs.Skeletons.{some_skeleton, some_first_invalid, valid_or_not}
 use Rattle.skeleton_laws.proofs.Oriented.{orientable_or_not}
 use Rattle.skeleton_laws.proofs.Linked.{some_links}

@@ -1,5 +1,5 @@
 pub mod ReadTables
-pub mod ToldLists
+pub mod AnsweredLists
 pub mod SignedTables
 pub mod PlayedSteps
 pub mod Enumerated

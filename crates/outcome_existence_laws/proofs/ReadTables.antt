@@ -13,9 +13,9 @@ use Rattle.move_laws.proofs.Cores.{move_lines_have_cores_lem}
 use Rattle.signature_definitions.specs.declared.InputFault.{InputFault}
 use Rattle.signature_definitions.specs.SignatureText.{any_table_at}
 use Rattle.signature_text_laws.proofs.AnyTables.{any_table_read}
-use Rattle.document_definitions.specs.Documents.{worded, next_table_at, tables_on, tables_from, tables_document, steps_document}
-use Rattle.document_definitions.specs.Blocks.{Block, blocks_from, blocks_document}
-use Rattle.document_laws.proofs.Lawful.{steps_laws}
+use Rattle.text_document_definitions.specs.Documents.{worded, next_table_at, tables_on, tables_from, tables_document, steps_document}
+use Rattle.text_document_definitions.specs.Blocks.{Block, blocks_from, blocks_document}
+use Rattle.text_document_laws.proofs.Lawful.{steps_laws}
 use Rattle.outcome_laws.proofs.ReadPairs.{next_read}
 
 abbrev AreAllTables : List (List Row) × Reading → Type 0

@@ -14,9 +14,9 @@ use Rattle.certificate_laws.proofs.Made.{tables_are_made_lem, made_are_certified
 use Rattle.cone_laws.proofs.Ended.{enumeration_ends}
 use Rattle.skeleton_laws.proofs.Equated.{some_equations}
 use Rattle.outcome_definitions.specs.Outcomes.{Outcome}
-use Rattle.outcome_definitions.specs.Enumerations.{AreUpTo, IsPastTold, large_outcome}
+use Rattle.outcome_definitions.specs.Enumerations.{AreUpTo, IsPastAnswered, large_outcome}
 use Rattle.outcome_definitions.specs.Makings.{IsGreatestEntry, Numbers, summary_outcome, AreSummedUp, IsSummary, IsBulkAnswer}
-use Rattle.coordinate_laws.proofs.ClashPairs.{clashes_apart}
+use Rattle.surface_coordinate_laws.proofs.ClashPairs.{clashes_apart}
 
 -- the greatest entry of a vector
 record IsGreatestOf (x : List ℕ) (greatest : ℕ) : Type 0 where
@@ -73,7 +73,7 @@ some_greatest (x ∷ list) =
       )
     ]
 
-summed_up : (n : Numbers) (e : Enumeration) → PairsAreApart e.pairs → (o : Outcome) × (AreSummedUp n e o ⊎ IsPastTold e o)
+summed_up : (n : Numbers) (e : Enumeration) → PairsAreApart e.pairs → (o : Outcome) × (AreSummedUp n e o ⊎ IsPastAnswered e o)
 summed_up n e apart = elim (enumeration_ends e apart) [
   | inl l ↦
       let g = some_greatest l.1 in

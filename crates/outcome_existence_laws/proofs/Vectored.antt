@@ -10,18 +10,18 @@ use Rattle.surface_definitions.specs.declared.Coords.{Coords}
 use Rattle.surface_definitions.specs.declared.Coords.TheVariants.{Standard, Quad}
 use Rattle.surface_definitions.specs.QuadEquations.{AreEquations}
 use Rattle.surface_definitions.specs.Verdict.{Verdict}
-use Rattle.vector_definitions.specs.declared.Properties.{Properties}
-use Rattle.vector_definitions.specs.declared.SurfaceSum.{SurfaceSum}
-use Rattle.vector_definitions.specs.declared.LiftFault.{LiftFault}
-use Rattle.vector_definitions.specs.declared.LiftFault.TheVariants as lift_faults
-use Rattle.vector_definitions.specs.declared.ManyPieces.{ManyPieces}
-use Rattle.vector_definitions.specs.declared.Refusal.{Refusal}
-use Rattle.vector_definitions.specs.declared.Refusal.TheVariants.{Unfit, LargeSum, TooManyPieces, LargeLift, NoLift}
-use Rattle.vector_definitions.specs.Properties.{first_large, AreProperties}
-use Rattle.vector_definitions.specs.Components.{Component, IsPiecesAnswer}
-use Rattle.vector_definitions.specs.Lifting.{IsLiftAnswer}
-use Rattle.vector_definitions.specs.Answers.{verdict_in, IsFit, Description, IsDescription, IsLifted, IsCrushedAlong}
-use Rattle.vector_definitions.specs.Texts.{invalid_edge_line}
+use Rattle.surface_vector_definitions.specs.declared.Properties.{Properties}
+use Rattle.surface_vector_definitions.specs.declared.SurfaceSum.{SurfaceSum}
+use Rattle.surface_vector_definitions.specs.declared.LiftFault.{LiftFault}
+use Rattle.surface_vector_definitions.specs.declared.LiftFault.TheVariants as lift_faults
+use Rattle.surface_vector_definitions.specs.declared.ManyPieces.{ManyPieces}
+use Rattle.surface_vector_definitions.specs.declared.Refusal.{Refusal}
+use Rattle.surface_vector_definitions.specs.declared.Refusal.TheVariants.{Unfit, LargeSum, TooManyPieces, LargeLift, NoLift}
+use Rattle.surface_vector_definitions.specs.Properties.{first_large, AreProperties}
+use Rattle.surface_vector_definitions.specs.Components.{Component, IsPiecesAnswer}
+use Rattle.surface_vector_definitions.specs.Lifting.{IsLiftAnswer}
+use Rattle.surface_vector_definitions.specs.Answers.{verdict_in, IsFit, Description, IsDescription, IsLifted, IsCrushedAlong}
+use Rattle.surface_vector_definitions.specs.Texts.{invalid_edge_line}
 use Rattle.surface_laws.proofs.CrushedRows.{crushed_rows, crushed_are}
 use Rattle.surface_laws.proofs.FitSurfaces.{fit_accepted, surface_is}
 use Rattle.surface_laws.proofs.Spreading.{lift_answer}
@@ -30,8 +30,8 @@ use Rattle.skeleton_laws.proofs.Equated.{some_equations}
 use Rattle.skeleton_laws.proofs.Skeletons.{some_skeleton, some_first_invalid}
 use Rattle.outcome_definitions.specs.declared.Status.TheVariants.{Refused}
 use Rattle.outcome_definitions.specs.Outcomes.{Outcome}
-use Rattle.outcome_definitions.specs.Vectors.{crush_outcome, IsCrushAnswer, lift_outcome, IsLiftsAnswer, describe_outcome, AreDescribed, IsInvalidTold, IsDescribeAnswer}
-use Rattle.outcome_existence_laws.proofs.ToldLists.{vectors_told}
+use Rattle.outcome_definitions.specs.Vectors.{crush_outcome, IsCrushAnswer, lift_outcome, IsLiftsAnswer, describe_outcome, AreDescribed, IsInvalidAnswered, IsDescribeAnswer}
+use Rattle.outcome_existence_laws.proofs.AnsweredLists.{vectors_told}
 
 -- a table is crushed along a vector, or the vector is refused
 crushed_by : (rows : List Row) (equations : List EquationRow) (xs : List ℕ) → IsTable rows → (v : Verdict) → verdict_in Standard rows equations xs ≡ v
@@ -105,7 +105,7 @@ module _ (s : Skeleton) (k : IsSkeleton s) (coords : Coords) (triangles : coords
       (describe_outcome s coords t.0, record { equations = equations; of_table = of_table; told = t.0; described = t.1; outcome = refl })
 
 by_first : (s : Skeleton) → IsSkeleton s → (coords : Coords) → coords ≢ Quad → (vectors : List (List ℕ)) (first : Option ℕ) → IsFirstInvalid s first
-    → (o : Outcome) × (IsInvalidTold s o ⊎ (IsFirstInvalid s None × AreDescribed s coords vectors o))
+    → (o : Outcome) × (IsInvalidAnswered s o ⊎ (IsFirstInvalid s None × AreDescribed s coords vectors o))
 by_first s k coords triangles vectors (Some c) h = (record { status = Refused; text = invalid_edge_line c }, inl (c, h, refl))
 by_first s k coords triangles vectors None h =
     let q = some_equations coords s.rows k.table in

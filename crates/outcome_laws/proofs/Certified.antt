@@ -13,8 +13,8 @@ use Rattle.move_definitions.specs.MoveText.{move_at}
 use Rattle.move_definitions.specs.Grammar.{IsMoveLine}
 use Rattle.move_laws.proofs.Cores.{move_lines_have_cores_lem}
 use Rattle.signature_definitions.specs.declared.InputFault.{InputFault}
-use Rattle.document_definitions.specs.Documents.{worded, next_table_at, no_line_at, each_line_from, table_document, table_and_lines, moves_document}
-use Rattle.document_laws.proofs.Lawful.{moves_laws}
+use Rattle.text_document_definitions.specs.Documents.{worded, next_table_at, no_line_at, each_line_from, table_document, table_and_lines, moves_document}
+use Rattle.text_document_laws.proofs.Lawful.{moves_laws}
 use Rattle.certificate_laws.proofs.Checked.{answers_agree_lem}
 use Rattle.certificate_laws.proofs.Answered.{answers_exist_lem}
 use Rattle.certificate_laws.proofs.StayConnected.{descent_answers_exist_lem, descent_answers_agree_lem}

@@ -11,16 +11,16 @@ use Rattle.cover_laws.proofs.Covered.{cover_is_table}
 use Rattle.cover_laws.proofs.Deciding.{all_or_one, decide_joined}
 use Rattle.outcome_definitions.specs.Outcomes.{Outcome}
 use Rattle.outcome_definitions.specs.Canonical.{done}
-use Rattle.outcome_definitions.specs.Covers.{cover_text, large_cover_outcome, IsCoverTold, IsCoverAnswer}
+use Rattle.outcome_definitions.specs.Covers.{cover_text, large_cover_outcome, IsCoverAnswered, IsCoverAnswer}
 use Rattle.outcome_laws.proofs.Informed.{same_test}
 
-one_told : (rows : List Row) (o p : Outcome) → IsCoverTold rows o → IsCoverTold rows p → o ≡ p
+one_told : (rows : List Row) (o p : Outcome) → IsCoverAnswered rows o → IsCoverAnswered rows p → o ≡ p
 one_told rows o p h k = h.2 ∙ ap (λ (b : Bool). done (cover_text rows b)) (same_test (IsConnected (cover rows)) h.0 k.0 h.1 k.1) ∙ sym k.2
 
 pub one_cover : (rows : List Row) (o p : Outcome) → IsCoverAnswer rows o → IsCoverAnswer rows p → o ≡ p
 one_cover rows o p h k = by_fault (cover_fault rows) h k
   where
-    by_fault : (fault : Option LargeCover) → MatchOption fault (IsCoverTold rows o) (λ _. o ≡ large_cover_outcome) → MatchOption fault (IsCoverTold rows p) (λ _. p ≡ large_cover_outcome) → o ≡ p
+    by_fault : (fault : Option LargeCover) → MatchOption fault (IsCoverAnswered rows o) (λ _. o ≡ large_cover_outcome) → MatchOption fault (IsCoverAnswered rows p) (λ _. p ≡ large_cover_outcome) → o ≡ p
     by_fault None a b = one_told rows o p a b
     by_fault (Some f) a b = a ∙ sym b
 
@@ -43,7 +43,7 @@ connected_or_not rows table = elim (all_or_one Reached Missed decide (length row
       | inl l ↦ elim (decide_joined rows table 0 t) [ inl j ↦ inl (λ _. j) | inr never ↦ inr (l, never) ]
     ]
 
-some_told : (rows : List Row) → IsTable (cover rows) → (o : Outcome) × IsCoverTold rows o
+some_told : (rows : List Row) → IsTable (cover rows) → (o : Outcome) × IsCoverAnswered rows o
 some_told rows table = elim (connected_or_not (cover rows) table) [
   | inl c ↦ (done (cover_text rows true), (true, (λ _. c, λ _. refl), refl))
   | inr never ↦ (done (cover_text rows false), (false, (λ t. absurd (false≢true t), λ c. absurd (never c)), refl))
@@ -57,7 +57,7 @@ some_cover rows table = elim (cases_lt max_tets (2 * length rows)) [
 ]
   where
     many : nat_lt max_tets (2 * length rows) ≡ true → IsCoverAnswer rows large_cover_outcome
-    many e = subst (λ (b : Bool). MatchOption (if b then Some too_large else None) (IsCoverTold rows large_cover_outcome) (λ _. large_cover_outcome ≡ large_cover_outcome)) (sym e) refl
+    many e = subst (λ (b : Bool). MatchOption (if b then Some too_large else None) (IsCoverAnswered rows large_cover_outcome) (λ _. large_cover_outcome ≡ large_cover_outcome)) (sym e) refl
 
-    few_enough : (o : Outcome) → IsCoverTold rows o → nat_lt max_tets (2 * length rows) ≡ false → IsCoverAnswer rows o
-    few_enough o t e = subst (λ (b : Bool). MatchOption (if b then Some too_large else None) (IsCoverTold rows o) (λ _. o ≡ large_cover_outcome)) (sym e) t
+    few_enough : (o : Outcome) → IsCoverAnswered rows o → nat_lt max_tets (2 * length rows) ≡ false → IsCoverAnswer rows o
+    few_enough o t e = subst (λ (b : Bool). MatchOption (if b then Some too_large else None) (IsCoverAnswered rows o) (λ _. o ≡ large_cover_outcome)) (sym e) t

@@ -2,9 +2,9 @@
 use Rattle.std.proofs.Common.{◌≡◌, ℕ, List, inl, inr, sym, ap, ◌∙◌}
 use Rattle.table_definitions.specs.Table.{Row, IsTable}
 use Rattle.table_definitions.specs.Relabelling.{Relabelling}
-use Rattle.part_laws.proofs.Signatures.{one_component_signature}
-use Rattle.part_laws.proofs.SameParts.{same_parts_carry}
-use Rattle.part_laws.proofs.OneOrder.{one_same_parts}
+use Rattle.component_laws.proofs.Signatures.{one_component_signature}
+use Rattle.component_laws.proofs.SameParts.{same_parts_carry}
+use Rattle.component_laws.proofs.OneOrder.{one_same_parts}
 use Rattle.outcome_definitions.specs.Outcomes.{Outcome}
 use Rattle.outcome_definitions.specs.Canonical.{done, relabelling_text}
 use Rattle.outcome_definitions.specs.Parts.{IsComponentSignatureAnswer, IsSamePartsAnswer}

@@ -8,7 +8,7 @@ use Rattle.signature_definitions.specs.declared.InputFault.{InputFault}
 use Rattle.signature_definitions.specs.SignatureText.{any_table_at}
 use Rattle.signature_text_laws.proofs.AnyTables.{any_table_read}
 use Rattle.cone_text_definitions.specs.VectorText.{vector_at}
-use Rattle.document_definitions.specs.Documents.{worded, next_table_at, no_line_at, two_tables_document, vector_document}
+use Rattle.text_document_definitions.specs.Documents.{worded, next_table_at, no_line_at, two_tables_document, vector_document}
 
 pub next_read : (c : Reading) (x : List Row × Reading) → next_table_at c ≡ Ok x → IsTable x.0
 unfolding next_table_at

@@ -13,18 +13,18 @@ use Rattle.surface_definitions.specs.declared.Coords.{Coords}
 use Rattle.surface_definitions.specs.declared.VectorFault.{VectorFault}
 use Rattle.surface_definitions.specs.Verdict.{Verdict, solution}
 use Rattle.surface_definitions.specs.TableSurfaces.{table_enumeration}
-use Rattle.vector_definitions.specs.Answers.{verdict_in, IsFit}
+use Rattle.surface_vector_definitions.specs.Answers.{verdict_in, IsFit}
 use Rattle.sum_definitions.specs.Sums.{Term}
 use Rattle.sum_definitions.specs.Adding.{add_fault}
 use Rattle.sum_definitions.specs.declared.AddFault.{AddFault}
 use Rattle.sum_definitions.specs.declared.LargeTurn.{LargeTurn}
 use Rattle.sum_laws.specs.Laws.{Answer, sum, large}
 use Rattle.sum_laws.proofs.Runs.{one_answer}
-use Rattle.document_definitions.specs.Blocks.{Block}
+use Rattle.text_document_definitions.specs.Blocks.{Block}
 use Rattle.outcome_definitions.specs.declared.SumRefusal.{SumRefusal}
 use Rattle.outcome_definitions.specs.declared.SumRefusal.TheVariants.{Unfit, UnfitTerm, LargeTimes, NoSum}
 use Rattle.outcome_definitions.specs.Outcomes.{Outcome}
-use Rattle.outcome_definitions.specs.Sums.{IsFirstRefused, AreTold, IsVerdict, IsTermVerdict, IsAddedUp, IsSummed, AreSums, IsDecomposed, IsDecomposeAnswer, IsAddupAnswer, sums_outcome, addup_outcome}
+use Rattle.outcome_definitions.specs.Sums.{IsFirstRefused, AreAnswered, IsVerdict, IsTermVerdict, IsAddedUp, IsSummed, AreSums, IsDecomposed, IsDecomposeAnswer, IsAddupAnswer, sums_outcome, addup_outcome}
 use Rattle.surface_definitions.proofs.OneSystem.{one_equations}
 use Rattle.outcome_laws.proofs.Enumerated.{one_past_told}
 
@@ -94,7 +94,7 @@ module _ {A B E : Type 0} (IsTold : A → Result B E → Type 0) (one : (x : A) 
       let p : SamePlace (length h.before) (length k.before) f g = one_place h.before h.value h.after k.before k.value k.after f g (sym h.stands ∙ k.stands) h.passed h.fails k.passed k.fails in
       (h.number_is ∙ p.0 ∙ sym k.number_is, p.1)
 
-  pub told_once : (list : List A) (t u : Result (List B) (ℕ × E)) → AreTold IsTold list t → AreTold IsTold list u → t ≡ u
+  pub told_once : (list : List A) (t u : Result (List B) (ℕ × E)) → AreAnswered IsTold list t → AreAnswered IsTold list u → t ≡ u
   told_once list (Ok cs) (Ok ds) h k = ap Ok (told_list list cs ds h k)
   told_once list (Ok cs) (Err r) h k = absurd (none_refused k.before k.value k.after cs r.1 (subst (λ (xs : List A). AllZip (λ x a. IsTold x (Ok a)) xs cs) k.stands h) k.fails)
   told_once list (Err r) (Ok ds) h k = absurd (none_refused h.before h.value h.after ds r.1 (subst (λ (xs : List A). AllZip (λ x a. IsTold x (Ok a)) xs ds) h.stands k) h.fails)
@@ -129,7 +129,7 @@ one_sum most list x (Err p) (Err q) h k = ap Err (turns_same p q (one_answer mos
 one_list_of_sums : (most : ℕ) (e : Enumeration) (rows : List Row) (vectors : List (List ℕ)) (o p : Outcome) → AreSums most e rows vectors o → AreSums most e rows vectors p → o ≡ p
 one_list_of_sums most e rows vectors o p h k =
     let lists : h.list ≡ k.list = one_surface_list_lem e.system.columns e.system.rows e.system.rows e.pairs h.list k.list (IsPermutation-refl e.system.rows) h.listed.surfaces k.listed.surfaces in
-    let there : AreTold (IsSummed most h.list) vectors k.told = subst (λ (list : List (List ℕ)). AreTold (IsSummed most list) vectors k.told) (sym lists) k.sums in
+    let there : AreAnswered (IsSummed most h.list) vectors k.told = subst (λ (list : List (List ℕ)). AreAnswered (IsSummed most list) vectors k.told) (sym lists) k.sums in
     h.outcome ∙ ap (sums_outcome rows) (told_once (IsSummed most h.list) (one_sum most h.list) vectors h.told k.told h.sums there) ∙ sym k.outcome
 
 one_decomposed : (most : ℕ) (e : Enumeration) (rows : List Row) (vectors : List (List ℕ)) (checked : Result (List (Unit {0})) (ℕ × VectorFault)) (o p : Outcome) → e.order ≢ Free
@@ -146,7 +146,7 @@ given_not_free e = absurd cc
 pub one_decompose : (coords : Coords) (most : ℕ) (d : List Row × List (List ℕ)) (o p : Outcome) → IsDecomposeAnswer coords most d o → IsDecomposeAnswer coords most d p → o ≡ p
 one_decompose coords most d o p h k =
     let e : h.equations ≡ k.equations = one_equations coords d.0 h.equations k.equations h.of_table k.of_table in
-    let verdicts : AreTold (IsVerdict coords d.0 h.equations) d.1 k.checked = subst (λ (q : List EquationRow). AreTold (IsVerdict coords d.0 q) d.1 k.checked) (sym e) k.verdicts in
+    let verdicts : AreAnswered (IsVerdict coords d.0 h.equations) d.1 k.checked = subst (λ (q : List EquationRow). AreAnswered (IsVerdict coords d.0 q) d.1 k.checked) (sym e) k.verdicts in
     let checks : h.checked ≡ k.checked = told_once (IsVerdict coords d.0 h.equations) (one_verdict coords d.0 h.equations) d.1 h.checked k.checked h.verdicts verdicts in
     let there : IsDecomposed most (table_enumeration coords Given most d.0 h.equations) d.0 d.1 h.checked p =
     subst₂ (λ (q : List EquationRow) (c : Result (List (Unit {0})) (ℕ × VectorFault)). IsDecomposed most (table_enumeration coords Given most d.0 q) d.0 d.1 c p) (sym e) (sym checks) k.told in
@@ -201,5 +201,5 @@ module _ (coords : Coords) (rows : List Row) (equations : List EquationRow) wher
 pub one_addup : (coords : Coords) (d : List Row × List Block) (o p : Outcome) → IsAddupAnswer coords d o → IsAddupAnswer coords d p → o ≡ p
 one_addup coords d o p h k =
     let e : h.equations ≡ k.equations = one_equations coords d.0 h.equations k.equations h.of_table k.of_table in
-    let there : AreTold (IsAddedUp coords d.0 h.equations) d.1 k.told = subst (λ (q : List EquationRow). AreTold (IsAddedUp coords d.0 q) d.1 k.told) (sym e) k.added in
+    let there : AreAnswered (IsAddedUp coords d.0 h.equations) d.1 k.told = subst (λ (q : List EquationRow). AreAnswered (IsAddedUp coords d.0 q) d.1 k.told) (sym e) k.added in
     h.outcome ∙ ap addup_outcome (told_once (IsAddedUp coords d.0 h.equations) (one_added coords d.0 h.equations) d.1 h.told k.told h.added there) ∙ sym k.outcome

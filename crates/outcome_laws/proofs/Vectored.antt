@@ -5,11 +5,11 @@ use Rattle.table_definitions.specs.Table.{Row, IsTable}
 use Rattle.skeleton_definitions.specs.Skeleton.{Skeleton, IsFirstInvalid}
 use Rattle.surface_definitions.specs.declared.Coords.{Coords}
 use Rattle.surface_definitions.specs.declared.Coords.TheVariants.{Standard, Quad}
-use Rattle.vector_definitions.specs.Answers.{IsDescription, IsLifted, IsCrushedAlong, AreTold}
-use Rattle.vector_definitions.proofs.Told.{one_description_each}
-use Rattle.surface_laws.proofs.ToldLemmas.{lifted_each, crushed_along_once}
+use Rattle.surface_vector_definitions.specs.Answers.{IsDescription, IsLifted, IsCrushedAlong, AreAnswered}
+use Rattle.surface_vector_definitions.proofs.AnswerLemmas.{one_description_each}
+use Rattle.surface_laws.proofs.AnswerLemmas.{lifted_each, crushed_along_once}
 use Rattle.outcome_definitions.specs.Outcomes.{Outcome}
-use Rattle.outcome_definitions.specs.Vectors.{IsCrushAnswer, crush_outcome, IsLiftsAnswer, lift_outcome, AreDescribed, describe_outcome, IsInvalidTold, IsDescribeAnswer}
+use Rattle.outcome_definitions.specs.Vectors.{IsCrushAnswer, crush_outcome, IsLiftsAnswer, lift_outcome, AreDescribed, describe_outcome, IsInvalidAnswered, IsDescribeAnswer}
 use Rattle.surface_definitions.proofs.OneSystem.{one_equations}
 use Rattle.skeleton_definitions.proofs.OneSkeleton.{one_skeleton}
 use Rattle.outcome_laws.proofs.Presented.{one_refusal, never_invalid}
@@ -24,19 +24,19 @@ pub one_lifts : (d : List Row × List (List ℕ)) (o p : Outcome) → IsLiftsAns
 one_lifts d o p h k =
     let e : h.equations ≡ k.equations = one_equations Quad d.0 h.equations k.equations h.of_table k.of_table in
     let s : h.skeleton ≡ k.skeleton = one_skeleton h.skeleton k.skeleton (h.of_rows ∙ sym k.of_rows) h.is_skeleton k.is_skeleton in
-    let same_rows : AreTold (IsLifted k.skeleton h.equations) d.1 k.told = subst (λ (q : List EquationRow). AreTold (IsLifted k.skeleton q) d.1 k.told) (sym e) k.lifted in
-    let there : AreTold (IsLifted h.skeleton h.equations) d.1 k.told = subst (λ (t : Skeleton). AreTold (IsLifted t h.equations) d.1 k.told) (sym s) same_rows in
+    let same_rows : AreAnswered (IsLifted k.skeleton h.equations) d.1 k.told = subst (λ (q : List EquationRow). AreAnswered (IsLifted k.skeleton q) d.1 k.told) (sym e) k.lifted in
+    let there : AreAnswered (IsLifted h.skeleton h.equations) d.1 k.told = subst (λ (t : Skeleton). AreAnswered (IsLifted t h.equations) d.1 k.told) (sym s) same_rows in
     h.outcome ∙ ap lift_outcome (lifted_each h.skeleton h.equations d.1 h.told k.told h.is_skeleton h.lifted there) ∙ sym k.outcome
 
 one_described : (s : Skeleton) (coords : Coords) (vectors : List (List ℕ)) (o p : Outcome) → AreDescribed s coords vectors o → AreDescribed s coords vectors p → o ≡ p
 one_described s coords vectors o p h k =
     let e : h.equations ≡ k.equations = one_equations coords s.rows h.equations k.equations h.of_table k.of_table in
-    let there : AreTold (IsDescription s coords h.equations) vectors k.told = subst (λ (q : List EquationRow). AreTold (IsDescription s coords q) vectors k.told) (sym e) k.described in
+    let there : AreAnswered (IsDescription s coords h.equations) vectors k.told = subst (λ (q : List EquationRow). AreAnswered (IsDescription s coords q) vectors k.told) (sym e) k.described in
     h.outcome ∙ ap (describe_outcome s coords) (one_description_each s coords h.equations vectors h.told k.told h.described there) ∙ sym k.outcome
 
 -- an invalid edge is told, or the vectors are described
 abbrev Told : Skeleton → Coords → List (List ℕ) → Outcome → Type 0
-Told s coords vectors o = IsInvalidTold s o ⊎ (IsFirstInvalid s None × AreDescribed s coords vectors o)
+Told s coords vectors o = IsInvalidAnswered s o ⊎ (IsFirstInvalid s None × AreDescribed s coords vectors o)
 
 one_told : (s : Skeleton) (coords : Coords) (vectors : List (List ℕ)) (o p : Outcome) → Told s coords vectors o → Told s coords vectors p → o ≡ p
 one_told s coords vectors o p (inl h) (inl k) = one_refusal s o p h k

@@ -141,7 +141,7 @@ impl Model for Move {
 }
 
 /// The number of tetrahedra, of so many, that a move with this core keeps.
-pub fn kept(tets: u32, core: Core) -> u32
+pub fn retained(tets: u32, core: Core) -> u32
     ensures { result ≡ tets - (5 - length core) }
 {
     tets.saturating_sub(5 - u32::from(core.size()))
@@ -152,7 +152,7 @@ pub fn inverse_on(tets: u32, m: Move) -> Move
     ensures { result ≡ moves.inverse_move tets m }
 {
     Move {
-        tet: kept(tets, m.core),
+        tet: retained(tets, m.core),
         core: m.core.opposite(),
     }
 }

@@ -8,7 +8,7 @@ ghost use Rattle.table_definitions.specs.Relabelling.{gluing_under};
 ghost use Rattle.move_definitions.specs.Moves as moves;
 ghost use Rattle.move_laws.specs.Facets.{IsFacet, AreOldFacets};
 
-use crate::cores::kept;
+use crate::cores::retained;
 use crate::facet::{replace_label, vertex_of};
 use crate::{Facet, Move};
 use gluing_table::{Face, Glue, Table};
@@ -33,12 +33,12 @@ pub fn other_labels(label: u8) -> [u8; 4]
 }
 
 /// The number of tetrahedra of a table that a move keeps.
-pub fn kept_in(table: &Table, m: &Move) -> u32
+pub fn retained_in(table: &Table, m: &Move) -> u32
     ensures value { result ≡ moves.kept table.now m.now }
     ensures few { result ≤ max_tets }
     ensures is_table { IsTable table.now }
 {
-    kept(table.len(), m.core)
+    retained(table.len(), m.core)
 }
 
 /// The facet that is put in for a label.
@@ -47,7 +47,7 @@ pub fn new_facet(table: &Table, m: &Move, label: u8) -> Facet
     ensures { result ≡ moves.new_facet table.now m.now label }
 {
     Facet {
-        tet: kept_in(table, m) + label as u32,
+        tet: retained_in(table, m) + label as u32,
         missing: label,
         labels: other_labels(label),
     }
@@ -103,7 +103,7 @@ pub fn closed_number(facets: &[Facet], tet: u32) -> u32
 }
 
 /// What stands for a tetrahedron that is kept.
-fn kept_stand_in(table: &Table, m: &Move, facets: &[Facet], tet: u32) -> Glue
+fn retained_stand_in(table: &Table, m: &Move, facets: &[Facet], tet: u32) -> Glue
     requires { AreOldFacets table.now m.now facets.now }
     ensures { result ≡ moves.kept_stand_in table.now m.now tet }
 {
@@ -133,7 +133,7 @@ fn stand_in(table: &Table, m: &Move, facets: &[Facet], x: Face) -> Option<Glue>
 {
     match facet_of(facets, x.tet) {
         Some(f) => facet_stand_in(table, m, f, f.labels[x.face as usize]),
-        None => Some(kept_stand_in(table, m, facets, x.tet)),
+        None => Some(retained_stand_in(table, m, facets, x.tet)),
     }
 }
 

@@ -7,7 +7,7 @@ mod facets;
 mod legality;
 mod moving;
 
-pub use cores::{Core, Move, inverse_on, kept};
+pub use cores::{Core, Move, inverse_on, retained};
 pub use facet::Facet;
 pub use facets::{closed_number, facet_of};
 pub use legality::{Pattern, legal};

@@ -10,9 +10,9 @@ ghost use Rattle.move_definitions.specs.Undos.{CanTakeBack, IsTakenBack};
 ghost use Rattle.move_laws.specs.Faults.{IsPattern};
 ghost use Rattle.move_laws.specs.Facets.{IsOldFacet, AreOldFacets, CanPlay, outer_gluing, fresh_gluing, put_row, put_rows, exchange};
 
-use crate::cores::{inverse_on, kept};
+use crate::cores::{inverse_on, retained};
 use crate::facet::{glue_opposite, vertex_of};
-use crate::facets::{kept_in, label_by_label, moved_glue, new_facet, other_labels};
+use crate::facets::{label_by_label, moved_glue, new_facet, other_labels, retained_in};
 use crate::legality::is_of_facet;
 use crate::{Facet, Move, MoveFault, Pattern, legal};
 use arrayvec::ArrayVec;
@@ -106,7 +106,7 @@ fn fresh_rows(table: &Table, m: &Move, facets: &[Facet]) -> ArrayVec<(u32, Row),
     ensures { result.items ≡ put_rows table.now m.now }
 {
     let mut rows = ArrayVec::new();
-    let first = kept_in(table, m);
+    let first = retained_in(table, m);
     for label in 0..m.core.size() {
         rows.push((first + label as u32, fresh_row(table, m, facets, label)));
     }
@@ -174,7 +174,7 @@ pub fn keeps_limit(table: &Table, m: Move) -> bool
     ensures core { IsCore m.core }
     ensures is_table { IsTable table.now }
 {
-    kept_in(table, &m) + m.core.size() as u32 <= MAX_TETS
+    retained_in(table, &m) + m.core.size() as u32 <= MAX_TETS
 }
 
 /// Plays a legal move by the facets that it takes out, and keeps what takes it back. It is refused where it doesn't keep
@@ -219,7 +219,7 @@ fn put_numbers(undo: &Undo) -> ArrayVec<u32, 4>
     ensures { result.items ≡ (undos.back_exchange undo.now).removed }
 {
     let mut numbers = ArrayVec::new();
-    let first = undo.kept();
+    let first = undo.retained_by_move();
     for label in 0..undo.played.core.size() {
         numbers.push(first + label as u32);
     }
@@ -228,10 +228,10 @@ fn put_numbers(undo: &Undo) -> ArrayVec<u32, 4>
 
 impl Undo {
     /// The number of tetrahedra that the move kept.
-    fn kept(&self) -> u32
+    fn retained_by_move(&self) -> u32
         ensures { result ≡ self.now.tets - (5 - length self.now.played.core) }
     {
-        kept(self.tets, self.played.core)
+        retained(self.tets, self.played.core)
     }
 }
 

@@ -10,13 +10,13 @@ use Rattle.surface_definitions.specs.Coordinates.{columns, columns_each, triangl
 use Rattle.surface_definitions.specs.declared.Coords.{Coords}
 use Rattle.surface_definitions.specs.declared.Coords.TheVariants.{Standard, Quad, Octagon}
 use Rattle.ray_steps.specs.Clashes.{AreClashes, IsInUnion, IsClashFree}
-use Rattle.coordinate_laws.specs.ClashPairs.{is_clash}
+use Rattle.surface_coordinate_laws.specs.ClashPairs.{is_clash}
 use Rattle.quad_condition.specs.Partners.{partners}
 use Rattle.quad_condition.specs.Bits.{IsOfEither, IsMarkedIn, HasTwo}
 use Rattle.quad_condition.specs.Marks.{is_marked, AreMarks, AreNear, AreMasks, HasNear}
 use Rattle.quad_condition.proofs.Pairs.{Pairs, IsPrefix, prefix_by, pairs_prefix, partners_before, partners_more, pairs_before, all_pairs}
-use Rattle.coordinate_laws.proofs.Ranges.{flat_map-more}
-use Rattle.coordinate_laws.proofs.ClashPairs.{all_of_pairs}
+use Rattle.surface_coordinate_laws.proofs.Ranges.{flat_map-more}
+use Rattle.surface_coordinate_laws.proofs.ClashPairs.{all_of_pairs}
 
 -- one column more
 below_other : (k column : ℕ) → k ≢ column → nat_lt k (column + 1) ≡ nat_lt k column

@@ -10,7 +10,7 @@ use Rattle.table_definitions.proofs.PermutationLaws.{image_below, images_apart}
 use Rattle.table_definitions.proofs.Faces.{face_at}
 use Rattle.skeleton_definitions.specs.Links.{vertex_number}
 use Rattle.skeleton_definitions.specs.Skeleton.{Skeleton, IsSkeleton}
-use Rattle.class_laws.specs.Crossings.{crossed_vertex, vertex_at}
+use Rattle.skeleton_class_laws.specs.Crossings.{crossed_vertex, vertex_at}
 use Rattle.surface_definitions.specs.declared.Coords.TheVariants.{Quad}
 use Rattle.surface_definitions.specs.Coordinates.{quad_column, keeping}
 use Rattle.surface_laws.specs.LiftLaws.{AreHeights}

@@ -13,7 +13,7 @@ use Rattle.skeleton_definitions.specs.Skeleton.{Skeleton, IsSkeleton}
 use Rattle.surface_definitions.specs.declared.Coords.TheVariants.{Quad, Standard}
 use Rattle.surface_definitions.specs.Coordinates.{quad_column, keeping}
 use Rattle.surface_definitions.specs.Lift.{projected}
-use Rattle.vector_definitions.specs.Lifting.{HasLiftAt, IsLeastWithoutLift}
+use Rattle.surface_vector_definitions.specs.Lifting.{HasLiftAt, IsLeastWithoutLift}
 use Rattle.surface_laws.specs.LiftLaws.{AreHeights, IsLiftOf, IsSurfaceOver}
 use Rattle.surface_laws.proofs.Glued.{IsGlued, glued_is}
 use Rattle.surface_laws.proofs.Heights.{heights_give, lift_gives, entry_of, vector_is, entry_low, entry_high}

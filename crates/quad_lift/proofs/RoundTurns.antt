@@ -1,14 +1,14 @@
 -- The turn of a vertex, face by face.
 use Rattle.std.proofs.Common.{◌≡◌, ◌≢◌, ℕ, ◌+◌, ◌/◌, ◌%◌, ◌<◌, ◌≤◌, Bool, true, false, List, [], ◌∷◌, ◌++◌, length, set, Option, Some, None, refl, ◌∙◌}
 use Rattle.std.specs.List.{slice_index_or}
-use Rattle.walk_laws.specs.Search.{IsMarked, IsTurn, IsSearch}
-use Rattle.walk_laws.specs.Joined.{present}
-use Rattle.walk_laws.proofs.Rows.{present_all, entry_marks, entry_passes, entry_skips}
-use Rattle.walk_laws.proofs.SearchLemmas.{turn_ends}
+use Rattle.table_walk_laws.specs.Search.{IsMarked, IsTurn, IsSearch}
+use Rattle.table_walk_laws.specs.Joined.{present}
+use Rattle.table_walk_laws.proofs.Rows.{present_all, entry_marks, entry_passes, entry_skips}
+use Rattle.table_walk_laws.proofs.SearchLemmas.{turn_ends}
 use Rattle.table_definitions.specs.Table.{Row, glue}
-use Rattle.class_laws.specs.Crossings.{crossed_vertex}
-use Rattle.class_laws.specs.Neighbours.{row_at}
-use Rattle.class_laws.proofs.NeighbourLemmas.{entry_at}
+use Rattle.skeleton_class_laws.specs.Crossings.{crossed_vertex}
+use Rattle.skeleton_class_laws.specs.Neighbours.{row_at}
+use Rattle.skeleton_class_laws.proofs.NeighbourLemmas.{entry_at}
 use Rattle.quad_lift.specs.Spreads.{vertices_round, round_before}
 use Rattle.quad_lift.proofs.CrossingLemmas.{crossed_none}
 

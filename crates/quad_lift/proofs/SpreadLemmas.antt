@@ -4,9 +4,9 @@ use Rattle.std.specs.Prelude.{sum, slice_index, option_and_then, Contains}
 use Rattle.std.specs.List.{slice_index_or}
 use Rattle.std.proofs.lemmas.Bool.{false≢true}
 use Rattle.std.proofs.lemmas.List.{get_or-set_same, get_or-set_other, length-set}
-use Rattle.walk_laws.specs.Search.{IsMarked, IsClosed}
-use Rattle.walk_laws.proofs.SearchLemmas.{marked_cases, marked_below}
-use Rattle.walk_laws.proofs.Rows.{present_contains}
+use Rattle.table_walk_laws.specs.Search.{IsMarked, IsClosed}
+use Rattle.table_walk_laws.proofs.SearchLemmas.{marked_cases, marked_below}
+use Rattle.table_walk_laws.proofs.Rows.{present_contains}
 use Rattle.table_definitions.specs.Permutation.{image}
 use Rattle.table_definitions.specs.Table.{Row, IsTable}
 use Rattle.table_definitions.specs.Places.{Place, across, along, vertex, SameVertex}
@@ -14,9 +14,9 @@ use Rattle.table_definitions.proofs.PermutationLaws.{image_below}
 use Rattle.table_definitions.proofs.Faces.{face_at}
 use Rattle.skeleton_definitions.specs.Links.{vertex_number}
 use Rattle.skeleton_definitions.specs.Skeleton.{Skeleton, IsSkeleton}
-use Rattle.class_laws.specs.Crossings.{crossed_vertex, vertex_at}
-use Rattle.class_laws.specs.Neighbours.{row_at}
-use Rattle.class_laws.proofs.NeighbourLemmas.{entry_at}
+use Rattle.skeleton_class_laws.specs.Crossings.{crossed_vertex, vertex_at}
+use Rattle.skeleton_class_laws.specs.Neighbours.{row_at}
+use Rattle.skeleton_class_laws.proofs.NeighbourLemmas.{entry_at}
 use Rattle.surface_laws.specs.LiftLaws.{AreHeights}
 use Rattle.surface_laws.proofs.Glued.{IsGlued, glued_is}
 use Rattle.surface_laws.proofs.Vertices.{one_vertex, vertex_is, number-vertex, IsCrossed, crossed_is, across_is}

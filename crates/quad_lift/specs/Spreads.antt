@@ -4,9 +4,9 @@ use Rattle.std.specs.List.{slice_index_or, filter_map}
 use Rattle.table_definitions.specs.Lists.{below}
 use Rattle.table_definitions.specs.Table.{Row}
 use Rattle.skeleton_definitions.specs.Skeleton.{Skeleton}
-use Rattle.class_laws.specs.Neighbours.{row_at}
-use Rattle.class_laws.specs.Crossings.{crossed_vertex}
-use Rattle.walk_laws.specs.Search.{IsMarked}
+use Rattle.skeleton_class_laws.specs.Neighbours.{row_at}
+use Rattle.skeleton_class_laws.specs.Crossings.{crossed_vertex}
+use Rattle.table_walk_laws.specs.Search.{IsMarked}
 use Rattle.surface_laws.specs.LiftLaws.{AreHeights}
 
 -- the vertices across the faces at vertex i

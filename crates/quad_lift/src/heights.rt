@@ -3,7 +3,7 @@
 
 ghost use Rattle.std.specs.Prelude.{◌≡◌, ℕ, ◌+◌, ◌*◌, ◌<◌, ◌≤◌, Bool, true, false, List, [], length, sum, slice_index_or, IfOk, OnOk};
 ghost use Rattle.text_definitions.specs.Written.{limit};
-ghost use Rattle.walk_laws.specs.Search.{IsMarked, IsClosed, IsSearch, IsTurn, work_left};
+ghost use Rattle.table_walk_laws.specs.Search.{IsMarked, IsClosed, IsSearch, IsTurn, work_left};
 ghost use Rattle.skeleton_definitions.specs.Skeleton.{IsSkeleton};
 ghost use Rattle.quad_lift.specs.Spreads.{vertices_round, round_before, AreSpread, AreAllSpread};
 

@@ -10,4 +10,4 @@ mod sums;
 
 pub use lifting::{lift, project};
 pub use no_memory::Failure;
-pub use vector_definitions::LiftFault;
+pub use surface_vector_definitions::LiftFault;

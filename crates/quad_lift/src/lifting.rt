@@ -7,7 +7,7 @@ ghost use Rattle.skeleton_definitions.specs.Skeleton.{IsSkeleton};
 ghost use Rattle.surface_definitions.specs.declared.Coords.TheVariants.{Standard, Quad as QuadCoords};
 ghost use Rattle.surface_definitions.specs.Coordinates as coordinates;
 ghost use Rattle.surface_definitions.specs.Lift.{projected};
-ghost use Rattle.vector_definitions.specs.Lifting.{IsLiftAnswer};
+ghost use Rattle.surface_vector_definitions.specs.Lifting.{IsLiftAnswer};
 ghost use Rattle.surface_laws.specs.LiftLaws.{IsSurfaceOver};
 ghost use Rattle.quad_lift.specs.Agreements.{AreLeastHeights, lifted_entry};
 
@@ -20,7 +20,7 @@ use normal_discs::{columns, columns_each, place_of, quad_column, tet_of, triangl
 use skeleton::Skeleton;
 use std::alloc::{AllocError, Global};
 use surface_definitions::Coords;
-use vector_definitions::LiftFault;
+use surface_vector_definitions::LiftFault;
 
 /// An entry of the lift: a height above the least of its class, or quads.
 fn entry(skeleton: &Skeleton, x: &[u128], heights: &[u128], lows: &[u128], column: u32) -> u128

@@ -2,7 +2,7 @@
 use Rattle.std.proofs.Common.{ℕ, [], false}
 use Rattle.cone_definitions.specs.Systems.{System}
 use Rattle.cone_definitions.specs.declared.Order.{Order}
-use Rattle.minor_laws.proofs.Numbers.{are_within}
+use Rattle.cone_bound_laws.proofs.Numbers.{are_within}
 use Rattle.number_bounds.specs.Columns.{cap_by, AreColumnsBounded}
 use Rattle.bounded_list.specs.Lists.{AreAlwaysWithin}
 

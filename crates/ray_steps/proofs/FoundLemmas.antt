@@ -16,7 +16,7 @@ use Rattle.ray_steps.specs.declared.signs.Sign.{Sign}
 use Rattle.ray_steps.specs.declared.signs.Sign.TheVariants.{Zero}
 use Rattle.ray_steps.specs.Rivals.{HasAllSupports}
 use Rattle.ray_steps.specs.Signs.{IsNegative, IsFacePair, IsSignedPair, ComesFromPlaces, IsMadeUpTo}
-use Rattle.ray_steps.proofs.MadeLemmas.{made_next}
+use Rattle.ray_steps.proofs.CombinationLemmas.{made_next}
 use Rattle.ray_steps.proofs.PlaceLemmas.{HaveTaken}
 use Rattle.ray_steps.proofs.RivalLemmas.{apart_inside, not_face_clash}
 use Rattle.ray_steps.proofs.SupportLemmas.{inside_iff}

@@ -5,8 +5,8 @@ use Rattle.cone_definitions.specs.Surfaces.{Clash}
 use Rattle.cone_definitions.proofs.Entries.{length-multiple, length-sum_of}
 use Rattle.cone_core.specs.Combinations.{IsReducedBy, HasFirstPast}
 use Rattle.ray_steps.specs.declared.signs.Sign.{Sign}
-use Rattle.ray_steps.specs.declared.kept.StepFault.{StepFault}
-use Rattle.ray_steps.specs.declared.kept.StepFault.TheVariants.{Large, NoMemory}
+use Rattle.ray_steps.specs.declared.rays.StepFault.{StepFault}
+use Rattle.ray_steps.specs.declared.rays.StepFault.TheVariants.{Large, NoMemory}
 use Rattle.cone_definitions.specs.declared.LargeKind.TheVariants.{Value, Pair}
 use Rattle.ray_steps.specs.Faults.{IfLarge, IsLargeSumOf, IsFirstLargeSum}
 use Rattle.ray_steps.specs.Signs.{IsSignedPair, IsMadeUpTo}

@@ -1,8 +1,8 @@
-pub mod KeptLemmas
+pub mod RayLemmas
 pub mod InsertedLemmas
 pub mod SupportLemmas
 pub mod SignLemmas
-pub mod MadeLemmas
+pub mod CombinationLemmas
 pub mod SingleLemmas
 pub mod UnionLemmas
 pub mod RivalLemmas

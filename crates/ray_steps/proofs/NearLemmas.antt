@@ -7,11 +7,11 @@ use Rattle.ray_steps.specs.declared.negatives.Negatives.{Negatives}
 use Rattle.ray_steps.specs.declared.signs.Sign.{Sign}
 use Rattle.cone_definitions.specs.Vectors.{ray_at}
 use Rattle.ray_steps.specs.Signs.{IsFacePair}
-use Rattle.ray_steps.specs.declared.kept.Kept.{Kept}
-use Rattle.ray_steps.specs.Kepts.{rays_of, AreOfWidth}
+use Rattle.ray_steps.specs.declared.rays.RayWithSupport.{RayWithSupport}
+use Rattle.ray_steps.specs.Rays.{rays_of, AreOfWidth}
 use Rattle.ray_steps.specs.Unions.{HaveSmallUnions}
 use Rattle.ray_steps.specs.Negatives.{AreNegatives, IsFar, IsFirstNear}
-use Rattle.ray_steps.proofs.KeptLemmas.{length-rays_of, ray_width}
+use Rattle.ray_steps.proofs.RayLemmas.{length-rays_of, ray_width}
 use Rattle.ray_steps.proofs.RivalLemmas.{support_read, support_of_rival, count_of_rivals, not_face_clash}
 use Rattle.ray_steps.proofs.PlaceLemmas.{HaveTaken, taken_to}
 use Rattle.ray_steps.proofs.UnionLemmas.{not_face_large}
@@ -31,19 +31,19 @@ not_face_far pairs rays signs i columns most k joined negatives a h small n coun
     far
 
 -- up to the first ray that isn't far, the pairs are taken
-pub near_taken : (limit : ℕ) (pairs : List Clash) (kepts : List Kept) (signs : List Sign) (i columns most m n : ℕ) (joined : List Bool) (negatives : Negatives) (u : Kept) (made : List (List ℕ)) →
-    AreJoinedTo pairs (support_of (ray_at (rays_of kepts) i)) joined → HaveSmallUnions columns most pairs (rays_of kepts) → AreNegatives (rays_of kepts) signs columns negatives → length signs ≡ length kepts →
-    i < length kepts → AreOfWidth columns kepts → ray_at (rays_of kepts) i ≡ u.ray → IsFirstNear u.support joined most negatives.table.supports m n →
-    HaveTaken limit pairs (rays_of kepts) signs negatives.places.items i m made → (n ≤ length negatives.places.items) × HaveTaken limit pairs (rays_of kepts) signs negatives.places.items i n made
-near_taken limit pairs kepts signs i columns most m n joined negatives u made h small neg count i_in widths read near taken =
-    let rays = rays_of kepts in
+pub near_taken : (limit : ℕ) (pairs : List Clash) (ray_list : List RayWithSupport) (signs : List Sign) (i columns most m n : ℕ) (joined : List Bool) (negatives : Negatives) (u : RayWithSupport) (made : List (List ℕ)) →
+    AreJoinedTo pairs (support_of (ray_at (rays_of ray_list) i)) joined → HaveSmallUnions columns most pairs (rays_of ray_list) → AreNegatives (rays_of ray_list) signs columns negatives → length signs ≡ length ray_list →
+    i < length ray_list → AreOfWidth columns ray_list → ray_at (rays_of ray_list) i ≡ u.ray → IsFirstNear u.support joined most negatives.table.supports m n →
+    HaveTaken limit pairs (rays_of ray_list) signs negatives.places.items i m made → (n ≤ length negatives.places.items) × HaveTaken limit pairs (rays_of ray_list) signs negatives.places.items i n made
+near_taken limit pairs ray_list signs i columns most m n joined negatives u made h small neg count i_in widths read near taken =
+    let rays = rays_of ray_list in
     let places = negatives.places.items in
-    let all = length-rays_of kepts in
+    let all = length-rays_of ray_list in
     let same = count_of_rivals rays columns places negatives.table neg.table in
     let within : n ≤ length places = let w = near.within in omega (arith, same) in (
       within,
       taken_to limit pairs rays signs places i m n made neg.places near.least within
           (λ k low less p. not_face_far pairs rays signs i columns most k joined negatives u.support h small neg (omega (arith, count)) (omega arith)
-          (ray_width kepts i columns i_in widths) (support_read u (ray_at rays i) read) (omega arith) (near.earlier k low less) p.face)
+          (ray_width ray_list i columns i_in widths) (support_read u (ray_at rays i) read) (omega arith) (near.earlier k low less) p.face)
           taken,
     )

@@ -7,7 +7,7 @@ use Rattle.cone_definitions.specs.Surfaces.{Clash}
 use Rattle.ray_steps.specs.declared.signs.Sign.{Sign}
 use Rattle.ray_steps.specs.declared.signs.Sign.TheVariants.{Zero}
 use Rattle.ray_steps.specs.Signs.{IsNegative, AreNegativePlaces, IsSignedPair, ComesFromPlaces, IsMadeUpTo}
-use Rattle.ray_steps.proofs.MadeLemmas.{made_skip}
+use Rattle.ray_steps.proofs.CombinationLemmas.{made_skip}
 
 -- the first m places come before a place, and the others don't
 pub record AreReached (places : List ℕ) (m up_to : ℕ) : Type 0 where

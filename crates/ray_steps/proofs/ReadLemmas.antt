@@ -2,10 +2,10 @@
 use Rattle.std.proofs.Common.{◌≡◌, ℕ, ◌+◌, ◌-◌, ◌<◌, ◌≤◌, List, length, get_or, slice_index_or, subst, sym, ◌∙◌, ap, arith}
 use Rattle.std.specs.List.{All}
 use Rattle.support_table.specs.Tables.{Table}
-use Rattle.ray_steps.specs.declared.kept.Kept.{Kept}
+use Rattle.ray_steps.specs.declared.rays.RayWithSupport.{RayWithSupport}
 use Rattle.ray_steps.specs.declared.signs.Sign.{Sign}
 use Rattle.ray_steps.specs.declared.signs.Sign.TheVariants.{Zero}
-use Rattle.ray_steps.specs.Kepts.{AreOfWidth}
+use Rattle.ray_steps.specs.Rays.{AreOfWidth}
 use Rattle.ray_steps.specs.Signs.{AreNegativePlaces, IsBoundedSign}
 use Rattle.ray_steps.specs.Rivals.{HasSupportsOf}
 use Rattle.ray_steps.proofs.RivalLemmas.{count_of_rivals}
@@ -15,9 +15,9 @@ pub place_within : (signs : List Sign) (places read : List ℕ) (m : ℕ) → Ar
 place_within signs places read m h same less = subst (All (λ place. place < length signs)) (sym same) h.in_range m 0 less
 
 -- it is one of a ray too
-pub place_of_kept : (signs : List Sign) (kepts : List Kept) (places read : List ℕ) (m : ℕ) → length signs ≡ length kepts → AreNegativePlaces signs (length signs) places → read ≡ places → m < length read →
-    get_or read m 0 < length kepts
-place_of_kept signs kepts places read m count h same less = subst (λ n. get_or read m 0 < n) count (place_within signs places read m h same less)
+pub place_of_kept : (signs : List Sign) (ray_list : List RayWithSupport) (places read : List ℕ) (m : ℕ) → length signs ≡ length ray_list → AreNegativePlaces signs (length signs) places → read ≡ places → m < length read →
+    get_or read m 0 < length ray_list
+place_of_kept signs ray_list places read m count h same less = subst (λ n. get_or read m 0 < n) count (place_within signs places read m h same less)
 
 -- the supports go as far as the places
 pub place_next : (rays : List (List ℕ)) (columns : ℕ) (places read : List ℕ) (table : Table) (m : ℕ) → HasSupportsOf rays columns places table → read ≡ places → m < length read → m + 1 ≤ length table.supports
@@ -35,5 +35,5 @@ pub sign_bounds : (limit : ℕ) (signs : List Sign) (k : ℕ) (sign : Sign) → 
 sign_bounds limit signs k sign h within is = subst (IsBoundedSign limit) is (h k Zero within)
 
 -- the width of a ray that was read
-pub read_width : (kepts : List Kept) (k columns : ℕ) (kept : Kept) → k < length kepts → kept ≡ get_or kepts k kept → AreOfWidth columns kepts → length kept.ray ≡ columns
-read_width kepts k columns kept within is widths = ap (λ x. length x.ray) is ∙ widths k kept within
+pub read_width : (ray_list : List RayWithSupport) (k columns : ℕ) (kept : RayWithSupport) → k < length ray_list → kept ≡ get_or ray_list k kept → AreOfWidth columns ray_list → length kept.ray ≡ columns
+read_width ray_list k columns kept within is widths = ap (λ x. length x.ray) is ∙ widths k kept within

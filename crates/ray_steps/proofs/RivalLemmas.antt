@@ -10,21 +10,21 @@ use Rattle.support_bits.specs.Columns.{support_of, HasColumn, IsInsideUnionOf, M
 use Rattle.std.proofs.lemmas.List.{get_or_default, get_or-map, length-map}
 use Rattle.support_table.specs.Tables.{Table}
 use Rattle.support_table.specs.Joins.{AreJoinedTo}
-use Rattle.ray_steps.specs.declared.kept.Kept.{Kept}
+use Rattle.ray_steps.specs.declared.rays.RayWithSupport.{RayWithSupport}
 use Rattle.ray_steps.specs.Signs.{IsFacePair}
 use Rattle.ray_steps.specs.declared.rivals.Rivals.{Rivals}
-use Rattle.ray_steps.specs.Kepts.{rays_of}
+use Rattle.ray_steps.specs.Rays.{rays_of}
 use Rattle.ray_steps.specs.Rivals.{IsApart, AreApart, HasSupportsOf, HaveRivals, AreRivals, IsThirdInside}
 use Rattle.ray_steps.proofs.SupportLemmas.{inside_iff, clash_free_iff}
 use Rattle.ray_steps.specs.Clashes.{IsClashFree}
 use Rattle.support_table.proofs.JoinLemmas.{nonzero_from_column}
 
 -- the support of a ray that was read
-pub support_read : (v : Kept) (x : List ℕ) → x ≡ v.ray → v.support ≡ support_of x
+pub support_read : (v : RayWithSupport) (x : List ℕ) → x ≡ v.ray → v.support ≡ support_of x
 support_read v x x_is = v.matches ∙ ap support_of (sym x_is)
 
 -- the clashes of two rays that were read
-pub clash_read : (clashes : List Clash) (u w : Kept) (y z : List ℕ) → y ≡ u.ray → z ≡ w.ray → IsClashFree clashes u.support w.support ↔ IsAdmissibleUnion clashes y z
+pub clash_read : (clashes : List Clash) (u w : RayWithSupport) (y z : List ℕ) → y ≡ u.ray → z ≡ w.ray → IsClashFree clashes u.support w.support ↔ IsAdmissibleUnion clashes y z
 clash_read clashes u w y z y_is z_is =
     let i = clash_free_iff clashes u.ray w.ray in (
       λ h. subst₂ (IsAdmissibleUnion clashes) (sym y_is) (sym z_is) (i.0 (subst₂ (IsClashFree clashes) u.matches w.matches h)),
@@ -32,10 +32,10 @@ clash_read clashes u w y z y_is z_is =
     )
 
 -- the support of a ray has the width of a table
-pub width_read : (v : Kept) (x : List ℕ) (columns wide : ℕ) → x ≡ v.ray → length x ≡ columns → wide ≡ columns → length v.support ≡ wide
+pub width_read : (v : RayWithSupport) (x : List ℕ) (columns wide : ℕ) → x ≡ v.ray → length x ≡ columns → wide ≡ columns → length v.support ≡ wide
 width_read v x columns wide x_is x_wide same = ap length (support_read v x x_is) ∙ length-map x (λ entry. ltb 0 entry) ∙ x_wide ∙ sym same
 
-pub meets_from_test : (v : Kept) (x : List ℕ) (columns : List Bool) (test : Bool) → x ≡ v.ray → IsTrue test ↔ Meets v.support columns → test ≡ true → Meets (support_of x) columns
+pub meets_from_test : (v : RayWithSupport) (x : List ℕ) (columns : List Bool) (test : Bool) → x ≡ v.ray → IsTrue test ↔ Meets v.support columns → test ≡ true → Meets (support_of x) columns
 meets_from_test v x columns test x_is answers is = subst (λ s. Meets s columns) (support_read v x x_is) (answers.0 is)
 
 -- one place more
@@ -136,14 +136,14 @@ face_from_rivals pairs rays i j columns rivals a b h a_is b_is none admissible =
         )
 
 -- the same columns clash with the ray at i, so the rivals at hand are its own
-pub rivals_kept : (pairs : List Clash) (kepts : List Kept) (i columns : ℕ) (before : Rivals) (v : Kept) (joined : List Bool) → ray_at (rays_of kepts) i ≡ v.ray → AreJoinedTo pairs v.support joined → joined ≡ before.joined →
-    HaveRivals (rays_of kepts) columns before → AreRivals pairs (rays_of kepts) i columns before
-rivals_kept pairs kepts i columns before v joined read joins same listed = record {
-  joined = subst₂ (AreJoinedTo pairs) (support_read v (ray_at (rays_of kepts) i) read) same joins;
+pub rivals_kept : (pairs : List Clash) (ray_list : List RayWithSupport) (i columns : ℕ) (before : Rivals) (v : RayWithSupport) (joined : List Bool) → ray_at (rays_of ray_list) i ≡ v.ray → AreJoinedTo pairs v.support joined → joined ≡ before.joined →
+    HaveRivals (rays_of ray_list) columns before → AreRivals pairs (rays_of ray_list) i columns before
+rivals_kept pairs ray_list i columns before v joined read joins same listed = record {
+  joined = subst₂ (AreJoinedTo pairs) (support_read v (ray_at (rays_of ray_list) i) read) same joins;
   listed = listed;
 }
 
-pub rivals_made : {E : Type 0} (pairs : List Clash) (kepts : List Kept) (i columns : ℕ) (v : Kept) (joined : List Bool) (made : Result Rivals E) → ray_at (rays_of kepts) i ≡ v.ray → AreJoinedTo pairs v.support joined →
-    IfOk made (λ rivals. rivals.joined ≡ joined) → IfOk made (HaveRivals (rays_of kepts) columns) → IfOk made (AreRivals pairs (rays_of kepts) i columns)
-rivals_made pairs kepts i columns v joined (Ok rivals) read joins same listed = rivals_kept pairs kepts i columns rivals v joined read joins (sym same) listed
-rivals_made pairs kepts i columns v joined (Err fault) read joins same listed = tt
+pub rivals_made : {E : Type 0} (pairs : List Clash) (ray_list : List RayWithSupport) (i columns : ℕ) (v : RayWithSupport) (joined : List Bool) (made : Result Rivals E) → ray_at (rays_of ray_list) i ≡ v.ray → AreJoinedTo pairs v.support joined →
+    IfOk made (λ rivals. rivals.joined ≡ joined) → IfOk made (HaveRivals (rays_of ray_list) columns) → IfOk made (AreRivals pairs (rays_of ray_list) i columns)
+rivals_made pairs ray_list i columns v joined (Ok rivals) read joins same listed = rivals_kept pairs ray_list i columns rivals v joined read joins (sym same) listed
+rivals_made pairs ray_list i columns v joined (Err fault) read joins same listed = tt

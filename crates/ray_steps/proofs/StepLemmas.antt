@@ -13,8 +13,8 @@ use Rattle.cone_definitions.proofs.Next.{same_combination, next_list_lem}
 use Rattle.cone_definitions.proofs.FromList.{ascending_from_sorted, within_from_list, large_ray_from_list, large_pair_from_list}
 use Rattle.ray_steps.specs.declared.signs.Sign.{Sign}
 use Rattle.ray_steps.specs.declared.signs.Sign.TheVariants.{Zero, Positive, Negative}
-use Rattle.ray_steps.specs.declared.kept.StepFault.{StepFault}
-use Rattle.ray_steps.specs.declared.kept.StepFault.TheVariants.{Large, NoMemory}
+use Rattle.ray_steps.specs.declared.rays.StepFault.{StepFault}
+use Rattle.ray_steps.specs.declared.rays.StepFault.TheVariants.{Large, NoMemory}
 use Rattle.cone_definitions.specs.declared.LargeKind.TheVariants.{Value, Pair}
 use Rattle.cone_definitions.specs.Vectors.{ray_at}
 use Rattle.ray_steps.specs.Faults.{IfLarge, IsFirstLargeValue, IsFirstLargeSum}
@@ -25,7 +25,7 @@ use Rattle.cone_definitions.specs.Unordered.{HasSurfaces}
 use Rattle.cone_definitions.proofs.Unordered.{without_order, place_of}
 use Rattle.ray_steps.proofs.SurfaceSteps.{the_step, zero_sign, sign_at_place, signed_pair, kept_or_made_read}
 use Rattle.cone_laws.proofs.DistinctLemmas.{apart_permutation}
-use Rattle.ray_steps.proofs.MadeLemmas.{pair_read, reduced_read, positive_read, negative_read, combination_by_row}
+use Rattle.ray_steps.proofs.CombinationLemmas.{pair_read, reduced_read, positive_read, negative_read, combination_by_row}
 
 module _ (limit columns : ℕ) (pairs : List Clash) (before : List Row) (row : Row) (rays : List (List ℕ)) (signs : List Sign)
     (surfaces : IsSurfaceList columns before pairs rays) (signed : AreSigns limit row rays signs) where

@@ -15,7 +15,7 @@ use Rattle.ray_steps.specs.Next.{step_of}
 use Rattle.cone_definitions.specs.Unordered.{HasSurfaces}
 use Rattle.ray_steps.specs.Signs.{IsSignAt, AreSigns, IsSignedPair, ComesFromPlaces, ComesFromZero, GivesFrom, IsStepAt, IsNextFrom}
 use Rattle.cone_definitions.proofs.Unordered.{place_of, pair_third_place}
-use Rattle.ray_steps.proofs.MadeLemmas.{sign_read, reduced_read, comes_read}
+use Rattle.ray_steps.proofs.CombinationLemmas.{sign_read, reduced_read, comes_read}
 
 -- a sign at which the row is zero, positive or negative
 pub zero_sign : (row : Row) (x : List ℕ) (sign : Sign) → IsSignAt row x sign → IsZeroAt row x → sign ≡ Zero

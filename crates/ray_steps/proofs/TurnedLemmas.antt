@@ -9,8 +9,8 @@ use Rattle.cone_definitions.specs.Rows.{Row}
 use Rattle.cone_definitions.specs.Surfaces.{Clash, IsAdmissibleUnion}
 use Rattle.cone_definitions.specs.Elimination.{HasPartsWithin}
 use Rattle.cone_definitions.specs.Vectors.{sum_of, ray_at}
-use Rattle.row_operation_laws.specs.Operations.{turned}
-use Rattle.row_operation_laws.proofs.Sums.{plus-turned, minus-turned}
+use Rattle.cone_row_laws.specs.Operations.{turned}
+use Rattle.cone_row_laws.proofs.Sums.{plus-turned, minus-turned}
 use Rattle.cone_core.specs.Combinations.{IsCombinationBy, IsReducedBy}
 use Rattle.ray_steps.specs.declared.signs.Sign.{Sign}
 use Rattle.ray_steps.specs.declared.signs.Sign.TheVariants.{Zero, Positive, Negative}

@@ -1,22 +1,22 @@
 -- A step's facts, read from its value and from its fields.
 use Rattle.std.proofs.Common.{◌≡◌, ℕ, ◌<◌, List, length, subst, sym, ap, ◌∙◌}
 use Rattle.cone_definitions.specs.Rows.{Row}
-use Rattle.ray_steps.specs.declared.kept.Kept.{Kept}
-use Rattle.ray_steps.specs.declared.kept.StepFault.{StepFault}
+use Rattle.ray_steps.specs.declared.rays.RayWithSupport.{RayWithSupport}
+use Rattle.ray_steps.specs.declared.rays.StepFault.{StepFault}
 use Rattle.ray_steps.specs.Faults.{IfLarge, IsFirstLargeSum}
-use Rattle.ray_steps.specs.Kepts.{rays_of}
+use Rattle.ray_steps.specs.Rays.{rays_of}
 use Rattle.ray_steps.specs.declared.negatives.Negatives.{Negatives}
 use Rattle.ray_steps.specs.Negatives.{AreNegatives}
 use Rattle.ray_steps.specs.Signs.{IsNextFrom}
-use Rattle.ray_steps.proofs.KeptLemmas.{length-rays_of}
+use Rattle.ray_steps.proofs.RayLemmas.{length-rays_of}
 use Rattle.ray_steps.specs.Clashes.{ClashData}
 use Rattle.ray_steps.specs.Steps.{StepData, IsStepOf, IsFirstLargeOf}
 
-pub place_of_rays : (kepts : List Kept) (rays : List (List ℕ)) (i : ℕ) → rays_of kepts ≡ rays → i < length rays → i < length kepts
-place_of_rays kepts rays i same less = subst (λ n. i < n) (ap length (sym same) ∙ length-rays_of kepts) less
+pub place_of_rays : (ray_list : List RayWithSupport) (rays : List (List ℕ)) (i : ℕ) → rays_of ray_list ≡ rays → i < length rays → i < length ray_list
+place_of_rays ray_list rays i same less = subst (λ n. i < n) (ap length (sym same) ∙ length-rays_of ray_list) less
 
-pub place_in_rays : (kepts : List Kept) (rays : List (List ℕ)) (i : ℕ) → rays_of kepts ≡ rays → i < length kepts → i < length rays
-place_in_rays kepts rays i same less = subst (λ n. i < n) (sym (length-rays_of kepts) ∙ ap length same) less
+pub place_in_rays : (ray_list : List RayWithSupport) (rays : List (List ℕ)) (i : ℕ) → rays_of ray_list ≡ rays → i < length ray_list → i < length rays
+place_in_rays ray_list rays i same less = subst (λ n. i < n) (sym (length-rays_of ray_list) ∙ ap length same) less
 
 -- the negative rays of a step
 pub negatives_read : (a d : StepData) → a ≡ d → (negatives : Negatives) → AreNegatives d.rays d.signs d.columns negatives → AreNegatives a.rays a.signs a.columns negatives

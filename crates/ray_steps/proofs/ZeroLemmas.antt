@@ -11,13 +11,13 @@ use Rattle.cone_definitions.proofs.Unordered.{place_is_one}
 use Rattle.cone_definitions.specs.Vectors.{ray_at}
 use Rattle.ray_steps.specs.declared.signs.Sign.{Sign}
 use Rattle.ray_steps.specs.declared.signs.Sign.TheVariants.{Zero, Positive, Negative}
-use Rattle.ray_steps.specs.declared.kept.Kept.{Kept}
-use Rattle.ray_steps.specs.Kepts.{rays_of, AreOfWidth}
+use Rattle.ray_steps.specs.declared.rays.RayWithSupport.{RayWithSupport}
+use Rattle.ray_steps.specs.Rays.{rays_of, AreOfWidth}
 use Rattle.ray_steps.specs.Appended.{AppendsIfZero}
-use Rattle.ray_steps.proofs.KeptLemmas.{rays_of-push}
+use Rattle.ray_steps.proofs.RayLemmas.{rays_of-push}
 use Rattle.ray_steps.specs.Next.{step_of}
 use Rattle.ray_steps.specs.Signs.{ComesFromPlaces, ComesFromZero, IsStepAt, IsMadeUpTo, IsNextFrom}
-use Rattle.ray_steps.proofs.MadeLemmas.{sign_read, comes_read}
+use Rattle.ray_steps.proofs.CombinationLemmas.{sign_read, comes_read}
 
 module _ (limit : ℕ) (pairs : List Clash) (rays : List (List ℕ)) (signs : List Sign) where
   -- what the pairs give, and no ray yet
@@ -73,7 +73,7 @@ module _ (limit : ℕ) (pairs : List Clash) (rays : List (List ℕ)) (signs : Li
           (comes_read limit pairs rays signs step c.u c.w y c.pair c.reduced))
 
   -- a ray by its sign
-  pub next_one : (m : ℕ) (sign : Sign) (kept : Kept) (old new : List Kept) → m < length rays → slice_index_or signs m Zero ≡ sign → kept.ray ≡ ray_at rays m → AppendsIfZero sign kept old new →
+  pub next_one : (m : ℕ) (sign : Sign) (kept : RayWithSupport) (old new : List RayWithSupport) → m < length rays → slice_index_or signs m Zero ≡ sign → kept.ray ≡ ray_at rays m → AppendsIfZero sign kept old new →
       IsNextFrom limit pairs rays signs (m + 1) (rays_of old) → IsNextFrom limit pairs rays signs m (rays_of new)
   next_one m Zero kept old new within sign is appends h =
       subst (IsNextFrom limit pairs rays signs m) (sym (ap rays_of appends ∙ rays_of-push old kept)) (next_push m (rays_of old) kept.ray within sign is h)
@@ -89,7 +89,7 @@ module _ (limit : ℕ) (pairs : List Clash) (rays : List (List ℕ)) (signs : Li
       not_zero e = cc
 
 -- the widths after a ray by its sign
-pub widths_one : (columns : ℕ) (sign : Sign) (kept : Kept) (old new : List Kept) → AppendsIfZero sign kept old new → length kept.ray ≡ columns → AreOfWidth columns old → AreOfWidth columns new
+pub widths_one : (columns : ℕ) (sign : Sign) (kept : RayWithSupport) (old new : List RayWithSupport) → AppendsIfZero sign kept old new → length kept.ray ≡ columns → AreOfWidth columns old → AreOfWidth columns new
 widths_one columns Zero kept old new appends width h = subst (AreOfWidth columns) (sym appends) (All-push (λ k. length k.ray ≡ columns) old kept h width)
 widths_one columns (Positive value) kept old new appends width h = subst (AreOfWidth columns) (sym appends) h
 widths_one columns (Negative value) kept old new appends width h = subst (AreOfWidth columns) (sym appends) h

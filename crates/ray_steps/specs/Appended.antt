@@ -1,11 +1,11 @@
 -- A list after a ray was kept by its sign.
 use Rattle.std.specs.Prelude.{◌≡◌, List, [], ◌∷◌, ◌++◌}
-use Rattle.ray_steps.specs.declared.kept.Kept.{Kept}
+use Rattle.ray_steps.specs.declared.rays.RayWithSupport.{RayWithSupport}
 use Rattle.ray_steps.specs.declared.signs.Sign.{Sign}
 use Rattle.ray_steps.specs.declared.signs.Sign.TheVariants.{Zero, Positive, Negative}
 
 -- it is appended where the sign is zero, and else left out
-abbrev pub AppendsIfZero : Sign → Kept → List Kept → List Kept → Type 0
+abbrev pub AppendsIfZero : Sign → RayWithSupport → List RayWithSupport → List RayWithSupport → Type 0
 AppendsIfZero Zero kept old new = new ≡ old ++ kept ∷ []
 AppendsIfZero (Positive value) kept old new = new ≡ old
 AppendsIfZero (Negative value) kept old new = new ≡ old

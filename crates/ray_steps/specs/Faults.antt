@@ -4,8 +4,8 @@ use Rattle.cone_definitions.specs.Rows.{Row}
 use Rattle.cone_definitions.specs.Surfaces.{Clash}
 use Rattle.cone_definitions.specs.Elimination.{Named}
 use Rattle.cone_definitions.specs.declared.LargeKind.TheVariants.{Value, Pair}
-use Rattle.ray_steps.specs.declared.kept.StepFault.{StepFault}
-use Rattle.ray_steps.specs.declared.kept.StepFault.TheVariants.{Large, NoMemory}
+use Rattle.ray_steps.specs.declared.rays.StepFault.{StepFault}
+use Rattle.ray_steps.specs.declared.rays.StepFault.TheVariants.{Large, NoMemory}
 use Rattle.cone_core.specs.Combinations.{HasFirstPast}
 use Rattle.ray_steps.specs.declared.signs.Sign.{Sign}
 use Rattle.ray_steps.specs.Signs.{IsFirstLargeRay, IsFirstLargePair}

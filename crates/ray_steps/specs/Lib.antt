@@ -1,5 +1,5 @@
 pub mod Clashes
-pub mod Kepts
+pub mod Rays
 pub mod Signs
 pub mod Turned
 pub mod Faults

@@ -3,9 +3,9 @@ use Rattle.std.specs.Prelude.{◌≡◌, ℕ, ◌<◌, ◌≤◌, ◌⊎◌, Lis
 use Rattle.std.specs.List.{All}
 use Rattle.cone_core.specs.declared.numbers.TheConstants.{MAX_ENTRY}
 use Rattle.cone_definitions.specs.Surfaces.{Clash, IsAdmissibleUnion}
-use Rattle.ray_steps.specs.declared.kept.Kept.{Kept}
+use Rattle.ray_steps.specs.declared.rays.RayWithSupport.{RayWithSupport}
 use Rattle.ray_steps.specs.declared.signs.Sign.{Sign}
-use Rattle.ray_steps.specs.Kepts.{rays_of, AreOfWidth}
+use Rattle.ray_steps.specs.Rays.{rays_of, AreOfWidth}
 use Rattle.ray_steps.specs.Signs.{IsBoundedSign, IsFacePair, IsMadeUpTo, AreSigns}
 use Rattle.ray_steps.specs.Rivals.{HaveRivals}
 use Rattle.ray_steps.specs.Faults.{IsFirstLargeSum}
@@ -15,9 +15,9 @@ use Rattle.cone_definitions.specs.Vectors.{ray_at}
 use Rattle.support_bits.specs.Columns.{support_of}
 use Rattle.support_table.specs.Joins.{AreJoinedTo}
 use Rattle.ray_steps.specs.Turned.{turned_sign}
-use Rattle.ray_steps.specs.declared.made.Combined.{Combined}
-use Rattle.ray_steps.specs.declared.made.Made.{Made}
-use Rattle.ray_steps.specs.declared.made.Search.{Search}
+use Rattle.ray_steps.specs.declared.combinations.Combinations.{Combinations}
+use Rattle.ray_steps.specs.declared.combinations.CombinationsSoFar.{CombinationsSoFar}
+use Rattle.ray_steps.specs.declared.combinations.Search.{Search}
 use Rattle.ray_steps.specs.Clashes.{ClashData}
 use Rattle.ray_steps.specs.Unions.{HaveSmallUnions, MakeSinglesPairs}
 
@@ -30,28 +30,28 @@ pub record StepData : Type 0 where
   pub limit : ℕ
 
 -- rays that a step can be made of: each of so many columns, no pair's union with more than so many, single columns make pairs
-pub record AreStepRays (columns most : ℕ) (pairs : List Clash) (kepts : List Kept) : Type 0 where
-  pub widths : AreOfWidth columns kepts
-  pub small : HaveSmallUnions columns most pairs (rays_of kepts)
-  pub singles : MakeSinglesPairs pairs (rays_of kepts)
+pub record AreStepRays (columns most : ℕ) (pairs : List Clash) (ray_list : List RayWithSupport) : Type 0 where
+  pub widths : AreOfWidth columns ray_list
+  pub small : HaveSmallUnions columns most pairs (rays_of ray_list)
+  pub singles : MakeSinglesPairs pairs (rays_of ray_list)
 
 -- the facts that hold of the fields of a step
-pub record IsStep (columns : ℕ) (pairs : List Clash) (kepts : List Kept) (signs : List Sign) (most limit : ℕ) : Type 0 where
-  pub rays : AreStepRays columns most pairs kepts
-  pub count : length signs ≡ length kepts
+pub record IsStep (columns : ℕ) (pairs : List Clash) (ray_list : List RayWithSupport) (signs : List Sign) (most limit : ℕ) : Type 0 where
+  pub rays : AreStepRays columns most pairs ray_list
+  pub count : length signs ≡ length ray_list
   pub bounded : All (IsBoundedSign limit) signs
   pub limit_is : limit ≤ MAX_ENTRY
 
 -- what the pairs of the places before i are combined to, and rivals where some are at hand
-pub record AreMadeBelow (step : StepData) (i : ℕ) (made : Made) : Type 0 where
-  pub so_far : IsMadeUpTo step.limit step.pairs step.rays step.signs i 0 (rays_of made.kepts.items)
-  pub widths : AreOfWidth step.columns made.kepts.items
+pub record AreMadeBelow (step : StepData) (i : ℕ) (made : CombinationsSoFar) : Type 0 where
+  pub so_far : IsMadeUpTo step.limit step.pairs step.rays step.signs i 0 (rays_of made.ray_list.items)
+  pub widths : AreOfWidth step.columns made.ray_list.items
   pub rivals : IfSome made.rivals (HaveRivals step.rays step.columns)
 
 -- what the pairs before the places i and j are combined to
-pub record AreMadeTo (step : StepData) (i j : ℕ) (kepts : List Kept) : Type 0 where
-  pub so_far : IsMadeUpTo step.limit step.pairs step.rays step.signs i j (rays_of kepts)
-  pub widths : AreOfWidth step.columns kepts
+pub record AreMadeTo (step : StepData) (i j : ℕ) (ray_list : List RayWithSupport) : Type 0 where
+  pub so_far : IsMadeUpTo step.limit step.pairs step.rays step.signs i j (rays_of ray_list)
+  pub widths : AreOfWidth step.columns ray_list
 
 -- two places are a face pair where their union holds no clashing pair
 abbrev pub IsFaceIfAdmissible : StepData → ℕ → ℕ → Type 0
@@ -64,9 +64,9 @@ pub record IsSearchAt (step : StepData) (i : ℕ) (search : Search) : Type 0 whe
   pub rivals : IfSome search.rivals (HaveRivals step.rays step.columns)
 
 -- what all pairs of a step are combined to
-pub record AreMadeOf (step : StepData) (kepts : List Kept) : Type 0 where
-  pub made : IsMadeUpTo step.limit step.pairs step.rays step.signs (length step.signs) 0 (rays_of kepts)
-  pub widths : AreOfWidth step.columns kepts
+pub record AreMadeOf (step : StepData) (ray_list : List RayWithSupport) : Type 0 where
+  pub made : IsMadeUpTo step.limit step.pairs step.rays step.signs (length step.signs) 0 (rays_of ray_list)
+  pub widths : AreOfWidth step.columns ray_list
 
 -- the pair of a step is named, the first whose combination has an entry past the limit
 abbrev pub IsFirstLargeOf : StepData → Named → Type 0
@@ -89,9 +89,9 @@ abbrev pub IsFirstLargeEitherWay : StepData → Named → Type 0
 IsFirstLargeEitherWay step kind = IsFirstLargeOf step kind ⊎ IsFirstLargeOf (turned_step step) kind
 
 -- the rays and the signs of a step, and what all its pairs are combined to
-pub record AreCombinedOf (step : StepData) (parts : Combined) : Type 0 where
-  pub rays_are : rays_of parts.kepts.items ≡ step.rays
+pub record AreCombinedOf (step : StepData) (parts : Combinations) : Type 0 where
+  pub rays_are : rays_of parts.ray_list.items ≡ step.rays
   pub signs_are : parts.signs.items ≡ step.signs
-  pub widths : AreOfWidth step.columns parts.kepts.items
+  pub widths : AreOfWidth step.columns parts.ray_list.items
   pub made : AreMadeOf step parts.made.items
-  pub count : length parts.signs.items ≡ length parts.kepts.items
+  pub count : length parts.signs.items ≡ length parts.ray_list.items

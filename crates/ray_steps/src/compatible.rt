@@ -5,7 +5,7 @@ ghost use Rattle.cone_definitions.specs.Surfaces.{Clash};
 ghost use Rattle.ray_steps.specs.Clashes.{AreClashes, IsClashFree};
 ghost use Rattle.support_table.specs.Joins.{AreJoinedTo};
 
-use crate::partners::{joined_by, partners_of};
+use crate::partners::{partners_of, partners_of_support};
 use no_memory::NoMemory;
 use std::alloc::Global;
 use std::marker::Model;
@@ -97,6 +97,6 @@ impl<C: Compatible> Clashes<C> {
         requires { length support.now ≡ self.now.columns }
         ensures { IfOk result (AreJoinedTo self.now.pairs support.now) }
     {
-        joined_by(alloc, &self.partners, support)
+        partners_of_support(alloc, &self.partners, support)
     }
 }

@@ -1,14 +1,14 @@
 //! One step of the double description method: its rays, their supports and signs as one value, and the search for its pairs.
 #![tactic(auto)]
 
+mod combinations;
 mod compatible;
-mod kept;
 mod lists;
-mod made;
 mod negatives;
 mod no_clash;
 mod pairs;
 mod partners;
+mod rays;
 mod rivals;
 mod signs;
 mod step;
@@ -16,11 +16,11 @@ mod thirds;
 mod turned;
 mod zeros;
 
+pub use combinations::Combinations;
 pub use compatible::{Clashes, Compatible};
-pub use kept::{Kept, LargeKind, StepFault};
 pub use lists::{sort_rays, without_supports};
-pub use made::Combined;
 pub use no_clash::NoClash;
+pub use rays::{LargeKind, RayWithSupport, StepFault};
 pub use signs::Sign;
 pub use step::Step;
 pub use zeros::keep_zeros;

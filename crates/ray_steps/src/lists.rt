@@ -4,25 +4,25 @@ ghost use Rattle.std.specs.Prelude.{◌≡◌, IfOk, OnOk};
 ghost use Rattle.std.specs.Ordering.{nat_cmp};
 ghost use Rattle.std.specs.Cmp.Lexicographic.{slice_cmp};
 ghost use Rattle.std.specs.List.Sorted.{IsPermutation, IsSorted};
-ghost use Rattle.ray_steps.specs.Kepts.{rays_of};
+ghost use Rattle.ray_steps.specs.Rays.{rays_of};
 
-use crate::kept::Kept;
+use crate::rays::RayWithSupport;
 use cone_core::Ray;
 use no_memory::NoMemory;
 use std::alloc::{AllocError, Global};
 
 /// Sorts rays in lexicographic order. The kept ones fall already, and the stable sort takes such a run at once.
-pub fn sort_rays(kepts: &mut Vec<Kept>) -> Result<(), AllocError>
-    ensures permutation { IsPermutation kepts.old.items kepts.new.items }
-    ensures sorted { OnOk result (IsSorted (slice_cmp nat_cmp) (rays_of kepts.new.items)) }
+pub fn sort_rays(ray_list: &mut Vec<RayWithSupport>) -> Result<(), AllocError>
+    ensures permutation { IsPermutation ray_list.old.items ray_list.new.items }
+    ensures sorted { OnOk result (IsSorted (slice_cmp nat_cmp) (rays_of ray_list.new.items)) }
 {
-    kepts.sort_by(|a, b| a.ray.compare(&b.ray))
+    ray_list.sort_by(|a, b| a.ray.compare(&b.ray))
 }
 
 /// The rays alone.
-pub fn without_supports(alloc: Global, kepts: Vec<Kept>) -> Result<Vec<Ray>, NoMemory>
-    ensures { IfOk result (λ rays. rays.items ≡ rays_of kepts.items) }
+pub fn without_supports(alloc: Global, ray_list: Vec<RayWithSupport>) -> Result<Vec<Ray>, NoMemory>
+    ensures { IfOk result (λ rays. rays.items ≡ rays_of ray_list.items) }
 {
-    let rays = kepts.into_iter().map(|kept| kept.ray).collect(alloc)?;
+    let rays = ray_list.into_iter().map(|kept| kept.ray).collect(alloc)?;
     Ok(rays)
 }

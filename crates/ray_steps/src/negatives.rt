@@ -1,11 +1,11 @@
 // The negative rays of a step, and the search among them for one that a positive ray can make a pair with.
 
 ghost use Rattle.std.specs.Prelude.{◌≡◌, ◌<◌, ◌≤◌, ◌↔◌, [], length, IsTrue, IfOk, slice_index_or};
-ghost use Rattle.ray_steps.specs.Kepts.{rays_of, AreOfWidth};
+ghost use Rattle.ray_steps.specs.Rays.{rays_of, AreOfWidth};
 ghost use Rattle.ray_steps.specs.Signs.{AreNegativePlaces};
 ghost use Rattle.ray_steps.specs.Negatives.{AreNegatives, IsFar, IsFirstNear};
 
-use crate::kept::Kept;
+use crate::rays::RayWithSupport;
 use crate::rivals::supports_at;
 use crate::signs::{Sign, is_negative};
 use no_memory::NoMemory;
@@ -36,16 +36,16 @@ fn negative_places(alloc: Global, signs: &[Sign]) -> Result<Vec<usize>, NoMemory
 /// The negative rays, with their supports.
 pub fn negatives_of(
     alloc: Global,
-    kepts: &[Kept],
+    ray_list: &[RayWithSupport],
     signs: &[Sign],
     columns: u32,
 ) -> Result<Negatives, NoMemory>
-    requires count { length signs.now ≡ length kepts.now }
-    requires widths { AreOfWidth columns kepts.now }
-    ensures { IfOk result (AreNegatives (rays_of kepts.now) signs.now columns) }
+    requires count { length signs.now ≡ length ray_list.now }
+    requires widths { AreOfWidth columns ray_list.now }
+    ensures { IfOk result (AreNegatives (rays_of ray_list.now) signs.now columns) }
 {
     let places = negative_places(alloc, signs)?;
-    let table = supports_at(alloc, kepts, columns, &places)?;
+    let table = supports_at(alloc, ray_list, columns, &places)?;
     Ok(Negatives { places, table })
 }
 

@@ -4,19 +4,19 @@ ghost use Rattle.std.specs.Prelude.{◌≡◌, ◌≤◌, length, IfOk, IfErr};
 ghost use Rattle.cone_core.specs.Combinations.{IsReducedBy};
 ghost use Rattle.ray_steps.specs.Faults.{IfLarge, IsLargeSumOf};
 
-use crate::kept::{Kept, LargeKind, StepFault};
+use crate::rays::{LargeKind, RayWithSupport, StepFault};
 use cone_core::{CombineFault, MAX_ENTRY, combine_inside};
 use std::alloc::Global;
 
 /// The combination of two rays at which a row has these values, beside its support, which is the union of theirs.
 pub fn combine_pair(
     alloc: Global,
-    u: &Kept,
-    w: &Kept,
+    u: &RayWithSupport,
+    w: &RayWithSupport,
     at_u: u128,
     at_w: u128,
     limit: u128,
-) -> Result<Kept, StepFault>
+) -> Result<RayWithSupport, StepFault>
     requires lengths { length u.now.ray ≡ length w.now.ray }
     requires some_u { 1 ≤ at_u }
     requires some_w { 1 ≤ at_w }
@@ -30,7 +30,7 @@ pub fn combine_pair(
     let mut support = u.support.copy(alloc)?;
     support.add(&w.support);
     match combine_inside(alloc, &u.ray, &w.ray, &support, at_u, at_w, limit) {
-        Ok(ray) => Ok(Kept { ray, support }),
+        Ok(ray) => Ok(RayWithSupport { ray, support }),
         Err(CombineFault::Passed { column: _ }) => {
             let first = u.ray.copy(alloc)?;
             let second = w.ray.copy(alloc)?;

@@ -47,7 +47,7 @@ pub fn partners_of(
 }
 
 /// The columns that clash with one of a support.
-pub fn joined_by(
+pub fn partners_of_support(
     alloc: Global,
     partners: &[Support],
     support: &Support,

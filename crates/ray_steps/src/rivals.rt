@@ -2,10 +2,10 @@
 
 ghost use Rattle.std.specs.Prelude.{◌≡◌, ◌<◌, length, IfOk};
 ghost use Rattle.std.specs.List.{All};
-ghost use Rattle.ray_steps.specs.Kepts.{rays_of, AreOfWidth};
+ghost use Rattle.ray_steps.specs.Rays.{rays_of, AreOfWidth};
 ghost use Rattle.ray_steps.specs.Rivals.{AreApart, HasSupportsOf, HasAllSupports, HaveRivals};
 
-use crate::kept::Kept;
+use crate::rays::RayWithSupport;
 use no_memory::NoMemory;
 use std::alloc::Global;
 use support_bits::Support;
@@ -20,12 +20,16 @@ pub struct Rivals {
 }
 
 /// The places whose rays have none of some columns.
-fn places_apart(alloc: Global, kepts: &[Kept], columns: &Support) -> Result<Vec<usize>, NoMemory>
-    requires widths { AreOfWidth (length columns.now) kepts.now }
-    ensures { IfOk result (λ places. AreApart (rays_of kepts.now) columns.now (length kepts.now) places.items) }
+fn places_apart(
+    alloc: Global,
+    ray_list: &[RayWithSupport],
+    columns: &Support,
+) -> Result<Vec<usize>, NoMemory>
+    requires widths { AreOfWidth (length columns.now) ray_list.now }
+    ensures { IfOk result (λ places. AreApart (rays_of ray_list.now) columns.now (length ray_list.now) places.items) }
 {
     let mut places = Vec::new(alloc);
-    for (k, kept) in kepts.iter().enumerate() {
+    for (k, kept) in ray_list.iter().enumerate() {
         if !kept.support.meets(columns) {
             places.push(k)?;
         }
@@ -36,17 +40,17 @@ fn places_apart(alloc: Global, kepts: &[Kept], columns: &Support) -> Result<Vec<
 /// The supports of the rays at some places.
 pub fn supports_at(
     alloc: Global,
-    kepts: &[Kept],
+    ray_list: &[RayWithSupport],
     columns: u32,
     places: &[usize],
 ) -> Result<SupportTable, NoMemory>
-    requires widths { AreOfWidth columns kepts.now }
-    requires in_range { All (λ k. k < length kepts.now) places.now }
-    ensures { IfOk result (HasSupportsOf (rays_of kepts.now) columns places.now) }
+    requires widths { AreOfWidth columns ray_list.now }
+    requires in_range { All (λ k. k < length ray_list.now) places.now }
+    ensures { IfOk result (HasSupportsOf (rays_of ray_list.now) columns places.now) }
 {
     let mut table = SupportTable::new(alloc, columns);
     for place in places {
-        let kept = &kepts[*place];
+        let kept = &ray_list[*place];
         table.push(&kept.support)?;
     }
     Ok(table)
@@ -55,17 +59,17 @@ pub fn supports_at(
 /// The rays that have none of some columns.
 pub fn rivals_with(
     alloc: Global,
-    kepts: &[Kept],
+    ray_list: &[RayWithSupport],
     columns: u32,
     joined: Support,
 ) -> Result<Rivals, NoMemory>
     requires count { length joined ≡ columns }
-    requires widths { AreOfWidth columns kepts.now }
+    requires widths { AreOfWidth columns ray_list.now }
     ensures joined { IfOk result (λ rivals. rivals.joined ≡ joined) }
-    ensures rivals { IfOk result (HaveRivals (rays_of kepts.now) columns) }
+    ensures rivals { IfOk result (HaveRivals (rays_of ray_list.now) columns) }
 {
-    let places = places_apart(alloc, kepts, &joined)?;
-    let table = supports_at(alloc, kepts, columns, &places)?;
+    let places = places_apart(alloc, ray_list, &joined)?;
+    let table = supports_at(alloc, ray_list, columns, &places)?;
     Ok(Rivals {
         joined,
         places,
@@ -74,12 +78,16 @@ pub fn rivals_with(
 }
 
 /// The supports of all rays.
-pub fn all_supports(alloc: Global, kepts: &[Kept], columns: u32) -> Result<SupportTable, NoMemory>
-    requires { AreOfWidth columns kepts.now }
-    ensures { IfOk result (HasAllSupports (rays_of kepts.now) columns) }
+pub fn all_supports(
+    alloc: Global,
+    ray_list: &[RayWithSupport],
+    columns: u32,
+) -> Result<SupportTable, NoMemory>
+    requires { AreOfWidth columns ray_list.now }
+    ensures { IfOk result (HasAllSupports (rays_of ray_list.now) columns) }
 {
     let mut table = SupportTable::new(alloc, columns);
-    for kept in kepts {
+    for kept in ray_list {
         table.push(&kept.support)?;
     }
     Ok(table)

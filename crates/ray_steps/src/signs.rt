@@ -4,11 +4,11 @@ ghost use Rattle.std.specs.Prelude.{◌≡◌, ◌↔◌, IsTrue, ◌<◌, ◌�
 ghost use Rattle.cone_core.specs.Sparse.{IsInRange};
 ghost use Rattle.cone_definitions.specs.Elimination.{HasPartsWithin, HasLargePart};
 ghost use Rattle.ray_steps.specs.Signs.{IsNegative, IsSignAt, AreSigns};
-ghost use Rattle.ray_steps.specs.Kepts.{rays_of};
+ghost use Rattle.ray_steps.specs.Rays.{rays_of};
 ghost use Rattle.ray_steps.specs.Faults.{IfLarge, IsFirstLargeValue};
 ghost use Rattle.std.specs.List.{All};
 
-use crate::kept::{Kept, LargeKind, StepFault};
+use crate::rays::{LargeKind, RayWithSupport, StepFault};
 use cone_core::{MAX_ENTRY, Passed, PlusMinus, SparseRow};
 use std::alloc::Global;
 
@@ -43,7 +43,7 @@ fn sign_of(parts: PlusMinus) -> Sign
 }
 
 /// The sign of a row at a ray, where no part passes the limit.
-fn sign_at(row: &SparseRow, kept: &Kept, limit: u128) -> Result<Sign, Passed>
+fn sign_at(row: &SparseRow, kept: &RayWithSupport, limit: u128) -> Result<Sign, Passed>
     requires in_range { IsInRange (length kept.now.ray) row.now }
     requires limit { limit ≤ MAX_ENTRY }
     ensures sign { IfOk result (IsSignAt row.now kept.now.ray) }
@@ -58,16 +58,16 @@ fn sign_at(row: &SparseRow, kept: &Kept, limit: u128) -> Result<Sign, Passed>
 pub fn signs_at(
     alloc: Global,
     row: &SparseRow,
-    kepts: &[Kept],
+    ray_list: &[RayWithSupport],
     limit: u128,
 ) -> Result<Vec<Sign>, StepFault>
-    requires in_range { All (λ kept. IsInRange (length kept.ray) row.now) kepts.now }
+    requires in_range { All (λ kept. IsInRange (length kept.ray) row.now) ray_list.now }
     requires limit { limit ≤ MAX_ENTRY }
-    ensures ok { IfOk result (λ signs. AreSigns limit row.now (rays_of kepts.now) signs.items) }
-    ensures err { IfErr result (IfLarge (IsFirstLargeValue limit row.now (rays_of kepts.now))) }
+    ensures ok { IfOk result (λ signs. AreSigns limit row.now (rays_of ray_list.now) signs.items) }
+    ensures err { IfErr result (IfLarge (IsFirstLargeValue limit row.now (rays_of ray_list.now))) }
 {
-    let mut signs = Vec::with_capacity(alloc, kepts.len())?;
-    for kept in kepts {
+    let mut signs = Vec::with_capacity(alloc, ray_list.len())?;
+    for kept in ray_list {
         match sign_at(row, kept, limit) {
             Ok(sign) => signs.push(sign)?,
             Err(Passed) => {

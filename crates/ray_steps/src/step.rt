@@ -3,17 +3,17 @@
 ghost use Rattle.std.specs.Prelude.{◌≡◌, ◌+◌, ◌<◌, ◌≤◌, ◌↔◌, length, IsTrue, IfOk, IfErr, IfSome, OnOk};
 ghost use Rattle.cone_core.specs.Sparse.{IsInRange};
 ghost use Rattle.ray_steps.specs.Faults.{IfLarge, IsFirstLargeValue};
-ghost use Rattle.ray_steps.specs.Kepts.{rays_of, AreOfWidth};
+ghost use Rattle.ray_steps.specs.Rays.{rays_of, AreOfWidth};
 ghost use Rattle.ray_steps.specs.Negatives.{AreNegatives};
 ghost use Rattle.ray_steps.specs.Rivals.{HaveRivals, HasAllSupports};
 ghost use Rattle.ray_steps.specs.Signs.{IsFacePair, IsNextFrom};
 ghost use Rattle.ray_steps.specs.Steps.{AreStepRays, IsStepOf, IsSearchAt, AreMadeBelow, AreMadeTo, AreMadeOf, IsFaceIfAdmissible, AreCombinedOf, IsFirstLargeOf, IsFirstLargeEitherWay, turned_step};
 
+use crate::combinations::{Combinations, CombinationsSoFar, Search};
 use crate::compatible::{Clashes, Compatible};
-use crate::kept::{Kept, StepFault};
-use crate::made::{Combined, Made, Search};
 use crate::negatives::{Negatives, first_near, negatives_of};
 use crate::pairs::combine_pair;
+use crate::rays::{RayWithSupport, StepFault};
 use crate::rivals::{Rivals, all_supports, rivals_with};
 use crate::signs::{Sign, signs_at};
 use crate::thirds::{has_single, is_single, third_inside};
@@ -34,21 +34,21 @@ const MANY_RAYS: usize = 1000;
 #[derive(Drop)]
 pub struct Step<'a, C: Compatible> {
     clashes: &'a Clashes<C>,
-    kepts: Vec<Kept>,
+    ray_list: Vec<RayWithSupport>,
     signs: Vec<Sign>,
     most: u64,
     limit: u128,
 }
 
 impl<'a, C: Compatible> Model for Step<'a, C> {
-    ghost use Rattle.ray_steps.specs.Kepts.{rays_of};
+    ghost use Rattle.ray_steps.specs.Rays.{rays_of};
     ghost use Rattle.ray_steps.specs.Steps.{StepData, IsStep};
 
     ghost Value = { StepData };
 
-    ghost view = { λ s. record { columns = s.clashes.now.columns; pairs = s.clashes.now.pairs; rays = rays_of s.kepts.items; signs = s.signs.items; limit = s.limit } };
+    ghost view = { λ s. record { columns = s.clashes.now.columns; pairs = s.clashes.now.pairs; rays = rays_of s.ray_list.items; signs = s.signs.items; limit = s.limit } };
 
-    ghost invariant = { λ s. IsStep s.clashes.now.columns s.clashes.now.pairs s.kepts.items s.signs.items s.most s.limit };
+    ghost invariant = { λ s. IsStep s.clashes.now.columns s.clashes.now.pairs s.ray_list.items s.signs.items s.most s.limit };
 }
 
 impl<'a, C: Compatible> Step<'a, C> {
@@ -57,20 +57,20 @@ impl<'a, C: Compatible> Step<'a, C> {
         alloc: Global,
         clashes: &'a Clashes<C>,
         row: &SparseRow,
-        kepts: Vec<Kept>,
+        ray_list: Vec<RayWithSupport>,
         most: u64,
         limit: u128,
     ) -> Result<Step<'a, C>, StepFault>
-        requires rays { AreStepRays clashes.now.columns most clashes.now.pairs kepts.items }
+        requires rays { AreStepRays clashes.now.columns most clashes.now.pairs ray_list.items }
         requires in_range { IsInRange clashes.now.columns row.now }
         requires limit { limit ≤ MAX_ENTRY }
-        ensures ok { IfOk result (IsStepOf limit clashes.now row.now (rays_of kepts.items)) }
-        ensures err { IfErr result (IfLarge (IsFirstLargeValue limit row.now (rays_of kepts.items))) }
+        ensures ok { IfOk result (IsStepOf limit clashes.now row.now (rays_of ray_list.items)) }
+        ensures err { IfErr result (IfLarge (IsFirstLargeValue limit row.now (rays_of ray_list.items))) }
     {
-        let signs = signs_at(alloc, row, &kepts, limit)?;
+        let signs = signs_at(alloc, row, &ray_list, limit)?;
         Ok(Step {
             clashes,
-            kepts,
+            ray_list,
             signs,
             most,
             limit,
@@ -84,7 +84,7 @@ impl<'a, C: Compatible> Step<'a, C> {
         ensures { IfOk result (IsSearchAt self.now i) }
     {
         let clashes = self.clashes;
-        let joined = clashes.joined(alloc, &self.kepts[i].support)?;
+        let joined = clashes.joined(alloc, &self.ray_list[i].support)?;
         Ok(Search {
             joined,
             rivals,
@@ -111,7 +111,7 @@ impl<'a, C: Compatible> Step<'a, C> {
         }
         let clashes = self.clashes;
         let joined = joined.copy(alloc)?;
-        rivals_with(alloc, &self.kepts, clashes.columns(), joined)
+        rivals_with(alloc, &self.ray_list, clashes.columns(), joined)
     }
 
     /// Whether the union of the supports at two places holds no clashing pair and contains the support at no third place. The
@@ -130,8 +130,8 @@ impl<'a, C: Compatible> Step<'a, C> {
         ensures joined { search.new.joined ≡ search.old.joined }
     {
         let clashes = self.clashes;
-        let u = &self.kepts[i];
-        let w = &self.kepts[j];
+        let u = &self.ray_list[i];
+        let w = &self.ray_list[j];
         if has_single(&u.support, &w.support) {
             return Ok(clashes.allows(&u.support, &w.support));
         }
@@ -153,7 +153,7 @@ impl<'a, C: Compatible> Step<'a, C> {
         alloc: Global,
         i: usize,
         negatives: &Negatives,
-        made: &mut Made,
+        made: &mut CombinationsSoFar,
     ) -> Result<(), StepFault>
         requires in_range { i < length self.now.rays }
         requires negatives { AreNegatives self.now.rays self.now.signs self.now.columns negatives.now }
@@ -164,7 +164,7 @@ impl<'a, C: Compatible> Step<'a, C> {
         let Sign::Positive(at_u) = self.signs[i] else {
             return Ok(());
         };
-        let u = &self.kepts[i];
+        let u = &self.ray_list[i];
         let mut search = self.search_at(alloc, i, made.rivals.take())?;
         let places = negatives.places.as_slice();
         let table = &negatives.table;
@@ -173,8 +173,8 @@ impl<'a, C: Compatible> Step<'a, C> {
             let j = places[m];
             if let Sign::Negative(at_w) = self.signs[j] {
                 if self.is_face(alloc, i, j, &mut search)? {
-                    let kept = combine_pair(alloc, u, &self.kepts[j], at_u, at_w, self.limit)?;
-                    made.kepts.push(kept)?;
+                    let kept = combine_pair(alloc, u, &self.ray_list[j], at_u, at_w, self.limit)?;
+                    made.ray_list.push(kept)?;
                 }
             }
             m = first_near(table, &u.support, &search.joined, self.most, m + 1);
@@ -189,7 +189,7 @@ impl<'a, C: Compatible> Step<'a, C> {
         alloc: Global,
         i: usize,
         j: usize,
-        made: &mut Vec<Kept>,
+        made: &mut Vec<RayWithSupport>,
     ) -> Result<(), StepFault>
         requires first { i < length self.now.rays }
         requires second { j < length self.now.rays }
@@ -205,8 +205,8 @@ impl<'a, C: Compatible> Step<'a, C> {
             return Ok(());
         };
         let clashes = self.clashes;
-        let u = &self.kepts[i];
-        let w = &self.kepts[j];
+        let u = &self.ray_list[i];
+        let w = &self.ray_list[j];
         if clashes.allows(&u.support, &w.support) {
             let kept = combine_pair(alloc, u, w, at_u, at_w, self.limit)?;
             made.push(kept)?;
@@ -221,7 +221,7 @@ impl<'a, C: Compatible> Step<'a, C> {
         alloc: Global,
         i: usize,
         supports: &RayTable,
-        made: &mut Vec<Kept>,
+        made: &mut Vec<RayWithSupport>,
     ) -> Result<(), StepFault>
         requires in_range { i < length self.now.rays }
         requires supports { HasAllSupports self.now.rays self.now.columns supports.now }
@@ -233,7 +233,7 @@ impl<'a, C: Compatible> Step<'a, C> {
             return Ok(());
         };
         let clashes = self.clashes;
-        let u = &self.kepts[i];
+        let u = &self.ray_list[i];
         let joined = clashes.joined(alloc, &u.support)?;
         let places = minimal_places(alloc, supports, &u.support, &joined, i)?;
         for place in &places {
@@ -250,7 +250,7 @@ impl<'a, C: Compatible> Step<'a, C> {
         i: usize,
         negatives: &Negatives,
         supports: &Option<RayTable>,
-        made: &mut Made,
+        made: &mut CombinationsSoFar,
     ) -> Result<(), StepFault>
         requires in_range { i < length self.now.rays }
         requires negatives { AreNegatives self.now.rays self.now.signs self.now.columns negatives.now }
@@ -260,8 +260,8 @@ impl<'a, C: Compatible> Step<'a, C> {
         ensures err { IfErr result (IfLarge (IsFirstLargeOf self.now)) }
     {
         if let Some(table) = supports {
-            if !is_single(&self.kepts[i].support) {
-                return self.combine_minimal(alloc, i, table, &mut made.kepts);
+            if !is_single(&self.ray_list[i].support) {
+                return self.combine_minimal(alloc, i, table, &mut made.ray_list);
             }
         }
         self.combine_with(alloc, i, negatives, made)
@@ -273,27 +273,28 @@ impl<'a, C: Compatible> Step<'a, C> {
         alloc: Global,
         negatives: &Negatives,
         supports: &Option<RayTable>,
-    ) -> Result<Vec<Kept>, StepFault>
+    ) -> Result<Vec<RayWithSupport>, StepFault>
         requires negatives { AreNegatives self.now.rays self.now.signs self.now.columns negatives.now }
         requires supports { IfSome supports.now (HasAllSupports self.now.rays self.now.columns) }
         ensures ok { IfOk result (λ made. AreMadeOf self.now made.items) }
         ensures err { IfErr result (IfLarge (IsFirstLargeOf self.now)) }
     {
-        let mut made = Made {
-            kepts: Vec::with_capacity(alloc, self.kepts.len())?,
+        let mut made = CombinationsSoFar {
+            ray_list: Vec::with_capacity(alloc, self.ray_list.len())?,
             rivals: None,
         };
-        for i in 0..self.kepts.len() {
+        for i in 0..self.ray_list.len() {
             self.combine_one(alloc, i, negatives, supports, &mut made)?;
         }
-        Ok(made.kepts)
+        Ok(made.ray_list)
     }
 
     /// Whether residuals pay: there are many rays, and more positive ones than columns, for each of which all rays are gone
     /// through once. Any answer will do, so nothing is said of it.
     fn is_large(&self) -> bool {
         let clashes = self.clashes;
-        self.kepts.len() >= MANY_RAYS && positive_count(&self.signs) >= clashes.columns() as usize
+        self.ray_list.len() >= MANY_RAYS
+            && positive_count(&self.signs) >= clashes.columns() as usize
     }
 
     /// The supports of all rays, where residuals pay. Either way the same pairs are found.
@@ -303,39 +304,39 @@ impl<'a, C: Compatible> Step<'a, C> {
         if !self.is_large() {
             return Ok(None);
         }
-        let Ok(count) = u32::try_from(self.kepts.len()) else {
+        let Ok(count) = u32::try_from(self.ray_list.len()) else {
             return Ok(None);
         };
         let clashes = self.clashes;
-        let table = all_supports(alloc, &self.kepts, clashes.columns())?;
+        let table = all_supports(alloc, &self.ray_list, clashes.columns())?;
         let supports = RayTable::of(alloc, table, count)?;
         Ok(Some(supports))
     }
 
     /// What all pairs are combined to, or the first pair of which an entry passes the limit.
-    pub fn combine_all(&self, alloc: Global) -> Result<Vec<Kept>, StepFault>
+    pub fn combine_all(&self, alloc: Global) -> Result<Vec<RayWithSupport>, StepFault>
         ensures ok { IfOk result (λ made. AreMadeOf self.now made.items) }
         ensures err { IfErr result (IfLarge (IsFirstLargeOf self.now)) }
     {
         if !has_positive(&self.signs) {
             // there is no pair, and all rays may be kept
-            let made = Vec::with_capacity(alloc, self.kepts.len())?;
+            let made = Vec::with_capacity(alloc, self.ray_list.len())?;
             return Ok(made);
         }
         let clashes = self.clashes;
-        let negatives = negatives_of(alloc, &self.kepts, &self.signs, clashes.columns())?;
+        let negatives = negatives_of(alloc, &self.ray_list, &self.signs, clashes.columns())?;
         let supports = self.supports_if_large(alloc)?;
         self.combine_each(alloc, &negatives, &supports)
     }
 
     /// The rays of one row more: what all pairs are combined to, and behind it the rays with the sign zero.
-    pub fn next(self, alloc: Global) -> Result<Vec<Kept>, StepFault>
+    pub fn next(self, alloc: Global) -> Result<Vec<RayWithSupport>, StepFault>
         ensures ok { IfOk result (λ next. IsNextFrom self.entry.limit self.entry.pairs self.entry.rays self.entry.signs 0 (rays_of next.items)) }
         ensures widths { IfOk result (λ next. AreOfWidth self.entry.columns next.items) }
         ensures err { IfErr result (IfLarge (IsFirstLargeOf self.entry)) }
     {
         let mut next = self.combine_all(alloc)?;
-        keep_zeros(self.kepts, &self.signs, &mut next)?;
+        keep_zeros(self.ray_list, &self.signs, &mut next)?;
         Ok(next)
     }
 
@@ -347,7 +348,7 @@ impl<'a, C: Compatible> Step<'a, C> {
         let signs = turned_signs(alloc, &self.signs)?;
         let turned = Step {
             clashes: self.clashes,
-            kepts: self.kepts,
+            ray_list: self.ray_list,
             signs,
             most: self.most,
             limit: self.limit,
@@ -357,36 +358,36 @@ impl<'a, C: Compatible> Step<'a, C> {
 
     /// What all pairs are combined to, in any order, beside the rays and the signs, or a pair of which an entry passes the
     /// limit. The rays of the sign that fewer have are taken in turn, since for each the rivals are gathered.
-    pub fn combined_by_fewer(self, alloc: Global) -> Result<Combined, StepFault>
+    pub fn combinations_by_fewer(self, alloc: Global) -> Result<Combinations, StepFault>
         ensures ok { IfOk result (AreCombinedOf self.entry) }
         ensures err { IfErr result (IfLarge (IsFirstLargeEitherWay self.entry)) }
     {
         if has_more_positives(&self.signs) {
             let (step, signs) = self.turned(alloc)?;
             let made = step.combine_all(alloc)?;
-            return Ok(Combined {
-                kepts: step.kepts,
+            return Ok(Combinations {
+                ray_list: step.ray_list,
                 signs,
                 made,
             });
         }
         let made = self.combine_all(alloc)?;
-        Ok(Combined {
-            kepts: self.kepts,
+        Ok(Combinations {
+            ray_list: self.ray_list,
             signs: self.signs,
             made,
         })
     }
 
     /// The rays of one row more, in any order, or a pair of which an entry passes the limit.
-    pub fn next_by_fewer(self, alloc: Global) -> Result<Vec<Kept>, StepFault>
+    pub fn next_by_fewer(self, alloc: Global) -> Result<Vec<RayWithSupport>, StepFault>
         ensures ok { IfOk result (λ next. IsNextFrom self.entry.limit self.entry.pairs self.entry.rays self.entry.signs 0 (rays_of next.items)) }
         ensures widths { IfOk result (λ next. AreOfWidth self.entry.columns next.items) }
         ensures err { IfErr result (IfLarge (IsFirstLargeEitherWay self.entry)) }
     {
-        let parts = self.combined_by_fewer(alloc)?;
+        let parts = self.combinations_by_fewer(alloc)?;
         let mut next = parts.made;
-        keep_zeros(parts.kepts, &parts.signs, &mut next)?;
+        keep_zeros(parts.ray_list, &parts.signs, &mut next)?;
         Ok(next)
     }
 }

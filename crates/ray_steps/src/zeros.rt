@@ -3,14 +3,18 @@
 ghost use Rattle.std.specs.Prelude.{◌≡◌, ℕ, List, length, IfErr, OnOk};
 ghost use Rattle.cone_definitions.specs.Surfaces.{Clash};
 ghost use Rattle.ray_steps.specs.Appended.{AppendsIfZero};
-ghost use Rattle.ray_steps.specs.Kepts.{rays_of, AreOfWidth};
+ghost use Rattle.ray_steps.specs.Rays.{rays_of, AreOfWidth};
 ghost use Rattle.ray_steps.specs.Signs.{IsMadeUpTo, IsNextFrom};
 
-use crate::kept::{Kept, StepFault};
+use crate::rays::{RayWithSupport, StepFault};
 use crate::signs::Sign;
 
 /// Appends a ray with the sign zero.
-fn keep_if_zero(kept: Kept, sign: Sign, next: &mut Vec<Kept>) -> Result<(), StepFault>
+fn keep_if_zero(
+    kept: RayWithSupport,
+    sign: Sign,
+    next: &mut Vec<RayWithSupport>,
+) -> Result<(), StepFault>
     ensures ok { OnOk result (AppendsIfZero sign kept next.old.items next.new.items) }
     ensures err { IfErr result (λ fault. fault ≡ StepFault.NoMemory) }
 {
@@ -22,18 +26,18 @@ fn keep_if_zero(kept: Kept, sign: Sign, next: &mut Vec<Kept>) -> Result<(), Step
 
 /// Appends the rays with the sign zero.
 pub fn keep_zeros(
-    mut kepts: Vec<Kept>,
+    mut ray_list: Vec<RayWithSupport>,
     signs: &[Sign],
-    next: &mut Vec<Kept>,
+    next: &mut Vec<RayWithSupport>,
 ) -> Result<(), StepFault>
-    requires { length signs.now ≡ length kepts.items }
-    ensures keeps { OnOk result ((limit : ℕ) (pairs : List Clash) → IsMadeUpTo limit pairs (rays_of kepts.items) signs.now (length kepts.items) 0 (rays_of next.old.items)
-        → IsNextFrom limit pairs (rays_of kepts.items) signs.now 0 (rays_of next.new.items)) }
-    ensures widths { OnOk result ((columns : ℕ) → AreOfWidth columns kepts.items → AreOfWidth columns next.old.items → AreOfWidth columns next.new.items) }
+    requires { length signs.now ≡ length ray_list.items }
+    ensures keeps { OnOk result ((limit : ℕ) (pairs : List Clash) → IsMadeUpTo limit pairs (rays_of ray_list.items) signs.now (length ray_list.items) 0 (rays_of next.old.items)
+        → IsNextFrom limit pairs (rays_of ray_list.items) signs.now 0 (rays_of next.new.items)) }
+    ensures widths { OnOk result ((columns : ℕ) → AreOfWidth columns ray_list.items → AreOfWidth columns next.old.items → AreOfWidth columns next.new.items) }
     ensures err { IfErr result (λ fault. fault ≡ StepFault.NoMemory) }
 {
-    while let Some(kept) = kepts.pop() {
-        keep_if_zero(kept, signs[kepts.len()], next)?;
+    while let Some(kept) = ray_list.pop() {
+        keep_if_zero(kept, signs[ray_list.len()], next)?;
     }
     Ok(())
 }

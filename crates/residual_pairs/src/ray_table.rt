@@ -63,7 +63,7 @@ fn holders_of(alloc: Global, table: &SupportTable, count: u32) -> Result<Vec<Sup
 }
 
 /// The places in one of the listed rows of bits whose numbers are among some columns.
-fn united(
+fn union_of_rows(
     alloc: Global,
     holders: &[Support],
     columns: &Support,
@@ -108,6 +108,6 @@ impl RayTable {
         requires { length columns.now ≡ self.now.columns }
         ensures { IfOk result (IsMeeting self.now.supports columns.now) }
     {
-        united(alloc, &self.holders, columns, self.count)
+        union_of_rows(alloc, &self.holders, columns, self.count)
     }
 }

@@ -4,7 +4,7 @@ use Rattle.std.specs.Prelude.{Err}
 use Rattle.table_definitions.specs.Table.{Row}
 use Rattle.table_definitions.specs.Places.{face_of}
 use Rattle.signature_text_laws.specs.Walks.{Walking, take_face, IsWalk}
-use Rattle.signature_codec.specs.Shown.{Takes, StopsAt}
+use Rattle.signature_codec.specs.Views.{Takes, StopsAt}
 use Rattle.signature_codec.specs.declared.walk.NotOrdered.{NotOrdered}
 use Rattle.no_memory.specs.declared.Failure.{Failure}
 use Rattle.no_memory.specs.declared.Failure.TheVariants.{NoMemory, Fault}

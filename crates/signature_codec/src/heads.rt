@@ -5,7 +5,7 @@ ghost use Rattle.table_definitions.specs.Table.{max_tets};
 ghost use Rattle.signature_definitions.specs.SignatureText as signatures;
 ghost use Rattle.signature_definitions.specs.Spelling as spellings;
 ghost use Rattle.signature_text_laws.specs.Faults.{Reads};
-ghost use Rattle.signature_codec.specs.Shown.{head_shown};
+ghost use Rattle.signature_codec.specs.Views.{head_view};
 
 use crate::SigFault;
 use crate::numbers::{number_in, value_at};
@@ -40,7 +40,7 @@ pub fn width(count: u32) -> u32
 fn wide_head(text: &[u8], width_read: u32) -> Result<Head, SigFault>
     requires in_text { 2 ≤ length text.now }
     requires narrow { width_read < 3 }
-    ensures reads { Reads head_shown result (signatures.wide_head text.now width_read) }
+    ensures reads { Reads head_view result (signatures.wide_head text.now width_read) }
     ensures few { IfOk result (λ h. h.count ≤ max_tets) }
     ensures narrow { IfOk result (λ h. h.width ≤ 2) }
     ensures in_text { IfOk result (λ h. h.next ≤ length text.now) }
@@ -61,7 +61,7 @@ fn wide_head(text: &[u8], width_read: u32) -> Result<Head, SigFault>
 
 /// The head of a text that begins with `-`.
 fn long_head(text: &[u8]) -> Result<Head, SigFault>
-    ensures reads { Reads head_shown result (signatures.long_head text.now) }
+    ensures reads { Reads head_view result (signatures.long_head text.now) }
     ensures few { IfOk result (λ h. h.count ≤ max_tets) }
     ensures narrow { IfOk result (λ h. h.width ≤ 2) }
     ensures in_text { IfOk result (λ h. h.next ≤ length text.now) }
@@ -79,7 +79,7 @@ fn long_head(text: &[u8]) -> Result<Head, SigFault>
 /// The head of a text.
 #[tactic(auto, unfolding(signature_definitions::specs::SignatureText::head_of))]
 pub fn head_of(text: &[u8]) -> Result<Head, SigFault>
-    ensures reads { Reads head_shown result (signatures.head_of text.now) }
+    ensures reads { Reads head_view result (signatures.head_of text.now) }
     ensures few { IfOk result (λ h. h.count ≤ max_tets) }
     ensures narrow { IfOk result (λ h. h.width ≤ 2) }
     ensures in_text { IfOk result (λ h. h.next ≤ length text.now) }

@@ -7,7 +7,7 @@ ghost use Rattle.signature_definitions.specs.SignatureText as signatures;
 ghost use Rattle.signature_text_laws.specs.Faults.{Reads, Leaves};
 ghost use Rattle.signature_text_laws.specs.Slots as slots;
 ghost use Rattle.signature_text_laws.specs.Slots.{IsSlots, IsTaking, meet_at, slots_begun};
-ghost use Rattle.signature_codec.specs.Shown.{slots_shown, parts_shown};
+ghost use Rattle.signature_codec.specs.Views.{slots_view, parts_view};
 
 use crate::SigFault;
 use crate::parts::Parts;
@@ -77,10 +77,10 @@ fn pair_at(pairs: &[(u32, usize)], i: usize) -> (u32, usize)
 
 /// Joins a face to a tetrahedron that is seen.
 fn join_seen(state: &mut Joining, parts: &Parts, face: Face) -> Result<(), SigFault>
-    requires taking { IsTaking parts.now.count 2 (slots_shown parts.now state.old) }
+    requires taking { IsTaking parts.now.count 2 (slots_view parts.now state.old) }
     requires a_face { face.face < 4 }
     requires seen { face.tet < state.old.seen }
-    ensures { Leaves (slots_shown parts.now state.new) result (slots.slot_seen face (slots_shown parts.now state.old)) }
+    ensures { Leaves (slots_view parts.now state.new) result (slots.slot_seen face (slots_view parts.now state.old)) }
 {
     let (tet, tet_at) = pair_at(&parts.destinations, state.seen_used);
     let (index, index_at) = pair_at(&parts.gluings, state.seen_used);
@@ -102,10 +102,10 @@ fn join_seen(state: &mut Joining, parts: &Parts, face: Face) -> Result<(), SigFa
 
 /// Joins a face to the next tetrahedron.
 fn join_new(state: &mut Joining, parts: &Parts, face: Face)
-    requires taking { IsTaking parts.now.count 1 (slots_shown parts.now state.old) }
+    requires taking { IsTaking parts.now.count 1 (slots_view parts.now state.old) }
     requires a_face { face.face < 4 }
     requires seen { face.tet < state.old.seen }
-    ensures { slots_shown parts.now state.new ≡ slots.slot_new face (slots_shown parts.now state.old) }
+    ensures { slots_view parts.now state.new ≡ slots.slot_new face (slots_view parts.now state.old) }
 {
     let _count = parts.count;
     let glue = Glue {
@@ -118,10 +118,10 @@ fn join_new(state: &mut Joining, parts: &Parts, face: Face)
 
 /// Joins a face by its type.
 fn join_type(state: &mut Joining, parts: &Parts, face: Face, kind: u8) -> Result<(), SigFault>
-    requires taking { IsTaking parts.now.count kind (slots_shown parts.now state.old) }
+    requires taking { IsTaking parts.now.count kind (slots_view parts.now state.old) }
     requires a_face { face.face < 4 }
     requires seen { face.tet < state.old.seen }
-    ensures { Leaves (slots_shown parts.now state.new) result (slots.slot_type face kind (slots_shown parts.now state.old)) }
+    ensures { Leaves (slots_view parts.now state.new) result (slots.slot_type face kind (slots_view parts.now state.old)) }
 {
     if kind == 0 {
         set_slot(&mut state.met, face, None);
@@ -136,11 +136,11 @@ fn join_type(state: &mut Joining, parts: &Parts, face: Face, kind: u8) -> Result
 
 /// Joins the next face, if it isn't met.
 fn join_face(state: &mut Joining, parts: &Parts, face: Face) -> Result<(), SigFault>
-    requires slots { IsSlots parts.now.count (slots_shown parts.now state.old) }
+    requires slots { IsSlots parts.now.count (slots_view parts.now state.old) }
     requires a_face { face.face < 4 }
     requires in_range { face.tet < parts.now.count }
-    ensures joins { Leaves (slots_shown parts.now state.new) result (slots.slot_face face (slots_shown parts.now state.old)) }
-    ensures slots { OnOk result (IsSlots parts.now.count (slots_shown parts.now state.new)) }
+    ensures joins { Leaves (slots_view parts.now state.new) result (slots.slot_face face (slots_view parts.now state.old)) }
+    ensures slots { OnOk result (IsSlots parts.now.count (slots_view parts.now state.new)) }
 {
     if face.tet >= state.seen {
         return Err(SigFault::Unreached);
@@ -155,8 +155,8 @@ fn join_face(state: &mut Joining, parts: &Parts, face: Face) -> Result<(), SigFa
 
 /// Joins all faces.
 fn join_faces(alloc: Global, parts: &Parts) -> Result<Joining, SigFault>
-    requires { 0 < parts.now.count → IsSlots parts.now.count (slots_begun parts.now.count (parts_shown parts.now)) }
-    ensures joins { Reads (λ j. slots_shown parts.now j) result (slots.slot_faces (4 * parts.now.count) 0 (slots_begun parts.now.count (parts_shown parts.now))) }
+    requires { 0 < parts.now.count → IsSlots parts.now.count (slots_begun parts.now.count (parts_view parts.now)) }
+    ensures joins { Reads (λ j. slots_view parts.now j) result (slots.slot_faces (4 * parts.now.count) 0 (slots_begun parts.now.count (parts_view parts.now))) }
     ensures size { IfOk result (λ j. length j.met.items ≡ 4 * parts.now.count) }
 {
     let places = 4 * parts.count;
@@ -177,7 +177,7 @@ fn join_faces(alloc: Global, parts: &Parts) -> Result<Joining, SigFault>
 }
 
 /// What a face is glued to.
-fn glued_in(met: &[Option<Option<Glue>>], face: Face) -> Option<Glue>
+fn gluing_in(met: &[Option<Option<Glue>>], face: Face) -> Option<Glue>
     requires a_face { face.face < 4 }
     requires in_range { face_number face < length met.now }
     ensures { result ≡ unwrap_or (slots.slot met.now face) None }
@@ -190,10 +190,10 @@ fn row_of(met: &[Option<Option<Glue>>], tet: u32) -> Row
     ensures { result ≡ slots.slot_row met.now tet }
 {
     [
-        glued_in(met, Face { tet, face: 0 }),
-        glued_in(met, Face { tet, face: 1 }),
-        glued_in(met, Face { tet, face: 2 }),
-        glued_in(met, Face { tet, face: 3 }),
+        gluing_in(met, Face { tet, face: 0 }),
+        gluing_in(met, Face { tet, face: 1 }),
+        gluing_in(met, Face { tet, face: 2 }),
+        gluing_in(met, Face { tet, face: 3 }),
     ]
 }
 
@@ -210,8 +210,8 @@ fn rows_of(alloc: Global, count: u32, met: &[Option<Option<Glue>>]) -> Result<Ve
 
 /// The rows of the table whose faces are joined so.
 pub fn join(alloc: Global, parts: &Parts) -> Result<Vec<Row>, SigFault>
-    requires { 0 < parts.now.count → IsSlots parts.now.count (slots_begun parts.now.count (parts_shown parts.now)) }
-    ensures { Reads (λ rows. rows.items) result (signatures.table_of parts.now.count (parts_shown parts.now)) }
+    requires { 0 < parts.now.count → IsSlots parts.now.count (slots_begun parts.now.count (parts_view parts.now)) }
+    ensures { Reads (λ rows. rows.items) result (signatures.table_of parts.now.count (parts_view parts.now)) }
 {
     let state = join_faces(alloc, parts)?;
     let rows = rows_of(alloc, parts.count, &state.met)?;

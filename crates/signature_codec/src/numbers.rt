@@ -3,7 +3,7 @@
 ghost use Rattle.std.specs.Prelude.{◌≡◌, ◌<◌, ◌≤◌, ◌+◌, ◌*◌, ◌^◌, length, IfOk, OnOk};
 ghost use Rattle.signature_definitions.specs.SignatureText as signatures;
 ghost use Rattle.signature_text_laws.specs.Faults.{Reads};
-ghost use Rattle.signature_codec.specs.Shown.{fault_of_segment};
+ghost use Rattle.signature_codec.specs.Views.{fault_of_segment};
 
 use crate::SigFault;
 use crate::characters::value_of;
@@ -17,7 +17,7 @@ pub enum Segment {
 }
 
 impl Segment {
-    ghost use Rattle.signature_codec.specs.Shown.{fault_of_segment};
+    ghost use Rattle.signature_codec.specs.Views.{fault_of_segment};
 
     /// The fault of a number that is out of range.
     fn fault(self, at: usize) -> SigFault

@@ -4,7 +4,7 @@ ghost use Rattle.std.specs.Prelude.{◌≡◌, ◌<◌, ◌≤◌, length, IfOk}
 ghost use Rattle.table_definitions.specs.Table.{max_tets};
 ghost use Rattle.table_definitions.specs.Lists.{times_in};
 ghost use Rattle.signature_text_laws.specs.Faults.{Reads};
-ghost use Rattle.signature_codec.specs.Shown.{head_shown, types_shown, parts_shown};
+ghost use Rattle.signature_codec.specs.Views.{head_view, types_view, parts_view};
 ghost use Rattle.signature_text_laws.specs.Parts.{parts_of};
 
 use crate::SigFault;
@@ -37,7 +37,7 @@ pub fn read_parts(alloc: Global, text: &[u8], head: Head, types: Types) -> Resul
     requires few { head.count ≤ max_tets }
     requires few_types { length types.read.items ≤ 4000 }
     requires few_ones { types.ones ≤ max_tets }
-    ensures reads { Reads parts_shown result (parts_of text.now (head_shown head) (types_shown types) types.next) }
+    ensures reads { Reads parts_view result (parts_of text.now (head_view head) (types_view types) types.next) }
     ensures count { IfOk result (λ p. p.count ≡ head.count) }
 {
     let twos = twos_of(&types.read) as u32;

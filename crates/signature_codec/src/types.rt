@@ -4,7 +4,7 @@ ghost use Rattle.std.specs.Prelude.{◌≡◌, ◌<◌, ◌≤◌, ◌*◌, ◌-
 ghost use Rattle.table_definitions.specs.Table.{max_tets};
 ghost use Rattle.signature_definitions.specs.SignatureText as signatures;
 ghost use Rattle.signature_text_laws.specs.Faults.{Reads, Leaves};
-ghost use Rattle.signature_codec.specs.Shown.{types_shown, read_behind};
+ghost use Rattle.signature_codec.specs.Views.{types_view, read_behind};
 ghost use Rattle.signature_text_laws.specs.Parts.{types_begun};
 
 use crate::SigFault;
@@ -39,7 +39,7 @@ fn is_wrong_type(count: u32, kind: u8, left: u32, ones: u32) -> bool
 fn take_type(types: &mut Types, count: u32, kind: u8) -> Result<(), SigFault>
     requires few { count ≤ max_tets }
     requires few_ones { types.old.ones ≤ max_tets }
-    ensures reads { Leaves (types_shown types.new) result (signatures.type_at count types.old.next kind (types_shown types.old)) }
+    ensures reads { Leaves (types_view types.new) result (signatures.type_at count types.old.next kind (types_view types.old)) }
     ensures few_ones { OnOk result (types.new.ones ≤ max_tets) }
     ensures same_place { types.new.next ≡ types.old.next }
     ensures less { OnOk result (types.new.left ≤ types.old.left - 1) }
@@ -67,7 +67,7 @@ fn take_character(types: &mut Types, count: u32, value: u8) -> Result<(), SigFau
     requires few { count ≤ max_tets }
     requires few_ones { types.old.ones ≤ max_tets }
     requires a_value { value < 64 }
-    ensures reads { Leaves (types_shown types.new) result (signatures.character_types count types.old.next value (types_shown types.old)) }
+    ensures reads { Leaves (types_view types.new) result (signatures.character_types count types.old.next value (types_view types.old)) }
     ensures few_ones { OnOk result (types.new.ones ≤ max_tets) }
     ensures same_place { types.new.next ≡ types.old.next }
     ensures less { OnOk result (types.new.left ≤ types.old.left - 1) }

@@ -6,7 +6,7 @@ ghost use Rattle.table_definitions.specs.Permutation.{identity};
 ghost use Rattle.table_definitions.specs.Table as gluings;
 ghost use Rattle.table_definitions.specs.Table.{max_tets, IsTable};
 ghost use Rattle.signature_text_laws.specs.Walks as walks;
-ghost use Rattle.signature_codec.specs.Shown.{walk_shown, named_face, Takes, IsWholeWalk, StopsAt};
+ghost use Rattle.signature_codec.specs.Views.{walk_view, named_face, Takes, IsWholeWalk, StopsAt};
 
 use gluing_table::{Face, Glue, Table};
 use no_memory::Failure;
@@ -51,7 +51,7 @@ fn is_identity(perm: Perm4) -> bool
 fn take_glued(walk: &mut Walk, face: Face, glue: Glue) -> Result<(), SpellFault>
     requires a_face { face.face < 4 }
     requires few { walk.old.seen ≤ max_tets }
-    ensures takes { Takes (walk_shown walk.new) face result (walks.take_glued face glue (walk_shown walk.old)) }
+    ensures takes { Takes (walk_view walk.new) face result (walks.take_glued face glue (walk_view walk.old)) }
 {
     if glue.other_side(face).is_before(face) {
         return Ok(());
@@ -74,7 +74,7 @@ fn take_face(walk: &mut Walk, table: &Table, face: Face) -> Result<(), SpellFaul
     requires a_face { face.face < 4 }
     requires in_range { face.tet < length table.now }
     requires few { walk.old.seen ≤ max_tets }
-    ensures takes { Takes (walk_shown walk.new) face result (walks.take_face table.now face (walk_shown walk.old)) }
+    ensures takes { Takes (walk_view walk.new) face result (walks.take_face table.now face (walk_view walk.old)) }
 {
     if face.tet >= walk.seen {
         return Err(Failure::Fault(not_ordered(face)));

@@ -15,7 +15,7 @@ use Rattle.signature_text_laws.specs.Walks.{Walking, with_type, take_glued, take
 use Rattle.signature_text_laws.proofs.WalkLaws.{some_same}
 use Rattle.signature_text_laws.proofs.Joined.{BothMet, met_here, met_elsewhere, met_other, met_kept, bound_here, bound_elsewhere, bound_kept, other_face}
 use Rattle.signature_text_laws.proofs.Walked.{before_at}
-use Rattle.table_definitions.proofs.Kept.{not_true}
+use Rattle.table_definitions.proofs.Retained.{not_true}
 use Rattle.table_definitions.proofs.Faces.{there_and_back, back_again, number-face_of, face_of-number}
 use Rattle.table_definitions.specs.Places.{face_of}
 

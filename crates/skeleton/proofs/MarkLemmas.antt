@@ -11,7 +11,7 @@ use Rattle.table_definitions.specs.Permutation.{four}
 use Rattle.table_definitions.specs.Table.{Row}
 use Rattle.table_definitions.specs.Places.{is_boundary, is_closed, lies_in_boundary}
 use Rattle.table_definitions.proofs.Tests.{each_face}
-use Rattle.class_laws.proofs.Marks.{any_more}
+use Rattle.skeleton_class_laws.proofs.Marks.{any_more}
 use Rattle.skeleton.specs.Parts.{AreBoundaryMarks, AreBoundaryMarksUpTo, is_open_at}
 
 -- a degree grows

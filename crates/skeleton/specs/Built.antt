@@ -5,8 +5,8 @@ use Rattle.skeleton_definitions.specs.Corners.{Corner}
 use Rattle.table_definitions.specs.Table.{Row, IsTable}
 use Rattle.table_definitions.specs.Places.{is_closed}
 use Rattle.skeleton_definitions.specs.Skeleton.{IsOrientation}
-use Rattle.class_laws.specs.declared.Kind.TheVariants.{Vertices, Edges, Directions, Faces}
-use Rattle.class_laws.specs.Numberings.{AreClassesOf}
+use Rattle.skeleton_class_laws.specs.declared.Kind.TheVariants.{Vertices, Edges, Directions, Faces}
+use Rattle.skeleton_class_laws.specs.Numberings.{AreClassesOf}
 use Rattle.skeleton.specs.Parts.{AreRounds}
 use Rattle.skeleton.specs.Parts.{AreDegrees, AreBoundaryMarks}
 

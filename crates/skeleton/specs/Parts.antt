@@ -7,7 +7,7 @@ use Rattle.table_definitions.specs.Table.{Row}
 use Rattle.table_definitions.specs.Classes.{degree}
 use Rattle.table_definitions.specs.Places.{is_boundary, is_boundary_edge, lies_in_boundary}
 use Rattle.skeleton_definitions.specs.Corners.{Corner}
-use Rattle.class_laws.specs.Rounds.{next_corner, IsRoundUnless}
+use Rattle.skeleton_class_laws.specs.Rounds.{next_corner, IsRoundUnless}
 
 -- the degree of each of so many classes
 pub record AreDegrees (classes : List ℕ) (count : ℕ) (degrees : List ℕ) : Type 0 where

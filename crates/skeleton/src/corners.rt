@@ -3,8 +3,8 @@
 ghost use Rattle.std.specs.Prelude.{◌≡◌, ◌*◌, ◌<◌, ℕ, length, slice_index, IfOk, map, []};
 ghost use Rattle.table_definitions.specs.Permutation.{IsPermutationOfFour};
 ghost use Rattle.table_definitions.specs.Table.{IsTable};
-ghost use Rattle.walk_laws.specs.Walks.{IsInjectiveBelow, step_of};
-ghost use Rattle.class_laws.specs.Rounds.{corner_at, next_corner, start_of, swap, word_at, IsRound, IsRoundUnless};
+ghost use Rattle.table_walk_laws.specs.Walks.{IsInjectiveBelow, step_of};
+ghost use Rattle.skeleton_class_laws.specs.Rounds.{corner_at, next_corner, start_of, swap, word_at, IsRound, IsRoundUnless};
 ghost use Rattle.skeleton.specs.Parts.{AreRounds};
 
 use crate::crossings::behind;

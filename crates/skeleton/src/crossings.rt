@@ -3,7 +3,7 @@
 ghost use Rattle.std.specs.Prelude.{◌≡◌, ◌*◌, ◌<◌, ◌≤◌, length, IfSome};
 ghost use Rattle.table_definitions.specs.Table as gluings;
 ghost use Rattle.table_definitions.specs.Table.{max_tets, IsTable};
-ghost use Rattle.class_laws.specs.Crossings.{crossed_vertex, crossed_face};
+ghost use Rattle.skeleton_class_laws.specs.Crossings.{crossed_vertex, crossed_face};
 
 use gluing_table::{Face, Glue, Table};
 

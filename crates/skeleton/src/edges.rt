@@ -4,8 +4,8 @@ ghost use Rattle.std.specs.Prelude.{◌≡◌, ◌*◌, ◌/◌, ◌%◌, ◌<�
 ghost use Rattle.table_definitions.specs.Table.{IsTable};
 ghost use Rattle.table_definitions.specs.Places as places;
 ghost use Rattle.table_definitions.specs.Permutation.{others};
-ghost use Rattle.class_laws.specs.Crossings.{crossed_edge, crossed_direction, pair_number};
-ghost use Rattle.class_laws.specs.Directions.{forward, backward, runs_against};
+ghost use Rattle.skeleton_class_laws.specs.Crossings.{crossed_edge, crossed_direction, pair_number};
+ghost use Rattle.skeleton_class_laws.specs.Directions.{forward, backward, runs_against};
 
 use crate::crossings::behind;
 use gluing_table::{Face, Table};

@@ -12,8 +12,8 @@ mod numbering;
 mod signs;
 mod skeleton;
 
-pub use class_laws::Kind;
 pub use corners::Corner;
 pub use edges::edge_ends;
 pub use numbering::{Numbering, classes_of};
 pub use skeleton::Skeleton;
+pub use skeleton_class_laws::Kind;

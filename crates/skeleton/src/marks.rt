@@ -4,8 +4,8 @@ ghost use Rattle.std.specs.Prelude.{length, IfOk};
 ghost use Rattle.std.specs.Option.{option_map};
 ghost use Rattle.table_definitions.specs.Table.{IsTable};
 ghost use Rattle.skeleton_definitions.specs.Skeleton.{IsOrientation};
-ghost use Rattle.class_laws.specs.Numberings.{AreClassesOf};
-ghost use Rattle.class_laws.specs.declared.Kind.TheVariants.{Vertices, Edges};
+ghost use Rattle.skeleton_class_laws.specs.Numberings.{AreClassesOf};
+ghost use Rattle.skeleton_class_laws.specs.declared.Kind.TheVariants.{Vertices, Edges};
 ghost use Rattle.skeleton.specs.Parts.{AreDegrees, AreBoundaryMarks, AreRounds, items_of};
 
 use crate::boundary::boundary_marks;

@@ -2,15 +2,15 @@
 
 ghost use Rattle.std.specs.Prelude.{◌≡◌, ◌*◌, ◌<◌, ◌≤◌, length, IfOk};
 ghost use Rattle.table_definitions.specs.Table.{IsTable};
-ghost use Rattle.class_laws.specs.Neighbours.{AreNeighbours, row_at};
-ghost use Rattle.class_laws.specs.Numberings.{per_tet, crossing};
+ghost use Rattle.skeleton_class_laws.specs.Neighbours.{AreNeighbours, row_at};
+ghost use Rattle.skeleton_class_laws.specs.Numberings.{per_tet, crossing};
 
 use crate::crossings::{face_across, vertex_across};
 use crate::edges::{direction_across, edge_across};
 use crate::signs::{sign_across, vertex_sign_across};
-use class_laws::Kind;
 use gluing_table::Table;
 use no_memory::NoMemory;
+use skeleton_class_laws::Kind;
 use std::alloc::Global;
 
 fn per_tet(kind: Kind) -> u32

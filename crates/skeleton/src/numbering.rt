@@ -2,14 +2,14 @@
 
 ghost use Rattle.std.specs.Prelude.{◌<◌, ◌^◌, length, IfOk};
 ghost use Rattle.table_definitions.specs.Table.{IsTable};
-ghost use Rattle.class_laws.specs.Numberings.{AreClassesOf, AreFirsts, IsOrdered};
-ghost use Rattle.class_laws.specs.declared.Kind.TheVariants.{Vertices, Edges, Directions, Faces};
+ghost use Rattle.skeleton_class_laws.specs.Numberings.{AreClassesOf, AreFirsts, IsOrdered};
+ghost use Rattle.skeleton_class_laws.specs.declared.Kind.TheVariants.{Vertices, Edges, Directions, Faces};
 
 use crate::neighbours::neighbours;
-use class_laws::Kind;
 use finite_walks::classes;
 use gluing_table::Table;
 use no_memory::NoMemory;
+use skeleton_class_laws::Kind;
 use std::alloc::Global;
 
 /// The class of each thing, and the least member of each class.

@@ -4,14 +4,14 @@ ghost use Rattle.std.specs.Prelude.{◌≡◌, ◌*◌, ◌+◌, ◌<◌, ◌≤
 ghost use Rattle.std.specs.Option.{option_map};
 ghost use Rattle.table_definitions.specs.Table.{IsTable};
 ghost use Rattle.skeleton_definitions.specs.Skeleton.{IsOrientation};
-ghost use Rattle.class_laws.specs.Signs.{crossed_sign, crossed_vertex_sign, AreSignsBy};
+ghost use Rattle.skeleton_class_laws.specs.Signs.{crossed_sign, crossed_vertex_sign, AreSignsBy};
 ghost use Rattle.skeleton.specs.Parts.{items_of};
 
 use crate::crossings::behind;
 use crate::numbering::classes_of;
-use class_laws::Kind;
 use gluing_table::{Face, Table};
 use no_memory::NoMemory;
+use skeleton_class_laws::Kind;
 use std::alloc::Global;
 
 /// The signed tetrahedron behind a face.

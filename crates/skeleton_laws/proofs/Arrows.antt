@@ -8,9 +8,9 @@ use Rattle.table_definitions.specs.Table.{Row}
 use Rattle.table_definitions.specs.Places.{Place, IsPlace, carried, across, IsJoined}
 use Rattle.table_definitions.proofs.ChainLaws.{Steps, steps_across, across_by, joined_refl, joined_step, joined_trans, kept_along}
 use Rattle.skeleton_definitions.specs.Links.{directed}
-use Rattle.class_laws.specs.Crossings.{pair, pair_number, direction_at}
-use Rattle.class_laws.proofs.Cases.{head, head_below, apart_head, pair_number-parts}
-use Rattle.class_laws.proofs.DirectionTies.{pair_is, directed_pair}
+use Rattle.skeleton_class_laws.specs.Crossings.{pair, pair_number, direction_at}
+use Rattle.skeleton_class_laws.proofs.Cases.{head, head_below, apart_head, pair_number-parts}
+use Rattle.skeleton_class_laws.proofs.DirectionTies.{pair_is, directed_pair}
 use Rattle.skeleton_laws.proofs.Spots.{spot}
 
 -- two different vertices

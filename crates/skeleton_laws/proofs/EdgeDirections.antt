@@ -12,9 +12,9 @@ use Rattle.table_definitions.proofs.DistinctLists.{apart_below}
 use Rattle.table_definitions.proofs.Listed.{below-among}
 use Rattle.table_definitions.proofs.TableLaws.{Among, Among-below}
 use Rattle.skeleton_definitions.specs.Links.{directed, SameDirected}
-use Rattle.class_laws.specs.Directions.{forward, backward}
-use Rattle.class_laws.proofs.DirectionLemmas.{directed_forward, directed_backward, forward_below, backward_below}
-use Rattle.class_laws.proofs.EdgeTies.{pair_either, turned_twice}
+use Rattle.skeleton_class_laws.specs.Directions.{forward, backward}
+use Rattle.skeleton_class_laws.proofs.DirectionLemmas.{directed_forward, directed_backward, forward_below, backward_below}
+use Rattle.skeleton_class_laws.proofs.EdgeTies.{pair_either, turned_twice}
 use Rattle.skeleton_laws.proofs.Matchings.{related_same, both, length-both, first_kind, second_kind, is_first_kind, is_second_kind, both_apart}
 use Rattle.skeleton_laws.proofs.EdgeEnds.{edge_below}
 use Rattle.skeleton_laws.proofs.Arrows.{IsArrow, directed_arrow}

@@ -3,9 +3,9 @@ use Rattle.std.proofs.Common.{◌≡◌, ◌≢◌, ℕ, ◌+◌, ◌*◌, ◌/�
 use Rattle.table_definitions.specs.Table.{Row}
 use Rattle.table_definitions.specs.Places.{Place, edge, edge_number, turned, IsJoined, IsInvalidEdge}
 use Rattle.table_definitions.proofs.ChainLaws.{joined_turned}
-use Rattle.class_laws.specs.Crossings.{pair}
-use Rattle.class_laws.proofs.Cases.{are_ends, ends-edge_number, low, high}
-use Rattle.class_laws.proofs.EdgeTies.{edge_pair, pair_either}
+use Rattle.skeleton_class_laws.specs.Crossings.{pair}
+use Rattle.skeleton_class_laws.proofs.Cases.{are_ends, ends-edge_number, low, high}
+use Rattle.skeleton_class_laws.proofs.EdgeTies.{edge_pair, pair_either}
 
 -- an edge by its ends
 pub record EdgeAt (i : ℕ) : Type 0 where

@@ -14,9 +14,9 @@ use Rattle.surface_definitions.specs.declared.Coords.{Coords}
 use Rattle.surface_definitions.specs.declared.Coords.TheVariants.{Standard, Quad, Octagon}
 use Rattle.surface_definitions.specs.Equations.{row_of, matching_rows}
 use Rattle.surface_definitions.specs.QuadEquations.{quad_equation, IsQuadRow, AreQuadEquations, AreEquations}
-use Rattle.class_laws.proofs.EdgeCorners.{IsRound, round_of}
+use Rattle.skeleton_class_laws.proofs.EdgeCorners.{IsRound, round_of}
 use Rattle.table_definitions.proofs.Listed.{among_contains, filter-among, below-among}
-use Rattle.class_laws.proofs.Around.{zip_exists, some_around}
+use Rattle.skeleton_class_laws.proofs.Around.{zip_exists, some_around}
 use Rattle.skeleton_laws.proofs.Skeletons.{some_skeleton}
 
 module _ (s : Skeleton) (k : IsSkeleton s) where

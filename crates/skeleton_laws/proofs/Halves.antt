@@ -16,7 +16,7 @@ use Rattle.table_definitions.proofs.TableLaws.{Among}
 use Rattle.skeleton_definitions.specs.Links.{is_first_side}
 use Rattle.surface_laws.proofs.Glued.{IsGlued, glued_is}
 use Rattle.surface_laws.proofs.Matched.{before_or_after}
-use Rattle.class_laws.proofs.VertexTies.{vertex_is}
+use Rattle.skeleton_class_laws.proofs.VertexTies.{vertex_is}
 use Rattle.skeleton_laws.proofs.Matchings.{passing, passing_is, is_passing, both, first_kind, second_kind, is_first_kind, is_second_kind}
 use Rattle.skeleton_laws.proofs.SideParts.{IsSideAt, side_is, is_side_from, side_number, HasParts, has_parts, number_again}
 use Rattle.skeleton_laws.proofs.Sides.{side_face, is_side, first_side, free_side}

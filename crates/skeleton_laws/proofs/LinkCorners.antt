@@ -9,7 +9,7 @@ use Rattle.table_definitions.specs.Places.{Place, IsJoined, SameVertex, vertex}
 use Rattle.table_definitions.proofs.ClassLaws.{least_of, one_least}
 use Rattle.table_definitions.proofs.TableLaws.{Among}
 use Rattle.skeleton_definitions.specs.Links.{directed, SameDirected, vertex_number, link_vertices}
-use Rattle.class_laws.specs.Crossings.{direction_at, vertex_at}
+use Rattle.skeleton_class_laws.specs.Crossings.{direction_at, vertex_at}
 use Rattle.skeleton_laws.proofs.Matchings.{passing, length-passing, passing_is, is_passing}
 use Rattle.skeleton_laws.proofs.Sides.{times_are}
 use Rattle.skeleton_laws.proofs.Spots.{IsSpot, class_of, spot_below, vertex_number_again, one_class}

@@ -8,11 +8,11 @@ use Rattle.table_definitions.specs.Lists.{times_in}
 use Rattle.skeleton_definitions.specs.declared.Link.{Link}
 use Rattle.skeleton_definitions.specs.Links.{link_edges, link_vertices, euler_of, is_closed_link, kind_of, IsOrientableLink, IsLink}
 use Rattle.skeleton_definitions.specs.Skeleton.{Skeleton, IsSkeleton, AreLinksUpTo, AreLinks}
-use Rattle.class_laws.specs.declared.Kind.TheVariants.{Directions, VertexSigns}
-use Rattle.class_laws.proofs.LinkSigns.{tells_apart, orientable_by}
-use Rattle.class_laws.proofs.TallyLemmas.{each_more}
-use Rattle.class_laws.specs.Laws.{HasClasses}
-use Rattle.class_laws.proofs.Numbered.{classes_exist}
+use Rattle.skeleton_class_laws.specs.declared.Kind.TheVariants.{Directions, VertexSigns}
+use Rattle.skeleton_class_laws.proofs.LinkSigns.{tells_apart, orientable_by}
+use Rattle.skeleton_class_laws.proofs.TallyLemmas.{each_more}
+use Rattle.skeleton_class_laws.specs.Laws.{HasClasses}
+use Rattle.skeleton_class_laws.proofs.Numbered.{classes_exist}
 
 module _ (s : Skeleton) (k : IsSkeleton s) (d : HasClasses Directions s.rows) (v : HasClasses VertexSigns s.rows) where
   -- a member of class c isn't joined to itself with the other sign, or it is

@@ -8,11 +8,11 @@ use Rattle.table_definitions.specs.Lists.{below}
 use Rattle.table_definitions.specs.Table.{Row, IsTable}
 use Rattle.skeleton_definitions.specs.Orientation.{IsOrientable}
 use Rattle.skeleton_definitions.specs.Skeleton.{IsOrientation}
-use Rattle.class_laws.specs.declared.Kind.TheVariants.{Signs}
-use Rattle.class_laws.specs.Signs.{AreSignsBy}
-use Rattle.class_laws.proofs.SignLemmas.{not_orientable, oriented}
-use Rattle.class_laws.specs.Laws.{HasClasses}
-use Rattle.class_laws.proofs.Numbered.{classes_exist}
+use Rattle.skeleton_class_laws.specs.declared.Kind.TheVariants.{Signs}
+use Rattle.skeleton_class_laws.specs.Signs.{AreSignsBy}
+use Rattle.skeleton_class_laws.proofs.SignLemmas.{not_orientable, oriented}
+use Rattle.skeleton_class_laws.specs.Laws.{HasClasses}
+use Rattle.skeleton_class_laws.proofs.Numbered.{classes_exist}
 
 module _ (rows : List Row) (table : IsTable rows) (c : HasClasses Signs rows) where
   abbrev Apart : ℕ → Type 0

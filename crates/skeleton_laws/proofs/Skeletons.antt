@@ -6,11 +6,11 @@ use Rattle.table_definitions.specs.Table.{Row, IsTable}
 use Rattle.table_definitions.specs.Classes.{least}
 use Rattle.table_definitions.specs.Places.{SameEdge, IsInvalidEdge}
 use Rattle.skeleton_definitions.specs.Skeleton.{Skeleton, IsSkeleton, IsValidClass, IsFirstInvalid}
-use Rattle.class_laws.specs.declared.Kind.TheVariants.{Vertices, Edges, Directions, Faces}
-use Rattle.class_laws.specs.Directions.{runs_against}
-use Rattle.class_laws.proofs.DirectionLemmas.{runs_against-is}
-use Rattle.class_laws.proofs.EdgeCorners.{least_in_range}
-use Rattle.class_laws.proofs.Numbered.{classes_exist}
+use Rattle.skeleton_class_laws.specs.declared.Kind.TheVariants.{Vertices, Edges, Directions, Faces}
+use Rattle.skeleton_class_laws.specs.Directions.{runs_against}
+use Rattle.skeleton_class_laws.proofs.DirectionLemmas.{runs_against-is}
+use Rattle.skeleton_class_laws.proofs.EdgeCorners.{least_in_range}
+use Rattle.skeleton_class_laws.proofs.Numbered.{classes_exist}
 
 pub some_skeleton : (rows : List Row) → IsTable rows → (s : Skeleton) × (s.rows ≡ rows) × IsSkeleton s
 some_skeleton rows table =

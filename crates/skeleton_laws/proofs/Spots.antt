@@ -4,8 +4,8 @@ use Rattle.std.specs.Prelude.{◌↔◌, slice_index}
 use Rattle.table_definitions.specs.Table.{Row}
 use Rattle.table_definitions.specs.Classes.{IsNumbering}
 use Rattle.table_definitions.specs.Places.{Place, vertex, IsJoined, SameVertex}
-use Rattle.class_laws.specs.Crossings.{vertex_at}
-use Rattle.class_laws.proofs.VertexTies.{vertex_is}
+use Rattle.skeleton_class_laws.specs.Crossings.{vertex_at}
+use Rattle.skeleton_class_laws.proofs.VertexTies.{vertex_is}
 
 -- one vertex
 abbrev pub spot : ℕ → ℕ → Place

@@ -3,8 +3,8 @@ use Rattle.std.proofs.Common.{◌≡◌, ℕ, List, subst}
 use Rattle.std.specs.Prelude.{Result, Ok, Err, Option, Some, None, IfOk, IfSome}
 use Rattle.cone_definitions.specs.Surfaces.{Clash, IsSurfaceList}
 use Rattle.cone_definitions.specs.Systems.{System}
-use Rattle.row_operation_laws.specs.Solutions.{HaveSameSolutions}
-use Rattle.row_operation_laws.proofs.Kept.{list_kept}
+use Rattle.cone_row_laws.specs.Solutions.{HaveSameSolutions}
+use Rattle.cone_row_laws.proofs.Agreement.{list_kept}
 
 module _ (system solved : System) (pairs : List Clash) (width : solved.columns ≡ system.columns) (same : HaveSameSolutions system.columns system.rows solved.rows) where
   list_of : (list : List (List ℕ)) → IsSurfaceList solved.columns solved.rows pairs list → IsSurfaceList system.columns system.rows pairs list

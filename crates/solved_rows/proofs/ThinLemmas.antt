@@ -3,7 +3,7 @@ use Rattle.std.proofs.Common.{◌≡◌, ℕ, ℤ, List, [], length, get_or, sub
 use Rattle.std.proofs.lemmas.List.{get_or-set_other}
 use Rattle.std.proofs.lemmas.List.Elements.{All-get_or}
 use Rattle.cone_definitions.specs.Rows.{Row, IsZeroAt}
-use Rattle.row_operation_laws.specs.Solutions.{HaveSameZeros}
+use Rattle.cone_row_laws.specs.Solutions.{HaveSameZeros}
 use Rattle.solved_rows.specs.Clearing.{AreClearedBy, AddsMultipleAt}
 use Rattle.solved_rows.proofs.RowLemmas.{cleared_at, count_at}
 

@@ -3,7 +3,7 @@ use Rattle.std.specs.Prelude.{◌≡◌, ◌≢◌, ℕ, ◌<◌, ◌⊎◌, Lis
 use Rattle.std.specs.List.{All}
 use Rattle.cone_definitions.specs.Rows.{Row}
 use Rattle.cone_core.specs.Sparse.{IsSparse}
-use Rattle.row_operation_laws.specs.Operations.{IsSumWith}
+use Rattle.cone_row_laws.specs.Operations.{IsSumWith}
 use Rattle.solved_rows.specs.declared.fault.SolveFault.{SolveFault}
 use Rattle.solved_rows.specs.declared.fault.SolveFault.TheVariants.{Passed, NoMemory}
 use Rattle.solved_rows.specs.Merging.{IsCoefficientSum}

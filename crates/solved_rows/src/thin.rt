@@ -3,7 +3,7 @@
 ghost use Rattle.std.specs.Prelude.{◌≡◌, ◌<◌, ◌≢◌, ◌≤◌, ◌⊎◌, pos, negsuc, length, IfSome, OnOk, IfErr};
 ghost use Rattle.std.specs.List.{All};
 ghost use Rattle.cone_core.specs.Sparse.{IsInRange};
-ghost use Rattle.row_operation_laws.specs.Solutions.{HaveSameZeros};
+ghost use Rattle.cone_row_laws.specs.Solutions.{HaveSameZeros};
 ghost use Rattle.solved_rows.specs.Merging.{IsCoefficientSum};
 ghost use Rattle.solved_rows.specs.Passing.{TakesTerm, IsDerived, HasPassedSum, IfPassed};
 
@@ -17,7 +17,7 @@ const ROUNDS: u32 = 20;
 
 /// At how many columns two rows have the same coefficient, opposite ones, and any.
 #[derive(Clone, Copy)]
-struct Shared {
+struct SharedColumns {
     same: usize,
     opposite: usize,
     any: usize,
@@ -36,11 +36,11 @@ fn place_from(terms: &[(u32, i32)], from: usize, column: u32) -> usize
 }
 
 /// One column more that both rows have.
-fn with_column(shared: Shared, one: i32, other: i32) -> Shared
+fn with_column(shared: SharedColumns, one: i32, other: i32) -> SharedColumns
     ensures same { 0 < result.same → (0 < shared.same) ⊎ IsCoefficientSum one (negsuc 0) other (pos 0) }
     ensures opposite { 0 < result.opposite → (0 < shared.opposite) ⊎ IsCoefficientSum one (pos 1) other (pos 0) }
 {
-    Shared {
+    SharedColumns {
         same: shared.same.saturating_add(usize::from(one == other)),
         opposite: shared
             .opposite
@@ -50,11 +50,11 @@ fn with_column(shared: Shared, one: i32, other: i32) -> Shared
 }
 
 /// What two rows share.
-fn shared_by(row: &[(u32, i32)], other: &[(u32, i32)]) -> Shared
+fn shared_columns(row: &[(u32, i32)], other: &[(u32, i32)]) -> SharedColumns
     ensures same { 0 < result.same → TakesTerm row.now (negsuc 0) other.now }
     ensures opposite { 0 < result.opposite → TakesTerm row.now (pos 1) other.now }
 {
-    let mut shared = Shared {
+    let mut shared = SharedColumns {
         same: 0,
         opposite: 0,
         any: 0,
@@ -73,7 +73,7 @@ fn shared_by(row: &[(u32, i32)], other: &[(u32, i32)]) -> Shared
 fn thinning_factor(row: &[(u32, i32)], other: &[(u32, i32)]) -> Option<i32>
     ensures { IfSome result (λ factor. TakesTerm row.now factor other.now) }
 {
-    let shared = shared_by(row, other);
+    let shared = shared_columns(row, other);
     let taken = shared.opposite.max(shared.same);
     if taken == 0 || shared.any.saturating_add(taken) <= other.len() {
         None
@@ -113,7 +113,7 @@ fn thin_by(
 }
 
 /// Whether the row at a place became sparser in the round before this one, or in this one.
-fn is_due(rounds: &[u32], i: usize, round: u32) -> bool {
+fn is_recent(rounds: &[u32], i: usize, round: u32) -> bool {
     match rounds.get(i) {
         Some(last) => round <= last.saturating_add(1),
         None => true,
@@ -148,7 +148,7 @@ fn thin_pair(
     ensures derived { OnOk result (All (IsDerived rows.old.items) rows.new.items) }
     ensures passed { IfErr result (IfPassed (HasPassedSum rows.old.items)) }
 {
-    if !is_due(rounds, i, round) && !is_due(rounds, j, round) {
+    if !is_recent(rounds, i, round) && !is_recent(rounds, j, round) {
         return Ok(false);
     }
     let thinner = thin_by(alloc, columns, rows, i, j)?;

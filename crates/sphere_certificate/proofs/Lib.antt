@@ -1,4 +1,4 @@
-pub mod Told
+pub mod CheckAnswers
 pub mod SphereRow
 pub mod Finding
 pub mod Descents

@@ -11,7 +11,7 @@ use Rattle.surface_definitions.specs.QuadEquations.{AreEquations}
 use Rattle.surface_definitions.proofs.VerdictLaws.{accepted_by}
 use Rattle.ray_decompose.specs.declared.adding.Given.{Given}
 use Rattle.ray_decompose.specs.Sums.{term_of, terms_of, HasWidth}
-use Rattle.document_definitions.specs.Blocks.{Block}
+use Rattle.text_document_definitions.specs.Blocks.{Block}
 use Rattle.outcome_definitions.specs.declared.SumRefusal.{SumRefusal}
 use Rattle.outcome_definitions.specs.Outcomes.{Outcome}
 use Rattle.outcome_definitions.specs.Sums.{IsFirstRefused, IsTermVerdict, IsAddedUp, IsAddupAnswer, accepted_outcome, sum_refusal_outcome}

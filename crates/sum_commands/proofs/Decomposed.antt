@@ -23,8 +23,8 @@ use Rattle.surface_list.specs.Surfaces.{AreTableSurfaces, IsTableRefused}
 use Rattle.bounded_list.specs.Lists.{IsOnlyListing}
 use Rattle.sum_definitions.specs.Sums.{HasRays}
 use Rattle.sum_laws.proofs.Surfaces.{surfaces_are_rays_lem}
-use Rattle.document_definitions.specs.Documents.{vectors_document}
-use Rattle.document_laws.proofs.Documents.{vectors_document_read}
+use Rattle.text_document_definitions.specs.Documents.{vectors_document}
+use Rattle.text_document_laws.proofs.Documents.{vectors_document_read}
 use Rattle.surface_definitions.proofs.OneSystem.{one_equations}
 use Rattle.outcome_definitions.specs.declared.SumRefusal.TheVariants.{Unfit}
 use Rattle.outcome_definitions.specs.Outcomes.{Outcome}

@@ -8,9 +8,9 @@ use Rattle.table_definitions.specs.declared.TextFault.{TextFault}
 use Rattle.table_definitions.specs.declared.TextFault.TheVariants.{NoMemory, Lex}
 use Rattle.table_definitions.specs.TableText.{lexed}
 use Rattle.table_definitions.proofs.LineLaws.{BeginsLine, line_begun}
-use Rattle.document_definitions.specs.Blocks.{Block, block_at, blocks_on, blocks_from}
-use Rattle.document_laws.proofs.BlockReading.{BlockRead, block_read}
-use Rattle.document_laws.proofs.SumDocuments.{any_most}
+use Rattle.text_document_definitions.specs.Blocks.{Block, block_at, blocks_on, blocks_from}
+use Rattle.text_document_laws.proofs.BlockReading.{BlockRead, block_read}
+use Rattle.text_document_laws.proofs.SumDocuments.{any_most}
 use Rattle.command_answers.proofs.EachLine.{with_fronts, fault_lexed}
 
 abbrev One : Type 0

@@ -2,6 +2,6 @@ pub mod Lines
 pub mod TermLines
 pub mod EachBlock
 pub mod Walks
-pub mod SumsTold
+pub mod SumAnswers
 pub mod Decomposed
 pub mod AddedUp

@@ -4,7 +4,7 @@ use Rattle.std.specs.Prelude.{decimal, codes}
 use Rattle.cone_text_definitions.specs.VectorText.{entries_text}
 use Rattle.cone_text_definitions.proofs.VectorLines.{spaced_entries}
 use Rattle.sum_definitions.specs.Sums.{Term}
-use Rattle.document_definitions.specs.Blocks.{term_text}
+use Rattle.text_document_definitions.specs.Blocks.{term_text}
 
 -- three pieces, and five, behind a text
 pub three_pieces : (t a b c : List ℕ) → ((t ++ a) ++ b) ++ c ≡ t ++ ((a ++ b) ++ c)

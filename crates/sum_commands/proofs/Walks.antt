@@ -3,7 +3,7 @@ use Rattle.std.proofs.Common.{◌≡◌, ℕ, zero, suc, ◌<◌, ◌≤◌, ◌
 use Rattle.std.specs.List.{All, AllZip}
 use Rattle.std.proofs.lemmas.List.{take_all}
 use Rattle.std.proofs.lemmas.List.Elements.{All-push, All-weaker, All-nil, All-cons}
-use Rattle.outcome_definitions.specs.Sums.{IsFirstRefused, AreTold}
+use Rattle.outcome_definitions.specs.Sums.{IsFirstRefused, AreAnswered}
 
 -- the elements as they are seen
 module _ {X A : Type 0} (f : X → A) where
@@ -83,5 +83,5 @@ module _ {A E : Type 0} (IsTold : A → Result (Unit {0}) E → Type 0) where
   all_units [] h = tt
   all_units (x ∷ xs) h = (h 0 x (omega arith), all_units xs (λ k d l. h (suc k) d (omega arith)))
 
-  pub all_told : (xs : List A) → All (λ y. IsTold y (Ok tt)) xs → (answers : List (Unit {0})) × AreTold IsTold xs (Ok answers)
+  pub all_told : (xs : List A) → All (λ y. IsTold y (Ok tt)) xs → (answers : List (Unit {0})) × AreAnswered IsTold xs (Ok answers)
   all_told xs h = (units xs, all_units xs h)

@@ -2,7 +2,7 @@
 use Rattle.std.specs.Prelude.{ℕ, List, map, Vec}
 use Rattle.std.specs.declared.alloc.Global.{Global}
 use Rattle.sum_definitions.specs.Sums.{Term}
-use Rattle.document_definitions.specs.Blocks as blocks
+use Rattle.text_document_definitions.specs.Blocks as blocks
 use Rattle.ray_decompose.specs.declared.adding.Given.{Given}
 use Rattle.ray_decompose.specs.Sums.{terms_of}
 use Rattle.sum_commands.specs.declared.blocks.Block.{Block}

@@ -4,6 +4,6 @@ use Rattle.std.specs.List.{All}
 use Rattle.outcome_definitions.specs.Sums.{IsFirstRefused}
 use Rattle.sum_commands.specs.declared.checks.FirstFault.{FirstFault}
 
-abbrev pub AreAllTold : {A E : Type 0} → (A → Result (Unit {0}) E → Type 0) → List A → Result (Unit {0}) (FirstFault E) → Type 0
-AreAllTold IsTold list (Ok passed) = All (λ x. IsTold x (Ok tt)) list
-AreAllTold IsTold list (Err first) = IsFirstRefused IsTold list first.number first.fault
+abbrev pub AreAllAnswered : {A E : Type 0} → (A → Result (Unit {0}) E → Type 0) → List A → Result (Unit {0}) (FirstFault E) → Type 0
+AreAllAnswered IsTold list (Ok passed) = All (λ x. IsTold x (Ok tt)) list
+AreAllAnswered IsTold list (Err first) = IsFirstRefused IsTold list first.number first.fault

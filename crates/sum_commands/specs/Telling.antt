@@ -9,9 +9,9 @@ use Rattle.cone_definitions.specs.Systems.{System}
 use Rattle.table_definitions.specs.Table.{Row}
 use Rattle.sum_definitions.specs.Sums.{HasRays, IsLargeTurn}
 use Rattle.sum_definitions.specs.declared.LargeTurn.{LargeTurn}
-use Rattle.document_definitions.specs.Blocks.{Block, block_text}
+use Rattle.text_document_definitions.specs.Blocks.{Block, block_text}
 use Rattle.outcome_definitions.specs.Outcomes.{Outcome}
-use Rattle.outcome_definitions.specs.Sums.{IsFirstRefused, IsSummed, AreTold, sums_text, sums_outcome}
+use Rattle.outcome_definitions.specs.Sums.{IsFirstRefused, IsSummed, AreAnswered, sums_text, sums_outcome}
 use Rattle.sum_commands.specs.declared.checks.FirstFault.{FirstFault}
 
 -- no entry of the vectors passes the greatest number of a document
@@ -42,4 +42,4 @@ TellsSums most list rows vectors (Err NoMemory) = Unit {0}
 
 -- what is told of the vectors is the outcome
 abbrev pub TellsList : ℕ → List (List ℕ) → List Row → List (List ℕ) → Outcome → Type 0
-TellsList most list rows vectors o = (told : Result (List Block) (ℕ × LargeTurn)) × AreTold (IsSummed most list) vectors told × (o ≡ sums_outcome rows told)
+TellsList most list rows vectors o = (told : Result (List Block) (ℕ × LargeTurn)) × AreAnswered (IsSummed most list) vectors told × (o ≡ sums_outcome rows told)

@@ -3,11 +3,11 @@ ghost use Rattle.std.specs.Prelude.{◌≡◌, ◌≤◌, length, IfOk};
 ghost use Rattle.text_definitions.specs.Text.{max_text};
 ghost use Rattle.surface_definitions.specs.Coordinates as coordinates;
 ghost use Rattle.surface_definitions.specs.QuadEquations.{AreEquations};
-ghost use Rattle.document_definitions.specs.Blocks.{blocks_document};
+ghost use Rattle.text_document_definitions.specs.Blocks.{blocks_document};
 ghost use Rattle.outcome_definitions.specs.Outcomes.{IsReadOutcome};
 ghost use Rattle.outcome_definitions.specs.Sums.{IsAddedUp, IsAddupAnswer};
 ghost use Rattle.sum_commands.specs.Blocks.{block_of, all_blocks};
-ghost use Rattle.sum_commands.specs.Firsts.{AreAllTold};
+ghost use Rattle.sum_commands.specs.Firsts.{AreAllAnswered};
 
 use crate::blocks::{Block, read_table_and_blocks};
 use crate::checks::{FirstFault, check_terms};
@@ -55,7 +55,7 @@ fn check_blocks(
     blocks: &[Block],
 ) -> Result<(), FirstFault<SumRefusal>>
     requires { system.now.columns ≡ coordinates.columns coords (length table.now) }
-    ensures { AreAllTold (IsAddedUp coords table.now system.now.rows) (all_blocks blocks.now) result }
+    ensures { AreAllAnswered (IsAddedUp coords table.now system.now.rows) (all_blocks blocks.now) result }
 {
     for (number, block) in blocks.iter().enumerate() {
         match check_block(coords, table, system, block) {

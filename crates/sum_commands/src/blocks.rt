@@ -3,7 +3,7 @@ ghost use Rattle.std.specs.Prelude.{◌≤◌, length};
 ghost use Rattle.text_definitions.specs.Text.{max_text};
 ghost use Rattle.text_definitions.specs.Reading.{Reads, ReadsFrom};
 ghost use Rattle.table_definitions.specs.TableText.{lexed};
-ghost use Rattle.document_definitions.specs.Blocks.{blocks_document, blocks_from, block_at, term_at, terms_at, times_at};
+ghost use Rattle.text_document_definitions.specs.Blocks.{blocks_document, blocks_from, block_at, term_at, terms_at, times_at};
 ghost use Rattle.ray_decompose.specs.Sums.{term_of};
 ghost use Rattle.sum_commands.specs.Blocks.{block_of, blocks_of, sum_of, given_terms};
 
@@ -40,7 +40,7 @@ struct Times {
 }
 
 // A line `term K` with entries.
-#[tactic(auto, unfolding(document_definitions::specs::Blocks::term_at, text_definitions::specs::Reading::exactly_at))]
+#[tactic(auto, unfolding(text_document_definitions::specs::Blocks::term_at, text_definitions::specs::Reading::exactly_at))]
 fn read_term(alloc: Global, lexer: &mut Lexer<'_>) -> Result<Given, TextFault>
     ensures { ReadsFrom TextFault.NoMemory term_of result lexer.new (lexed (term_at lexer.old)) }
 {
@@ -67,7 +67,7 @@ fn read_terms(alloc: Global, lexer: &mut Lexer<'_>, count: u32) -> Result<Vec<Gi
 }
 
 // A line `times S T` and T terms.
-#[tactic(auto, unfolding(document_definitions::specs::Blocks::times_at, text_definitions::specs::Reading::exactly_at))]
+#[tactic(auto, unfolding(text_document_definitions::specs::Blocks::times_at, text_definitions::specs::Reading::exactly_at))]
 fn read_times(alloc: Global, lexer: &mut Lexer<'_>) -> Result<Times, TextFault>
     ensures { ReadsFrom TextFault.NoMemory sum_of result lexer.new (lexed (times_at lexer.old)) }
 {
@@ -84,7 +84,7 @@ fn read_times(alloc: Global, lexer: &mut Lexer<'_>) -> Result<Times, TextFault>
 }
 
 // The block whose first line was begun, of which no word was taken yet.
-#[tactic(auto, unfolding(document_definitions::specs::Blocks::block_at))]
+#[tactic(auto, unfolding(text_document_definitions::specs::Blocks::block_at))]
 fn read_block(alloc: Global, lexer: &mut Lexer<'_>) -> Result<Block, TextFault>
     ensures { ReadsFrom TextFault.NoMemory block_of result lexer.new (lexed (block_at lexer.old)) }
 {
@@ -110,7 +110,7 @@ fn read_blocks(alloc: Global, lexer: &mut Lexer<'_>) -> Result<Vec<Block>, TextF
 }
 
 /// The document of a table and blocks.
-#[tactic(auto, unfolding(document_definitions::specs::Blocks::blocks_document))]
+#[tactic(auto, unfolding(text_document_definitions::specs::Blocks::blocks_document))]
 pub fn read_table_and_blocks(alloc: Global, bytes: &[u8]) -> Result<TableAndBlocks, InputFault>
     requires { length bytes.now ≤ max_text }
     ensures { Reads InputFault.NoMemory (λ d. (d.table, blocks_of d.blocks)) result (blocks_document bytes.now) }

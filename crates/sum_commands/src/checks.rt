@@ -4,7 +4,7 @@ ghost use Rattle.surface_definitions.specs.Coordinates as coordinates;
 ghost use Rattle.outcome_definitions.specs.Sums.{IsVerdict, IsTermVerdict};
 ghost use Rattle.command_answers.specs.Reads.{all_entries};
 ghost use Rattle.ray_decompose.specs.Sums.{terms_of};
-ghost use Rattle.sum_commands.specs.Firsts.{AreAllTold};
+ghost use Rattle.sum_commands.specs.Firsts.{AreAllAnswered};
 
 use cone_core::System;
 use gluing_table::Table;
@@ -27,7 +27,7 @@ pub fn check_vectors(
     vectors: &[Vec<u128>],
 ) -> Result<(), FirstFault<VectorFault>>
     requires { system.now.columns ≡ coordinates.columns coords (length table.now) }
-    ensures { AreAllTold (IsVerdict coords table.now system.now.rows) (all_entries vectors.now) result }
+    ensures { AreAllAnswered (IsVerdict coords table.now system.now.rows) (all_entries vectors.now) result }
 {
     for (number, vector) in vectors.iter().enumerate() {
         match check(coords, table, system, vector) {
@@ -46,7 +46,7 @@ pub fn check_terms(
     terms: &[Given],
 ) -> Result<(), FirstFault<VectorFault>>
     requires { system.now.columns ≡ coordinates.columns coords (length table.now) }
-    ensures { AreAllTold (IsTermVerdict coords table.now system.now.rows) (terms_of terms.now) result }
+    ensures { AreAllAnswered (IsTermVerdict coords table.now system.now.rows) (terms_of terms.now) result }
 {
     for (number, term) in terms.iter().enumerate() {
         match check(coords, table, system, &term.entries) {

@@ -4,7 +4,7 @@ ghost use Rattle.text_definitions.specs.Text.{max_text};
 ghost use Rattle.cone_core.specs.declared.numbers.TheConstants.{MAX_ENTRY};
 ghost use Rattle.surface_definitions.specs.Coordinates.{columns};
 ghost use Rattle.surface_definitions.specs.QuadEquations.{AreEquations};
-ghost use Rattle.document_definitions.specs.Documents.{vectors_document};
+ghost use Rattle.text_document_definitions.specs.Documents.{vectors_document};
 ghost use Rattle.sum_definitions.specs.Sums.{HasRays};
 ghost use Rattle.command_answers.specs.Reads.{all_entries};
 ghost use Rattle.outcome_definitions.specs.Outcomes.{IsReadOutcome};
@@ -77,7 +77,7 @@ fn sums(
 }
 
 // The answer to a table and vectors that are admissible solutions, by the list of its vertex surfaces.
-fn summed(
+fn outcome_of(
     alloc: Global,
     table: &Table,
     system: &System,
@@ -92,7 +92,7 @@ fn summed(
     ensures { IfOk result (TellsList limit list.now table.now (all_entries vectors.now)) }
 {
     match sums(alloc, table, system, list, vectors, limit) {
-        Ok(text) => Ok(Outcome::built(Status::Done, text)),
+        Ok(text) => Ok(Outcome::with_text(Status::Done, text)),
         Err(Failure::Fault(first)) => {
             let Large { turn, column } = first.fault;
             refusal_outcome(alloc, first.number, SumRefusal::LargeTimes { turn, column })
@@ -125,7 +125,7 @@ fn answer_by(
         );
     }
     match surfaces_by(alloc, table, system, coords, Order::Given, limit) {
-        Ok(list) => summed(alloc, table, system, &list, vectors, limit),
+        Ok(list) => outcome_of(alloc, table, system, &list, vectors, limit),
         Err(Failure::Fault(large)) => large_outcome(alloc, &large.order, &large.kind),
         Err(Failure::NoMemory) => Err(NoMemory),
     }

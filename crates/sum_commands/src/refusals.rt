@@ -3,7 +3,7 @@ ghost use Rattle.std.specs.Prelude.{◌≡◌, ◌++◌, codes, decimal, IfOk, O
 ghost use Rattle.text_definitions.specs.Written.{line};
 ghost use Rattle.outcome_definitions.specs.Sums as sums;
 
-use command_answers::{Outcome, append_checked, append_numbered, refused_vector};
+use command_answers::{Outcome, append_checked, append_number_line, refused_vector};
 use no_memory::NoMemory;
 use outcome_definitions::{Status, SumRefusal};
 use ray_decompose::AddFault;
@@ -56,13 +56,13 @@ fn append_no_sum(alloc: Global, out: &mut Vec<u8>, fault: AddFault) -> Result<()
 {
     match fault {
         AddFault::ZeroTimes => append_zero_times(out),
-        AddFault::Large { column } => append_numbered(
+        AddFault::Large { column } => append_number_line(
             alloc,
             out,
             b"large-equation ",
             u128::from(column),
         ),
-        AddFault::NotEqual { column } => append_numbered(
+        AddFault::NotEqual { column } => append_number_line(
             alloc,
             out,
             b"not-equal ",
@@ -124,5 +124,5 @@ pub fn refusal_outcome(
 {
     let mut text = refused_vector(alloc, vector)?;
     append_cause(alloc, &mut text, refusal)?;
-    Ok(Outcome::built(status_of(refusal), text))
+    Ok(Outcome::with_text(status_of(refusal), text))
 }

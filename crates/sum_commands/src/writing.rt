@@ -1,7 +1,7 @@
 // Sums as blocks of lines.
 ghost use Rattle.std.specs.Prelude.{◌≡◌, ◌++◌, OnOk};
 ghost use Rattle.std.specs.List.{flat_map};
-ghost use Rattle.document_definitions.specs.Blocks as blocks;
+ghost use Rattle.text_document_definitions.specs.Blocks as blocks;
 
 use no_memory::NoMemory;
 use ray_decompose::{Sum, Term};

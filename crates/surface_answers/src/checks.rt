@@ -1,7 +1,7 @@
 // The check of a vector by the equations of its table.
 ghost use Rattle.std.specs.Prelude.{◌≡◌, ◌<◌, ◌^◌, length, IsOk};
 ghost use Rattle.surface_definitions.specs.Coordinates.{columns};
-ghost use Rattle.vector_definitions.specs.Answers.{verdict_in};
+ghost use Rattle.surface_vector_definitions.specs.Answers.{verdict_in};
 
 use cone_core::System;
 use gluing_table::Table;

@@ -41,5 +41,5 @@ pub fn large_outcome(alloc: Global, order: &[u32], kind: &LargeKind) -> Result<O
     append_decimal(alloc, &mut text, u128::from(order[step]))?;
     append_kind(alloc, &mut text, kind)?;
     append(&mut text, b"\n")?;
-    Ok(Outcome::built(Status::Large, text))
+    Ok(Outcome::with_text(Status::Large, text))
 }

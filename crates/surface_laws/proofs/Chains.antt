@@ -2,10 +2,10 @@
 use Rattle.std.proofs.Common.{◌≡◌, ℕ, zero, suc, ◌+◌, ◌*◌, ◌/◌, ◌%◌, ◌<◌, Bool, true, false, not, List, length, Option, Some, None, option_map, if◌then◌else◌, IsTrue, inl, inr, refl, sym, ap, ◌∙◌, subst, arith}
 use Rattle.std.proofs.lemmas.Bool.{false≢true}
 use Rattle.plain_facts.proofs.Options.{none_or_some}
-use Rattle.walk_laws.specs.Walks.{after, IsSource}
-use Rattle.walk_laws.specs.Laws.{HasEnd}
-use Rattle.walk_laws.proofs.ChainLemmas.{chain_ends}
-use Rattle.walk_laws.proofs.Steps.{after_first, after_none}
+use Rattle.table_walk_laws.specs.Walks.{after, IsSource}
+use Rattle.table_walk_laws.specs.Laws.{HasEnd}
+use Rattle.table_walk_laws.proofs.ChainLemmas.{chain_ends}
+use Rattle.table_walk_laws.proofs.Steps.{after_first, after_none}
 use Rattle.table_definitions.specs.Permutation.{IsPermutationOfFour, image, compose}
 use Rattle.table_definitions.specs.Places.{face_of}
 use Rattle.table_definitions.specs.Table.{Gluing, Row, Face, glue, other_side, IsTable}

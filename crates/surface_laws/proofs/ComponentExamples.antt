@@ -9,7 +9,7 @@ use Rattle.table_definitions.proofs.Tests.{table_from}
 use Rattle.surface_definitions.specs.declared.Coords.TheVariants.{Standard, Octagon}
 use Rattle.surface_definitions.specs.Crushing.{IsCrushed}
 use Rattle.surface_definitions.specs.Pieces.{SamePiece}
-use Rattle.vector_definitions.specs.Components.{IsComponent, IsPiecesAnswer}
+use Rattle.surface_vector_definitions.specs.Components.{IsComponent, IsPiecesAnswer}
 use Rattle.surface_laws.proofs.CrushedRows.{evaluated, crushed_are}
 use Rattle.surface_laws.proofs.MeetingArcs.{arc_at}
 use Rattle.surface_laws.proofs.PieceTests.{surface_by, lead_by, one_component, signs_by}

@@ -13,7 +13,7 @@ use Rattle.surface_laws.specs.PieceLaws.{IsSurface, AreMeetingPieces, JoinCompon
 use Rattle.surface_laws.proofs.Solved.{other_is}
 use Rattle.surface_laws.proofs.PieceTests.{among_meeting}
 use Rattle.surface_laws.proofs.MeetingPieces.{join_components}
-use Rattle.walk_laws.proofs.Numberings.{HasNumbering, numbering_exists}
+use Rattle.table_walk_laws.proofs.Numberings.{HasNumbering, numbering_exists}
 use Rattle.table_definitions.proofs.Listed.{contains_among, among_contains, Among-filter_map, filter_map-among, flat_map-among, map-among, faces-among, below-among}
 
 pub some_if : (b : Bool) (k j : ℕ) → (if b then Some k else None) ≡ Some j → (b ≡ true) × (k ≡ j)

@@ -9,7 +9,7 @@ use Rattle.surface_definitions.specs.declared.Coords.TheVariants.{Standard, Quad
 use Rattle.surface_definitions.specs.Laws.{IsAccepted}
 use Rattle.surface_definitions.specs.QuadEquations.{AreEquations}
 use Rattle.surface_definitions.proofs.VerdictLaws.{accepted_by}
-use Rattle.vector_definitions.specs.Answers.{IsFit}
+use Rattle.surface_vector_definitions.specs.Answers.{IsFit}
 use Rattle.surface_laws.specs.PieceLaws.{IsSurface}
 
 pub fit_accepted : (coords : Coords) (rows : List Row) (equations : List EquationRow) (xs : List ℕ) → IsFit coords rows equations xs

@@ -14,7 +14,7 @@ use Rattle.surface_definitions.specs.Coordinates.{tri_column, quad_column, keepi
 use Rattle.surface_definitions.specs.declared.Coords.TheVariants.{Standard, Quad}
 use Rattle.surface_definitions.specs.Equations.{Holds, glued_pairs, matching}
 use Rattle.surface_definitions.specs.Lift.{projected, IsLiftAt}
-use Rattle.vector_definitions.specs.Lifting.{HasLiftAt}
+use Rattle.surface_vector_definitions.specs.Lifting.{HasLiftAt}
 use Rattle.surface_laws.specs.LiftLaws.{IsLiftOf, AreHeights, triangle_at}
 use Rattle.surface_laws.proofs.Glued.{IsGlued, glued_is}
 use Rattle.surface_laws.proofs.Turns.{keeping_below}

@@ -17,9 +17,9 @@ use Rattle.surface_definitions.specs.Coordinates.{columns, quad_column, clash_li
 use Rattle.surface_definitions.specs.declared.Coords.TheVariants.{Standard, Quad}
 use Rattle.surface_definitions.specs.Equations.{matching_rows}
 use Rattle.surface_definitions.specs.Lift.{projected, IsLift}
-use Rattle.vector_definitions.specs.Lifting.{IsLeastWithoutLift, IsLiftAnswer}
-use Rattle.vector_definitions.specs.declared.LiftFault.{LiftFault}
-use Rattle.vector_definitions.specs.declared.LiftFault.TheVariants.{Large, NoLift}
+use Rattle.surface_vector_definitions.specs.Lifting.{IsLeastWithoutLift, IsLiftAnswer}
+use Rattle.surface_vector_definitions.specs.declared.LiftFault.{LiftFault}
+use Rattle.surface_vector_definitions.specs.declared.LiftFault.TheVariants.{Large, NoLift}
 use Rattle.surface_laws.proofs.Glued.{IsGlued, glued_is}
 use Rattle.surface_laws.proofs.Matched.{pair_glued}
 use Rattle.surface_laws.proofs.Quads.{projected_at, length-projected}

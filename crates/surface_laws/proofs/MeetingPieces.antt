@@ -1,7 +1,7 @@
 -- Neighbours that are the meeting pieces join what is one component.
 use Rattle.std.proofs.Common.{◌≡◌, ℕ, ◌<◌, List, [], ◌∷◌, length, Contains, refl, sym, ap, ◌∙◌, subst}
 use Rattle.std.specs.List.{slice_index_or}
-use Rattle.walk_laws.specs.Joined.{LeadsBy, IsJoined}
+use Rattle.table_walk_laws.specs.Joined.{LeadsBy, IsJoined}
 use Rattle.table_definitions.specs.Table.{Gluing, Row, way_back}
 use Rattle.surface_definitions.specs.declared.Coords.{Coords}
 use Rattle.surface_definitions.specs.Pieces.{SurfacePiece, Arc, arc_across, piece_of, pieces_of, piece_number, Meets, ArcsLead, SamePiece}

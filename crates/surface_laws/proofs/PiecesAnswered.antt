@@ -9,8 +9,8 @@ use Rattle.table_definitions.proofs.TableLaws.{Among}
 use Rattle.table_definitions.proofs.Listed.{below-among}
 use Rattle.surface_definitions.specs.declared.Coords.{Coords}
 use Rattle.surface_definitions.specs.Pieces.{keeps_sides, component_vector, AreComponents, IsTwoSided, IsOrientableComponent}
-use Rattle.vector_definitions.specs.Components.{most_pieces, Component, IsComponent, IsPiecesAnswer}
-use Rattle.vector_definitions.specs.declared.ManyPieces.{ManyPieces}
+use Rattle.surface_vector_definitions.specs.Components.{most_pieces, Component, IsComponent, IsPiecesAnswer}
+use Rattle.surface_vector_definitions.specs.declared.ManyPieces.{ManyPieces}
 use Rattle.surface_laws.specs.PieceLaws.{IsSurface, HasComponents}
 use Rattle.surface_laws.proofs.ComponentsFound.{components_found}
 use Rattle.surface_laws.proofs.Signs.{signs_decided}

@@ -4,7 +4,7 @@ use Rattle.std.specs.Prelude.{◌==◌, if◌then◌else◌, slice_index}
 use Rattle.std.specs.List.{slice_index_or}
 use Rattle.plain_facts.proofs.Numbers.{equals_one_of_two}
 use Rattle.plain_facts.proofs.Truths.{not_itself, agree_if}
-use Rattle.walk_laws.specs.Joined.{LeadsBy, IsJoined, IsSymmetric, HasNeighboursBelow}
+use Rattle.table_walk_laws.specs.Joined.{LeadsBy, IsJoined, IsSymmetric, HasNeighboursBelow}
 use Rattle.table_definitions.specs.Classes.{IsNumbering}
 use Rattle.table_definitions.specs.Permutation.{is_odd, inverse}
 use Rattle.table_definitions.specs.Table.{Gluing, Row, way_back}

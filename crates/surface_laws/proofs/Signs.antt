@@ -2,7 +2,7 @@
 use Rattle.std.proofs.Common.{◌≡◌, ℕ, ◌+◌, ◌*◌, ◌/◌, ◌%◌, ◌<◌, Bool, true, List, length, filter_map, Option, Some, None, Contains, ◌⊎◌, inl, inr, ap, ◌∙◌}
 use Rattle.std.specs.Prelude.{◌==◌, if◌then◌else◌, slice_index}
 use Rattle.std.proofs.lemmas.Bool.{cases_eq, eq-eqb, eqb-true}
-use Rattle.walk_laws.specs.Joined.{IsJoined, IsSymmetric, HasNeighboursBelow}
+use Rattle.table_walk_laws.specs.Joined.{IsJoined, IsSymmetric, HasNeighboursBelow}
 use Rattle.table_definitions.specs.Lists.{below}
 use Rattle.table_definitions.specs.Table.{Gluing, Row, way_back}
 use Rattle.table_definitions.proofs.TableLaws.{Among, Among-below}
@@ -13,7 +13,7 @@ use Rattle.surface_laws.specs.PieceLaws.{IsSurface, face_of_arc, IsFreePiece, tu
 use Rattle.surface_laws.proofs.SignedSteps.{SignedStep, steps_below, steps_back, free_by_signs, signs_by_free}
 use Rattle.surface_laws.proofs.PieceTests.{among_meeting}
 use Rattle.surface_laws.proofs.ComponentsFound.{listed, some_if}
-use Rattle.walk_laws.proofs.Numberings.{HasNumbering, numbering_exists}
+use Rattle.table_walk_laws.proofs.Numberings.{HasNumbering, numbering_exists}
 use Rattle.surface_laws.proofs.Spreading.{decided_all}
 use Rattle.table_definitions.proofs.Listed.{contains_among, among_contains, Among-filter_map, filter_map-among, below-among}
 

@@ -14,9 +14,9 @@ use Rattle.skeleton_definitions.specs.Links.{vertex_number}
 use Rattle.skeleton_definitions.specs.Skeleton.{Skeleton, IsSkeleton}
 use Rattle.surface_definitions.specs.Coordinates.{quad_column, keeping}
 use Rattle.surface_definitions.specs.declared.Coords.TheVariants.{Quad}
-use Rattle.vector_definitions.specs.Lifting.{HasLiftAt, IsLeastWithoutLift, IsLiftAnswer}
-use Rattle.vector_definitions.specs.declared.LiftFault.{LiftFault}
-use Rattle.vector_definitions.specs.declared.LiftFault.TheVariants.{Large, NoLift}
+use Rattle.surface_vector_definitions.specs.Lifting.{HasLiftAt, IsLeastWithoutLift, IsLiftAnswer}
+use Rattle.surface_vector_definitions.specs.declared.LiftFault.{LiftFault}
+use Rattle.surface_vector_definitions.specs.declared.LiftFault.TheVariants.{Large, NoLift}
 use Rattle.surface_laws.specs.LiftLaws.{AreHeights, IsLiftOf}
 use Rattle.surface_laws.proofs.Glued.{IsGlued, glued_is}
 use Rattle.surface_laws.proofs.Vertices.{one_vertex, number-vertex, IsCrossed, crossed_is, class_across}

@@ -14,8 +14,8 @@ use Rattle.surface_definitions.specs.Coordinates.{arc_columns}
 use Rattle.surface_definitions.specs.declared.Coords.{Coords}
 use Rattle.surface_definitions.specs.Pieces.{arcs_round}
 use Rattle.surface_definitions.specs.Characteristic.{crossings, weight, points, arcs_in, arcs, euler}
-use Rattle.vector_definitions.specs.Properties.{AreProperties}
-use Rattle.vector_definitions.specs.declared.Properties.{Properties}
+use Rattle.surface_vector_definitions.specs.Properties.{AreProperties}
+use Rattle.surface_vector_definitions.specs.declared.Properties.{Properties}
 use Rattle.skeleton_definitions.specs.Skeleton.{Skeleton}
 use Rattle.surface_laws.specs.CharacteristicLaws.{AddUp}
 

@@ -8,8 +8,8 @@ use Rattle.surface_definitions.specs.Coordinates.{is_quad_or_octagon}
 use Rattle.surface_definitions.specs.declared.Coords.{Coords}
 use Rattle.surface_definitions.specs.Characteristic.{points, arcs, arcs_in, is_linking, meets_boundary}
 use Rattle.surface_definitions.specs.Pieces.{AreComponents, component_vector}
-use Rattle.vector_definitions.specs.Properties.{AreProperties}
-use Rattle.vector_definitions.specs.declared.Properties.{Properties}
+use Rattle.surface_vector_definitions.specs.Properties.{AreProperties}
+use Rattle.surface_vector_definitions.specs.declared.Properties.{Properties}
 
 -- the sums of x and y add up to those of their sum
 pub record AddUp (rows : List Row) (coords : Coords) (classes : List ℕ) (count : ℕ) (x y : List ℕ) : Type 0 where

@@ -10,8 +10,8 @@ use Rattle.surface_definitions.specs.Coordinates.{columns, clash_list, quad_colu
 use Rattle.surface_definitions.specs.declared.Coords.TheVariants.{Standard, Quad}
 use Rattle.surface_definitions.specs.Equations.{matching_rows}
 use Rattle.surface_definitions.specs.Lift.{projected, IsLift}
-use Rattle.vector_definitions.specs.Lifting.{HasLiftAt, IsLiftAnswer}
-use Rattle.vector_definitions.specs.declared.LiftFault.{LiftFault}
+use Rattle.surface_vector_definitions.specs.Lifting.{HasLiftAt, IsLiftAnswer}
+use Rattle.surface_vector_definitions.specs.declared.LiftFault.{LiftFault}
 
 -- the triangles round vertex i
 abbrev pub triangle_at : List ℕ → ℕ → ℕ

@@ -9,9 +9,9 @@ use Rattle.surface_definitions.specs.Coordinates.{columns, clash_list}
 use Rattle.surface_definitions.specs.declared.Coords.{Coords}
 use Rattle.surface_definitions.specs.Equations.{matching_rows}
 use Rattle.surface_definitions.specs.Pieces.{SurfacePiece, pieces_of, piece_number, Arc, arc_across, piece_of, Meets, SamePiece, AreComponents, component_vector}
-use Rattle.vector_definitions.specs.Components.{Component, IsPiecesAnswer}
-use Rattle.vector_definitions.specs.declared.ManyPieces.{ManyPieces}
-use Rattle.walk_laws.specs.Joined.{IsJoined, IsSymmetric, HasNeighboursBelow}
+use Rattle.surface_vector_definitions.specs.Components.{Component, IsPiecesAnswer}
+use Rattle.surface_vector_definitions.specs.declared.ManyPieces.{ManyPieces}
+use Rattle.table_walk_laws.specs.Joined.{IsJoined, IsSymmetric, HasNeighboursBelow}
 use Rattle.surface_laws.specs.MatchingLaws.{HasTriangles}
 
 -- an admissible solution of the equations of a table, in coordinates with triangles

@@ -5,5 +5,5 @@ pub mod RowsOfPieces
 pub mod Freeing
 pub mod Tallies
 pub mod SignsFound
-pub mod ComponentsTold
+pub mod ComponentAnswers
 pub mod FirstNonzero

@@ -10,8 +10,8 @@ use Rattle.surface_definitions.specs.Pieces.{SurfacePiece, pieces_of}
 use Rattle.surface_laws.specs.PieceLaws.{IsSurface, IsPieceOf}
 use Rattle.table_definitions.proofs.Listed.{among_contains}
 use Rattle.surface_laws.proofs.PieceNumbers.{no_piece, listed_piece}
-use Rattle.walk_laws.specs.Joined.{present}
-use Rattle.walk_laws.proofs.Rows.{present_contains}
+use Rattle.table_walk_laws.specs.Joined.{present}
+use Rattle.table_walk_laws.proofs.Rows.{present_contains}
 use Rattle.surface_pieces.specs.declared.steps.SearchKind.{SearchKind}
 use Rattle.surface_pieces.specs.Searches.{LeadsAt, IsRow}
 use Rattle.surface_pieces.specs.Meetings.{IsInside}

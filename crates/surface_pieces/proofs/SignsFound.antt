@@ -3,7 +3,7 @@ use Rattle.std.proofs.Common.{◌≡◌, ◌≢◌, ℕ, ◌+◌, ◌*◌, ◌/�
 use Rattle.std.specs.List.{slice_index_or}
 use Rattle.std.proofs.lemmas.Bool.{cases_lt}
 use Rattle.std.proofs.lemmas.List.{get_or_past}
-use Rattle.walk_laws.specs.Joined.{IsJoined, IsSymmetric, HasNeighboursBelow, neighbours_of}
+use Rattle.table_walk_laws.specs.Joined.{IsJoined, IsSymmetric, HasNeighboursBelow, neighbours_of}
 use Rattle.table_definitions.specs.Classes.{IsNumbering}
 use Rattle.table_definitions.specs.Table.{Gluing, Row, way_back}
 use Rattle.surface_definitions.specs.declared.Coords.{Coords}

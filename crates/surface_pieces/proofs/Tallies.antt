@@ -6,7 +6,7 @@ use Rattle.std.proofs.lemmas.Bool.{cases_eq, eq-eqb, ne_eqb}
 use Rattle.std.proofs.lemmas.List.{length-set, length-map, length-replicate, map-set, get_or-map, get_or-set_same, get_or-set_other, get_or-replicate, get_or_default, same_lists}
 use Rattle.std.proofs.lemmas.List.Sums.{count_by-le-length}
 use Rattle.std.proofs.lemmas.List.FromFn.{length-range_with_len, get_or-range_with_len}
-use Rattle.vector_definitions.specs.Held.{all_entries}
+use Rattle.surface_vector_definitions.specs.Entries.{all_entries}
 use Rattle.table_definitions.specs.Lists.{below}
 use Rattle.table_definitions.proofs.ListFacts.{sum_below_next}
 use Rattle.surface_definitions.specs.Pieces.{SurfacePiece, pieces_of, is_counted, component_vector}

@@ -3,4 +3,4 @@ pub mod Arcs
 pub mod Searches
 pub mod Vectors
 pub mod Meetings
-pub mod Told
+pub mod ComponentLists

@@ -4,7 +4,7 @@ ghost use Rattle.std.specs.Prelude.{◌≡◌, ◌≢◌, ◌+◌, ◌-◌, ◌<
 ghost use Rattle.table_definitions.specs.Table.{max_tets};
 ghost use Rattle.surface_definitions.specs.Coordinates as coordinates;
 ghost use Rattle.surface_definitions.specs.Pieces as pieces;
-ghost use Rattle.vector_definitions.specs.Components.{most_pieces};
+ghost use Rattle.surface_vector_definitions.specs.Components.{most_pieces};
 ghost use Rattle.surface_laws.specs.PieceLaws.{IsSurface, IsPieceOf};
 ghost use Rattle.surface_pieces.specs.Arcs.{IsOnlyArcOf, HasNoArc};
 
@@ -35,7 +35,7 @@ fn triangles(coords: Coords, x: &[u32], arc: SurfaceArc) -> u32
 }
 
 /// The number of a place counted from the one end or from the other.
-fn counted(entry: u32, place: u32, by_zero: bool) -> u32
+fn number_from_end(entry: u32, place: u32, by_zero: bool) -> u32
     ensures { result ≡ (if by_zero then place else entry - 1 - place) }
 {
     if by_zero {
@@ -66,7 +66,7 @@ pub fn piece_of(coords: Coords, x: &[u32], arc: SurfaceArc) -> Piece
     let by_zero = keeps_by_zero(type_of(coords, further), arc.vertex);
     Piece {
         column: further,
-        number: counted(x[further as usize], arc.place - triangles, by_zero),
+        number: number_from_end(x[further as usize], arc.place - triangles, by_zero),
     }
 }
 
@@ -126,7 +126,7 @@ pub fn arc_of(
         return None;
     }
     let by_zero = keeps_by_zero(type_of(coords, further), vertex);
-    let place = counted(x[further as usize], piece.number, by_zero);
+    let place = number_from_end(x[further as usize], piece.number, by_zero);
     Some(SurfaceArc {
         tet,
         face,

@@ -4,7 +4,7 @@ ghost use Rattle.std.specs.Prelude.{◌≡◌, ◌+◌, ◌*◌, ◌<◌, ◌≤
 ghost use Rattle.text_definitions.specs.Written.{limit};
 ghost use Rattle.table_definitions.specs.Lists.{below};
 ghost use Rattle.surface_definitions.specs.Pieces as pieces;
-ghost use Rattle.vector_definitions.specs.Components.{most_pieces};
+ghost use Rattle.surface_vector_definitions.specs.Components.{most_pieces};
 ghost use Rattle.surface_laws.specs.PieceLaws.{IsPieceOf};
 ghost use Rattle.surface_pieces.specs.Starts.{AreStarts};
 

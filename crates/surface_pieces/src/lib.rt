@@ -12,4 +12,4 @@ mod vectors;
 
 pub use no_memory::Failure;
 pub use pieces::{Pieces, PiecesFault};
-pub use vector_definitions::ManyPieces as TooManyPieces;
+pub use surface_vector_definitions::ManyPieces as TooManyPieces;

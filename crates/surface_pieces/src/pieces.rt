@@ -4,9 +4,9 @@ ghost use Rattle.std.specs.Prelude.{◌≡◌, ◌≢◌, ◌<◌, ◌≤◌, le
 ghost use Rattle.std.specs.List.{slice_index_or};
 ghost use Rattle.no_memory.specs.Failures.{IfFault};
 ghost use Rattle.text_definitions.specs.Written.{limit};
-ghost use Rattle.vector_definitions.specs.Components.{most_pieces, AreListedComponents, IsPiecesAnswer};
+ghost use Rattle.surface_vector_definitions.specs.Components.{most_pieces, AreListedComponents, IsPiecesAnswer};
 ghost use Rattle.surface_laws.specs.PieceLaws.{IsSurface};
-ghost use Rattle.surface_pieces.specs.Told.{no_component};
+ghost use Rattle.surface_pieces.specs.ComponentLists.{no_component};
 
 use crate::counts::{all_pieces, entries_of, starts_of, total};
 use crate::rows::piece_rows;
@@ -20,7 +20,7 @@ use skeleton::Skeleton;
 use std::alloc::{AllocError, Global};
 use std::marker::Model;
 use surface_definitions::Coords;
-use vector_definitions::ManyPieces;
+use surface_vector_definitions::ManyPieces;
 
 /// The components of a surface, numbered by their least pieces: the vector of each, whether it is two-sided, and
 /// whether it is orientable.
@@ -33,9 +33,9 @@ pub struct Pieces {
 
 impl Model for Pieces {
     ghost use Rattle.std.specs.Prelude.{◌≡◌, ◌<◌, ◌^◌, List, length};
-    ghost use Rattle.vector_definitions.specs.Components.{Component};
-    ghost use Rattle.vector_definitions.specs.Held.{all_entries};
-    ghost use Rattle.surface_pieces.specs.Told.{all_components};
+    ghost use Rattle.surface_vector_definitions.specs.Components.{Component};
+    ghost use Rattle.surface_vector_definitions.specs.Entries.{all_entries};
+    ghost use Rattle.surface_pieces.specs.ComponentLists.{all_components};
 
     ghost Value = { List Component };
 
@@ -51,7 +51,12 @@ pub type PiecesFault = Failure<ManyPieces>;
 const MOST_PIECES: u128 = 100_000;
 
 /// The components of the pieces with these entries.
-fn built(alloc: Global, table: &Table, coords: Coords, x: &[u32]) -> Result<Pieces, AllocError>
+fn find_components(
+    alloc: Global,
+    table: &Table,
+    coords: Coords,
+    x: &[u32],
+) -> Result<Pieces, AllocError>
     requires coords { coords ≢ Coords.Quad }
     requires surface { IsSurface table.now coords x.now }
     requires few { sum x.now ≤ most_pieces }
@@ -110,7 +115,7 @@ impl Pieces {
             return Err(Failure::Fault(ManyPieces { count }));
         }
         let entries = entries_of(alloc, x)?;
-        let pieces = built(alloc, skeleton.table(), coords, &entries)?;
+        let pieces = find_components(alloc, skeleton.table(), coords, &entries)?;
         Ok(pieces)
     }
 

@@ -2,7 +2,7 @@
 
 ghost use Rattle.std.specs.Prelude.{◌≡◌, ◌≢◌, ◌*◌, ◌<◌, ◌≤◌, sum, IfOk};
 ghost use Rattle.surface_definitions.specs.Pieces as pieces;
-ghost use Rattle.vector_definitions.specs.Components.{most_pieces};
+ghost use Rattle.surface_vector_definitions.specs.Components.{most_pieces};
 ghost use Rattle.surface_laws.specs.PieceLaws.{IsSurface, IsPieceOf};
 ghost use Rattle.surface_pieces.specs.Starts.{AreStarts};
 ghost use Rattle.surface_pieces.specs.Searches.{IsRow, ArePieceRows, AreSignedRows};

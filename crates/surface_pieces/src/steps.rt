@@ -3,7 +3,7 @@
 ghost use Rattle.std.specs.Prelude.{◌≡◌, ◌≢◌, ◌+◌, ◌*◌, ◌<◌, ◌≤◌, ℕ, sum, IfSome, IfNone, if◌then◌else◌, not};
 ghost use Rattle.table_definitions.specs.Permutation.{IsPermutationOfFour};
 ghost use Rattle.surface_definitions.specs.Pieces as pieces;
-ghost use Rattle.vector_definitions.specs.Components.{most_pieces};
+ghost use Rattle.surface_vector_definitions.specs.Components.{most_pieces};
 ghost use Rattle.surface_laws.specs.PieceLaws.{IsSurface, IsPieceOf, turned_if};
 ghost use Rattle.surface_pieces.specs.Starts.{AreStarts};
 ghost use Rattle.surface_pieces.specs.Searches.{LeadsAt, number_with};
@@ -52,7 +52,7 @@ fn stays(kind: SearchKind, sides: bool, odd: bool) -> bool
 }
 
 /// The number for the piece across an arc, which is told by its own number, or by that with a sign.
-fn joined(kind: SearchKind, piece: u32, sign: u32, stays: bool) -> u32
+fn number_across(kind: SearchKind, piece: u32, sign: u32, stays: bool) -> u32
     requires few { piece ≤ most_pieces }
     requires a_sign { sign < 2 }
     ensures { result ≡ number_with kind piece (turned_if stays sign) }
@@ -128,5 +128,5 @@ pub fn step_at(
     let meeting = meeting_at(table, coords, x, piece, slot)?;
     let number = number_of(x, starts, piece_of(coords, x, meeting.other));
     let sides = looks_positive(coords, x, meeting.arc) == looks_positive(coords, x, meeting.other);
-    Some(joined(kind, number, sign, stays(kind, sides, meeting.odd)))
+    Some(number_across(kind, number, sign, stays(kind, sides, meeting.odd)))
 }

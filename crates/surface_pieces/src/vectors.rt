@@ -2,8 +2,8 @@
 
 ghost use Rattle.std.specs.Prelude.{◌≡◌, ◌+◌, ◌<◌, ◌≤◌, ◌^◌, ℕ, length, replicate, slice_set, slice_index, IfOk};
 ghost use Rattle.surface_definitions.specs.Pieces as pieces;
-ghost use Rattle.vector_definitions.specs.Components.{most_pieces};
-ghost use Rattle.vector_definitions.specs.Held.{all_entries};
+ghost use Rattle.surface_vector_definitions.specs.Components.{most_pieces};
+ghost use Rattle.surface_vector_definitions.specs.Entries.{all_entries};
 ghost use Rattle.surface_pieces.specs.Vectors.{AreVectors};
 
 use crate::counts::Piece;

@@ -2,8 +2,8 @@
 use Rattle.std.proofs.Common.{◌≡◌, ℕ, ◌+◌, ◌<◌, ◌≤◌, Some, None, ap, ◌∙◌}
 use Rattle.std.specs.Prelude.{nat_lt, if◌then◌else◌}
 use Rattle.std.proofs.lemmas.Bool.{lt-ltb, le-ltb}
-use Rattle.vector_definitions.specs.declared.SurfaceSum.TheVariants.{Points, Arcs, PointsAndPieces}
-use Rattle.vector_definitions.specs.Properties.{large_sum}
+use Rattle.surface_vector_definitions.specs.declared.SurfaceSum.TheVariants.{Points, Arcs, PointsAndPieces}
+use Rattle.surface_vector_definitions.specs.Properties.{large_sum}
 
 pub large_points : (max p a q : ℕ) → max < p → large_sum max p a q ≡ Some Points
 large_points max p a q l = ap (λ b. if b then Some Points else (if nat_lt max a then Some Arcs else (if nat_lt max (p + q) then Some PointsAndPieces else None))) (lt-ltb max p l)

@@ -71,7 +71,7 @@ fn is_first_side(table: &Table, face: Face) -> bool
 }
 
 /// The arcs in a face, where it is a boundary face or the lesser of two that are glued.
-fn counted(table: &Table, coords: Coords, x: &[u128], face: Face) -> u128
+fn arcs_if_first(table: &Table, coords: Coords, x: &[u128], face: Face) -> u128
     requires coords { coords ≢ Coords.Quad }
     requires table { IsTable table.now }
     requires a_face { face.face < 4 }
@@ -95,10 +95,13 @@ pub fn arcs(table: &Table, coords: Coords, x: &[u128]) -> u128
 {
     let mut total = 0;
     for tet in 0..table.len() {
-        let one = counted(table, coords, x, Face { tet, face: 0 });
-        let two = add(one, counted(table, coords, x, Face { tet, face: 1 }));
-        let three = add(two, counted(table, coords, x, Face { tet, face: 2 }));
-        let four = add(three, counted(table, coords, x, Face { tet, face: 3 }));
+        let one = arcs_if_first(table, coords, x, Face { tet, face: 0 });
+        let two = add(one, arcs_if_first(table, coords, x, Face { tet, face: 1 }));
+        let three = add(two, arcs_if_first(table, coords, x, Face { tet, face: 2 }));
+        let four = add(
+            three,
+            arcs_if_first(table, coords, x, Face { tet, face: 3 }),
+        );
         total = add(total, four);
     }
     total

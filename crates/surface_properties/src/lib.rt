@@ -7,4 +7,4 @@ mod properties;
 mod sums;
 
 pub use properties::{is_linking, properties_of};
-pub use vector_definitions::{Properties, PropertyFault, SurfaceSum as Sum};
+pub use surface_vector_definitions::{Properties, PropertyFault, SurfaceSum as Sum};

@@ -6,7 +6,7 @@ ghost use Rattle.text_definitions.specs.Written.{limit};
 ghost use Rattle.table_definitions.specs.Table.{IsTable};
 ghost use Rattle.surface_definitions.specs.Coordinates.{columns, is_quad_or_octagon};
 ghost use Rattle.surface_definitions.specs.Characteristic as characteristic;
-ghost use Rattle.vector_definitions.specs.Properties.{IsPropertyAnswer};
+ghost use Rattle.surface_vector_definitions.specs.Properties.{IsPropertyAnswer};
 
 use crate::arcs::{arcs, arcs_in};
 use crate::points::points;
@@ -15,8 +15,8 @@ use gluing_table::{Face, Table};
 use normal_discs::{columns_each, triangles_each};
 use skeleton::Skeleton;
 use surface_definitions::Coords;
+use surface_vector_definitions::{Properties, PropertyFault, SurfaceSum};
 use text_io::LIMIT;
-use vector_definitions::{Properties, PropertyFault, SurfaceSum};
 
 /// Whether a column of quads or octagons has pieces.
 fn has_others(coords: Coords, x: &[u128], column: usize) -> bool

@@ -8,7 +8,7 @@ use Rattle.signature_definitions.specs.declared.InputFault.{InputFault}
 use Rattle.signature_definitions.specs.declared.InputFault.TheVariants.{NoMemory}
 use Rattle.signature_definitions.specs.SignatureText.{any_table_at}
 use Rattle.signature_text_laws.proofs.AnyTables.{any_table_read}
-use Rattle.document_definitions.specs.Documents.{tables_on, tables_from}
+use Rattle.text_document_definitions.specs.Documents.{tables_on, tables_from}
 
 -- what tables are read as
 abbrev pub ReadTables : Type 0

@@ -3,7 +3,7 @@ ghost use Rattle.std.specs.Prelude.{◌≡◌, ◌≤◌, ◌++◌, List, length
 ghost use Rattle.text_definitions.specs.Text.{max_text};
 ghost use Rattle.table_definitions.specs.Table.{Row};
 ghost use Rattle.signature_definitions.specs.Census.{signature_in};
-ghost use Rattle.document_definitions.specs.Documents.{tables_document};
+ghost use Rattle.text_document_definitions.specs.Documents.{tables_document};
 ghost use Rattle.outcome_definitions.specs.Outcomes.{IsReadOutcome};
 ghost use Rattle.outcome_definitions.specs.Information.{classes_text};
 ghost use Rattle.outcome_definitions.specs.Canonical as canonical;
@@ -78,11 +78,11 @@ fn census_text(alloc: Global, classes: &[u32], census: &Census) -> Result<Vec<u8
 }
 
 // The outcome of a census.
-fn told(alloc: Global, classes: &[u32], census: &Census) -> Result<Outcome, NoMemory>
+fn outcome_of(alloc: Global, classes: &[u32], census: &Census) -> Result<Outcome, NoMemory>
     ensures { IfOk result (λ o. o ≡ done (canonical.census_text classes.now census.now)) }
 {
     let text = census_text(alloc, classes, census)?;
-    Ok(Outcome::built(Status::Done, text))
+    Ok(Outcome::with_text(Status::Done, text))
 }
 
 // The answer to tables of which this is known.
@@ -91,7 +91,7 @@ fn answer(alloc: Global, groups: &Groups) -> Result<Outcome, NoMemory>
 {
     match groups.found {
         Some(NotConnected { table, tet }) => not_connected_outcome(alloc, table, tet),
-        None => told(alloc, &groups.classes, &groups.census),
+        None => outcome_of(alloc, &groups.classes, &groups.census),
     }
 }
 

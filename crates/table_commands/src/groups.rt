@@ -3,7 +3,7 @@ ghost use Rattle.std.specs.Prelude.{◌≡◌, ◌<◌, ◌≤◌, ◌+◌, ◌+
 ghost use Rattle.text_definitions.specs.Text.{max_text};
 ghost use Rattle.table_definitions.specs.Table as gluings;
 ghost use Rattle.signature_definitions.specs.SignatureText.{any_table_at};
-ghost use Rattle.document_definitions.specs.Documents.{tables_from, tables_document};
+ghost use Rattle.text_document_definitions.specs.Documents.{tables_from, tables_document};
 ghost use Rattle.table_commands.specs.Groups.{AreGrouped, GivesOneMore, GivesGroups, GivesGroupsDocument};
 
 use gluing_table::Table;
@@ -99,7 +99,7 @@ fn read_groups(alloc: Global, lexer: &mut Lexer<'_>) -> Result<Groups, InputFaul
 }
 
 /// The document of any number of tables.
-#[tactic(auto, unfolding(document_definitions::specs::Documents::tables_document))]
+#[tactic(auto, unfolding(text_document_definitions::specs::Documents::tables_document))]
 pub fn read_groups_document(alloc: Global, bytes: &[u8]) -> Result<Groups, InputFault>
     requires { length bytes.now ≤ max_text }
     ensures { GivesGroupsDocument result (tables_document bytes.now) }

@@ -3,7 +3,7 @@ ghost use Rattle.std.specs.Prelude.{◌≡◌, ◌≤◌, ◌↔◌, length, IsT
 ghost use Rattle.text_definitions.specs.Text.{max_text};
 ghost use Rattle.skeleton_definitions.specs.Orientation.{IsOrientable};
 ghost use Rattle.skeleton_definitions.specs.Skeleton.{IsSkeleton, AreLinks};
-ghost use Rattle.document_definitions.specs.Documents.{table_document};
+ghost use Rattle.text_document_definitions.specs.Documents.{table_document};
 ghost use Rattle.outcome_definitions.specs.Outcomes.{IsReadOutcome};
 ghost use Rattle.outcome_definitions.specs.Information.{IsInformationAnswer, AreValid};
 
@@ -36,7 +36,7 @@ fn is_orientable(skeleton: &Skeleton) -> bool
 }
 
 // The answer, from what is known of the table.
-fn informed(
+fn outcome_of(
     alloc: Global,
     skeleton: &Skeleton,
     links: &[Link],
@@ -52,7 +52,7 @@ fn informed(
     let connected = skeleton.table().is_connected(alloc)?;
     let orientable = is_orientable(skeleton);
     let text = information_text(alloc, skeleton, links, valid, connected, orientable)?;
-    Ok(Outcome::built(Status::Done, text))
+    Ok(Outcome::with_text(Status::Done, text))
 }
 
 // The answer to a table, by its skeleton.
@@ -62,7 +62,7 @@ fn answer_by(alloc: Global, skeleton: &Skeleton) -> Result<Outcome, NoMemory>
 {
     let links = links(alloc, skeleton)?;
     let valid = valid_edges(alloc, skeleton)?;
-    informed(alloc, skeleton, &links, &valid)
+    outcome_of(alloc, skeleton, &links, &valid)
 }
 
 // The answer to a table.

@@ -5,7 +5,7 @@ ghost use Rattle.text_definitions.specs.Written.{line};
 ghost use Rattle.outcome_definitions.specs.Information as information;
 ghost use Rattle.outcome_definitions.specs.Information.{classes_text};
 
-use command_answers::{append_numbered, append_told, yes_or_no};
+use command_answers::{append_flag, append_number_line, yes_or_no};
 use no_memory::NoMemory;
 use skeleton::Skeleton;
 use std::alloc::Global;
@@ -138,15 +138,15 @@ fn append_flags(
 ) -> Result<(), NoMemory>
     ensures { OnOk result (text.new.items ≡ text.old.items ++ information.flags_text skeleton.now connected orientable) }
 {
-    append_numbered(
+    append_number_line(
         alloc,
         text,
         b"tetrahedra ",
         u128::from(tetrahedra(skeleton)),
     )?;
-    append_told(text, b"connected ", connected)?;
-    append_told(text, b"orientable ", orientable)?;
-    append_told(text, b"closed ", skeleton.is_closed())?;
+    append_flag(text, b"connected ", connected)?;
+    append_flag(text, b"orientable ", orientable)?;
+    append_flag(text, b"closed ", skeleton.is_closed())?;
     Ok(())
 }
 
@@ -154,9 +154,9 @@ fn append_flags(
 fn append_counts(alloc: Global, text: &mut Vec<u8>, skeleton: &Skeleton) -> Result<(), NoMemory>
     ensures { OnOk result (text.new.items ≡ text.old.items ++ information.counts_text skeleton.now) }
 {
-    append_numbered(alloc, text, b"vertices ", u128::from(skeleton.vertices()))?;
-    append_numbered(alloc, text, b"edges ", u128::from(skeleton.edges()))?;
-    append_numbered(alloc, text, b"faces ", u128::from(skeleton.faces()))?;
+    append_number_line(alloc, text, b"vertices ", u128::from(skeleton.vertices()))?;
+    append_number_line(alloc, text, b"edges ", u128::from(skeleton.edges()))?;
+    append_number_line(alloc, text, b"faces ", u128::from(skeleton.faces()))?;
     append_euler(alloc, text, characteristic(skeleton))?;
     Ok(())
 }

@@ -2,7 +2,7 @@
 ghost use Rattle.std.specs.Prelude.{◌≡◌, ◌≤◌, ◌++◌, length, IfOk, OnOk};
 ghost use Rattle.text_definitions.specs.Text.{max_text};
 ghost use Rattle.table_definitions.specs.Relabelling.{stand_in};
-ghost use Rattle.document_definitions.specs.Documents.{two_tables_document};
+ghost use Rattle.text_document_definitions.specs.Documents.{two_tables_document};
 ghost use Rattle.outcome_definitions.specs.Outcomes.{IsReadOutcome};
 ghost use Rattle.outcome_definitions.specs.Information.{classes_text};
 ghost use Rattle.outcome_definitions.specs.Canonical as canonical;
@@ -69,7 +69,7 @@ pub fn relabelling_outcome(alloc: Global, tets: u32, by: &Relabelling) -> Result
     ensures { IfOk result (λ o. o ≡ done (canonical.relabelling_text by.now)) }
 {
     let text = relabelling_text(alloc, tets, by)?;
-    Ok(Outcome::built(Status::Done, text))
+    Ok(Outcome::with_text(Status::Done, text))
 }
 
 // The answer to two tables.

@@ -25,7 +25,7 @@ pub mod Permutations
 pub mod Marked
 pub mod Bijections
 pub mod Ranks
-pub mod Kept
+pub mod Retained
 pub mod Carried
 pub mod Faces
 pub mod FreshRows

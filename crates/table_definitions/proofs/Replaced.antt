@@ -11,7 +11,7 @@ use Rattle.table_definitions.specs.Replaceable.{fresh_numbers, fresh_glue, CanRe
 use Rattle.table_definitions.proofs.TableLaws.{glued_tet, glued_face}
 use Rattle.table_definitions.proofs.Bijections.{there}
 use Rattle.table_definitions.proofs.Carried.{IsGood, not_from, same_from, same_to}
-use Rattle.table_definitions.proofs.Kept.{IsKeptAs, kept_at, kept_as, keeps, length-replaced, fresh_row_at, kept_row_at, glue-fresh, glue-kept}
+use Rattle.table_definitions.proofs.Retained.{IsKeptAs, kept_at, kept_as, keeps, length-replaced, fresh_row_at, kept_row_at, glue-fresh, glue-kept}
 use Rattle.table_definitions.proofs.FreshRows.{ComesBack, back_comes, back_is, fresh_tet, fresh_face, length-fresh_row}
 use Rattle.table_definitions.proofs.Faces.{face_at}
 

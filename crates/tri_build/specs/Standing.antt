@@ -39,15 +39,15 @@ abbrev pub put_in : ℕ → ℕ → Facet
 put_in kept j = record { tet = kept + j; missing = j; labels = filter (λ l. not (l == j)) (below 5) }
 
 -- what stands for a tetrahedron that the step kept, and for one that it took out
-abbrev pub kept_stands : PlayedMove → Back → Relabelling → ℕ → Gluing
-kept_stands step back on t =
+abbrev pub retained_stands : PlayedMove → Back → Relabelling → ℕ → Gluing
+retained_stands step back on t =
     record { tet = number_without back.facets (stand_in on (number_without step.facets t)).tet; perm = (stand_in on (number_without step.facets t)).perm }
 
 abbrev pub facet_stands : Back → Facet → Gluing
 facet_stands back f = by_labels (slice_index back.labels) f (put_in back.kept (slice_index back.labels f.missing))
 
 abbrev pub stands_by : PlayedMove → Back → Relabelling → ℕ → Option Facet → Gluing
-stands_by step back on t None = kept_stands step back on t
+stands_by step back on t None = retained_stands step back on t
 stands_by step back on t (Some f) = facet_stands back f
 
 abbrev pub stands_at : PlayedMove → Back → Relabelling → ℕ → Gluing

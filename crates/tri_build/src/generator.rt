@@ -19,7 +19,7 @@ pub fn next_state(state: u64) -> u64
 }
 
 /// The move that is drawn in a state, by its upper half; nothing where there are no moves.
-pub fn drawn(state: u64, moves: &[Move]) -> Option<Move>
+pub fn draw(state: u64, moves: &[Move]) -> Option<Move>
     ensures { result ≡ certificates.drawn state moves.now }
 {
     if moves.is_empty() {

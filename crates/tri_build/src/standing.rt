@@ -4,7 +4,7 @@ ghost use Rattle.std.specs.Prelude.{◌≡◌, ◌<◌, ◌≤◌, ◌==◌, len
 ghost use Rattle.table_definitions.specs.Table.{max_tets};
 ghost use Rattle.table_definitions.specs.Lists.{below};
 ghost use Rattle.table_definitions.specs.Permutation.{preimage};
-ghost use Rattle.tri_build.specs.Standing.{CanStand, CanStandAt, number_without, put_in, kept_stands, facet_stands, stands_at};
+ghost use Rattle.tri_build.specs.Standing.{CanStand, CanStandAt, number_without, put_in, retained_stands, facet_stands, stands_at};
 
 use crate::steps::PlayedMove;
 use arrayvec::ArrayVec;
@@ -44,9 +44,9 @@ fn vertex_without(missing: u8, label: u8) -> u8
 }
 
 /// What stands for a tetrahedron that the step kept.
-fn kept_stands(step: &PlayedMove, back: &Back, on: &Relabelling, tet: u32) -> Glue
+fn retained_stands(step: &PlayedMove, back: &Back, on: &Relabelling, tet: u32) -> Glue
     requires { number_without step.now.facets tet < length on.now.images }
-    ensures { result ≡ kept_stands step.now back.now on.now tet }
+    ensures { result ≡ retained_stands step.now back.now on.now tet }
 {
     let tet = closed_number(&step.facets, tet);
     Glue {
@@ -96,6 +96,6 @@ pub fn stands_at(step: &PlayedMove, back: &Back, on: &Relabelling, tet: u32) -> 
 {
     match facet_of(&step.facets, tet) {
         Some(facet) => facet_stands(back, facet),
-        None => kept_stands(step, back, on, tet),
+        None => retained_stands(step, back, on, tet),
     }
 }

@@ -7,7 +7,7 @@ ghost use Rattle.move_definitions.specs.Certificates as certificates;
 ghost use Rattle.tri_build.specs.Steps.{IsStep};
 
 use crate::candidates::candidates;
-use crate::generator::drawn;
+use crate::generator::draw;
 use arrayvec::ArrayVec;
 use gluing_table::Table;
 use no_memory::NoMemory;
@@ -72,7 +72,7 @@ pub fn draw_step(
     ensures left { IfOk result (λ r. IfNone r (table.new ≡ table.old)) }
 {
     let moves = candidates(alloc, table)?;
-    match drawn(state, &moves) {
+    match draw(state, &moves) {
         Some(m) => Ok(Some(play_step(table, m))),
         None => Ok(None),
     }

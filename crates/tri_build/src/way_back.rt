@@ -15,12 +15,12 @@ use crate::standing::{Back, stands_at};
 use crate::steps::PlayedMove;
 use gluing_table::{Relabelling, Table};
 use no_memory::NoMemory;
-use pachner_moves::{Move, apply, kept, legal};
+use pachner_moves::{Move, apply, legal, retained};
 use perm_four::Perm4;
 use std::alloc::Global;
 
 /// The relabelling by which each tetrahedron goes to what stands for it.
-fn carried_back(
+fn carry_back(
     alloc: Global,
     step: &PlayedMove,
     back: &Back,
@@ -53,7 +53,7 @@ fn back_of(step: &PlayedMove, now: &Table, on: &Relabelling) -> Back
     match legal(now, played) {
         Ok(pattern) => Back {
             played,
-            kept: kept(now.len(), played.core),
+            kept: retained(now.len(), played.core),
             facets: pattern.facets,
             labels: labels_back(step, on),
         },
@@ -77,7 +77,7 @@ impl WayBack {
         ensures { OnOk result ((old : List Row) → IsBefore old step.now self.old.now self.old.on → GoesBack old step.now self.old.now self.old.on self.old.moves.items self.new.moves.items self.new.now self.new.on) }
     {
         let back = back_of(step, &self.now, &self.on);
-        let by = carried_back(alloc, step, &back, &self.on)?;
+        let by = carry_back(alloc, step, &back, &self.on)?;
         self.moves.push(back.played)?;
         match apply(&mut self.now, back.played) {
             Ok(_) => {

@@ -10,7 +10,7 @@ abbrev pub words_of : List ℕ → List (List ℕ)
 words_of bytes = slice_split (λ b. b == 0) bytes
 
 -- the outcome of words and an input has this code and this text, so many bytes long
-pub record IsTold (words : List (List ℕ)) (input : List ℕ) (status : ℕ) (text : List ℕ) (needed : ℕ) : Type 0 where
+pub record IsCallAnswer (words : List (List ℕ)) (input : List ℕ) (status : ℕ) (text : List ℕ) (needed : ℕ) : Type 0 where
   pub outcome : Outcome
   pub is_outcome : IsOutcome words input outcome
   pub code : status ≡ code_of outcome.status

@@ -5,7 +5,7 @@ mod words;
 
 ghost use Rattle.std.specs.Prelude.{◌≡◌, ◌↔◌, ◌<◌, length, take, drop};
 ghost use Rattle.std.specs.Str.{IsUtf8};
-ghost use Rattle.trinorm_c.specs.Calls.{words_of, IsTold, IsLonger, IsCallStatus, IsHandedOut};
+ghost use Rattle.trinorm_c.specs.Calls.{words_of, IsCallAnswer, IsLonger, IsCallStatus, IsHandedOut};
 
 use command_answers::Outcome;
 use no_memory::NoMemory;
@@ -50,7 +50,7 @@ pub extern "C" fn trinorm_answer(
     ensures statuses { IsCallStatus result }
 
     // Below 6 the status is that of the outcome of the words and of the input, whose text stands in the first `needed` bytes.
-    ensures answered { result < 6 → IsTold (words_of words.now) input.now result (take needed.new answer.new) needed.new }
+    ensures answered { result < 6 → IsCallAnswer (words_of words.now) input.now result (take needed.new answer.new) needed.new }
 
     // At 7 that text is longer than the room, and `needed` bytes long.
     ensures longer { result ≡ 7 → IsLonger (words_of words.now) input.now (length answer.old) needed.new }

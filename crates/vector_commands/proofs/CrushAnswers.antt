@@ -6,8 +6,8 @@ use Rattle.surface_definitions.specs.declared.Coords.TheVariants.{Standard}
 use Rattle.surface_definitions.specs.declared.VectorFault.{VectorFault}
 use Rattle.surface_definitions.specs.Verdict.{solution}
 use Rattle.surface_definitions.specs.QuadEquations.{AreEquations}
-use Rattle.vector_definitions.specs.Answers.{verdict_in}
-use Rattle.vector_definitions.specs.declared.Refusal.TheVariants.{Unfit}
+use Rattle.surface_vector_definitions.specs.Answers.{verdict_in}
+use Rattle.surface_vector_definitions.specs.declared.Refusal.TheVariants.{Unfit}
 use Rattle.outcome_definitions.specs.Outcomes.{Outcome}
 use Rattle.outcome_definitions.specs.Vectors.{IsCrushAnswer, refusal_outcome}
 use Rattle.vector_commands.specs.Crushed.{TellsCrushed}

@@ -5,16 +5,16 @@ use Rattle.table_definitions.specs.Table.{Row}
 use Rattle.skeleton_definitions.specs.Skeleton.{Skeleton, IsSkeleton, IsFirstInvalid}
 use Rattle.surface_definitions.specs.declared.Coords.{Coords}
 use Rattle.surface_definitions.specs.QuadEquations.{AreEquations}
-use Rattle.vector_definitions.specs.Answers.{IsDescription, IsFirstRefused}
-use Rattle.vector_definitions.specs.Texts.{description_text, invalid_edge_line}
-use Rattle.vector_definitions.specs.declared.Refusal.{Refusal}
+use Rattle.surface_vector_definitions.specs.Answers.{IsDescription, IsFirstRefused}
+use Rattle.surface_vector_definitions.specs.Texts.{description_text, invalid_edge_line}
+use Rattle.surface_vector_definitions.specs.declared.Refusal.{Refusal}
 use Rattle.outcome_definitions.specs.declared.Status.TheVariants.{Done, Refused}
 use Rattle.outcome_definitions.specs.Outcomes.{Outcome}
 use Rattle.outcome_definitions.specs.Vectors.{AreDescribed, IsDescribeAnswer, refusal_outcome}
-use Rattle.vector_commands.specs.Telling.{AreToldIn}
+use Rattle.vector_commands.specs.Telling.{AreAnsweredIn}
 
 module _ (s : Skeleton) (coords : Coords) (equations : List EquationRow) (vectors : List (List ℕ)) (o : Outcome) (of_table : AreEquations coords s.rows equations) where
-  pub described_told : (text : List ℕ) → AreToldIn (IsDescription s coords equations) (description_text s coords) vectors text → o ≡ record { status = Done; text = text } → AreDescribed s coords vectors o
+  pub described_told : (text : List ℕ) → AreAnsweredIn (IsDescription s coords equations) (description_text s coords) vectors text → o ≡ record { status = Done; text = text } → AreDescribed s coords vectors o
   described_told text told e = record {
     equations = equations;
     of_table = of_table;

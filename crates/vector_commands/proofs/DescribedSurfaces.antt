@@ -11,16 +11,16 @@ use Rattle.surface_definitions.specs.Coordinates.{columns}
 use Rattle.surface_definitions.specs.declared.Coords.{Coords}
 use Rattle.surface_definitions.specs.Pieces.{component_vector}
 use Rattle.surface_definitions.specs.Characteristic.{points, arcs}
-use Rattle.vector_definitions.specs.Components.{Component, IsComponent, AreListedComponents}
-use Rattle.vector_definitions.specs.Properties.{first_large, large_sum}
-use Rattle.vector_definitions.specs.declared.SurfaceSum.{SurfaceSum}
-use Rattle.vector_definitions.specs.declared.SurfaceSum.TheVariants.{Points, Arcs, PointsAndPieces}
+use Rattle.surface_vector_definitions.specs.Components.{Component, IsComponent, AreListedComponents}
+use Rattle.surface_vector_definitions.specs.Properties.{first_large, large_sum}
+use Rattle.surface_vector_definitions.specs.declared.SurfaceSum.{SurfaceSum}
+use Rattle.surface_vector_definitions.specs.declared.SurfaceSum.TheVariants.{Points, Arcs, PointsAndPieces}
 use Rattle.surface_laws.specs.CharacteristicLaws.{ComponentSumsAre}
 use Rattle.surface_laws.proofs.ComponentSums.{component_sums}
 use Rattle.surface_laws.proofs.ComponentCounts.{component_width}
 use Rattle.surface_laws.proofs.Counting.{term_most}
 use Rattle.surface_properties.proofs.LargeSums.{none_large}
-use Rattle.surface_pieces.specs.Told.{no_component}
+use Rattle.surface_pieces.specs.ComponentLists.{no_component}
 use Rattle.vector_commands.specs.Describing.{AreSmall}
 
 -- no sum passes the limit

@@ -6,18 +6,18 @@ use Rattle.table_definitions.specs.Table.{Row}
 use Rattle.skeleton_definitions.specs.Skeleton.{Skeleton, IsSkeleton}
 use Rattle.surface_definitions.specs.declared.Coords.TheVariants.{Quad}
 use Rattle.surface_definitions.specs.QuadEquations.{AreEquations}
-use Rattle.vector_definitions.specs.Answers.{IsLifted, IsFirstRefused}
-use Rattle.vector_definitions.specs.Texts.{lifts_text}
-use Rattle.vector_definitions.specs.declared.Refusal.{Refusal}
+use Rattle.surface_vector_definitions.specs.Answers.{IsLifted, IsFirstRefused}
+use Rattle.surface_vector_definitions.specs.Texts.{lifts_text}
+use Rattle.surface_vector_definitions.specs.declared.Refusal.{Refusal}
 use Rattle.outcome_definitions.specs.declared.Status.TheVariants.{Done}
 use Rattle.outcome_definitions.specs.Outcomes.{Outcome}
 use Rattle.outcome_definitions.specs.Vectors.{IsLiftsAnswer, refusal_outcome}
-use Rattle.vector_commands.specs.Telling.{AreToldIn}
+use Rattle.vector_commands.specs.Telling.{AreAnsweredIn}
 
 -- the rows of the table are those of its skeleton
 module _ (s : Skeleton) (rows : List Row) (equations : List EquationRow) (vectors : List (List ℕ)) (o : Outcome)
     (same : s.rows ≡ rows) (is_skeleton : IsSkeleton s) (of_table : AreEquations Quad s.rows equations) where
-  pub lifts_told : (text : List ℕ) → AreToldIn (IsLifted s equations) vector_text vectors text → o ≡ record { status = Done; text = text } → IsLiftsAnswer (rows, vectors) o
+  pub lifts_told : (text : List ℕ) → AreAnsweredIn (IsLifted s equations) vector_text vectors text → o ≡ record { status = Done; text = text } → IsLiftsAnswer (rows, vectors) o
   unfolding lifts_text
   lifts_told text told e = record {
     skeleton = s;

@@ -2,9 +2,9 @@
 use Rattle.std.proofs.Common.{◌≡◌, ℕ, zero, suc, ◌<◌, List, [], ◌∷◌, ◌++◌, length, take, Result, Ok, Err, refl, sym, ap, ◌∙◌, subst, arith, append-nil}
 use Rattle.std.specs.List.{AllZip, flat_map, slice_index_or}
 use Rattle.std.proofs.lemmas.Grind.{flat_map-append}
-use Rattle.vector_definitions.specs.declared.Refusal.{Refusal}
-use Rattle.vector_definitions.specs.Answers.{IsFirstRefused}
-use Rattle.vector_commands.specs.Telling.{AreToldIn}
+use Rattle.surface_vector_definitions.specs.declared.Refusal.{Refusal}
+use Rattle.surface_vector_definitions.specs.Answers.{IsFirstRefused}
+use Rattle.vector_commands.specs.Telling.{AreAnsweredIn}
 
 module _ {A : Type 0} (IsTold : List ℕ → Result A Refusal → Type 0) (line : A → List ℕ) where
   all_more : (vectors : List (List ℕ)) (answers : List A) (xs : List ℕ) (a : A) → AllZip (λ xs a. IsTold xs (Ok a)) vectors answers → IsTold xs (Ok a)
@@ -14,8 +14,8 @@ module _ {A : Type 0} (IsTold : List ℕ → Result A Refusal → Type 0) (line 
   all_more (ys ∷ vectors) [] xs a f h = absurd f
   all_more (ys ∷ vectors) (b ∷ answers) xs a f h = (f.0, all_more vectors answers xs a f.1 h)
 
-  pub one_more_told : (vectors : List (List ℕ)) (xs : List ℕ) (before now : List ℕ) → AreToldIn IsTold line vectors before → (a : A) × IsTold xs (Ok a) × (now ≡ before ++ line a)
-      → AreToldIn IsTold line (vectors ++ xs ∷ []) now
+  pub one_more_told : (vectors : List (List ℕ)) (xs : List ℕ) (before now : List ℕ) → AreAnsweredIn IsTold line vectors before → (a : A) × IsTold xs (Ok a) × (now ≡ before ++ line a)
+      → AreAnsweredIn IsTold line (vectors ++ xs ∷ []) now
   one_more_told vectors xs before now h k = record {
     answers = h.answers ++ k.0 ∷ [];
     told = all_more vectors h.answers xs k.0 h.told k.1;
@@ -38,7 +38,7 @@ module _ {A : Type 0} (IsTold : List ℕ → Result A Refusal → Type 0) (line 
       let rest = in_front vectors u v (omega arith) (omega arith) in
       let shorter : u < length (take v vectors) = rest.0 in (omega arith, rest.1)
 
-  pub first_refused : (vectors : List (List ℕ)) (v : ℕ) (before : List ℕ) (refusal : Refusal) → v < length vectors → AreToldIn IsTold line (take v vectors) before
+  pub first_refused : (vectors : List (List ℕ)) (v : ℕ) (before : List ℕ) (refusal : Refusal) → v < length vectors → AreAnsweredIn IsTold line (take v vectors) before
       → IsTold (slice_index_or vectors v []) (Err refusal) → IsFirstRefused IsTold vectors v refusal
   first_refused vectors v before refusal l h k = record {
     in_range = l;

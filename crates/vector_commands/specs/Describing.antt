@@ -8,15 +8,15 @@ use Rattle.cone_definitions.specs.Rows.{Row as EquationRow}
 use Rattle.skeleton_definitions.specs.Skeleton.{Skeleton}
 use Rattle.surface_definitions.specs.Coordinates.{columns}
 use Rattle.surface_definitions.specs.declared.Coords.{Coords}
-use Rattle.vector_definitions.specs.declared.Refusal.{Refusal}
-use Rattle.vector_definitions.specs.Answers.{IsDescription}
-use Rattle.vector_definitions.specs.Components.{Component}
-use Rattle.vector_definitions.specs.Properties.{first_large}
-use Rattle.surface_pieces.specs.Told.{no_component}
-use Rattle.vector_commands.specs.declared.describe_command.Described.{Described}
+use Rattle.surface_vector_definitions.specs.declared.Refusal.{Refusal}
+use Rattle.surface_vector_definitions.specs.Answers.{IsDescription}
+use Rattle.surface_vector_definitions.specs.Components.{Component}
+use Rattle.surface_vector_definitions.specs.Properties.{first_large}
+use Rattle.surface_pieces.specs.ComponentLists.{no_component}
+use Rattle.vector_commands.specs.declared.describe_command.Description.{Description}
 
 -- the vector is described, or refused; of want of memory nothing is said
-abbrev pub TellsDescription : Skeleton → Coords → List EquationRow → List ℕ → Result Described (Failure Refusal) → Type 0
+abbrev pub TellsDescription : Skeleton → Coords → List EquationRow → List ℕ → Result Description (Failure Refusal) → Type 0
 TellsDescription s coords equations xs (Ok d) = IsDescription s coords equations xs (Ok (record { vector = xs; properties = d.properties; components = d.pieces }))
 TellsDescription s coords equations xs (Err e) = IfFault e (λ refusal. IsDescription s coords equations xs (Err refusal))
 

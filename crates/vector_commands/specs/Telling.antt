@@ -6,12 +6,12 @@ use Rattle.no_memory.specs.declared.Failure.{Failure}
 use Rattle.no_memory.specs.Failures.{IfFault}
 use Rattle.cone_definitions.specs.Rows.{Row as EquationRow}
 use Rattle.skeleton_definitions.specs.Skeleton.{Skeleton}
-use Rattle.vector_definitions.specs.declared.Refusal.{Refusal}
-use Rattle.vector_definitions.specs.Answers.{IsLifted, IsFirstRefused}
-use Rattle.vector_commands.specs.declared.refusals.FirstRefused.{FirstRefused}
+use Rattle.surface_vector_definitions.specs.declared.Refusal.{Refusal}
+use Rattle.surface_vector_definitions.specs.Answers.{IsLifted, IsFirstRefused}
+use Rattle.vector_commands.specs.declared.refusals.FirstRefusal.{FirstRefusal}
 
 -- each vector of a list is answered, and the lines of the answers are the text
-pub record AreToldIn {A : Type 0} (IsTold : List ℕ → Result A Refusal → Type 0) (line : A → List ℕ) (vectors : List (List ℕ)) (text : List ℕ) : Type 0 where
+pub record AreAnsweredIn {A : Type 0} (IsTold : List ℕ → Result A Refusal → Type 0) (line : A → List ℕ) (vectors : List (List ℕ)) (text : List ℕ) : Type 0 where
   pub answers : List A
   pub told : AllZip (λ xs a. IsTold xs (Ok a)) vectors answers
   pub lines : text ≡ flat_map line answers
@@ -22,8 +22,8 @@ TellsOne {A} IsTold line xs before now (Ok done) = (a : A) × IsTold xs (Ok a) �
 TellsOne IsTold line xs before now (Err e) = IfFault e (λ refusal. IsTold xs (Err refusal))
 
 -- the lines of the answers to all vectors, or the first vector that is refused
-abbrev pub TellsEach : {A : Type 0} → (List ℕ → Result A Refusal → Type 0) → (A → List ℕ) → List (List ℕ) → Result (Vec ℕ Global) (Failure FirstRefused) → Type 0
-TellsEach IsTold line vectors (Ok text) = AreToldIn IsTold line vectors text.items
+abbrev pub TellsEach : {A : Type 0} → (List ℕ → Result A Refusal → Type 0) → (A → List ℕ) → List (List ℕ) → Result (Vec ℕ Global) (Failure FirstRefusal) → Type 0
+TellsEach IsTold line vectors (Ok text) = AreAnsweredIn IsTold line vectors text.items
 TellsEach IsTold line vectors (Err e) = IfFault e (λ first. IsFirstRefused IsTold vectors first.vector first.refusal)
 
 -- a quad vector is lifted, or refused; of want of memory nothing is said

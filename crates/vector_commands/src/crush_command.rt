@@ -4,7 +4,7 @@ ghost use Rattle.text_definitions.specs.Text.{max_text};
 ghost use Rattle.surface_definitions.specs.Coordinates.{columns};
 ghost use Rattle.surface_definitions.specs.declared.Coords.TheVariants.{Standard};
 ghost use Rattle.surface_definitions.specs.QuadEquations.{AreEquations};
-ghost use Rattle.document_definitions.specs.Documents.{vector_document};
+ghost use Rattle.text_document_definitions.specs.Documents.{vector_document};
 ghost use Rattle.outcome_definitions.specs.Outcomes.{IsReadOutcome};
 ghost use Rattle.outcome_definitions.specs.Vectors.{IsCrushAnswer};
 ghost use Rattle.vector_commands.specs.Crushed.{TellsCrushed};
@@ -18,17 +18,17 @@ use no_memory::NoMemory;
 use outcome_definitions::Status;
 use std::alloc::Global;
 use surface_answers::check;
-use vector_definitions::Refusal;
+use surface_vector_definitions::Refusal;
 
 // The crushed table as the answer.
-fn crushed(alloc: Global, table: &Table, x: &[u128]) -> Result<Outcome, NoMemory>
+fn outcome_of(alloc: Global, table: &Table, x: &[u128]) -> Result<Outcome, NoMemory>
     requires { length x.now ≡ columns Standard (length table.now) }
     ensures { IfOk result (TellsCrushed table.now x.now) }
 {
     let new = crushing::crush_table(alloc, table, x)?;
     let mut text = Vec::new(alloc);
     write_table(alloc, &new, &mut text)?;
-    Ok(Outcome::built(Status::Done, text))
+    Ok(Outcome::with_text(Status::Done, text))
 }
 
 // The answer to a table and a vector, by the equations of the table.
@@ -38,7 +38,7 @@ fn answer_by(alloc: Global, table: &Table, system: &System, x: &[u128]) -> Resul
     ensures { IfOk result (IsCrushAnswer (table.now, x.now)) }
 {
     match check(Coords::Standard, table, system, x) {
-        Ok(()) => crushed(alloc, table, x),
+        Ok(()) => outcome_of(alloc, table, x),
         Err(fault) => refusal_outcome(alloc, 0, Refusal::Unfit { fault }),
     }
 }

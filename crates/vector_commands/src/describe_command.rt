@@ -5,17 +5,17 @@ ghost use Rattle.surface_definitions.specs.Coordinates.{columns};
 ghost use Rattle.surface_definitions.specs.QuadEquations.{AreEquations};
 ghost use Rattle.surface_definitions.specs.Verdict.{solution};
 ghost use Rattle.skeleton_definitions.specs.Skeleton.{IsSkeleton};
-ghost use Rattle.document_definitions.specs.Documents.{vectors_document};
+ghost use Rattle.text_document_definitions.specs.Documents.{vectors_document};
 ghost use Rattle.command_answers.specs.Reads.{all_entries};
 ghost use Rattle.outcome_definitions.specs.Outcomes.{IsReadOutcome};
 ghost use Rattle.outcome_definitions.specs.Vectors.{AreDescribed, IsDescribeAnswer};
-ghost use Rattle.vector_definitions.specs.Answers.{verdict_in, IsDescription};
-ghost use Rattle.vector_definitions.specs.Texts.{description_text};
+ghost use Rattle.surface_vector_definitions.specs.Answers.{verdict_in, IsDescription};
+ghost use Rattle.surface_vector_definitions.specs.Texts.{description_text};
 ghost use Rattle.vector_commands.specs.Telling.{TellsOne, TellsEach};
 ghost use Rattle.vector_commands.specs.Describing.{TellsDescription};
 
 use crate::descriptions::append_description;
-use crate::refusals::{FirstRefused, refusal_outcome};
+use crate::refusals::{FirstRefusal, refusal_outcome};
 use command_answers::{Outcome, fault_outcome, invalid_edge_outcome, read_table_and_vectors};
 use cone_core::System;
 use gluing_table::Table;
@@ -27,23 +27,23 @@ use std::alloc::Global;
 use surface_answers::check;
 use surface_pieces::{Pieces, TooManyPieces};
 use surface_properties::{Properties, PropertyFault, properties_of};
-use vector_definitions::Refusal;
+use surface_vector_definitions::Refusal;
 
 /// What is told of a vector.
 #[derive(Drop)]
-pub struct Described {
+pub struct Description {
     properties: Properties,
     pieces: Pieces,
 }
 
 // What is told of a vector that is an admissible solution.
-fn describe_fit(
+fn describe_solution(
     alloc: Global,
     skeleton: &Skeleton,
     system: &System,
     coords: Coords,
     x: &[u128],
-) -> Result<Described, Failure<Refusal>>
+) -> Result<Description, Failure<Refusal>>
     requires coords { coords ≢ Coords.Quad }
     requires skeleton { IsSkeleton skeleton.now }
     requires equations { AreEquations coords skeleton.now.rows system.now.rows }
@@ -58,7 +58,7 @@ fn describe_fit(
         }
     };
     match Pieces::build(alloc, skeleton, coords, x) {
-        Ok(pieces) => Ok(Described { properties, pieces }),
+        Ok(pieces) => Ok(Description { properties, pieces }),
         Err(Failure::Fault(TooManyPieces { count })) => {
             Err(Failure::Fault(Refusal::TooManyPieces { count }))
         }
@@ -67,13 +67,13 @@ fn describe_fit(
 }
 
 // What is told of a vector, or why it is refused.
-fn describe_checked(
+fn describe_vector(
     alloc: Global,
     skeleton: &Skeleton,
     system: &System,
     coords: Coords,
     x: &[u128],
-) -> Result<Described, Failure<Refusal>>
+) -> Result<Description, Failure<Refusal>>
     requires coords { coords ≢ Coords.Quad }
     requires skeleton { IsSkeleton skeleton.now }
     requires equations { AreEquations coords skeleton.now.rows system.now.rows }
@@ -81,13 +81,13 @@ fn describe_checked(
     ensures { TellsDescription skeleton.now coords system.now.rows x.now result }
 {
     match check(coords, skeleton.table(), system, x) {
-        Ok(()) => describe_fit(alloc, skeleton, system, coords, x),
+        Ok(()) => describe_solution(alloc, skeleton, system, coords, x),
         Err(fault) => Err(Failure::Fault(Refusal::Unfit { fault })),
     }
 }
 
 // The lines of a vector, behind the others.
-fn append_described(
+fn append_vector(
     alloc: Global,
     skeleton: &Skeleton,
     system: &System,
@@ -101,7 +101,7 @@ fn append_described(
     requires columns { system.now.columns ≡ columns coords (length skeleton.now.rows) }
     ensures { TellsOne (IsDescription skeleton.now coords system.now.rows) (description_text skeleton.now coords) x.now text.old.items text.new.items result }
 {
-    let told = describe_checked(alloc, skeleton, system, coords, x)?;
+    let told = describe_vector(alloc, skeleton, system, coords, x)?;
     append_description(
         alloc,
         text,
@@ -121,7 +121,7 @@ fn descriptions(
     system: &System,
     coords: Coords,
     vectors: &[Vec<u128>],
-) -> Result<Vec<u8>, Failure<FirstRefused>>
+) -> Result<Vec<u8>, Failure<FirstRefusal>>
     requires coords { coords ≢ Coords.Quad }
     requires skeleton { IsSkeleton skeleton.now }
     requires equations { AreEquations coords skeleton.now.rows system.now.rows }
@@ -130,10 +130,10 @@ fn descriptions(
 {
     let mut text = Vec::new(alloc);
     for v in 0..vectors.len() {
-        match append_described(alloc, skeleton, system, coords, &vectors[v], &mut text) {
+        match append_vector(alloc, skeleton, system, coords, &vectors[v], &mut text) {
             Ok(()) => {}
             Err(Failure::Fault(refusal)) => {
-                return Err(Failure::Fault(FirstRefused { vector: v, refusal }));
+                return Err(Failure::Fault(FirstRefusal { vector: v, refusal }));
             }
             Err(Failure::NoMemory) => return Err(Failure::NoMemory),
         }
@@ -156,14 +156,14 @@ fn describe_each(
     ensures { IfOk result (AreDescribed skeleton.now coords (all_entries vectors.now)) }
 {
     match descriptions(alloc, skeleton, system, coords, vectors) {
-        Ok(text) => Ok(Outcome::built(Status::Done, text)),
+        Ok(text) => Ok(Outcome::with_text(Status::Done, text)),
         Err(Failure::Fault(first)) => refusal_outcome(alloc, first.vector, first.refusal),
         Err(Failure::NoMemory) => Err(NoMemory),
     }
 }
 
 // The answer to vectors, by the skeleton of a table whose edges are all valid.
-fn describe_valid(
+fn describe_where_valid(
     alloc: Global,
     skeleton: &Skeleton,
     coords: Coords,
@@ -190,7 +190,7 @@ fn answer_by(
 {
     match skeleton.first_invalid() {
         Some(class) => invalid_edge_outcome(alloc, class),
-        None => describe_valid(alloc, skeleton, coords, vectors),
+        None => describe_where_valid(alloc, skeleton, coords, vectors),
     }
 }
 

@@ -4,10 +4,10 @@ ghost use Rattle.std.specs.Fmt.{signed_decimal};
 ghost use Rattle.std.specs.List.{flat_map, slice_index_or};
 ghost use Rattle.text_definitions.specs.Written.{limit};
 ghost use Rattle.surface_definitions.specs.Coordinates.{columns};
-ghost use Rattle.vector_definitions.specs.Properties as definitions;
-ghost use Rattle.vector_definitions.specs.Properties.{first_large};
-ghost use Rattle.vector_definitions.specs.Texts as texts;
-ghost use Rattle.surface_pieces.specs.Told.{no_component};
+ghost use Rattle.surface_vector_definitions.specs.Properties as definitions;
+ghost use Rattle.surface_vector_definitions.specs.Properties.{first_large};
+ghost use Rattle.surface_vector_definitions.specs.Texts as texts;
+ghost use Rattle.surface_pieces.specs.ComponentLists.{no_component};
 ghost use Rattle.vector_commands.specs.Describing.{AreSmall};
 
 use command_answers::yes_or_no;
@@ -114,7 +114,7 @@ fn append_components(
 }
 
 /// Appends the lines of a vector that is described.
-#[tactic(auto, unfolding(vector_definitions::specs::Texts::description_text))]
+#[tactic(auto, unfolding(surface_vector_definitions::specs::Texts::description_text))]
 pub fn append_description(
     alloc: Global,
     out: &mut Vec<u8>,

@@ -7,14 +7,14 @@ ghost use Rattle.surface_definitions.specs.declared.Coords.TheVariants as coordi
 ghost use Rattle.surface_definitions.specs.QuadEquations.{AreEquations};
 ghost use Rattle.surface_definitions.specs.Verdict.{solution};
 ghost use Rattle.skeleton_definitions.specs.Skeleton.{IsSkeleton};
-ghost use Rattle.document_definitions.specs.Documents.{vectors_document};
+ghost use Rattle.text_document_definitions.specs.Documents.{vectors_document};
 ghost use Rattle.command_answers.specs.Reads.{all_entries};
 ghost use Rattle.outcome_definitions.specs.Outcomes.{IsReadOutcome};
 ghost use Rattle.outcome_definitions.specs.Vectors.{IsLiftsAnswer};
-ghost use Rattle.vector_definitions.specs.Answers.{verdict_in, IsLifted};
+ghost use Rattle.surface_vector_definitions.specs.Answers.{verdict_in, IsLifted};
 ghost use Rattle.vector_commands.specs.Telling.{TellsOne, TellsEach, TellsLift};
 
-use crate::refusals::{FirstRefused, refusal_outcome};
+use crate::refusals::{FirstRefusal, refusal_outcome};
 use command_answers::{Outcome, fault_outcome, read_table_and_vectors};
 use cone_core::System;
 use gluing_table::Table;
@@ -25,11 +25,11 @@ use quad_lift::lift as lift_of;
 use skeleton::Skeleton;
 use std::alloc::Global;
 use surface_answers::check;
-use vector_definitions::{LiftFault, Refusal};
+use surface_vector_definitions::{LiftFault, Refusal};
 use vector_text::write_vector;
 
 // The lift of a vector that is an admissible solution.
-fn lift_fit(
+fn lift_solution(
     alloc: Global,
     skeleton: &Skeleton,
     system: &System,
@@ -50,7 +50,7 @@ fn lift_fit(
 }
 
 // The lift of a vector, or why it is refused.
-fn lift_checked(
+fn lift_vector(
     alloc: Global,
     skeleton: &Skeleton,
     system: &System,
@@ -60,7 +60,7 @@ fn lift_checked(
     ensures { TellsLift skeleton.now system.now.rows x.now result }
 {
     match check(Coords::Quad, skeleton.table(), system, x) {
-        Ok(()) => lift_fit(alloc, skeleton, system, x),
+        Ok(()) => lift_solution(alloc, skeleton, system, x),
         Err(fault) => Err(Failure::Fault(Refusal::Unfit { fault })),
     }
 }
@@ -76,7 +76,7 @@ fn append_lift(
     requires { system.now.columns ≡ columns coordinates.Quad (length skeleton.now.rows) }
     ensures { TellsOne (IsLifted skeleton.now system.now.rows) vector_text x.now text.old.items text.new.items result }
 {
-    let lifted = lift_checked(alloc, skeleton, system, x)?;
+    let lifted = lift_vector(alloc, skeleton, system, x)?;
     write_vector(alloc, &lifted, text)?;
     Ok(())
 }
@@ -87,7 +87,7 @@ fn lifts(
     skeleton: &Skeleton,
     system: &System,
     vectors: &[Vec<u128>],
-) -> Result<Vec<u8>, Failure<FirstRefused>>
+) -> Result<Vec<u8>, Failure<FirstRefusal>>
     requires { system.now.columns ≡ columns coordinates.Quad (length skeleton.now.rows) }
     ensures { TellsEach (IsLifted skeleton.now system.now.rows) vector_text (all_entries vectors.now) result }
 {
@@ -96,7 +96,7 @@ fn lifts(
         match append_lift(alloc, skeleton, system, &vectors[v], &mut text) {
             Ok(()) => {}
             Err(Failure::Fault(refusal)) => {
-                return Err(Failure::Fault(FirstRefused { vector: v, refusal }));
+                return Err(Failure::Fault(FirstRefusal { vector: v, refusal }));
             }
             Err(Failure::NoMemory) => return Err(Failure::NoMemory),
         }
@@ -117,7 +117,7 @@ fn answer_by(
     ensures { IfOk result (IsLiftsAnswer (skeleton.now.rows, all_entries vectors.now)) }
 {
     match lifts(alloc, skeleton, system, vectors) {
-        Ok(text) => Ok(Outcome::built(Status::Done, text)),
+        Ok(text) => Ok(Outcome::with_text(Status::Done, text)),
         Err(Failure::Fault(first)) => refusal_outcome(alloc, first.vector, first.refusal),
         Err(Failure::NoMemory) => Err(NoMemory),
     }

@@ -2,24 +2,24 @@
 ghost use Rattle.std.specs.Prelude.{◌≡◌, ◌++◌, IfOk, OnOk};
 ghost use Rattle.text_definitions.specs.Written.{line};
 ghost use Rattle.outcome_definitions.specs.Vectors as vectors;
-ghost use Rattle.vector_definitions.specs.Texts.{sum_word, fault_text};
+ghost use Rattle.surface_vector_definitions.specs.Texts.{sum_word, fault_text};
 
-use command_answers::{Outcome, append_checked, append_numbered, refused_vector};
+use command_answers::{Outcome, append_checked, append_number_line, refused_vector};
 use no_memory::NoMemory;
 use outcome_definitions::Status;
 use std::alloc::Global;
 use surface_definitions::VectorFault;
+use surface_vector_definitions::{Refusal, SurfaceSum};
 use text_io::append;
-use vector_definitions::{Refusal, SurfaceSum};
 
 /// The first vector of a document that is refused, by its number from 0, and why.
 #[derive(Clone, Copy)]
-pub struct FirstRefused {
+pub struct FirstRefusal {
     pub vector: usize,
     pub refusal: Refusal,
 }
 
-fn named(sum: SurfaceSum) -> &'static [u8]
+fn word_of_sum(sum: SurfaceSum) -> &'static [u8]
     ensures { result.now ≡ sum_word sum }
 {
     match sum {
@@ -45,10 +45,15 @@ fn append_cause(alloc: Global, out: &mut Vec<u8>, refusal: Refusal) -> Result<()
 {
     match refusal {
         Refusal::Unfit { fault } => append_checked(alloc, out, Err(fault)),
-        Refusal::LargeSum { sum } => append_words(out, b"large-sum ", named(sum)),
-        Refusal::TooManyPieces { count } => append_numbered(alloc, out, b"too-many-pieces ", count),
+        Refusal::LargeSum { sum } => append_words(out, b"large-sum ", word_of_sum(sum)),
+        Refusal::TooManyPieces { count } => append_number_line(
+            alloc,
+            out,
+            b"too-many-pieces ",
+            count,
+        ),
         Refusal::LargeLift => append_words(out, b"large-", b"lift"),
-        Refusal::NoLift { class } => append_numbered(alloc, out, b"no-lift ", u128::from(class)),
+        Refusal::NoLift { class } => append_number_line(alloc, out, b"no-lift ", u128::from(class)),
     }
 }
 
@@ -67,11 +72,11 @@ fn status_of(refusal: Refusal) -> Status
 }
 
 /// The outcome where the vector of this number, which counts from 0, is refused.
-#[tactic(auto, unfolding(vector_definitions::specs::Texts::refusal_line))]
+#[tactic(auto, unfolding(surface_vector_definitions::specs::Texts::refusal_line))]
 pub fn refusal_outcome(alloc: Global, vector: usize, refusal: Refusal) -> Result<Outcome, NoMemory>
     ensures { IfOk result (λ o. o ≡ vectors.refusal_outcome vector refusal) }
 {
     let mut text = refused_vector(alloc, vector)?;
     append_cause(alloc, &mut text, refusal)?;
-    Ok(Outcome::built(status_of(refusal), text))
+    Ok(Outcome::with_text(status_of(refusal), text))
 }

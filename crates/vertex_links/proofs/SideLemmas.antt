@@ -13,12 +13,12 @@ use Rattle.std.specs.List.{slice_index_or}
 use Rattle.table_definitions.specs.Table.{Face, Row, glue}
 use Rattle.table_definitions.specs.Classes.{is_least, least}
 use Rattle.table_definitions.specs.Places.{is_boundary}
-use Rattle.class_laws.specs.Numberings.{AreFirsts}
+use Rattle.skeleton_class_laws.specs.Numberings.{AreFirsts}
 use Rattle.skeleton_definitions.specs.Links.{sides, is_first_side, link_edges, link_vertices, is_closed_link, vertex_number}
 use Rattle.table_definitions.specs.Lists.{same_list}
 use Rattle.table_definitions.proofs.ListFacts.{below_next, list_all-below, same_list-true}
-use Rattle.class_laws.specs.Tallies.{side_at, is_counted, AreTallies}
-use Rattle.class_laws.proofs.TallyLemmas.{count_more, count_same}
+use Rattle.skeleton_class_laws.specs.Tallies.{side_at, is_counted, AreTallies}
+use Rattle.skeleton_class_laws.proofs.TallyLemmas.{count_more, count_same}
 
 others_three : (v : ℕ) → v < 4 → others v ≡ slice_index (others v) 0 ∷ slice_index (others v) 1 ∷ slice_index (others v) 2 ∷ []
 others_three v l = same_list-true (others v) (slice_index (others v) 0 ∷ slice_index (others v) 1 ∷ slice_index (others v) 2 ∷ [])

@@ -3,8 +3,8 @@
 ghost use Rattle.std.specs.Prelude.{◌≡◌, ◌==◌, ◌↔◌, IsTrue, ◌*◌, ◌/◌, ◌<◌, ℕ, length, slice_index, IfOk};
 ghost use Rattle.skeleton_definitions.specs.Links as definition;
 ghost use Rattle.skeleton_definitions.specs.Skeleton.{IsSkeleton, AreLinks};
-ghost use Rattle.class_laws.specs.Numberings.{AreClassesOf};
-ghost use Rattle.class_laws.specs.Tallies.{CountsCorners};
+ghost use Rattle.skeleton_class_laws.specs.Numberings.{AreClassesOf};
+ghost use Rattle.skeleton_class_laws.specs.Tallies.{CountsCorners};
 
 use crate::sides::{first_sides, least_corners, open_sides, owners, turned_vertices};
 use crate::tally::tally;
@@ -122,7 +122,7 @@ fn corner_tally(
     Ok(tallies)
 }
 
-fn counted(alloc: Global, skeleton: &Skeleton) -> Result<Tallies, NoMemory>
+fn tallies_of(alloc: Global, skeleton: &Skeleton) -> Result<Tallies, NoMemory>
     requires { IsSkeleton skeleton.now }
     ensures sides { IfOk result (λ t. length t.sides.items ≡ skeleton.now.vertices.count) }
     ensures corners { IfOk result (λ t. length t.corners.items ≡ skeleton.now.vertices.count) }
@@ -156,7 +156,7 @@ pub fn links(alloc: Global, skeleton: &Skeleton) -> Result<Vec<Link>, NoMemory>
     ensures links { IfOk result (λ links. AreLinks skeleton.now (length links.items) links.items) }
 {
     let count = skeleton.vertices();
-    let tallies = counted(alloc, skeleton)?;
+    let tallies = tallies_of(alloc, skeleton)?;
     let mut links = Vec::with_capacity(alloc, count as usize)?;
     for class in 0..count {
         let place = class as usize;

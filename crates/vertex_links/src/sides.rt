@@ -9,7 +9,7 @@ ghost use Rattle.table_definitions.specs.Table.{IsTable};
 ghost use Rattle.table_definitions.specs.Places.{is_boundary};
 ghost use Rattle.skeleton_definitions.specs.Links.{is_first_side};
 ghost use Rattle.skeleton_definitions.specs.Skeleton.{IsSkeleton};
-ghost use Rattle.class_laws.specs.Tallies.{side_at};
+ghost use Rattle.skeleton_class_laws.specs.Tallies.{side_at};
 
 use gluing_table::{Face, Table};
 use no_memory::NoMemory;

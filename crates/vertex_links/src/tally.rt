@@ -1,7 +1,7 @@
 //! Tallies of the things that classes own.
 
 ghost use Rattle.std.specs.Prelude.{◌≡◌, ◌<◌, ◌^◌, ℕ, length, slice_index, IfOk};
-ghost use Rattle.class_laws.specs.Tallies.{AreTallies};
+ghost use Rattle.skeleton_class_laws.specs.Tallies.{AreTallies};
 
 use no_memory::NoMemory;
 use std::alloc::Global;

@@ -6,7 +6,7 @@ use Rattle.cone_text_definitions.specs.ConeText.{Cone as ConeText}
 use Rattle.cone_definitions.specs.declared.Order.{Order}
 use Rattle.table_definitions.specs.Table.{Row}
 use Rattle.surface_definitions.specs.declared.Coords.{Coords}
-use Rattle.document_definitions.specs.Documents.{worded, table_document, cone_document}
+use Rattle.text_document_definitions.specs.Documents.{worded, table_document, cone_document}
 use Rattle.command_definitions.specs.declared.Request.{Request}
 use Rattle.command_definitions.specs.declared.Request.TheVariants.{Surfaces, Rays}
 use Rattle.command_definitions.specs.Words.{accepted_request}
@@ -15,7 +15,7 @@ use Rattle.outcome_definitions.specs.declared.Status.TheVariants.{Done, Usage, I
 use Rattle.outcome_definitions.specs.Outcomes.{Outcome, IsReadOutcome}
 use Rattle.outcome_definitions.specs.Enumerations.{IsEnumerationAnswer, IsSurfacesAnswer, ray_enumeration, list_outcome, large_outcome}
 use Rattle.outcome_definitions.specs.Answers.{IsOutcomeOf, IsAnswerTo, is_too_long, most_bytes}
-use Rattle.answer_laws.proofs.Asked.{within, not_long}
+use Rattle.outcome_answer_laws.proofs.Asked.{within, not_long}
 use Rattle.workbench.specs.Runs.{IsAnswered}
 use Rattle.workbench.specs.Prints.{AnswersSurfaces, AnswersRays, IsCutShort}
 use Rattle.workbench.proofs.Headlines.{Tells}

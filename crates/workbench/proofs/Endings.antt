@@ -13,7 +13,7 @@ use Rattle.outcome_definitions.specs.declared.Status.TheVariants.{Done, Usage, I
 use Rattle.outcome_definitions.specs.Lines.{read_line, usage_line}
 use Rattle.outcome_definitions.specs.Outcomes.{Outcome, IsOwnStatus, usage_outcome}
 use Rattle.outcome_definitions.specs.Answers.{IsOutcome, IsOutcomeOf, IsAnswerTo}
-use Rattle.workbench.specs.Runs.{IsAnswered, IsCalm, IsWithin, IsReadWell, IsResponse, IsCutOff, IsDelivered, IsDue, IsOutcomeAlone, IsRun}
+use Rattle.workbench.specs.Runs.{IsAnswered, IsCalm, IsWithin, IsReadWell, IsResponse, IsCutOff, IsDelivered, IsToBeWritten, IsOutcomeAlone, IsRun}
 use Rattle.workbench.proofs.RunClauses.{run_outcome, run_prefix}
 
 own_answered : (status : Status) → IsOwnStatus status → IsAnswered status
@@ -55,7 +55,7 @@ module _ {X Y : Type 0} (words : List (List ℕ)) (source read : X) (left rest :
   Run result = IsRun words result source read left rest faults read_faults sink written held grown sink_faults write_faults
 
   -- the sink failed
-  cut_run : (accepted_request words ≡ None → read ≡ source) → LeavesIdle words source read → (o : Outcome) → IsDue words left faults read_faults o → IsCutOff held grown o.text → Rose sink_faults write_faults → Run WriteFault
+  cut_run : (accepted_request words ≡ None → read ≡ source) → LeavesIdle words source read → (o : Outcome) → IsToBeWritten words left faults read_faults o → IsCutOff held grown o.text → Rose sink_faults write_faults → Run WriteFault
   cut_run refused idle o due cut rose = record {
     usage = λ e. (inr (inl refl), refused e);
     usage_alone = λ e. absurd cc;

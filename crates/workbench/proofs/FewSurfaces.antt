@@ -5,13 +5,13 @@ use Rattle.text_definitions.specs.Written.{limit}
 use Rattle.cone_definitions.specs.declared.Order.{Order}
 use Rattle.table_definitions.specs.Table.{Row}
 use Rattle.surface_definitions.specs.declared.Coords.{Coords}
-use Rattle.document_definitions.specs.Documents.{table_document}
+use Rattle.text_document_definitions.specs.Documents.{table_document}
 use Rattle.command_definitions.specs.declared.Request.TheVariants.{Surfaces}
 use Rattle.command_definitions.specs.Words.{accepted_request}
 use Rattle.outcome_definitions.specs.declared.Status.{Status}
 use Rattle.outcome_definitions.specs.Answers.{most_bytes}
-use Rattle.equation_bounds_laws.specs.Few.{most_tetrahedra}
-use Rattle.answer_laws.proofs.Surfaces.{none_past, few_are_within}
+use Rattle.surface_bound_laws.specs.Few.{most_tetrahedra}
+use Rattle.outcome_answer_laws.proofs.Surfaces.{none_past, few_are_within}
 use Rattle.workbench.specs.Runs.{IsAnswered}
 use Rattle.workbench.specs.Prints.{ListsSurfaces, AnswersSurfaces, IsCutShort}
 use Rattle.workbench.proofs.Headlines.{Tells}

@@ -6,7 +6,7 @@ use Rattle.text_io.specs.Causes.{Grows}
 use Rattle.signature_definitions.specs.declared.InputFault.{InputFault}
 use Rattle.table_definitions.specs.Table.{Row}
 use Rattle.surface_definitions.specs.declared.Coords.{Coords}
-use Rattle.document_definitions.specs.Documents.{worded, table_document, vectors_document, cone_document}
+use Rattle.text_document_definitions.specs.Documents.{worded, table_document, vectors_document, cone_document}
 use Rattle.command_definitions.specs.declared.Request.{Request}
 use Rattle.command_definitions.specs.declared.Request.TheVariants.{Verify, Surfaces, Rays}
 use Rattle.cone_definitions.specs.declared.Order.{Order}

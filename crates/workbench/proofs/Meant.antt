@@ -9,7 +9,7 @@ use Rattle.surface_definitions.specs.declared.Coords.TheVariants.{Quad}
 use Rattle.surface_definitions.specs.QuadEquations.{AreEquations}
 use Rattle.move_definitions.specs.Moves.{Move}
 use Rattle.move_definitions.specs.Certificates.{IsCertificate}
-use Rattle.document_definitions.specs.Documents.{vectors_document, moves_document}
+use Rattle.text_document_definitions.specs.Documents.{vectors_document, moves_document}
 use Rattle.command_definitions.specs.declared.Request.{Request}
 use Rattle.command_definitions.specs.declared.Request.TheVariants.{Lift, Check}
 use Rattle.command_definitions.specs.Requests.{reads_input}
@@ -18,10 +18,10 @@ use Rattle.outcome_definitions.specs.declared.Status.{Status}
 use Rattle.outcome_definitions.specs.declared.Status.TheVariants.{Done}
 use Rattle.outcome_definitions.specs.Outcomes.{Outcome}
 use Rattle.outcome_definitions.specs.Answers.{IsAnswerTo, most_bytes}
-use Rattle.answer_laws.specs.Asked.{IsOutcomeTo, Means}
-use Rattle.answer_laws.specs.Lifts.{HasSphereAndDiscVertices, IsSmallSolution, AreLifted}
-use Rattle.answer_laws.proofs.Lifts.{solutions_lifted}
-use Rattle.answer_laws.proofs.Checks.{done_where_certified}
+use Rattle.outcome_answer_laws.specs.Requests.{IsOutcomeTo, Means}
+use Rattle.outcome_answer_laws.specs.Lifts.{HasSphereAndDiscVertices, IsSmallSolution, AreLifted}
+use Rattle.outcome_answer_laws.proofs.Lifts.{solutions_lifted}
+use Rattle.outcome_answer_laws.proofs.Checks.{done_where_certified}
 use Rattle.workbench.specs.Runs.{IsAnswered}
 use Rattle.workbench.specs.Prints.{Writes, WritesOf, IsCutShort}
 use Rattle.workbench.proofs.Headlines.{Tells}

@@ -10,7 +10,7 @@ use Rattle.outcome_definitions.specs.Outcomes.{Outcome, too_long_outcome}
 use Rattle.outcome_definitions.proofs.OwnStatus.{answer_own}
 use Rattle.workbench.specs.Runs.{IsCalm, IsReadWell}
 use Rattle.outcome_definitions.specs.Answers.{IsAnswerTo, IsRequestOutcome, is_too_long, most_bytes}
-use Rattle.answer_laws.proofs.Asked.{not_long}
+use Rattle.outcome_answer_laws.proofs.Asked.{not_long}
 
 module _ (request : Request) (o : Outcome) where
   by_length : (bytes : List ℕ) (b : Bool) → is_too_long request bytes ≡ b → MatchBool b (o ≡ too_long_outcome) (IsAnswerTo request bytes o) → IsRequestOutcome request bytes o

@@ -8,7 +8,7 @@ use Rattle.outcome_definitions.specs.declared.Status.{Status}
 use Rattle.outcome_definitions.specs.declared.Status.TheVariants.{ReadFault, WriteFault}
 use Rattle.outcome_definitions.specs.Outcomes.{Outcome, IsOwnStatus}
 use Rattle.outcome_definitions.specs.Answers.{IsOutcome, IsOutcomeOf, IsRequestOutcome}
-use Rattle.workbench.specs.Runs.{IsAnswered, IsReadWell, IsResponse, IsCutOff, IsDelivered, IsDue, IsOutcomeAlone}
+use Rattle.workbench.specs.Runs.{IsAnswered, IsReadWell, IsResponse, IsCutOff, IsDelivered, IsToBeWritten, IsOutcomeAlone}
 
 module _ (words : List (List ℕ)) (r : Request) (accepted : accepted_request words ≡ Some r) (rest : Option (List ℕ)) (before now : ℕ) (o : Outcome)
     (held grown : Option (List ℕ)) (faults_before faults_now : ℕ) (status : Status) where
@@ -31,13 +31,13 @@ module _ (words : List (List ℕ)) (r : Request) (accepted : accepted_request wo
 
   -- the clause on a failed sink
   abbrev CutOff : Option (List ℕ) → Type 0
-  CutOff left = (p : Outcome) × IsDue words left before now p × IsCutOff held grown p.text
+  CutOff left = (p : Outcome) × IsToBeWritten words left before now p × IsCutOff held grown p.text
 
   told_of_words : (left : Option (List ℕ)) → IfSome left (λ bytes. IsRequestOutcome r bytes o) → IfSome left (λ bytes. IsOutcome words bytes o)
   told_of_words None h = tt
   told_of_words (Some bytes) h = outcome_of_words bytes h
 
-  due_well : (left : Option (List ℕ)) → IsReadWell r left rest before now o → IsDue words left before now o
+  due_well : (left : Option (List ℕ)) → IsReadWell r left rest before now o → IsToBeWritten words left before now o
   due_well left well = inr (well.calm, told_of_words left well.outcome, subst (λ (asked : Option Request). IsOutcomeAlone asked o) (sym accepted) well.alone)
 
   pub run_prefix : (left : Option (List ℕ)) → IsResponse r left rest before now o → IsDelivered o status held grown faults_before faults_now → status ≡ WriteFault → CutOff left

@@ -12,8 +12,8 @@ use Rattle.cone_text_definitions.specs.ConeText.{Cone as ConeText, system_of}
 use Rattle.surface_definitions.specs.Coordinates.{columns, clash_list}
 use Rattle.surface_definitions.specs.declared.Coords.{Coords}
 use Rattle.surface_definitions.specs.QuadEquations.{AreEquations}
-use Rattle.vector_definitions.specs.Answers.{verdict_in}
-use Rattle.document_definitions.specs.Documents.{worded, table_document, vectors_document, cone_document, verdicts_text}
+use Rattle.surface_vector_definitions.specs.Answers.{verdict_in}
+use Rattle.text_document_definitions.specs.Documents.{worded, table_document, vectors_document, cone_document, verdicts_text}
 use Rattle.surface_definitions.specs.TableSurfaces.{table_enumeration}
 use Rattle.outcome_definitions.specs.declared.Status.{Status}
 use Rattle.outcome_definitions.specs.declared.Status.TheVariants.{Done, Large, ReadFault, WriteFault, NoMemory}

@@ -66,8 +66,8 @@ IsOutcomeAlone (Some request) o = reads_input request ≡ false → IsAnswerTo r
 
 -- What is to be written: that the source failed, exactly where its count rose, and otherwise the outcome of the words and
 -- of the input, if the source tells it, or of the words alone.
-abbrev pub IsDue : List (List ℕ) → Option (List ℕ) → ℕ → ℕ → Outcome → Type 0
-IsDue words left before now o = IsReadFault before now o
+abbrev pub IsToBeWritten : List (List ℕ) → Option (List ℕ) → ℕ → ℕ → Outcome → Type 0
+IsToBeWritten words left before now o = IsReadFault before now o
     ⊎ (IsCalm before now × IfSome left (λ bytes. IsOutcome words bytes o) × IsOutcomeAlone (accepted_request words) o)
 
 -- an outcome was written whole, or cut off where the sink failed
@@ -86,7 +86,7 @@ pub record IsRun {X Y : Type 0} (words : List (List ℕ)) (result : Status) (sou
   pub read_fault_alone : result ≡ ReadFault → Rose faults read_faults
   pub read_fault_told : result ≡ ReadFault → Grows held grown read_line
   pub write_fault : sink_faults < 2 ^ 64 - 1 → ((result ≡ WriteFault) ↔ (sink_faults < write_faults))
-  pub prefix : result ≡ WriteFault → (o : Outcome) × IsDue words left faults read_faults o × IsCutOff held grown o.text
+  pub prefix : result ≡ WriteFault → (o : Outcome) × IsToBeWritten words left faults read_faults o × IsCutOff held grown o.text
   pub no_memory : result ≡ NoMemory → written ≡ sink
   pub no_memory_calm : result ≡ NoMemory → IsCalm faults read_faults
   pub no_memory_within : result ≡ NoMemory → IsWithin left rest

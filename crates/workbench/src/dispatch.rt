@@ -9,34 +9,34 @@ ghost use Rattle.cone_definitions.specs.Rows.{Row as EquationRow};
 ghost use Rattle.surface_definitions.specs.QuadEquations.{AreEquations};
 ghost use Rattle.move_definitions.specs.Moves.{Move};
 ghost use Rattle.move_definitions.specs.Certificates.{IsCertificate};
-ghost use Rattle.document_definitions.specs.Documents.{worded, table_document, two_tables_document, tables_document, vectors_document, steps_document, moves_document, cone_document};
-ghost use Rattle.document_definitions.specs.Blocks.{blocks_document};
+ghost use Rattle.text_document_definitions.specs.Documents.{worded, table_document, two_tables_document, tables_document, vectors_document, steps_document, moves_document, cone_document};
+ghost use Rattle.text_document_definitions.specs.Blocks.{blocks_document};
 ghost use Rattle.outcome_definitions.specs.Outcomes as outcomes;
 ghost use Rattle.outcome_definitions.specs.Answers.{IsOutcome, IsAnswerTo, most_bytes};
 ghost use Rattle.command_definitions.specs.Words.{accepted_request};
 ghost use Rattle.command_definitions.specs.Requests.{HoldsRange, reads_input};
 ghost use Rattle.cone_definitions.specs.declared.Order.{Order};
 ghost use Rattle.surface_definitions.specs.declared.Coords.{Coords};
-ghost use Rattle.equation_bounds_laws.specs.Few.{most_tetrahedra};
-ghost use Rattle.answer_laws.specs.Lifts.{HasSphereAndDiscVertices, IsSmallSolution, AreLifted};
-ghost use Rattle.answer_laws.specs.Makings.{IsTableWithMoves, IsSummaryWithMoves};
-ghost use Rattle.answer_laws.specs.Comparisons.{IsComparison, IsComponentComparison, IsGrouping};
-ghost use Rattle.answer_laws.specs.Sums.{IsDecomposition, IsAddition};
-ghost use Rattle.answer_laws.specs.Covers.{IsCovering};
-ghost use Rattle.answer_laws.specs.Scripts.{IsPlayed};
+ghost use Rattle.surface_bound_laws.specs.Few.{most_tetrahedra};
+ghost use Rattle.outcome_answer_laws.specs.Lifts.{HasSphereAndDiscVertices, IsSmallSolution, AreLifted};
+ghost use Rattle.outcome_answer_laws.specs.Makings.{IsTableWithMoves, IsSummaryWithMoves};
+ghost use Rattle.outcome_answer_laws.specs.Comparisons.{IsComparison, IsComponentComparison, IsGrouping};
+ghost use Rattle.outcome_answer_laws.specs.Sums.{IsDecomposition, IsAddition};
+ghost use Rattle.outcome_answer_laws.specs.Covers.{IsCovering};
+ghost use Rattle.outcome_answer_laws.specs.Scripts.{IsPlayed};
 ghost use Rattle.workbench.specs.Prints.{PrintsSurfaces, PrintsRays, PrintsVerdicts, ListsSurfaces, IsCutShort, Writes, WritesOf, AnswersSurfaces, AnswersRays};
-ghost use Rattle.workbench.specs.Runs.{Answers, IsAnswered, IsCalm, IsWithin, IsResponse, IsWithoutMemory, IsCutOff, IsDue, IsDelivered, IsRun};
+ghost use Rattle.workbench.specs.Runs.{Answers, IsAnswered, IsCalm, IsWithin, IsResponse, IsWithoutMemory, IsCutOff, IsToBeWritten, IsDelivered, IsRun};
 
 use certificate_commands::{check, descend};
 use command_answers::Outcome;
 use command_words::{Request, WordsFault, read_words};
-use covering_commands::{cover, pi1};
+use component_commands::{csame, csig};
+use cover_commands::{cover, pi1};
 use enumeration_commands::{rays, surfaces, verify};
 use making_commands::{bulk, make};
 use move_commands::play;
 use no_memory::NoMemory;
 use outcome_definitions::Status;
-use part_commands::{csame, csig};
 use std::alloc::Global;
 use sum_commands::{addup, decompose};
 use table_commands::{group, info, same, sig};
@@ -167,7 +167,7 @@ pub fn run<S: Source, K: Sink>(alloc: Global, words: &Words, source: &mut S, sin
     // line of a failed read or of usage, of the outcome of a command that reads nothing, or of the input's outcome.
     ensures write_fault { K.faults sink.old < 2 ^ 64 - 1 → ((result ≡ Status.WriteFault) ↔ (K.faults sink.old < K.faults sink.new)) }
     ensures prefix { result ≡ Status.WriteFault → (o : outcomes.Outcome)
-        × IsDue words.now (S.left source.old) (S.faults source.old) (S.faults source.new) o × IsCutOff (K.held sink.old) (K.held sink.new) o.text }
+        × IsToBeWritten words.now (S.left source.old) (S.faults source.old) (S.faults source.new) o × IsCutOff (K.held sink.old) (K.held sink.new) o.text }
 
     // Without memory nothing was written, the source didn't fail, and it didn't give too much.
     ensures no_memory { result ≡ Status.NoMemory → sink.new ≡ sink.old }

@@ -51,11 +51,11 @@ fn compares_rays(rt: HostRuntime) -> Result<(), Fail> {
 #[test]
 fn raises_rays(rt: HostRuntime) -> Result<(), Fail> {
     let alloc = rt.alloc();
-    let small = Ray::unit(alloc, 3, 0)?.raised(alloc, 1, 18446744073709551615)?;
+    let small = Ray::unit(alloc, 3, 0)?.with_new_entry(alloc, 1, 18446744073709551615)?;
     is_ray(&rt, &small, &[1, 18446744073709551615, 0]);
-    let large = Ray::unit(alloc, 3, 0)?.raised(alloc, 1, MAX_ENTRY)?;
+    let large = Ray::unit(alloc, 3, 0)?.with_new_entry(alloc, 1, MAX_ENTRY)?;
     is_ray(&rt, &large, &[1, MAX_ENTRY, 0]);
-    is_ray(&rt, &large.raised(alloc, 2, 7)?, &[1, MAX_ENTRY, 7]);
+    is_ray(&rt, &large.with_new_entry(alloc, 2, 7)?, &[1, MAX_ENTRY, 7]);
     Ok(())
 }
 

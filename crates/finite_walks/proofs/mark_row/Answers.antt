@@ -2,9 +2,9 @@
 use Rattle.std.proofs.Common.{◌≡◌, ◌<◌, ℕ, Vec, Global, None, Some, length, ap, subst, ◌∙◌, arith}
 use Rattle.std.specs.List.{slice_index_or}
 use Rattle.std.proofs.lemmas.List.{take_all}
-use Rattle.walk_laws.specs.Joined.{present}
+use Rattle.table_walk_laws.specs.Joined.{present}
 use Rattle.finite_walks.specs.Rows.{IsRowMarked}
-use Rattle.walk_laws.proofs.Rows.{present_contains}
+use Rattle.table_walk_laws.proofs.Rows.{present_contains}
 use Rattle.finite_walks.proofs.RowMarks.{none_done, marks_one, passes_one, skips_one}
 use Rattle.finite_walks.proofs.mark_row.Goals as goal
 use Rattle.finite_walks.proofs.mark_row.Goals.{in-Some+then-not-marked-other+in_ok-push, in-Some+else-not-marked-other, in_default}

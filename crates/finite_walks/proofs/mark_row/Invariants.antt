@@ -1,6 +1,6 @@
 -- The entries so far are done.
 use Rattle.std.proofs.Common.{take}
-use Rattle.walk_laws.specs.Joined.{present}
+use Rattle.table_walk_laws.specs.Joined.{present}
 use Rattle.finite_walks.specs.Rows.{IsRowMarked}
 use Rattle.finite_walks.proofs.mark_row.Given as goal
 

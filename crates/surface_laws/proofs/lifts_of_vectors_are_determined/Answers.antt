@@ -1,5 +1,5 @@
 -- What is told of each vector is determined, and so is the first that is refused.
-use Rattle.surface_laws.proofs.ToldLemmas.{lifted_each}
+use Rattle.surface_laws.proofs.AnswerLemmas.{lifted_each}
 use Rattle.surface_laws.proofs.lifts_of_vectors_are_determined.Goals as goal
 
 pub returns : goal.returns

@@ -4,15 +4,15 @@ use Rattle.cone_definitions.specs.Surfaces.{Clash}
 use Rattle.bounded_list.specs.Lists.{enumeration_of, AreAlwaysWithin, IsOnlyListing, AreRefused}
 use Rattle.bounded_list.proofs.list.vertex_list.Goals as goal
 
-pub listed-requires-clause-bounded : goal.listed-requires-clause-bounded
-listed-requires-clause-bounded g c fit = subst (AreAlwaysWithin c.args.terms.limit c.args.system.now) (sym c.in_ok-clashes.ensures.pairs) (c.requires.bounded fit)
+pub quickest_list-requires-clause-bounded : goal.quickest_list-requires-clause-bounded
+quickest_list-requires-clause-bounded g c fit = subst (AreAlwaysWithin c.args.terms.limit c.args.system.now) (sym c.in_ok-clashes.ensures.pairs) (c.requires.bounded fit)
 
 pub returns-clause-ok : goal.returns-clause-ok
 returns-clause-ok g c =
-    subst (λ (pairs : List Clash). IfOk c.listed.result (λ list. IsOnlyListing (enumeration_of c.args.system.now pairs c.args.terms.order c.args.terms.limit) list.items))
-    c.in_ok-clashes.ensures.pairs c.listed.ensures.ok
+    subst (λ (pairs : List Clash). IfOk c.quickest_list.result (λ list. IsOnlyListing (enumeration_of c.args.system.now pairs c.args.terms.order c.args.terms.limit) list.items))
+    c.in_ok-clashes.ensures.pairs c.quickest_list.ensures.ok
 
 pub returns-clause-err : goal.returns-clause-err
 returns-clause-err g c =
-    subst (λ (pairs : List Clash). IfErr c.listed.result (AreRefused (enumeration_of c.args.system.now pairs c.args.terms.order c.args.terms.limit)))
-    c.in_ok-clashes.ensures.pairs c.listed.ensures.err
+    subst (λ (pairs : List Clash). IfErr c.quickest_list.result (AreRefused (enumeration_of c.args.system.now pairs c.args.terms.order c.args.terms.limit)))
+    c.in_ok-clashes.ensures.pairs c.quickest_list.ensures.err

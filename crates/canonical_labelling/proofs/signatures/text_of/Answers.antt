@@ -1,5 +1,5 @@
-use Rattle.labelling_laws.proofs.Least.{never_unordered}
-use Rattle.signature_codec.specs.Shown.{named_face}
+use Rattle.signature_labelling_laws.proofs.Least.{never_unordered}
+use Rattle.signature_codec.specs.Views.{named_face}
 use Rattle.canonical_labelling.proofs.signatures.text_of.Goals as goal
 
 pub unreachable-requires : goal.unreachable-requires

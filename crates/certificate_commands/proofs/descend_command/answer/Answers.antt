@@ -5,13 +5,13 @@ use Rattle.certificate_commands.proofs.descend_command.answer.Goals as goal
 
 pub returns-in-Ok : goal.returns-in-Ok
 returns-in-Ok c =
-    IfOk-weaker c.told.result _ _
+    IfOk-weaker c.outcome_of.result _ _
     (λ o e. record {
       told = Ok (record { reached = c.in-Ok.descent.reached; moves = c.in-Ok.descent.moves.items; table = c.in-Ok.descent.table });
       descended = (c.in-Ok.ensures.connected, c.in-Ok.ensures.descent);
       outcome = e;
     })
-    c.told.ensures
+    c.outcome_of.ensures
 
 pub returns-in-Err-Fault : goal.returns-in-Err-Fault
 returns-in-Err-Fault c =

@@ -3,7 +3,7 @@ use Rattle.std.proofs.Common.{List, sym, ap, ◌∙◌}
 use Rattle.std.proofs.lemmas.Result.{err_from_is_err_and}
 use Rattle.move_definitions.specs.Moves.{Move}
 use Rattle.move_definitions.specs.MoveText.{move_at}
-use Rattle.document_definitions.specs.Documents.{each_line_from}
+use Rattle.text_document_definitions.specs.Documents.{each_line_from}
 use Rattle.move_definitions.proofs.MoveReadingLaws.{move_read}
 use Rattle.table_definitions.proofs.TableFoundLaws.{lexed_with}
 use Rattle.command_answers.proofs.EachLine.{with_fronts, fault_lexed, line_taken, line_faulty, lines_ended, lines_fewer}

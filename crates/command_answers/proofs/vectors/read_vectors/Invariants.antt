@@ -1,7 +1,7 @@
 -- The vectors so far with those that are left are those of the input.
 use Rattle.std.proofs.Common.{◌≡◌, length}
 use Rattle.cone_text_definitions.specs.VectorText.{vector_at}
-use Rattle.document_definitions.specs.Documents.{each_line_from}
+use Rattle.text_document_definitions.specs.Documents.{each_line_from}
 use Rattle.command_answers.proofs.EachLine.{with_fronts}
 use Rattle.command_answers.specs.Reads.{entries_of}
 use Rattle.command_answers.proofs.vectors.read_vectors.Given as goal

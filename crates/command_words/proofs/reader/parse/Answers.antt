@@ -18,7 +18,7 @@ returns-in-Ok c =
     let is = c.in_ok-program.ensures in
     let are = are_words words c.requires.no_dashes c.requires.utf8 in
     let free : is_simple_and_free (app_of c.in_ok-program.program) ≡ true = ap is_simple_and_free is ∙ program_free words command named in
-    subst (AnswersWords c.asked.result) (ok_answers words command c.in-Ok.matches (app_of c.in_ok-program.program) named is are c.in-Ok.ensures.matches (c.in-Ok.ensures.kinds free)) c.asked.ensures
+    subst (AnswersWords c.request_or_usage.result) (ok_answers words command c.in-Ok.matches (app_of c.in_ok-program.program) named is are c.in-Ok.ensures.matches (c.in-Ok.ensures.kinds free)) c.request_or_usage.ensures
 
 pub returns-in-Err : goal.returns-in-Err
 returns-in-Err c =

@@ -1,7 +1,7 @@
 -- One tetrahedron more.
 use Rattle.std.proofs.Common.{◌≡◌, ◌<◌, ℕ, List, length, slice_index, slice_index_or, sym, ap, subst, ◌∙◌, arith}
 use Rattle.std.proofs.lemmas.List.{get_or_default}
-use Rattle.part_definitions.specs.Parts.{Part}
+use Rattle.component_definitions.specs.Parts.{Part}
 use Rattle.component_signature.proofs.Writing.{none_written, one_written, others_kept, entry_below}
 use Rattle.component_signature.proofs.drafts.write_part.Goals as goal
 

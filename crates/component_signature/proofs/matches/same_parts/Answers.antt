@@ -3,16 +3,16 @@ use Rattle.std.proofs.Common.{◌≡◌, List, length, ap, subst, subst₂, sym,
 use Rattle.std.specs.Prelude.{IsTrue}
 use Rattle.table_definitions.specs.Relabelling.{Relabelling, IsRelabelling}
 use Rattle.signature_definitions.specs.Labellings.{Relabels}
-use Rattle.part_definitions.specs.SameParts.{IsSameParts}
-use Rattle.component_signature.specs.declared.order.Signed.{Signed}
+use Rattle.component_definitions.specs.SameParts.{IsSameParts}
+use Rattle.component_signature.specs.declared.order.PartSignature.{PartSignature}
 use Rattle.component_signature.specs.Entries.{entries_of}
-use Rattle.part_laws.specs.Ordered.{texts_of}
-use Rattle.part_laws.proofs.MatchLemmas.{differ}
-use Rattle.component_signature.proofs.DraftedParts.{relabelling_of, told_of, relabels_of}
+use Rattle.component_laws.specs.Ordered.{texts_of}
+use Rattle.component_laws.proofs.MatchLemmas.{differ}
+use Rattle.component_signature.proofs.DraftsOfParts.{relabelling_of, told_of, relabels_of}
 use Rattle.component_signature.proofs.matches.same_parts.Goals as goal
 
 -- the signatures of both
-abbrev Agree : List Signed → List Signed → Type 0
+abbrev Agree : List PartSignature → List PartSignature → Type 0
 Agree first second = texts_of (entries_of first) ≡ texts_of (entries_of second)
 
 pub returns-then-not-agree-clause-none : goal.returns-then-not-agree-clause-none

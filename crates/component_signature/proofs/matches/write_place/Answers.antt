@@ -4,10 +4,10 @@ use Rattle.plain_facts.proofs.Members.{Ascends}
 use Rattle.table_definitions.specs.Places.{IsConnected}
 use Rattle.table_definitions.specs.Relabelling.{IsRelabelled, stand_in}
 use Rattle.signature_definitions.specs.Labellings.{IsLeastRelabelling}
-use Rattle.part_definitions.specs.Parts.{Part, IsPart}
-use Rattle.part_definitions.specs.SameParts.{GoesBy}
+use Rattle.component_definitions.specs.Parts.{Part, IsPart}
+use Rattle.component_definitions.specs.SameParts.{GoesBy}
 use Rattle.component_signature.specs.Entries.{entries_of}
-use Rattle.part_laws.proofs.MatchLemmas.{part_in, is_part, is_connected, relabelled_at}
+use Rattle.component_laws.proofs.MatchLemmas.{part_in, is_part, is_connected, relabelled_at}
 use Rattle.component_signature.proofs.PlaceLemmas.{in_entries, in_others, number_in, part_here, tets_below, few_tets, one_image_each, images_there, written_more}
 use Rattle.component_signature.proofs.matches.write_place.Goals as goal
 
@@ -22,23 +22,23 @@ index-other-requires c =
     (in_others _ _ _ _ _ c.requires.matched c.args.place c.requires.in_range) c.index-2.ensures in
     omega (arith, l, c.args.second.now.parts.ok)
 
-pub told-requires-clause-connected : goal.told-requires-clause-connected
-told-requires-clause-connected c =
+pub relabelling_of_connected-requires-clause-connected : goal.relabelling_of_connected-requires-clause-connected
+relabelling_of_connected-requires-clause-connected c =
     let m = c.requires.matched in
     let e : c.index-part.result.now ≡ part_in c.args.first.now.parts.items (entries_of c.args.first.now.signed.items) c.args.place =
     part_here c.args.first.now.parts.items c.args.first.now.signed.items m.in_order c.args.place c.index.result.now c.requires.in_range c.index.ensures c.index-part.result.now c.index-part.ensures in
     subst (λ (p : Part). IsConnected p.rows) (sym (c.part.view_is ∙ e)) (is_connected m.first _ _ m.first_table m.are_parts m.in_order c.args.place (in_entries c.args.first.now.signed.items c.args.place c.requires.in_range))
 
-pub told-requires-clause-second_connected : goal.told-requires-clause-second_connected
-told-requires-clause-second_connected c =
+pub relabelling_of_connected-requires-clause-second_connected : goal.relabelling_of_connected-requires-clause-second_connected
+relabelling_of_connected-requires-clause-second_connected c =
     let m = c.requires.matched in
     let l = in_others _ _ _ _ _ m c.args.place c.requires.in_range in
     let e : c.index-other.result.now ≡ part_in c.args.second.now.parts.items (entries_of c.args.second.now.signed.items) c.args.place =
     part_here c.args.second.now.parts.items c.args.second.now.signed.items m.others_in_order c.args.place c.index-2.result.now l c.index-2.ensures c.index-other.result.now c.index-other.ensures in
     subst (λ (p : Part). IsConnected p.rows) (sym (c.other.view_is ∙ e)) (is_connected m.second _ _ m.second_table m.are_others m.others_in_order c.args.place (in_entries c.args.second.now.signed.items c.args.place l))
 
-pub told-requires-clause-relabelled : goal.told-requires-clause-relabelled
-told-requires-clause-relabelled c =
+pub relabelling_of_connected-requires-clause-relabelled : goal.relabelling_of_connected-requires-clause-relabelled
+relabelling_of_connected-requires-clause-relabelled c =
     let m = c.requires.matched in
     let l = in_others _ _ _ _ _ m c.args.place c.requires.in_range in
     let e : c.index-part.result.now ≡ part_in c.args.first.now.parts.items (entries_of c.args.first.now.signed.items) c.args.place =

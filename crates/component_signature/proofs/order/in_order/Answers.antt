@@ -1,9 +1,9 @@
 -- The parts are connected, and their signatures are sorted.
 use Rattle.std.proofs.Common.{List, All, subst, sym}
 use Rattle.table_definitions.specs.Places.{IsConnected}
-use Rattle.part_definitions.specs.Parts.{Part}
+use Rattle.component_definitions.specs.Parts.{Part}
 use Rattle.component_signature.specs.Entries.{entries_of}
-use Rattle.part_laws.specs.Ordered.{AreSigned}
+use Rattle.component_laws.specs.Ordered.{AreSigned}
 use Rattle.component_signature.proofs.Signing.{put_in_order, all_connected}
 use Rattle.component_signature.proofs.order.in_order.Goals as goal
 

@@ -2,7 +2,7 @@
 use Rattle.std.proofs.Common.{subst, sym, refl, ◌∙◌, arith}
 use Rattle.table_definitions.specs.Places.{IsConnected}
 use Rattle.signature_definitions.specs.Spelling.{IsSignature}
-use Rattle.part_definitions.specs.Parts.{Part}
+use Rattle.component_definitions.specs.Parts.{Part}
 use Rattle.component_signature.proofs.Signing.{none_signed, one_signed, all_signed}
 use Rattle.component_signature.proofs.order.sign_parts.Goals as goal
 

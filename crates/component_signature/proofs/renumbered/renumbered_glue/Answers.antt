@@ -1,7 +1,7 @@
 -- A gluing of a part leads to a tetrahedron of the part.
 use Rattle.std.proofs.Common.{Contains, subst, sym, ◌∙◌, ◌≤◌, length, arith}
 use Rattle.table_definitions.specs.Table.{Gluing}
-use Rattle.part_laws.proofs.Members.{member_below, glued_member}
+use Rattle.component_laws.proofs.Members.{member_below, glued_member}
 use Rattle.component_signature.proofs.Searching.{part_with, few_numbers}
 use Rattle.component_signature.proofs.renumbered.renumbered_glue.Goals as goal
 

@@ -1,8 +1,8 @@
 -- The renumbered rows of a part are a table.
 use Rattle.std.proofs.Common.{subst, sym, ap, ◌∙◌}
 use Rattle.table_definitions.specs.Table.{IsTable}
-use Rattle.part_definitions.specs.Parts.{rows_of}
-use Rattle.part_laws.proofs.Members.{part_is_table}
+use Rattle.component_definitions.specs.Parts.{rows_of}
+use Rattle.component_laws.proofs.Members.{part_is_table}
 use Rattle.component_signature.specs.Components as components
 use Rattle.component_signature.proofs.split.part_of.Goals as goal
 

@@ -4,7 +4,7 @@ use Rattle.table_definitions.specs.Lists.{below}
 use Rattle.table_definitions.specs.Table.{Row}
 use Rattle.table_definitions.specs.Places.{SameComponent}
 use Rattle.table_definitions.specs.Classes.{IsNumbering}
-use Rattle.part_definitions.specs.Parts.{Part, IsPart}
+use Rattle.component_definitions.specs.Parts.{Part, IsPart}
 use Rattle.component_signature.specs.Components as components
 use Rattle.component_signature.proofs.PartLemmas.{component_is, one_more, are_parts}
 use Rattle.component_signature.proofs.split.parts.Goals as goal

@@ -11,7 +11,7 @@ use Rattle.cone_definitions.specs.Elimination.{in_order}
 use Rattle.cone_definitions.specs.Enumeration.{unit_vectors}
 use Rattle.cone_definitions.proofs.First.{unit_vectors_list}
 use Rattle.cone_definitions.proofs.Next.{order_is_free_lem, one_surface_list_lem}
-use Rattle.ray_steps.specs.Kepts.{rays_of, AreOfWidth}
+use Rattle.ray_steps.specs.Rays.{rays_of, AreOfWidth}
 use Rattle.double_description.specs.Orders.{AreRowsOf}
 use Rattle.ray_steps.specs.Next.{IsNextOf, IsNamedFrom}
 use Rattle.ray_steps.specs.Faults.{IfLarge}

@@ -3,7 +3,7 @@ use Rattle.std.specs.List.{range_with_len}
 use Rattle.std.specs.List.Sorted.{IsPermutation}
 use Rattle.cone_definitions.specs.Surfaces.{IsSurfaceList}
 use Rattle.cone_definitions.specs.Elimination.{in_order}
-use Rattle.ray_steps.specs.Kepts.{rays_of, AreOfWidth}
+use Rattle.ray_steps.specs.Rays.{rays_of, AreOfWidth}
 use Rattle.double_description.specs.Turns.{AreTaken}
 use Rattle.cone_definitions.specs.Orders.{AreLeft}
 use Rattle.cone_definitions.specs.Listings.{AreWithin}

@@ -2,9 +2,9 @@
 use Rattle.std.proofs.Common.{◌≡◌, ◌+◌, ◌*◌, ◌<◌, ℕ, List, Vec, Global, [], ◌∷◌, ◌++◌, length, length-append, ap, sym, subst, arith, ◌∙◌}
 use Rattle.std.specs.Prelude.{slice_index}
 use Rattle.table_definitions.specs.Table.{Face}
-use Rattle.class_laws.specs.Numberings.{AreFirstsUpTo}
-use Rattle.class_laws.proofs.NumberingLemmas.{first_passes, first_grows}
-use Rattle.group_laws.proofs.Firsts.{faces_ordered, least_faces, face_number_of}
+use Rattle.skeleton_class_laws.specs.Numberings.{AreFirstsUpTo}
+use Rattle.skeleton_class_laws.proofs.NumberingLemmas.{first_passes, first_grows}
+use Rattle.presentation_laws.proofs.Firsts.{faces_ordered, least_faces, face_number_of}
 use Rattle.edge_group.proofs.faces.first_faces.Goals as goal
 use Rattle.edge_group.proofs.faces.first_faces.Goals.{then-face_class-len+in_ok-push, else-face_class-len}
 

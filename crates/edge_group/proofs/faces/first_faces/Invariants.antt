@@ -1,5 +1,5 @@
 use Rattle.std.proofs.Common.{◌≤◌, length}
-use Rattle.class_laws.specs.Numberings.{AreFirstsUpTo}
+use Rattle.skeleton_class_laws.specs.Numberings.{AreFirstsUpTo}
 use Rattle.edge_group.proofs.faces.first_faces.Given as goal
 
 abbrev pub invariant-loop-number : goal.invariant-loop-number

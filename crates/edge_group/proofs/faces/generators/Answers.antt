@@ -1,8 +1,8 @@
 -- A class more, and in the end all of them.
 use Rattle.std.proofs.Common.{◌≡◌, ◌+◌, ℕ, List, [], ◌∷◌, ◌++◌, Vec, Global, length, length-append, ap, sym, subst, arith, ◌∙◌}
 use Rattle.std.proofs.lemmas.Bool.{false≢true}
-use Rattle.group_laws.specs.Classes.{AreGeneratorsBelow}
-use Rattle.group_laws.proofs.Marking.{generator_passes, generator_grows, all_generators}
+use Rattle.presentation_laws.specs.Classes.{AreGeneratorsBelow}
+use Rattle.presentation_laws.proofs.Marking.{generator_passes, generator_grows, all_generators}
 use Rattle.edge_group.proofs.faces.generators.Goals as goal
 use Rattle.edge_group.proofs.faces.generators.Goals.{then-is_generator+in_ok-push, else-is_generator}
 

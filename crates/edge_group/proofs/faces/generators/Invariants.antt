@@ -1,5 +1,5 @@
 use Rattle.std.proofs.Common.{◌≤◌, length}
-use Rattle.group_laws.specs.Classes.{AreGeneratorsBelow}
+use Rattle.presentation_laws.specs.Classes.{AreGeneratorsBelow}
 use Rattle.edge_group.proofs.faces.generators.Given as goal
 
 abbrev pub invariant-loop-class : goal.invariant-loop-class

@@ -3,7 +3,7 @@ use Rattle.std.proofs.Common.{ap, ap₂, sym, ◌∙◌}
 use Rattle.std.proofs.lemmas.Bool.{false≢true}
 use Rattle.table_definitions.specs.Table.{glue}
 use Rattle.table_definitions.specs.Places.{face_of}
-use Rattle.group_laws.proofs.Firsts.{generator_is}
+use Rattle.presentation_laws.proofs.Firsts.{generator_is}
 use Rattle.edge_group.proofs.faces.is_generator.Goals as goal
 
 pub returns-then-not-in_tree-class : goal.returns-then-not-in_tree-class

@@ -2,8 +2,8 @@
 use Rattle.std.proofs.Common.{◌+◌, ◌*◌, ◌<◌, Bool, Vec, Global, length, ap, ap₂, sym, subst, ◌∙◌}
 use Rattle.std.specs.Prelude.{slice_index}
 use Rattle.table_definitions.specs.Table.{Face}
-use Rattle.group_laws.specs.Classes.{AreTreeClassesBelow}
-use Rattle.group_laws.proofs.Marking.{tree_face_is, tree_root_is, tree_face_inside, class_passes, class_marked}
+use Rattle.presentation_laws.specs.Classes.{AreTreeClassesBelow}
+use Rattle.presentation_laws.proofs.Marking.{tree_face_is, tree_root_is, tree_face_inside, class_passes, class_marked}
 use Rattle.edge_group.proofs.faces.tree_classes.Goals as goal
 use Rattle.edge_group.proofs.faces.tree_classes.Goals.{in-Some, in_default}
 

@@ -2,8 +2,8 @@
 use Rattle.std.proofs.Common.{◌≡◌, ◌+◌, ◌*◌, Vec, Global, sym, ap, ap₂, ◌∙◌}
 use Rattle.std.specs.List.{slice_index_or}
 use Rattle.skeleton_definitions.specs.Corners.{Corner, left_through}
-use Rattle.group_definitions.specs.declared.Letter.{Letter}
-use Rattle.group_definitions.specs.Presentations.{letter_of}
+use Rattle.presentation_definitions.specs.declared.Letter.{Letter}
+use Rattle.presentation_definitions.specs.Presentations.{letter_of}
 use Rattle.table_definitions.specs.Table.{face_number}
 use Rattle.edge_group.proofs.Relating.{letter_added, letter_skipped}
 use Rattle.edge_group.proofs.relators.relator.Goals as goal

@@ -1,5 +1,5 @@
 use Rattle.std.proofs.Common.{◌≡◌, take, filter_map}
-use Rattle.group_definitions.specs.Presentations.{letter_of}
+use Rattle.presentation_definitions.specs.Presentations.{letter_of}
 use Rattle.table_definitions.specs.Table.{face_number}
 use Rattle.edge_group.proofs.relators.relator.Given as goal
 use Rattle.skeleton_definitions.specs.Corners.{left_through}

@@ -1,8 +1,8 @@
 -- An edge class more.
 use Rattle.std.proofs.Common.{map, ap, ◌∙◌}
 use Rattle.std.proofs.lemmas.List.{map_push}
-use Rattle.group_definitions.specs.Presentations.{IsRelator}
-use Rattle.edge_group.specs.Kept.{letters_of}
+use Rattle.presentation_definitions.specs.Presentations.{IsRelator}
+use Rattle.edge_group.specs.Fields.{letters_of}
 use Rattle.edge_group.proofs.Relating.{around_leaves, zip_taken}
 use Rattle.edge_group.proofs.relators.relators.Goals as goal
 

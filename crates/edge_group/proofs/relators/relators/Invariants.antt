@@ -1,7 +1,7 @@
 use Rattle.std.proofs.Common.{take, map}
 use Rattle.std.specs.List.{AllZip}
-use Rattle.group_definitions.specs.Presentations.{IsRelator}
-use Rattle.edge_group.specs.Kept.{letters_of}
+use Rattle.presentation_definitions.specs.Presentations.{IsRelator}
+use Rattle.edge_group.specs.Fields.{letters_of}
 use Rattle.edge_group.proofs.relators.relators.Given as goal
 
 abbrev pub invariant-loop-class : goal.invariant-loop-class

@@ -1,6 +1,6 @@
 use Rattle.std.proofs.Common.{◌≡◌, ℕ, ◌<◌, None, length}
 use Rattle.std.specs.List.{slice_index_or}
-use Rattle.group_definitions.specs.Groups.{IsTreeFaceAt}
+use Rattle.presentation_definitions.specs.Groups.{IsTreeFaceAt}
 use Rattle.edge_group.proofs.tree.tree_faces.Given as goal
 
 abbrev pub invariant-loop-tet : goal.invariant-loop-tet

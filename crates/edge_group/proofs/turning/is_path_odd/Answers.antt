@@ -2,9 +2,9 @@
 use Rattle.std.proofs.Common.{◌≡◌, ◌<◌, not, length, sym, ap, subst, ◌∙◌}
 use Rattle.std.specs.Bool.{beq}
 use Rattle.table_definitions.specs.Table.{Face}
-use Rattle.group_definitions.specs.Trees.{IsTreeFace}
+use Rattle.presentation_definitions.specs.Trees.{IsTreeFace}
 use Rattle.edge_group.specs.Searches.{mark_of}
-use Rattle.group_laws.proofs.Marking.{tree_face_is, tree_root_is, tree_face_inside}
+use Rattle.presentation_laws.proofs.Marking.{tree_face_is, tree_root_is, tree_face_inside}
 use Rattle.edge_group.proofs.Paths.{IsPathOn, distance_or, differ_is, path_steps, path_ends, path_falls}
 use Rattle.edge_group.proofs.turning.is_path_odd.Goals as goal
 

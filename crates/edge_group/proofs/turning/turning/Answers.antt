@@ -3,8 +3,8 @@ use Rattle.std.proofs.Common.{◌≡◌, ◌*◌, ◌/◌, ◌<◌, List, length
 use Rattle.std.specs.Prelude.{slice_index, IsSome}
 use Rattle.table_definitions.specs.Table.{Row, Face, glue}
 use Rattle.table_definitions.specs.Places.{face_of}
-use Rattle.group_definitions.specs.Presentations.{IsTurning, IsTurningFace}
-use Rattle.group_laws.proofs.Firsts.{generator_at, generator_glued}
+use Rattle.presentation_definitions.specs.Presentations.{IsTurning, IsTurningFace}
+use Rattle.presentation_laws.proofs.Firsts.{generator_at, generator_glued}
 use Rattle.edge_group.proofs.Relating.{zip_taken}
 use Rattle.edge_group.proofs.turning.turning.Goals as goal
 

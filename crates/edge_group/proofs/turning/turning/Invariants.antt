@@ -1,6 +1,6 @@
 use Rattle.std.proofs.Common.{take}
 use Rattle.std.specs.List.{AllZip}
-use Rattle.group_definitions.specs.Presentations.{IsTurning}
+use Rattle.presentation_definitions.specs.Presentations.{IsTurning}
 use Rattle.edge_group.proofs.turning.turning.Given as goal
 
 abbrev pub invariant-loop-class : goal.invariant-loop-class

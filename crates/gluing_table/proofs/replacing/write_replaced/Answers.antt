@@ -1,7 +1,7 @@
 use Rattle.std.proofs.Common.{arith, sym, subst, List}
 use Rattle.table_definitions.specs.Table.{Row, IsTable}
 use Rattle.table_definitions.specs.Replacing.{Replacement, replaced_row}
-use Rattle.gluing_table.proofs.KeptCode.{written_more, length-written, written_all, fewer_than_rows}
+use Rattle.gluing_table.proofs.RetainedCode.{written_more, length-written, written_all, fewer_than_rows}
 use Rattle.table_definitions.proofs.Replaced.{replaced_is_table}
 use Rattle.gluing_table.proofs.replacing.write_replaced.Goals as goal
 

@@ -1,7 +1,7 @@
 use Rattle.std.proofs.Common.{inl, inr, false}
 use Rattle.std.proofs.lemmas.Result.{IfOk-weaker, IfErr-weaker, err_from_is_err_and}
 use Rattle.cone_core.specs.declared.numbers.TheConstants.{MAX_ENTRY}
-use Rattle.ray_steps.specs.Kepts.{rays_of}
+use Rattle.ray_steps.specs.Rays.{rays_of}
 use Rattle.ray_steps.specs.Faults.{IfLarge, IsFirstLargeValue}
 use Rattle.ray_steps.specs.Steps.{IsFirstLargeEitherWay}
 use Rattle.ray_steps.proofs.SurfaceSteps.{next_surfaces}
@@ -13,7 +13,7 @@ use Rattle.late_columns.proofs.elimination.next_rays.Goals as goal
 pub returns-clause-ok : goal.returns-clause-ok
 returns-clause-ok g c =
     let step = c.in_ok-step.step in
-    let rays = rays_of c.args.kepts.items in
+    let rays = rays_of c.args.ray_list.items in
     IfOk-weaker c.next_by_fewer.result _ _
     (λ next h before surfaces. next_surfaces MAX_ENTRY c.args.clashes.now.columns c.args.clashes.now.pairs before c.args.row.now rays step.signs surfaces c.in_ok-step.ensures.ok.signed (rays_of next.items)
     (next_of_step MAX_ENTRY c.args.clashes.now c.args.row.now rays step (rays_of next.items) c.in_ok-step.ensures.ok h))
@@ -21,14 +21,14 @@ returns-clause-ok g c =
 
 pub returns-in_err-step-clause-err : goal.returns-in_err-step-clause-err
 returns-in_err-step-clause-err g c =
-    let rays = rays_of c.args.kepts.items in
+    let rays = rays_of c.args.ray_list.items in
     let p = err_from_is_err_and c.from_residual.result c.from_residual.ensures.1 in
     rw (p.1, p.2) (fault_weaker (IsFirstLargeValue MAX_ENTRY c.args.row.now rays) (PassesAt c.args.clashes.now c.args.row.now rays) (λ named h. inl h) _ c.in_err-step.ensures.err)
 
 pub returns-clause-err : goal.returns-clause-err
 returns-clause-err g c =
     let step = c.in_ok-step.step in
-    let rays = rays_of c.args.kepts.items in
+    let rays = rays_of c.args.ray_list.items in
     let clashes = c.args.clashes.now in
     let row = c.args.row.now in
     IfErr-weaker c.next_by_fewer.result (IfLarge (IsFirstLargeEitherWay step)) (IfLarge (PassesAt clashes row rays))

@@ -1,5 +1,5 @@
 use Rattle.std.proofs.Common.{sym}
-use Rattle.class_laws.proofs.EdgeCorners.{round_of}
+use Rattle.skeleton_class_laws.proofs.EdgeCorners.{round_of}
 use Rattle.matching_equations.proofs.ClassRows.{row_appended}
 use Rattle.matching_equations.proofs.quads.push_edge.Goals as goal
 

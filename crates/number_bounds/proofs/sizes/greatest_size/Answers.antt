@@ -1,5 +1,5 @@
 use Rattle.std.proofs.Common.{◌^◌, ◌≤◌, length, ◌∙◌, arith}
-use Rattle.minor_laws.specs.Caps.{row_size}
+use Rattle.cone_bound_laws.specs.Caps.{row_size}
 use Rattle.number_bounds.proofs.Past.{if_none, any_at, attained_more, attained_all}
 use Rattle.number_bounds.proofs.Tallies.{greatest_more, all_small}
 use Rattle.number_bounds.proofs.sizes.greatest_size.Goals as goal

@@ -2,7 +2,7 @@ use Rattle.std.proofs.Common.{rules, ◌≡◌, ◌^◌, ◌+◌, w32, FitsSigne
 use Rattle.std.specs.Prelude.{unsigned_abs}
 use Rattle.std.proofs.lemmas.Int.{to_z-of_z}
 use Rattle.std.proofs.lemmas.List.{take_all}
-use Rattle.minor_laws.specs.Caps.{row_size}
+use Rattle.cone_bound_laws.specs.Caps.{row_size}
 use Rattle.number_bounds.proofs.Tallies.{size_more}
 use Rattle.number_bounds.proofs.Past.{if_none, reached, size_past}
 use Rattle.number_bounds.proofs.sizes.size_of.Goals as goal

@@ -2,7 +2,7 @@ use Rattle.std.proofs.Common.{rules, ◌^◌, w32, FitsSigned, get_or, pos, leng
 use Rattle.std.specs.Prelude.{unsigned_abs}
 use Rattle.std.proofs.lemmas.Int.{to_z-of_z}
 use Rattle.std.proofs.lemmas.List.{length-set, take_all}
-use Rattle.minor_laws.specs.Caps.{row_weight}
+use Rattle.cone_bound_laws.specs.Caps.{row_weight}
 use Rattle.number_bounds.proofs.Past.{reached, weight_past}
 use Rattle.number_bounds.proofs.Tallies.{weights_more}
 use Rattle.number_bounds.proofs.weights.add_row.Goals as goal

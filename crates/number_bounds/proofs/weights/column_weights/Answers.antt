@@ -1,6 +1,6 @@
 use Rattle.std.proofs.Common.{◌^◌, ◌≤◌, length, ap, sym, ◌∙◌, arith}
 use Rattle.std.proofs.lemmas.List.{take_all}
-use Rattle.minor_laws.specs.Caps.{column_weight}
+use Rattle.cone_bound_laws.specs.Caps.{column_weight}
 use Rattle.cone_core.proofs.EntryLemmas.{refilled}
 use Rattle.number_bounds.proofs.Past.{column_past}
 use Rattle.number_bounds.proofs.Tallies.{rows_more}

@@ -21,4 +21,4 @@ returns-in-Some c =
 
 pub returns-in-None : goal.returns-in-None
 returns-in-None c =
-    stand_none c.args.table.now c.args.m.now c.args.facets.now c.args.x c.x.inside.tet c.kept_stand_in.result c.requires.old.are c.in-None.ensures (ap (λ (x : Face). x.tet) c.x.view_is) c.kept_stand_in.ensures
+    stand_none c.args.table.now c.args.m.now c.args.facets.now c.args.x c.x.inside.tet c.retained_stand_in.result c.requires.old.are c.in-None.ensures (ap (λ (x : Face). x.tet) c.x.view_is) c.retained_stand_in.ensures

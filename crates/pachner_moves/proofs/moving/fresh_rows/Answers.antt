@@ -10,5 +10,5 @@ loop-label-preserved c =
     let first : ℕ = kept c.args.table.now c.args.m.now in
     let same : c.loop-label.label ≡ (first + c.loop-label.label) - first = omega arith in
     let row = c.fresh_row.ensures ∙ ap (put_row c.args.table.now c.args.m.now) same in
-    c.push.ensures.items ∙ (λ i. c.loop-label.invariant i ++ (c.kept_in-first.ensures.value i + c.loop-label.label, row i) ∷ [])
+    c.push.ensures.items ∙ (λ i. c.loop-label.invariant i ++ (c.retained_in-first.ensures.value i + c.loop-label.label, row i) ∷ [])
     ∙ sym (map-range_with_len_more (λ t. (t, put_row c.args.table.now c.args.m.now (t - first))) first c.loop-label.label (first + c.loop-label.label) refl)

@@ -1,7 +1,7 @@
 -- The vertex across the face is passed, or gets the height that the crossing gives it.
 use Rattle.std.proofs.Common.{set, true, ap, ◌∙◌, arith}
-use Rattle.walk_laws.specs.Search.{work_left}
-use Rattle.walk_laws.proofs.SearchLemmas.{has_few_turns}
+use Rattle.table_walk_laws.specs.Search.{work_left}
+use Rattle.table_walk_laws.proofs.SearchLemmas.{has_few_turns}
 use Rattle.quad_lift.proofs.SpreadLemmas.{met, fits_up, fits_down, spread_on}
 use Rattle.quad_lift.proofs.RoundTurns.{turn_skips, turn_finds, turn_adds}
 use Rattle.quad_lift.proofs.heights.cross.Goals as goal

@@ -1,6 +1,6 @@
 -- The heights are spread, and the faces before are done.
 use Rattle.std.proofs.Common.{◌≡◌, List, Bool}
-use Rattle.walk_laws.specs.Search.{IsMarked, IsTurn, work_left}
+use Rattle.table_walk_laws.specs.Search.{IsMarked, IsTurn, work_left}
 use Rattle.quad_lift.specs.Spreads.{vertices_round, round_before, AreSpread}
 use Rattle.quad_lift.proofs.heights.cross_all.Given as goal
 

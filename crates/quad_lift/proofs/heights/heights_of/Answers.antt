@@ -2,8 +2,8 @@
 use Rattle.std.proofs.Common.{◌≡◌, ℕ, ◌+◌, ◌*◌, ◌<◌, List, Bool, Vec, Global, false, true, length, replicate, sym, ap, ◌∙◌, subst, subst₂, arith, below_more}
 use Rattle.std.specs.List.{slice_index_or}
 use Rattle.std.proofs.lemmas.List.{get_or_default, with_items_is, length-replicate}
-use Rattle.walk_laws.specs.Search.{IsMarked, IsClosed}
-use Rattle.walk_laws.proofs.SearchLemmas.{none_is_closed, none_marked}
+use Rattle.table_walk_laws.specs.Search.{IsMarked, IsClosed}
+use Rattle.table_walk_laws.proofs.SearchLemmas.{none_is_closed, none_marked}
 use Rattle.quad_lift.specs.Spreads.{vertices_round, AreSpread}
 use Rattle.quad_lift.proofs.SpreadLemmas.{none_spread, all_spread}
 use Rattle.quad_lift.proofs.heights.heights_of.Goals as goal

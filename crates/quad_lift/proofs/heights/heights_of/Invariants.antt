@@ -1,6 +1,6 @@
 -- The vertices that were passed are marked, and with each its class.
 use Rattle.std.proofs.Common.{ℕ, ◌<◌}
-use Rattle.walk_laws.specs.Search.{IsMarked, IsClosed}
+use Rattle.table_walk_laws.specs.Search.{IsMarked, IsClosed}
 use Rattle.quad_lift.specs.Spreads.{vertices_round, AreSpread}
 use Rattle.quad_lift.proofs.heights.heights_of.Given as goal
 

@@ -2,8 +2,8 @@
 use Rattle.std.proofs.Common.{◌≡◌, ◌+◌, [], ◌∷◌, ◌++◌, true, set, length, refl, sym, ap, ◌∙◌, subst, arith}
 use Rattle.std.proofs.lemmas.List.{length-append, nil_from_length}
 use Rattle.plain_facts.proofs.Members.{contains_at}
-use Rattle.walk_laws.specs.Search.{IsSearch}
-use Rattle.walk_laws.proofs.SearchLemmas.{search_begins, search_ends, turn_starts, marked_is}
+use Rattle.table_walk_laws.specs.Search.{IsSearch}
+use Rattle.table_walk_laws.proofs.SearchLemmas.{search_begins, search_ends, turn_starts, marked_is}
 use Rattle.quad_lift.specs.Spreads.{vertices_round}
 use Rattle.quad_lift.proofs.SpreadLemmas.{spread_root}
 use Rattle.quad_lift.proofs.heights.spread.Goals as goal

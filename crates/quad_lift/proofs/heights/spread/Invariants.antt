@@ -1,6 +1,6 @@
 -- A search is under way, and the heights are spread.
 use Rattle.std.proofs.Common.{true, set}
-use Rattle.walk_laws.specs.Search.{IsSearch, work_left}
+use Rattle.table_walk_laws.specs.Search.{IsSearch, work_left}
 use Rattle.quad_lift.specs.Spreads.{vertices_round, AreSpread}
 use Rattle.quad_lift.proofs.heights.spread.Given as goal
 

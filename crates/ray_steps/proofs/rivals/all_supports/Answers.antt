@@ -3,19 +3,19 @@ use Rattle.std.proofs.lemmas.List.{take_more, map-append}
 use Rattle.cone_definitions.specs.Vectors.{ray_at}
 use Rattle.support_bits.specs.Columns.{support_of}
 use Rattle.support_table.specs.Tables.{Table}
-use Rattle.ray_steps.specs.Kepts.{rays_of}
-use Rattle.ray_steps.proofs.KeptLemmas.{length-rays_of, ray_read}
+use Rattle.ray_steps.specs.Rays.{rays_of}
+use Rattle.ray_steps.proofs.RayLemmas.{length-rays_of, ray_read}
 use Rattle.ray_steps.proofs.RivalLemmas.{support_read}
 use Rattle.ray_steps.proofs.rivals.all_supports.Goals as goal
 
 pub loop-kept-preserved : goal.loop-kept-preserved
 loop-kept-preserved c =
-    let kepts = c.args.kepts.now in
-    let rays = rays_of kepts in
+    let ray_list = c.args.ray_list.now in
+    let rays = rays_of ray_list in
     let k = c.loop-kept.kept-index in
     let kept = c.kept-item.result in
-    let within : k < length rays = let n = length-rays_of kepts in let less = c.loop-kept-test.true in omega arith in
-    let is = support_read kept (ray_at rays k) (ray_read kepts k kept c.loop-kept-test.true c.kept-item.is) in
+    let within : k < length rays = let n = length-rays_of ray_list in let less = c.loop-kept-test.true in omega arith in
+    let is = support_read kept (ray_at rays k) (ray_read ray_list k kept c.loop-kept-test.true c.kept-item.is) in
     record {
       width = ap (λ (t : Table). t.columns) c.in_ok-push.ensures.pushed ∙ c.loop-kept.invariant.width;
       supports = ap (λ (t : Table). t.supports) c.in_ok-push.ensures.pushed

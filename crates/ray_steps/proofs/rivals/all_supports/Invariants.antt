@@ -1,8 +1,8 @@
 -- the supports of the rays so far
 use Rattle.std.proofs.Common.{take}
-use Rattle.ray_steps.specs.Kepts.{rays_of}
+use Rattle.ray_steps.specs.Rays.{rays_of}
 use Rattle.ray_steps.specs.Rivals.{HasAllSupports}
 use Rattle.ray_steps.proofs.rivals.all_supports.Given as goal
 
 abbrev pub invariant-loop-kept : goal.invariant-loop-kept
-invariant-loop-kept l = HasAllSupports (take l.kept-index (rays_of l.kepts)) l.columns l.table
+invariant-loop-kept l = HasAllSupports (take l.kept-index (rays_of l.ray_list)) l.columns l.table

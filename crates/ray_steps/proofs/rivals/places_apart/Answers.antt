@@ -1,20 +1,20 @@
 use Rattle.std.proofs.Common.{◌+◌, subst, sym, ap, ◌∙◌}
-use Rattle.ray_steps.specs.Kepts.{rays_of}
+use Rattle.ray_steps.specs.Rays.{rays_of}
 use Rattle.ray_steps.specs.Rivals.{AreApart}
-use Rattle.ray_steps.proofs.KeptLemmas.{ray_read}
+use Rattle.ray_steps.proofs.RayLemmas.{ray_read}
 use Rattle.ray_steps.proofs.RivalLemmas.{meets_from_test, apart_push, apart_skip}
 use Rattle.ray_steps.proofs.rivals.places_apart.Goals as goal
 use Rattle.ray_steps.proofs.rivals.places_apart.Goals.{then-not-meets+in_ok-push, else-not-meets}
 
 pub loop-k-preserved : goal.loop-k-preserved
 loop-k-preserved c =
-    let kepts = c.args.kepts.now in
-    let rays = rays_of kepts in
+    let ray_list = c.args.ray_list.now in
+    let rays = rays_of ray_list in
     let columns = c.args.columns.now in
     let k = c.loop-k.k in
     let places = c.loop-k.places.items in
-    let v = c.index-kepts-k.result in
-    let read = ray_read kepts k v c.loop-k-test.true c.index-kepts-k.is in
+    let v = c.index-ray_list-k.result in
+    let read = ray_read ray_list k v c.loop-k-test.true c.index-ray_list-k.is in
     elim c.if-not-meets.branch [
       | then-not-meets+in_ok-push w ↦
           subst (AreApart rays columns (k + 1)) (sym (ap (λ p. p.items) w.places-is ∙ w.in_ok-push.ensures.items))

@@ -2,19 +2,19 @@ use Rattle.std.proofs.lemmas.Result.{err_from_is_err_and}
 use Rattle.std.proofs.Common.{get_or-take, [], subst, sym, ◌∙◌, arith}
 use Rattle.std.proofs.lemmas.List.{length-take-le}
 use Rattle.cone_definitions.specs.Elimination.{HasPartsWithin, HasLargePart}
-use Rattle.ray_steps.specs.Kepts.{rays_of}
+use Rattle.ray_steps.specs.Rays.{rays_of}
 use Rattle.ray_steps.specs.Signs.{IsSignAt}
-use Rattle.ray_steps.proofs.KeptLemmas.{length-rays_of, ray_read}
+use Rattle.ray_steps.proofs.RayLemmas.{length-rays_of, ray_read}
 use Rattle.ray_steps.proofs.SignLemmas.{signs_push}
 use Rattle.ray_steps.proofs.signs.signs_at.Goals as goal
 
 pub returns-in-Err-clause-err : goal.returns-in-Err-clause-err
 returns-in-Err-clause-err c =
-    let kepts = c.args.kepts.now in
+    let ray_list = c.args.ray_list.now in
     let i = c.loop-kept.kept-index in
-    let rays = rays_of kepts in
-    let read = ray_read kepts i c.kept-item.result c.loop-kept-test.true c.kept-item.is in
-    let n = length-rays_of kepts in
+    let rays = rays_of ray_list in
+    let read = ray_read ray_list i c.kept-item.result c.loop-kept-test.true c.kept-item.is in
+    let n = length-rays_of ray_list in
     record {
       place = i;
       in_range = omega arith;
@@ -25,11 +25,11 @@ returns-in-Err-clause-err c =
 
 pub loop-kept-preserved : goal.loop-kept-preserved
 loop-kept-preserved c =
-    let kepts = c.args.kepts.now in
+    let ray_list = c.args.ray_list.now in
     let i = c.loop-kept.kept-index in
-    let rays = rays_of kepts in
-    let read = ray_read kepts i c.kept-item.result c.loop-kept-test.true c.kept-item.is in
-    let n = length-rays_of kepts in
+    let rays = rays_of ray_list in
+    let read = ray_read ray_list i c.kept-item.result c.loop-kept-test.true c.kept-item.is in
+    let n = length-rays_of ray_list in
     rw c.in_ok-push-in-Ok.ensures.items
     (signs_push c.args.limit c.args.row.now rays c.loop-kept.signs.items c.in-Ok.sign i (omega arith) c.loop-kept.invariant
     (subst (λ x. IsSignAt c.args.row.now x c.in-Ok.sign) (sym read) c.in-Ok.ensures.sign)

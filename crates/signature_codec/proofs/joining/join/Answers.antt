@@ -4,7 +4,7 @@ use Rattle.std.proofs.lemmas.Result.{err_from_is_err_and}
 use Rattle.table_definitions.specs.Table.{Row}
 use Rattle.signature_definitions.specs.declared.SigFault.{SigFault}
 use Rattle.signature_text_laws.specs.Faults.{Fails}
-use Rattle.signature_codec.specs.Shown.{parts_shown, slots_shown}
+use Rattle.signature_codec.specs.Views.{parts_view, slots_view}
 use Rattle.signature_text_laws.specs.Slots.{slot_rows}
 use Rattle.signature_text_laws.proofs.ReadLaws.{fails_on, next_ok}
 use Rattle.signature_text_laws.proofs.Simulation.{slots_join}
@@ -16,13 +16,13 @@ returns-in_err-state c =
     let e = c.in_err-state.field-0.0 in
     let P : Result (List Row) SigFault → Type 0 = λ q. Fails e q in
     let n = c.args.parts.now.count in
-    rw (p.1, p.2) (subst P (slots_join n (parts_shown c.args.parts.now) c.requires) (fails_on e _ (λ s. Ok (slot_rows n s.met)) c.in_err-state.ensures.joins))
+    rw (p.1, p.2) (subst P (slots_join n (parts_view c.args.parts.now) c.requires) (fails_on e _ (λ s. Ok (slot_rows n s.met)) c.in_err-state.ensures.joins))
 
 pub returns : goal.returns
 returns c =
     let n = c.args.parts.now.count in
-    let a = slots_join n (parts_shown c.args.parts.now) c.requires in
-    let b = next_ok _ (slots_shown c.args.parts.now c.in_ok-state.state) (λ s. Ok (slot_rows n s.met)) c.in_ok-state.ensures.joins in
+    let a = slots_join n (parts_view c.args.parts.now) c.requires in
+    let b = next_ok _ (slots_view c.args.parts.now c.in_ok-state.state) (λ s. Ok (slot_rows n s.met)) c.in_ok-state.ensures.joins in
     let r = c.in_ok-rows.ensures in
     let v = c.deref.ensures.value in
     sym a ∙ b ∙ ap (λ met. Ok (slot_rows n met)) (sym v) ∙ ap Ok (sym r)

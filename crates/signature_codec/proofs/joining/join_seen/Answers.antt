@@ -6,7 +6,7 @@ use Rattle.std.proofs.lemmas.List.{drop-drop, with_items_is}
 use Rattle.table_definitions.specs.Table.{Face, same_face}
 use Rattle.signature_definitions.specs.SignatureText as signatures
 use Rattle.signature_text_laws.specs.Slots.{slot, meet_at}
-use Rattle.signature_codec.specs.Shown.{slots_shown}
+use Rattle.signature_codec.specs.Views.{slots_view}
 use Rattle.signature_codec.proofs.SeenJoined.{too_far, face_taken, face_met, some_left, first_small, or_next, has_row, has_place}
 use Rattle.signature_codec.proofs.joining.join_seen.Goals as goal
 use Rattle.signature_codec.proofs.joining.join_seen.Goals.{then-same_face-via-then-same_face, then-same_face-via-else-same_face+then-is_some}
@@ -20,7 +20,7 @@ pair_at-index-requires c = let u = c.args.state.now.seen_used in rw c.deref-2.en
 pub returns-then-tet-state : goal.returns-then-tet-state
 returns-then-tet-state c =
     let u = c.args.state.now.seen_used in
-    λ other. too_far c.args.face (slots_shown c.args.parts.now c.args.state.now) c.pair_at-tet.result c.pair_at-index.result
+    λ other. too_far c.args.face (slots_view c.args.parts.now c.args.state.now) c.pair_at-tet.result c.pair_at-index.result
     (c.pair_at-tet.ensures ∙ ap (λ xs. signatures.first_pair (drop u xs)) c.deref.ensures.value)
     (c.pair_at-index.ensures ∙ ap (λ xs. signatures.first_pair (drop u xs)) c.deref-2.ensures.value)
     c.if-tet-state.true
@@ -34,7 +34,7 @@ perm_at-requires c =
 pub slot-requires-clause-in_range : goal.slot-requires-clause-in_range
 slot-requires-clause-in_range c =
     let near : c.other_side-other.result.tet < c.args.state.now.seen = subst (λ (x : Face). x.tet < c.args.state.now.seen) (sym c.other_side-other.ensures.value) c.if-tet-state.false in
-    rw c.deref-else-same_face.ensures.value (has_place c.args.parts.now.count c.other_side-other.result (slots_shown c.args.parts.now c.args.state.now) c.requires.taking c.other_side-other.ensures.in_range near)
+    rw c.deref-else-same_face.ensures.value (has_place c.args.parts.now.count c.other_side-other.result (slots_view c.args.parts.now c.args.state.now) c.requires.taking c.other_side-other.ensures.in_range near)
 
 pub returns-then-same_face : goal.returns-then-same_face
 returns-then-same_face c =
@@ -47,16 +47,16 @@ returns-then-same_face c =
       | then-same_face-via-else-same_face+then-is_some w ↦ or_next (same_face other x) (is_some (slot met other)) true (sym c.same_face.ensures ∙ w.if-same_face.false)
           (sym (w.is_some.ensures ∙ ap is_some (w.slot.ensures ∙ ap (λ m. slot m other) w.deref-else-same_face.ensures.value)) ∙ w.if-is_some.true)
     ] in
-    λ no_want. face_taken x (slots_shown c.args.parts.now c.args.state.now) c.pair_at-tet.result c.pair_at-index.result
+    λ no_want. face_taken x (slots_view c.args.parts.now c.args.state.now) c.pair_at-tet.result c.pair_at-index.result
     (c.pair_at-tet.ensures ∙ ap (λ xs. signatures.first_pair (drop u xs)) c.deref.ensures.value)
     (c.pair_at-index.ensures ∙ ap (λ xs. signatures.first_pair (drop u xs)) c.deref-2.ensures.value)
     c.if-tet-state.false c.perm_at.result other c.perm_at.ensures c.other_side-other.ensures.value taken
 
 pub meet-requires-clause-here : goal.meet-requires-clause-here
-meet-requires-clause-here c = rw c.deref_mut.ensures.value (has_place c.args.parts.now.count c.args.face (slots_shown c.args.parts.now c.args.state.now) c.requires.taking c.requires.a_face c.requires.seen)
+meet-requires-clause-here c = rw c.deref_mut.ensures.value (has_place c.args.parts.now.count c.args.face (slots_view c.args.parts.now c.args.state.now) c.requires.taking c.requires.a_face c.requires.seen)
 
 pub meet-requires-clause-there : goal.meet-requires-clause-there
-meet-requires-clause-there c = rw c.deref_mut.ensures.value (has_row c.args.parts.now.count c.pair_at-tet.result.0 (slots_shown c.args.parts.now c.args.state.now) c.requires.taking c.if-tet-state.false)
+meet-requires-clause-there c = rw c.deref_mut.ensures.value (has_row c.args.parts.now.count c.pair_at-tet.result.0 (slots_view c.args.parts.now c.args.state.now) c.requires.taking c.if-tet-state.false)
 
 pub returns : goal.returns
 returns c =
@@ -68,7 +68,7 @@ returns c =
     (sym (c.is_some.ensures ∙ ap is_some (c.slot.ensures ∙ ap (λ m. slot m other) c.deref-else-same_face.ensures.value)) ∙ c.if-is_some.false) in
     let written : (with_items c.args.state.now.met c.meet.new.met).items ≡ c.meet.new.met = with_items_is c.args.state.now.met c.meet.new.met (c.meet.auto.met ∙ c.deref_mut.ensures.len) in
     rw (written, ← drop-drop 1 u c.args.parts.now.destinations.items, ← drop-drop 1 u c.args.parts.now.gluings.items)
-    (face_met x (slots_shown c.args.parts.now c.args.state.now) c.pair_at-tet.result c.pair_at-index.result
+    (face_met x (slots_view c.args.parts.now c.args.state.now) c.pair_at-tet.result c.pair_at-index.result
     (c.pair_at-tet.ensures ∙ ap (λ xs. signatures.first_pair (drop u xs)) c.deref.ensures.value)
     (c.pair_at-index.ensures ∙ ap (λ xs. signatures.first_pair (drop u xs)) c.deref-2.ensures.value)
     c.if-tet-state.false c.perm_at.result other c.perm_at.ensures c.other_side-other.ensures.value c.meet.new.met free

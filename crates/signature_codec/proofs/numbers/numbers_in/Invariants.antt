@@ -1,6 +1,6 @@
 use Rattle.std.proofs.Common.{◌≡◌, ◌≤◌, ◌+◌, ◌*◌, ◌-◌, length}
 use Rattle.signature_definitions.specs.SignatureText as signatures
-use Rattle.signature_codec.specs.Shown.{fault_of_segment}
+use Rattle.signature_codec.specs.Views.{fault_of_segment}
 use Rattle.signature_text_laws.proofs.ReadLaws.{fronted}
 use Rattle.signature_codec.proofs.numbers.numbers_in.Given as goal
 

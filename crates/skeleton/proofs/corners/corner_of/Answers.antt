@@ -1,5 +1,5 @@
 use Rattle.std.proofs.Common.{◌/◌}
-use Rattle.class_laws.proofs.RoundLemmas.{corner_at-is}
+use Rattle.skeleton_class_laws.proofs.RoundLemmas.{corner_at-is}
 use Rattle.std.proofs.Common.{◌∙◌}
 use Rattle.skeleton.proofs.corners.corner_of.Goals as goal
 

@@ -1,7 +1,7 @@
 -- One corner more, and all of them.
 use Rattle.std.proofs.Common.{[], ◌∷◌, ◌++◌, map, sym, ap, ◌∙◌, take_all}
 use Rattle.std.proofs.lemmas.List.{map_more}
-use Rattle.class_laws.specs.Rounds.{corner_at}
+use Rattle.skeleton_class_laws.specs.Rounds.{corner_at}
 use Rattle.skeleton.proofs.corners.corners_of.Goals as goal
 
 pub loop-place-preserved : goal.loop-place-preserved

@@ -1,5 +1,5 @@
 use Rattle.std.proofs.Common.{◌≡◌, map, take}
-use Rattle.class_laws.specs.Rounds.{corner_at}
+use Rattle.skeleton_class_laws.specs.Rounds.{corner_at}
 use Rattle.skeleton.proofs.corners.corners_of.Given as goal
 
 abbrev pub invariant-loop-place : goal.invariant-loop-place

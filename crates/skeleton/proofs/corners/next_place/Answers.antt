@@ -1,7 +1,7 @@
 use Rattle.std.proofs.Common.{◌≡◌, sym, ap, ◌∙◌, subst, List, ℕ, ◌/◌, None}
 use Rattle.table_definitions.specs.Permutation.{image, compose}
 use Rattle.table_definitions.specs.Table.{Gluing, glue}
-use Rattle.class_laws.proofs.RoundLemmas.{next_corner-free, next_corner-by}
+use Rattle.skeleton_class_laws.proofs.RoundLemmas.{next_corner-free, next_corner-by}
 use Rattle.skeleton.proofs.corners.next_place.Goals as goal
 
 pub returns-in_default : goal.returns-in_default

@@ -1,6 +1,6 @@
 use Rattle.std.proofs.Common.{◌≤◌, ◌*◌, inl, inr, length, sym, ◌∙◌, arith}
 use Rattle.std.proofs.lemmas.Bool.{cases_lt}
-use Rattle.class_laws.proofs.RoundLemmas.{none_past, no_next}
+use Rattle.skeleton_class_laws.proofs.RoundLemmas.{none_past, no_next}
 use Rattle.skeleton.proofs.corners.next_places.Goals as goal
 
 pub returns-clause-steps : goal.returns-clause-steps

@@ -1,6 +1,6 @@
 use Rattle.std.proofs.Common.{◌≡◌, ◌<◌, ℕ, length}
-use Rattle.walk_laws.specs.Walks.{step_of}
-use Rattle.class_laws.specs.Rounds.{next_corner}
+use Rattle.table_walk_laws.specs.Walks.{step_of}
+use Rattle.skeleton_class_laws.specs.Rounds.{next_corner}
 use Rattle.skeleton.proofs.corners.next_places.Given as goal
 
 abbrev pub invariant-loop-place : goal.invariant-loop-place

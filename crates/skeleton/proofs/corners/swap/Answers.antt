@@ -1,6 +1,6 @@
 use Rattle.std.proofs.Common.{◌≡◌, true, false, refl}
 use Rattle.table_definitions.specs.Permutation.{is_permutation}
-use Rattle.class_laws.specs.Rounds.{swap}
+use Rattle.skeleton_class_laws.specs.Rounds.{swap}
 use Rattle.skeleton.proofs.corners.swap.Goals as goal
 
 swap_permutes : is_permutation swap ≡ true

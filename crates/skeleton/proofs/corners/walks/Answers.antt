@@ -1,6 +1,6 @@
 use Rattle.std.proofs.Common.{List, Option, ℕ, length, sym, subst}
-use Rattle.walk_laws.specs.Walks.{IsInjectiveBelow, step_of}
-use Rattle.class_laws.proofs.RoundLemmas.{table_injective}
+use Rattle.table_walk_laws.specs.Walks.{IsInjectiveBelow, step_of}
+use Rattle.skeleton_class_laws.proofs.RoundLemmas.{table_injective}
 use Rattle.skeleton.proofs.corners.walks.Goals as goal
 
 pub walk_unless-requires-clause-injective : goal.walk_unless-requires-clause-injective

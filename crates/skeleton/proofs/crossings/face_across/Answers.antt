@@ -1,6 +1,6 @@
 use Rattle.std.proofs.Common.{sym, ap, ◌∙◌}
 use Rattle.std.proofs.lemmas.Bool.{ne_eqb}
-use Rattle.class_laws.proofs.CrossingLemmas.{crossed_face-other, crossed_face-free, crossed_face-is}
+use Rattle.skeleton_class_laws.proofs.CrossingLemmas.{crossed_face-other, crossed_face-free, crossed_face-is}
 use Rattle.table_definitions.specs.Table.{Face}
 use Rattle.skeleton.proofs.crossings.face_across.Goals as goal
 

@@ -1,6 +1,6 @@
 use Rattle.std.proofs.Common.{◌%◌, sym, ap, ◌∙◌}
 use Rattle.std.proofs.lemmas.Bool.{eq-eqb, ne_eqb}
-use Rattle.class_laws.proofs.CrossingLemmas.{crossed_vertex-own, crossed_vertex-free, crossed_vertex-is}
+use Rattle.skeleton_class_laws.proofs.CrossingLemmas.{crossed_vertex-own, crossed_vertex-free, crossed_vertex-is}
 use Rattle.table_definitions.specs.Permutation.{image}
 use Rattle.table_definitions.specs.Table.{Gluing}
 use Rattle.skeleton.proofs.crossings.vertex_across.Goals as goal

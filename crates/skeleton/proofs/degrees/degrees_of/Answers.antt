@@ -4,7 +4,7 @@ use Rattle.std.proofs.lemmas.List.Sums.{count_by-le-length}
 use Rattle.std.specs.Prelude.{◌==◌}
 use Rattle.table_definitions.specs.Lists.{times_in}
 use Rattle.skeleton.proofs.MarkLemmas.{degree_grows}
-use Rattle.class_laws.proofs.Marks.{all_zero}
+use Rattle.skeleton_class_laws.proofs.Marks.{all_zero}
 use Rattle.skeleton.proofs.degrees.degrees_of.Goals as goal
 
 pub loop-class-init : goal.loop-class-init

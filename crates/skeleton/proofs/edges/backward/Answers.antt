@@ -1,6 +1,6 @@
 use Rattle.std.proofs.Common.{◌+◌, ◌*◌, ◌/◌, ℕ, List, ap, ◌∙◌, sym, slice_index}
-use Rattle.class_laws.specs.Crossings.{pair_number}
-use Rattle.class_laws.specs.Directions.{backward}
+use Rattle.skeleton_class_laws.specs.Crossings.{pair_number}
+use Rattle.skeleton_class_laws.specs.Directions.{backward}
 use Rattle.skeleton.proofs.edges.backward.Goals as goal
 
 pub returns : goal.returns

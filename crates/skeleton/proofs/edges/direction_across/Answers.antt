@@ -2,8 +2,8 @@ use Rattle.std.proofs.Common.{◌≡◌, ◌/◌, sym, ap, ◌∙◌}
 use Rattle.std.proofs.lemmas.Bool.{eq-eqb, ne_eqb}
 use Rattle.table_definitions.specs.Permutation.{image}
 use Rattle.table_definitions.specs.Table.{Gluing}
-use Rattle.class_laws.specs.Crossings.{pair_number}
-use Rattle.class_laws.proofs.CrossingLemmas.{across-first, across-second, across-free, across-glued, crossed_direction-by, number_is}
+use Rattle.skeleton_class_laws.specs.Crossings.{pair_number}
+use Rattle.skeleton_class_laws.proofs.CrossingLemmas.{across-first, across-second, across-free, across-glued, crossed_direction-by, number_is}
 use Rattle.skeleton.proofs.edges.direction_across.Goals as goal
 
 pub returns-then-from-face : goal.returns-then-from-face

@@ -3,7 +3,7 @@ use Rattle.std.proofs.lemmas.Bool.{eq-eqb, ne_eqb}
 use Rattle.table_definitions.specs.Permutation.{image}
 use Rattle.table_definitions.specs.Table.{Gluing}
 use Rattle.table_definitions.specs.Places.{edge_number}
-use Rattle.class_laws.proofs.CrossingLemmas.{across-first, across-second, across-free, across-glued, crossed_edge-by, number_is}
+use Rattle.skeleton_class_laws.proofs.CrossingLemmas.{across-first, across-second, across-free, across-glued, crossed_edge-by, number_is}
 use Rattle.skeleton.proofs.edges.edge_across.Goals as goal
 
 pub returns-then-lower-face : goal.returns-then-lower-face

@@ -1,6 +1,6 @@
 use Rattle.std.proofs.Common.{◌+◌, ◌*◌, ◌/◌, ℕ, List, ap, ◌∙◌, sym, slice_index}
-use Rattle.class_laws.specs.Crossings.{pair_number}
-use Rattle.class_laws.specs.Directions.{forward}
+use Rattle.skeleton_class_laws.specs.Crossings.{pair_number}
+use Rattle.skeleton_class_laws.specs.Directions.{forward}
 use Rattle.skeleton.proofs.edges.forward.Goals as goal
 
 pub returns : goal.returns

@@ -1,4 +1,4 @@
-use Rattle.class_laws.proofs.Cases.{numbers_are}
+use Rattle.skeleton_class_laws.proofs.Cases.{numbers_are}
 use Rattle.skeleton.proofs.edges.number_of_edge.Goals as goal
 
 pub returns : goal.returns

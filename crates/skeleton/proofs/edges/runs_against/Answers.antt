@@ -1,5 +1,5 @@
 use Rattle.std.specs.Prelude.{◌==◌, slice_index}
-use Rattle.class_laws.specs.Directions.{runs_against}
+use Rattle.skeleton_class_laws.specs.Directions.{runs_against}
 use Rattle.skeleton.proofs.edges.runs_against.Goals as goal
 
 pub returns : goal.returns

@@ -1,7 +1,7 @@
 use Rattle.std.proofs.Common.{◌≡◌, ◌*◌, length, subst, arith}
-use Rattle.class_laws.specs.Neighbours.{AreNeighbours}
-use Rattle.class_laws.specs.Numberings.{crossing, per_tet}
-use Rattle.class_laws.proofs.NeighbourLemmas.{none_yet, one_more_row}
+use Rattle.skeleton_class_laws.specs.Neighbours.{AreNeighbours}
+use Rattle.skeleton_class_laws.specs.Numberings.{crossing, per_tet}
+use Rattle.skeleton_class_laws.proofs.NeighbourLemmas.{none_yet, one_more_row}
 use Rattle.skeleton.proofs.neighbours.neighbours.Goals as goal
 
 pub loop-place-init : goal.loop-place-init

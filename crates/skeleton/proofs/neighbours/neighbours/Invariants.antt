@@ -1,5 +1,5 @@
-use Rattle.class_laws.specs.Neighbours.{AreNeighbours}
-use Rattle.class_laws.specs.Numberings.{crossing}
+use Rattle.skeleton_class_laws.specs.Neighbours.{AreNeighbours}
+use Rattle.skeleton_class_laws.specs.Numberings.{crossing}
 use Rattle.skeleton.proofs.neighbours.neighbours.Given as goal
 
 abbrev pub invariant-loop-place : goal.invariant-loop-place

@@ -1,11 +1,11 @@
 use Rattle.std.proofs.Common.{◌≡◌, ◌*◌, ℕ, List, Option, length, sym, subst, arith}
-use Rattle.walk_laws.specs.Joined.{IsJoined, IsSymmetric, HasNeighboursBelow, neighbours_of}
+use Rattle.table_walk_laws.specs.Joined.{IsJoined, IsSymmetric, HasNeighboursBelow, neighbours_of}
 use Rattle.table_definitions.specs.Classes.{IsNumbering}
-use Rattle.class_laws.specs.Neighbours.{AreNeighbours}
-use Rattle.class_laws.specs.Numberings.{per_tet, crossing, same, IsOrdered, AreFirsts}
-use Rattle.class_laws.proofs.NeighbourLemmas.{has_neighbours_below, is_symmetric}
-use Rattle.class_laws.proofs.NumberingLemmas.{numbering_from}
-use Rattle.class_laws.proofs.ClassTies.{each_reversible, joined_is_same}
+use Rattle.skeleton_class_laws.specs.Neighbours.{AreNeighbours}
+use Rattle.skeleton_class_laws.specs.Numberings.{per_tet, crossing, same, IsOrdered, AreFirsts}
+use Rattle.skeleton_class_laws.proofs.NeighbourLemmas.{has_neighbours_below, is_symmetric}
+use Rattle.skeleton_class_laws.proofs.NumberingLemmas.{numbering_from}
+use Rattle.skeleton_class_laws.proofs.ClassTies.{each_reversible, joined_is_same}
 use Rattle.skeleton.proofs.numbering.classes_of.Goals as goal
 
 pub classes-requires : goal.classes-requires

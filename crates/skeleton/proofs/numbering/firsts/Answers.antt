@@ -1,5 +1,5 @@
 use Rattle.std.proofs.Common.{◌≡◌, ℕ, List, Vec, Global, length, ap, sym, arith, ◌∙◌, ◌++◌, ◌∷◌, [], length-append}
-use Rattle.class_laws.proofs.NumberingLemmas.{none_first, first_passes, first_grows, firsts_end}
+use Rattle.skeleton_class_laws.proofs.NumberingLemmas.{none_first, first_passes, first_grows, firsts_end}
 use Rattle.skeleton.proofs.numbering.firsts.Goals as goal
 use Rattle.skeleton.proofs.numbering.firsts.Goals.{then-classes-place+in_ok-push, else-classes-place}
 

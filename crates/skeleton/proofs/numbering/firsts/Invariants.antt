@@ -1,5 +1,5 @@
 use Rattle.std.proofs.Common.{◌≤◌, length}
-use Rattle.class_laws.specs.Numberings.{AreFirstsUpTo}
+use Rattle.skeleton_class_laws.specs.Numberings.{AreFirstsUpTo}
 use Rattle.skeleton.proofs.numbering.firsts.Given as goal
 
 abbrev pub invariant-loop-place : goal.invariant-loop-place

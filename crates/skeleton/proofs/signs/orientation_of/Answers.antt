@@ -1,6 +1,6 @@
 use Rattle.std.proofs.Common.{◌≡◌, ◌≢◌, ◌+◌, ◌*◌, ◌<◌, ℕ, List, length, slice_index, subst₂}
-use Rattle.class_laws.specs.Signs.{AreSignsBy}
-use Rattle.class_laws.proofs.SignLemmas.{oriented, not_orientable}
+use Rattle.skeleton_class_laws.specs.Signs.{AreSignsBy}
+use Rattle.skeleton_class_laws.proofs.SignLemmas.{oriented, not_orientable}
 use Rattle.skeleton.proofs.signs.orientation_of.Goals as goal
 
 abbrev AreApart : List ℕ → ℕ → Type 0

@@ -1,7 +1,7 @@
 use Rattle.std.proofs.Common.{sym, ap, refl, ◌∙◌}
 use Rattle.table_definitions.specs.Permutation.{is_odd}
 use Rattle.table_definitions.specs.Table.{Gluing}
-use Rattle.class_laws.proofs.SignTies.{crossed_sign-by, crossed_sign-free}
+use Rattle.skeleton_class_laws.proofs.SignTies.{crossed_sign-by, crossed_sign-free}
 use Rattle.skeleton.proofs.signs.sign_across.Goals as goal
 
 pub returns-in_default : goal.returns-in_default

@@ -1,4 +1,4 @@
-use Rattle.class_laws.specs.Signs.{AreSignsBy}
+use Rattle.skeleton_class_laws.specs.Signs.{AreSignsBy}
 use Rattle.skeleton.proofs.signs.signs_by.Given as goal
 
 abbrev pub invariant-loop-tet : goal.invariant-loop-tet

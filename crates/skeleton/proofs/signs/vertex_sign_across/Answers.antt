@@ -2,7 +2,7 @@ use Rattle.std.proofs.Common.{◌/◌, ◌%◌, sym, ap, refl, ◌∙◌}
 use Rattle.std.proofs.lemmas.Bool.{eq-eqb, ne_eqb}
 use Rattle.table_definitions.specs.Permutation.{image, is_odd}
 use Rattle.table_definitions.specs.Table.{Gluing}
-use Rattle.class_laws.proofs.VertexSignTies.{crossed_vertex_sign-by, crossed_vertex_sign-own, crossed_vertex_sign-free}
+use Rattle.skeleton_class_laws.proofs.VertexSignTies.{crossed_vertex_sign-by, crossed_vertex_sign-own, crossed_vertex_sign-free}
 use Rattle.skeleton.proofs.signs.vertex_sign_across.Goals as goal
 
 pub returns-then-v-face : goal.returns-then-v-face

@@ -2,7 +2,7 @@
 use Rattle.std.proofs.Common.{◌++◌, subst, sym}
 use Rattle.std.specs.Prelude.{Contains}
 use Rattle.std.specs.List.{All}
-use Rattle.row_operation_laws.specs.Solutions.{HaveSameZeros}
+use Rattle.cone_row_laws.specs.Solutions.{HaveSameZeros}
 use Rattle.solved_rows.proofs.blocks.distinct_rows.Goals as goal
 
 pub returns-clause-same : goal.returns-clause-same

@@ -2,7 +2,7 @@
 use Rattle.std.proofs.Common.{subst, sym, ◌∙◌}
 use Rattle.std.proofs.lemmas.Int.{to_z-of_z}
 use Rattle.cone_core.specs.Sparse.{IsInRange}
-use Rattle.row_operation_laws.specs.Operations.{IsSumWith}
+use Rattle.cone_row_laws.specs.Operations.{IsSumWith}
 use Rattle.solved_rows.proofs.merge.add_multiple.Goals as goal
 
 pub returns-clause-sum : goal.returns-clause-sum

@@ -4,7 +4,7 @@ use Rattle.table_definitions.specs.Table.{Row, IsTable}
 use Rattle.move_laws.proofs.Played.{all_led_table}
 use Rattle.certificate_definitions.specs.Answers.{IsChecked}
 use Rattle.sphere_certificate.specs.Checks.{told}
-use Rattle.sphere_certificate.proofs.Told.{checked_from, fault_or_certificate, fault_goes}
+use Rattle.sphere_certificate.proofs.CheckAnswers.{checked_from, fault_or_certificate, fault_goes}
 use Rattle.sphere_certificate.proofs.checking.check.Goals as goal
 
 pub judge-requires : goal.judge-requires

@@ -2,7 +2,7 @@
 use Rattle.std.proofs.Common.{[], ◌∷◌, sym, ◌∙◌, arith}
 use Rattle.std.proofs.lemmas.Result.{err_from_is_err_and}
 use Rattle.std.proofs.lemmas.List.{map-append}
-use Rattle.document_definitions.specs.Blocks.{block_at}
+use Rattle.text_document_definitions.specs.Blocks.{block_at}
 use Rattle.table_definitions.proofs.TableReadingLaws.{lexed_ok}
 use Rattle.table_definitions.proofs.TableFoundLaws.{lexed_with}
 use Rattle.sum_commands.specs.Blocks.{block_of, blocks_of}

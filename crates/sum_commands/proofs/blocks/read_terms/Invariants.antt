@@ -1,6 +1,6 @@
 -- The terms so far, before those that are left, are what all of them are.
 use Rattle.std.proofs.Common.{◌≡◌, ◌-◌}
-use Rattle.document_definitions.specs.Blocks.{terms_at}
+use Rattle.text_document_definitions.specs.Blocks.{terms_at}
 use Rattle.ray_decompose.specs.Sums.{terms_of}
 use Rattle.command_answers.proofs.EachLine.{with_fronts}
 use Rattle.sum_commands.proofs.blocks.read_terms.Given as goal

@@ -2,7 +2,7 @@
 use Rattle.std.proofs.Common.{Ok, Err, sym, subst}
 use Rattle.outcome_definitions.specs.Sums.{IsVerdict}
 use Rattle.sum_commands.proofs.Walks.{first_stopped, one_more, all_seen}
-use Rattle.sum_commands.proofs.SumsTold.{entries}
+use Rattle.sum_commands.proofs.SumAnswers.{entries}
 use Rattle.sum_commands.proofs.checks.check_vectors.Goals as goal
 
 pub returns-in-Err : goal.returns-in-Err

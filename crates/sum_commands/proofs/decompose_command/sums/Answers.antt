@@ -7,7 +7,7 @@ use Rattle.sum_definitions.specs.declared.LargeTurn.{LargeTurn}
 use Rattle.sum_definitions.specs.Sums.{HasRays}
 use Rattle.sum_commands.specs.Telling.{TellsSum}
 use Rattle.sum_commands.proofs.Walks.{seen_at}
-use Rattle.sum_commands.proofs.SumsTold.{entries, next_summed, large_told}
+use Rattle.sum_commands.proofs.SumAnswers.{entries, next_summed, large_told}
 use Rattle.sum_commands.proofs.decompose_command.sums.Goals as goal
 
 pub append_sum-requires-clause-rays : goal.append_sum-requires-clause-rays

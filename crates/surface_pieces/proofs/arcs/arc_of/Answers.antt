@@ -47,14 +47,14 @@ returns-clause-some c =
     side : c.keeps_by_zero-by_zero.result ≡ keeps_by_zero (type_in c.args.coords c.behind-further.result) c.args.vertex
     side = c.keeps_by_zero-by_zero.ensures ∙ ap (λ k. keeps_by_zero k c.args.vertex) c.type_of.ensures.value
 
-    counted : c.counted-place.result ≡ (if keeps_by_zero (type_in c.args.coords c.behind-further.result) c.args.vertex then c.args.piece.number else slice_index c.args.x.now c.behind-further.result - 1 - c.args.piece.number)
-    counted = c.counted-place.ensures ∙ (λ i. if side i then number i else slice_index c.args.x.now c.behind-further.result - 1 - number i)
+    counted : c.number_from_end-place.result ≡ (if keeps_by_zero (type_in c.args.coords c.behind-further.result) c.args.vertex then c.args.piece.number else slice_index c.args.x.now c.behind-further.result - 1 - c.args.piece.number)
+    counted = c.number_from_end-place.ensures ∙ (λ i. if side i then number i else slice_index c.args.x.now c.behind-further.result - 1 - number i)
 
     meant : ℕ
     meant = further_column c.args.coords c.args.x.now (arc_at c.tet_of-tet.result c.args.face c.args.vertex 0)
 
     -- the same by the column that is meant
-    place : c.triangles.result + c.counted-place.result ≡ slice_index c.args.x.now (tri_column c.args.coords c.tet_of-tet.result c.args.vertex)
+    place : c.triangles.result + c.number_from_end-place.result ≡ slice_index c.args.x.now (tri_column c.args.coords c.tet_of-tet.result c.args.vertex)
         + (if keeps_by_zero (type_in c.args.coords meant) c.args.vertex then c.args.piece.number else slice_index c.args.x.now meant - 1 - c.args.piece.number)
     place = (λ i. c.triangles.ensures i + counted i)
         ∙ ap (λ d. slice_index c.args.x.now (tri_column c.args.coords c.tet_of-tet.result c.args.vertex) + (if keeps_by_zero (type_in c.args.coords d) c.args.vertex then c.args.piece.number else slice_index c.args.x.now d - 1 - c.args.piece.number))

@@ -1,6 +1,6 @@
 -- Signs by the classes of pieces with signs.
 use Rattle.std.proofs.Common.{ℕ, ◌*◌, ◌<◌, ◌↔◌, List, Option, length, ap, sym, subst, arith}
-use Rattle.walk_laws.specs.Joined.{IsJoined, HasNeighboursBelow, IsSymmetric, neighbours_of}
+use Rattle.table_walk_laws.specs.Joined.{IsJoined, HasNeighboursBelow, IsSymmetric, neighbours_of}
 use Rattle.table_definitions.specs.Classes.{IsNumbering}
 use Rattle.surface_definitions.specs.Pieces.{pieces_of, HasSigns}
 use Rattle.surface_pieces.specs.Searches.{stays_at, IsFree}

@@ -1,6 +1,6 @@
 -- The vectors so far.
 use Rattle.std.proofs.Common.{◌≡◌, replicate}
-use Rattle.vector_definitions.specs.Held.{all_entries}
+use Rattle.surface_vector_definitions.specs.Entries.{all_entries}
 use Rattle.surface_pieces.proofs.vectors.zeros.Given as goal
 
 abbrev pub invariant-loop-made : goal.invariant-loop-made

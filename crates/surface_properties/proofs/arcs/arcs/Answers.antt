@@ -15,8 +15,8 @@ pub loop-tet-preserved : goal.loop-tet-preserved
 loop-tet-preserved c =
     c.add-total.ensures
     ∙ capped_more (counted_in c.args.table.now c.args.coords c.args.x.now) c.loop-tet.tet c.loop-tet.total c.add-four.result c.loop-tet.invariant
-    (c.add-four.ensures ∙ capped_four (count 0) (count 1) (count 2) (count 3) c.counted-one.result c.counted.result c.counted-in-loop-tet.result c.counted-in-loop-tet-2.result c.add-two.result c.add-three.result
-    c.counted-one.ensures c.counted.ensures c.counted-in-loop-tet.ensures c.counted-in-loop-tet-2.ensures c.add-two.ensures c.add-three.ensures)
+    (c.add-four.ensures ∙ capped_four (count 0) (count 1) (count 2) (count 3) c.arcs_if_first-one.result c.arcs_if_first.result c.arcs_if_first-in-loop-tet.result c.arcs_if_first-in-loop-tet-2.result c.add-two.result c.add-three.result
+    c.arcs_if_first-one.ensures c.arcs_if_first.ensures c.arcs_if_first-in-loop-tet.ensures c.arcs_if_first-in-loop-tet-2.ensures c.add-two.ensures c.add-three.ensures)
   where
     count : ℕ → ℕ
     count f = counted c.args.table.now c.args.coords c.args.x.now (record { tet = c.loop-tet.tet; face = f })

@@ -1,7 +1,7 @@
 -- The tables so far with those that are left are those of the input, and there are no more than lines.
 use Rattle.std.proofs.Common.{◌≡◌, ◌+◌, ◌≤◌, List, length}
 use Rattle.table_definitions.specs.Table.{Row}
-use Rattle.document_definitions.specs.Documents.{tables_from}
+use Rattle.text_document_definitions.specs.Documents.{tables_from}
 use Rattle.table_commands.specs.Groups.{AreGrouped}
 use Rattle.table_commands.proofs.EachTable.{with_tables}
 use Rattle.table_commands.proofs.groups.read_groups.Given as goal

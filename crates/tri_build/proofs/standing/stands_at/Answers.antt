@@ -8,6 +8,6 @@ pub facet_stands-requires-clause-can : goal.facet_stands-requires-clause-can
 facet_stands-requires-clause-can c =
     as_found c.args.step.now c.args.back.now c.args.on.now c.args.tet c.deref.result.now (Some c.in-Some.facet) (c.deref.ensures.0 ∙ ap (λ (s : PlayedMove). s.facets) c.step.view_is) c.in-Some.ensures c.requires.can
 
-pub kept_stands-requires : goal.kept_stands-requires
-kept_stands-requires c =
+pub retained_stands-requires : goal.retained_stands-requires
+retained_stands-requires c =
     as_found c.args.step.now c.args.back.now c.args.on.now c.args.tet c.deref.result.now None (c.deref.ensures.0 ∙ ap (λ (s : PlayedMove). s.facets) c.step.view_is) c.in-None.ensures c.requires.can

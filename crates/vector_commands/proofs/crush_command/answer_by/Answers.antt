@@ -5,9 +5,9 @@ use Rattle.vector_commands.proofs.CrushAnswers.{crushed_told, unfit_told}
 use Rattle.vector_commands.proofs.crush_command.answer_by.Goals as goal
 
 pub returns-in-Ok : goal.returns-in-Ok
-returns-in-Ok c = IfOk-weaker c.crushed.result _ _
+returns-in-Ok c = IfOk-weaker c.outcome_of.result _ _
     (λ o h. crushed_told c.args.table.now c.args.system.now.rows c.args.x.now o c.requires.equations (sym c.in-Ok.ensures.verdict) h)
-    c.crushed.ensures
+    c.outcome_of.ensures
 
 pub returns-in-Err : goal.returns-in-Err
 returns-in-Err c = IfOk-weaker c.refusal_outcome.result _ _

@@ -11,6 +11,6 @@ returns-in-Some c = IfOk-weaker c.invalid_edge_outcome.result _ _
     c.invalid_edge_outcome.ensures
 
 pub returns-in-None : goal.returns-in-None
-returns-in-None c = IfOk-weaker c.describe_valid.result _ _
+returns-in-None c = IfOk-weaker c.describe_where_valid.result _ _
     (λ o d. valid_told c.args.skeleton.now c.args.coords c.args.skeleton.now.rows (all_entries c.args.vectors.now) o refl c.requires.skeleton c.in-None.ensures d)
-    c.describe_valid.ensures
+    c.describe_where_valid.ensures

@@ -1,10 +1,10 @@
 -- The vectors are described, or the first that is refused is told.
 use Rattle.std.proofs.Common.{Err, subst}
 use Rattle.no_memory.specs.declared.Failure.{Failure}
-use Rattle.vector_definitions.specs.Answers.{IsDescription}
-use Rattle.vector_definitions.specs.Texts.{description_text}
+use Rattle.surface_vector_definitions.specs.Answers.{IsDescription}
+use Rattle.surface_vector_definitions.specs.Texts.{description_text}
 use Rattle.vector_commands.specs.Telling.{TellsEach}
-use Rattle.vector_commands.specs.declared.refusals.FirstRefused.{FirstRefused}
+use Rattle.vector_commands.specs.declared.refusals.FirstRefusal.{FirstRefusal}
 use Rattle.std.proofs.lemmas.Result.{IfOk-weaker}
 use Rattle.command_answers.specs.Reads.{all_entries}
 use Rattle.vector_commands.proofs.DescribeAnswers.{described_told, describe_refused}
@@ -12,13 +12,13 @@ use Rattle.vector_commands.proofs.describe_command.describe_each.Goals as goal
 
 pub returns-in-Ok : goal.returns-in-Ok
 returns-in-Ok c =
-    described_told c.args.skeleton.now c.args.coords c.args.system.now.rows (all_entries c.args.vectors.now) c.built.result
-    c.requires.equations c.in-Ok.text.items c.in-Ok.ensures c.built.ensures
+    described_told c.args.skeleton.now c.args.coords c.args.system.now.rows (all_entries c.args.vectors.now) c.with_text.result
+    c.requires.equations c.in-Ok.text.items c.in-Ok.ensures c.with_text.ensures
 
 pub returns-in-Err-Fault : goal.returns-in-Err-Fault
 returns-in-Err-Fault c =
     IfOk-weaker c.refusal_outcome.result _ _
     (λ o h. describe_refused c.args.skeleton.now c.args.coords c.args.system.now.rows (all_entries c.args.vectors.now) o
     c.requires.equations c.in-Err-Fault.first.vector c.in-Err-Fault.first.refusal
-    (subst (λ (e : Failure FirstRefused). TellsEach (IsDescription c.args.skeleton.now c.args.coords c.args.system.now.rows) (description_text c.args.skeleton.now c.args.coords) (all_entries c.args.vectors.now) (Err e)) c.in-Err-Fault.field-0-is c.in-Err-Fault.ensures) h)
+    (subst (λ (e : Failure FirstRefusal). TellsEach (IsDescription c.args.skeleton.now c.args.coords c.args.system.now.rows) (description_text c.args.skeleton.now c.args.coords) (all_entries c.args.vectors.now) (Err e)) c.in-Err-Fault.field-0-is c.in-Err-Fault.ensures) h)
     c.refusal_outcome.ensures

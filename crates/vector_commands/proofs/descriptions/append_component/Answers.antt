@@ -6,10 +6,10 @@ use Rattle.std.proofs.lemmas.Int.{to_z-of_z}
 use mir.Syntax.{w128}
 use mir.Val.{SFits}
 use Rattle.cone_text_definitions.specs.VectorText.{vector_text}
-use Rattle.vector_definitions.specs.Components.{Component}
-use Rattle.vector_definitions.specs.Texts.{sides_word}
-use Rattle.vector_definitions.specs.Properties.{characteristic}
-use Rattle.surface_pieces.specs.Told.{no_component}
+use Rattle.surface_vector_definitions.specs.Components.{Component}
+use Rattle.surface_vector_definitions.specs.Texts.{sides_word}
+use Rattle.surface_vector_definitions.specs.Properties.{characteristic}
+use Rattle.surface_pieces.specs.ComponentLists.{no_component}
 use Rattle.text_definitions.specs.Written.{yes_or_no}
 use Rattle.vector_commands.proofs.Grown.{grown}
 use Rattle.vector_commands.proofs.descriptions.append_component.Goals as goal

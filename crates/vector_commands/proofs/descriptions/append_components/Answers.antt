@@ -1,7 +1,7 @@
 -- One line more.
 use Rattle.std.proofs.Common.{◌<◌, length, arith}
-use Rattle.vector_definitions.specs.Texts.{component_line}
-use Rattle.surface_pieces.specs.Told.{no_component}
+use Rattle.surface_vector_definitions.specs.Texts.{component_line}
+use Rattle.surface_pieces.specs.ComponentLists.{no_component}
 use Rattle.vector_commands.proofs.Grown.{lines_more}
 use Rattle.vector_commands.proofs.descriptions.append_components.Goals as goal
 

@@ -1,6 +1,6 @@
 -- The lines of the components so far.
 use Rattle.std.proofs.Common.{◌≡◌, ◌++◌, take, flat_map}
-use Rattle.vector_definitions.specs.Texts.{component_line}
+use Rattle.surface_vector_definitions.specs.Texts.{component_line}
 use Rattle.vector_commands.proofs.descriptions.append_components.Given as goal
 
 abbrev pub invariant-loop-component : goal.invariant-loop-component

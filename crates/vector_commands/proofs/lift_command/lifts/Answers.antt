@@ -1,7 +1,7 @@
 -- One more lift is told, or the vector is the first that is refused.
 use Rattle.std.proofs.Common.{sym, subst}
 use Rattle.cone_text_definitions.specs.VectorText.{vector_text}
-use Rattle.vector_definitions.specs.Answers.{IsLifted, IsFirstRefused}
+use Rattle.surface_vector_definitions.specs.Answers.{IsLifted, IsFirstRefused}
 use Rattle.command_answers.specs.Reads.{all_entries}
 use Rattle.vector_commands.proofs.EachVector.{next_told, next_refused}
 use Rattle.vector_commands.proofs.lift_command.lifts.Goals as goal

@@ -2,9 +2,9 @@
 use Rattle.std.proofs.Common.{take}
 use Rattle.cone_text_definitions.specs.VectorText.{vector_text}
 use Rattle.command_answers.specs.Reads.{all_entries}
-use Rattle.vector_definitions.specs.Answers.{IsLifted}
-use Rattle.vector_commands.specs.Telling.{AreToldIn}
+use Rattle.surface_vector_definitions.specs.Answers.{IsLifted}
+use Rattle.vector_commands.specs.Telling.{AreAnsweredIn}
 use Rattle.vector_commands.proofs.lift_command.lifts.Given as goal
 
 abbrev pub invariant-loop-v : goal.invariant-loop-v
-invariant-loop-v l = AreToldIn (IsLifted l.skeleton l.system.rows) vector_text (all_entries (take l.v l.vectors)) l.text.items
+invariant-loop-v l = AreAnsweredIn (IsLifted l.skeleton l.system.rows) vector_text (all_entries (take l.v l.vectors)) l.text.items

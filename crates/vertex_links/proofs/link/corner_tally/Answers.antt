@@ -1,7 +1,7 @@
 use Rattle.std.proofs.Common.{◌≡◌, ◌<◌, false, ℕ, List, Bool, length, subst₂, arith}
 use Rattle.std.specs.Prelude.{◌==◌, slice_index}
 use Rattle.std.specs.List.{slice_index_or}
-use Rattle.class_laws.specs.Tallies.{AreTallies}
+use Rattle.skeleton_class_laws.specs.Tallies.{AreTallies}
 use Rattle.vertex_links.proofs.SideLemmas.{tally_corners}
 use Rattle.vertex_links.proofs.link.corner_tally.Goals as goal
 

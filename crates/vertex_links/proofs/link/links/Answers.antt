@@ -4,7 +4,7 @@ use Rattle.std.proofs.lemmas.List.{get_or_default}
 use Rattle.skeleton_definitions.specs.Links.{IsLink, IsOrientableLink}
 use Rattle.skeleton_definitions.specs.declared.Link.{Link}
 use Rattle.skeleton_definitions.specs.Skeleton.{AreLinksUpTo}
-use Rattle.class_laws.proofs.TallyLemmas.{each_more}
+use Rattle.skeleton_class_laws.proofs.TallyLemmas.{each_more}
 use Rattle.vertex_links.proofs.link.links.Goals as goal
 
 -- an element that the code read

@@ -2,7 +2,7 @@ use Rattle.std.proofs.Common.{◌≡◌, ◌*◌, ◌<◌, false, ℕ, List, Boo
 use Rattle.std.specs.List.{slice_index_or}
 use Rattle.table_definitions.specs.Table.{Row}
 use Rattle.table_definitions.specs.Places.{is_boundary}
-use Rattle.class_laws.specs.Tallies.{side_at, AreTallies}
+use Rattle.skeleton_class_laws.specs.Tallies.{side_at, AreTallies}
 use Rattle.vertex_links.proofs.SideLemmas.{tally_open}
 use Rattle.vertex_links.proofs.link.open_tally.Goals as goal
 

@@ -2,10 +2,10 @@ use Rattle.std.proofs.Common.{◌≡◌, ◌+◌, ◌*◌, ◌/◌, ◌<◌, fal
 use Rattle.std.specs.Prelude.{◌==◌, slice_index}
 use Rattle.std.specs.List.{slice_index_or}
 use Rattle.table_definitions.specs.Table.{Row}
-use Rattle.class_laws.specs.declared.Kind.TheVariants.{VertexSigns}
-use Rattle.class_laws.specs.Numberings.{AreClassesOf}
-use Rattle.class_laws.specs.Tallies.{AreTallies}
-use Rattle.class_laws.proofs.LinkSigns.{tally_turned}
+use Rattle.skeleton_class_laws.specs.declared.Kind.TheVariants.{VertexSigns}
+use Rattle.skeleton_class_laws.specs.Numberings.{AreClassesOf}
+use Rattle.skeleton_class_laws.specs.Tallies.{AreTallies}
+use Rattle.skeleton_class_laws.proofs.LinkSigns.{tally_turned}
 use Rattle.vertex_links.proofs.link.turned_tally.Goals as goal
 
 pub returns-clause-orientable : goal.returns-clause-orientable

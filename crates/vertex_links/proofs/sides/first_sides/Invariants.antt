@@ -2,7 +2,7 @@ use Rattle.std.proofs.Common.{◌≡◌, ◌<◌, ℕ, false, length}
 use Rattle.std.specs.List.{slice_index_or}
 use Rattle.table_definitions.specs.Table.{glue}
 use Rattle.skeleton_definitions.specs.Links.{is_first_side}
-use Rattle.class_laws.specs.Tallies.{side_at}
+use Rattle.skeleton_class_laws.specs.Tallies.{side_at}
 use Rattle.vertex_links.proofs.sides.first_sides.Given as goal
 
 abbrev pub invariant-loop-place : goal.invariant-loop-place

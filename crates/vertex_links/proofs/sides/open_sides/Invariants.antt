@@ -1,7 +1,7 @@
 use Rattle.std.proofs.Common.{◌≡◌, ◌<◌, ℕ, false, length}
 use Rattle.std.specs.List.{slice_index_or}
 use Rattle.table_definitions.specs.Places.{is_boundary}
-use Rattle.class_laws.specs.Tallies.{side_at}
+use Rattle.skeleton_class_laws.specs.Tallies.{side_at}
 use Rattle.vertex_links.proofs.sides.open_sides.Given as goal
 
 abbrev pub invariant-loop-place : goal.invariant-loop-place

@@ -1,6 +1,6 @@
 use Rattle.std.proofs.Common.{◌*◌, ◌<◌, length, List, subst, ap, ◌∙◌}
 use Rattle.table_definitions.specs.Table.{Row}
-use Rattle.class_laws.proofs.TallyLemmas.{owner_inside}
+use Rattle.skeleton_class_laws.proofs.TallyLemmas.{owner_inside}
 use Rattle.vertex_links.proofs.sides.owners.Goals as goal
 
 pub vertex_class-requires-clause-in_range : goal.vertex_class-requires-clause-in_range

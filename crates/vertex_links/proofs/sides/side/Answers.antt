@@ -1,5 +1,5 @@
 use Rattle.std.proofs.Common.{◌/◌}
-use Rattle.class_laws.specs.Tallies.{side_at}
+use Rattle.skeleton_class_laws.specs.Tallies.{side_at}
 use Rattle.vertex_links.proofs.sides.side.Goals as goal
 
 pub returns-clause-value : goal.returns-clause-value

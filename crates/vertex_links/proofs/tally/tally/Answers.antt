@@ -2,8 +2,8 @@ use Rattle.std.proofs.Common.{◌≡◌, ◌+◌, ◌<◌, ◌≤◌, ℕ, Vec, 
 use Rattle.std.specs.Prelude.{slice_index, count_by}
 use Rattle.std.proofs.lemmas.List.{get_or_default}
 use Rattle.table_definitions.specs.Lists.{below}
-use Rattle.class_laws.specs.Tallies.{is_counted}
-use Rattle.class_laws.proofs.TallyLemmas.{none_counted, thing_passes_not, thing_counts, things_end, count_below}
+use Rattle.skeleton_class_laws.specs.Tallies.{is_counted}
+use Rattle.skeleton_class_laws.proofs.TallyLemmas.{none_counted, thing_passes_not, thing_counts, things_end, count_below}
 use Rattle.vertex_links.proofs.tally.tally.Goals as goal
 use Rattle.vertex_links.proofs.tally.tally.Goals.{then-passes-thing, else-passes-thing}
 

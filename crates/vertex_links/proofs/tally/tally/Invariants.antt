@@ -1,4 +1,4 @@
-use Rattle.class_laws.specs.Tallies.{AreTalliesUpTo}
+use Rattle.skeleton_class_laws.specs.Tallies.{AreTalliesUpTo}
 use Rattle.vertex_links.proofs.tally.tally.Given as goal
 
 abbrev pub invariant-loop-thing : goal.invariant-loop-thing

@@ -1,19 +1,19 @@
 -- What holds of each run, and what follows for each command.
 use Rattle.std.proofs.Common.{refl}
 use Rattle.command_definitions.specs.declared.Request.TheVariants.{Play, Same, Group, Make, Bulk, Decompose, Addup, Cover, Csame}
-use Rattle.document_definitions.specs.Documents.{table_document, two_tables_document, tables_document, vectors_document, steps_document}
-use Rattle.document_definitions.specs.Blocks.{blocks_document}
-use Rattle.answer_laws.specs.Makings.{IsTableWithMoves, IsSummaryWithMoves}
-use Rattle.answer_laws.specs.Comparisons.{IsComparison, IsComponentComparison, IsGrouping}
-use Rattle.answer_laws.specs.Sums.{IsDecomposition, IsAddition}
-use Rattle.answer_laws.specs.Covers.{IsCovering}
-use Rattle.answer_laws.specs.Scripts.{IsPlayed}
-use Rattle.answer_laws.proofs.Makings.{made_with_moves, summed_up_with_moves}
-use Rattle.answer_laws.proofs.Comparisons.{connected_compared, tables_grouped}
-use Rattle.answer_laws.proofs.Components.{components_compared}
-use Rattle.answer_laws.proofs.Sums.{vectors_decomposed, true_sums_accepted}
-use Rattle.answer_laws.proofs.Covers.{covers_told}
-use Rattle.answer_laws.proofs.Scripts.{scripts_played}
+use Rattle.text_document_definitions.specs.Documents.{table_document, two_tables_document, tables_document, vectors_document, steps_document}
+use Rattle.text_document_definitions.specs.Blocks.{blocks_document}
+use Rattle.outcome_answer_laws.specs.Makings.{IsTableWithMoves, IsSummaryWithMoves}
+use Rattle.outcome_answer_laws.specs.Comparisons.{IsComparison, IsComponentComparison, IsGrouping}
+use Rattle.outcome_answer_laws.specs.Sums.{IsDecomposition, IsAddition}
+use Rattle.outcome_answer_laws.specs.Covers.{IsCovering}
+use Rattle.outcome_answer_laws.specs.Scripts.{IsPlayed}
+use Rattle.outcome_answer_laws.proofs.Makings.{made_with_moves, summed_up_with_moves}
+use Rattle.outcome_answer_laws.proofs.Comparisons.{connected_compared, tables_grouped}
+use Rattle.outcome_answer_laws.proofs.Components.{components_compared}
+use Rattle.outcome_answer_laws.proofs.Sums.{vectors_decomposed, true_sums_accepted}
+use Rattle.outcome_answer_laws.proofs.Covers.{covers_told}
+use Rattle.outcome_answer_laws.proofs.Scripts.{scripts_played}
 use Rattle.workbench.proofs.Headlines.{told_surfaces, told_rays, told_verdicts, done_answered}
 use Rattle.workbench.proofs.Completeness.{all_surfaces, all_rays}
 use Rattle.workbench.proofs.FewSurfaces.{few_surfaces}

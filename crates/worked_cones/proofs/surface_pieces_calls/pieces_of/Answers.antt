@@ -2,7 +2,7 @@
 use Rattle.std.proofs.Common.{sym, ◌∙◌, subst, List}
 use Rattle.table_definitions.specs.Table.{Row}
 use Rattle.surface_definitions.specs.declared.Coords.TheVariants.{Standard}
-use Rattle.vector_definitions.specs.Answers.{IsFit}
+use Rattle.surface_vector_definitions.specs.Answers.{IsFit}
 use Rattle.surface_laws.proofs.FitSurfaces.{surface_is}
 use Rattle.worked_cones.proofs.surface_pieces_calls.pieces_of.Goals as goal
 

@@ -4,11 +4,11 @@ use Rattle.cone_definitions.specs.Vectors.{ray_at}
 use Rattle.support_table.specs.Joins.{AreJoinedTo}
 use Rattle.residual_pairs.specs.Residuals.{AreMinimal}
 use Rattle.ray_steps.specs.declared.signs.Sign.TheVariants.{Zero}
-use Rattle.ray_steps.specs.Kepts.{rays_of}
+use Rattle.ray_steps.specs.Rays.{rays_of}
 use Rattle.ray_steps.specs.Steps.{StepData, AreMadeTo}
 use Rattle.ray_steps.proofs.FoundLemmas.{found_in_range, found_face, pairs_found, at_found, after_found, all_found}
-use Rattle.ray_steps.proofs.KeptLemmas.{ray_read}
-use Rattle.ray_steps.proofs.MadeLemmas.{made_skip_all}
+use Rattle.ray_steps.proofs.RayLemmas.{ray_read}
+use Rattle.ray_steps.proofs.CombinationLemmas.{made_skip_all}
 use Rattle.ray_steps.proofs.RivalLemmas.{support_read}
 use Rattle.ray_steps.proofs.ViewLemmas.{place_of_rays}
 use Rattle.ray_steps.proofs.PlaceLemmas.{taken_none}
@@ -20,12 +20,12 @@ returns-in_default g c =
     let signs = s.signs.items in
     let i = c.args.i in
     let made = c.args.made.now.items in
-    let i_in = place_of_rays s.kepts.items c.args.self.now.rays i (ap (λ (d : StepData). d.rays) c.self.view_is) c.requires.in_range in
+    let i_in = place_of_rays s.ray_list.items c.args.self.now.rays i (ap (λ (d : StepData). d.rays) c.self.view_is) c.requires.in_range in
     let within = subst (λ n. i < n) (sym c.self.invariant.count) i_in in
     let before = subst (λ (d : StepData). AreMadeTo d i 0 made) (sym c.self.view_is) c.requires.made in
     record {
       ok = subst (λ (d : StepData). AreMadeTo d (i + 1) 0 made) c.self.view_is (record {
-        so_far = made_skip_all s.limit s.clashes.now.pairs (rays_of s.kepts.items) signs i (rays_of made)
+        so_far = made_skip_all s.limit s.clashes.now.pairs (rays_of s.ray_list.items) signs i (rays_of made)
             (λ at_u p. c.in_default.not-Positive at_u (c.index.ensures ∙ get_or_default signs i c.index.result.now Zero within ∙ p)) before.so_far;
         widths = before.widths;
       });
@@ -38,13 +38,13 @@ loop-place-init g c = record { taken = taken_none _ _ _ _ _ _ _ c.requires.made.
 pub combine_found-requires-clause-second : goal.combine_found-requires-clause-second
 combine_found-requires-clause-second g c =
     let d = c.args.self.now in
-    let kepts = c.self.inside.kepts.items in
+    let ray_list = c.self.inside.ray_list.items in
     let i = c.args.i in
     let same = ap (λ (d : StepData). d.rays) c.self.view_is in
     let u = c.index-u.result.now in
     let joined = c.in_ok-joined.joined in
     let xs = c.deref-place-items.result.now in
-    let outer_is = support_read u (ray_at d.rays i) (ap (λ rays. ray_at rays i) (sym same) ∙ ray_read kepts i u (place_of_rays kepts d.rays i same c.requires.in_range) c.index-u.ensures) in
+    let outer_is = support_read u (ray_at d.rays i) (ap (λ rays. ray_at rays i) (sym same) ∙ ray_read ray_list i u (place_of_rays ray_list d.rays i same c.requires.in_range) c.index-u.ensures) in
     let joins = subst₂ (λ ps s. AreJoinedTo ps s joined) (ap (λ (d : StepData). d.pairs) c.self.view_is) outer_is c.in_ok-joined.ensures in
     let found = subst (AreMinimal c.args.supports.now.supports u.support joined i) (sym c.deref-place-items.ensures.value) c.in_ok-places.ensures in
     found_in_range d.pairs d.rays i d.columns joined c.args.supports.now c.requires.supports joins u.support outer_is xs c.loop-place.place-index 0 found c.loop-place-test.true
@@ -52,13 +52,13 @@ combine_found-requires-clause-second g c =
 pub combine_found-requires-clause-face : goal.combine_found-requires-clause-face
 combine_found-requires-clause-face g c =
     let d = c.args.self.now in
-    let kepts = c.self.inside.kepts.items in
+    let ray_list = c.self.inside.ray_list.items in
     let i = c.args.i in
     let same = ap (λ (d : StepData). d.rays) c.self.view_is in
     let u = c.index-u.result.now in
     let joined = c.in_ok-joined.joined in
     let xs = c.deref-place-items.result.now in
-    let outer_is = support_read u (ray_at d.rays i) (ap (λ rays. ray_at rays i) (sym same) ∙ ray_read kepts i u (place_of_rays kepts d.rays i same c.requires.in_range) c.index-u.ensures) in
+    let outer_is = support_read u (ray_at d.rays i) (ap (λ rays. ray_at rays i) (sym same) ∙ ray_read ray_list i u (place_of_rays ray_list d.rays i same c.requires.in_range) c.index-u.ensures) in
     let joins = subst₂ (λ ps s. AreJoinedTo ps s joined) (ap (λ (d : StepData). d.pairs) c.self.view_is) outer_is c.in_ok-joined.ensures in
     let found = subst (AreMinimal c.args.supports.now.supports u.support joined i) (sym c.deref-place-items.ensures.value) c.in_ok-places.ensures in
     found_face d.pairs d.rays i d.columns joined c.args.supports.now c.requires.supports joins u.support outer_is xs c.loop-place.place-index 0 found c.loop-place-test.true
@@ -66,13 +66,13 @@ combine_found-requires-clause-face g c =
 pub combine_found-requires-clause-made : goal.combine_found-requires-clause-made
 combine_found-requires-clause-made g c =
     let d = c.args.self.now in
-    let kepts = c.self.inside.kepts.items in
+    let ray_list = c.self.inside.ray_list.items in
     let i = c.args.i in
     let same = ap (λ (d : StepData). d.rays) c.self.view_is in
     let u = c.index-u.result.now in
     let joined = c.in_ok-joined.joined in
     let xs = c.deref-place-items.result.now in
-    let outer_is = support_read u (ray_at d.rays i) (ap (λ rays. ray_at rays i) (sym same) ∙ ray_read kepts i u (place_of_rays kepts d.rays i same c.requires.in_range) c.index-u.ensures) in
+    let outer_is = support_read u (ray_at d.rays i) (ap (λ rays. ray_at rays i) (sym same) ∙ ray_read ray_list i u (place_of_rays ray_list d.rays i same c.requires.in_range) c.index-u.ensures) in
     let joins = subst₂ (λ ps s. AreJoinedTo ps s joined) (ap (λ (d : StepData). d.pairs) c.self.view_is) outer_is c.in_ok-joined.ensures in
     let found = subst (AreMinimal c.args.supports.now.supports u.support joined i) (sym c.deref-place-items.ensures.value) c.in_ok-places.ensures in
     record {
@@ -84,13 +84,13 @@ combine_found-requires-clause-made g c =
 pub loop-place-preserved : goal.loop-place-preserved
 loop-place-preserved g c =
     let d = c.args.self.now in
-    let kepts = c.self.inside.kepts.items in
+    let ray_list = c.self.inside.ray_list.items in
     let i = c.args.i in
     let same = ap (λ (d : StepData). d.rays) c.self.view_is in
     let u = c.index-u.result.now in
     let joined = c.in_ok-joined.joined in
     let xs = c.deref-place-items.result.now in
-    let outer_is = support_read u (ray_at d.rays i) (ap (λ rays. ray_at rays i) (sym same) ∙ ray_read kepts i u (place_of_rays kepts d.rays i same c.requires.in_range) c.index-u.ensures) in
+    let outer_is = support_read u (ray_at d.rays i) (ap (λ rays. ray_at rays i) (sym same) ∙ ray_read ray_list i u (place_of_rays ray_list d.rays i same c.requires.in_range) c.index-u.ensures) in
     let joins = subst₂ (λ ps s. AreJoinedTo ps s joined) (ap (λ (d : StepData). d.pairs) c.self.view_is) outer_is c.in_ok-joined.ensures in
     let found = subst (AreMinimal c.args.supports.now.supports u.support joined i) (sym c.deref-place-items.ensures.value) c.in_ok-places.ensures in
     record {
@@ -102,13 +102,13 @@ loop-place-preserved g c =
 pub returns-clause-ok : goal.returns-clause-ok
 returns-clause-ok g c =
     let d = c.args.self.now in
-    let kepts = c.self.inside.kepts.items in
+    let ray_list = c.self.inside.ray_list.items in
     let i = c.args.i in
     let same = ap (λ (d : StepData). d.rays) c.self.view_is in
     let u = c.index-u.result.now in
     let joined = c.in_ok-joined.joined in
     let xs = c.deref-place-items.result.now in
-    let outer_is = support_read u (ray_at d.rays i) (ap (λ rays. ray_at rays i) (sym same) ∙ ray_read kepts i u (place_of_rays kepts d.rays i same c.requires.in_range) c.index-u.ensures) in
+    let outer_is = support_read u (ray_at d.rays i) (ap (λ rays. ray_at rays i) (sym same) ∙ ray_read ray_list i u (place_of_rays ray_list d.rays i same c.requires.in_range) c.index-u.ensures) in
     let joins = subst₂ (λ ps s. AreJoinedTo ps s joined) (ap (λ (d : StepData). d.pairs) c.self.view_is) outer_is c.in_ok-joined.ensures in
     let found = subst (AreMinimal c.args.supports.now.supports u.support joined i) (sym c.deref-place-items.ensures.value) c.in_ok-places.ensures in
     record {

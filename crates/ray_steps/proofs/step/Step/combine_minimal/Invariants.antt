@@ -1,5 +1,5 @@
 -- the pairs of the places so far are taken
-use Rattle.ray_steps.specs.Kepts.{rays_of, AreOfWidth}
+use Rattle.ray_steps.specs.Rays.{rays_of, AreOfWidth}
 use Rattle.ray_steps.proofs.PlaceLemmas.{HaveTaken}
 use Rattle.ray_steps.proofs.step.Step.combine_minimal.Given as goal
 

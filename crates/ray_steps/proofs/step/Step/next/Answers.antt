@@ -1,5 +1,5 @@
 use Rattle.std.proofs.Common.{subst, subst₂, sym}
-use Rattle.ray_steps.specs.Kepts.{rays_of, AreOfWidth}
+use Rattle.ray_steps.specs.Rays.{rays_of, AreOfWidth}
 use Rattle.ray_steps.specs.Signs.{IsMadeUpTo, IsNextFrom}
 use Rattle.ray_steps.specs.Steps.{StepData, AreMadeOf}
 use Rattle.ray_steps.proofs.step.Step.next.Goals as goal
@@ -7,7 +7,7 @@ use Rattle.ray_steps.proofs.step.Step.next.Goals as goal
 pub returns-clause-ok : goal.returns-clause-ok
 returns-clause-ok g c =
     let s = c.self.inside in
-    let rays = rays_of s.kepts.items in
+    let rays = rays_of s.ray_list.items in
     let pairs = s.clashes.now.pairs in
     let made = (subst (λ (d : StepData). AreMadeOf d c.in_ok-next.next.items) (sym c.self.view_is) c.in_ok-next.ensures.ok).made in
     let all = subst₂ (λ ss n. IsMadeUpTo s.limit pairs rays ss n 0 (rays_of c.in_ok-next.next.items)) (sym c.deref.ensures.value) c.self.invariant.count made in

@@ -1,7 +1,7 @@
 use Rattle.std.proofs.Common.{subst, ◌∙◌}
-use Rattle.ray_steps.specs.Kepts.{rays_of}
+use Rattle.ray_steps.specs.Rays.{rays_of}
 use Rattle.ray_steps.specs.Signs.{AreSigns}
-use Rattle.ray_steps.proofs.KeptLemmas.{length-rays_of}
+use Rattle.ray_steps.proofs.RayLemmas.{length-rays_of}
 use Rattle.ray_steps.proofs.StepLemmas.{bounded_signs}
 use Rattle.ray_steps.proofs.step.Step.of.Goals as goal
 
@@ -11,7 +11,7 @@ invariant_of-result g c =
     let signed = subst (λ xs. AreSigns c.args.limit c.args.row.now (rays_of xs) signs) c.deref.ensures.value c.in_ok-signs.ensures.ok in
     record {
       rays = c.requires.rays;
-      count = signed.count ∙ length-rays_of c.args.kepts.items;
-      bounded = bounded_signs c.args.limit c.args.row.now (rays_of c.args.kepts.items) signs signed;
+      count = signed.count ∙ length-rays_of c.args.ray_list.items;
+      bounded = bounded_signs c.args.limit c.args.row.now (rays_of c.args.ray_list.items) signs signed;
       limit_is = c.requires.limit;
     }

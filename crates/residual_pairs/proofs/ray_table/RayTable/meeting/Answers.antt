@@ -11,6 +11,6 @@ returns c =
     let columns = c.args.columns.now in
     let holders = c.self.inside.holders.items in
     let count = c.self.inside.count in
-    IfOk-weaker c.united.result (IsMeetingBelow holders columns count (length columns)) (IsMeeting c.args.self.now.supports columns)
+    IfOk-weaker c.union_of_rows.result (IsMeetingBelow holders columns count (length columns)) (IsMeeting c.args.self.now.supports columns)
     (λ places h. meeting_of c.args.self.now count holders columns places (subst (λ (t : Table). AreHolders t count holders) c.self.view_is c.self.invariant) c.requires h)
-    (subst (λ hs. IfOk c.united.result (IsMeetingBelow hs columns count (length columns))) c.deref.ensures.value c.united.ensures)
+    (subst (λ hs. IfOk c.union_of_rows.result (IsMeetingBelow hs columns count (length columns))) c.deref.ensures.value c.union_of_rows.ensures)

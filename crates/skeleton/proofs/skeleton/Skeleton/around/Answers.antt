@@ -2,7 +2,7 @@ use Rattle.std.proofs.Common.{◌<◌, ◌*◌, List, length, sym, subst, arith}
 use Rattle.std.specs.Prelude.{slice_index}
 use Rattle.skeleton_definitions.specs.Corners.{Corner}
 use Rattle.skeleton_definitions.specs.Skeleton.{Skeleton, IsSkeleton, IsAround}
-use Rattle.class_laws.proofs.WalkLemmas.{around_class}
+use Rattle.skeleton_class_laws.proofs.WalkLemmas.{around_class}
 use Rattle.skeleton.proofs.skeleton.Skeleton.around.Goals as goal
 
 pub returns : goal.returns

@@ -1,6 +1,6 @@
 use Rattle.std.proofs.Common.{sym, ◌∙◌}
 use Rattle.std.proofs.lemmas.Bool.{false≢true}
-use Rattle.class_laws.proofs.DirectionLemmas.{direction_none, direction_told}
+use Rattle.skeleton_class_laws.proofs.DirectionLemmas.{direction_none, direction_told}
 use Rattle.skeleton.proofs.skeleton.Skeleton.edge_class.Goals as goal
 
 pub returns-then-joins_reverse-clause-direction : goal.returns-then-joins_reverse-clause-direction

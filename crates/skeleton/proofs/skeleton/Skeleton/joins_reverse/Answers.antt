@@ -2,8 +2,8 @@ use Rattle.std.proofs.Common.{◌≡◌, ◌↔◌, ◌<◌, ◌*◌, true, ℕ,
 use Rattle.std.specs.Prelude.{IsTrue}
 use Rattle.skeleton_definitions.specs.Skeleton.{Skeleton}
 use Rattle.table_definitions.specs.Places.{RunsAgainst}
-use Rattle.class_laws.specs.Directions.{forward, backward, runs_against}
-use Rattle.class_laws.proofs.DirectionLemmas.{forward_below, backward_below, runs_against-is}
+use Rattle.skeleton_class_laws.specs.Directions.{forward, backward, runs_against}
+use Rattle.skeleton_class_laws.proofs.DirectionLemmas.{forward_below, backward_below, runs_against-is}
 use Rattle.skeleton.proofs.skeleton.Skeleton.joins_reverse.Goals as goal
 
 pub runs_against-requires-clause-one_in_range : goal.runs_against-requires-clause-one_in_range

@@ -1,8 +1,8 @@
 -- What is held of the components.
 use Rattle.std.proofs.Common.{◌≡◌, ℕ, List, Vec, Global, length, arith}
 use Rattle.std.proofs.lemmas.List.{length-map}
-use Rattle.vector_definitions.specs.Held.{all_entries}
-use Rattle.surface_pieces.proofs.ComponentsTold.{how_many}
+use Rattle.surface_vector_definitions.specs.Entries.{all_entries}
+use Rattle.surface_pieces.proofs.ComponentAnswers.{how_many}
 use Rattle.surface_pieces.proofs.pieces.Pieces.components.Goals as goal
 
 pub returns : goal.returns

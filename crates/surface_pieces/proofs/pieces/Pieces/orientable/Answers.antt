@@ -1,9 +1,9 @@
 -- What is held of the components.
 use Rattle.std.proofs.Common.{◌≡◌, ℕ, List, Vec, Global, true, length, sym, ap, ◌∙◌, arith}
 use Rattle.std.proofs.lemmas.List.{length-map, get_or_default}
-use Rattle.vector_definitions.specs.Components.{Component}
-use Rattle.vector_definitions.specs.Held.{all_entries}
-use Rattle.surface_pieces.proofs.ComponentsTold.{how_many, told_at}
+use Rattle.surface_vector_definitions.specs.Components.{Component}
+use Rattle.surface_vector_definitions.specs.Entries.{all_entries}
+use Rattle.surface_pieces.proofs.ComponentAnswers.{how_many, told_at}
 use Rattle.surface_pieces.proofs.pieces.Pieces.orientable.Goals as goal
 
 pub index-requires : goal.index-requires

@@ -4,8 +4,8 @@ use Rattle.tri_build.specs.Standing.{Back}
 use Rattle.tri_build.proofs.Led.{led, not_refused, gone_back}
 use Rattle.tri_build.proofs.way_back.WayBack.go_back.Goals as goal
 
-pub carried_back-requires-clause-some : goal.carried_back-requires-clause-some
-carried_back-requires-clause-some c =
+pub carry_back-requires-clause-some : goal.carry_back-requires-clause-some
+carry_back-requires-clause-some c =
     let l = led c.requires.0 c.args.step.now c.args.self.now.now c.args.self.now.on c.back_of-back.result c.requires.1 c.back_of-back.ensures.back in
     (l.by, l.stands)
 

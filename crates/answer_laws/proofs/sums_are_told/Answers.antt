@@ -1,6 +1,0 @@
--- The lemmas are the laws.
-use Rattle.answer_laws.proofs.Sums.{vectors_decomposed, true_sums_accepted}
-use Rattle.answer_laws.proofs.sums_are_told.Goals as goal
-
-pub returns : goal.returns
-returns c = record { decompose = vectors_decomposed; addup = true_sums_accepted }

@@ -1,0 +1,3 @@
+pub mod Zeros
+pub mod Sums
+pub mod Agreement

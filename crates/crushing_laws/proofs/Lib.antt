@@ -1,4 +1,0 @@
-pub mod Whole
-pub mod Linking
-pub mod KeptEnds
-pub mod Kept

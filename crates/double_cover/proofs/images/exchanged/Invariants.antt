@@ -1,8 +1,0 @@
--- The images so far.
-use Rattle.std.proofs.Common.{◌≡◌, map}
-use Rattle.table_definitions.specs.Lists.{below}
-use Rattle.cover_definitions.specs.Cover.{above, over, other_sheet, sheet}
-use Rattle.double_cover.proofs.images.exchanged.Given as goal
-
-abbrev pub invariant-loop-tet : goal.invariant-loop-tet
-invariant-loop-tet l = l.images.items ≡ map (λ u. above l.fn.tets (over l.fn.tets u) (other_sheet (sheet l.fn.tets u))) (below l.tet)

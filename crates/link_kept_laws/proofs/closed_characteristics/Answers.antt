@@ -1,7 +1,0 @@
--- The lemmas are the laws.
-use Rattle.link_kept_laws.proofs.ClosedEuler.{closed_characteristics}
-use Rattle.link_kept_laws.proofs.ClosedManifolds.{closed_manifolds}
-use Rattle.link_kept_laws.proofs.closed_characteristics.Goals as goal
-
-pub returns : goal.returns
-returns c = record { links = closed_characteristics; zero = closed_manifolds }

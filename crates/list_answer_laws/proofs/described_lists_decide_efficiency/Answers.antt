@@ -1,6 +1,0 @@
--- The lemma is the law.
-use Rattle.list_answer_laws.proofs.Described.{described_lists_decide_lem}
-use Rattle.list_answer_laws.proofs.described_lists_decide_efficiency.Goals as goal
-
-pub returns : goal.returns
-returns c = described_lists_decide_lem

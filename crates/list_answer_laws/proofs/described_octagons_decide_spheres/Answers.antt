@@ -1,6 +1,0 @@
--- The lemma is the law.
-use Rattle.list_answer_laws.proofs.DescribedOctagons.{described_octagons_decide_lem}
-use Rattle.list_answer_laws.proofs.described_octagons_decide_spheres.Goals as goal
-
-pub returns : goal.returns
-returns c = described_octagons_decide_lem

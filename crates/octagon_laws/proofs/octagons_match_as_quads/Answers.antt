@@ -1,6 +1,0 @@
--- In each face there are as many arcs.
-use Rattle.octagon_laws.proofs.AsQuads.{match_as_quads}
-use Rattle.octagon_laws.proofs.octagons_match_as_quads.Goals as goal
-
-pub returns : goal.returns
-returns c = λ s ys zs k w h. match_as_quads s k ys zs w h

@@ -1,0 +1,10 @@
+pub mod Requests
+pub mod Surfaces
+pub mod Lifts
+pub mod Makings
+pub mod Checks
+pub mod Signatures
+pub mod Comparisons
+pub mod Sums
+pub mod Covers
+pub mod Scripts

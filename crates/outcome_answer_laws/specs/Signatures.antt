@@ -1,0 +1,25 @@
+-- Equal answers of `sig`, and of `csig`, tell tables of which a relabelling carries the one to the other.
+use Rattle.std.specs.Prelude.{◌≡◌, ◌↔◌, ℕ, List, Ok}
+use Rattle.table_definitions.specs.Table.{Row}
+use Rattle.table_definitions.specs.Places.{IsConnected}
+use Rattle.table_definitions.specs.Relabelling.{IsRelabelled}
+use Rattle.text_document_definitions.specs.Documents.{table_document}
+use Rattle.command_definitions.specs.declared.Request.{Request}
+use Rattle.command_definitions.specs.declared.Request.TheVariants.{Sig, Csig}
+use Rattle.outcome_definitions.specs.Outcomes.{Outcome}
+use Rattle.outcome_answer_laws.specs.Requests.{IsOutcomeTo}
+
+-- the outcome of a request on an input that spells a table
+pub record IsTableOutcome (request : Request) (rows : List Row) (o : Outcome) : Type 0 where
+  pub words : List (List ℕ)
+  pub bytes : List ℕ
+  pub asked : IsOutcomeTo request words bytes o
+  pub spelled : table_document bytes ≡ Ok rows
+
+abbrev pub SignaturesTell : Type 0
+SignaturesTell =
+    (first second : List Row) (o p : Outcome) → IsTableOutcome Sig first o → IsTableOutcome Sig second p → IsConnected first → IsConnected second
+    → (o ≡ p) ↔ IsRelabelled first second
+
+abbrev pub ComponentSignaturesTell : Type 0
+ComponentSignaturesTell = (first second : List Row) (o p : Outcome) → IsTableOutcome Csig first o → IsTableOutcome Csig second p → (o ≡ p) ↔ IsRelabelled first second

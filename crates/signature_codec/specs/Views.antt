@@ -1,0 +1,71 @@
+-- What the calls keep and answer, as the definitions see it.
+use Rattle.std.specs.Prelude.{◌≡◌, ℕ, List, drop, Option, Some, None, Result, Ok, Err}
+use Rattle.table_definitions.specs.Table.{Row, Face}
+use Rattle.signature_definitions.specs.declared.SigFault.{SigFault}
+use Rattle.signature_definitions.specs.declared.SigFault.TheVariants.{Destination, Gluing}
+use Rattle.signature_definitions.specs.SignatureText as signatures
+use Rattle.signature_definitions.specs.WalkOrder.{first_unordered, IsWalkOrdered}
+use Rattle.signature_definitions.specs.Spelling.{face_types, seen_gluings}
+use Rattle.signature_text_laws.specs.Slots.{Slots}
+use Rattle.signature_text_laws.specs.Walks.{Walking}
+use Rattle.signature_codec.specs.declared.numbers.Segment.{Segment}
+use Rattle.signature_codec.specs.declared.numbers.Segment.TheVariants.{Destinations, Gluings}
+use Rattle.signature_codec.specs.declared.heads.Head.{Head}
+use Rattle.signature_codec.specs.declared.types.Types.{Types}
+use Rattle.signature_codec.specs.declared.parts.Parts.{Parts}
+use Rattle.signature_codec.specs.declared.joining.Joining.{Joining}
+use Rattle.signature_codec.specs.declared.walk.Walk.{Walk}
+use Rattle.signature_codec.specs.declared.walk.NotOrdered.{NotOrdered}
+use Rattle.no_memory.specs.declared.Failure.{Failure}
+use Rattle.no_memory.specs.declared.Failure.TheVariants.{NoMemory, Fault}
+use Rattle.no_memory.specs.Failures.{IfFault}
+
+-- the fault of a number that is out of range
+abbrev pub fault_of_segment : Segment → ℕ → SigFault
+fault_of_segment Destinations at = Destination at
+fault_of_segment Gluings at = Gluing at
+
+abbrev pub head_view : Head → signatures.Head
+head_view h = record { count = h.count; width = h.width; next = h.next }
+
+abbrev pub types_view : Types → signatures.Types
+types_view t = record { read = t.read.items; left = t.left; ones = t.ones }
+
+-- the types, and the place behind them
+abbrev pub read_behind : Types → signatures.Types × ℕ
+read_behind t = (types_view t, t.next)
+
+abbrev pub parts_view : Parts → signatures.Parts
+parts_view p = record { types = p.types.items; destinations = p.destinations.items; gluings = p.gluings.items }
+
+-- what the calls keep, as the definitions see it
+abbrev pub slots_view : Parts → Joining → Slots
+slots_view p j = record {
+  met = j.met.items;
+  seen = j.seen;
+  parts = record { types = drop j.types_used p.types.items; destinations = drop j.seen_used p.destinations.items; gluings = drop j.seen_used p.gluings.items };
+}
+
+-- what a call keeps, as the definitions see it
+abbrev pub walk_view : Walk → Walking
+walk_view w = record { seen = w.seen; types = w.types.items; gluings = w.gluings.items }
+
+-- the face that a refusal names
+abbrev pub named_face : NotOrdered → Face
+named_face f = record { tet = f.tet; face = f.face }
+
+-- a call takes the face, or answers that it isn't in order
+abbrev pub Takes : {X : Type 0} → Walking → Face → Result X (Failure NotOrdered) → Option Walking → Type 0
+Takes new x (Ok u) taken = taken ≡ Some new
+Takes new x (Err NoMemory) taken = Unit {0}
+Takes new x (Err (Fault f)) taken = (taken ≡ None) × (named_face f ≡ x)
+
+-- the walk through all faces
+pub record IsWholeWalk (rows : List Row) (w : Walk) : Type 0 where
+  pub ordered : IsWalkOrdered rows
+  pub types : w.types.items ≡ face_types rows
+  pub gluings : w.gluings.items ≡ seen_gluings rows
+
+-- the face is the first that isn't in order
+abbrev pub StopsAt : List Row → Failure NotOrdered → Type 0
+StopsAt rows failure = IfFault failure (λ f. first_unordered rows ≡ Some (named_face f))

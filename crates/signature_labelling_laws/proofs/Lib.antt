@@ -1,0 +1,15 @@
+pub mod Standing
+pub mod Back
+pub mod Invariance
+pub mod Seen
+pub mod Agreeing
+pub mod Uniqueness
+pub mod Least
+pub mod Matching
+pub mod Growing
+pub mod Labelled
+pub mod Marking
+pub mod NewGluings
+pub mod Reaching
+pub mod Seeing
+pub mod Sound

@@ -1,0 +1,4 @@
+pub mod Whole
+pub mod Linking
+pub mod RetainedEnds
+pub mod Invariance

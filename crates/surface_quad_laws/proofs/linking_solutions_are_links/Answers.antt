@@ -1,0 +1,6 @@
+-- A gluing joins as many triangles, so there are as many all over a class.
+use Rattle.surface_quad_laws.proofs.LinkSums.{linking_links}
+use Rattle.surface_quad_laws.proofs.linking_solutions_are_links.Goals as goal
+
+pub returns : goal.returns
+returns c = λ s coords ys k h solution e. linking_links s k coords h ys solution e

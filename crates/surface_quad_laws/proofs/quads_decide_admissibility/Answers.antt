@@ -1,0 +1,6 @@
+-- Quads alone clash as they do in the vector.
+use Rattle.surface_quad_laws.proofs.QuadClashes.{quads_decide}
+use Rattle.surface_quad_laws.proofs.quads_decide_admissibility.Goals as goal
+
+pub returns : goal.returns
+returns c = λ n xs. quads_decide n xs

@@ -1,0 +1,6 @@
+-- Each class has a lift, and lifts join.
+use Rattle.surface_quad_lift_laws.proofs.Correspondence.{correspond}
+use Rattle.surface_quad_lift_laws.proofs.solutions_correspond.Goals as goal
+
+pub returns : goal.returns
+returns c = λ s links quad_rows xs k h equations. correspond s k links h quad_rows equations xs

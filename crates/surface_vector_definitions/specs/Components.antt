@@ -1,0 +1,35 @@
+-- The components of a surface with what is told of each, or the number of pieces where these are too many. Coordinates are standard or octagons.
+use Rattle.std.specs.Prelude.{◌≡◌, ℕ, ◌<◌, ◌≤◌, ◌↔◌, Bool, List, Result, Ok, Err, IsTrue, sum}
+use Rattle.std.specs.List.{AllZip}
+use Rattle.table_definitions.specs.Lists.{below}
+use Rattle.table_definitions.specs.Table.{Row}
+use Rattle.surface_definitions.specs.declared.Coords.{Coords}
+use Rattle.surface_vector_definitions.specs.declared.ManyPieces.{ManyPieces}
+use Rattle.surface_definitions.specs.Pieces.{AreComponents, component_vector, IsTwoSided, IsOrientableComponent}
+
+-- so many pieces are looked at
+abbrev pub most_pieces : ℕ
+most_pieces = 100000
+
+pub record Component : Type 0 where
+  pub vector : List ℕ
+  pub two_sided : Bool
+  pub orientable : Bool
+
+-- what is told of component i, by the component of each piece
+pub record IsComponent (rows : List Row) (coords : Coords) (xs classes : List ℕ) (i : ℕ) (c : Component) : Type 0 where
+  pub vector : c.vector ≡ component_vector xs classes i
+  pub two_sided : IsTrue c.two_sided ↔ IsTwoSided rows coords xs classes i
+  pub orientable : IsTrue c.orientable ↔ IsOrientableComponent rows coords xs classes i
+
+-- the components of a vector, numbered by their least pieces
+pub record AreListedComponents (rows : List Row) (coords : Coords) (xs : List ℕ) (listed : List Component) : Type 0 where
+  pub classes : List ℕ
+  pub count : ℕ
+  pub numbered : AreComponents rows coords xs classes count
+  pub each : AllZip (IsComponent rows coords xs classes) (below count) listed
+
+-- what is told of a vector: its components, and of more pieces than are looked at their number
+abbrev pub IsPiecesAnswer : List Row → Coords → List ℕ → Result (List Component) ManyPieces → Type 0
+IsPiecesAnswer rows coords xs (Ok listed) = (sum xs ≤ most_pieces) × AreListedComponents rows coords xs listed
+IsPiecesAnswer rows coords xs (Err many) = (most_pieces < sum xs) × (many.count ≡ sum xs)

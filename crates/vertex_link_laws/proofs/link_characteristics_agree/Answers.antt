@@ -1,6 +1,0 @@
--- No edge is counted once more.
-use Rattle.vertex_link_laws.proofs.Agreement.{vertices_and_euler}
-use Rattle.vertex_link_laws.proofs.link_characteristics_agree.Goals as goal
-
-pub returns : goal.returns
-returns c = λ s coords class link p k h valid l are. vertices_and_euler s coords class link p k h l are valid

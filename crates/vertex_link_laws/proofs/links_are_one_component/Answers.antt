@@ -1,6 +1,0 @@
--- Chains of gluings carry its triangles to one another.
-use Rattle.vertex_link_laws.proofs.Described.{described}
-use Rattle.vertex_link_laws.proofs.links_are_one_component.Goals as goal
-
-pub returns : goal.returns
-returns c = λ s coords class link listed k h lc l are. described s coords class link listed k h lc l are

@@ -1,6 +1,0 @@
--- The lemma is the law.
-use Rattle.walk_laws.proofs.Repeats.{pigeonhole_lem}
-use Rattle.walk_laws.proofs.pigeonhole.Goals as goal
-
-pub returns : goal.returns
-returns c = pigeonhole_lem

@@ -1,6 +1,0 @@
--- The lemma is the law.
-use Rattle.written_answer_laws.proofs.Covers.{cover_read}
-use Rattle.written_answer_laws.proofs.covers_are_read.Goals as goal
-
-pub returns : goal.returns
-returns c = cover_read

@@ -1,7 +1,0 @@
--- The lemmas are the laws.
-use Rattle.written_answer_laws.proofs.Entries.{listed_within}
-use Rattle.written_answer_laws.proofs.Surfaces.{surfaces_are_read_lem}
-use Rattle.written_answer_laws.proofs.surfaces_are_read.Goals as goal
-
-pub returns : goal.returns
-returns c = record { within = listed_within; read = surfaces_are_read_lem }
