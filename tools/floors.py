@@ -22,24 +22,24 @@ from repository import TOP, crates_of_build, lines_of_crates
 # what each crate is about; its kind is told by its name
 SUBJECTS = {
     "below all": "plain_facts no_memory",
-    "text": "text_definitions text_document_definitions text_document_laws text_partial_laws text_written_laws text_io"
+    "text": "text_definitions text_document_definitions text_document_laws text_partial_laws text_io"
     " memory_streams bench_io",
     "table": "table_definitions table_permutation_laws table_walk_laws perm_four finite_walks gluing_table table_commands",
     "skeleton": "skeleton_definitions skeleton_class_laws skeleton_laws skeleton vertex_links",
-    "signature": "signature_definitions signature_text_laws signature_labelling_laws signature_laws signature_codec"
+    "signature": "signature_definitions signature_text_laws signature_laws signature_codec"
     " canonical_labelling signature_census",
     "move": "move_definitions move_laws move_kept_laws move_link_laws pachner_moves move_undo move_commands",
-    "certificate": "certificate_definitions certificate_laws certificate_making_laws certificate_length_laws sphere_certificate"
-    " tri_build certificate_commands making_commands",
+    "certificate": "certificate_definitions certificate_laws sphere_certificate"
+    " tri_build certificate_commands",
     "cover": "cover_definitions cover_laws double_cover cover_commands",
     "presentation": "presentation_definitions presentation_laws edge_group",
-    "component": "component_definitions component_laws component_existence_laws component_signature component_commands",
-    "cone": "cone_definitions cone_text_definitions cone_laws cone_bound_laws cone_ray_laws cone_row_laws cone_solved_laws"
+    "component": "component_definitions component_laws component_signature",
+    "cone": "cone_definitions cone_text_definitions cone_laws cone_bound_laws cone_ray_laws cone_row_laws"
     " support_bits support_table residual_pairs cone_core ray_steps double_description late_columns number_bounds"
     " solved_rows bounded_list ray_answers vector_text enumeration_commands",
     "surface": "surface_definitions surface_vector_definitions surface_coordinate_laws surface_laws surface_equation_laws"
-    " surface_bound_laws surface_quad_laws surface_quad_lift_laws surface_octagon_laws surface_link_laws"
-    " surface_agreement_laws surface_efficiency_laws surface_euler_laws surface_orientation_laws"
+    " surface_quad_laws surface_quad_lift_laws surface_octagon_laws surface_link_laws"
+    " surface_agreement_laws surface_efficiency_laws surface_euler_laws"
     " surface_crushing_laws normal_discs matching_equations quad_condition quad_lift surface_pieces"
     " surface_properties crushing surface_list surface_answers vector_commands",
     "sum": "sum_definitions sum_laws ray_decompose sum_commands",

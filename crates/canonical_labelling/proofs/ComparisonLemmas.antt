@@ -8,11 +8,11 @@ use Rattle.std.proofs.lemmas.List.Elements.{All-append}
 use Rattle.plain_facts.proofs.Truths.{by_bool}
 use Rattle.table_definitions.specs.Table.{Gluing}
 use Rattle.signature_definitions.specs.Labellings.{Start}
-use Rattle.signature_labelling_laws.specs.Orders.{start_at, is_met, start_behind, follow}
+use Rattle.signature_laws.specs.Orders.{start_at, is_met, start_behind, follow}
 use Rattle.canonical_labelling.specs.Comparisons.{ComparisonView, IsComparison, numbered, crossed}
-use Rattle.signature_labelling_laws.proofs.Growing.{met_from, met_at}
-use Rattle.signature_labelling_laws.proofs.Marking.{met_inside, follow_met}
-use Rattle.signature_labelling_laws.proofs.Reaching.{few_apart}
+use Rattle.signature_laws.proofs.Growing.{met_from, met_at}
+use Rattle.signature_laws.proofs.Marking.{met_inside, follow_met}
+use Rattle.signature_laws.proofs.Reaching.{few_apart}
 use Rattle.table_definitions.proofs.Marked.{mark_same}
 
 pub few_numbered : (k : ℕ) (s : ComparisonView) → IsComparison k s → length s.order ≤ length s.numbers

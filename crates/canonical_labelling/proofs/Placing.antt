@@ -8,8 +8,8 @@ use Rattle.table_definitions.specs.Lists.{below}
 use Rattle.table_definitions.specs.Permutation.{IsPermutationOfFour}
 use Rattle.table_definitions.proofs.Bijections.{onto, IsDistinct-from_before}
 use Rattle.signature_definitions.specs.Labellings.{Start}
-use Rattle.signature_labelling_laws.specs.Orders.{start_at, IsWholeOrder}
-use Rattle.signature_labelling_laws.proofs.Marking.{start_is}
+use Rattle.signature_laws.specs.Orders.{start_at, IsWholeOrder}
+use Rattle.signature_laws.proofs.Marking.{start_is}
 
 -- the tetrahedron at the next place is in range
 pub item_below : (n : ℕ) (order : List Start) (i t : ℕ) (s : Start) → IsWholeOrder n order → i < length order → s ≡ get_or order i s → t ≡ s.tet → t < n

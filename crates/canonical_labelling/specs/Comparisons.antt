@@ -10,7 +10,7 @@ use Rattle.table_definitions.specs.Lists.{is_list_before}
 use Rattle.table_definitions.specs.Places.{face_of}
 use Rattle.signature_definitions.specs.Spelling.{seen_gluings}
 use Rattle.signature_text_laws.specs.Walks.{IsWalk}
-use Rattle.signature_labelling_laws.specs.Orders.{start_at, face_from, follow, AreMet, Numbers}
+use Rattle.signature_laws.specs.Orders.{start_at, face_from, follow, AreMet, Numbers}
 use Rattle.canonical_labelling.specs.declared.comparing.Comparison.{Comparison}
 
 -- the order and its marks, the place of each tetrahedron in the order, the new faces that were met from their other sides,

@@ -7,7 +7,7 @@ ghost use Rattle.table_definitions.specs.Table.{max_tets, IsTable};
 ghost use Rattle.signature_definitions.specs.Spelling as spellings;
 ghost use Rattle.signature_definitions.specs.Spelling.{character, packed};
 ghost use Rattle.signature_text_laws.specs.Texts.{destinations_text, indices_text};
-ghost use Rattle.signature_labelling_laws.specs.Starts.{IsTextFrom};
+ghost use Rattle.signature_laws.specs.Starts.{IsTextFrom};
 ghost use Rattle.canonical_labelling.specs.Comparisons as comparisons;
 ghost use Rattle.canonical_labelling.specs.Comparisons.{IsComparison, FollowsWalks, ReadsFew, IsDecided, IsUndecided, head_text, compare_by, comparison_view};
 

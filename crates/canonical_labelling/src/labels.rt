@@ -4,7 +4,7 @@ ghost use Rattle.std.specs.Prelude.{◌≡◌, ◌<◌, ◌≤◌, ℕ, [], leng
 ghost use Rattle.std.specs.List.{slice_index_or};
 ghost use Rattle.table_definitions.specs.Permutation.{IsPermutationOfFour};
 ghost use Rattle.table_definitions.specs.Relabelling.{IsRelabelling};
-ghost use Rattle.signature_labelling_laws.specs.Orders.{IsWholeOrder, Numbers, start_at};
+ghost use Rattle.signature_laws.specs.Orders.{IsWholeOrder, Numbers, start_at};
 
 use crate::Start;
 use gluing_table::Relabelling;

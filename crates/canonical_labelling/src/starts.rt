@@ -1,7 +1,7 @@
 //! The starts of the walks of a table, by number.
 
 ghost use Rattle.std.specs.Prelude.{◌≡◌};
-ghost use Rattle.signature_labelling_laws.specs.Starts as starts;
+ghost use Rattle.signature_laws.specs.Starts as starts;
 
 use crate::Start;
 use perm_four::perm_at;

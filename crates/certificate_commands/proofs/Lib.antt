@@ -1,1 +1,3 @@
 pub mod MoveLines
+pub mod Greatest
+pub mod Summed

@@ -9,7 +9,7 @@ use Rattle.move_laws.proofs.Legal.{no_fault}
 use Rattle.move_laws.proofs.Covered.{StandsForOld, IsInner, covered}
 use Rattle.move_laws.proofs.LedOn.{legal_moves_lead_on_lem}
 use Rattle.certificate_laws.specs.Laws.{MovesGoOn, MovesGoOnOnce}
-use Rattle.signature_labelling_laws.proofs.Standing.{same_relabelling}
+use Rattle.signature_laws.proofs.Standing.{same_relabelling}
 use Rattle.certificate_laws.proofs.CarriedFacets.{IsCarried, other_table, other_core, other_size}
 use Rattle.certificate_laws.proofs.CarriedLegal.{carried_legal}
 use Rattle.certificate_laws.proofs.CarriedPlaces.{IsKeptNumber, IsNewNumber, number_cases, kept_same, on, on_relabelling, on_goes_on}

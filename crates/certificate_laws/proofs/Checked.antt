@@ -9,8 +9,8 @@ use Rattle.move_definitions.specs.declared.MoveFault.{MoveFault}
 use Rattle.move_definitions.specs.Certificates.{standard_sphere, IsStandard}
 use Rattle.certificate_definitions.specs.Answers.{IsRefusedAt, sphere_text}
 use Rattle.certificate_definitions.specs.declared.CheckFault.TheVariants.{Illegal, NotConnected, NotStandard}
-use Rattle.signature_labelling_laws.proofs.Invariance.{relabels_back, relabels_connected}
-use Rattle.signature_labelling_laws.proofs.Uniqueness.{one_signature, tells_tables}
+use Rattle.signature_laws.proofs.Invariance.{relabels_back, relabels_connected}
+use Rattle.signature_laws.proofs.Uniqueness.{one_signature, tells_tables}
 use Rattle.certificate_laws.specs.Laws.{TextsTellStandard, AnswersAgree}
 use Rattle.certificate_laws.proofs.Sphere.{sphere_table, sphere_signature}
 use Rattle.move_laws.proofs.ListedFacets.{same_some}

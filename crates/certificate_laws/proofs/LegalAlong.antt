@@ -11,8 +11,8 @@ use Rattle.table_definitions.proofs.Permutations.{by_words}
 use Rattle.table_definitions.proofs.Carried.{perm_permutes, carried_is_table}
 use Rattle.signature_text_laws.proofs.SlotLaws.{ok_same}
 use Rattle.signature_text_laws.proofs.SpelledTables.{spelled_read}
-use Rattle.signature_labelling_laws.specs.Between.{inverted}
-use Rattle.signature_labelling_laws.proofs.Back.{inverted_stands, inverted_relabelling, carries_back}
+use Rattle.signature_laws.specs.Between.{inverted}
+use Rattle.signature_laws.proofs.Back.{inverted_stands, inverted_relabelling, carries_back}
 use Rattle.move_laws.proofs.Legal.{no_fault}
 use Rattle.certificate_definitions.specs.CarriedMoves.{core_under, move_under}
 use Rattle.certificate_laws.specs.Laws.{LegalMovesGoAlong, SignaturesKeepLegalMoves}

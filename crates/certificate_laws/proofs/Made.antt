@@ -12,7 +12,7 @@ use Rattle.move_definitions.specs.declared.MoveFault.TheVariants.{TooMany}
 use Rattle.move_definitions.specs.Certificates.{standard_sphere, is_accepted, two_three_moves, three_two_moves, one_four_moves, candidates, drawn, next_state, IsMaking}
 use Rattle.certificate_definitions.specs.CarriedBack.{AreCarriedBack}
 use Rattle.certificate_definitions.specs.Makings.{IsMade}
-use Rattle.signature_labelling_laws.proofs.Invariance.{relabels_back}
+use Rattle.signature_laws.proofs.Invariance.{relabels_back}
 use Rattle.move_laws.proofs.Cores.{drawn_core, these_or, drawn_among}
 use Rattle.move_laws.proofs.Played.{makings_agree_lem, played_table, all_led_table}
 use Rattle.move_laws.proofs.LedOn.{legal_moves_lead_on_lem}

@@ -14,7 +14,7 @@ use Rattle.move_definitions.specs.Moves.{Move, IsCore, Facet, facet, new_facet, 
 use Rattle.certificate_definitions.specs.CarriedMoves.{by_labels, is_taken}
 use Rattle.certificate_definitions.specs.CarriedBack.{is_renaming, facet_at, Correspond, IsCarriedBack, staying, move_back, AreCarriedBack}
 use Rattle.table_definitions.proofs.ListFacts.{list_all-below}
-use Rattle.signature_labelling_laws.proofs.Standing.{same_relabelling}
+use Rattle.signature_laws.proofs.Standing.{same_relabelling}
 use Rattle.move_definitions.proofs.CoreTests.{core_size}
 use Rattle.move_laws.proofs.Labels.{ascending}
 use Rattle.move_laws.proofs.ListedFacets.{same_some}

@@ -11,8 +11,8 @@ use Rattle.move_definitions.specs.Moves.{Move, Facet, facet, kept, new_length, n
 use Rattle.move_definitions.specs.declared.MoveFault.TheVariants.{TooMany}
 use Rattle.certificate_definitions.specs.CarriedMoves.{by_labels, is_taken, number_then, GoesOn}
 use Rattle.certificate_definitions.specs.CarriedBack.{IsCarriedBack, move_back}
-use Rattle.signature_labelling_laws.specs.Between.{after}
-use Rattle.signature_labelling_laws.proofs.Back.{after_stands, after_relabelling, carries_on}
+use Rattle.signature_laws.specs.Between.{after}
+use Rattle.signature_laws.proofs.Back.{after_stands, after_relabelling, carries_on}
 use Rattle.table_definitions.proofs.Permutations.{compose-identity}
 use Rattle.table_definitions.proofs.Faces.{gluing_to}
 use Rattle.move_laws.proofs.Labels.{AreLabels, ascending, new_labels, HasLabel, label_at, HasVertex, vertex_at, length-labels, image-map}

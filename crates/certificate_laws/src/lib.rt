@@ -1,9 +1,10 @@
 //! What follows from the definitions of certificates alone, whatever the code: moves go along relabellings, the moves back
-//! of a making are its certificate, and a table with moves is answered in one way.
+//! of a making are its certificate and as many as are asked for, and a table with moves is answered in one way.
 #![tactic(auto)]
 
 ghost use Rattle.certificate_laws.specs.LoopLaws.{ChecksGoOn, ChecksRefuse, DescentsGoOn, DescentsAreDone, MakingsGoOn, MakingsAreDone, WaysBackGoOn};
 ghost use Rattle.certificate_laws.specs.Laws.{LegalMovesGoAlong, SignaturesKeepLegalMoves, MovesGoOn, MovesGoOnOnce, PlaysGoOn, MovesKeepConnected, WaysKeepConnected, StepsGoBack, WaysLeadBack, WaysBackLead, WaysBackAgree, TablesAreMade, OneIsMade, MadeAreCertified, SphereIsTable, SphereHasSignature, TextsTellStandard, AnswersAgree, AnswersExist, DescentsLessen, DescentsEnd, DescentsCertify, StandardOrNot, DescentsExist, OneDescent, DescentAnswersExist, DescentAnswersAgree};
+ghost use Rattle.certificate_laws.specs.Makings.{OneFoursAreAccepted, CandidatesAreThere, PlaysAddFew, MakingsEndAtLimit, MakingsHaveMost, CertificatesHaveMost, TablesAreMadeWithMost};
 
 /// The move that stands for a legal move, where a relabelling carries the table, is legal, and one relabelling carries on.
 pub fn moves_go_on()
@@ -94,4 +95,15 @@ pub fn makings_go_on()
 /// A way back goes on from the last move to the first.
 pub fn ways_back_go_on()
     ensures { WaysBackGoOn }
+{}
+
+/// While three tetrahedra more are within the limit there is a move to draw, so with at most 333 moves a making goes on to its end.
+pub fn makings_have_most()
+    ensures accepted { OneFoursAreAccepted }
+    ensures there { CandidatesAreThere }
+    ensures few { PlaysAddFew }
+    ensures limit { MakingsEndAtLimit }
+    ensures moves { MakingsHaveMost }
+    ensures certificates { CertificatesHaveMost }
+    ensures made { TablesAreMadeWithMost }
 {}

@@ -11,8 +11,8 @@ use Rattle.table_definitions.specs.Places.{Place, whole, across, SameComponent, 
 use Rattle.table_definitions.proofs.ChainLaws.{kept_along, joined_refl, joined_trans, crossed}
 use Rattle.signature_definitions.specs.Spelling.{IsSignature}
 use Rattle.signature_definitions.proofs.Computed.{computed}
-use Rattle.signature_labelling_laws.proofs.Least.{empty_signature}
-use Rattle.signature_labelling_laws.proofs.Uniqueness.{one_signature}
+use Rattle.signature_laws.proofs.Least.{empty_signature}
+use Rattle.signature_laws.proofs.Uniqueness.{one_signature}
 use Rattle.component_definitions.specs.Parts.{Part, place_in, renumbered, rows_of, first_of, IsPart, AreParts}
 use Rattle.component_definitions.specs.ComponentSignature.{component_text, IsComponentSignature}
 use Rattle.component_laws.proofs.Numbers.{place_at, place_of, entry_of}

@@ -7,10 +7,10 @@ use Rattle.table_definitions.specs.Table.{Gluing, Row, Face, IsTable, glue}
 use Rattle.table_definitions.specs.Places.{whole, IsJoined, SameComponent}
 use Rattle.table_definitions.specs.Relabelling.{Relabelling, IsRelabelling, IsRelabelled, Carries, stand_in, face_under, gluing_under}
 use Rattle.table_definitions.proofs.Carried.{image_in_range, images_apart, perm_permutes, comes_from}
-use Rattle.signature_labelling_laws.specs.Between.{made, inverted}
-use Rattle.signature_labelling_laws.proofs.Standing.{made_stands, made_relabelling}
-use Rattle.signature_labelling_laws.proofs.Back.{inverted_stands, carries_back}
-use Rattle.signature_labelling_laws.proofs.Invariance.{led}
+use Rattle.signature_laws.specs.Between.{made, inverted}
+use Rattle.signature_laws.proofs.Standing.{made_stands, made_relabelling}
+use Rattle.signature_laws.proofs.Back.{inverted_stands, carries_back}
+use Rattle.signature_laws.proofs.Invariance.{led}
 use Rattle.component_definitions.specs.Parts.{Part, place_in, renumbered, first_of, IsPart, AreParts}
 use Rattle.component_laws.proofs.Numbers.{place_of, fits, stands_once}
 use Rattle.component_laws.proofs.Members.{part_at, numbers_at, StandsAt, part_is, stands_at, one_part, member_of, member_below, first_member, joined_member, joins, glued_member, length-part, glue-part, part_is_table}

@@ -9,8 +9,8 @@ use Rattle.table_definitions.specs.Table.{Gluing}
 use Rattle.table_definitions.specs.Relabelling.{Relabelling, IsRelabelling, stand_in}
 use Rattle.table_definitions.proofs.Carried.{image_in_range, images_apart, perm_permutes}
 use Rattle.signature_definitions.specs.Labellings.{IsLeastRelabelling}
-use Rattle.signature_labelling_laws.specs.Between.{made}
-use Rattle.signature_labelling_laws.proofs.Standing.{made_relabelling}
+use Rattle.signature_laws.specs.Between.{made}
+use Rattle.signature_laws.proofs.Standing.{made_relabelling}
 use Rattle.component_definitions.specs.Parts.{Part}
 use Rattle.component_definitions.specs.SameParts.{GoesBy, IsSameParts}
 use Rattle.component_laws.proofs.Members.{numbers_at, StandsAt, stands_at, one_place, member_of, member_below, length-part}

@@ -6,7 +6,7 @@ use Rattle.table_definitions.specs.Table.{Row, IsTable}
 use Rattle.table_definitions.specs.Places.{IsConnected}
 use Rattle.table_definitions.specs.Relabelling.{IsRelabelled}
 use Rattle.signature_definitions.specs.Spelling.{IsSignature}
-use Rattle.signature_labelling_laws.proofs.Uniqueness.{tells_tables}
+use Rattle.signature_laws.proofs.Uniqueness.{tells_tables}
 use Rattle.component_definitions.specs.Parts.{Part, IsPart, AreParts}
 use Rattle.component_definitions.specs.ComponentSignature.{component_text, IsComponentSignature}
 use Rattle.component_laws.proofs.Members.{part_at, part_is, part_is_table}

@@ -7,8 +7,8 @@ use Rattle.table_definitions.specs.Table.{Gluing, Row, Face, IsTable, glue}
 use Rattle.table_definitions.specs.Relabelling.{Relabelling, IsRelabelling, IsRelabelled, Carries, stand_in, face_under, gluing_under}
 use Rattle.table_definitions.proofs.Carried.{image_in_range, images_apart, perm_permutes}
 use Rattle.table_definitions.proofs.Faces.{face_at}
-use Rattle.signature_labelling_laws.specs.Between.{made}
-use Rattle.signature_labelling_laws.proofs.Standing.{made_stands, made_relabelling}
+use Rattle.signature_laws.specs.Between.{made}
+use Rattle.signature_laws.proofs.Standing.{made_stands, made_relabelling}
 use Rattle.component_definitions.specs.Parts.{Part, place_in, renumbered, IsPart, AreParts}
 use Rattle.component_laws.proofs.Numbers.{place_of, fits}
 use Rattle.component_laws.proofs.Members.{part_at, numbers_at, StandsAt, part_is, stands_at, one_place, member_of, member_below, glued_member, length-part, glue-part}

@@ -12,8 +12,8 @@ use Rattle.table_definitions.specs.Relabelling.{Relabelling, stand_in}
 use Rattle.table_definitions.proofs.ListLaws.{not_before_itself}
 use Rattle.signature_definitions.specs.Spelling.{IsSignature}
 use Rattle.signature_definitions.specs.Labellings.{IsLeastRelabelling}
-use Rattle.signature_labelling_laws.proofs.Uniqueness.{one_signature, one_least, before_before}
-use Rattle.signature_labelling_laws.proofs.Standing.{same_relabelling}
+use Rattle.signature_laws.proofs.Uniqueness.{one_signature, one_least, before_before}
+use Rattle.signature_laws.proofs.Standing.{same_relabelling}
 use Rattle.component_definitions.specs.Parts.{Part, first_of}
 use Rattle.component_definitions.specs.SameParts.{StandsBefore, GoesBy, ArePartsInOrder, IsSameParts}
 use Rattle.component_laws.proofs.Members.{part_at, numbers_at, StandsAt, part_is, part_is_table, stands_at}

@@ -15,7 +15,7 @@ use Rattle.table_definitions.specs.Lists.{below, is_list_before}
 use Rattle.table_definitions.specs.Table.{Row}
 use Rattle.table_definitions.proofs.Carried.{permutation_below, permutation_apart}
 use Rattle.signature_definitions.specs.Spelling.{IsSignature}
-use Rattle.signature_labelling_laws.proofs.Uniqueness.{neither_before}
+use Rattle.signature_laws.proofs.Uniqueness.{neither_before}
 use Rattle.component_definitions.specs.Parts.{Part, first_of, AreParts}
 use Rattle.component_definitions.specs.SameParts.{part_at, StandsBefore, ArePartsInOrder}
 use Rattle.component_definitions.specs.ComponentSignature.{component_text, IsInOrder, IsComponentSignature}

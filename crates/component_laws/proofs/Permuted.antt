@@ -11,7 +11,7 @@ use Rattle.table_definitions.specs.Lists.{below, is_list_before}
 use Rattle.table_definitions.proofs.Bijections.{onto, IsDistinct-from_before}
 use Rattle.table_definitions.proofs.Carried.{permutation_below, permutation_apart}
 use Rattle.table_definitions.proofs.ListLaws.{not_before_itself}
-use Rattle.signature_labelling_laws.proofs.Uniqueness.{neither_before}
+use Rattle.signature_laws.proofs.Uniqueness.{neither_before}
 use Rattle.component_laws.proofs.Numbers.{fits}
 
 abbrev pub Texts : Type 0

@@ -10,9 +10,9 @@ use Rattle.table_definitions.specs.Relabelling.{Relabelling, IsRelabelling, IsRe
 use Rattle.signature_definitions.specs.Labellings.{IsLeastRelabelling}
 use Rattle.table_definitions.proofs.Bijections.{below_contains}
 use Rattle.table_definitions.proofs.Carried.{permutation_below, permutation_apart}
-use Rattle.signature_labelling_laws.proofs.Invariance.{relabels_back}
-use Rattle.signature_labelling_laws.specs.Between.{made}
-use Rattle.signature_labelling_laws.proofs.Standing.{same_relabelling, made_stands}
+use Rattle.signature_laws.proofs.Invariance.{relabels_back}
+use Rattle.signature_laws.specs.Between.{made}
+use Rattle.signature_laws.proofs.Standing.{same_relabelling, made_stands}
 use Rattle.component_definitions.specs.SameParts.{GoesBy, IsSameParts}
 use Rattle.component_laws.proofs.Members.{part_at, StandsAt, part_is, part_is_table, stands_at}
 use Rattle.component_laws.proofs.Matching.{Matches, stand_for, stand_is, matched_fits, matched_carries, IsMatching, matches as matches_of}

@@ -7,8 +7,8 @@ use Rattle.std.proofs.lemmas.Slice.Zip.{AllZip-long}
 use Rattle.table_definitions.specs.Table.{Row, IsTable}
 use Rattle.table_definitions.specs.Relabelling.{IsRelabelled}
 use Rattle.signature_definitions.specs.Spelling.{IsSignature}
-use Rattle.signature_labelling_laws.proofs.Uniqueness.{tells_tables}
-use Rattle.signature_labelling_laws.proofs.Invariance.{relabels_back, relabels_on}
+use Rattle.signature_laws.proofs.Uniqueness.{tells_tables}
+use Rattle.signature_laws.proofs.Invariance.{relabels_back, relabels_on}
 use Rattle.component_definitions.specs.Parts.{Part}
 use Rattle.component_definitions.specs.ComponentSignature.{component_text, IsComponentSignature}
 use Rattle.component_laws.proofs.Numbers.{fits}

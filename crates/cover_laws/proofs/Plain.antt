@@ -6,8 +6,8 @@ use Rattle.table_definitions.specs.Permutation.{IsPermutationOfFour, compose, id
 use Rattle.table_definitions.specs.Table.{Gluing, Row, Face, glue}
 use Rattle.table_definitions.specs.Relabelling.{Relabelling, IsRelabelling, Carries, stand_in, face_under, gluing_under}
 use Rattle.table_definitions.proofs.Permutations.{compose-identity, identity-compose, identity_permutes, inverse-identity, image-identity}
-use Rattle.signature_labelling_laws.specs.Between.{made}
-use Rattle.signature_labelling_laws.proofs.Standing.{made_stands, made_relabelling}
+use Rattle.signature_laws.specs.Between.{made}
+use Rattle.signature_laws.proofs.Standing.{made_stands, made_relabelling}
 
 map-same : (n a : ℕ) → map (λ (_ : ℕ). identity) (range_with_len a n) ≡ replicate n identity
 map-same zero a = refl

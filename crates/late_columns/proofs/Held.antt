@@ -6,8 +6,8 @@ use Rattle.std.proofs.lemmas.List.Sums.{sum_by-cons}
 use Rattle.cone_definitions.specs.Vectors.{unit}
 use Rattle.cone_definitions.specs.Rows.{Row, plus_part, minus_part, positive_coefficient, negative_coefficient, IsZeroAt, IsSolution}
 use Rattle.cone_definitions.proofs.Units.{entry-unit_other}
-use Rattle.cone_solved_laws.specs.Fresh.{IsUntouched}
-use Rattle.cone_solved_laws.proofs.Solutions.{all_behind}
+use Rattle.cone_row_laws.specs.Fresh.{IsUntouched}
+use Rattle.cone_row_laws.proofs.RedundantRows.{all_behind}
 use Rattle.late_columns.specs.Late.{IsUnseen, held_rows}
 
 -- the row that is 0 where a column is

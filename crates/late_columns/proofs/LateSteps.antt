@@ -20,7 +20,7 @@ use Rattle.ray_steps.specs.Unions.{HaveSmallUnions}
 use Rattle.cone_definitions.specs.Unordered.{HasSurfaces}
 use Rattle.ray_steps.proofs.RayLemmas.{length-rays_of, ray_at-rays_of}
 use Rattle.cone_definitions.proofs.Unordered.{place_of}
-use Rattle.cone_solved_laws.specs.Fresh.{IsUntouched}
+use Rattle.cone_row_laws.specs.Fresh.{IsUntouched}
 use Rattle.late_columns.specs.declared.entering.LateRays.{LateRays}
 use Rattle.late_columns.specs.declared.fresh.Fresh.{Fresh}
 use Rattle.late_columns.specs.Late.{IsUnseen, held_rows, AreLate, AreSeen}

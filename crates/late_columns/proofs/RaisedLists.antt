@@ -18,7 +18,7 @@ use Rattle.ray_steps.specs.Signs.{IsBoundedSign, ComesFromPlaces, IsMadeUpTo}
 use Rattle.ray_steps.proofs.RayLemmas.{rays_of-push}
 use Rattle.cone_definitions.proofs.Unordered.{place_is_one}
 use Rattle.ray_steps.proofs.CombinationLemmas.{sign_read, comes_read}
-use Rattle.cone_solved_laws.proofs.Fresh.{set_zero}
+use Rattle.cone_row_laws.proofs.Fresh.{set_zero}
 use Rattle.late_columns.specs.Raised.{IsLeft, HasRoom, AppendsRaised, ComesFromRaised, IsFreshStepAt, IsRaisedFrom}
 
 -- vectors without a column are the same where they are with it set

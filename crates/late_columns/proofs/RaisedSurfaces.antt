@@ -13,8 +13,8 @@ use Rattle.ray_steps.specs.Signs.{IsSignAt, AreSigns, ComesFromPlaces}
 use Rattle.cone_definitions.proofs.Unordered.{place_of}
 use Rattle.ray_steps.proofs.CombinationLemmas.{comes_read}
 use Rattle.ray_steps.proofs.SurfaceSteps.{the_step, sign_at_place, pair_stands}
-use Rattle.cone_solved_laws.specs.Fresh.{IsUntouched, IsFresh, IsRaised, ComesFromOthers}
-use Rattle.cone_solved_laws.proofs.Fresh.{fresh_next}
+use Rattle.cone_row_laws.specs.Fresh.{IsUntouched, IsFresh, IsRaised, ComesFromOthers}
+use Rattle.cone_row_laws.proofs.Fresh.{fresh_next}
 use Rattle.late_columns.specs.Late.{IsUnseen, held_rows}
 use Rattle.late_columns.specs.Fresh.{IsFree}
 use Rattle.late_columns.specs.Raised.{IsLeft, ComesFromRaised, IsFreshStepAt, IsRaisedFrom}

@@ -10,8 +10,8 @@ use Rattle.cone_definitions.specs.Surfaces.{Clash, PairsAreApart, IsVertexSurfac
 use Rattle.cone_definitions.proofs.Units.{entry-unit_same}
 use Rattle.cone_definitions.proofs.Entries.{nonzero_before}
 use Rattle.cone_definitions.specs.Unordered.{HasSurfaces}
-use Rattle.cone_solved_laws.specs.Fresh.{IsUntouched}
-use Rattle.cone_solved_laws.proofs.Fresh.{units, columns_are_units}
+use Rattle.cone_row_laws.specs.Fresh.{IsUntouched}
+use Rattle.cone_row_laws.proofs.Fresh.{units, columns_are_units}
 use Rattle.late_columns.specs.Late.{IsUnseen, held_rows}
 use Rattle.late_columns.proofs.Held.{held_solution, seen_before, unseen_after, untouched_held}
 use Rattle.late_columns.proofs.Faces.{surface_of_face, surface_in_face, gone_in_face, column_face}

@@ -5,7 +5,7 @@ use Rattle.cone_definitions.specs.Rows.{Row}
 use Rattle.cone_definitions.specs.Surfaces.{Clash, PairsAreApart}
 use Rattle.ray_steps.specs.Rays.{rays_of}
 use Rattle.cone_definitions.specs.Unordered.{HasSurfaces}
-use Rattle.cone_solved_laws.specs.Fresh.{IsUntouched}
+use Rattle.cone_row_laws.specs.Fresh.{IsUntouched}
 use Rattle.late_columns.specs.declared.entering.LateRays.{LateRays}
 
 -- the column isn't seen; a column past the end isn't among those

@@ -10,8 +10,8 @@ use Rattle.table_definitions.proofs.ChainLaws.{Steps, steps_across, across_by, j
 use Rattle.table_definitions.proofs.Faces.{face_at}
 use Rattle.table_definitions.proofs.Permutations.{inverse_permutes}
 use Rattle.table_definitions.proofs.TableLaws.{glued_face}
-use Rattle.signature_labelling_laws.specs.Between.{inverted}
-use Rattle.signature_labelling_laws.proofs.Back.{inverted_stands, inverted_relabelling, carries_back}
+use Rattle.signature_laws.specs.Between.{inverted}
+use Rattle.signature_laws.proofs.Back.{inverted_stands, inverted_relabelling, carries_back}
 use Rattle.move_link_laws.proofs.JoinedBack.{there_again}
 use Rattle.move_link_laws.proofs.Joined.{through}
 

@@ -5,7 +5,7 @@ use Rattle.table_definitions.specs.Lists.{below}
 use Rattle.table_definitions.specs.Table.{Row, IsTable}
 use Rattle.table_definitions.specs.Relabelling.{Relabelling, IsRelabelled}
 use Rattle.component_definitions.specs.SameParts.{part_at, IsSameParts}
-use Rattle.signature_labelling_laws.proofs.Invariance.{relabels_back}
+use Rattle.signature_laws.proofs.Invariance.{relabels_back}
 use Rattle.component_laws.proofs.Members.{part_is, part_is_table}
 use Rattle.component_laws.proofs.Matching.{IsMatching, matched_tables}
 use Rattle.component_laws.proofs.SameParts.{order_long, order_below, order_apart, order_holds, same_parts_carry}

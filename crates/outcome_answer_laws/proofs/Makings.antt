@@ -4,7 +4,7 @@ use Rattle.command_definitions.specs.declared.Request.TheVariants.{Make, Bulk}
 use Rattle.outcome_definitions.specs.Outcomes.{Outcome}
 use Rattle.outcome_definitions.specs.Makings.{IsMakeAnswer, IsBulkAnswer, IsSummary}
 use Rattle.certificate_laws.proofs.Made.{made_are_certified_lem}
-use Rattle.certificate_length_laws.proofs.Makings.{certificates_have_most}
+use Rattle.certificate_laws.proofs.Makings.{certificates_have_most}
 use Rattle.outcome_answer_laws.specs.Makings.{IsTableWithMoves, IsSummaryWithMoves, AllMovesAreMade, AllMovesAreSummedUp}
 use Rattle.outcome_answer_laws.proofs.Asked.{answer_to}
 

@@ -6,7 +6,7 @@ use Rattle.table_definitions.specs.Table.{Row}
 use Rattle.table_definitions.specs.Places.{IsConnected}
 use Rattle.text_document_definitions.specs.Documents.{table_document}
 use Rattle.command_definitions.specs.declared.Request.TheVariants.{Sig, Csig}
-use Rattle.signature_labelling_laws.proofs.Uniqueness.{tells_tables}
+use Rattle.signature_laws.proofs.Uniqueness.{tells_tables}
 use Rattle.component_laws.proofs.Signatures.{component_signatures_tell}
 use Rattle.outcome_definitions.specs.Outcomes.{Outcome}
 use Rattle.outcome_definitions.specs.Canonical.{done, IsSigned, IsSignatureAnswer}

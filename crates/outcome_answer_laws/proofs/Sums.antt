@@ -32,10 +32,10 @@ use Rattle.outcome_definitions.specs.Outcomes.{Outcome}
 use Rattle.outcome_definitions.specs.Sums.{AreAnswered, unfit_status, sum_refusal_status, IsVerdict, IsSummed, IsDecomposed, IsDecomposeAnswer, AreFit, IsAddedUp, accepted_outcome, addup_outcome, sums_outcome, IsAddupAnswer}
 use Rattle.outcome_laws.proofs.Summed.{verdicts_fit, one_addup}
 use Rattle.outcome_laws.proofs.Certified.{table_with_lines}
-use Rattle.surface_bound_laws.specs.Bounds.{number_bound}
-use Rattle.surface_bound_laws.proofs.Bounds.{not_past}
-use Rattle.surface_bound_laws.proofs.Few.{own}
-use Rattle.surface_bound_laws.proofs.Powers.{most as few_within}
+use Rattle.surface_equation_laws.specs.Bounds.{number_bound}
+use Rattle.surface_equation_laws.proofs.Bounds.{not_past}
+use Rattle.surface_equation_laws.proofs.Few.{own}
+use Rattle.surface_equation_laws.proofs.Powers.{most as few_within}
 use Rattle.outcome_answer_laws.specs.Sums.{IsSumOfSurfaces, AreSumsOfVertexSurfaces, AreDecomposed, IsDecomposition, IsTrueSum, IsAddition, VectorsAreDecomposed, TrueSumsAreAccepted}
 use Rattle.outcome_answer_laws.proofs.Asked.{means_by, status_of}
 

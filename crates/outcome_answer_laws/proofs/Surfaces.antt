@@ -14,11 +14,11 @@ use Rattle.command_definitions.specs.declared.Request.TheVariants.{Surfaces}
 use Rattle.outcome_definitions.specs.Outcomes.{Outcome}
 use Rattle.outcome_definitions.specs.Enumerations.{IsSurfacesAnswer}
 use Rattle.outcome_laws.proofs.Certified.{table_alone}
-use Rattle.surface_bound_laws.specs.Bounds.{number_bound}
-use Rattle.surface_bound_laws.specs.Few.{most_tetrahedra}
-use Rattle.surface_bound_laws.proofs.Bounds.{not_past}
-use Rattle.surface_bound_laws.proofs.Few.{own}
-use Rattle.surface_bound_laws.proofs.Powers.{most as few_within}
+use Rattle.surface_equation_laws.specs.Bounds.{number_bound}
+use Rattle.surface_equation_laws.specs.Few.{most_tetrahedra}
+use Rattle.surface_equation_laws.proofs.Bounds.{not_past}
+use Rattle.surface_equation_laws.proofs.Few.{own}
+use Rattle.surface_equation_laws.proofs.Powers.{most as few_within}
 use Rattle.outcome_answer_laws.specs.Surfaces.{IsTableList, BoundedTablesAreListed, FewTablesAreListed}
 use Rattle.outcome_answer_laws.proofs.Asked.{answer_to, answer_to_value}
 

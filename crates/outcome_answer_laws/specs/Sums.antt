@@ -24,7 +24,7 @@ use Rattle.outcome_definitions.specs.Outcomes.{Outcome}
 use Rattle.outcome_definitions.specs.Canonical.{done}
 use Rattle.outcome_definitions.specs.Enumerations.{IsPastAnswered}
 use Rattle.outcome_definitions.specs.Sums.{IsFirstRefused, sum_refusal_outcome, IsVerdict, IsSummed, AreFit, accepted_outcome, sums_text}
-use Rattle.surface_bound_laws.specs.Few.{most_tetrahedra}
+use Rattle.surface_equation_laws.specs.Few.{most_tetrahedra}
 use Rattle.outcome_answer_laws.specs.Requests.{Means}
 
 -- the vector, taken so many times, is the sum of the terms: listed surfaces, ascending, each taken at least once

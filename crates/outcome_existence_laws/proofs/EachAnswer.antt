@@ -27,7 +27,7 @@ use Rattle.outcome_laws.proofs.Certified.{answered, table_alone, table_with_line
 use Rattle.outcome_laws.proofs.Covered.{some_cover}
 use Rattle.outcome_laws.proofs.Making.{some_make}
 use Rattle.outcome_laws.proofs.ReadPairs.{both_are_tables, table_with_vector}
-use Rattle.component_existence_laws.proofs.Answers.{some_signature_answer, some_same_answer}
+use Rattle.outcome_existence_laws.proofs.Answers.{some_signature_answer, some_same_answer}
 use Rattle.outcome_existence_laws.proofs.ReadTables.{all_are_tables, table_with_blocks, steps_with_cores}
 use Rattle.outcome_existence_laws.proofs.SignedTables.{some_signature, some_same, some_group}
 use Rattle.outcome_existence_laws.proofs.PlayedSteps.{some_script}

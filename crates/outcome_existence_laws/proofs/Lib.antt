@@ -9,3 +9,9 @@ pub mod SummedUp
 pub mod Vectored
 pub mod Informed
 pub mod EachAnswer
+mod Sorting
+pub mod LeastExists
+pub mod Ordering
+pub mod PartRelabellings
+pub mod Answers
+pub mod Splitting

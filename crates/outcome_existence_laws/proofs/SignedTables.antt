@@ -9,11 +9,11 @@ use Rattle.table_definitions.specs.Table.{Row, IsTable}
 use Rattle.table_definitions.specs.Places.{IsConnected, IsLeastUnreached}
 use Rattle.signature_definitions.specs.Census.{table_in, signature_in, IsCensus, IsPlaced}
 use Rattle.signature_definitions.proofs.CensusLaws.{census_goes_on, empty_census}
-use Rattle.signature_labelling_laws.proofs.Uniqueness.{tells_tables}
+use Rattle.signature_laws.proofs.Uniqueness.{tells_tables}
 use Rattle.signature_laws.proofs.Connected.{connected_or_unreached_lem}
 use Rattle.signature_laws.proofs.Walks.{signatures_exist_lem}
-use Rattle.component_existence_laws.proofs.LeastExists.{same_or_not, least_exists}
-use Rattle.component_existence_laws.proofs.Answers.{relabelled_or_not}
+use Rattle.outcome_existence_laws.proofs.LeastExists.{same_or_not, least_exists}
+use Rattle.outcome_existence_laws.proofs.Answers.{relabelled_or_not}
 use Rattle.text_definitions.specs.Written.{line}
 use Rattle.outcome_definitions.specs.Outcomes.{Outcome}
 use Rattle.outcome_definitions.specs.Canonical.{done, not_connected_outcome, IsSignatureAnswer, relabelling_text, different_outcome, IsSameAnswer, census_text, IsGroupAnswer}

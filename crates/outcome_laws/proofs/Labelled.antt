@@ -7,7 +7,7 @@ use Rattle.table_definitions.specs.Relabelling.{Relabelling}
 use Rattle.table_definitions.proofs.ChainLaws.{one_unreached, connected_or_not}
 use Rattle.signature_definitions.specs.Census.{table_in}
 use Rattle.signature_definitions.proofs.OneCensus.{one_census}
-use Rattle.signature_labelling_laws.proofs.Uniqueness.{one_signature, one_least}
+use Rattle.signature_laws.proofs.Uniqueness.{one_signature, one_least}
 use Rattle.outcome_definitions.specs.Outcomes.{Outcome}
 use Rattle.outcome_definitions.specs.Canonical.{done, not_connected_outcome, IsNotConnected, IsSignatureAnswer, relabelling_text, IsCompared, IsSameAnswer, census_text, IsGrouped, IsFirstNotConnected, IsGroupAnswer}
 use Rattle.text_definitions.specs.Written.{line}

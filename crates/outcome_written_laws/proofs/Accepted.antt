@@ -17,7 +17,7 @@ use Rattle.certificate_definitions.specs.declared.CheckFault.{CheckFault}
 use Rattle.certificate_definitions.specs.Answers.{CheckAnswer, IsChecked}
 use Rattle.outcome_laws.proofs.Certified.{one_check}
 use Rattle.outcome_written_laws.specs.Certificates.{AcceptedAreCertificates, CertificatesAreAccepted, ReachedDescentsAreAccepted, MadeTablesAreAccepted}
-use Rattle.certificate_making_laws.proofs.WrittenMoves.{written_moves_read}
+use Rattle.outcome_written_laws.proofs.WrittenMoves.{written_moves_read}
 
 accepted_there : (rows : List Row) (moves : List Move) (o : Outcome) → IsCertificate rows moves → o ≡ done accepted_text → IsCheckAnswer (rows, moves) o
 accepted_there rows moves o c e = record { told = Ok tt; checked = c; outcome = e }

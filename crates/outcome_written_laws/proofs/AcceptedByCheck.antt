@@ -9,7 +9,7 @@ use Rattle.certificate_definitions.specs.Makings.{IsMade}
 use Rattle.certificate_laws.proofs.Descents.{descents_end_lem, descents_certify_lem}
 use Rattle.certificate_laws.proofs.Made.{made_are_certified_lem, made_table, ways_back_lead_lem}
 use Rattle.certificate_laws.proofs.Sphere.{sphere_table}
-use Rattle.certificate_length_laws.proofs.Makings.{making_short}
+use Rattle.certificate_laws.proofs.Makings.{making_short}
 use Rattle.text_document_definitions.specs.Documents.{moves_document}
 use Rattle.command_definitions.specs.declared.Request.{Request}
 use Rattle.command_definitions.specs.declared.Request.TheVariants.{Check, Make}

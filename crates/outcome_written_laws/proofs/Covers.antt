@@ -14,7 +14,7 @@ use Rattle.text_document_definitions.specs.Documents.{table_document}
 use Rattle.text_document_laws.proofs.Documents.{table_document_read}
 use Rattle.text_definitions.proofs.Decimals.{has_no_feed, decimal_no_feed}
 use Rattle.table_definitions.proofs.WrittenLines.{comment_line}
-use Rattle.text_written_laws.proofs.WrittenTables.{BeginsWithTable, table_lines}
+use Rattle.outcome_written_laws.proofs.WrittenTables.{BeginsWithTable, table_lines}
 use Rattle.outcome_definitions.specs.Information.{classes_text, told}
 use Rattle.outcome_definitions.specs.Covers.{sheet_line, cover_text}
 

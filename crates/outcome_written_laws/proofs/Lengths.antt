@@ -15,7 +15,7 @@ use Rattle.move_definitions.specs.MoveText.{core_words, move_text}
 use Rattle.move_definitions.proofs.CoreTests.{cores, on_cores}
 use Rattle.move_laws.proofs.Legal.{HasNoFault, no_fault}
 use Rattle.outcome_definitions.specs.Certificates.{moves_text, moves_behind}
-use Rattle.text_written_laws.proofs.WrittenTables.{each_from_places}
+use Rattle.outcome_written_laws.proofs.WrittenTables.{each_from_places}
 use Rattle.outcome_written_laws.specs.Certificates.{WrittenMovesAreShort}
 
 -- texts of at most so many bytes each

@@ -14,3 +14,9 @@ pub mod AddedUp
 pub mod ReadAgain
 pub mod Lengths
 pub mod AcceptedByCheck
+pub mod WrittenVectors
+pub mod WrittenTables
+pub mod WrittenDocuments
+pub mod MoveLines
+pub mod WrittenMoves
+pub mod MadeTexts

@@ -32,8 +32,8 @@ use Rattle.outcome_definitions.specs.Enumerations.{AreUpTo}
 use Rattle.outcome_definitions.specs.Vectors.{refusal_status, lift_outcome, IsLiftsAnswer}
 use Rattle.outcome_definitions.specs.Answers.{verify_outcome, IsVerdictsAnswer}
 use Rattle.outcome_laws.proofs.Certified.{table_with_lines}
-use Rattle.text_written_laws.proofs.WrittenTables.{BeginsWithTable, table_lines}
-use Rattle.text_written_laws.proofs.WrittenVectors.{only_vectors}
+use Rattle.outcome_written_laws.proofs.WrittenTables.{BeginsWithTable, table_lines}
+use Rattle.outcome_written_laws.proofs.WrittenVectors.{only_vectors}
 use Rattle.outcome_answer_laws.proofs.Asked.{answer_to, answer_to_value}
 use Rattle.outcome_written_laws.specs.Lifts.{IsReadAsLifts, LiftsAreRead, AreVerifiedLifts, LiftsAreVerified}
 use Rattle.outcome_written_laws.proofs.Entries.{each_entry}

@@ -24,7 +24,7 @@ use Rattle.sum_definitions.specs.declared.LargeTurn.{LargeTurn}
 use Rattle.text_document_definitions.specs.Documents.{worded, next_table_at, each_line_from, table_and_lines, vectors_document}
 use Rattle.text_document_definitions.specs.Blocks.{Block, most_terms, blocks_text, blocks_document}
 use Rattle.text_document_laws.proofs.SumDocuments.{blocks_document_read}
-use Rattle.text_written_laws.proofs.WrittenTables.{BeginsWithTable, table_lines}
+use Rattle.outcome_written_laws.proofs.WrittenTables.{BeginsWithTable, table_lines}
 use Rattle.outcome_definitions.specs.declared.Status.TheVariants as statuses
 use Rattle.outcome_definitions.specs.Outcomes.{Outcome, IsReadOutcome}
 use Rattle.outcome_definitions.specs.Sums.{IsVerdict, IsSummed, AreAnswered, IsDecomposed, IsDecomposeAnswer, IsAddupAnswer, unfit_status, sums_text, sums_outcome}

@@ -20,7 +20,7 @@ use Rattle.outcome_definitions.specs.Outcomes.{Outcome}
 use Rattle.outcome_definitions.specs.Enumerations.{list_outcome, large_outcome, IsSurfacesAnswer}
 use Rattle.outcome_definitions.specs.Answers.{verify_outcome, IsVerdictsAnswer}
 use Rattle.outcome_laws.proofs.Certified.{table_alone}
-use Rattle.text_written_laws.proofs.WrittenDocuments.{written_answer_read}
+use Rattle.outcome_written_laws.proofs.WrittenDocuments.{written_answer_read}
 use Rattle.outcome_answer_laws.proofs.Asked.{answer_to, answer_to_value}
 use Rattle.outcome_written_laws.specs.Surfaces.{IsReadAsSurfaces, SurfacesAreRead, AreVerified, ListedAreVerified}
 use Rattle.outcome_written_laws.proofs.Entries.{listed_within}

@@ -19,8 +19,8 @@ use Rattle.outcome_definitions.specs.Vectors.{crush_outcome, IsCrushAnswer}
 use Rattle.outcome_definitions.specs.Certificates.{descend_outcome, IsDescendAnswer}
 use Rattle.outcome_laws.proofs.Certified.{table_alone}
 use Rattle.outcome_laws.proofs.ReadPairs.{table_with_vector}
-use Rattle.text_written_laws.proofs.WrittenDocuments.{written_table_read}
-use Rattle.certificate_making_laws.proofs.WrittenMoves.{written_moves_read}
+use Rattle.outcome_written_laws.proofs.WrittenDocuments.{written_table_read}
+use Rattle.outcome_written_laws.proofs.WrittenMoves.{written_moves_read}
 use Rattle.outcome_written_laws.proofs.Accepted.{reached_accepted}
 use Rattle.outcome_answer_laws.proofs.Asked.{answer_to, answer_to_value}
 use Rattle.surface_crushing_laws.proofs.Linking.{nothing_else_is_crushed}

@@ -10,7 +10,7 @@ use Rattle.text_document_definitions.specs.Blocks.{Block, most_terms, IsTermLine
 use Rattle.text_definitions.proofs.Decimals.{decimal_value-decimal}
 use Rattle.table_definitions.proofs.WrittenWords.{IsText, behind_spaces, decimal_is_text}
 use Rattle.table_definitions.proofs.WrittenLines.{written_line, line_words, BeginsWith, each_line}
-use Rattle.text_written_laws.proofs.WrittenVectors.{AreEntries, entry_small, entries_are_texts, entries_are_numbers, vector_line}
+use Rattle.outcome_written_laws.proofs.WrittenVectors.{AreEntries, entry_small, entries_are_texts, entries_are_numbers, vector_line}
 
 -- terms and blocks that can be written
 pub record FitsTerm (term : Term) : Type 0 where

@@ -5,3 +5,5 @@ pub mod Tables
 pub mod Covers
 pub mod Certificates
 pub mod Sums
+pub mod Documents
+pub mod Moves

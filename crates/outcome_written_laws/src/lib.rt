@@ -1,5 +1,5 @@
-//! What one command writes is the next one's document, stated over the outcomes of the commands. The functions here have no
-//! code: their contracts are laws over the definitions.
+//! What one command writes is the next one's document, stated over the outcomes of the commands, and read again as the same
+//! value: tables, vectors, certificates and sums. The functions here have no code: their contracts are laws over the definitions.
 #![tactic(auto)]
 
 ghost use Rattle.outcome_written_laws.specs.Entries.{ListedAreWithin};
@@ -10,6 +10,8 @@ ghost use Rattle.outcome_written_laws.specs.Covers.{CoversAreRead};
 ghost use Rattle.outcome_written_laws.specs.Certificates.{AcceptedAreCertificates, CertificatesAreAccepted, ReachedDescentsAreAccepted, MadeTablesAreAccepted};
 ghost use Rattle.outcome_written_laws.specs.Certificates.{WrittenMovesAreShort, CheckAcceptsCertificates, CheckAcceptsDescents, CheckAcceptsMade};
 ghost use Rattle.outcome_written_laws.specs.Sums.{DecompositionsAreAnswered, WrittenSumsAreRead, SumsAreAcceptedUnlessLarge, WholeSumsAreAccepted, DecomposedAreReadAgain};
+ghost use Rattle.outcome_written_laws.specs.Documents.{WrittenTablesAreLines, WrittenTablesAreRead, WrittenVectorsAreLines, WrittenAnswersAreRead};
+ghost use Rattle.outcome_written_laws.specs.Moves.{WrittenMovesAreLines, WrittenMovesAreRead, MadeAreRead, MadeAreCertified};
 
 /// What `surfaces` lists, behind what is written for its table, is read as the table and all its vertex surfaces: no entry of
 /// a listed vector is above the limit of its enumeration.
@@ -88,4 +90,36 @@ pub fn sums_are_accepted()
     ensures unless_large { SumsAreAcceptedUnlessLarge }
     ensures whole { WholeSumsAreAccepted }
     ensures decomposed { DecomposedAreReadAgain }
+{}
+
+/// What is written for a table is its lines, and is read as that table.
+pub fn written_tables_are_read()
+    ensures lines { WrittenTablesAreLines }
+    ensures document { WrittenTablesAreRead }
+{}
+
+/// What is written for a list of vectors is a line for each.
+pub fn written_vectors_are_read()
+    ensures { WrittenVectorsAreLines }
+{}
+
+/// What is written for a table, with an answer of `surfaces` behind it, is read as that table and the answer's vectors.
+pub fn written_answers_are_read()
+    ensures { WrittenAnswersAreRead }
+{}
+
+/// What is written for a list of moves is a line for each.
+pub fn written_moves_are_lines()
+    ensures { WrittenMovesAreLines }
+{}
+
+/// What is written for a table and moves that lead from it is read as them.
+pub fn written_moves_are_read()
+    ensures { WrittenMovesAreRead }
+{}
+
+/// The answer of `make` is read as the table that was made, with the moves of its certificate, which certify it.
+pub fn made_are_read()
+    ensures read { MadeAreRead }
+    ensures certified { MadeAreCertified }
 {}

@@ -16,15 +16,15 @@ use Rattle.table_definitions.proofs.Permutations.{words_permute}
 use Rattle.table_definitions.specs.Moved.{moved_row}
 use Rattle.table_definitions.proofs.Moves.{carries_from}
 use Rattle.table_definitions.proofs.Carried.{image_in_range, carried_is_table}
-use Rattle.signature_labelling_laws.specs.Between.{made, place_of}
-use Rattle.signature_labelling_laws.specs.Orders.{start_at, whole_order, IsWholeOrder, Numbers}
-use Rattle.signature_labelling_laws.specs.Starts.{numbered_start, IsTextFrom, IsLeastText}
-use Rattle.signature_labelling_laws.proofs.Standing.{made_stands, CanStand, made_relabelling, place_of-image}
-use Rattle.signature_labelling_laws.proofs.Least.{least_begun, least_better, one_text, least_is_signature, empty_ordered, empty_signature}
+use Rattle.signature_laws.specs.Between.{made, place_of}
+use Rattle.signature_laws.specs.Orders.{start_at, whole_order, IsWholeOrder, Numbers}
+use Rattle.signature_laws.specs.Starts.{numbered_start, IsTextFrom, IsLeastText}
+use Rattle.signature_laws.proofs.Standing.{made_stands, CanStand, made_relabelling, place_of-image}
+use Rattle.signature_laws.proofs.Least.{least_begun, least_better, one_text, least_is_signature, empty_ordered, empty_signature}
 use Rattle.signature_laws.specs.Laws.{RelabelledExist, WalksExist, SignaturesExist}
-use Rattle.signature_labelling_laws.proofs.Sound.{IsOrder, order_holds}
-use Rattle.signature_labelling_laws.proofs.Reaching.{order_few, whole_order_holds}
-use Rattle.signature_labelling_laws.proofs.Labelled.{labelled_is_walked}
+use Rattle.signature_laws.proofs.Sound.{IsOrder, order_holds}
+use Rattle.signature_laws.proofs.Reaching.{order_few, whole_order_holds}
+use Rattle.signature_laws.proofs.Labelled.{labelled_is_walked}
 
 -- the table to which a relabelling carries
 pub relabelled_exist_lem : RelabelledExist

@@ -10,3 +10,6 @@ pub mod Pieces
 pub mod Components
 pub mod Sides
 pub mod Described
+pub mod Tetrahedra
+pub mod Turned
+pub mod DescribedSides

@@ -14,8 +14,8 @@ use Rattle.cone_definitions.specs.Listings.{IsPastLimit}
 use Rattle.cone_definitions.specs.declared.Order.{Order}
 use Rattle.double_description.specs.declared.engine.LargeStep.{LargeStep}
 use Rattle.bounded_list.specs.Lists.{enumeration_of, AreAlwaysWithin, IsOnlyListing, AreRefused}
-use Rattle.surface_bound_laws.specs.Bounds.{number_bound}
-use Rattle.surface_bound_laws.proofs.Bounds.{within}
+use Rattle.surface_equation_laws.specs.Bounds.{number_bound}
+use Rattle.surface_equation_laws.proofs.Bounds.{within}
 use Rattle.surface_list.specs.Surfaces.{AreTableSurfaces, IsTableRefused}
 
 -- the equations of a table are its system

@@ -1,7 +1,7 @@
 //! Whether the numbers of an enumeration of a table's vertex surfaces are within a limit.
 
 ghost use Rattle.std.specs.Prelude.{◌≡◌, ◌*◌, ◌^◌, ◌<◌, ◌≤◌, ◌↔◌, IsTrue, SomeIff};
-ghost use Rattle.surface_bound_laws.specs.Bounds as bounds;
+ghost use Rattle.surface_equation_laws.specs.Bounds as bounds;
 
 use matching_equations::Coords;
 

@@ -3,7 +3,7 @@
 ghost use Rattle.std.specs.Prelude.{◌≡◌, ◌≢◌, ◌≤◌, length, IfOk, IfErr};
 ghost use Rattle.surface_definitions.specs.Coordinates as coordinates;
 ghost use Rattle.surface_definitions.specs.QuadEquations.{AreEquations};
-ghost use Rattle.surface_bound_laws.specs.OneForm.{is_triangle};
+ghost use Rattle.surface_equation_laws.specs.OneForm.{is_triangle};
 ghost use Rattle.surface_list.specs.Surfaces.{AreTableSurfaces, IsTableRefused};
 
 use crate::bounds::numbers_fit;

@@ -9,7 +9,7 @@ use Rattle.table_definitions.specs.Places.{IsConnected, IsLeastUnreached}
 use Rattle.signature_definitions.specs.Spelling.{IsSignature}
 use Rattle.signature_definitions.specs.Census.{table_in, IsCensus, IsPlaced}
 use Rattle.signature_definitions.proofs.CensusLaws.{census_goes_on}
-use Rattle.signature_labelling_laws.proofs.Uniqueness.{tells_tables}
+use Rattle.signature_laws.proofs.Uniqueness.{tells_tables}
 use Rattle.table_commands.specs.declared.groups.NotConnected.{NotConnected}
 use Rattle.table_commands.specs.declared.groups.Groups.{Groups}
 use Rattle.table_commands.specs.Groups.{AreConnected, AreClassed, IsFirstFound, AreGroupedBy, AreGrouped}

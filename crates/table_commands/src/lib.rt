@@ -1,6 +1,8 @@
-//! The commands `info`, `sig`, `same` and `group`: what the gluings of a table decide.
+//! The commands `info`, `sig`, `csig`, `same`, `csame` and `group`: what the gluings of a table decide.
 #![tactic(auto)]
 
+mod csame_command;
+mod csig_command;
 mod group_command;
 mod groups;
 mod info_command;
@@ -8,6 +10,8 @@ mod information;
 mod same_command;
 mod sig_command;
 
+pub use csame_command::csame;
+pub use csig_command::csig;
 pub use group_command::group;
 pub use info_command::info;
 pub use same_command::{relabelling_outcome, same};

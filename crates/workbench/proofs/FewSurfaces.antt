@@ -10,7 +10,7 @@ use Rattle.command_definitions.specs.declared.Request.TheVariants.{Surfaces}
 use Rattle.command_definitions.specs.Words.{accepted_request}
 use Rattle.outcome_definitions.specs.declared.Status.{Status}
 use Rattle.outcome_definitions.specs.Answers.{most_bytes}
-use Rattle.surface_bound_laws.specs.Few.{most_tetrahedra}
+use Rattle.surface_equation_laws.specs.Few.{most_tetrahedra}
 use Rattle.outcome_answer_laws.proofs.Surfaces.{none_past, few_are_within}
 use Rattle.workbench.specs.Runs.{IsAnswered}
 use Rattle.workbench.specs.Prints.{ListsSurfaces, AnswersSurfaces, IsCutShort}

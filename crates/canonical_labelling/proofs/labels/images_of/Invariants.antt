@@ -1,5 +1,5 @@
 use Rattle.std.proofs.Common.{◌≡◌, ℕ, ◌<◌, length, get_or}
-use Rattle.signature_labelling_laws.specs.Orders.{start_at}
+use Rattle.signature_laws.specs.Orders.{start_at}
 use Rattle.canonical_labelling.proofs.labels.images_of.Given as goal
 
 abbrev pub invariant-loop-i : goal.invariant-loop-i

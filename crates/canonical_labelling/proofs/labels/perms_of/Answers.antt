@@ -1,8 +1,8 @@
 use Rattle.std.proofs.Common.{◌<◌, [], arith, ap, ◌∙◌}
 use Rattle.std.proofs.lemmas.List.{length-set}
 use Rattle.signature_definitions.specs.Labellings.{Start}
-use Rattle.signature_labelling_laws.specs.Orders.{start_at}
-use Rattle.signature_labelling_laws.proofs.Marking.{start_is}
+use Rattle.signature_laws.specs.Orders.{start_at}
+use Rattle.signature_laws.proofs.Marking.{start_is}
 use Rattle.canonical_labelling.proofs.Placing.{item_below, placed_more}
 use Rattle.canonical_labelling.proofs.labels.perms_of.Goals as goal
 

@@ -1,5 +1,5 @@
 use Rattle.std.proofs.Common.{◌≡◌, ℕ, ◌<◌, [], length, get_or}
-use Rattle.signature_labelling_laws.specs.Orders.{start_at}
+use Rattle.signature_laws.specs.Orders.{start_at}
 use Rattle.canonical_labelling.proofs.labels.perms_of.Given as goal
 
 abbrev pub invariant-loop-start : goal.invariant-loop-start

@@ -1,7 +1,7 @@
 use Rattle.std.proofs.Common.{ℕ, length, List, ap, ◌∙◌, arith}
 use Rattle.table_definitions.proofs.Carried.{length-images}
-use Rattle.signature_labelling_laws.specs.Between.{perms_between}
-use Rattle.signature_labelling_laws.proofs.Matching.{olds_by, listed_range, listed_between}
+use Rattle.signature_laws.specs.Between.{perms_between}
+use Rattle.signature_laws.proofs.Matching.{olds_by, listed_range, listed_between}
 use Rattle.canonical_labelling.proofs.matches.between.Goals as goal
 
 pub old_numbers-requires : goal.old_numbers-requires

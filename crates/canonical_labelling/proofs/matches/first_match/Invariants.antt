@@ -1,5 +1,5 @@
 use Rattle.std.proofs.Common.{ℕ, ◌<◌}
-use Rattle.signature_labelling_laws.specs.Starts.{IsNoMatch}
+use Rattle.signature_laws.specs.Starts.{IsNoMatch}
 use Rattle.canonical_labelling.proofs.matches.first_match.Given as goal
 
 abbrev pub invariant-loop-number : goal.invariant-loop-number

@@ -1,7 +1,7 @@
 use Rattle.std.proofs.Common.{subst, arith}
 use Rattle.signature_definitions.specs.Labellings.{Start, IsWalked}
-use Rattle.signature_labelling_laws.specs.Starts.{numbered_start_back}
-use Rattle.signature_labelling_laws.proofs.Agreeing.{one_walk}
+use Rattle.signature_laws.specs.Starts.{numbered_start_back}
+use Rattle.signature_laws.proofs.Agreeing.{one_walk}
 use Rattle.canonical_labelling.proofs.matches.matching.Goals as goal
 
 pub returns-then-not-equals-clause-none : goal.returns-then-not-equals-clause-none

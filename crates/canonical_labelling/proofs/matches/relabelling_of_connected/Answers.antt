@@ -1,9 +1,9 @@
 use Rattle.std.proofs.Common.{◌*◌, ◌<◌, ℕ, length, sym, ap, ◌∙◌, subst}
 use Rattle.table_definitions.proofs.Carried.{length-images}
 use Rattle.signature_definitions.specs.Labellings.{Start, IsWalked, IsLeastRelabelling}
-use Rattle.signature_labelling_laws.specs.Between.{between}
-use Rattle.signature_labelling_laws.specs.Starts.{IsNoMatch, IsFirstMatch}
-use Rattle.signature_labelling_laws.proofs.Matching.{no_relabelling, first_match_is_least, from_none, from_some}
+use Rattle.signature_laws.specs.Between.{between}
+use Rattle.signature_laws.specs.Starts.{IsNoMatch, IsFirstMatch}
+use Rattle.signature_laws.proofs.Matching.{no_relabelling, first_match_is_least, from_none, from_some}
 use Rattle.canonical_labelling.proofs.matches.relabelling_of_connected.Goals as goal
 
 pub returns-in_default-clause-none : goal.returns-in_default-clause-none

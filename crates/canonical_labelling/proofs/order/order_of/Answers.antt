@@ -1,5 +1,5 @@
 use Rattle.std.proofs.Common.{arith, ◌∙◌}
-use Rattle.signature_labelling_laws.proofs.Growing.{after_begun, after_more, first_permutes}
+use Rattle.signature_laws.proofs.Growing.{after_begun, after_more, first_permutes}
 use Rattle.canonical_labelling.proofs.order.order_of.Goals as goal
 
 pub loop-place-init : goal.loop-place-init

@@ -1,6 +1,6 @@
 use Rattle.std.proofs.Common.{◌≡◌, ◌<◌}
 use Rattle.table_definitions.specs.Permutation.{IsPermutationOfFour}
-use Rattle.signature_labelling_laws.specs.Orders.{IsWalking, order_after}
+use Rattle.signature_laws.specs.Orders.{IsWalking, order_after}
 use Rattle.canonical_labelling.proofs.order.order_of.Given as goal
 
 abbrev pub invariant-loop-place : goal.invariant-loop-place

@@ -1,7 +1,7 @@
 use Rattle.std.proofs.Common.{◌<◌, ◌/◌, length, arith, ap, ◌∙◌, sym, ℕ, subst}
 use Rattle.signature_definitions.specs.Labellings.{Start}
 use Rattle.table_definitions.specs.Table.{Face}
-use Rattle.signature_labelling_laws.proofs.Marking.{met_below, follow_marks, start_is}
+use Rattle.signature_laws.proofs.Marking.{met_below, follow_marks, start_is}
 use Rattle.canonical_labelling.proofs.order.take_face.Goals as goal
 
 pub glue-requires-clause-in_range : goal.glue-requires-clause-in_range

@@ -1,4 +1,4 @@
-use Rattle.signature_labelling_laws.specs.Starts.{IsLeastText}
+use Rattle.signature_laws.specs.Starts.{IsLeastText}
 use Rattle.canonical_labelling.proofs.signatures.least_text.Given as goal
 
 abbrev pub invariant-loop-number : goal.invariant-loop-number

@@ -1,6 +1,6 @@
 use Rattle.std.proofs.Common.{arith}
 use Rattle.std.proofs.lemmas.Result.{IfOk-weaker}
-use Rattle.signature_labelling_laws.proofs.Least.{empty_signature, least_is_signature}
+use Rattle.signature_laws.proofs.Least.{empty_signature, least_is_signature}
 use Rattle.canonical_labelling.proofs.signatures.signature_of_connected.Goals as goal
 
 pub returns-then-len-eq0 : goal.returns-then-len-eq0

@@ -1,4 +1,4 @@
-use Rattle.signature_labelling_laws.proofs.Least.{never_unordered}
+use Rattle.signature_laws.proofs.Least.{never_unordered}
 use Rattle.signature_codec.specs.Views.{named_face}
 use Rattle.canonical_labelling.proofs.signatures.text_of.Goals as goal
 

@@ -3,7 +3,7 @@ use Rattle.std.proofs.Common.{ℕ, zero, suc, ◌*◌, ◌<◌, ◌≤◌, ◌^�
 use Rattle.std.proofs.Math.Nat.{pow-zero, mul-le-mul, le_refl}
 use Rattle.surface_definitions.specs.declared.Coords.{Coords}
 use Rattle.surface_definitions.specs.declared.Coords.TheVariants.{Standard, Quad, Octagon}
-use Rattle.surface_bound_laws.specs.Bounds.{number_bound}
+use Rattle.surface_equation_laws.specs.Bounds.{number_bound}
 use Rattle.surface_list.proofs.bounds.number_bound.Goals as goal
 
 power_below : (coords : Coords) (n : ℕ) → number_bound coords n < 2 ^ 128 → 16 ^ n < 2 ^ 128

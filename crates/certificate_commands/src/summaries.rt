@@ -1,0 +1,103 @@
+// What is told of a list of surfaces.
+ghost use Rattle.std.specs.Prelude.{◌≡◌, ℕ, count_by, IfOk};
+ghost use Rattle.surface_definitions.specs.declared.Coords.TheVariants.{Standard};
+ghost use Rattle.surface_definitions.specs.Characteristic as characteristic;
+ghost use Rattle.outcome_definitions.specs.Makings.{IsGreatestEntry, summary_text, summary_outcome};
+ghost use Rattle.certificate_commands.specs.Entries.{IsGreatestOf};
+
+use command_answers::{Outcome, append_number_line};
+use cone_core::Ray;
+use no_memory::NoMemory;
+use outcome_definitions::Status;
+use std::alloc::Global;
+use std::marker::Model;
+use surface_definitions::Coords;
+use surface_properties::is_linking;
+
+// The greater of a number and all entries of a ray.
+fn greater_of(least: u128, ray: &Ray) -> u128
+    ensures { IsGreatestOf least ray.now result }
+{
+    let mut greatest = least;
+    for column in 0..ray.columns() {
+        greatest = greatest.max(ray.entry(column));
+    }
+    greatest
+}
+
+/// The greatest entry of vectors, 0 where there are none.
+pub fn greatest_entry(list: &[Ray]) -> u128
+    ensures { IsGreatestEntry list.now result }
+{
+    let mut greatest = 0;
+    for ray in list {
+        greatest = greater_of(greatest, ray);
+    }
+    greatest
+}
+
+/// The number of surfaces without quads.
+pub fn linking_count(alloc: Global, list: &[Ray]) -> Result<u64, NoMemory>
+    ensures { IfOk result (λ count. count ≡ count_by (characteristic.is_linking Standard) list.now) }
+{
+    let mut count = 0;
+    for ray in list {
+        let vector = ray.to_vector(alloc)?;
+        if is_linking(Coords::Standard, &vector) {
+            count += 1;
+        }
+    }
+    Ok(count)
+}
+
+/// The numbers of a table that was made: its seed, the moves of its certificate, and its tetrahedra.
+#[derive(Clone, Copy)]
+pub struct Numbers {
+    pub seed: u64,
+    pub moves: u32,
+    pub tetrahedra: u32,
+}
+
+impl Model for Numbers {
+    ghost use Rattle.outcome_definitions.specs.Makings as makings;
+
+    ghost Value = { makings.Numbers };
+
+    ghost view = { λ n. record { seed = n.seed; moves = n.moves; tetrahedra = n.tetrahedra } };
+
+    ghost inverse = { λ n. record { seed = n.seed; moves = n.moves; tetrahedra = n.tetrahedra } };
+}
+
+// The numbers of a table that was made, and what is told of its surfaces.
+fn summary_text(alloc: Global, numbers: Numbers, list: &[Ray]) -> Result<Vec<u8>, NoMemory>
+    ensures { IfOk result (λ text. (greatest : ℕ) × IsGreatestEntry list.now greatest × (text.items ≡ summary_text numbers list.now greatest)) }
+{
+    let moves = u128::from(numbers.moves);
+    let mut text = Vec::new(alloc);
+    append_number_line(alloc, &mut text, b"seed ", u128::from(numbers.seed))?;
+    append_number_line(alloc, &mut text, b"moves ", moves)?;
+    append_number_line(
+        alloc,
+        &mut text,
+        b"tetrahedra ",
+        u128::from(numbers.tetrahedra),
+    )?;
+    append_number_line(alloc, &mut text, b"certificate accepted ", moves)?;
+    append_number_line(alloc, &mut text, b"surfaces ", list.len() as u128)?;
+    append_number_line(alloc, &mut text, b"largest ", greatest_entry(list))?;
+    append_number_line(
+        alloc,
+        &mut text,
+        b"linking ",
+        u128::from(linking_count(alloc, list)?),
+    )?;
+    Ok(text)
+}
+
+/// What is told of a table that was made and of its surfaces.
+pub fn summary_outcome(alloc: Global, numbers: Numbers, list: &[Ray]) -> Result<Outcome, NoMemory>
+    ensures { IfOk result (λ o. (greatest : ℕ) × IsGreatestEntry list.now greatest × (o ≡ summary_outcome numbers list.now greatest)) }
+{
+    let text = summary_text(alloc, numbers, list)?;
+    Ok(Outcome::with_text(Status::Done, text))
+}

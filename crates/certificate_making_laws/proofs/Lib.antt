@@ -1,3 +1,0 @@
-pub mod MoveLines
-pub mod WrittenMoves
-pub mod MadeTexts

@@ -1,6 +1,0 @@
--- The lemma is the law.
-use Rattle.component_existence_laws.proofs.Splitting.{signatures_split}
-use Rattle.component_existence_laws.proofs.component_signatures_split.Goals as goal
-
-pub returns : goal.returns
-returns c = signatures_split

@@ -1,7 +1,0 @@
--- The lemmas are the laws.
-use Rattle.component_existence_laws.proofs.PartRelabellings.{some_same_parts}
-use Rattle.component_existence_laws.proofs.Answers.{relabelled_or_not}
-use Rattle.component_existence_laws.proofs.part_relabellings_exist.Goals as goal
-
-pub returns : goal.returns
-returns c = record { decided = relabelled_or_not; told = some_same_parts }

@@ -1,6 +1,0 @@
--- The lemmas are the laws.
-use Rattle.cone_solved_laws.proofs.Listings.{listed, not_past}
-use Rattle.cone_solved_laws.proofs.bounded_lists.Goals as goal
-
-pub returns : goal.returns
-returns c = record { listed = listed; none = not_past }

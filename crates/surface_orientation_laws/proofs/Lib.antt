@@ -1,3 +1,0 @@
-pub mod Tetrahedra
-pub mod Turned
-pub mod Described

@@ -1,0 +1,35 @@
+//! The command `csame`: the relabelling that is told of two tables, part by part.
+
+ghost use Rattle.std.specs.Prelude.{◌≤◌, length, IfOk};
+ghost use Rattle.text_definitions.specs.Text.{max_text};
+ghost use Rattle.text_document_definitions.specs.Documents.{two_tables_document};
+ghost use Rattle.outcome_definitions.specs.Outcomes.{IsReadOutcome};
+ghost use Rattle.outcome_definitions.specs.Parts.{IsSamePartsAnswer};
+
+use crate::same_command::relabelling_outcome;
+use command_answers::{Outcome, fault_outcome, read_two_tables};
+use component_signature::same_parts;
+use gluing_table::Table;
+use no_memory::NoMemory;
+use std::alloc::Global;
+
+/// The answer to two tables.
+fn answer(alloc: Global, first: &Table, second: &Table) -> Result<Outcome, NoMemory>
+    ensures { IfOk result (IsSamePartsAnswer (first.now, second.now)) }
+{
+    match same_parts(alloc, first, second)? {
+        Some(by) => relabelling_outcome(alloc, first.len(), &by),
+        None => Ok(Outcome::different()),
+    }
+}
+
+/// The outcome of `csame` on an input that isn't too long.
+pub fn csame(alloc: Global, bytes: &[u8]) -> Result<Outcome, NoMemory>
+    requires { length bytes.now ≤ max_text }
+    ensures answer { IfOk result (IsReadOutcome (two_tables_document bytes.now) IsSamePartsAnswer) }
+{
+    match read_two_tables(alloc, bytes) {
+        Ok(tables) => answer(alloc, &tables.first, &tables.second),
+        Err(fault) => fault_outcome(alloc, fault),
+    }
+}

@@ -1,3 +1,0 @@
-pub mod WrittenVectors
-pub mod WrittenTables
-pub mod WrittenDocuments
