@@ -1,4 +1,4 @@
--- The lines of a summary, and what is told of a table.
+-- The lines of a summary, and what is answered of a table.
 use Rattle.std.proofs.Common.{◌≡◌, ℕ, List, [], ◌++◌, length, inl, inr, ap, ◌∙◌, subst, append_assoc}
 use Rattle.std.specs.Prelude.{codes, count_by}
 use Rattle.text_definitions.specs.Written.{limit}

@@ -28,7 +28,7 @@ fn accept(alloc: Global, made: &Made) -> Result<(), NoMemory>
     }
 }
 
-// What is told of a table that was made.
+// What is answered of a table that was made.
 fn outcome_of_making(alloc: Global, numbers: Numbers, table: &Table) -> Result<Outcome, NoMemory>
     ensures { IfOk result (IsSummary numbers table.now) }
 {

@@ -38,7 +38,7 @@ fn append_head(
     Ok(())
 }
 
-// What is told of a descent.
+// What is answered of a descent.
 #[tactic(auto, unfolding(outcome_definitions::specs::Certificates::moves_text))]
 fn descent_text(alloc: Global, descent: &Descent) -> Result<Vec<u8>, NoMemory>
     ensures { IfOk result (λ text. text.items ≡ certificates.descent_text (record { reached = descent.now.reached; moves = descent.now.moves.items; table = descent.now.table })) }

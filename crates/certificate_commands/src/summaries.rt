@@ -1,4 +1,4 @@
-// What is told of a list of surfaces.
+// What is answered of a list of surfaces.
 ghost use Rattle.std.specs.Prelude.{◌≡◌, ℕ, count_by, IfOk};
 ghost use Rattle.surface_definitions.specs.declared.Coords.TheVariants.{Standard};
 ghost use Rattle.surface_definitions.specs.Characteristic as characteristic;
@@ -68,7 +68,7 @@ impl Model for Numbers {
     ghost inverse = { λ n. record { seed = n.seed; moves = n.moves; tetrahedra = n.tetrahedra } };
 }
 
-// The numbers of a table that was made, and what is told of its surfaces.
+// The numbers of a table that was made, and what is answered of its surfaces.
 fn summary_text(alloc: Global, numbers: Numbers, list: &[Ray]) -> Result<Vec<u8>, NoMemory>
     ensures { IfOk result (λ text. (greatest : ℕ) × IsGreatestEntry list.now greatest × (text.items ≡ summary_text numbers list.now greatest)) }
 {
@@ -94,7 +94,7 @@ fn summary_text(alloc: Global, numbers: Numbers, list: &[Ray]) -> Result<Vec<u8>
     Ok(text)
 }
 
-/// What is told of a table that was made and of its surfaces.
+/// What is answered of a table that was made and of its surfaces.
 pub fn summary_outcome(alloc: Global, numbers: Numbers, list: &[Ray]) -> Result<Outcome, NoMemory>
     ensures { IfOk result (λ o. (greatest : ℕ) × IsGreatestEntry list.now greatest × (o ≡ summary_outcome numbers list.now greatest)) }
 {

@@ -1,4 +1,4 @@
--- The relabelling that is told of two tables, part by part.
+-- The relabelling that is answered of two tables, part by part.
 use Rattle.std.specs.Prelude.{◌≡◌, ℕ, ◌<◌, true, List, [], length, slice_index, IsPermutation, ◌⊎◌}
 use Rattle.std.specs.List.{slice_index_or, AllZip}
 use Rattle.table_definitions.specs.Lists.{below, is_list_before}
@@ -32,7 +32,7 @@ GoesBy by part other r =
     (k : ℕ) → k < length part.numbers
     → stand_in by (slice_index part.numbers k) ≡ record { tet = slice_index other.numbers (slice_index r.images k); perm = slice_index_or r.perms k [] }
 
--- of parts in order, each goes to the other table's part at its place, by the relabelling that is told of the two
+-- of parts in order, each goes to the other table's part at its place, by the relabelling that is answered of the two
 pub record IsSameParts (first second : List Row) (by : Relabelling) : Type 0 where
   pub relabelling : IsRelabelling (length first) by
   pub parts : List Part

@@ -1,4 +1,4 @@
--- What is told of two tables part by part is one relabelling.
+-- What is answered of two tables part by part is one relabelling.
 use Rattle.std.proofs.Common.{◌≡◌, ℕ, suc, ◌<◌, inl, inr, true, List, [], ◌∷◌, length, Contains, IsPermutation, slice_index, slice_index_or, subst, subst₂, sym, ap, ap₂, refl, ◌∙◌, arith, ext_get_or}
 use Rattle.std.specs.List.{AllZip}
 use Rattle.std.proofs.lemmas.Bool.{false≢true}

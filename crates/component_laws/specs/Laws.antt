@@ -33,7 +33,7 @@ OneComponentSignature = (rows : List Row) (text other : List ℕ) → IsTable ro
 abbrev pub ConnectedHasSignature : Type 0
 ConnectedHasSignature = (rows : List Row) (text : List ℕ) → IsTable rows → IsConnected rows → IsComponentSignature rows text ↔ IsSignature rows text
 
--- what is told of two tables part by part carries the one to the other, and is one relabelling
+-- what is answered of two tables part by part carries the one to the other, and is one relabelling
 abbrev pub SamePartsCarry : Type 0
 SamePartsCarry = (first second : List Row) (by : Relabelling) → IsTable first → IsTable second → IsSameParts first second by → Carries by first second
 

@@ -20,7 +20,7 @@ pub fn component_signatures_tell_tables()
     ensures connected { ConnectedHasSignature }
 {}
 
-/// The relabelling that is told of two tables part by part carries the one to the other, and there is one.
+/// The relabelling that is answered of two tables part by part carries the one to the other, and there is one.
 pub fn part_relabellings_are_unique()
     ensures carry { SamePartsCarry }
     ensures one { OneSameParts }

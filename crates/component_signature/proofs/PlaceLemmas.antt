@@ -40,7 +40,7 @@ module _ (P : List Part) (S : List PartSignature) (o : AreInOrder P (entries_of 
   pub part_here : (p : Part) → p ≡ get_or P s.part p → p ≡ part_in P (entries_of S) i
   part_here p e = e ∙ sym (get_or_default P s.part no_part p number_in) ∙ ap (part_at P) (sym (number_here S i s l is))
 
--- ---- what is asked of a part and of what is told of two
+-- ---- what is asked of a part and of what is answered of two
 
 module _ (rows : List Row) (table : IsTable rows) (part : Part) (h : IsPart rows part) where
   pub tets_below : (n : ℕ) → length rows ≡ n → All (λ t. t < n) part.numbers

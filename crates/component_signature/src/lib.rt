@@ -1,4 +1,4 @@
-//! The parts of a table, its component signature, and the relabelling that is told of two tables part by part.
+//! The parts of a table, its component signature, and the relabelling that is answered of two tables part by part.
 #![tactic(auto)]
 
 mod components;

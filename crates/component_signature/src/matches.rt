@@ -1,4 +1,4 @@
-//! The relabelling that is told of two tables, part by part.
+//! The relabelling that is answered of two tables, part by part.
 
 ghost use Rattle.std.specs.Prelude.{◌≡◌, ◌<◌, ◌+◌, ◌↔◌, length, IsTrue, IfOk, OnOk, IfSome, IfNone};
 ghost use Rattle.table_definitions.specs.Places.{IsConnected};
@@ -31,7 +31,7 @@ fn agree(first: &[PartSignature], second: &[PartSignature]) -> bool
     true
 }
 
-/// The relabelling that is told of two connected tables of which one can be relabelled to the other.
+/// The relabelling that is answered of two connected tables of which one can be relabelled to the other.
 fn relabelling_of_connected(
     alloc: Global,
     first: &Table,
@@ -90,7 +90,7 @@ fn draft_of_parts(
     Ok(draft)
 }
 
-/// The relabelling that is told of two tables: the parts of both stand in the order of their signatures and then of their
+/// The relabelling that is answered of two tables: the parts of both stand in the order of their signatures and then of their
 /// least tetrahedra, and each part goes to the other table's part at its place, as [`same`] tells of the two. Nothing exactly
 /// where no relabelling carries the first table to the second.
 pub fn same_parts(

@@ -1,4 +1,4 @@
--- What is told of two tables, and of many, says which of them are relabelled.
+-- What is answered of two tables, and of many, says which of them are relabelled.
 use Rattle.std.proofs.Common.{◌≡◌, ◌⊎◌, ℕ, List, slice_index, inl, inr, refl, sym, ◌∙◌, ap, arith}
 use Rattle.table_definitions.specs.Table.{Row}
 use Rattle.table_definitions.specs.Relabelling.{Relabelling, IsRelabelled}
@@ -21,7 +21,7 @@ apart by e = letters (slice_index (relabelling_text by) 0) (slice_index differen
     letters : {Q : Type 0} (s d : ℕ) → s ≡ 115 → d ≡ 100 → s ≡ d → Q
     letters s d is_s is_d same = absurd (omega arith)
 
--- a relabelling is told, or there is none
+-- a relabelling is answered, or there is none
 abbrev pub IsTold : List Row → List Row → Outcome → Type 0
 IsTold first second o =
     ((by : Relabelling) × Relabels first second by × (o ≡ done (relabelling_text by))) ⊎ ((IsRelabelled first second → ⊥) × (o ≡ different_outcome))

@@ -41,7 +41,7 @@ pub record IsFirst {A : Type 0} (Passes Fails : A → Type 0) (list : List A) (n
 abbrev pub IsFirstRefused : {A B E : Type 0} → (A → Result B E → Type 0) → List A → ℕ → E → Type 0
 IsFirstRefused {A} {B} IsTold list v refusal = IsFirst (λ x. (answer : B) × IsTold x (Ok answer)) (λ x. IsTold x (Err refusal)) list v
 
--- what is told of all of a list: the answer to each, or the number of the first that is refused, and why
+-- what is answered of all of a list: the answer to each, or the number of the first that is refused, and why
 abbrev pub AreAnswered : {A B E : Type 0} → (A → Result B E → Type 0) → List A → Result (List B) (ℕ × E) → Type 0
 AreAnswered IsTold list (Ok answers) = AllZip (λ x answer. IsTold x (Ok answer)) list answers
 AreAnswered IsTold list (Err refusal) = IsFirstRefused IsTold list refusal.0 refusal.1

@@ -28,7 +28,7 @@ pub enum Status {
     NoMemory,
 }
 
-/// Why a vector isn't told as a sum, or a given sum isn't accepted.
+/// Why a vector isn't answered as a sum, or a given sum isn't accepted.
 #[derive(Clone, Copy)]
 pub enum SumRefusal {
     /// The vector is no admissible solution.

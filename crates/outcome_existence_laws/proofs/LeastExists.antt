@@ -1,4 +1,4 @@
--- Of two connected tables, of which one can be relabelled to the other, a relabelling is told.
+-- Of two connected tables, of which one can be relabelled to the other, a relabelling is answered.
 use Rattle.std.proofs.Common.{◌≡◌, ℕ, zero, suc, ◌*◌, ◌%◌, ◌<◌, ◌≤◌, ◌⊎◌, inl, inr, Bool, true, false, List, [], ◌∷◌, length, sym, ap, ap₂, subst, refl, ◌∙◌, arith}
 use Rattle.std.specs.Prelude.{slice_index}
 use Rattle.std.specs.List.{slice_index_or}

@@ -19,12 +19,12 @@ pub fn component_signatures_exist()
     ensures { SomeComponentSignature }
 {}
 
-/// Of two connected tables, of which one can be relabelled to the other, a relabelling is told.
+/// Of two connected tables, of which one can be relabelled to the other, a relabelling is answered.
 pub fn least_relabellings_exist()
     ensures { SomeLeastRelabelling }
 {}
 
-/// Two tables can be relabelled to each other or not, and where they can, a relabelling is told part by part.
+/// Two tables can be relabelled to each other or not, and where they can, a relabelling is answered part by part.
 pub fn part_relabellings_exist()
     ensures decided { RelabelledOrNot }
     ensures told { SomeSameParts }

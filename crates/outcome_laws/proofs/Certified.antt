@@ -1,4 +1,4 @@
--- What is told of a check and of a descent is one text, and there is one.
+-- What is answered of a check and of a descent is one text, and there is one.
 use Rattle.std.proofs.Common.{◌≡◌, ℕ, List, [], ◌∷◌, Result, Ok, Err, refl, sym, ap, ◌∙◌, subst}
 use Rattle.std.specs.Prelude.{All}
 use Rattle.std.specs.List.{AllZip, AllByRecursion}

@@ -1,4 +1,4 @@
--- What is told of the cover of a table is one text, and each table has one.
+-- What is answered of the cover of a table is one text, and each table has one.
 use Rattle.std.proofs.Common.{◌≡◌, ℕ, ◌*◌, ◌<◌, ◌⊎◌, inl, inr, Bool, true, false, List, length, Option, None, Some, MatchOption, if◌then◌else◌, refl, sym, ap, subst, ◌∙◌, arith}
 use Rattle.std.specs.Prelude.{nat_lt}
 use Rattle.std.proofs.lemmas.Bool.{cases_lt, lt-ltb, le-ltb, false≢true}

@@ -1,4 +1,4 @@
--- What is told of a table is one text.
+-- What is answered of a table is one text.
 use Rattle.std.proofs.Common.{◌≡◌, ℕ, zero, suc, ◌*◌, ◌<◌, ◌↔◌, Bool, true, false, List, ◌++◌, length, slice_index_or, subst, sym, ap, ap₂, refl, ◌∙◌, arith}
 use Rattle.std.specs.Prelude.{IsTrue}
 use Rattle.std.proofs.lemmas.List.{get_or_default}

@@ -1,4 +1,4 @@
--- What is told of the parts of a table, and of the parts of two tables, is one text.
+-- What is answered of the parts of a table, and of the parts of two tables, is one text.
 use Rattle.std.proofs.Common.{◌≡◌, ℕ, List, inl, inr, sym, ap, ◌∙◌}
 use Rattle.table_definitions.specs.Table.{Row, IsTable}
 use Rattle.table_definitions.specs.Relabelling.{Relabelling}

@@ -1,4 +1,4 @@
--- What is told of the group of a table is one text.
+-- What is answered of the group of a table is one text.
 use Rattle.std.proofs.Common.{◌≡◌, ℕ, ◌⊎◌, inl, inr, List, None, Some, subst, sym, ap, ◌∙◌}
 use Rattle.std.proofs.lemmas.Bool.{cases_order}
 use Rattle.table_definitions.specs.Table.{Row}

@@ -1,4 +1,4 @@
--- What is told of sums of surfaces is one outcome.
+-- What is answered of sums of surfaces is one outcome.
 use Rattle.std.proofs.Common.{◌≡◌, ◌≢◌, ℕ, suc, List, [], ◌∷◌, ◌++◌, length, inl, inr, Option, Some, None, Result, Ok, Err, refl, sym, ap, ap₂, ◌∙◌, subst, subst₂, arith}
 use Rattle.std.specs.List.{All, AllZip, AllByRecursion}
 use Rattle.std.proofs.lemmas.List.Sorted.{IsPermutation-refl}
@@ -35,7 +35,7 @@ verdicts_fit coords rows equations [] passed h = tt
 verdicts_fit coords rows equations (x ∷ vectors) [] h = absurd h
 verdicts_fit coords rows equations (x ∷ vectors) (u ∷ passed) h = (h.0, verdicts_fit coords rows equations vectors passed h.1)
 
--- where what is told of each is determined, so is what is told of all
+-- where what is answered of each is determined, so is what is answered of all
 module _ {A B E : Type 0} (IsTold : A → Result B E → Type 0) (one : (x : A) (r s : Result B E) → IsTold x r → IsTold x s → r ≡ s) where
   ok_same : (a b : B) → (let r : Result B E = Ok a in r ≡ Ok b) → a ≡ b
   ok_same a b e = cc

@@ -1,4 +1,4 @@
--- What is told of the vectors of a table is one text.
+-- What is answered of the vectors of a table is one text.
 use Rattle.std.proofs.Common.{◌≡◌, ◌⊎◌, ℕ, List, None, inl, inr, sym, ap, ◌∙◌, subst}
 use Rattle.cone_definitions.specs.Rows.{Row as EquationRow}
 use Rattle.table_definitions.specs.Table.{Row, IsTable}

@@ -24,7 +24,7 @@ use Rattle.outcome_answer_laws.specs.Requests.{IsOutcomeTo}
 abbrev pub IsLinkingWherePositive : Description → Type 0
 IsLinkingWherePositive d = pos 0 <ℤ d.properties.euler → d.properties.linking ≡ true
 
--- all vertex surfaces of the table are described, and by what is told of them the table is 0-efficient or not
+-- all vertex surfaces of the table are described, and by what is answered of them the table is 0-efficient or not
 pub record DecidesEfficiency (coords : Coords) (rows : List Row) (o : Outcome) : Type 0 where
   pub skeleton : Skeleton
   pub of_rows : skeleton.rows ≡ rows

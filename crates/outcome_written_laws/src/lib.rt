@@ -47,7 +47,7 @@ pub fn descents_are_read()
     ensures { DescentsAreRead }
 {}
 
-/// What is told of a cover is read as the cover's table, so it is a document of `info`.
+/// What is answered of a cover is read as the cover's table, so it is a document of `info`.
 pub fn covers_are_read()
     ensures { CoversAreRead }
 {}

@@ -87,6 +87,6 @@ generator_glued s h c l two = cases (glue s.rows (face_of (least s.faces.classes
     cases None e = absurd (let one : degree s.faces.classes c ≡ 1 = unglued_one s h c l e in omega arith)
     cases (Some g) e = search rules
 
--- what is told of a generator by its place
+-- what is answered of a generator by its place
 pub generator_at : (s : Skeleton) (generators : List ℕ) (i : ℕ) → AreGenerators s generators → i < length generators → (slice_index generators i < s.faces.count) × IsGenerator s (slice_index generators i)
 generator_at s generators i a l = let m = (a.members (slice_index generators i)).0 (Contains-get_or generators i 0 l) in (m.0, (m.1, m.2))

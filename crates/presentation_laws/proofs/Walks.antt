@@ -67,7 +67,7 @@ module _ (s : Skeleton) (h : IsSkeleton s) (connected : IsConnected s.rows) wher
   total [] = false
   total (k ∷ ks) = differs (turn_at k) (total ks)
 
-  -- what is told of a corner
+  -- what is answered of a corner
   abbrev mark : Corner → Bool
   mark k = differs (sign_at k.tet) (is_odd (corner_word k))
 

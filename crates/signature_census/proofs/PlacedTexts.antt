@@ -19,7 +19,7 @@ module _ (text : Vec ℕ Global) (before : List (Vec ℕ Global)) where
   abbrev at : ℕ → Vec ℕ Global
   at k = get_or before k text
 
-  -- what is told of a text by its place in the set
+  -- what is answered of a text by its place in the set
   text_at : (k : ℕ) → k < length before → signature_in (texts_of before) k ≡ (at k).items
   text_at k h = get_or-map (λ (v : Vec ℕ Global). v.items) before k text [] h
 

@@ -1,4 +1,4 @@
--- Laws of walks, of relabellings, of signatures and of the relabelling that is told of two tables.
+-- Laws of walks, of relabellings, of signatures and of the relabelling that is answered of two tables.
 use Rattle.std.specs.Prelude.{◌≡◌, ◌↔◌, ◌<◌, ℕ, List, length}
 use Rattle.table_definitions.specs.Table.{Row, IsTable}
 use Rattle.table_definitions.specs.Places.{IsConnected}
@@ -35,7 +35,7 @@ SignaturesTellTables =
     (first second : List Row) (text other : List ℕ) → IsTable first → IsTable second → IsSignature first text → IsSignature second other
     → (text ≡ other) ↔ IsRelabelled first second
 
--- one relabelling is told of two tables
+-- one relabelling is answered of two tables
 abbrev pub OneLeastRelabelling : Type 0
 OneLeastRelabelling =
     (first second : List Row) (by other : Relabelling) → IsTable first → IsConnected first → IsLeastRelabelling first second by

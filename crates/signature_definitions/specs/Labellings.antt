@@ -1,4 +1,4 @@
--- Walks from a start, and the relabelling that is told of two tables.
+-- Walks from a start, and the relabelling that is answered of two tables.
 use Rattle.std.specs.Prelude.{◌≡◌, ℕ, Bool, false, ◌&&◌, ◌||◌, List, length, nat_lt, ◌==◌}
 use Rattle.table_definitions.specs.Permutation.{index}
 use Rattle.table_definitions.specs.Table.{Gluing, Row}

@@ -1,4 +1,4 @@
-//! The walk order of a table, its spelling, signatures in text, walks from a start, the relabelling that is told of two
+//! The walk order of a table, its spelling, signatures in text, walks from a start, the relabelling that is answered of two
 //! tables, and the classes of a census. The definitions stand in `specs/`; the faults of
 //! signatures and of inputs stand here, for definitions and code. `proofs/` has worked examples.
 #![tactic(auto)]

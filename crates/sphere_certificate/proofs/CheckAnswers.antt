@@ -1,4 +1,4 @@
--- What is told of a last table is told of the moves that lead to it.
+-- What is answered of a last table is told of the moves that lead to it.
 use Rattle.std.proofs.Common.{◌≡◌, ℕ, List, [], ◌∷◌, ◌++◌, Result, Ok, Err, IfErr, refl, sym, subst}
 use Rattle.no_memory.specs.declared.Failure.{Failure}
 use Rattle.no_memory.specs.declared.Failure.TheVariants.{NoMemory, Fault}

@@ -1,4 +1,4 @@
--- What is told of the vectors of a document as sums, one after another.
+-- What is answered of the vectors of a document as sums, one after another.
 use Rattle.std.specs.Prelude.{◌≡◌, ℕ, ◌≤◌, List, ◌++◌, Vec, Result, Ok, Err, slice_index}
 use Rattle.std.specs.declared.alloc.Global.{Global}
 use Rattle.std.specs.List.{All, AllZip}
@@ -40,6 +40,6 @@ TellsSums most list rows vectors (Ok text) = AreSummedIn most list rows vectors 
 TellsSums most list rows vectors (Err (Fault first)) = IsFirstRefused (IsSummed most list) vectors first.number first.fault
 TellsSums most list rows vectors (Err NoMemory) = Unit {0}
 
--- what is told of the vectors is the outcome
+-- what is answered of the vectors is the outcome
 abbrev pub TellsList : ℕ → List (List ℕ) → List Row → List (List ℕ) → Outcome → Type 0
 TellsList most list rows vectors o = (told : Result (List Block) (ℕ × LargeTurn)) × AreAnswered (IsSummed most list) vectors told × (o ≡ sums_outcome rows told)

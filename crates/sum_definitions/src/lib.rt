@@ -8,7 +8,7 @@ pub struct Term<V> {
     pub vector: V,
 }
 
-/// Why a solution isn't told as a sum: at this turn, counted from 0, an entry of it, taken so many times, passes the limit, and
+/// Why a solution isn't answered as a sum: at this turn, counted from 0, an entry of it, taken so many times, passes the limit, and
 /// first at this column.
 #[derive(Clone, Copy)]
 pub struct LargeTurn {

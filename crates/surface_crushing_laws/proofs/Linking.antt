@@ -1,4 +1,4 @@
--- A vertex linking vector has no quads, and what is told of a vector without quads.
+-- A vertex linking vector has no quads, and what is answered of a vector without quads.
 use Rattle.std.proofs.Common.{◌≡◌, ℕ, ◌+◌, true, List, length, Result, Ok, Err, inl, inr, sym, ap, ◌∙◌, subst, arith}
 use Rattle.std.specs.Prelude.{◌%◌, ◌↔◌}
 use Rattle.std.proofs.Math.ListN.{get_or-eq_default}

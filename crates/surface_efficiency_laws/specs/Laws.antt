@@ -13,7 +13,7 @@ use Rattle.surface_laws.specs.PieceLaws.{IsSurface}
 use Rattle.surface_quad_laws.specs.LinkLaws.{IsVertexLink, IsCanonical}
 use Rattle.surface_agreement_laws.specs.VertexSurfaces.{IsVertexSurfaceOf, IsSurfaceListOf}
 
--- the Euler characteristic of a vector is the one that is told
+-- the Euler characteristic of a vector is the one that is answered
 abbrev pub CharacteristicIsAnswered : Type 0
 CharacteristicIsAnswered = (s : Skeleton) (coords : Coords) (xs : List ℕ) (p : Properties) → AreProperties s coords xs p → p.euler ≡ characteristic s coords xs
 

@@ -6,7 +6,7 @@ ghost use Rattle.surface_efficiency_laws.specs.Laws.{CharacteristicIsAnswered, P
 ghost use Rattle.surface_efficiency_laws.specs.Octagons.{NoneWhereEfficient, OctagonSurfacesHaveListed, OctagonSphereIsListed, PositiveSurfacesHaveOctagons};
 ghost use Rattle.surface_efficiency_laws.specs.Quads.{PositiveSurfacesHaveLifts, QuadListDecidesEfficiency};
 
-/// The Euler characteristic of a vector is the one that is told.
+/// The Euler characteristic of a vector is the one that is answered.
 pub fn characteristic_is_answered()
     ensures { CharacteristicIsAnswered }
 {}

@@ -1,4 +1,4 @@
--- A lift is a solution, admissible where its quad vector is; and what is told of a quad vector is determined.
+-- A lift is a solution, admissible where its quad vector is; and what is answered of a quad vector is determined.
 use Rattle.std.proofs.Common.{◌≡◌, ℕ, ◌+◌, ◌*◌, ◌/◌, ◌%◌, ◌-◌, ◌<◌, ◌≤◌, true, List, length, ◌⊎◌, inl, inr, Result, Ok, Err, refl, sym, ap, ◌∙◌, arith, ext_get_or}
 use Rattle.std.specs.Prelude.{◌==◌, ◌&&◌, nat_lt, slice_index}
 use Rattle.std.specs.List.{AllByRecursion}
@@ -117,7 +117,7 @@ quads_admissible n xs ys e h =
           | inr z ↦ inr (sym (same_entry b lb p.second) ∙ z)
         ]
 
--- what is told of a quad vector
+-- what is answered of a quad vector
 least_class : (s : Skeleton) (xs : List ℕ) (c d : ℕ) → IsLeastWithoutLift s xs c → IsLeastWithoutLift s xs d → c ≡ d
 least_class s xs c d f g = elim (cases_order c d) [
   | inl e ↦ e

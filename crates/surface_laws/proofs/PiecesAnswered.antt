@@ -1,4 +1,4 @@
--- Something is told of the pieces of each surface.
+-- Something is answered of the pieces of each surface.
 use Rattle.std.proofs.Common.{ℕ, ◌<◌, ◌↔◌, Bool, true, false, List, [], ◌∷◌, ◌⊎◌, inl, inr, Result, Ok, Err, IsTrue, refl}
 use Rattle.std.specs.Prelude.{sum}
 use Rattle.std.specs.List.{AllZip}

@@ -118,7 +118,7 @@ pub fn lifts_are_decided()
     ensures { LiftsAreDecided }
 {}
 
-/// Something is told of each quad vector.
+/// Something is answered of each quad vector.
 pub fn lift_answers_exist()
     ensures { LiftAnswersExist }
 {}
@@ -133,7 +133,7 @@ pub fn components_exist()
     ensures { ComponentsExist }
 {}
 
-/// Something is told of the pieces of each surface: its components, or that they are too many.
+/// Something is answered of the pieces of each surface: its components, or that they are too many.
 pub fn pieces_answers_exist()
     ensures { PiecesAnswersExist }
 {}

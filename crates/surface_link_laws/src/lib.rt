@@ -26,7 +26,7 @@ pub fn links_are_one_component()
     ensures { LinksAreOneComponent }
 {}
 
-/// In an orientable table a component of a surface is two-sided exactly where it is orientable, so what is told of it, and
+/// In an orientable table a component of a surface is two-sided exactly where it is orientable, so what is answered of it, and
 /// of each component that `describe` lists, is the same of both.
 pub fn sides_tell_orientation()
     ensures signs { SidesTellOrientation }

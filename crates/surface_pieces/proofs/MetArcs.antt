@@ -93,7 +93,7 @@ beq_is true false = refl
 beq_is false true = refl
 beq_is false false = refl
 
--- what is told of a sign that is kept where the code says so
+-- what is answered of a sign that is kept where the code says so
 value_is : (kind : SearchKind) (coords : Coords) (xs : List ℕ) (a : Arc) (g : Gluing) (st sides odd : Bool) (i k : ℕ) → sides ≡ keeps_sides coords xs a g → odd ≡ is_odd g.perm
     → (kind ≡ Sides → st ≡ sides) → (kind ≡ Orientation → st ≡ (if odd then sides else not sides))
     → number_with kind i (turned_if st k) ≡ number_with kind i (turned_if (stays_at kind coords xs a g) k)

@@ -4,7 +4,7 @@ use Rattle.std.specs.List.{slice_index_or}
 use Rattle.table_definitions.specs.Lists.{below}
 use Rattle.surface_vector_definitions.specs.Components.{Component}
 
--- component i, by the vectors and what is told of the sides and the orientation of each
+-- component i, by the vectors and what is answered of the sides and the orientation of each
 abbrev pub component_at : List (List ℕ) → List Bool → List Bool → ℕ → Component
 component_at vectors two_sided orientable i =
     record { vector = slice_index_or vectors i []; two_sided = slice_index_or two_sided i true; orientable = slice_index_or orientable i true }

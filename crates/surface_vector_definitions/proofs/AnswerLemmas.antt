@@ -1,4 +1,4 @@
--- What is told of the vectors of a document is determined where what is told of each is.
+-- What is answered of the vectors of a document is determined where what is answered of each is.
 use Rattle.std.proofs.Common.{◌≡◌, ℕ, zero, suc, ◌<◌, ◌≤◌, List, [], ◌∷◌, length, inl, inr, Some, None, Result, Ok, Err, refl, sym, ap, ◌∙◌, subst, arith}
 use Rattle.std.specs.Prelude.{sum}
 use Rattle.std.specs.List.{AllZip, slice_index_or}

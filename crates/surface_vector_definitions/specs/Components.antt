@@ -1,4 +1,4 @@
--- The components of a surface with what is told of each, or the number of pieces where these are too many. Coordinates are standard or octagons.
+-- The components of a surface with what is answered of each, or the number of pieces where these are too many. Coordinates are standard or octagons.
 use Rattle.std.specs.Prelude.{◌≡◌, ℕ, ◌<◌, ◌≤◌, ◌↔◌, Bool, List, Result, Ok, Err, IsTrue, sum}
 use Rattle.std.specs.List.{AllZip}
 use Rattle.table_definitions.specs.Lists.{below}
@@ -16,7 +16,7 @@ pub record Component : Type 0 where
   pub two_sided : Bool
   pub orientable : Bool
 
--- what is told of component i, by the component of each piece
+-- what is answered of component i, by the component of each piece
 pub record IsComponent (rows : List Row) (coords : Coords) (xs classes : List ℕ) (i : ℕ) (c : Component) : Type 0 where
   pub vector : c.vector ≡ component_vector xs classes i
   pub two_sided : IsTrue c.two_sided ↔ IsTwoSided rows coords xs classes i
@@ -29,7 +29,7 @@ pub record AreListedComponents (rows : List Row) (coords : Coords) (xs : List �
   pub numbered : AreComponents rows coords xs classes count
   pub each : AllZip (IsComponent rows coords xs classes) (below count) listed
 
--- what is told of a vector: its components, and of more pieces than are looked at their number
+-- what is answered of a vector: its components, and of more pieces than are looked at their number
 abbrev pub IsPiecesAnswer : List Row → Coords → List ℕ → Result (List Component) ManyPieces → Type 0
 IsPiecesAnswer rows coords xs (Ok listed) = (sum xs ≤ most_pieces) × AreListedComponents rows coords xs listed
 IsPiecesAnswer rows coords xs (Err many) = (most_pieces < sum xs) × (many.count ≡ sum xs)

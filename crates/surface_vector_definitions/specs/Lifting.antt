@@ -15,7 +15,7 @@ pub record IsLeastWithoutLift (s : Skeleton) (xs : List ℕ) (c : ℕ) : Type 0 
   pub none : HasLiftAt s xs c → ⊥
   pub before : (d : ℕ) → d < c → HasLiftAt s xs d
 
--- what is told of a quad vector: large where four times the sum of its entries passes max, else the least class with no lift, else the lift
+-- what is answered of a quad vector: large where four times the sum of its entries passes max, else the least class with no lift, else the lift
 abbrev pub IsLiftAnswer : ℕ → Skeleton → List ℕ → Result (List ℕ) LiftFault → Type 0
 IsLiftAnswer max s xs (Ok ys) = (4 * sum xs ≤ max) × IsLift s.rows s.vertices.classes s.vertices.count xs ys
 IsLiftAnswer max s xs (Err Large) = max < 4 * sum xs

@@ -32,14 +32,14 @@ pub enum SurfaceSum {
     PointsAndPieces,
 }
 
-/// Why no properties of a vector are told.
+/// Why no properties of a vector are answered.
 #[derive(Clone, Copy)]
 pub enum PropertyFault {
     /// This sum is the first that passes the maximum.
     Large { sum: SurfaceSum },
 }
 
-/// Why no lift of a quad vector is told.
+/// Why no lift of a quad vector is answered.
 #[derive(Clone, Copy)]
 pub enum LiftFault {
     /// Four times the sum of the entries passes the maximum.

@@ -1,4 +1,4 @@
-//! The command `csame`: the relabelling that is told of two tables, part by part.
+//! The command `csame`: the relabelling that is answered of two tables, part by part.
 
 ghost use Rattle.std.specs.Prelude.{◌≤◌, length, IfOk};
 ghost use Rattle.text_definitions.specs.Text.{max_text};

@@ -1,4 +1,4 @@
--- What is told of one vector where it is described, and that the sums of its components are small too.
+-- What is answered of one vector where it is described, and that the sums of its components are small too.
 use Rattle.std.specs.Prelude.{◌≡◌, ℕ, ◌<◌, List, length, None, Result, Ok, Err}
 use Rattle.std.specs.List.{slice_index_or}
 use Rattle.no_memory.specs.declared.Failure.{Failure}

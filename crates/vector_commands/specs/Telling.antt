@@ -1,4 +1,4 @@
--- What is told of the vectors of a document, one after another.
+-- What is answered of the vectors of a document, one after another.
 use Rattle.std.specs.Prelude.{◌≡◌, ℕ, List, ◌++◌, Vec, Result, Ok, Err}
 use Rattle.std.specs.declared.alloc.Global.{Global}
 use Rattle.std.specs.List.{AllZip, flat_map}

@@ -29,14 +29,14 @@ use surface_pieces::{Pieces, TooManyPieces};
 use surface_properties::{Properties, PropertyFault, properties_of};
 use surface_vector_definitions::Refusal;
 
-/// What is told of a vector.
+/// What is answered of a vector.
 #[derive(Drop)]
 pub struct Description {
     properties: Properties,
     pieces: Pieces,
 }
 
-// What is told of a vector that is an admissible solution.
+// What is answered of a vector that is an admissible solution.
 fn describe_solution(
     alloc: Global,
     skeleton: &Skeleton,
@@ -66,7 +66,7 @@ fn describe_solution(
     }
 }
 
-// What is told of a vector, or why it is refused.
+// What is answered of a vector, or why it is refused.
 fn describe_vector(
     alloc: Global,
     skeleton: &Skeleton,

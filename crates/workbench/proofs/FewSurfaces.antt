@@ -18,7 +18,7 @@ use Rattle.workbench.proofs.Headlines.{Tells}
 use Rattle.workbench.proofs.Completeness.{SurfacesOn, all_surfaces}
 
 module _ (words : List (List ℕ)) (status : Status) (held grown : Option (List ℕ)) where
-  -- what is told of these bytes
+  -- what is answered of these bytes
   abbrev pub FewOn : Coords → List ℕ → Type 0
   FewOn coords bytes =
       (rows : List Row) → length bytes ≤ most_bytes → table_document bytes ≡ Ok rows → length rows ≤ most_tetrahedra coords → ListsSurfaces coords rows status held grown ⊎ IsCutShort status

@@ -2,7 +2,7 @@ use command_words::{Coords, Order, Request, WordsFault, read_words};
 use std::alloc::Global;
 use text_io::{LIMIT, Words};
 
-fn asked(alloc: Global, line: &[&str]) -> Result<Request, WordsFault> {
+fn request_of(alloc: Global, line: &[&str]) -> Result<Request, WordsFault> {
     let mut words = Words::new(alloc);
     for word in line {
         if words.push(word).is_err() {
@@ -118,7 +118,10 @@ const REFUSED: [&[&str]; 21] = [
 #[test]
 fn accepted_words(rt: HostRuntime) {
     for (line, request) in &ACCEPTED {
-        assert!(rt; asked(rt.alloc(), line).ok() == Some(*request), "{line:?}");
+        assert!(rt;
+            request_of(rt.alloc(), line).ok() == Some(*request),
+            "{line:?}"
+        );
     }
 }
 
@@ -126,7 +129,7 @@ fn accepted_words(rt: HostRuntime) {
 fn refused_words(rt: HostRuntime) {
     for line in &REFUSED {
         assert!(rt;
-            matches!(asked(rt.alloc(), line), Err(WordsFault::Usage)),
+            matches!(request_of(rt.alloc(), line), Err(WordsFault::Usage)),
             "{line:?}"
         );
     }

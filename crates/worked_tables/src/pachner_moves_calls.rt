@@ -1,4 +1,4 @@
-use crate::sample_tables::{BALL, by, move_at, sphere_row, table_of, told_move};
+use crate::sample_tables::{BALL, by, move_at, sphere_row, table_of, tet_and_core};
 use gluing_table::{Row, Table};
 use pachner_moves::{Move, MoveFault, apply, inverse_move, legal, take_back};
 use std::process::Abort;
@@ -91,7 +91,7 @@ fn a_sphere_is_parted_and_joined(rt: HostRuntime) {
     let parted = apply(&mut table, move_at(&rt, 0, 15)).ok();
     assert!(rt; table.equals(&four));
     assert_eq!(rt;
-        parted.map(|undo| told_move(inverse_move(&undo))),
+        parted.map(|undo| tet_and_core(inverse_move(&undo))),
         Some((0, [false, false, false, true]))
     );
     let joined = apply(&mut table, move_at(&rt, 0, 8)).ok();
@@ -104,7 +104,7 @@ fn a_sphere_is_parted_and_joined(rt: HostRuntime) {
     let other = table_of(&rt, rt.alloc(), &other);
     assert!(rt; table.equals(&other));
     assert_eq!(rt;
-        joined.map(|undo| told_move(inverse_move(&undo))),
+        joined.map(|undo| tet_and_core(inverse_move(&undo))),
         Some((0, [true, true, true, true]))
     );
 }

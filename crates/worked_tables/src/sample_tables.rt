@@ -92,7 +92,7 @@ pub fn move_at(rt: &impl Abort, tet: u32, mask: u8) -> Move {
 }
 
 /// A move by its tetrahedron, and by which vertices are in its core.
-pub fn told_move(m: Move) -> (u32, [bool; 4]) {
+pub fn tet_and_core(m: Move) -> (u32, [bool; 4]) {
     let core = m.core;
     (m.tet, [core.has(0), core.has(1), core.has(2), core.has(3)])
 }

@@ -35,7 +35,7 @@ fn worked_texts_are_read_and_spelled(rt: HostRuntime) -> Result<(), Fail> {
 }
 
 // What is wrong, and the place that the fault has, or 0.
-fn told(fault: SigFault) -> (&'static str, usize) {
+fn kind_and_place(fault: SigFault) -> (&'static str, usize) {
     match fault {
         SigFault::NoMemory => ("no memory", 0),
         SigFault::BadChar { at } => ("bad char", at),
@@ -77,8 +77,8 @@ fn the_first_fault_is_answered(rt: HostRuntime) {
         (b"-b-", ("short", 3)),
     ];
     for (text, fault) in faults {
-        let told = read_signature(rt.alloc(), text).err().map(told);
-        assert_eq!(rt; told, Some(fault));
+        let answer = read_signature(rt.alloc(), text).err().map(kind_and_place);
+        assert_eq!(rt; answer, Some(fault));
     }
 }
 

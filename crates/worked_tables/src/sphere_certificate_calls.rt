@@ -1,4 +1,4 @@
-use crate::sample_tables::{move_at, read_table, told_move};
+use crate::sample_tables::{move_at, read_table, tet_and_core};
 use no_memory::Failure;
 use pachner_moves::{MoveFault, apply};
 use sphere_certificate::{CheckFault, check, descend, standard};
@@ -52,7 +52,7 @@ fn a_parted_sphere_is_reached(rt: HostRuntime) -> Result<(), Fail> {
     let descent = descend(alloc, &table).ok().ok_or("no descent")?;
     assert!(rt; descent.reached);
     assert_eq!(rt; descent.moves.len(), 1);
-    assert_eq!(rt; told_move(descent.moves[0]), told_move(joining));
+    assert_eq!(rt; tet_and_core(descent.moves[0]), tet_and_core(joining));
     assert_eq!(rt; descent.table.len(), 1);
     Ok(())
 }

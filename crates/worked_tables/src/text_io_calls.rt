@@ -40,7 +40,7 @@ fn signed_numbers_are_read(rt: HostRuntime) {
         lexer.signed(2147483647).ok(),
     ];
     assert_eq!(rt; numbers, [Some(-7), Some(0), Some(8)]);
-    assert!(rt; told(lexer.bad_word()) == (1, 7, LexKind::BadWord));
+    assert!(rt; place_and_kind(lexer.bad_word()) == (1, 7, LexKind::BadWord));
 }
 
 #[test]
@@ -51,12 +51,12 @@ fn lines_follow_each_other(rt: HostRuntime) {
     let word = lexer.word().ok().expect(&rt, "a word");
     assert_eq!(rt; word, b"ab".as_slice());
     assert!(rt; !lexer.next_line());
-    let fault = lexer.need_line().err().map(told);
+    let fault = lexer.need_line().err().map(place_and_kind);
     assert!(rt; fault == Some((5, 2, LexKind::MissingWord)));
 }
 
 // The line and the column of a fault, and its kind.
-fn told(fault: LexFault) -> (u32, u32, LexKind) {
+fn place_and_kind(fault: LexFault) -> (u32, u32, LexKind) {
     (fault.place.line, fault.place.column, fault.kind)
 }
 
@@ -80,7 +80,7 @@ fn fault_of(bytes: &[u8], wanted: Wanted) -> Option<(u32, u32, LexKind)> {
         .need_line()
         .and_then(|()| ask(&mut lexer, wanted))
         .err()?;
-    Some(told(fault))
+    Some(place_and_kind(fault))
 }
 
 fn ask(lexer: &mut Lexer, wanted: Wanted) -> Result<(), LexFault> {

@@ -1,4 +1,4 @@
-use crate::sample_tables::{text_of, told_move};
+use crate::sample_tables::{tet_and_core, text_of};
 use sphere_certificate::check;
 use std::test::Fail;
 use tri_build::make;
@@ -13,8 +13,8 @@ fn the_worked_making_goes_back(rt: HostRuntime) -> Result<(), Fail> {
     assert_eq!(rt; text.as_slice(), rows.as_slice());
     assert_eq!(rt; made.certificate.len(), 2);
     let (first, second) = (made.certificate[0], made.certificate[1]);
-    assert_eq!(rt; told_move(first), (1, [false, true, true, true]));
-    assert_eq!(rt; told_move(second), (3, [false, false, true, false]));
+    assert_eq!(rt; tet_and_core(first), (1, [false, true, true, true]));
+    assert_eq!(rt; tet_and_core(second), (3, [false, false, true, false]));
     assert!(rt; check(alloc, &made.table, &made.certificate).is_ok());
     Ok(())
 }

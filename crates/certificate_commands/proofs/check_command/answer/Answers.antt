@@ -1,4 +1,4 @@
--- What is told of the check is the answer.
+-- What is answered of the check is the answer.
 use Rattle.std.proofs.Common.{Ok, Err}
 use Rattle.std.proofs.lemmas.Result.{IfOk-weaker}
 use Rattle.sphere_certificate.specs.Checks.{told}

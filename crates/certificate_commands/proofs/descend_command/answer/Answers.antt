@@ -1,4 +1,4 @@
--- What is told of the descent is the answer.
+-- What is answered of the descent is the answer.
 use Rattle.std.proofs.Common.{Ok, Err}
 use Rattle.std.proofs.lemmas.Result.{IfOk-weaker}
 use Rattle.certificate_commands.proofs.descend_command.answer.Goals as goal

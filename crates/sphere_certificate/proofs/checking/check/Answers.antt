@@ -1,4 +1,4 @@
--- What is told of the last table is told of the moves.
+-- What is answered of the last table is told of the moves.
 use Rattle.std.proofs.Common.{Err, List, sym, subst}
 use Rattle.table_definitions.specs.Table.{Row, IsTable}
 use Rattle.move_laws.proofs.Played.{all_led_table}
