@@ -15,11 +15,11 @@ use Rattle.signature_laws.proofs.Connected.{connected_or_unreached_lem}
 use Rattle.table_definitions.proofs.Permutations.{image_below}
 use Rattle.table_definitions.proofs.Faces.{face_at}
 use Rattle.move_definitions.proofs.CoreTests.{core_size}
-use Rattle.move_definitions.proofs.StandIns.{facet_stand_in-new}
+use Rattle.move_definitions.proofs.StandIns.{facet_stand_in-new, stand_in-kept}
 use Rattle.move_laws.proofs.Labels.{HasLabel, label_at}
 use Rattle.move_laws.proofs.ListedFacets.{same_some, has_tet}
 use Rattle.move_laws.proofs.Legal.{IsFacet, facet_is, facet-four, HasNoFault, no_fault, old_facet, old_label, OldFacet, old_tet_facet}
-use Rattle.move_laws.proofs.Covered.{stand_in-kept, stand_in-old}
+use Rattle.move_laws.proofs.Covered.{stand_in-old}
 use Rattle.move_laws.proofs.Matched.{AreGlued, old_glued}
 use Rattle.move_laws.proofs.SecondStand.{other_stands}
 use Rattle.move_laws.proofs.Shapes.{shape}

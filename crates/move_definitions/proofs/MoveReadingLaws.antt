@@ -3,7 +3,7 @@ use Rattle.std.proofs.Common.{◌≡◌, ℕ, ◌-◌, ◌^◌, List, [], ◌∷
 use Rattle.std.specs.Prelude.{slice_index, codes}
 use Rattle.table_definitions.specs.Permutation.{four, digits_of, others}
 use Rattle.table_definitions.specs.Places.{edge_ends}
-use Rattle.text_definitions.specs.Text.{Token, word}
+use Rattle.text_definitions.specs.Text.{Token}
 use Rattle.text_definitions.specs.declared.LexFault.{LexFault}
 use Rattle.text_definitions.specs.Reading.{Reading, ◌>>=◌, word_at, number_at, end_line_at}
 use Rattle.text_definitions.proofs.Readers.{bind_ok}

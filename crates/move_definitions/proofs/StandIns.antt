@@ -1,9 +1,23 @@
--- What stands for the face of an old facet, by its label.
-use Rattle.std.proofs.Common.{◌≡◌, ℕ, ◌<◌, ◌≤◌, Bool, List, length, Option, Some, None, ap}
-use Rattle.std.specs.Prelude.{if◌then◌else◌}
+-- What stands for the face of a kept tetrahedron, and for that of an old facet, by its label.
+use Rattle.std.proofs.Common.{◌≡◌, ℕ, ◌<◌, ◌≤◌, Bool, true, false, cond, List, [], ◌∷◌, length, map, Option, Some, None, refl, ap}
+use Rattle.std.specs.Prelude.{◌==◌, ◌||◌, if◌then◌else◌, find}
 use Rattle.std.proofs.lemmas.Bool.{lt-ltb, le-ltb}
-use Rattle.table_definitions.specs.Table.{Gluing, Row}
-use Rattle.move_definitions.specs.Moves.{Move, Facet, new_facet, label_by_label, facet_stand_in}
+use Rattle.table_definitions.specs.Lists.{has}
+use Rattle.table_definitions.specs.Table.{Gluing, Row, Face}
+use Rattle.move_definitions.specs.Moves.{Move, Facet, new_facet, label_by_label, facet_stand_in, kept_stand_in, stand_in_of, stand_in_at, old_facets, old_tets}
+
+-- where no facet of a list is of this tetrahedron
+pub find-none : (fs : List Facet) (t : ℕ) → has (map (λ (f : Facet). f.tet) fs) t ≡ false → find (λ (f : Facet). f.tet == t) fs ≡ None
+find-none [] t h = refl
+find-none (f ∷ fs) t h = by_test (f.tet == t) h (λ later. find-none fs t later)
+  where
+    by_test : (b : Bool) → (b || has (map (λ (f : Facet). f.tet) fs) t) ≡ false → (has (map (λ (f : Facet). f.tet) fs) t ≡ false → find (λ (f : Facet). f.tet == t) fs ≡ None)
+        → cond b (Some f) (find (λ (f : Facet). f.tet == t) fs) ≡ None
+    by_test true h later = absurd cc
+    by_test false h later = later h
+
+pub stand_in-kept : (rows : List Row) (m : Move) (x : Face) → has (old_tets rows m) x.tet ≡ false → stand_in_at rows m x ≡ Some (kept_stand_in rows m x.tet)
+stand_in-kept rows m x h = ap (stand_in_of rows m x) (find-none (old_facets rows m) x.tet h)
 
 pub facet_stand_in-new : (rows : List Row) (m : Move) (f : Facet) (j : ℕ) → j < length m.core → facet_stand_in rows m f j ≡ Some (record { tet = (new_facet rows m j).tet; perm = label_by_label f (new_facet rows m j) })
 facet_stand_in-new rows m f j l =

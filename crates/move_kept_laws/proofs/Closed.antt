@@ -14,11 +14,11 @@ use Rattle.table_definitions.proofs.Tests.{each_face}
 use Rattle.table_definitions.proofs.Listed.{faces-among, among_contains}
 use Rattle.table_definitions.proofs.Faces.{face_at}
 use Rattle.move_definitions.specs.Moves.{Move, Facet, IsMoved, stand_in_at, kept_stand_in, moved_gluing, facet_gluing, old_tets}
-use Rattle.move_definitions.proofs.StandIns.{facet_stand_in-new}
+use Rattle.move_definitions.proofs.StandIns.{facet_stand_in-new, stand_in-kept}
 use Rattle.move_laws.proofs.Labels.{HasLabel, label_at}
 use Rattle.move_laws.proofs.Legal.{IsFacet, facet_is, HasNoFault, no_fault, old_tet_facet, OldFacet, old_facet}
 use Rattle.move_laws.proofs.Matched.{AreGlued, old_glued}
-use Rattle.move_laws.proofs.Covered.{covered, stand_in-kept, stand_in-old}
+use Rattle.move_laws.proofs.Covered.{covered, stand_in-old}
 use Rattle.move_laws.proofs.Shapes.{stand_in_range}
 use Rattle.move_laws.proofs.SecondStand.{other_stands}
 use Rattle.move_kept_laws.specs.Closed.{MovesKeepClosed, MovesKeepBoundary, PlaysKeepClosed, PlaysKeepBoundary}

@@ -20,11 +20,12 @@ use Rattle.table_definitions.proofs.Ranks.{rank, stays, closed_up-rank, at_rank,
 use Rattle.table_definitions.proofs.Retained.{IsKeptAs, kept_as, length-replaced, fresh_row_at, kept_row_at, glue-fresh, glue-kept}
 use Rattle.table_definitions.proofs.FreshRows.{fresh_tet, length-fresh_row, back_is}
 use Rattle.move_definitions.specs.Moves.{Move, Facet, kept, kept_stand_in, stand_in_at, moved_gluing, IsMoved, Plays, facet_gluing, old_tets}
+use Rattle.move_definitions.proofs.StandIns.{stand_in-kept}
 use Rattle.move_definitions.specs.Undos.{Undo, taken_numbers, undo_of, back_exchange, former, CanTakeBack, IsTakenBack, TakesBack}
 use Rattle.move_laws.specs.Facets.{numbered}
 use Rattle.move_laws.proofs.LegalLaws.{IsLegal, legal_from}
 use Rattle.move_laws.proofs.NumberLaws.{numbers-of, row-of, has-range, range-has, not-has, range-up, range-within, picked-up, picked-within, filter-has}
-use Rattle.move_laws.proofs.ListedLaws.{old_of_tet, taken-has, length-taken, enough, stand_kept}
+use Rattle.move_laws.proofs.ListedLaws.{old_of_tet, taken-has, length-taken, enough}
 use Rattle.move_laws.proofs.StandLaws.{under_kept, closes, stand_put, face_at, outer_label}
 use Rattle.move_laws.proofs.ExchangeLaws.{one_face}
 use Rattle.move_laws.proofs.MovedLaws.{kept_under, kept_place}
@@ -100,7 +101,7 @@ number-back old m new t h l free =
 kept-glue : (old : List Row) (m : Move) (new : List Row) (x : Face) → HasMoved old m new → x.tet < length old → x.face < 4 → has (old_tets old m) x.tet ≡ false
     → glue new (kept_place old m x) ≡ option_and_then (moved_gluing old m x (kept_stand_in old m x.tet)) (glue old x)
 kept-glue old m new x h lt l free =
-    ap (glue new) (sym (kept_under old m x l)) ∙ h.moved.outer x (kept_stand_in old m x.tet) lt l (stand_kept old m x free)
+    ap (glue new) (sym (kept_under old m x l)) ∙ h.moved.outer x (kept_stand_in old m x.tet) lt l (stand_in-kept old m x free)
 
 -- a kept face that led to an old facet
 record LedTo (old : List Row) (m : Move) (x : Face) (g : Gluing) : Type 0 where
@@ -205,7 +206,7 @@ kept_again old m new x (Some g) h lt l free e = by_test (has (old_tets old m) g.
         let s : Gluing = kept_stand_in old m x.tet in
         let k : Gluing = record { tet = closed_up (old_tets old m) g.tet; perm = g.perm } in
         let fewer = (closes old m g.tet h.legal inside q).fewer in
-        ap (λ (r : Option Gluing). kept_gluing new (back old m) x (option_map (λ t. gluing_under s t g) r)) (stand_kept old m (other_side x g) q)
+        ap (λ (r : Option Gluing). kept_gluing new (back old m) x (option_map (λ t. gluing_under s t g) r)) (stand_in-kept old m (other_side x g) q)
         ∙ ap (λ (t : Gluing). kept_gluing new (back old m) x (Some t)) (under_kept (closed_up (old_tets old m) x.tet) (closed_up (old_tets old m) g.tet) g permutes)
         ∙ shown k false (gone-not old m (closed_up (old_tets old m) g.tet) fewer)
         ∙ ap (λ n. Some (record { tet = n; perm = g.perm })) (number-back old m new g.tet h inside q)

@@ -11,16 +11,12 @@ use Rattle.table_definitions.proofs.InPlace.{in_place-same}
 use Rattle.table_definitions.proofs.Faces.{face_at}
 use Rattle.move_definitions.specs.Moves.{Move, IsCore, Facet, opposite, facet, old_labels, old_tets, new_length, new_facet, label_by_label, facet_stand_in, kept_stand_in, stand_in_of, stand_in_at, kept, facet_gluing}
 use Rattle.move_definitions.proofs.CoreTests.{core_size}
-use Rattle.move_definitions.proofs.StandIns.{facet_stand_in-new}
+use Rattle.move_definitions.proofs.StandIns.{facet_stand_in-new, stand_in-kept}
 use Rattle.move_laws.proofs.Labels.{ascending, new_labels, HasLabel, label_at, HasVertex, vertex_at, length-labels, image-map}
-use Rattle.move_laws.proofs.ListedFacets.{not_found, is_found, comes_from, stays-count}
+use Rattle.move_laws.proofs.ListedFacets.{is_found, comes_from, stays-count}
 use Rattle.move_laws.proofs.Legal.{IsFacet, facet_is, HasNoFault, old_facet, old_label, facets_apart, old_tets_distinct, length-old_tets, old_tets_below}
 
--- what stands for a kept tetrahedron, and for an old facet
-
-pub stand_in-kept : (rows : List Row) (m : Move) (x : Face) → has (old_tets rows m) x.tet ≡ false → stand_in_at rows m x ≡ Some (kept_stand_in rows m x.tet)
-stand_in-kept rows m x h = ap (stand_in_of rows m x) (not_found (facet rows m) (old_labels m) x.tet h)
-
+-- what stands for an old facet
 pub stand_in-old : (rows : List Row) (m : Move) (i : ℕ) (f : Facet) (v : ℕ) → HasNoFault rows m → IsCore m.core → length m.core ≤ i → i < 5 → facet rows m i ≡ Some f
     → stand_in_at rows m (face_at f.tet v) ≡ facet_stand_in rows m f (image f.labels v)
 stand_in-old rows m i f v h c low high e =

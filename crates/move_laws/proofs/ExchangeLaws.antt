@@ -27,7 +27,7 @@ use Rattle.move_laws.proofs.LegalLaws.{IsLegal, same_facet, label_in}
 use Rattle.move_laws.proofs.NumberLaws.{range-up, range-within, picked-up, picked-within}
 use Rattle.move_laws.proofs.ListedLaws.{tet_of_old, taken-has}
 use Rattle.move_laws.proofs.StandLaws.{side_under, way_under, under_permutes, closes, closed-apart, StandsKept, StandsPut, stands, vertex_small, stand_put, put_permutes, put_face}
-use Rattle.move_laws.proofs.PutLaws.{put-numbers, put-length, is-put, put-is, not-put, glue-inner, glue-outer, LeadsIn, LeadsOut, leads}
+use Rattle.move_laws.proofs.PutLaws.{put-numbers, put-length, is-put, put-is, not-put, glue-inner, glue-outer, LeadsIn, LeadsOut, leads, Leads}
 
 -- the new number of a tetrahedron that is kept
 pub number-kept : (rows : List Row) (m : Move) (t : ℕ) → IsLegal rows m → t < length rows → has (old_tets rows m) t ≡ false → number_of_kept rows (exchange rows m) t ≡ closed_up (old_tets rows m) t
@@ -141,25 +141,19 @@ in_permutes rows m j l legal own new other =
 
 -- the clauses, one by one
 
-abbrev Kinds : List Row → Move → Face → Gluing → Type 0
-Kinds rows m x g = LeadsIn rows m x g ⊎ Outer rows m x g
-
-kinds : (rows : List Row) (m : Move) (x : Face) (g : Gluing) → IsLegal rows m → fresh_glue (exchange rows m) x ≡ Some g → Kinds rows m x g
-kinds rows m x g legal e = of (leads rows m x g legal e)
-  where
-    of : LeadsIn rows m x g ⊎ LeadsOut rows m x g → Kinds rows m x g
-    of (inl i) = inl i
-    of (inr o) = inr (outer rows m x g legal o)
-
-put_gluing_permutes : (rows : List Row) (m : Move) (x : Face) (g : Gluing) → IsLegal rows m → Kinds rows m x g → IsPermutationOfFour g.perm
+put_gluing_permutes : (rows : List Row) (m : Move) (x : Face) (g : Gluing) → IsLegal rows m → Leads rows m x g → IsPermutationOfFour g.perm
 put_gluing_permutes rows m x g legal (inl i) = subst (λ (h : Gluing). IsPermutationOfFour h.perm) (sym i.is) (in_permutes rows m i.j i.l legal i.own i.new i.other)
-put_gluing_permutes rows m x g legal (inr o) =
+put_gluing_permutes rows m x g legal (inr l) =
+    let o = outer rows m x g legal l in
     subst (λ (h : Gluing). IsPermutationOfFour h.perm) (sym o.is) (under_permutes (facet_gluing rows m o.f o.j) o.there o.before o.here_permutes o.there_permutes o.permutes)
 
-put_in_range : (rows : List Row) (m : Move) (x : Face) (g : Gluing) → IsLegal rows m → Kinds rows m x g → g.tet < replaced_length rows (exchange rows m)
+put_in_range : (rows : List Row) (m : Move) (x : Face) (g : Gluing) → IsLegal rows m → Leads rows m x g → g.tet < replaced_length rows (exchange rows m)
 put_in_range rows m x g legal (inl i) = let t : g.tet ≡ kept rows m + i.l = tet_of g _ i.is in let n = put-length rows m legal in let b = i.new in omega arith
-put_in_range rows m x g legal (inr o) = by_stand (outer_stands rows m x g legal o)
+put_in_range rows m x g legal (inr l) = by_stand (outer_stands rows m x g legal o)
   where
+    o : Outer rows m x g
+    o = outer rows m x g legal l
+
     by_stand : StandsKept rows m (other_side (opposite o.f o.j) o.before) o.there ⊎ StandsPut rows m (other_side (opposite o.f o.j) o.before) o.there → g.tet < replaced_length rows (exchange rows m)
     by_stand (inl k) = let t = kept_tet rows m x g legal o k in let t0 = t.0 in let t1 = t.1 in let n = put-length rows m legal in omega arith
     by_stand (inr p) = let t = put_tet rows m x g o p in let n = put-length rows m legal in let b = p.new in omega arith
@@ -183,15 +177,18 @@ same_new rows m i j k l bj bi bk ij kl e =
 not_old : (rows : List Row) (m : Move) (i j : ℕ) (f : Facet) → IsOldFacet rows m i f → j < length m.core → i ≢ j
 not_old rows m i j f F l e = let low = F.old_label in absurd (omega arith)
 
-put_apart : (rows : List Row) (m : Move) (x : Face) (g : Gluing) → IsLegal rows m → Kinds rows m x g → other_side x g ≡ x → ⊥
+put_apart : (rows : List Row) (m : Move) (x : Face) (g : Gluing) → IsLegal rows m → Leads rows m x g → other_side x g ≡ x → ⊥
 put_apart rows m x g legal (inl i) e =
     let a : g.tet ≡ kept rows m + i.l = tet_of g _ i.is in
     let b : x.tet ≡ kept rows m + i.j = face_tet x _ i.at in
     let c : g.tet ≡ x.tet = face_tet (other_side x g) x e in
     let s : i.l ≡ i.j = omega arith in
     i.other s
-put_apart rows m x g legal (inr o) e = by_stand (outer_stands rows m x g legal o)
+put_apart rows m x g legal (inr l) e = by_stand (outer_stands rows m x g legal o)
   where
+    o : Outer rows m x g
+    o = outer rows m x g legal l
+
     few : length m.core < 5
     few = core_few m.core legal.core
 
@@ -218,7 +215,7 @@ put_apart rows m x g legal (inr o) e = by_stand (outer_stands rows m x g legal o
         same_refl a b q = same_to a.tet b.tet a.face b.face (face_tet a b q) (face_vertex a b q)
 
 -- between new facets gluings lead back
-back_in : (rows : List Row) (m : Move) (x : Face) (g : Gluing) → IsLegal rows m → Kinds rows m x g → has (fresh_numbers (exchange rows m)) g.tet ≡ true → fresh_glue (exchange rows m) (other_side x g) ≡ Some (way_back x g)
+back_in : (rows : List Row) (m : Move) (x : Face) (g : Gluing) → IsLegal rows m → Leads rows m x g → has (fresh_numbers (exchange rows m)) g.tet ≡ true → fresh_glue (exchange rows m) (other_side x g) ≡ Some (way_back x g)
 back_in rows m x g legal (inl i) h =
     let few = core_few m.core legal.core in
     let own = i.own in
@@ -227,8 +224,11 @@ back_in rows m x g legal (inl i) h =
     ap (λ (y : Face). way_back y g) i.at ∙ ap (way_back (opposite (new_facet rows m i.j) i.l)) i.is
     ∙ ap (λ (p : List ℕ). record { tet = kept rows m + i.j; perm = p }) (by_back (new_facet rows m i.j) (new_facet rows m i.l) (new_is_facet rows m i.j (omega arith)) (new_is_facet rows m i.l (omega arith)) (λ e. i.other (sym e))) in
     ap (fresh_glue (exchange rows m)) (in_side rows m x g legal i) ∙ glue-inner rows m i.l i.j legal i.new i.own (λ e. i.other (sym e)) ∙ ap (λ (k : Gluing). Some k) (sym way)
-back_in rows m x g legal (inr o) h = by_stand (outer_stands rows m x g legal o)
+back_in rows m x g legal (inr l) h = by_stand (outer_stands rows m x g legal o)
   where
+    o : Outer rows m x g
+    o = outer rows m x g legal l
+
     by_stand : StandsKept rows m (other_side (opposite o.f o.j) o.before) o.there ⊎ StandsPut rows m (other_side (opposite o.f o.j) o.before) o.there → fresh_glue (exchange rows m) (other_side x g) ≡ Some (way_back x g)
     by_stand (inl k) =
         let t = kept_tet rows m x g legal o k in
@@ -250,15 +250,18 @@ back_in rows m x g legal (inr o) h = by_stand (outer_stands rows m x g legal o)
         ∙ ap (λ (k : Gluing). Some k) (sym way)
 
 -- a gluing that leads to a kept tetrahedron
-not_in : (rows : List Row) (m : Move) (x : Face) (g : Gluing) → IsLegal rows m → Kinds rows m x g → has (fresh_numbers (exchange rows m)) g.tet ≡ false
+not_in : (rows : List Row) (m : Move) (x : Face) (g : Gluing) → IsLegal rows m → Leads rows m x g → has (fresh_numbers (exchange rows m)) g.tet ≡ false
     → (o : Outer rows m x g) × StandsKept rows m (other_side (opposite o.f o.j) o.before) o.there
 not_in rows m x g legal (inl i) h =
     let t : g.tet ≡ kept rows m + i.l = tet_of g _ i.is in
     let b = i.new in
     let z : false ≡ true = sym h ∙ is-put rows m g.tet (omega arith) (omega arith) in
     absurd cc
-not_in rows m x g legal (inr o) h = by_stand (outer_stands rows m x g legal o)
+not_in rows m x g legal (inr l) h = by_stand (outer_stands rows m x g legal o)
   where
+    o : Outer rows m x g
+    o = outer rows m x g legal l
+
     by_stand : StandsKept rows m (other_side (opposite o.f o.j) o.before) o.there ⊎ StandsPut rows m (other_side (opposite o.f o.j) o.before) o.there → (o : Outer rows m x g) × StandsKept rows m (other_side (opposite o.f o.j) o.before) o.there
     by_stand (inl k) = (o, k)
     by_stand (inr p) =
@@ -273,7 +276,7 @@ kept_side rows m x g o k =
     o.side ∙ ap (λ (s : Gluing). face_under s (other_side (opposite o.f o.j) o.before)) k.is
     ∙ ap (λ v. record { tet = closed_up (old_tets rows m) o.before.tet; face = v }) (image-identity (other_side (opposite o.f o.j) o.before).face o.there_small)
 
-freed_by : (rows : List Row) (m : Move) (x : Face) (g : Gluing) → IsLegal rows m → Kinds rows m x g → has (fresh_numbers (exchange rows m)) g.tet ≡ false → IsFreed rows (exchange rows m) (other_side x g)
+freed_by : (rows : List Row) (m : Move) (x : Face) (g : Gluing) → IsLegal rows m → Leads rows m x g → has (fresh_numbers (exchange rows m)) g.tet ≡ false → IsFreed rows (exchange rows m) (other_side x g)
 freed_by rows m x g legal kind h =
     let p = not_in rows m x g legal kind h in
     let o : Outer rows m x g = p.0 in
@@ -299,7 +302,7 @@ one_face rows table a b g h ga gb la lb e =
     let way : way_back a g ≡ way_back b h = cc in
     sym (there_and_back a g (table.permutes a g ga) la) ∙ ap (λ (y : Face). other_side y (way_back a g)) e ∙ ap (other_side (other_side b h)) way ∙ there_and_back b h (table.permutes b h gb) lb
 
-one_by : (rows : List Row) (m : Move) (x z : Face) (g h : Gluing) → IsLegal rows m → Kinds rows m x g → Kinds rows m z h → has (fresh_numbers (exchange rows m)) g.tet ≡ false → other_side x g ≡ other_side z h → x ≡ z
+one_by : (rows : List Row) (m : Move) (x z : Face) (g h : Gluing) → IsLegal rows m → Leads rows m x g → Leads rows m z h → has (fresh_numbers (exchange rows m)) g.tet ≡ false → other_side x g ≡ other_side z h → x ≡ z
 one_by rows m x z g h legal kx kz kept_x e =
     let few = core_few m.core legal.core in
     let kept_z : has (fresh_numbers (exchange rows m)) h.tet ≡ false = ap (has (fresh_numbers (exchange rows m))) (sym (face_tet (other_side x g) (other_side z h) e)) ∙ kept_x in
@@ -333,12 +336,12 @@ can_exchange rows m legal fits = record {
       (range-within (kept rows m) (length m.core) (replaced_length rows (exchange rows m)) (let n = put-length rows m legal in omega arith));
   few = (let n = put-length rows m legal in omega arith);
   four_faces = four_long;
-  permutes = λ x g e. put_gluing_permutes rows m x g legal (kinds rows m x g legal e);
-  in_range = λ x g e. put_in_range rows m x g legal (kinds rows m x g legal e);
-  apart = λ x g e. not_from (same_face (other_side x g) x) (λ s. put_apart rows m x g legal (kinds rows m x g legal e) (same_true (other_side x g) x s));
-  leads_back = λ x g e h. back_in rows m x g legal (kinds rows m x g legal e) h;
-  freed = λ x g e h. freed_by rows m x g legal (kinds rows m x g legal e) h;
-  one_each = λ x z g h e k free s. one_by rows m x z g h legal (kinds rows m x g legal e) (kinds rows m z h legal k) free s;
+  permutes = λ x g e. put_gluing_permutes rows m x g legal (leads rows m x g legal e);
+  in_range = λ x g e. put_in_range rows m x g legal (leads rows m x g legal e);
+  apart = λ x g e. not_from (same_face (other_side x g) x) (λ s. put_apart rows m x g legal (leads rows m x g legal e) (same_true (other_side x g) x s));
+  leads_back = λ x g e h. back_in rows m x g legal (leads rows m x g legal e) h;
+  freed = λ x g e h. freed_by rows m x g legal (leads rows m x g legal e) h;
+  one_each = λ x z g h e k free s. one_by rows m x z g h legal (leads rows m x g legal e) (leads rows m z h legal k) free s;
 }
   where
     same_true : (a b : Face) → same_face a b ≡ true → a ≡ b

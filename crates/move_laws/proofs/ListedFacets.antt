@@ -65,17 +65,6 @@ apart_tail F l ls a j k f g hj hk = a j k f g (inr hj) (inr hk)
 abbrev pub found_by : (ℕ → Option Facet) → List ℕ → ℕ → Option Facet
 found_by F ls t = find (λ (f : Facet). f.tet == t) (filter_map F ls)
 
-pub not_found : (F : ℕ → Option Facet) (ls : List ℕ) (t : ℕ) → has (tets_of F ls) t ≡ false → found_by F ls t ≡ None
-not_found F ls t h = none (filter_map F ls) h
-  where
-    none : (fs : List Facet) → has (map tet_of fs) t ≡ false → find (λ (f : Facet). f.tet == t) fs ≡ None
-    none [] h = refl
-    none (f ∷ fs) h = by_test (f.tet == t) h (λ h'. none fs h')
-      where
-        by_test : (b : Bool) → (b || has (map tet_of fs) t) ≡ false → (has (map tet_of fs) t ≡ false → find (λ (f : Facet). f.tet == t) fs ≡ None) → cond b (Some f) (find (λ (f : Facet). f.tet == t) fs) ≡ None
-        by_test true h later = cc
-        by_test false h later = later h
-
 pub same_some : {A : Type 0} (o : Option A) (x y : A) → o ≡ Some x → o ≡ Some y → x ≡ y
 same_some o x y e k = cc
 

@@ -1,6 +1,6 @@
 -- The list of the facets that are taken out, their tetrahedra, and what stands for the old faces.
-use Rattle.std.proofs.Common.{◌≡◌, ℕ, zero, suc, ◌+◌, ◌-◌, ◌<◌, ◌≤◌, Bool, true, false, cond, List, [], ◌∷◌, length, map, drop, get_or, Option, Some, None, refl, sym, ap, ◌∙◌, subst, arith, inl, inr}
-use Rattle.std.specs.Prelude.{◌⊎◌, ◌==◌, ◌||◌, nat_lt, filter_map, find}
+use Rattle.std.proofs.Common.{◌≡◌, ℕ, zero, suc, ◌+◌, ◌-◌, ◌<◌, ◌≤◌, Bool, true, false, cond, List, [], ◌∷◌, length, drop, get_or, Option, Some, refl, sym, ap, ◌∙◌, subst, arith, inl, inr}
+use Rattle.std.specs.Prelude.{◌⊎◌, ◌==◌, nat_lt, filter_map, find}
 use Rattle.std.specs.List.{range_with_len, cons_option}
 use Rattle.std.proofs.lemmas.Bool.{eqb-true, eq-eqb, lt-ltb}
 use Rattle.std.proofs.lemmas.List.{get_or-map, length-map}
@@ -11,7 +11,7 @@ use Rattle.table_definitions.proofs.TableLaws.{Among, Among-range}
 use Rattle.table_definitions.proofs.Listed.{range-among, Among-filter_map, filter_map-among}
 use Rattle.table_definitions.proofs.ListFacts.{list_all-below, same_list-true}
 use Rattle.table_definitions.proofs.Ranks.{length-picked, rank_fits, count_whole}
-use Rattle.move_definitions.specs.Moves.{Move, Facet, facet, old_labels, old_facets, old_tets, facet_stand_in, kept_stand_in, stand_in_of, stand_in_at}
+use Rattle.move_definitions.specs.Moves.{Move, Facet, facet, old_labels, old_facets, old_tets, facet_stand_in, stand_in_of, stand_in_at}
 use Rattle.move_definitions.specs.Undos.{taken_numbers}
 use Rattle.move_laws.specs.Facets.{IsOldFacet, AreOldFacets}
 use Rattle.move_laws.proofs.FacetLaws.{core_some, core_few}
@@ -102,15 +102,6 @@ find-only p (g ∷ fs) f a h only = by_test (p g) refl a (λ b. find-only p fs f
     by_test false e (inl s) later = let z : true ≡ false = sym h ∙ ap p s ∙ e in absurd cc
     by_test false e (inr c) later = later c
 
-find-none : (fs : List Facet) (t : ℕ) → has (map (λ (f : Facet). f.tet) fs) t ≡ false → find (λ (f : Facet). f.tet == t) fs ≡ None
-find-none [] t h = refl
-find-none (g ∷ fs) t h = by_test (g.tet == t) refl h (λ k. find-none fs t k)
-  where
-    by_test : (b : Bool) → (g.tet == t) ≡ b → (b || has (map (λ (f : Facet). f.tet) fs) t) ≡ false → (has (map (λ (f : Facet). f.tet) fs) t ≡ false → find (λ (f : Facet). f.tet == t) fs ≡ None)
-        → cond b (Some g) (find (λ (f : Facet). f.tet == t) fs) ≡ None
-    by_test true e k later = absurd cc
-    by_test false e k later = later k
-
 pub stand_old : (rows : List Row) (m : Move) (i : ℕ) (f : Facet) (x : Face) → IsLegal rows m → IsOldFacet rows m i f → x.tet ≡ f.tet → stand_in_at rows m x ≡ facet_stand_in rows m f (image f.labels x.face)
 stand_old rows m i f x legal F e =
     ap (stand_in_of rows m x) (find-only (λ (g : Facet). g.tet == x.tet) (old_facets rows m) f (listed rows m i f legal F) (eq-eqb f.tet x.tet (sym e)) only)
@@ -121,9 +112,6 @@ stand_old rows m i f x legal F e =
         let k : ℕ = G.0 in
         let same : k ≡ i = legal.apart k i g f G.1 F (eqb-true g.tet x.tet h ∙ e) in
         same_facet rows m i g f (subst (λ j. IsOldFacet rows m j g) same G.1) F
-
-pub stand_kept : (rows : List Row) (m : Move) (x : Face) → has (old_tets rows m) x.tet ≡ false → stand_in_at rows m x ≡ Some (kept_stand_in rows m x.tet)
-stand_kept rows m x h = ap (stand_in_of rows m x) (find-none (old_facets rows m) x.tet h)
 
 -- the tetrahedra that are taken out
 

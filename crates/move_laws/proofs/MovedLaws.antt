@@ -18,9 +18,10 @@ use Rattle.table_definitions.proofs.FreshRows.{back_is}
 use Rattle.table_definitions.proofs.Replaced.{replaced_is_table}
 use Rattle.move_definitions.specs.declared.MoveFault.TheVariants.{TooMany}
 use Rattle.move_definitions.specs.Moves.{Move, Facet, old_facets, old_tets, vertex_of, opposite, move_fault, IsCore, kept, new_length, new_facet, kept_stand_in, stand_in_at, moved_gluing, IsMoved, Plays, facet_gluing}
+use Rattle.move_definitions.proofs.StandIns.{stand_in-kept}
 use Rattle.move_laws.specs.Facets.{IsOldFacet, AreOldFacets, CanPlay, put_rows, exchange}
 use Rattle.move_laws.proofs.LegalLaws.{IsLegal, legal_from}
-use Rattle.move_laws.proofs.ListedLaws.{old_of_tet, taken-has, are_old, stand_kept}
+use Rattle.move_laws.proofs.ListedLaws.{old_of_tet, taken-has, are_old}
 use Rattle.move_laws.proofs.NumberLaws.{picked-within}
 use Rattle.move_definitions.specs.Undos.{taken_numbers}
 use Rattle.move_laws.proofs.StandLaws.{side_under, way_under, under_kept, closes, StandsKept, StandsPut, stands, stand_put, put_permutes, put_face, face_at, outer_label}
@@ -62,7 +63,7 @@ to_old rows m x g i j f legal can l free glued F new at =
     let back_permutes = legal.table.permutes (opposite f j) (way_back x g) back in
     let own : Face = opposite (new_facet rows m j) i in
     let carried : Gluing = gluing_under r s (way_back x g) in
-    let stand : stand_in_at rows m x ≡ Some s = stand_kept rows m x free in
+    let stand : stand_in_at rows m x ≡ Some s = stand_in-kept rows m x free in
     let fresh : fresh_glue (exchange rows m) own ≡ Some carried =
     glue-outer rows m i j f legal F new ∙ ap (option_and_then (moved_gluing rows m (opposite f j) r)) back
     ∙ ap (λ (y : Face). option_map (λ t. gluing_under r t (way_back x g)) (stand_in_at rows m y)) home ∙ ap (option_map (λ t. gluing_under r t (way_back x g))) stand in
@@ -105,7 +106,7 @@ kept_moved rows m x (Some g) legal can lt l free e = by_test (has (old_tets rows
         let new : image f.labels y.face < length m.core = outer_label rows m i f y (way_back x g) legal q.2 (sym q.3) ly (legal.table.leads_back x g e) free in
         shown true h ∙ to_old rows m x g i (image f.labels y.face) f legal can l free e q.2 new (face_at f y q.2.labelled (sym q.3) ly)
     by_test false h =
-        let there : stand_in_at rows m (other_side x g) ≡ Some (kept_stand_in rows m g.tet) = stand_kept rows m (other_side x g) h in
+        let there : stand_in_at rows m (other_side x g) ≡ Some (kept_stand_in rows m g.tet) = stand_in-kept rows m (other_side x g) h in
         shown false h ∙ ap (λ n. Some (record { tet = n; perm = g.perm })) (number-kept rows m g.tet legal inside h)
         ∙ ap (λ (k : Gluing). Some k) (sym (under_kept (closed_up (old_tets rows m) x.tet) (closed_up (old_tets rows m) g.tet) g permutes))
         ∙ ap (option_map (λ t. gluing_under (kept_stand_in rows m x.tet) t g)) (sym there)

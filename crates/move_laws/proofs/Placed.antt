@@ -11,7 +11,7 @@ use Rattle.table_definitions.specs.Lists.{below, has, closed_up}
 use Rattle.table_definitions.specs.Permutation.{IsPermutationOfFour, is_permutation, preimage}
 use Rattle.table_definitions.specs.Table.{Gluing, Row, IsTable}
 use Rattle.table_definitions.specs.Relabelling.{Relabelling, IsRelabelling, Carries, stand_in}
-use Rattle.move_definitions.specs.Moves.{Move, IsCore, Facet, facet, old_labels, old_tets, kept, kept_stand_in}
+use Rattle.move_definitions.specs.Moves.{Move, IsCore, Facet, facet, old_labels, old_tets, kept, kept_stand_in, old_facets}
 use Rattle.table_definitions.proofs.ListFacts.{list_all-below}
 use Rattle.table_definitions.specs.Moved.{moved_row}
 use Rattle.table_definitions.proofs.Ranks.{rank, stays, at_rank, StandsAt, ranks_apart}
@@ -19,10 +19,11 @@ use Rattle.table_definitions.proofs.Bijections.{onto, IsDistinct-from_before}
 use Rattle.table_definitions.proofs.Moves.{carries_from}
 use Rattle.table_definitions.proofs.Faces.{gluing_to, tet_of, perm_of}
 use Rattle.move_laws.proofs.Labels.{AreLabels, ascending, on_labels, label_tests}
-use Rattle.move_laws.proofs.ListedFacets.{same_some, found_by, not_found, is_found, closed_up-rank, stays-count}
+use Rattle.move_laws.proofs.ListedFacets.{same_some, found_by, is_found, closed_up-rank, stays-count}
 use Rattle.move_laws.proofs.Legal.{facet_is, HasNoFault, old_label, facets_apart, old_tets_distinct, length-old_tets, old_tets_below, OldFacet, old_tet_facet}
 use Rattle.move_laws.proofs.Covered.{kept-count}
 use Rattle.move_definitions.proofs.CoreTests.{core_size}
+use Rattle.move_definitions.proofs.StandIns.{find-none}
 use Rattle.move_laws.proofs.Renamed.{renamed, given_le}
 
 -- where the vertices of old facet i go, by their labels
@@ -51,7 +52,7 @@ abbrev pub place : List Row → Move → ℕ → Gluing
 place old m t = place_of old m t (found_by (facet old m) (old_labels m) t)
 
 pub place-kept : (old : List Row) (m : Move) (t : ℕ) → has (old_tets old m) t ≡ false → place old m t ≡ kept_stand_in old m t
-place-kept old m t h = ap (place_of old m t) (not_found (facet old m) (old_labels m) t h)
+place-kept old m t h = ap (place_of old m t) (find-none (old_facets old m) t h)
 
 pub place-old : (old : List Row) (m : Move) (i : ℕ) (f : Facet) → IsTable old → HasNoFault old m → IsCore m.core → length m.core ≤ i → i < 5 → facet old m i ≡ Some f → place old m f.tet ≡ facet_place old m i f.labels
 place-old old m i f table h c low high e =

@@ -97,7 +97,7 @@ pub record LeadsOut (rows : List Row) (m : Move) (x : Face) (g : Gluing) : Type 
   pub stands : stand_in_at rows m (other_side (opposite f j) before) ≡ Some there
   pub is : g ≡ gluing_under (facet_gluing rows m f j) there before
 
-abbrev Leads : List Row → Move → Face → Gluing → Type 0
+abbrev pub Leads : List Row → Move → Face → Gluing → Type 0
 Leads rows m x g = LeadsIn rows m x g ⊎ LeadsOut rows m x g
 
 leads_by : (rows : List Row) (m : Move) (x : Face) (g : Gluing) (j l : ℕ) → IsLegal rows m → fresh_glue (exchange rows m) x ≡ Some g → IsFacet (new_facet rows m j) → j < length m.core → l < 5 → l ≢ j → x ≡ opposite (new_facet rows m j) l → Leads rows m x g

@@ -11,7 +11,7 @@ use Rattle.table_definitions.specs.Permutation.{IsPermutationOfFour, is_permutat
 use Rattle.table_definitions.specs.Table.{Gluing, Row, Face, glue, other_side, way_back, IsTable}
 use Rattle.table_definitions.specs.Relabelling.{face_under}
 use Rattle.move_definitions.specs.Moves.{Move, IsCore, Facet, opposite, facet, kept, kept_stand_in, facet_stand_in, stand_in_at, facet_gluing, old_tets}
-use Rattle.move_definitions.proofs.StandIns.{facet_stand_in-new, facet_stand_in-old}
+use Rattle.move_definitions.proofs.StandIns.{facet_stand_in-new, facet_stand_in-old, stand_in-kept}
 use Rattle.table_definitions.proofs.ListFacts.{list_all-below, same_list-true}
 use Rattle.table_definitions.proofs.Permutations.{image_below, preimage-image, image-inverse, identity_permutes}
 use Rattle.table_definitions.specs.Replaceable.{gone_before}
@@ -20,7 +20,7 @@ use Rattle.table_definitions.proofs.Faces.{face_at}
 use Rattle.move_laws.proofs.ListedFacets.{same_some}
 use Rattle.move_laws.proofs.Labels.{AreLabels, ascending, new_labels, on_labels, label_tests, HasLabel, label_at, HasVertex, vertex_at, length-labels, image-map}
 use Rattle.move_laws.proofs.Legal.{IsFacet, facet_is, HasNoFault, no_fault, OldFacet, old_tet_facet, old_facet}
-use Rattle.move_laws.proofs.Covered.{stand_in-kept, stand_in-old, crossed}
+use Rattle.move_laws.proofs.Covered.{stand_in-old, crossed}
 use Rattle.move_laws.proofs.Matched.{AreGlued, old_glued, label_across}
 use Rattle.move_laws.proofs.Renamed.{renamed, renamed-old, renamed-new, renamed_below, new_as_old_labels, renamed_labels, given_le, given_lt}
 use Rattle.move_laws.proofs.InverseFacets.{inverse_of, new_as_old, IsPlayed, facet-inverse, IsNewLabel, new_label, inverse_legal}

@@ -10,10 +10,11 @@ use Rattle.table_definitions.proofs.Permutations.{image_below, identity_permutes
 use Rattle.table_definitions.proofs.Ranks.{rank, stays, ranks_apart}
 use Rattle.table_definitions.proofs.Faces.{face_at}
 use Rattle.move_definitions.proofs.CoreTests.{core_size}
+use Rattle.move_definitions.proofs.StandIns.{stand_in-kept}
 use Rattle.move_laws.proofs.Labels.{ascending, new_labels, HasLabel, label_at, vertex_at}
 use Rattle.move_laws.proofs.ListedFacets.{same_some, closed_up-rank}
 use Rattle.move_laws.proofs.Legal.{IsFacet, facet_is, HasNoFault, old_tets_distinct, OldFacet, old_tet_facet}
-use Rattle.move_laws.proofs.Covered.{stand_in-kept, crossed, IsInner}
+use Rattle.move_laws.proofs.Covered.{crossed, IsInner}
 use Rattle.move_laws.proofs.Placed.{closed_up_small, stays_true}
 use Rattle.move_laws.proofs.SecondStand.{crossing, crossing_permutes, HasNewLabel, has_new_label}
 

@@ -11,13 +11,13 @@ use Rattle.table_definitions.proofs.Ranks.{rank, stays, closed_up-rank, at_rank,
 use Rattle.std.proofs.lemmas.List.Kept.{AllPairs-from_increasing}
 use Rattle.move_definitions.specs.Moves.{Move, Facet, vertex_of, opposite, kept, new_facet, label_by_label, facet_stand_in, kept_stand_in, stand_in_at, facet_gluing, old_tets}
 use Rattle.move_definitions.specs.Undos.{taken_numbers}
-use Rattle.move_definitions.proofs.StandIns.{facet_stand_in-new, facet_stand_in-old}
+use Rattle.move_definitions.proofs.StandIns.{facet_stand_in-new, facet_stand_in-old, stand_in-kept}
 use Rattle.move_laws.specs.Facets.{IsFacet, IsOldFacet}
 use Rattle.move_laws.proofs.LabelLaws.{by_permutes, vertex_by}
 use Rattle.move_laws.proofs.FacetLaws.{new_is_facet, core_few}
 use Rattle.move_laws.proofs.LegalLaws.{IsLegal}
 use Rattle.move_laws.proofs.NumberLaws.{picked-up, picked-within}
-use Rattle.move_laws.proofs.ListedLaws.{tet_of_old, old_of_tet, stand_old, stand_kept, taken-has, length-taken, closed-taken}
+use Rattle.move_laws.proofs.ListedLaws.{tet_of_old, old_of_tet, stand_old, taken-has, length-taken, closed-taken}
 use Rattle.table_definitions.proofs.Carried.{carried_image as image_under, carried_back as back_under}
 use Rattle.table_definitions.proofs.InPlace.{in_place-same}
 
@@ -103,7 +103,7 @@ stands rows m x s legal l e = by_test (has (old_tets rows m) x.tet) refl
         let o = old_of_tet rows m x.tet legal h in
         let f : Facet = o.1 in
         inr (by_label o.0 f o.2 o.3 (cases_lt (image f.labels x.face) (length m.core)))
-    by_test false h = let z : Some (kept_stand_in rows m x.tet) ≡ Some s = sym (stand_kept rows m x h) ∙ e in inl (record { free = h; is = cc })
+    by_test false h = let z : Some (kept_stand_in rows m x.tet) ≡ Some s = sym (stand_in-kept rows m x h) ∙ e in inl (record { free = h; is = cc })
 
 -- an old face opposite a new label
 

@@ -13,11 +13,11 @@ use Rattle.table_definitions.proofs.TableLaws.{Among}
 use Rattle.table_definitions.proofs.Permutations.{image_below}
 use Rattle.table_definitions.proofs.PermutationLaws.{images_apart}
 use Rattle.move_definitions.specs.Moves.{Move, Facet, IsMoved, old_tets, stand_in_at, kept_stand_in, facet_gluing, moved_gluing}
-use Rattle.move_definitions.proofs.StandIns.{facet_stand_in-new}
+use Rattle.move_definitions.proofs.StandIns.{facet_stand_in-new, stand_in-kept}
 use Rattle.move_laws.proofs.Labels.{HasLabel, label_at}
 use Rattle.move_laws.proofs.Legal.{IsFacet, facet_is, OldFacet, old_tet_facet, old_facet}
 use Rattle.move_laws.proofs.Matched.{AreGlued, old_glued}
-use Rattle.move_laws.proofs.Covered.{stand_in-kept, stand_in-old}
+use Rattle.move_laws.proofs.Covered.{stand_in-old}
 use Rattle.move_laws.proofs.Shapes.{stand_permutes, stand_in_range}
 use Rattle.skeleton_laws.proofs.Sides.{side_face, is_side}
 use Rattle.skeleton_laws.proofs.SideParts.{IsSideAt, side_is, is_side_from, HasParts, has_parts, side_number}

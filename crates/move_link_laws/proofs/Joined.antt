@@ -14,9 +14,9 @@ use Rattle.table_definitions.proofs.Faces.{face_at}
 use Rattle.table_definitions.proofs.PermutationLaws.{image-of_inverse}
 use Rattle.table_definitions.proofs.Permutations.{image_below, image-compose, compose_permutes, inverse_permutes}
 use Rattle.move_definitions.specs.Moves.{Move, Facet, IsMoved, vertex_of, stand_in_at, kept_stand_in, facet_gluing, moved_gluing}
-use Rattle.move_definitions.proofs.StandIns.{facet_stand_in-new}
+use Rattle.move_definitions.proofs.StandIns.{facet_stand_in-new, stand_in-kept}
 use Rattle.move_laws.proofs.Labels.{AreLabels, HasLabel, label_at}
-use Rattle.move_laws.proofs.Covered.{stand_in-kept, stand_in-old}
+use Rattle.move_laws.proofs.Covered.{stand_in-old}
 use Rattle.move_laws.proofs.Shapes.{stand_permutes}
 use Rattle.move_laws.proofs.SecondStand.{other_stands}
 use Rattle.move_link_laws.proofs.Labelled.{in_facet, has-vertices}

@@ -11,9 +11,9 @@ use Rattle.table_definitions.proofs.Permutations.{image-identity}
 use Rattle.table_definitions.proofs.InPlace.{in_place-other}
 use Rattle.table_definitions.proofs.Ranks.{stays}
 use Rattle.move_definitions.specs.Moves.{Move, Facet, IsMoved, vertex_of, kept, new_facet, old_tets, kept_stand_in, facet_stand_in, facet_gluing}
-use Rattle.move_definitions.proofs.StandIns.{facet_stand_in-new}
+use Rattle.move_definitions.proofs.StandIns.{facet_stand_in-new, stand_in-kept}
 use Rattle.move_laws.proofs.Labels.{AreLabels, ascending, HasVertex, vertex_at, length-labels, image-map}
-use Rattle.move_laws.proofs.Covered.{stand_in-kept, stand_in-old}
+use Rattle.move_laws.proofs.Covered.{stand_in-old}
 use Rattle.move_laws.proofs.Shapes.{IsFacetFace, shape}
 use Rattle.move_laws.proofs.SecondStand.{crossing}
 use Rattle.move_link_laws.proofs.Labelled.{head_off, tail_off, in_facet, Below5, has-vertices, has-labels, labels_below, labels_off, vertices_below, vertices_again, labels_again}
