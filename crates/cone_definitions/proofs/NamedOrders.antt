@@ -1,5 +1,5 @@
 -- Each row that an order names is determined by the rows before it.
-use Rattle.std.proofs.Common.{◌≡◌, ◌≢◌, ℕ, zero, suc, ◌+◌, ◌≤◌, inl, inr, Bool, List, [], ◌∷◌, ◌++◌, length, take, get_or, add-one, subst, sym, ap₂, refl, ◌∙◌, arith}
+use Rattle.std.proofs.Common.{◌≡◌, ◌≢◌, ℕ, zero, suc, ◌≤◌, inl, inr, Bool, List, [], ◌∷◌, ◌++◌, length, take, get_or, add-one, subst, sym, ap₂, refl, ◌∙◌, arith}
 use Rattle.std.specs.List.{IsFirstBest}
 use Rattle.std.proofs.lemmas.Bool.{false≢true, cases_order}
 use Rattle.std.proofs.lemmas.List.{take_all, take_more}
