@@ -1,7 +1,7 @@
 -- Of any two columns that clash one is 0 in an admissible vector, and that is all.
 use Rattle.std.proofs.Common.{◌≡◌, ◌≢◌, ℕ, ◌/◌, ◌%◌, ◌<◌, ◌≤◌, true, List, ◌⊎◌, inl, inr, slice_index, sym, arith}
 use Rattle.std.specs.Prelude.{◌==◌, ◌&&◌, nat_lt}
-use Rattle.std.proofs.lemmas.Bool.{cases_lt, ltb-true, lt-ltb, eq-eqb, le-leb, and_parts, and_from, or_right}
+use Rattle.std.proofs.lemmas.Bool.{cases_lt, ltb-true, lt-ltb, eq-eqb, le-leb, and_parts, and_from, or_right, eqb-true, leb-true, or_cases, or_left}
 use Rattle.std.proofs.lemmas.List.Elements.{All-from_recursion, recursion_from_All}
 use Rattle.cone_definitions.specs.Surfaces.{IsAdmissible}
 use Rattle.table_definitions.specs.Lists.{below, pairs_of}
@@ -21,6 +21,28 @@ one_tetrahedron coords a b e fa fb =
     (and_from ((a / columns_each coords == b / columns_each coords) && is_quad_or_octagon coords a) (is_quad_or_octagon coords b)
     (and_from (a / columns_each coords == b / columns_each coords) (is_quad_or_octagon coords a) (eq-eqb (a / columns_each coords) (b / columns_each coords) e)
     (le-leb (triangles_each coords) (a % columns_each coords) fa)) (le-leb (triangles_each coords) (b % columns_each coords) fb))
+
+-- two columns of octagons, or of quads and octagons of one tetrahedron
+abbrev pub AreClashing : Coords → ℕ → ℕ → Type 0
+AreClashing coords a b =
+    ((7 ≤ a % columns_each coords) × (7 ≤ b % columns_each coords))
+    ⊎ ((a / columns_each coords ≡ b / columns_each coords) × (triangles_each coords ≤ a % columns_each coords) × (triangles_each coords ≤ b % columns_each coords))
+
+pub clash_is : (coords : Coords) (a b : ℕ) → clash_test coords a b ≡ true → AreClashing coords a b
+clash_is coords a b e = by_kind (or_cases (is_octagon coords a && is_octagon coords b) (((a / columns_each coords == b / columns_each coords) && is_quad_or_octagon coords a) && is_quad_or_octagon coords b) e)
+  where
+    by_kind : ((is_octagon coords a && is_octagon coords b) ≡ true) ⊎ ((((a / columns_each coords == b / columns_each coords) && is_quad_or_octagon coords a) && is_quad_or_octagon coords b) ≡ true) → AreClashing coords a b
+    by_kind (inl o) = let p = and_parts (is_octagon coords a) (is_octagon coords b) o in inl (leb-true 7 (a % columns_each coords) p.0, leb-true 7 (b % columns_each coords) p.1)
+    by_kind (inr q) =
+        let p = and_parts ((a / columns_each coords == b / columns_each coords) && is_quad_or_octagon coords a) (is_quad_or_octagon coords b) q in
+        let r = and_parts (a / columns_each coords == b / columns_each coords) (is_quad_or_octagon coords a) p.0 in
+        inr (eqb-true (a / columns_each coords) (b / columns_each coords) r.0, leb-true (triangles_each coords) (a % columns_each coords) r.1, leb-true (triangles_each coords) (b % columns_each coords) p.1)
+
+pub clash_from : (coords : Coords) (a b : ℕ) → AreClashing coords a b → clash_test coords a b ≡ true
+clash_from coords a b (inl o) =
+    or_left (is_octagon coords a && is_octagon coords b) (((a / columns_each coords == b / columns_each coords) && is_quad_or_octagon coords a) && is_quad_or_octagon coords b)
+    (and_from (is_octagon coords a) (is_octagon coords b) (le-leb 7 (a % columns_each coords) o.0) (le-leb 7 (b % columns_each coords) o.1))
+clash_from coords a b (inr q) = one_tetrahedron coords a b q.0 q.1 q.2
 
 module _ (coords : Coords) (n : ℕ) (xs : List ℕ) where
   abbrev m : ℕ

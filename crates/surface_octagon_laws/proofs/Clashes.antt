@@ -1,20 +1,12 @@
 -- Quads and octagons clash in quad-octagon coordinates as they do in the vector.
-use Rattle.std.proofs.Common.{◌≡◌, ℕ, ◌+◌, ◌*◌, ◌/◌, ◌%◌, ◌-◌, ◌<◌, ◌≤◌, true, List, ◌⊎◌, inl, inr, sym, ap, ◌∙◌, arith}
-use Rattle.std.specs.Prelude.{◌==◌, ◌&&◌, slice_index, ◌↔◌}
-use Rattle.std.proofs.lemmas.Bool.{le-leb, and_from, or_left}
+use Rattle.std.proofs.Common.{◌≡◌, ℕ, ◌+◌, ◌*◌, ◌/◌, ◌%◌, ◌-◌, ◌<◌, ◌≤◌, List, ◌⊎◌, inl, inr, sym, ap, ◌∙◌, arith}
+use Rattle.std.specs.Prelude.{slice_index, ◌↔◌}
 use Rattle.cone_definitions.specs.Surfaces.{IsAdmissible}
-use Rattle.surface_definitions.specs.Coordinates.{clash_list, clash_test, is_quad_or_octagon, is_octagon}
+use Rattle.surface_definitions.specs.Coordinates.{clash_list}
 use Rattle.surface_definitions.specs.declared.Coords.TheVariants.{Octagon}
-use Rattle.surface_laws.proofs.Clashes.{one_tetrahedron, none_clash, none_clash-admissible}
-use Rattle.surface_quad_laws.proofs.QuadClashes.{AreClashing, clash_is}
+use Rattle.surface_laws.proofs.Clashes.{none_clash, none_clash-admissible, AreClashing, clash_is, clash_from}
 use Rattle.surface_octagon_laws.specs.QuadOctagons.{quads_and_octagons, IsAdmissibleQuadOctagon}
 use Rattle.surface_octagon_laws.proofs.Entries.{entry-at}
-
-clash_from : (a b : ℕ) → AreClashing Octagon a b → clash_test Octagon a b ≡ true
-clash_from a b (inl o) =
-    or_left (is_octagon Octagon a && is_octagon Octagon b) (((a / 10 == b / 10) && is_quad_or_octagon Octagon a) && is_quad_or_octagon Octagon b)
-    (and_from (is_octagon Octagon a) (is_octagon Octagon b) (le-leb 7 (a % 10) o.0) (le-leb 7 (b % 10) o.1))
-clash_from a b (inr q) = one_tetrahedron Octagon a b q.0 q.1 q.2
 
 -- the column of an entry, and the entry of a column
 abbrev column_in : ℕ → ℕ
@@ -65,7 +57,7 @@ module _ (n : ℕ) (ys : List ℕ) where
           let less' : column_in a < column_in b = omega arith in
           let lb' : column_in b < 10 * n = omega arith in
           let la : a < 6 * n = omega arith in
-          elim (none_clash Octagon n ys h (column_in a) (column_in b) less' lb' (clash_from (column_in a) (column_in b) clash)) [
+          elim (none_clash Octagon n ys h (column_in a) (column_in b) less' lb' (clash_from Octagon (column_in a) (column_in b) clash)) [
             | inl z ↦ inl (at_entry a la ∙ z)
             | inr z ↦ inr (at_entry b lb ∙ z)
           ]
