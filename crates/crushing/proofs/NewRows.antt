@@ -1,5 +1,5 @@
 -- The rows of a crushed table, made one after another.
-use Rattle.std.proofs.Common.{◌≡◌, ℕ, zero, suc, ◌+◌, ◌<◌, ◌≤◌, Bool, true, false, not, List, [], ◌∷◌, ◌++◌, length, Option, Some, None, IsTrue, inl, inr, refl, sym, ap, ◌∙◌, subst, arith}
+use Rattle.std.proofs.Common.{◌≡◌, ℕ, zero, suc, ◌+◌, ◌<◌, ◌≤◌, Bool, true, false, not, List, [], ◌∷◌, ◌++◌, length, Option, Some, None, IsTrue, inl, inr, refl, sym, ap, ◌∙◌, subst, arith, option_map}
 use Rattle.std.specs.List.{slice_index_or}
 use Rattle.std.proofs.Math.ListN.{get_or-append}
 use Rattle.std.proofs.Math.Seq.{get_or-append_seam}
@@ -7,8 +7,8 @@ use Rattle.std.proofs.lemmas.List.{length-append, get_or_default}
 use Rattle.std.proofs.lemmas.Bool.{cases_lt, not-true, false≢true}
 use Rattle.table_definitions.specs.Table.{Gluing, Row}
 use Rattle.table_definitions.proofs.Ranks.{rank, rank-suc, rank_fits, StandsAt, at_rank, of_rank}
-use Rattle.surface_definitions.specs.Crushing.{is_removed, number_kept, CrushesTo, IsCrushed}
-use Rattle.crushing.specs.Rows.{renumbered, IsCrushedRow, AreCrushedBefore, AreNewNumbers}
+use Rattle.surface_definitions.specs.Crushing.{is_removed, number_kept, CrushesTo, IsCrushed, renumbered}
+use Rattle.crushing.specs.Rows.{IsCrushedRow, AreCrushedBefore, AreNewNumbers}
 use Rattle.plain_facts.proofs.Truths.{one_if}
 
 abbrev stays : List ℕ → ℕ → Bool
@@ -39,20 +39,20 @@ numbers_on xs numbers more t kept h e is = subst (λ ms. AreNewNumbers xs ms (t 
 
 -- what is reached is renumbered by the list
 pub end_renumbered : (xs numbers : List ℕ) (n : ℕ) (v g : Gluing) (end : Option Gluing) → AreNewNumbers xs numbers n → v ≡ g → g.tet < n → end ≡ Some g
-    → (let o : Option Gluing = Some (record { tet = slice_index_or numbers v.tet 0; perm = v.perm }) in o ≡ renumbered xs end)
+    → (let o : Option Gluing = Some (record { tet = slice_index_or numbers v.tet 0; perm = v.perm }) in o ≡ option_map (renumbered xs) end)
 end_renumbered xs numbers n v g end h same l e =
-    (λ i. Some (record { tet = slice_index_or numbers (same i).tet 0; perm = (same i).perm })) ∙ ap (λ (t : ℕ). Some (record { tet = t; perm = g.perm })) (h.each g.tet l) ∙ ap (renumbered xs) (sym e)
+    (λ i. Some (record { tet = slice_index_or numbers (same i).tet 0; perm = (same i).perm })) ∙ ap (λ (t : ℕ). Some (record { tet = t; perm = g.perm })) (h.each g.tet l) ∙ ap (option_map (renumbered xs)) (sym e)
 
 -- four faces make a row
 pub row_is : (rows : List Row) (xs : List ℕ) (t : ℕ) (a b c d : Option Gluing)
-    → ((end : Option Gluing) → CrushesTo rows xs (record { tet = t; face = 0 }) end → a ≡ renumbered xs end)
-    → ((end : Option Gluing) → CrushesTo rows xs (record { tet = t; face = 1 }) end → b ≡ renumbered xs end)
-    → ((end : Option Gluing) → CrushesTo rows xs (record { tet = t; face = 2 }) end → c ≡ renumbered xs end)
-    → ((end : Option Gluing) → CrushesTo rows xs (record { tet = t; face = 3 }) end → d ≡ renumbered xs end)
+    → ((end : Option Gluing) → CrushesTo rows xs (record { tet = t; face = 0 }) end → a ≡ option_map (renumbered xs) end)
+    → ((end : Option Gluing) → CrushesTo rows xs (record { tet = t; face = 1 }) end → b ≡ option_map (renumbered xs) end)
+    → ((end : Option Gluing) → CrushesTo rows xs (record { tet = t; face = 2 }) end → c ≡ option_map (renumbered xs) end)
+    → ((end : Option Gluing) → CrushesTo rows xs (record { tet = t; face = 3 }) end → d ≡ option_map (renumbered xs) end)
     → IsCrushedRow rows xs t (a ∷ b ∷ c ∷ d ∷ [])
 row_is rows xs t a b c d ea eb ec ed = record { four_faces = refl; glued = glued }
   where
-    glued : (f : ℕ) (end : Option Gluing) → f < 4 → CrushesTo rows xs (record { tet = t; face = f }) end → slice_index_or (a ∷ b ∷ c ∷ d ∷ []) f None ≡ renumbered xs end
+    glued : (f : ℕ) (end : Option Gluing) → f < 4 → CrushesTo rows xs (record { tet = t; face = f }) end → slice_index_or (a ∷ b ∷ c ∷ d ∷ []) f None ≡ option_map (renumbered xs) end
     glued zero end l h = ea end h
     glued (suc zero) end l h = eb end h
     glued (suc (suc zero)) end l h = ec end h

@@ -2,16 +2,12 @@
 use Rattle.std.specs.Prelude.{◌≡◌, ℕ, ◌<◌, not, List, [], length, None, Option, option_map, IsTrue}
 use Rattle.std.specs.List.{slice_index_or}
 use Rattle.table_definitions.specs.Table.{Gluing, Row}
-use Rattle.surface_definitions.specs.Crushing.{is_removed, number_kept, CrushesTo}
-
--- what is reached, by its number in the crushed table
-abbrev pub renumbered : List ℕ → Option Gluing → Option Gluing
-renumbered xs end = option_map (λ (g : Gluing). record { tet = number_kept xs g.tet; perm = g.perm }) end
+use Rattle.surface_definitions.specs.Crushing.{is_removed, number_kept, CrushesTo, renumbered}
 
 -- the row of a tetrahedron that stays
 pub record IsCrushedRow (rows : List Row) (xs : List ℕ) (t : ℕ) (row : Row) : Type 0 where
   pub four_faces : length row ≡ 4
-  pub glued : (f : ℕ) (end : Option Gluing) → f < 4 → CrushesTo rows xs (record { tet = t; face = f }) end → slice_index_or row f None ≡ renumbered xs end
+  pub glued : (f : ℕ) (end : Option Gluing) → f < 4 → CrushesTo rows xs (record { tet = t; face = f }) end → slice_index_or row f None ≡ option_map (renumbered xs) end
 
 -- the crushed rows of the tetrahedra before t
 pub record AreCrushedBefore (rows : List Row) (xs : List ℕ) (t : ℕ) (new : List Row) : Type 0 where

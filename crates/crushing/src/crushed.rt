@@ -1,11 +1,11 @@
 //! The crushed table.
 
-ghost use Rattle.std.specs.Prelude.{◌≡◌, ◌*◌, ◌<◌, length, false, Option, IfOk};
+ghost use Rattle.std.specs.Prelude.{◌≡◌, ◌*◌, ◌<◌, length, false, Option, option_map, IfOk};
 ghost use Rattle.table_definitions.specs.Table.{Gluing, IsTable};
 ghost use Rattle.surface_definitions.specs.Coordinates.{columns};
 ghost use Rattle.surface_definitions.specs.declared.Coords.TheVariants.{Standard};
-ghost use Rattle.surface_definitions.specs.Crushing.{is_removed as is_taken, CrushesTo, IsCrushed};
-ghost use Rattle.crushing.specs.Rows.{renumbered, IsCrushedRow, AreCrushedBefore, AreNewNumbers};
+ghost use Rattle.surface_definitions.specs.Crushing.{is_removed as is_taken, renumbered, CrushesTo, IsCrushed};
+ghost use Rattle.crushing.specs.Rows.{IsCrushedRow, AreCrushedBefore, AreNewNumbers};
 
 use crate::chain::follow;
 use crate::quads::is_removed;
@@ -38,7 +38,7 @@ fn crushed_glue(table: &Table, x: &[u128], numbers: &[u32], face: Face) -> Optio
     requires in_range { face.tet < length table.now }
     requires a_face { face.face < 4 }
     requires kept { is_taken x.now face.tet ≡ false }
-    ensures { (end : Option Gluing) → CrushesTo table.now x.now face end → result ≡ renumbered x.now end }
+    ensures { (end : Option Gluing) → CrushesTo table.now x.now face end → result ≡ option_map (renumbered x.now) end }
 {
     let end = follow(table, x, face)?;
     Some(Glue {

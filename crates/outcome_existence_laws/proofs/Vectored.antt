@@ -22,7 +22,8 @@ use Rattle.surface_vector_definitions.specs.Components.{Component, IsPiecesAnswe
 use Rattle.surface_vector_definitions.specs.Lifting.{IsLiftAnswer}
 use Rattle.surface_vector_definitions.specs.Answers.{verdict_in, IsFit, Description, IsDescription, IsLifted, IsCrushedAlong}
 use Rattle.surface_vector_definitions.specs.Texts.{invalid_edge_line}
-use Rattle.surface_laws.proofs.CrushedRows.{crushed_rows, crushed_are}
+use Rattle.surface_definitions.proofs.SurfaceEvaluators.{crushed}
+use Rattle.surface_laws.proofs.CrushedRows.{crushed_are}
 use Rattle.surface_laws.proofs.FitSurfaces.{fit_accepted, surface_is}
 use Rattle.surface_laws.proofs.Spreading.{lift_answer}
 use Rattle.surface_laws.proofs.PiecesAnswered.{pieces_answer}
@@ -36,7 +37,7 @@ use Rattle.outcome_existence_laws.proofs.AnsweredLists.{vectors_told}
 -- a table is crushed along a vector, or the vector is refused
 crushed_by : (rows : List Row) (equations : List EquationRow) (xs : List ℕ) → IsTable rows → (v : Verdict) → verdict_in Standard rows equations xs ≡ v
     → (r : Result (List Row) Refusal) × IsCrushedAlong rows equations xs r
-crushed_by rows equations xs table (Ok u) e = (Ok (crushed_rows rows xs), (e, crushed_are rows xs table))
+crushed_by rows equations xs table (Ok u) e = (Ok (crushed rows xs), (e, crushed_are rows xs table))
 crushed_by rows equations xs table (Err fault) e = (Err (Unfit fault), e)
 
 pub some_crush : (d : List Row × List ℕ) → IsTable d.0 → (o : Outcome) × IsCrushAnswer d o

@@ -1,5 +1,5 @@
 -- Crushing keeps closed tables closed and orientable ones orientable.
-use Rattle.std.proofs.Common.{◌≡◌, ℕ, ◌<◌, Bool, true, false, List, length, map, Option, Some, None, sym, ap, ◌∙◌, subst, arith}
+use Rattle.std.proofs.Common.{◌≡◌, ℕ, ◌<◌, Bool, true, false, List, length, map, Option, Some, None, sym, ap, ◌∙◌, subst, arith, option_map}
 use Rattle.std.proofs.lemmas.List.{get_or-map, length-map}
 use Rattle.table_definitions.specs.Table.{Gluing, Row, Face, glue, IsTable}
 use Rattle.table_definitions.specs.Permutation.{is_odd}
@@ -7,11 +7,11 @@ use Rattle.table_definitions.proofs.Ranks.{rank, picked, length-picked, StandsAt
 use Rattle.table_definitions.proofs.TableLaws.{glued_tet, glued_face}
 use Rattle.table_definitions.proofs.Faces.{face_at, gluing_to}
 use Rattle.skeleton_definitions.specs.Orientation.{sign_of, AreSigns}
-use Rattle.surface_definitions.specs.Crushing.{number_kept, CrushesTo, IsCrushed}
+use Rattle.surface_definitions.specs.Crushing.{number_kept, CrushesTo, IsCrushed, renumbered}
 use Rattle.surface_laws.specs.CrushingLaws.{IsKeptFace, HasOneEnd}
 use Rattle.surface_laws.proofs.Chains.{has_one_end}
 use Rattle.surface_laws.proofs.ChainsBack.{IsReadBack, chain_back}
-use Rattle.surface_laws.proofs.CrushedRows.{stays, renumbered}
+use Rattle.surface_laws.proofs.CrushedRows.{stays}
 use Rattle.surface_crushing_laws.specs.Invariants.{CrushingKeepsClosed, CrushingKeepsOrientable}
 use Rattle.move_kept_laws.proofs.Closed.{IsGlued, all_glued, is_closed-from}
 use Rattle.move_kept_laws.proofs.Parities.{behind}
@@ -25,7 +25,7 @@ module _ (rows : List Row) (xs : List ℕ) (new : List Row) (table : IsTable row
     number : number_kept xs tet ≡ y.tet
     end : Option Gluing
     chain : CrushesTo rows xs (face_at tet y.face) end
-    glued : glue new y ≡ renumbered xs end
+    glued : glue new y ≡ option_map (renumbered xs) end
 
   was : (y : Face) → y.tet < length new → y.face < 4 → Was y
   was y lt lf =
@@ -45,7 +45,7 @@ module _ (rows : List Row) (xs : List ℕ) (new : List Row) (table : IsTable row
   closed_too all y lt lf =
       let w = was y lt lf in
       let e = chain_somewhere rows xs table (face_at w.tet y.face) lf all w.chain.0 w.end (w.kept).in_range w.chain.1 in
-      (gluing_to (number_kept xs (e.0).tet) (e.0).perm, w.glued ∙ ap (renumbered xs) e.1)
+      (gluing_to (number_kept xs (e.0).tet) (e.0).perm, w.glued ∙ ap (option_map (renumbered xs)) e.1)
 
   module _ (signs : List Bool) (are : AreSigns rows signs) where
     abbrev kept_signs : List Bool
@@ -61,7 +61,7 @@ module _ (rows : List Row) (xs : List ℕ) (new : List Row) (table : IsTable row
         let w = was y (glued_tet new y g e) (glued_face new y g c.four_faces e) in
         by_end w w.end w.chain (sym w.glued ∙ e)
       where
-        by_end : (w : Was y) (o : Option Gluing) → CrushesTo rows xs (face_at w.tet y.face) o → renumbered xs o ≡ Some g → sign_of kept_signs g.tet ≡ behind (is_odd g.perm) (sign_of kept_signs y.tet)
+        by_end : (w : Was y) (o : Option Gluing) → CrushesTo rows xs (face_at w.tet y.face) o → option_map (renumbered xs) o ≡ Some g → sign_of kept_signs g.tet ≡ behind (is_odd g.perm) (sign_of kept_signs y.tet)
         by_end w None d s = absurd cc
         by_end w (Some k) d s =
             let same : gluing_to (number_kept xs k.tet) k.perm ≡ g = cc in

@@ -1,5 +1,5 @@
 -- Where nothing is taken out, each tetrahedron keeps its number and each face its gluing.
-use Rattle.std.proofs.Common.{◌≡◌, ℕ, zero, suc, ◌<◌, ◌≤◌, Bool, true, false, List, [], ◌∷◌, length, Option, Some, None, inl, inr, refl, sym, ap, ◌∙◌, arith, nat_lt, ◌⊎◌}
+use Rattle.std.proofs.Common.{◌≡◌, ℕ, zero, suc, ◌<◌, ◌≤◌, Bool, true, false, List, [], ◌∷◌, length, Option, Some, None, inl, inr, refl, sym, ap, ◌∙◌, arith, nat_lt, ◌⊎◌, option_map}
 use Rattle.std.specs.Prelude.{slice_index}
 use Rattle.std.specs.List.{list_any}
 use Rattle.std.proofs.lemmas.Bool.{or_from, or_parts, ltb-false, not-true, not_from_false, false≢true}
@@ -10,8 +10,8 @@ use Rattle.table_definitions.proofs.Ranks.{rank, rank-suc, rank_fits, rank_all}
 use Rattle.table_definitions.proofs.Faces.{face_at, gluing_to}
 use Rattle.surface_definitions.specs.Coordinates.{quad_column, three}
 use Rattle.surface_definitions.specs.declared.Coords.TheVariants.{Standard}
-use Rattle.surface_definitions.specs.Crushing.{has_quad, is_removed, number_kept, ChainEnds, IsCrushed}
-use Rattle.surface_laws.proofs.CrushedRows.{renumbered, crushed_once, stays}
+use Rattle.surface_definitions.specs.Crushing.{has_quad, is_removed, number_kept, ChainEnds, IsCrushed, renumbered}
+use Rattle.surface_laws.proofs.CrushedRows.{crushed_once, stays}
 use Rattle.surface_crushing_laws.specs.Laws.{HasNoQuads}
 
 -- a test of three numbers
@@ -44,11 +44,11 @@ module _ (rows : List Row) (xs : List ℕ) (quads : HasNoQuads (length rows) xs)
 
   module _ (table : IsTable rows) where
     -- what a face is glued by is what its chain ends at, and keeps its number
-    same_gluing : (x : Face) (n : ℕ) (o end : Option Gluing) → glue rows x ≡ o → ChainEnds rows xs x n o end → o ≡ renumbered xs end
-    same_gluing x zero None end e h = sym (ap (renumbered xs) h)
+    same_gluing : (x : Face) (n : ℕ) (o end : Option Gluing) → glue rows x ≡ o → ChainEnds rows xs x n o end → o ≡ option_map (renumbered xs) end
+    same_gluing x zero None end e h = sym (ap (option_map (renumbered xs)) h)
     same_gluing x zero (Some g) end e h =
         let within : g.tet < length rows = table.in_range x g e in
-        sym (ap (renumbered xs) h.1 ∙ ap (λ t. Some (gluing_to t g.perm)) (same_number g.tet (omega arith)))
+        sym (ap (option_map (renumbered xs)) h.1 ∙ ap (λ t. Some (gluing_to t g.perm)) (same_number g.tet (omega arith)))
     same_gluing x (suc n) None end e h = absurd h
     same_gluing x (suc n) (Some g) end e h = absurd (false≢true (sym (none_removed g.tet (table.in_range x g e)) ∙ h.0))
 

@@ -7,7 +7,7 @@ use Rattle.table_definitions.specs.Permutation.{four, is_odd, others}
 use Rattle.table_definitions.specs.Table.{Gluing, Row, Face, glue, faces}
 use Rattle.surface_definitions.specs.declared.Coords.{Coords}
 use Rattle.surface_definitions.specs.Pieces.{Arc, arcs_round, pieces_of, piece_of, arc_across, piece_number, keeps_sides}
-use Rattle.surface_definitions.specs.Crushing.{is_removed, passed, number_kept}
+use Rattle.surface_definitions.specs.Crushing.{is_removed, passed, renumbered}
 use Rattle.skeleton_definitions.proofs.Evaluators.{classes_of}
 
 -- all arcs in glued faces, each with the gluing
@@ -57,8 +57,12 @@ followed zero rows xs x o = o
 followed (suc n) rows xs x None = None
 followed (suc n) rows xs x (Some g) = if is_removed xs g.tet then followed n rows xs x (passed rows xs x g) else Some g
 
+-- what face f of tetrahedron t becomes
+abbrev pub crushed_gluing : List Row → List ℕ → ℕ → ℕ → Option Gluing
+crushed_gluing rows xs t f = option_map (renumbered xs) (followed (4 * length rows) rows xs (record { tet = t; face = f }) (glue rows (record { tet = t; face = f })))
+
+abbrev pub crushed_row : List Row → List ℕ → ℕ → Row
+crushed_row rows xs t = map (crushed_gluing rows xs t) four
+
 abbrev pub crushed : List Row → List ℕ → List Row
-crushed rows xs = map (λ t. map (λ f. renumbered (followed (4 * length rows) rows xs (record { tet = t; face = f }) (glue rows (record { tet = t; face = f })))) four) (filter (λ t. not (is_removed xs t)) (below (length rows)))
-  where
-    renumbered : Option Gluing → Option Gluing
-    renumbered o = option_map (λ (g : Gluing). record { tet = number_kept xs g.tet; perm = g.perm }) o
+crushed rows xs = map (crushed_row rows xs) (filter (λ t. not (is_removed xs t)) (below (length rows)))

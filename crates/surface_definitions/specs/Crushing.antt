@@ -45,9 +45,13 @@ CrushesTo rows xs x end = (n : ℕ) × ChainEnds rows xs x n (glue rows x) end
 abbrev pub number_kept : List ℕ → ℕ → ℕ
 number_kept xs t = count_by (λ u. not (is_removed xs u)) (below t)
 
+-- a gluing, with its tetrahedron's number in the crushed table
+abbrev pub renumbered : List ℕ → Gluing → Gluing
+renumbered xs g = record { tet = number_kept xs g.tet; perm = g.perm }
+
 -- the crushed table
 pub record IsCrushed (rows : List Row) (xs : List ℕ) (new : List Row) : Type 0 where
   pub length_is : length new ≡ number_kept xs (length rows)
   pub four_faces : All (λ (row : Row). length row ≡ 4) new
   pub glued : (x : Face) (end : Option Gluing) → x.tet < length rows → x.face < 4 → IsTrue (not (is_removed xs x.tet)) → CrushesTo rows xs x end
-      → glue new (record { tet = number_kept xs x.tet; face = x.face }) ≡ option_map (λ (g : Gluing). record { tet = number_kept xs g.tet; perm = g.perm }) end
+      → glue new (record { tet = number_kept xs x.tet; face = x.face }) ≡ option_map (renumbered xs) end

@@ -1,6 +1,6 @@
 -- Components of worked surfaces: the relations are met.
 use Rattle.surface_definitions.proofs.Computed.{computed}
-use Rattle.std.proofs.Common.{ℕ, zero, suc, ◌<◌, Bool, true, false, List, [], ◌∷◌, Ok, refl, sym, subst, arith}
+use Rattle.std.proofs.Common.{ℕ, zero, suc, ◌<◌, Bool, true, false, List, [], ◌∷◌, Ok, refl, arith}
 use Rattle.std.proofs.lemmas.Bool.{ltb-true, leb-true}
 use Rattle.table_definitions.specs.Table.{Row, IsTable}
 use Rattle.table_definitions.proofs.RelationExamples.{sphere_table}
@@ -10,7 +10,7 @@ use Rattle.surface_definitions.specs.declared.Coords.TheVariants.{Standard, Octa
 use Rattle.surface_definitions.specs.Crushing.{IsCrushed}
 use Rattle.surface_definitions.specs.Pieces.{SamePiece}
 use Rattle.surface_vector_definitions.specs.Components.{IsComponent, IsPiecesAnswer}
-use Rattle.surface_laws.proofs.CrushedRows.{evaluated, crushed_are}
+use Rattle.surface_laws.proofs.CrushedRows.{crushed_are}
 use Rattle.surface_laws.proofs.MeetingArcs.{arc_at}
 use Rattle.surface_laws.proofs.PieceTests.{surface_by, lead_by, one_component, signs_by}
 
@@ -159,11 +159,11 @@ torus_answer = (
 -- the crushed tables of worked vectors
 none_kept : IsCrushed sphere (1 ∷ 1 ∷ 0 ∷ 0 ∷ 1 ∷ 0 ∷ 0 ∷ []) []
 unfolding computed
-none_kept = subst (IsCrushed sphere (1 ∷ 1 ∷ 0 ∷ 0 ∷ 1 ∷ 0 ∷ 0 ∷ [])) (sym (evaluated sphere (1 ∷ 1 ∷ 0 ∷ 0 ∷ 1 ∷ 0 ∷ 0 ∷ []))) (crushed_are sphere (1 ∷ 1 ∷ 0 ∷ 0 ∷ 1 ∷ 0 ∷ 0 ∷ []) sphere_table)
+none_kept = crushed_are sphere (1 ∷ 1 ∷ 0 ∷ 0 ∷ 1 ∷ 0 ∷ 0 ∷ []) sphere_table
 
 all_kept : IsCrushed sphere (1 ∷ 1 ∷ 1 ∷ 1 ∷ 0 ∷ 0 ∷ 0 ∷ []) sphere
 unfolding computed
-all_kept = subst (IsCrushed sphere (1 ∷ 1 ∷ 1 ∷ 1 ∷ 0 ∷ 0 ∷ 0 ∷ [])) (sym (evaluated sphere (1 ∷ 1 ∷ 1 ∷ 1 ∷ 0 ∷ 0 ∷ 0 ∷ []))) (crushed_are sphere (1 ∷ 1 ∷ 1 ∷ 1 ∷ 0 ∷ 0 ∷ 0 ∷ []) sphere_table)
+all_kept = crushed_are sphere (1 ∷ 1 ∷ 1 ∷ 1 ∷ 0 ∷ 0 ∷ 0 ∷ []) sphere_table
 
 -- face 0 of the kept tetrahedron is followed through the one that is taken out to face 1
 abbrev two_tets : List Row
@@ -178,4 +178,4 @@ two_tets_table = table_from two_tets refl refl refl
 
 followed_through : IsCrushed two_tets along_quad (row (by 0 6) (by 0 6) free free ∷ [])
 unfolding computed
-followed_through = subst (IsCrushed two_tets along_quad) (sym (evaluated two_tets along_quad)) (crushed_are two_tets along_quad two_tets_table)
+followed_through = crushed_are two_tets along_quad two_tets_table

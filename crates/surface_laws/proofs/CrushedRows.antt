@@ -1,5 +1,5 @@
 -- The crushed rows of a table are determined, and they are a table.
-use Rattle.std.proofs.Common.{◌≡◌, ℕ, zero, suc, ◌*◌, ◌<◌, ◌≤◌, Bool, true, not, List, [], length, map, Option, Some, None, option_map, refl, sym, ap, ◌∙◌, subst, arith, ext_get_or}
+use Rattle.std.proofs.Common.{◌≡◌, ℕ, zero, suc, ◌*◌, ◌<◌, ◌≤◌, Bool, true, not, List, [], length, Option, Some, None, option_map, refl, sym, ap, ◌∙◌, subst, arith, ext_get_or}
 use Rattle.std.specs.Prelude.{◌==◌, if◌then◌else◌}
 use Rattle.std.specs.List.{slice_index_or}
 use Rattle.std.proofs.lemmas.Bool.{eqb-true, and_parts, not-true, not_from_false, false_from_ne_true}
@@ -10,16 +10,12 @@ use Rattle.table_definitions.proofs.TableLaws.{glued_tet, glued_face}
 use Rattle.table_definitions.proofs.Permutations.{image-identity}
 use Rattle.table_definitions.proofs.Ranks.{rank, rank_fits, StandsAt, at_rank, of_rank, ranks_apart, length-picked, picked}
 use Rattle.table_definitions.proofs.Faces.{face_at, gluing_to}
-use Rattle.surface_definitions.specs.Crushing.{is_removed, number_kept, CrushesTo, IsCrushed, ChainEnds, passed}
+use Rattle.surface_definitions.specs.Crushing.{is_removed, number_kept, CrushesTo, IsCrushed, ChainEnds, passed, renumbered}
 use Rattle.surface_laws.specs.CrushingLaws.{IsKeptFace, HasOneEnd}
-use Rattle.surface_definitions.proofs.SurfaceEvaluators.{followed, crushed}
+use Rattle.surface_definitions.proofs.SurfaceEvaluators.{followed, crushed, crushed_gluing, crushed_row}
 use Rattle.surface_laws.proofs.Chains.{one_end, has_one_end, HasChain, has_chain}
 use Rattle.surface_laws.proofs.ChainsBack.{IsReadBack, chain_back}
 use Rattle.surface_laws.proofs.NoReturn.{chain_elsewhere}
-
--- a gluing with its tetrahedron's number in the crushed table
-abbrev pub renumbered : List ℕ → Option Gluing → Option Gluing
-renumbered xs o = option_map (λ (g : Gluing). gluing_to (number_kept xs g.tet) g.perm) o
 
 abbrev pub stays : List ℕ → ℕ → Bool
 stays xs t = not (is_removed xs t)
@@ -40,7 +36,7 @@ module _ (rows : List Row) (xs : List ℕ) (table : IsTable rows) where
       let e : HasOneEnd rows xs (face_at r.0 f) = has_one_end rows xs table (face_at r.0 f) k in
       record { was = r.0; kept = k; number = r.3; end = e.end; chain = e.there }
 
-  glue_from : (new : List Row) → IsCrushed rows xs new → (t f : ℕ) (c : ComesFrom t f) → glue new (face_at t f) ≡ renumbered xs c.end
+  glue_from : (new : List Row) → IsCrushed rows xs new → (t f : ℕ) (c : ComesFrom t f) → glue new (face_at t f) ≡ option_map (renumbered xs) c.end
   glue_from new h t f c =
       ap (λ u. glue new (face_at u f)) (sym c.number) ∙ h.glued (face_at c.was f) c.end (c.kept).in_range (c.kept).face (c.kept).kept c.chain
 
@@ -77,7 +73,7 @@ module _ (rows : List Row) (xs : List ℕ) (table : IsTable rows) where
         let k : ComesFrom x.tet x.face = comes_from x.tet x.face (omega (arith, c.length_is)) lf in
         by_end k k.end k.chain (sym (glue_from new c x.tet x.face k) ∙ e)
       where
-        by_end : (k : ComesFrom x.tet x.face) (o : Option Gluing) → CrushesTo rows xs (face_at k.was x.face) o → renumbered xs o ≡ Some h → GluedFrom x.tet x.face h
+        by_end : (k : ComesFrom x.tet x.face) (o : Option Gluing) → CrushesTo rows xs (face_at k.was x.face) o → option_map (renumbered xs) o ≡ Some h → GluedFrom x.tet x.face h
         by_end k None d s = absurd cc
         by_end k (Some g) d s =
             let same : gluing_to (number_kept xs g.tet) g.perm ≡ h = cc in
@@ -138,37 +134,22 @@ follow rows xs x (suc fuel) (suc n) None end l h = absurd h
 follow rows xs x (suc fuel) (suc n) (Some g) end l h =
     ap (λ b. if b then followed fuel rows xs x (passed rows xs x g) else Some g) h.0 ∙ follow rows xs x fuel n (passed rows xs x g) end (omega arith) h.1
 
--- what the face f of tetrahedron t becomes
-followed_at : List Row → List ℕ → ℕ → ℕ → Option Gluing
-followed_at rows xs t f = renumbered xs (followed (4 * length rows) rows xs (face_at t f) (glue rows (face_at t f)))
-
-row_from : List Row → List ℕ → ℕ → Row
-row_from rows xs t = map (followed_at rows xs t) four
-
-pub crushed_rows : List Row → List ℕ → List Row
-crushed_rows rows xs = map (row_from rows xs) (picked (stays xs) (length rows))
-
-pub evaluated : (rows : List Row) (xs : List ℕ) → crushed rows xs ≡ crushed_rows rows xs
-unfolding crushed_rows row_from followed_at
-evaluated rows xs = refl
-
 -- the rows that are made so are crushed rows
-pub crushed_are : (rows : List Row) (xs : List ℕ) → IsTable rows → IsCrushed rows xs (crushed_rows rows xs)
-unfolding crushed_rows row_from followed_at
+pub crushed_are : (rows : List Row) (xs : List ℕ) → IsTable rows → IsCrushed rows xs (crushed rows xs)
 crushed_are rows xs table = record {
-  length_is = length-map kept (row_from rows xs) ∙ length-picked (stays xs) (length rows);
+  length_is = length-map kept (crushed_row rows xs) ∙ length-picked (stays xs) (length rows);
   four_faces = λ k d l.
-      let lk : k < length kept = omega (arith, length-map kept (row_from rows xs)) in
-      subst (λ (row : Row). length row ≡ 4) (sym (get_or-map (row_from rows xs) kept k 0 d lk)) refl;
+      let lk : k < length kept = omega (arith, length-map kept (crushed_row rows xs)) in
+      subst (λ (row : Row). length row ≡ 4) (sym (get_or-map (crushed_row rows xs) kept k 0 d lk)) refl;
   glued = λ x end lt lf k c.
       let s : StandsAt (stays xs) (length rows) x.tet = at_rank (stays xs) (length rows) x.tet lt k in
       let there : number_kept xs x.tet < length kept = omega (arith, length-picked (stays xs) (length rows), s.fewer) in
-      let row : slice_index_or (crushed_rows rows xs) (number_kept xs x.tet) [] ≡ row_from rows xs x.tet = get_or-map (row_from rows xs) kept (number_kept xs x.tet) 0 [] there ∙ ap (row_from rows xs) s.is in
-      let entry : slice_index_or (row_from rows xs x.tet) x.face None ≡ followed_at rows xs x.tet x.face = get_or-map (followed_at rows xs x.tet) four x.face 0 None lf ∙ ap (followed_at rows xs x.tet) (image-identity x.face lf) in
+      let row : slice_index_or (crushed rows xs) (number_kept xs x.tet) [] ≡ crushed_row rows xs x.tet = get_or-map (crushed_row rows xs) kept (number_kept xs x.tet) 0 [] there ∙ ap (crushed_row rows xs) s.is in
+      let entry : slice_index_or (crushed_row rows xs x.tet) x.face None ≡ crushed_gluing rows xs x.tet x.face = get_or-map (crushed_gluing rows xs x.tet) four x.face 0 None lf ∙ ap (crushed_gluing rows xs x.tet) (image-identity x.face lf) in
       let chain : HasChain rows xs table x = has_chain rows xs table x (record { in_range = lt; face = lf; kept = k }) in
       let ends : followed (4 * length rows) rows xs x (glue rows x) ≡ end =
       follow rows xs x (4 * length rows) chain.count (glue rows x) chain.end (let l = chain.few in omega arith) chain.ends ∙ one_end rows xs x chain.count c.0 (glue rows x) chain.end end chain.ends c.1 in
-      ap (λ (row : Row). slice_index_or row x.face None) row ∙ entry ∙ ap (renumbered xs) ends;
+      ap (λ (row : Row). slice_index_or row x.face None) row ∙ entry ∙ ap (option_map (renumbered xs)) ends;
 }
   where
     kept : List ℕ

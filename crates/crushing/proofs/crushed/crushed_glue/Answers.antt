@@ -1,11 +1,11 @@
 -- Each chain from the face has the end that was found.
-use Rattle.std.proofs.Common.{◌∙◌, ap, sym, length}
-use Rattle.crushing.specs.Rows.{renumbered}
+use Rattle.std.proofs.Common.{◌∙◌, ap, sym, length, option_map}
+use Rattle.surface_definitions.specs.Crushing.{renumbered}
 use Rattle.crushing.proofs.NewRows.{end_renumbered}
 use Rattle.crushing.proofs.crushed.crushed_glue.Goals as goal
 
 pub returns-in_err-end : goal.returns-in_err-end
-returns-in_err-end c = λ end h. c.from_residual.ensures ∙ sym (ap (renumbered c.args.x.now) (c.in_err-end.ensures.only end h))
+returns-in_err-end c = λ end h. c.from_residual.ensures ∙ sym (ap (option_map (renumbered c.args.x.now)) (c.in_err-end.ensures.only end h))
 
 pub returns : goal.returns
 returns c = λ end h.
