@@ -12,6 +12,7 @@ use Rattle.solved_rows.specs.Merging.{term_at, IsCoefficientSum}
 use Rattle.solved_rows.specs.Passing.{IsUnit, TakesTerm, IsDerived, stands}
 use Rattle.solved_rows.proofs.ColumnLemmas.{AreBefore}
 use Rattle.solved_rows.proofs.PassingLemmas.{all_again, all_stand}
+use Rattle.solved_rows.proofs.RowLemmas.{all_last}
 
 -- a column is solved: the pivot row is taken out of the unsolved rows
 module _ (unsolved solved rest : List Row) (pivot : Row) (taken : Contains unsolved pivot) (left : All (Contains unsolved) rest) where
@@ -42,9 +43,14 @@ pub joined_stand : (rows others none : List Row) → others ≡ rows → none �
 joined_stand rows others none e n = rw (n, e, append-nil rows) (all_stand rows)
 
 -- one row more is added, or left out
-pub stand_more : (rows middle : List Row) (row : Row) (new : List Row) → All (Contains rows) middle → Contains rows row → AddsRow middle row new → All (Contains rows) new
-stand_more rows middle row new h c (inl is) = rw is (All-push (Contains rows) middle row h c)
-stand_more rows middle row new h c (inr left) = rw left.0 h
+pub stand_more : (rows kept : List Row) (row : Row) (new : List Row) → All (Contains rows) kept → AddsRow kept row new → All (Contains (rows ++ row ∷ [])) new
+stand_more rows kept row new h adds = elim adds [
+  | inl is ↦ rw is (All-push (Contains (rows ++ row ∷ [])) kept row still (all_last (Contains (rows ++ row ∷ [])) rows row (All-contains_itself (rows ++ row ∷ []))))
+  | inr left ↦ rw left.0 still
+]
+  where
+    still : All (Contains (rows ++ row ∷ [])) kept
+    still = All-weaker (Contains rows) (Contains (rows ++ row ∷ [])) (λ r c. Contains-append_left rows (row ∷ []) r c) kept h
 
 -- ---- the coefficient at a column
 
@@ -102,9 +108,6 @@ takes_cleared row coefficient factor pivot column unit has found is sum = record
   units = inr is;
   none_left = sum is;
 }
-
-pub front_stands : (rows others : List Row) → All (Contains (rows ++ others)) rows
-front_stands rows others = All-weaker (Contains rows) (Contains (rows ++ others)) (λ row c. Contains-append_left rows others row c) rows (All-contains_itself rows)
 
 -- by a pivot row, from the row at a place
 pub takes_cleared_at : (rows : List Row) (i : ℕ) (row : Row) (coefficient factor : ℤ) (pivot : Row) (column : ℕ) (unit : ℤ) → i < length rows → row ≡ get_or rows i row →

@@ -1,10 +1,7 @@
 // The pivot rows in another order: those that name a further column come last.
 
-ghost use Rattle.std.specs.Prelude.{◌<◌, IfOk, length};
-ghost use Rattle.std.specs.List.{range_with_len};
 ghost use Rattle.std.specs.List.Sorted.{IsPermutation};
 
-use crate::order::rows_at;
 use cone_core::SparseRow;
 use no_memory::NoMemory;
 use std::alloc::Global;
@@ -57,51 +54,10 @@ fn names_further(named: &[bool], row: &SparseRow) -> bool {
     false
 }
 
-/// Of each row, whether it names a further column.
-fn late_rows(alloc: Global, named: &[bool], rows: &[SparseRow]) -> Result<Vec<bool>, NoMemory> {
-    let mut late = Vec::with_capacity(alloc, rows.len())?;
-    for row in rows {
-        late.push(names_further(named, row))?;
-    }
-    Ok(late)
-}
-
-/// The position of the first of the places that isn't late, or else the first position.
-fn first_early(late: &[bool], left: &[usize]) -> usize
-    requires { 0 < length left.now }
-    ensures { result < length left.now }
+/// Puts the rows that name a further column last: such a column's unit vector meets the fewest rays and rows then.
+pub(crate) fn put_further_last(named: &[bool], rows: &mut Vec<SparseRow>) -> Result<(), NoMemory>
+    ensures { IsPermutation rows.old.items rows.new.items }
 {
-    for (position, place) in left.iter().enumerate() {
-        if *place >= late.len() || !late[*place] {
-            return position;
-        }
-    }
-    0
-}
-
-/// So many places, those that are late last.
-fn places_in_turn(alloc: Global, count: usize, late: &[bool]) -> Result<Vec<usize>, NoMemory>
-    ensures { IfOk result (λ places. IsPermutation (range_with_len 0 count) places.items) }
-{
-    let mut left: Vec<usize> = (0..count).collect(alloc)?;
-    let mut places = Vec::with_capacity(alloc, count)?;
-    while !left.is_empty() {
-        let position = first_early(late, &left);
-        let place = left.remove(position);
-        places.push(place)?;
-    }
-    Ok(places)
-}
-
-/// The rows, those that name a further column last: such a column's unit vector meets the fewest rays and rows then.
-pub(crate) fn with_further_last(
-    alloc: Global,
-    named: &[bool],
-    rows: &[SparseRow],
-) -> Result<Vec<SparseRow>, NoMemory>
-    ensures { IfOk result (λ ordered. IsPermutation rows.now ordered.items) }
-{
-    let late = late_rows(alloc, named, rows)?;
-    let places = places_in_turn(alloc, rows.len(), &late)?;
-    rows_at(alloc, rows, &places)
+    rows.sort_by_key(|row| names_further(named, row))?;
+    Ok(())
 }

@@ -1,11 +1,8 @@
 // The order of rows: each next one has columns in the fewest blocks that no row before it names.
 
-ghost use Rattle.std.specs.Prelude.{◌≡◌, ◌<◌, ◌⊎◌, Some, IfOk, IfSome, length};
-ghost use Rattle.std.specs.List.{All, range_with_len};
+ghost use Rattle.std.specs.Prelude.{◌<◌, IfOk, length};
 ghost use Rattle.std.specs.List.Sorted.{IsPermutation};
-ghost use Rattle.cone_definitions.specs.Elimination.{in_order};
 
-use crate::clear::copy;
 use cone_core::SparseRow;
 use no_memory::NoMemory;
 use std::alloc::Global;
@@ -35,10 +32,10 @@ struct Walk {
     cost: u64,
 }
 
-/// An order of rows, and what it costs.
+/// An order of rows, and what it costs: of each next row its position among those that are left.
 #[derive(Drop)]
 struct RowOrder {
-    places: Vec<usize>,
+    positions: Vec<usize>,
     cost: u64,
 }
 
@@ -56,9 +53,7 @@ fn blocks_of(each: u32, row: &SparseRow) -> RowBlocks {
 }
 
 /// The blocks that each of the rows names.
-fn blocks_of_all(alloc: Global, each: u32, rows: &[SparseRow]) -> Result<Vec<RowBlocks>, NoMemory>
-    ensures { IfOk result (λ all. length all.items ≡ length rows.now) }
-{
+fn blocks_of_all(alloc: Global, each: u32, rows: &[SparseRow]) -> Result<Vec<RowBlocks>, NoMemory> {
     let mut all = Vec::with_capacity(alloc, rows.len())?;
     for row in rows {
         all.push(blocks_of(each, row))?;
@@ -135,46 +130,22 @@ fn order_from(
     rows: &[RowBlocks],
     start: usize,
     cost: u64,
-) -> Result<Option<RowOrder>, NoMemory>
-    ensures { IfOk result (λ answer. IfSome answer (λ order. IsPermutation (range_with_len 0 (length rows.now)) order.places.items)) }
-{
+) -> Result<Option<RowOrder>, NoMemory> {
     let mut left: Vec<usize> = (0..rows.len()).collect(alloc)?;
-    let mut places = Vec::with_capacity(alloc, left.len())?;
+    let mut positions = Vec::with_capacity(alloc, left.len())?;
     let mut walk = Walk { seen: 0, cost: 0 };
     while !left.is_empty() {
         let position = next_position(walk.seen, rows, &left, start);
-        let place = left.remove(position);
-        places.push(place)?;
-        walk = step(walk, rows, place);
+        positions.push(position)?;
+        walk = step(walk, rows, left.remove(position));
         if walk.cost >= cost {
             return Ok(None);
         }
     }
     Ok(Some(RowOrder {
-        places,
+        positions,
         cost: walk.cost,
     }))
-}
-
-/// The order of so many rows as they stand, as if it cost more than any other.
-fn as_they_stand(alloc: Global, count: usize) -> Result<RowOrder, NoMemory>
-    ensures { IfOk result (λ order. IsPermutation (range_with_len 0 count) order.places.items) }
-{
-    let places = (0..count).collect(alloc)?;
-    Ok(RowOrder {
-        places,
-        cost: u64::MAX,
-    })
-}
-
-/// The other order, if there is one.
-fn cheaper(one: RowOrder, other: Option<RowOrder>) -> RowOrder
-    ensures { (result ≡ one) ⊎ (other ≡ Some result) }
-{
-    match other {
-        Some(order) => order,
-        None => one,
-    }
 }
 
 /// How many of the rows are tried as the first: all, where they are few.
@@ -182,44 +153,54 @@ fn start_count(rows: usize) -> usize {
     if rows <= MOST_STARTS { rows } else { 1 }
 }
 
+/// The order of rows as they stand, as if it cost more than any other.
+fn as_they_stand(alloc: Global) -> RowOrder {
+    RowOrder {
+        positions: Vec::new(alloc),
+        cost: u64::MAX,
+    }
+}
+
 /// The order that costs least among those that begin with the rows that are tried. A walk ends where it costs as much as
 /// the best so far.
-fn cheapest(alloc: Global, rows: &[RowBlocks]) -> Result<RowOrder, NoMemory>
-    ensures { IfOk result (λ order. IsPermutation (range_with_len 0 (length rows.now)) order.places.items) }
-{
-    let mut best = as_they_stand(alloc, rows.len())?;
+fn cheapest(alloc: Global, rows: &[RowBlocks]) -> Result<RowOrder, NoMemory> {
+    let mut best = as_they_stand(alloc);
     for start in 0..start_count(rows.len()) {
-        let other = order_from(alloc, rows, start, best.cost)?;
-        best = cheaper(best, other);
+        if let Some(other) = order_from(alloc, rows, start, best.cost)? {
+            best = other;
+        }
     }
     Ok(best)
 }
 
-/// The rows at some places.
-pub(crate) fn rows_at(
+/// The rows in turn, each next one from its position among those that are left; those without one come last, as they stand.
+fn rows_in_turn(
     alloc: Global,
-    rows: &[SparseRow],
-    places: &[usize],
+    mut rows: Vec<SparseRow>,
+    positions: &[usize],
 ) -> Result<Vec<SparseRow>, NoMemory>
-    requires { All (λ place. place < length rows.now) places.now }
-    ensures { IfOk result (λ taken. taken.items ≡ in_order rows.now places.now) }
+    ensures { IfOk result (λ ordered. IsPermutation rows.items ordered.items) }
 {
-    let mut taken = Vec::with_capacity(alloc, places.len())?;
-    for place in places {
-        taken.push(copy(alloc, &rows[*place])?)?;
+    let mut ordered = Vec::with_capacity(alloc, rows.len())?;
+    for position in positions {
+        if *position < rows.len() {
+            let row = rows.remove(*position);
+            ordered.push(row)?;
+        }
     }
-    Ok(taken)
+    ordered.append(&mut rows)?;
+    Ok(ordered)
 }
 
 /// The rows in the order that costs least: blocks have so many columns each, and few of them are named early.
 pub(crate) fn in_cheapest_order(
     alloc: Global,
     each: u32,
-    rows: &[SparseRow],
+    rows: Vec<SparseRow>,
 ) -> Result<Vec<SparseRow>, NoMemory>
-    ensures { IfOk result (λ ordered. IsPermutation rows.now ordered.items) }
+    ensures { IfOk result (λ ordered. IsPermutation rows.items ordered.items) }
 {
-    let all = blocks_of_all(alloc, each, rows)?;
+    let all = blocks_of_all(alloc, each, &rows)?;
     let order = cheapest(alloc, &all)?;
-    rows_at(alloc, rows, &order.places)
+    rows_in_turn(alloc, rows, &order.positions)
 }

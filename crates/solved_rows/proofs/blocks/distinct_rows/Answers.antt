@@ -1,18 +1,28 @@
--- The rows of the system that they were added to.
-use Rattle.std.proofs.Common.{◌++◌, subst, sym}
-use Rattle.std.specs.Prelude.{Contains}
+-- One row more is kept, or left out.
+use Rattle.std.proofs.Common.{◌≡◌, ◌∙◌, subst, sym, Contains}
 use Rattle.std.specs.List.{All}
+use Rattle.std.proofs.lemmas.Iterator.Adapters.{YieldsList-from_vec}
+use Rattle.std.proofs.lemmas.Iterator.Consumers.{YieldsList-end}
+use Rattle.std.proofs.lemmas.List.{map-id}
 use Rattle.cone_row_laws.specs.Solutions.{HaveSameZeros}
+use Rattle.solved_rows.proofs.RowLemmas.{distinct_more}
+use Rattle.solved_rows.proofs.DerivedLemmas.{stand_more}
 use Rattle.solved_rows.proofs.blocks.distinct_rows.Goals as goal
 
+pub loop-row-preserved : goal.loop-row-preserved
+loop-row-preserved c = record {
+  same = distinct_more c.loop-row.yielded c.loop-row.kept.items c.in-Some.row c.push_distinct.new.rows.items c.loop-row.invariant.same c.in_ok-push_distinct.ensures;
+  stand = stand_more c.loop-row.yielded c.loop-row.kept.items c.in-Some.row c.push_distinct.new.rows.items c.loop-row.invariant.stand c.in_ok-push_distinct.ensures;
+}
+
+all_yielded : (c : goal.After-drop-row-iterator-2) → c.loop-row.yielded ≡ c.args.rows.items
+all_yielded c =
+    let given = c.into_iter-row-iterator.ensures.into_iter_gives in
+    let rows = YieldsList-from_vec c.args.rows.items given.0 (given.1 ∙ c.args.rows.ok.0) in
+    sym (map-id c.loop-row.yielded) ∙ (YieldsList-end rows c.loop-row.yielded _ c.loop-row.yielded_by _ c.next.new.self c.in-None.is c.next.ensures.steps).0
+
 pub returns-clause-same : goal.returns-clause-same
-returns-clause-same c =
-    let rows = c.args.rows.now in
-    subst (HaveSameZeros rows) (sym c.in_ok-rows_of.ensures.same)
-    (subst (λ r. HaveSameZeros (r ++ rows) c.add_rows.new.system.rows) c.new-system.ensures.rows c.in_ok-add_rows.ensures.rows)
+returns-clause-same c = subst (λ rows. HaveSameZeros rows c.loop-row.kept.items) (all_yielded c) c.loop-row.invariant.same
 
 pub returns-clause-stand : goal.returns-clause-stand
-returns-clause-stand c =
-    let rows = c.args.rows.now in
-    subst (All (Contains rows)) (sym c.in_ok-rows_of.ensures.same)
-    (subst (λ r. All (Contains (r ++ rows)) c.add_rows.new.system.rows) c.new-system.ensures.rows c.in_ok-add_rows.ensures.stand)
+returns-clause-stand c = subst (λ rows. All (Contains rows) c.loop-row.kept.items) (all_yielded c) c.loop-row.invariant.stand

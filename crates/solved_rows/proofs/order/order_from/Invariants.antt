@@ -1,11 +1,5 @@
--- the places that are taken and those that are left
-use Rattle.std.proofs.Common.{◌++◌, length, vec_len}
-use Rattle.std.specs.List.{range_with_len}
-use Rattle.std.specs.List.Sorted.{IsPermutation}
+use Rattle.std.proofs.Common.{vec_len}
 use Rattle.solved_rows.proofs.order.order_from.Given as goal
-
-abbrev pub invariant-loop-left : goal.invariant-loop-left
-invariant-loop-left l = IsPermutation (range_with_len 0 (length l.rows)) (l.places.items ++ l.left.items)
 
 abbrev pub decreases-loop-left : goal.decreases-loop-left
 decreases-loop-left l = vec_len l.left
