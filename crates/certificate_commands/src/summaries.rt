@@ -14,13 +14,13 @@ use std::marker::Model;
 use surface_definitions::Coords;
 use surface_properties::is_linking;
 
-// The greater of a number and all entries of a ray.
-fn greater_of(least: u128, ray: &Ray) -> u128
-    ensures { IsGreatestOf least ray.now result }
+// The greater of a number and all of these entries.
+fn greater_of(least: u128, entries: &[u128]) -> u128
+    ensures { IsGreatestOf least entries.now result }
 {
     let mut greatest = least;
-    for column in 0..ray.columns() {
-        greatest = greatest.max(ray.entry(column));
+    for entry in entries {
+        greatest = greatest.max(*entry);
     }
     greatest
 }
@@ -31,23 +31,22 @@ pub fn greatest_entry(list: &[Ray]) -> u128
 {
     let mut greatest = 0;
     for ray in list {
-        greatest = greater_of(greatest, ray);
+        greatest = greater_of(greatest, ray.entries());
     }
     greatest
 }
 
 /// The number of surfaces without quads.
-pub fn linking_count(alloc: Global, list: &[Ray]) -> Result<u64, NoMemory>
-    ensures { IfOk result (λ count. count ≡ count_by (characteristic.is_linking Standard) list.now) }
+pub fn linking_count(list: &[Ray]) -> u64
+    ensures { result ≡ count_by (characteristic.is_linking Standard) list.now }
 {
     let mut count = 0;
     for ray in list {
-        let vector = ray.to_vector(alloc)?;
-        if is_linking(Coords::Standard, &vector) {
+        if is_linking(Coords::Standard, ray.entries()) {
             count += 1;
         }
     }
-    Ok(count)
+    count
 }
 
 /// The numbers of a table that was made: its seed, the moves of its certificate, and its tetrahedra.
@@ -89,7 +88,7 @@ fn summary_text(alloc: Global, numbers: Numbers, list: &[Ray]) -> Result<Vec<u8>
         alloc,
         &mut text,
         b"linking ",
-        u128::from(linking_count(alloc, list)?),
+        u128::from(linking_count(list)),
     )?;
     Ok(text)
 }

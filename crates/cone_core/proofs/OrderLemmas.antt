@@ -1,5 +1,5 @@
 -- The order of two vectors, entry by entry.
-use Rattle.std.proofs.Common.{refl, Less, Equal, Greater, nat_cmp, ◌≡◌, ℕ, true, false, ◌+◌, ◌<◌, ◌≤◌, List, [], ◌∷◌, length, drop, get_or, min, ⊎_elim, ap, ◌∙◌, sym, arith}
+use Rattle.std.proofs.Common.{refl, Less, Equal, Greater, nat_cmp, ◌≡◌, ℕ, true, false, ◌+◌, ◌<◌, List, [], ◌∷◌, length, drop, get_or, min, ⊎_elim, ap, ◌∙◌, sym, arith}
 use Rattle.std.proofs.lemmas.Bool.{cases_lt, false≢true}
 use Rattle.std.proofs.lemmas.List.{at_drop_more, at_drop_all}
 use Rattle.std.proofs.Common.{Ordering}

@@ -1,4 +1,4 @@
-// Where a ray keeps its entries.
+// Where a packed ray keeps its entries.
 
 ghost use Rattle.std.specs.Prelude.{◌≡◌, ◌<◌, length, slice_index, slice_set, IfOk, IfSome};
 ghost use Rattle.cone_core.specs.RayEntries.{numbers_of};
@@ -70,17 +70,13 @@ pub(crate) fn wide_entries(alloc: Global, entries: &Entries) -> Result<Vec<u128>
     }
 }
 
-/// The same entries once more.
-pub(crate) fn copy_entries(alloc: Global, entries: &Entries) -> Result<Entries, NoMemory>
-    ensures { IfOk result (λ copy. numbers_of copy ≡ numbers_of entries.now) }
+/// The same, of entries that are given away.
+pub(crate) fn into_wide(alloc: Global, entries: Entries) -> Result<Vec<u128>, NoMemory>
+    ensures { IfOk result (λ wide. wide.items ≡ numbers_of entries) }
 {
     match entries {
-        Entries::Small(small) => {
-            let mut copy = Vec::with_capacity(alloc, small.len())?;
-            copy.extend_from_slice(small)?;
-            Ok(Entries::Small(copy))
-        }
-        Entries::Large(_) => Ok(Entries::Large(wide_entries(alloc, entries)?)),
+        Entries::Small(small) => widen(alloc, &small),
+        Entries::Large(large) => Ok(large),
     }
 }
 

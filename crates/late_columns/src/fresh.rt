@@ -5,7 +5,7 @@ ghost use Rattle.cone_core.specs.Sparse.{IsInRange};
 ghost use Rattle.late_columns.specs.Late.{IsUnseen};
 ghost use Rattle.late_columns.specs.Fresh.{HasOne, IsFree, IsFreeColumn};
 
-use cone_core::{MAX_ENTRY, PlusMinus, Ray, SparseRow};
+use cone_core::{MAX_ENTRY, PackedRay, PlusMinus, SparseRow};
 use no_memory::NoMemory;
 use std::alloc::Global;
 
@@ -27,7 +27,7 @@ fn turning(
     requires column { column < columns }
     ensures { IfOk result (λ turn. IfSome turn (HasOne columns row.now column)) }
 {
-    let unit = Ray::unit(alloc, columns, column)?;
+    let unit = PackedRay::unit(alloc, columns, column)?;
     match unit.parts(row, MAX_ENTRY) {
         Ok(PlusMinus { plus: 1, minus: 0 }) => Ok(Some(false)),
         Ok(PlusMinus { plus: 0, minus: 1 }) => Ok(Some(true)),

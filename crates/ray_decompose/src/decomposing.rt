@@ -51,8 +51,7 @@ pub fn decompose(
     let mut terms: Vec<Term> = Vec::with_capacity(alloc, system.columns() as usize)?;
     let mut rest = x.to_vec(alloc)?;
     for ray in list {
-        let entries = ray.to_vector(alloc)?;
-        if let Some(fraction) = fraction_inside(&rest, &entries) {
+        if let Some(fraction) = fraction_inside(&rest, ray.entries()) {
             if let Some(column) = first_large(x, fraction.denominator, times, limit) {
                 let turn = terms.len() as u32;
                 return Err(Failure::Fault(LargeTurn { turn, column }));

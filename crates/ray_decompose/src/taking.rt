@@ -48,12 +48,11 @@ pub fn take_ray(
     ensures terms { OnOk result (terms.new.items ≡ map (repeated fraction.denominator) terms.old.items ++ record { count = fraction.numerator; vector = ray.now } ∷ []) }
     ensures rest { OnOk result (rest.new.items ≡ difference (multiple fraction.denominator rest.old.items) (multiple fraction.numerator ray.now)) }
 {
-    let entries = ray.to_vector(alloc)?;
     repeat(terms, fraction.denominator);
     terms.push(Term {
         count: fraction.numerator,
         vector: ray.copy(alloc)?,
     })?;
-    take_out(rest, fraction, &entries);
+    take_out(rest, fraction, ray.entries());
     Ok(())
 }

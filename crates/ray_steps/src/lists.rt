@@ -19,10 +19,14 @@ pub fn sort_rays(ray_list: &mut Vec<RayWithSupport>) -> Result<(), AllocError>
     ray_list.sort_by(|a, b| a.ray.compare(&b.ray))
 }
 
-/// The rays alone.
+/// The rays alone, in 128 bits an entry. Each packed ray is given up as its ray is made.
 pub fn without_supports(alloc: Global, ray_list: Vec<RayWithSupport>) -> Result<Vec<Ray>, NoMemory>
     ensures { IfOk result (λ rays. rays.items ≡ rays_of ray_list.items) }
 {
-    let rays = ray_list.into_iter().map(|kept| kept.ray).collect(alloc)?;
+    let mut rays = Vec::with_capacity(alloc, ray_list.len())?;
+    for kept in ray_list {
+        let ray = kept.ray.into_ray(alloc)?;
+        rays.push(ray)?;
+    }
     Ok(rays)
 }

@@ -32,8 +32,8 @@ pub fn combine_pair(
     match combine_inside(alloc, &u.ray, &w.ray, &support, at_u, at_w, limit) {
         Ok(ray) => Ok(RayWithSupport { ray, support }),
         Err(CombineFault::Passed { column: _ }) => {
-            let first = u.ray.copy(alloc)?;
-            let second = w.ray.copy(alloc)?;
+            let first = u.ray.to_ray(alloc)?;
+            let second = w.ray.to_ray(alloc)?;
             Err(StepFault::Large(LargeKind::Pair(first, second)))
         }
         Err(CombineFault::NoMemory) => Err(StepFault::NoMemory),

@@ -4,7 +4,7 @@ ghost use Rattle.std.specs.Prelude.{◌≡◌, ◌<◌, IfOk};
 ghost use Rattle.cone_definitions.specs.Vectors.{unit};
 ghost use Rattle.support_bits.specs.Columns.{support_of};
 
-use cone_core::{CombineFault, Ray};
+use cone_core::{PackedRay, Ray};
 use no_memory::NoMemory;
 use std::alloc::{AllocError, AllocFailed, Global};
 use support_bits::Support;
@@ -12,7 +12,7 @@ use support_bits::Support;
 /// A ray beside its support.
 #[derive(Drop)]
 pub struct RayWithSupport {
-    pub ray: Ray,
+    pub ray: PackedRay,
     pub support: Support,
     ghost matches: { support ≡ support_of ray },
 }
@@ -23,7 +23,7 @@ impl RayWithSupport {
         requires { place < columns }
         ensures { IfOk result (λ kept. kept.ray ≡ unit columns place) }
     {
-        let ray = Ray::unit(alloc, columns, place)?;
+        let ray = PackedRay::unit(alloc, columns, place)?;
         let mut support = Support::none(alloc, columns)?;
         support.insert(place);
         Ok(RayWithSupport { ray, support })

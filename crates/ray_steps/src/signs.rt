@@ -71,7 +71,7 @@ pub fn signs_at(
         match sign_at(row, kept, limit) {
             Ok(sign) => signs.push(sign)?,
             Err(Passed) => {
-                let ray = kept.ray.copy(alloc)?;
+                let ray = kept.ray.to_ray(alloc)?;
                 return Err(StepFault::Large(LargeKind::Value(ray)));
             }
         }

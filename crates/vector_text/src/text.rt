@@ -21,8 +21,8 @@ fn push_entry(alloc: Global, text: &mut Vec<u8>, entry: u128) -> Result<(), NoMe
     }
 }
 
-/// Appends the entries, each after a space.
-fn push_entries(alloc: Global, text: &mut Vec<u8>, x: &[u128]) -> Result<(), NoMemory>
+/// Appends entries one by one, each after a space.
+fn push_each(alloc: Global, text: &mut Vec<u8>, x: &[u128]) -> Result<(), NoMemory>
     ensures { OnOk result (text.new.items ≡ text.old.items ++ entries_text x.now) }
 {
     for entry in x {
@@ -52,14 +52,14 @@ fn push_digits(text: &mut Vec<u8>, a: u8, b: u8, c: u8, d: u8) -> Result<(), NoM
 }
 
 /// Appends the four entries from a column on, each after a space; at once where each has one digit, as most have.
-fn push_four(alloc: Global, text: &mut Vec<u8>, ray: &Ray, column: usize) -> Result<(), NoMemory>
-    requires { column + 4 ≤ length ray.now }
-    ensures { OnOk result (text.new.items ≡ text.old.items ++ entries_text (four_from ray.now column)) }
+fn push_four(alloc: Global, text: &mut Vec<u8>, x: &[u128], column: usize) -> Result<(), NoMemory>
+    requires { column + 4 ≤ length x.now }
+    ensures { OnOk result (text.new.items ≡ text.old.items ++ entries_text (four_from x.now column)) }
 {
-    let a = ray.entry(column);
-    let b = ray.entry(column + 1);
-    let c = ray.entry(column + 2);
-    let d = ray.entry(column + 3);
+    let a = x[column];
+    let b = x[column + 1];
+    let c = x[column + 2];
+    let d = x[column + 3];
     if a < 10 && b < 10 && c < 10 && d < 10 {
         return push_digits(text, a as u8, b as u8, c as u8, d as u8);
     }
@@ -69,28 +69,16 @@ fn push_four(alloc: Global, text: &mut Vec<u8>, ray: &Ray, column: usize) -> Res
     push_entry(alloc, text, d)
 }
 
-/// Appends the entries of a ray from a column on, each after a space.
-fn push_rest(alloc: Global, text: &mut Vec<u8>, ray: &Ray, first: usize) -> Result<(), NoMemory>
-    requires { first ≤ length ray.now }
-    ensures { OnOk result (text.new.items ≡ text.old.items ++ entries_text (drop first ray.now)) }
+/// Appends the entries, each after a space.
+fn push_entries(alloc: Global, text: &mut Vec<u8>, x: &[u128]) -> Result<(), NoMemory>
+    ensures { OnOk result (text.new.items ≡ text.old.items ++ entries_text x.now) }
 {
-    for column in first..ray.columns() {
-        push_entry(alloc, text, ray.entry(column))?;
-    }
-    Ok(())
-}
-
-/// Appends the entries of a ray, each after a space.
-fn push_ray_entries(alloc: Global, text: &mut Vec<u8>, ray: &Ray) -> Result<(), NoMemory>
-    ensures { OnOk result (text.new.items ≡ text.old.items ++ entries_text ray.now) }
-{
-    let columns = ray.columns();
     let mut column = 0;
-    while columns - column >= 4 {
-        push_four(alloc, text, ray, column)?;
+    while x.len() - column >= 4 {
+        push_four(alloc, text, x, column)?;
         column += 4;
     }
-    push_rest(alloc, text, ray, column)
+    push_each(alloc, text, &x[column..])
 }
 
 /// Appends the entries, each after a space. Without memory nothing is appended.
@@ -99,7 +87,7 @@ pub fn write_entries(alloc: Global, ray: &Ray, out: &mut Vec<u8>) -> Result<(), 
     ensures err { OnErr result (out.new.items ≡ out.old.items) }
 {
     let mut text = Vec::new(alloc);
-    push_ray_entries(alloc, &mut text, ray)?;
+    push_entries(alloc, &mut text, ray.entries())?;
     append(out, &text)
 }
 
@@ -109,16 +97,6 @@ fn push_line(alloc: Global, text: &mut Vec<u8>, x: &[u128]) -> Result<(), NoMemo
 {
     append(text, b"vec")?;
     push_entries(alloc, text, x)?;
-    append(text, b"\n")?;
-    Ok(())
-}
-
-/// Appends the line of a ray.
-fn push_ray(alloc: Global, text: &mut Vec<u8>, ray: &Ray) -> Result<(), NoMemory>
-    ensures { OnOk result (text.new.items ≡ text.old.items ++ vector_text ray.now) }
-{
-    append(text, b"vec")?;
-    push_ray_entries(alloc, text, ray)?;
     append(text, b"\n")?;
     Ok(())
 }
@@ -151,7 +129,7 @@ fn lines_behind(alloc: Global, front: &[u8], list: &[Ray]) -> Result<Vec<u8>, No
     let mut text = Vec::with_capacity(alloc, least_bytes(list).saturating_add(front.len()))?;
     append(&mut text, front)?;
     for ray in list {
-        push_ray(alloc, &mut text, ray)?;
+        push_line(alloc, &mut text, ray.entries())?;
     }
     Ok(text)
 }

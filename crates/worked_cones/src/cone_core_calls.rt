@@ -1,7 +1,7 @@
 use crate::sample_cones::is_ray;
 use cone_core::{
-    CombineFault, ConeFault, MAX_ENTRY, Passed, Ray, SolutionFault, SparseRow, System, combine,
-    compare, gcd, is_solution, read_cone,
+    CombineFault, ConeFault, MAX_ENTRY, PackedRay, Passed, Ray, SolutionFault, SparseRow, System,
+    combine, compare, gcd, is_solution, read_cone,
 };
 use std::cmp::Ordering;
 use std::test::Fail;
@@ -51,11 +51,12 @@ fn compares_rays(rt: HostRuntime) -> Result<(), Fail> {
 #[test]
 fn raises_rays(rt: HostRuntime) -> Result<(), Fail> {
     let alloc = rt.alloc();
-    let small = Ray::unit(alloc, 3, 0)?.with_new_entry(alloc, 1, 18446744073709551615)?;
-    is_ray(&rt, &small, &[1, 18446744073709551615, 0]);
-    let large = Ray::unit(alloc, 3, 0)?.with_new_entry(alloc, 1, MAX_ENTRY)?;
-    is_ray(&rt, &large, &[1, MAX_ENTRY, 0]);
-    is_ray(&rt, &large.with_new_entry(alloc, 2, 7)?, &[1, MAX_ENTRY, 7]);
+    let small = PackedRay::unit(alloc, 3, 0)?.with_new_entry(alloc, 1, 18446744073709551615)?;
+    is_ray(&rt, &small.to_ray(alloc)?, &[1, 18446744073709551615, 0]);
+    let large = PackedRay::unit(alloc, 3, 0)?.with_new_entry(alloc, 1, MAX_ENTRY)?;
+    is_ray(&rt, &large.to_ray(alloc)?, &[1, MAX_ENTRY, 0]);
+    let larger = large.with_new_entry(alloc, 2, 7)?;
+    is_ray(&rt, &larger.into_ray(alloc)?, &[1, MAX_ENTRY, 7]);
     Ok(())
 }
 

@@ -2,6 +2,7 @@
 use bench_io::NoMemory;
 use cone_core::{CombineFault, Ray, SolutionFault, SparseRow, System, combine, gcd, is_solution};
 use std::alloc::Global;
+use std::test::Fail;
 
 #[test]
 fn calls_have_their_types(_rt: HostRuntime) {
@@ -15,4 +16,12 @@ fn calls_have_their_types(_rt: HostRuntime) {
     let _gcd: fn(u128, u128) -> u128 = gcd;
     let _combine: fn(Global, &Ray, &Ray, u128, u128, u128) -> Result<Ray, CombineFault> = combine;
     let _is_solution: fn(&System, &[u128]) -> Result<(), SolutionFault> = is_solution;
+}
+
+#[test]
+fn entries_are_lent(rt: HostRuntime) -> Result<(), Fail> {
+    let ray = Ray::unit(rt.alloc(), 3, 1)?;
+    let entries: &[u128] = Ray::entries(&ray);
+    assert_eq!(rt; entries, [0, 1, 0].as_slice());
+    Ok(())
 }

@@ -54,8 +54,7 @@ fn worked_ray(alloc: Global, column: u32, entries: &[u128]) -> Result<Ray, Fail>
     let ray = combine(alloc, &first, &last, 1, 2, MAX_ENTRY)
         .ok()
         .ok_or("too large")?;
-    let vector = ray.to_vector(alloc)?;
-    if vector.as_slice() != entries {
+    if ray.entries() != entries {
         return Err(NoMemory)?;
     }
     Ok(ray)

@@ -55,10 +55,7 @@ pub fn are_rows(rt: &impl Abort, system: &System, rows: &[&[(u32, i32)]]) {
 
 /// A ray has these entries.
 pub fn is_ray(rt: &impl Abort, ray: &Ray, vector: &[u128]) {
-    assert_eq!(rt; ray.columns(), vector.len());
-    for (column, entry) in vector.iter().enumerate() {
-        assert_eq!(rt; ray.entry(column), *entry);
-    }
+    assert_eq!(rt; ray.entries(), vector);
 }
 
 /// Rays are these vectors.

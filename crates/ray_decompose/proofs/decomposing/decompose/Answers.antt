@@ -8,21 +8,21 @@ use Rattle.ray_decompose.proofs.decomposing.decompose.Goals as goal
 use Rattle.ray_decompose.proofs.decomposing.decompose.Goals.{in-Some+in_default-first_large+in_ok-take_ray, in_default}
 
 pub fraction_inside-requires-clause-lengths : goal.fraction_inside-requires-clause-lengths
-fraction_inside-requires-clause-lengths c = sym (same_lengths _ _ _ _ (at_place c.args.list.now c.loop-ray.ray-index _ _ c.loop-ray-test.true c.ray-item.is (c.deref-in-loop-ray.ensures.value ∙ c.in_ok-entries.ensures.entries)) c.deref.ensures.value (widths c.args.system.now.columns c.args.system.now.rows c.args.list.now c.args.x.now c.requires.rays c.args.limit (length c.loop-ray.terms.items)
+fraction_inside-requires-clause-lengths c = sym (same_lengths _ _ _ _ (at_place c.args.list.now c.loop-ray.ray-index _ _ c.loop-ray-test.true c.ray-item.is c.entries.ensures.entries) c.deref.ensures.value (widths c.args.system.now.columns c.args.system.now.rows c.args.list.now c.args.x.now c.requires.rays c.args.limit (length c.loop-ray.terms.items)
     (record { times = c.loop-ray.times; terms = c.loop-ray.terms.items; rest = c.loop-ray.rest.items }) c.loop-ray.invariant.led c.loop-ray.ray-index c.loop-ray-test.true))
 
 pub overflow_cast-turn : goal.overflow_cast-turn
 overflow_cast-turn c =
     let t = turn_is c.args.system.now.columns c.args.system.now.rows c.args.list.now c.args.x.now c.args.limit c.loop-ray.times c.loop-ray.terms.items c.loop-ray.rest.items c.loop-ray.ray-index
     c.in-Some.fraction.numerator c.in-Some.fraction.denominator _ _ _ c.requires.rays c.loop-ray.invariant.led c.loop-ray.invariant.none c.loop-ray-test.true c.ray-item.is
-    (c.deref-in-loop-ray.ensures.value ∙ c.in_ok-entries.ensures.entries) c.deref.ensures.value c.in-Some.ensures.inside c.in-Some.ensures.least in
+    c.entries.ensures.entries c.deref.ensures.value c.in-Some.ensures.inside c.in-Some.ensures.least in
     let few = turns_are_few c.args.system.now.columns c.args.system.now.rows c.args.list.now c.args.x.now c.args.limit c.loop-ray.times c.loop-ray.terms.items c.loop-ray.rest.items c.loop-ray.ray-index
     c.in-Some.fraction.numerator c.in-Some.fraction.denominator t in
     let wide = ray_width c.args.system.now.columns c.args.system.now.rows c.args.list.now c.args.x.now c.args.limit c.loop-ray.times c.loop-ray.terms.items c.loop-ray.rest.items c.loop-ray.ray-index
     c.in-Some.fraction.numerator c.in-Some.fraction.denominator t in
-    let e = ap length (at_place c.args.list.now c.loop-ray.ray-index _ _ c.loop-ray-test.true c.ray-item.is (c.deref-in-loop-ray.ensures.value ∙ c.in_ok-entries.ensures.entries)) in
+    let e = ap length (at_place c.args.list.now c.loop-ray.ray-index _ _ c.loop-ray-test.true c.ray-item.is c.entries.ensures.entries) in
     let n : c.len-turn.result ≡ length c.loop-ray.terms.items = c.len-turn.ensures ∙ c.loop-ray.terms.ok.0 in
-    omega (arith, few, wide, c.in_ok-entries.ensures.reduced.width, e, n, ap length (c.deref-in-loop-ray.ensures.value ∙ c.in_ok-entries.ensures.entries))
+    omega (arith, few, wide, c.entries.ensures.reduced.width, e, n, ap length c.entries.ensures.entries)
 
 pub returns-in-Some-first_large-clause-err : goal.returns-in-Some-first_large-clause-err
 returns-in-Some-first_large-clause-err c =
@@ -30,7 +30,7 @@ returns-in-Some-first_large-clause-err c =
     c.in-Some.fraction.numerator c.in-Some.fraction.denominator
     (turn_is c.args.system.now.columns c.args.system.now.rows c.args.list.now c.args.x.now c.args.limit c.loop-ray.times c.loop-ray.terms.items c.loop-ray.rest.items c.loop-ray.ray-index
     c.in-Some.fraction.numerator c.in-Some.fraction.denominator _ _ _ c.requires.rays c.loop-ray.invariant.led c.loop-ray.invariant.none c.loop-ray-test.true c.ray-item.is
-    (c.deref-in-loop-ray.ensures.value ∙ c.in_ok-entries.ensures.entries) c.deref.ensures.value c.in-Some.ensures.inside c.in-Some.ensures.least)
+    c.entries.ensures.entries c.deref.ensures.value c.in-Some.ensures.inside c.in-Some.ensures.least)
     _ _ (c.len-turn.ensures ∙ c.loop-ray.terms.ok.0) c.in-Some-first_large.ensures.some
 
 pub take_ray-requires-clause-lengths : goal.take_ray-requires-clause-lengths
@@ -42,7 +42,7 @@ take_ray-requires-clause-counts c k d l =
     let f = turn_fits c.args.system.now.columns c.args.system.now.rows c.args.list.now c.args.x.now c.args.limit c.loop-ray.times c.loop-ray.terms.items c.loop-ray.rest.items c.loop-ray.ray-index
     c.in-Some.fraction.numerator c.in-Some.fraction.denominator (turn_is c.args.system.now.columns c.args.system.now.rows c.args.list.now c.args.x.now c.args.limit c.loop-ray.times c.loop-ray.terms.items c.loop-ray.rest.items c.loop-ray.ray-index
     c.in-Some.fraction.numerator c.in-Some.fraction.denominator _ _ _ c.requires.rays c.loop-ray.invariant.led c.loop-ray.invariant.none c.loop-ray-test.true c.ray-item.is
-    (c.deref-in-loop-ray.ensures.value ∙ c.in_ok-entries.ensures.entries) c.deref.ensures.value c.in-Some.ensures.inside c.in-Some.ensures.least) c.in_default-first_large.ensures.none in
+    c.entries.ensures.entries c.deref.ensures.value c.in-Some.ensures.inside c.in-Some.ensures.least) c.in_default-first_large.ensures.none in
     let m = c.requires.most_limit in
     counts_fit c.loop-ray.terms.items _ c.in-Some.fraction.denominator c.args.limit 340282366920938463463374607431768211456 refl f.counts (omega arith) k d l
 
@@ -51,7 +51,7 @@ take_ray-requires-clause-fits c column =
     let f = turn_fits c.args.system.now.columns c.args.system.now.rows c.args.list.now c.args.x.now c.args.limit c.loop-ray.times c.loop-ray.terms.items c.loop-ray.rest.items c.loop-ray.ray-index
     c.in-Some.fraction.numerator c.in-Some.fraction.denominator (turn_is c.args.system.now.columns c.args.system.now.rows c.args.list.now c.args.x.now c.args.limit c.loop-ray.times c.loop-ray.terms.items c.loop-ray.rest.items c.loop-ray.ray-index
     c.in-Some.fraction.numerator c.in-Some.fraction.denominator _ _ _ c.requires.rays c.loop-ray.invariant.led c.loop-ray.invariant.none c.loop-ray-test.true c.ray-item.is
-    (c.deref-in-loop-ray.ensures.value ∙ c.in_ok-entries.ensures.entries) c.deref.ensures.value c.in-Some.ensures.inside c.in-Some.ensures.least) c.in_default-first_large.ensures.none in
+    c.entries.ensures.entries c.deref.ensures.value c.in-Some.ensures.inside c.in-Some.ensures.least) c.in_default-first_large.ensures.none in
     let l = f.rest column in
     let m = c.requires.most_limit in
     omega (arith, l, m)
@@ -61,7 +61,7 @@ take_ray-requires-clause-enough c column =
     let f = turn_fits c.args.system.now.columns c.args.system.now.rows c.args.list.now c.args.x.now c.args.limit c.loop-ray.times c.loop-ray.terms.items c.loop-ray.rest.items c.loop-ray.ray-index
     c.in-Some.fraction.numerator c.in-Some.fraction.denominator (turn_is c.args.system.now.columns c.args.system.now.rows c.args.list.now c.args.x.now c.args.limit c.loop-ray.times c.loop-ray.terms.items c.loop-ray.rest.items c.loop-ray.ray-index
     c.in-Some.fraction.numerator c.in-Some.fraction.denominator _ _ _ c.requires.rays c.loop-ray.invariant.led c.loop-ray.invariant.none c.loop-ray-test.true c.ray-item.is
-    (c.deref-in-loop-ray.ensures.value ∙ c.in_ok-entries.ensures.entries) c.deref.ensures.value c.in-Some.ensures.inside c.in-Some.ensures.least) c.in_default-first_large.ensures.none in
+    c.entries.ensures.entries c.deref.ensures.value c.in-Some.ensures.inside c.in-Some.ensures.least) c.in_default-first_large.ensures.none in
     rw (at_place c.args.list.now c.loop-ray.ray-index _ _ c.loop-ray-test.true c.ray-item.is refl) (f.enough column)
 
 pub overflow_mul-times : goal.overflow_mul-times
@@ -69,7 +69,7 @@ overflow_mul-times c =
     let f = turn_fits c.args.system.now.columns c.args.system.now.rows c.args.list.now c.args.x.now c.args.limit c.loop-ray.times c.loop-ray.terms.items c.loop-ray.rest.items c.loop-ray.ray-index
     c.in-Some.fraction.numerator c.in-Some.fraction.denominator (turn_is c.args.system.now.columns c.args.system.now.rows c.args.list.now c.args.x.now c.args.limit c.loop-ray.times c.loop-ray.terms.items c.loop-ray.rest.items c.loop-ray.ray-index
     c.in-Some.fraction.numerator c.in-Some.fraction.denominator _ _ _ c.requires.rays c.loop-ray.invariant.led c.loop-ray.invariant.none c.loop-ray-test.true c.ray-item.is
-    (c.deref-in-loop-ray.ensures.value ∙ c.in_ok-entries.ensures.entries) c.deref.ensures.value c.in-Some.ensures.inside c.in-Some.ensures.least) c.in_default-first_large.ensures.none in
+    c.entries.ensures.entries c.deref.ensures.value c.in-Some.ensures.inside c.in-Some.ensures.least) c.in_default-first_large.ensures.none in
     let l = f.times in
     let m = c.requires.most_limit in
     omega (arith, l, m)
@@ -82,14 +82,14 @@ loop-ray-preserved c = elim c.match-fraction_inside.branch [
       w.in-Some.fraction.numerator w.in-Some.fraction.denominator
       (turn_is c.args.system.now.columns c.args.system.now.rows c.args.list.now c.args.x.now c.args.limit c.loop-ray.times c.loop-ray.terms.items c.loop-ray.rest.items c.loop-ray.ray-index
       w.in-Some.fraction.numerator w.in-Some.fraction.denominator _ _ _ c.requires.rays c.loop-ray.invariant.led c.loop-ray.invariant.none c.loop-ray-test.true c.ray-item.is
-      (c.deref-in-loop-ray.ensures.value ∙ c.in_ok-entries.ensures.entries) c.deref.ensures.value w.in-Some.ensures.inside w.in-Some.ensures.least)
+      c.entries.ensures.entries c.deref.ensures.value w.in-Some.ensures.inside w.in-Some.ensures.least)
       _ _ _ w.in_default-first_large.ensures.none w.times-is
       (rw w.terms-is (w.in_ok-take_ray.ensures.terms ∙ ap (λ v. map (repeated w.in-Some.fraction.denominator) c.loop-ray.terms.items ++ record { count = w.in-Some.fraction.numerator; vector = v } ∷ []) at))
       (rw w.rest-is (w.in_ok-take_ray.ensures.rest ∙ ap (λ v. difference (multiple w.in-Some.fraction.denominator c.loop-ray.rest.items) (multiple w.in-Some.fraction.numerator v)) at))
   | in_default w ↦ rw (w.times-is, w.terms-is, w.rest-is) (record {
     led = c.loop-ray.invariant.led;
     none = none_there c.args.list.now c.loop-ray.rest.items c.loop-ray.ray-index c.loop-ray.invariant.none
-        (λ h. w.in_default.ensures.none (subst₂ IsInside (sym (at_place c.args.list.now c.loop-ray.ray-index _ _ c.loop-ray-test.true c.ray-item.is (c.deref-in-loop-ray.ensures.value ∙ c.in_ok-entries.ensures.entries))) (sym c.deref.ensures.value) h));
+        (λ h. w.in_default.ensures.none (subst₂ IsInside (sym (at_place c.args.list.now c.loop-ray.ray-index _ _ c.loop-ray-test.true c.ray-item.is c.entries.ensures.entries)) (sym c.deref.ensures.value) h));
   })
 ]
 

@@ -10,13 +10,13 @@ pub repeat-requires : goal.repeat-requires
 repeat-requires c = rw c.deref_mut.ensures.value c.requires.counts
 
 pub take_out-requires-clause-lengths : goal.take_out-requires-clause-lengths
-take_out-requires-clause-lengths c = rw ((c.deref.ensures.value ∙ c.in_ok-entries.ensures.entries), c.deref_mut-2.ensures.value) c.requires.lengths
+take_out-requires-clause-lengths c = rw (c.entries.ensures.entries, c.deref_mut-2.ensures.value) c.requires.lengths
 
 pub take_out-requires-clause-fits : goal.take_out-requires-clause-fits
 take_out-requires-clause-fits c = rw c.deref_mut-2.ensures.value c.requires.fits
 
 pub take_out-requires-clause-enough : goal.take_out-requires-clause-enough
-take_out-requires-clause-enough c = rw ((c.deref.ensures.value ∙ c.in_ok-entries.ensures.entries), c.deref_mut-2.ensures.value) c.requires.enough
+take_out-requires-clause-enough c = rw (c.entries.ensures.entries, c.deref_mut-2.ensures.value) c.requires.enough
 
 pub returns-clause-terms : goal.returns-clause-terms
 returns-clause-terms c =
@@ -27,4 +27,4 @@ returns-clause-terms c =
 pub returns-clause-rest : goal.returns-clause-rest
 returns-clause-rest c =
     refilled _ _ _ (c.take_out.auto.rest ∙ ap length c.deref_mut-2.ensures.value ∙ sym c.args.rest.now.ok.0) ∙ c.take_out.ensures ∙
-    ap₂ (λ r v. difference (multiple c.args.fraction.denominator r) (multiple c.args.fraction.numerator v)) c.deref_mut-2.ensures.value (c.deref.ensures.value ∙ c.in_ok-entries.ensures.entries)
+    ap₂ (λ r v. difference (multiple c.args.fraction.denominator r) (multiple c.args.fraction.numerator v)) c.deref_mut-2.ensures.value c.entries.ensures.entries

@@ -1,7 +1,13 @@
 -- the entries so far are appended
-use Rattle.std.proofs.Common.{◌≡◌, ◌++◌, take}
+use Rattle.std.proofs.Common.{◌≡◌, ◌≤◌, ◌++◌, ◌-◌, take, length}
 use Rattle.cone_text_definitions.specs.VectorText.{entries_text}
 use Rattle.vector_text.proofs.text.push_entries.Given as goal
 
-abbrev pub invariant-loop-entry : goal.invariant-loop-entry
-invariant-loop-entry l = l.text.items ≡ l.fn.text.items ++ entries_text (take l.entry-index l.x)
+abbrev pub invariant-loop-column : goal.invariant-loop-column
+invariant-loop-column l = record {
+  in_range : l.column ≤ length l.x;
+  appended : l.text.items ≡ l.fn.text.items ++ entries_text (take l.column l.x);
+}
+
+abbrev pub decreases-loop-column : goal.decreases-loop-column
+decreases-loop-column l = length l.x - l.column

@@ -1,4 +1,4 @@
--- The entries were compared as a vector.
+-- The entries were compared.
 use Rattle.std.proofs.Common.{◌≡◌, Bool, true, false, refl, sym, ◌∙◌}
 use Rattle.std.specs.Prelude.{not}
 use Rattle.std.specs.Cmp.Lexicographic.{same_text}
@@ -9,6 +9,4 @@ unnot true e = refl
 unnot false e = sym e
 
 pub returns : goal.returns
-returns c =
-    sym c.in_ok-vector.ensures.entries ∙ sym c.as_slice.ensures.value ∙
-    same_text c.as_slice.result.now c.args.entries.now (unnot _ (sym c.if-ne.false ∙ c.ne.ensures))
+returns c = sym c.entries.ensures.entries ∙ same_text c.entries.result.now c.args.entries.now (unnot _ (sym c.if-ne.false ∙ c.ne.ensures))

@@ -1,9 +1,9 @@
 -- The entries are those of the ray in either width.
-use Rattle.std.proofs.Common.{◌≡◌, ap, ◌∙◌, sym, rules}
+use Rattle.std.proofs.Common.{◌≡◌, ap, ◌∙◌, sym}
 use Rattle.cone_core.specs.RayEntries.{numbers_of}
 use Rattle.cone_core.proofs.PartLemmas.{err_iff_large}
-use Rattle.cone_core.proofs.ray.Ray.parts.Goals as goal
-use Rattle.cone_core.proofs.ray.Ray.parts.Goals.{After-small_parts, After-parts_of}
+use Rattle.cone_core.proofs.packed.PackedRay.parts.Goals as goal
+use Rattle.cone_core.proofs.packed.PackedRay.parts.Goals.{After-small_parts, After-parts_of}
 
 small_are : (c : After-small_parts) → c.deref.result.now ≡ c.args.self.now
 small_are c = c.deref.ensures.value ∙ sym (ap numbers_of c.in-Small.is) ∙ c.self.view_is

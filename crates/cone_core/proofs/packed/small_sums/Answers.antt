@@ -2,7 +2,7 @@
 use Rattle.std.proofs.Common.{◌∙◌, Result, Option, Ok, Err, Some, None}
 use Rattle.std.specs.Prelude.{IfOk, IfSome}
 use Rattle.cone_core.proofs.FillLemmas.{name_columns}
-use Rattle.cone_core.proofs.ray.small_sums.Goals as goal
+use Rattle.cone_core.proofs.packed.small_sums.Goals as goal
 
 pub sums_at-requires-clause-names : goal.sums_at-requires-clause-names
 sums_at-requires-clause-names c fits =

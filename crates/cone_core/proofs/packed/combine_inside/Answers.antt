@@ -1,7 +1,7 @@
 use Rattle.std.proofs.Common.{refl}
 use Rattle.cone_core.proofs.EntryLemmas.{positive_divisor, combined, divided_in_place, reduced_columns}
 use Rattle.cone_core.specs.declared.numbers.TheConstants.{MAX_ENTRY}
-use Rattle.cone_core.proofs.ray.combine_inside.Goals as goal
+use Rattle.cone_core.proofs.packed.combine_inside.Goals as goal
 
 pub quotient-requires : goal.quotient-requires
 quotient-requires c = positive_divisor _ _ _ c.gcd-greatest.ensures c.requires.some_u

@@ -4,7 +4,7 @@ use Rattle.std.proofs.lemmas.Nat.Gcd.{dvd-zero}
 use Rattle.std.proofs.lemmas.Bool.{cases_eq}
 use Rattle.cone_core.specs.RayEntries.{IsReduced, numbers_of}
 use Rattle.cone_core.specs.declared.numbers.TheConstants.{MAX_ENTRY}
-use Rattle.cone_core.proofs.ray.Ray.with_new_entry.Goals as goal
+use Rattle.cone_core.proofs.packed.PackedRay.with_new_entry.Goals as goal
 
 module _ (limit : ℕ) (x : List ℕ) (column value : ℕ) (h : IsReduced limit x) (within : column < length x) (gone : slice_index x column ≡ 0) where
   entry_same : slice_index (slice_set x column value) column ≡ value

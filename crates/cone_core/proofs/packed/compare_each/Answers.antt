@@ -3,7 +3,7 @@ use Rattle.std.proofs.Common.{true, sym, subst, ap₂, ◌∙◌, arith, ◌≡�
 use Rattle.std.specs.Prelude.{◌==◌, not}
 use Rattle.std.specs.Ordering.{ordering_index}
 use Rattle.cone_core.proofs.OrderLemmas.{tied, order_more, order_here, order_ended}
-use Rattle.cone_core.proofs.ray.compare_each.Goals as goal
+use Rattle.cone_core.proofs.packed.compare_each.Goals as goal
 
 pub loop-column-preserved : goal.loop-column-preserved
 loop-column-preserved c =
