@@ -8,18 +8,22 @@ use Rattle.std.proofs.lemmas.List.Elements.{All-weaker}
 use Rattle.cone_definitions.specs.Surfaces.{Clash, IsAdmissibleUnion}
 use Rattle.cone_definitions.specs.Vectors.{IsInsideUnion, ray_at}
 use Rattle.support_bits.specs.Columns.{support_of, IsInsideUnionOf, Meets}
+use Rattle.support_table.specs.Counts.{columns_in_either}
 use Rattle.support_table.specs.Joins.{AreJoinedTo}
 use Rattle.support_table.specs.Tables.{Table}
-use Rattle.residual_pairs.specs.Residuals.{support_at, IsResidualInside, IsMinimal, AreMinimal}
+use Rattle.residual_pairs.specs.Residuals.{support_at, IsResidualInside, IsRival, IsMinimal, AreMinimal}
 use Rattle.residual_pairs.proofs.CandidateLemmas.{inside_union, inside_residual}
+use Rattle.residual_pairs.proofs.SizeLemmas.{size_within}
 use Rattle.ray_steps.specs.declared.signs.Sign.{Sign}
 use Rattle.ray_steps.specs.declared.signs.Sign.TheVariants.{Zero}
 use Rattle.ray_steps.specs.Rivals.{HasAllSupports}
+use Rattle.ray_steps.specs.Unions.{HaveSmallUnions}
 use Rattle.ray_steps.specs.Signs.{IsNegative, IsFacePair, IsSignedPair, ComesFromPlaces, IsMadeUpTo}
 use Rattle.ray_steps.proofs.CombinationLemmas.{made_next}
 use Rattle.ray_steps.proofs.PlaceLemmas.{HaveTaken}
 use Rattle.ray_steps.proofs.RivalLemmas.{apart_inside, not_face_clash}
 use Rattle.ray_steps.proofs.SupportLemmas.{inside_iff}
+use Rattle.ray_steps.proofs.UnionLemmas.{near_face}
 
 -- the places of a pair differ
 places_apart : (pairs : List Clash) (rays : List (List ℕ)) (signs : List Sign) (i j : ℕ) → IsSignedPair pairs rays signs i j → j ≢ i
@@ -27,7 +31,7 @@ places_apart pairs rays signs i j p e = subst IsNegative (sym p.negative ∙ ap 
 
 -- ---- minimal residuals make face pairs
 
-module _ (pairs : List Clash) (rays : List (List ℕ)) (i columns : ℕ) (joined : List Bool) (table : Table) (h : HasAllSupports rays columns table)
+module _ (pairs : List Clash) (rays : List (List ℕ)) (i columns most : ℕ) (joined : List Bool) (table : Table) (h : HasAllSupports rays columns table)
     (joins : AreJoinedTo pairs (support_of (ray_at rays i)) joined) (outer : List Bool) (outer_is : outer ≡ support_of (ray_at rays i)) where
   support_is : (k : ℕ) → support_at table.supports k ≡ support_of (ray_at rays k)
   support_is k = ap (λ ss. get_or ss k []) h.supports ∙ get_or-map support_of rays k []
@@ -46,7 +50,14 @@ module _ (pairs : List Clash) (rays : List (List ℕ)) (i columns : ℕ) (joined
       (subst (λ o. IsInsideUnionOf (support_at table.supports k) o (support_at table.supports j)) outer_is
       (inside_union outer (support_at table.supports k) (support_at table.supports j) inside))))
 
-  face_if_minimal : (j : ℕ) → IsMinimal table.supports outer joined i j → IsAdmissibleUnion pairs (ray_at rays i) (ray_at rays j) → IsFacePair pairs rays i j
+  -- a third ray inside the union is as near
+  third_near : (k j : ℕ) → IsRival table.supports outer joined i most j → IsResidualInside outer (support_at table.supports k) (support_at table.supports j) → columns_in_either outer (support_at table.supports k) ≤ most
+  third_near k j rival inside =
+      let near = rival.near in
+      let within = size_within outer (support_at table.supports k) (support_at table.supports j) (inside_union outer (support_at table.supports k) (support_at table.supports j) inside) in
+      omega (arith, near, within)
+
+  face_if_minimal : (j : ℕ) → IsMinimal table.supports outer joined i most j → IsAdmissibleUnion pairs (ray_at rays i) (ray_at rays j) → IsFacePair pairs rays i j
   face_if_minimal j m admissible = record {
     no_clash = admissible;
     no_third = λ k less inside. elim (cases_eq k i) [
@@ -55,16 +66,19 @@ module _ (pairs : List Clash) (rays : List (List ℕ)) (i columns : ℕ) (joined
         in_range = omega (arith, as_many);
         other = other;
         apart = subst (λ s. ¬ Meets s joined) (sym (support_is k)) (apart_inside pairs (ray_at rays k) (ray_at rays i) (ray_at rays j) joined joins admissible inside);
+        near = third_near k j m.rival (residual_from_inside k j inside);
       }) (residual_from_inside k j inside))
     ];
   }
 
-  minimal_if_face : (j : ℕ) → j < length rays → j ≢ i → IsFacePair pairs rays i j → IsMinimal table.supports outer joined i j
-  minimal_if_face j within other face = record {
+  minimal_if_face : HaveSmallUnions columns most pairs rays → i < length rays → length (ray_at rays i) ≡ columns →
+      (j : ℕ) → j < length rays → j ≢ i → IsFacePair pairs rays i j → IsMinimal table.supports outer joined i most j
+  minimal_if_face small i_in wide j within other face = record {
     rival = record {
       in_range = omega (arith, as_many);
       other = other;
       apart = subst (λ s. ¬ Meets s joined) (sym (support_is j)) (λ meets. not_face_clash pairs rays i j joined joins meets face);
+      near = near_face columns most pairs rays i j outer (support_at table.supports j) small i_in within outer_is (support_is j) wide face;
     };
     minimal = λ k rival inside. elim (face.no_third k (let l = rival.in_range in omega (arith, as_many)) (inside_from_residual k j inside)) [
       | inl e ↦ absurd (rival.other e)
@@ -72,15 +86,15 @@ module _ (pairs : List Clash) (rays : List (List ℕ)) (i columns : ℕ) (joined
     ];
   }
 
-  pub found_in_range : (places : List ℕ) (k d : ℕ) → AreMinimal table.supports outer joined i places → k < length places → get_or places k d < length rays
+  pub found_in_range : (places : List ℕ) (k d : ℕ) → AreMinimal table.supports outer joined i most places → k < length places → get_or places k d < length rays
   found_in_range places k d m within = let less = (m.each k d within).rival.in_range in omega (arith, as_many)
 
-  pub found_face : (places : List ℕ) (k d : ℕ) → AreMinimal table.supports outer joined i places → k < length places →
+  pub found_face : (places : List ℕ) (k d : ℕ) → AreMinimal table.supports outer joined i most places → k < length places →
       IsAdmissibleUnion pairs (ray_at rays i) (ray_at rays (get_or places k d)) → IsFacePair pairs rays i (get_or places k d)
   found_face places k d m within = face_if_minimal (get_or places k d) (m.each k d within)
 
-  pub pairs_found : (signs : List Sign) (places : List ℕ) → AreMinimal table.supports outer joined i places → (w : ℕ) → IsSignedPair pairs rays signs i w → Contains places w
-  pairs_found signs places m w p = m.complete w (minimal_if_face w p.w_in_range (places_apart pairs rays signs i w p) p.face)
+  pub pairs_found : HaveSmallUnions columns most pairs rays → i < length rays → length (ray_at rays i) ≡ columns → (signs : List Sign) (places : List ℕ) → AreMinimal table.supports outer joined i most places → (w : ℕ) → IsSignedPair pairs rays signs i w → Contains places w
+  pairs_found small i_in wide signs places m w p = m.complete w (minimal_if_face small i_in wide w p.w_in_range (places_apart pairs rays signs i w p) p.face)
 
 -- ---- the found places in turn
 

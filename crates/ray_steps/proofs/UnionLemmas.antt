@@ -1,5 +1,5 @@
 -- The union of a pair has at most two columns more than there are rows.
-use Rattle.std.proofs.Common.{◌≡◌, ℕ, ◌+◌, ◌<◌, List, Bool, length, subst, arith}
+use Rattle.std.proofs.Common.{◌≡◌, ℕ, ◌+◌, ◌<◌, ◌≤◌, List, Bool, length, subst, arith}
 use Rattle.cone_definitions.specs.Rows.{Row}
 use Rattle.cone_definitions.specs.Surfaces.{Clash, IsSurfaceList}
 use Rattle.cone_definitions.specs.Vectors.{ray_at}
@@ -14,12 +14,19 @@ use Rattle.support_table.proofs.BitCounts.{columns_of_vectors}
 pub small_unions : (columns : ℕ) (rows : List Row) (pairs : List Clash) (rays : List (List ℕ)) → IsSurfaceList columns rows pairs rays → HaveSmallUnions columns (length rows + 2) pairs rays
 small_unions columns rows pairs rays h i j i_in j_in face = places_bound columns rows pairs rays h i j i_in j_in face.no_clash face.no_third
 
+-- the union of a pair has few columns, as the supports have it
+pub near_face : (columns most : ℕ) (pairs : List Clash) (rays : List (List ℕ)) (i j : ℕ) (a b : List Bool) → HaveSmallUnions columns most pairs rays →
+    i < length rays → j < length rays → a ≡ support_of (ray_at rays i) → b ≡ support_of (ray_at rays j) → length (ray_at rays i) ≡ columns →
+    IsFacePair pairs rays i j → columns_in_either a b ≤ most
+near_face columns most pairs rays i j a b small i_in j_in a_is b_is wide face =
+    let bound = small i j i_in j_in face in
+    let e : columns_in_either a b ≡ union_size columns (ray_at rays i) (ray_at rays j) = subst (λ n. columns_in_either a b ≡ union_size n (ray_at rays i) (ray_at rays j)) wide
+    (columns_of_vectors a b (ray_at rays i) (ray_at rays j) a_is b_is) in
+    omega (arith, bound, e)
+
 -- places whose union has more columns are no pair
 pub not_face_large : (columns most : ℕ) (pairs : List Clash) (rays : List (List ℕ)) (i j : ℕ) (a b : List Bool) → HaveSmallUnions columns most pairs rays →
     i < length rays → j < length rays → a ≡ support_of (ray_at rays i) → b ≡ support_of (ray_at rays j) → length (ray_at rays i) ≡ columns →
     most < columns_in_either a b → ¬ IsFacePair pairs rays i j
 not_face_large columns most pairs rays i j a b small i_in j_in a_is b_is wide large face =
-    let bound = small i j i_in j_in face in
-    let e : columns_in_either a b ≡ union_size columns (ray_at rays i) (ray_at rays j) = subst (λ n. columns_in_either a b ≡ union_size n (ray_at rays i) (ray_at rays j)) wide
-    (columns_of_vectors a b (ray_at rays i) (ray_at rays j) a_is b_is) in
-    omega (arith, bound, e, large)
+    let near = near_face columns most pairs rays i j a b small i_in j_in a_is b_is wide face in omega (arith, near, large)

@@ -235,7 +235,7 @@ impl<'a, C: Compatible> Step<'a, C> {
         let clashes = self.clashes;
         let u = &self.ray_list[i];
         let joined = clashes.joined(alloc, &u.support)?;
-        let places = minimal_places(alloc, supports, &u.support, &joined, i)?;
+        let places = minimal_places(alloc, supports, &u.support, &joined, i, self.most)?;
         for place in &places {
             self.combine_found(alloc, i, *place, made)?;
         }

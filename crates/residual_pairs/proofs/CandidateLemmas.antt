@@ -37,11 +37,11 @@ apart_places rivals up i j d less within same =
     let before : (get_or rivals i z).place < (get_or rivals j z).place = up i j z less j_in in
     omega (arith, one, other, before, same)
 
-module _ (supports : List (List Bool)) (outer joined : List Bool) (own single : ℕ) (rivals left : List Rival) (marks : List ℕ)
-    (h : AreRivals supports outer joined own (length supports) rivals) (m : AreMarks supports outer single rivals marks) (u : AreUnhit supports marks single rivals left)
+module _ (supports : List (List Bool)) (outer joined : List Bool) (own most single : ℕ) (rivals left : List Rival) (marks : List ℕ)
+    (h : AreRivals supports outer joined own most (length supports) rivals) (m : AreMarks supports outer single rivals marks) (u : AreUnhit supports marks single rivals left)
     (single_is : single ≡ columns_in_either outer outer + 1) where
-  sized : (r : Rival) → Contains rivals r → IsSized supports outer joined own r
-  sized r listed = All-contains (IsSized supports outer joined own) rivals r h.each listed
+  sized : (r : Rival) → Contains rivals r → IsSized supports outer joined own most r
+  sized r listed = All-contains (IsSized supports outer joined own most) rivals r h.each listed
 
   -- of a residual that is hit none is hit that contains it
   hit_inside : (r t : Rival) → Contains rivals r → Contains rivals t → IsInsideUnionOf (support_at supports t.place) outer (support_at supports r.place) → IsHit supports marks single t → IsHit supports marks single r
@@ -54,7 +54,7 @@ module _ (supports : List (List Bool)) (outer joined : List Bool) (own single : 
   }
 
   -- and none is minimal
-  hit_not_minimal : (t : Rival) → Contains rivals t → IsHit supports marks single t → IsMinimal supports outer joined own t.place → ⊥
+  hit_not_minimal : (t : Rival) → Contains rivals t → IsHit supports marks single t → IsMinimal supports outer joined own most t.place → ⊥
   hit_not_minimal t listed hit minimal =
       let mark = m.each hit.column hit.marked in
       let s = sized mark.rival mark.listed in
@@ -67,17 +67,17 @@ module _ (supports : List (List Bool)) (outer joined : List Bool) (own single : 
       let more = hit.more in
       omega (arith, sizes, few, more)
 
-  pub candidates_left : AreCandidates supports outer joined own left
+  pub candidates_left : AreCandidates supports outer joined own most left
   candidates_left = record {
     each = λ k d within. sized (get_or left k d) (u.each k d within).0;
     apart = apart_places left (u.ascending h.ascending);
     closed = closed;
     complete = λ place minimal.
         let t = h.complete place minimal.rival.in_range minimal.rival in
-        (t.0, u.complete t.0 t.1 (λ hit. hit_not_minimal t.0 t.1 hit (subst (IsMinimal supports outer joined own) (sym t.2) minimal)), t.2);
+        (t.0, u.complete t.0 t.1 (λ hit. hit_not_minimal t.0 t.1 hit (subst (IsMinimal supports outer joined own most) (sym t.2) minimal)), t.2);
   }
     where
-      closed : (r : Rival) (place : ℕ) → Contains left r → IsRival supports joined own place → IsInsideUnionOf (support_at supports place) outer (support_at supports r.place) → HasPlace left place
+      closed : (r : Rival) (place : ℕ) → Contains left r → IsRival supports outer joined own most place → IsInsideUnionOf (support_at supports place) outer (support_at supports r.place) → HasPlace left place
       closed r place listed rival inside =
           let t = h.complete place rival.in_range rival in
           let kept = All-contains (λ r. Contains rivals r × (¬ IsHit supports marks single r)) left r u.each listed in
@@ -85,10 +85,10 @@ module _ (supports : List (List Bool)) (outer joined : List Bool) (own single : 
 
 -- ---- in the order of their sizes
 
-pub candidates_moved : (supports : List (List Bool)) (outer joined : List Bool) (own : ℕ) (before after : List Rival) → IsPermutation before after →
-    AreCandidates supports outer joined own before → AreCandidates supports outer joined own after
-candidates_moved supports outer joined own before after moves h = record {
-  each = All-permutation (IsSized supports outer joined own) before after moves h.each;
+pub candidates_moved : (supports : List (List Bool)) (outer joined : List Bool) (own most : ℕ) (before after : List Rival) → IsPermutation before after →
+    AreCandidates supports outer joined own most before → AreCandidates supports outer joined own most after
+candidates_moved supports outer joined own most before after moves h = record {
+  each = All-permutation (IsSized supports outer joined own most) before after moves h.each;
   apart = apart_permutation (map (λ (r : Rival). r.place) before) (map (λ (r : Rival). r.place) after) (IsPermutation-map (λ (r : Rival). r.place) before after moves) h.apart;
   closed = λ r place listed rival inside. let back = was r listed in let t = h.closed r place back rival inside in (t.0, Contains-permutation before after t.0 moves t.1, t.2);
   complete = λ place minimal. let t = h.complete place minimal in (t.0, Contains-permutation before after t.0 moves t.1, t.2);
@@ -97,9 +97,9 @@ candidates_moved supports outer joined own before after moves h = record {
     was : (r : Rival) → Contains after r → Contains before r
     was r listed = All-contains (Contains before) after r (All-permutation (Contains before) before after moves (All-contains_itself before)) listed
 
-pub in_order_from_sorted : (supports : List (List Bool)) (outer joined : List Bool) (own : ℕ) (order : List Rival) → AreCandidates supports outer joined own order →
+pub in_order_from_sorted : (supports : List (List Bool)) (outer joined : List Bool) (own most : ℕ) (order : List Rival) → AreCandidates supports outer joined own most order →
     IsNonDecreasingBy (λ (r : Rival). r.size) order → AreInOrder supports outer order
-in_order_from_sorted supports outer joined own order h up = record {
+in_order_from_sorted supports outer joined own most order h up = record {
   found = λ k d within. (h.each k d within).rival.in_range;
   wide = λ k d within. (h.each k d within).wide;
   sized = λ k d within. (h.each k d within).size;
@@ -137,10 +137,10 @@ module _ (least : Least) (n : ℕ) (places : List ℕ) (h : AreAlone least n pla
 
 -- ---- the minimal ones
 
-module _ (supports : List (List Bool)) (outer joined : List Bool) (own : ℕ) (order : List Rival) (c : AreCandidates supports outer joined own order) (o : AreInOrder supports outer order)
+module _ (supports : List (List Bool)) (outer joined : List Bool) (own most : ℕ) (order : List Rival) (c : AreCandidates supports outer joined own most order) (o : AreInOrder supports outer order)
     (least : Least) (h : AreLeast supports outer order (length order) least) where
   -- one of least residual that no other doubles is minimal
-  pub minimal_from_alone : (i : ℕ) → i < length least.rivals.items → get_or least.doubled.items i false ≡ false → IsMinimal supports outer joined own (rival_at least.rivals.items i).place
+  pub minimal_from_alone : (i : ℕ) → i < length least.rivals.items → get_or least.doubled.items i false ≡ false → IsMinimal supports outer joined own most (rival_at least.rivals.items i).place
   minimal_from_alone i i_in single = record {
     rival = rival;
     minimal = λ k is inside. only k (c.closed (rival_at least.rivals.items i) k listed is (inside_union outer (support_at supports k) (support_at supports (rival_at least.rivals.items i).place) inside))
@@ -153,8 +153,8 @@ module _ (supports : List (List Bool)) (outer joined : List Bool) (own : ℕ) (o
       listed : Contains order (rival_at least.rivals.items i)
       listed = subst (Contains order) stands.2 (Contains-get_or order stands.0 (record { place = 0; size = 0 }) stands.1)
 
-      rival : IsRival supports joined own (rival_at least.rivals.items i).place
-      rival = (All-contains (IsSized supports outer joined own) order (rival_at least.rivals.items i) c.each listed).rival
+      rival : IsRival supports outer joined own most (rival_at least.rivals.items i).place
+      rival = (All-contains (IsSized supports outer joined own most) order (rival_at least.rivals.items i) c.each listed).rival
 
       only : (k : ℕ) → HasPlace order k → IsInsideUnionOf (support_at supports k) outer (support_at supports (rival_at least.rivals.items i).place) → k ≡ (rival_at least.rivals.items i).place
       only k t inside = elim cover.how [
@@ -181,7 +181,7 @@ module _ (supports : List (List Bool)) (outer joined : List Bool) (own : ℕ) (o
               (subst (LiesInside supports outer (rival_at least.rivals.items cover.place)) at cover.inside) t_inside)
 
   -- and a minimal one is among them
-  pub alone_from_minimal : (place : ℕ) → IsMinimal supports outer joined own place → (i : ℕ) × (i < length least.rivals.items) × (get_or least.doubled.items i false ≡ false) × ((rival_at least.rivals.items i).place ≡ place)
+  pub alone_from_minimal : (place : ℕ) → IsMinimal supports outer joined own most place → (i : ℕ) × (i < length least.rivals.items) × (get_or least.doubled.items i false ≡ false) × ((rival_at least.rivals.items i).place ≡ place)
   alone_from_minimal place minimal = (cover.place, cover.in_range, single, is)
     where
       t : HasPlace order place
@@ -196,14 +196,14 @@ module _ (supports : List (List Bool)) (outer joined : List Bool) (own : ℕ) (o
       place_is : (rival_at order t.1.0).place ≡ place
       place_is = ap (λ (r : Rival). r.place) at ∙ t.2
 
-      ordered : (k : ℕ) → k < length order → IsRival supports joined own (rival_at order k).place
+      ordered : (k : ℕ) → k < length order → IsRival supports outer joined own most (rival_at order k).place
       ordered k within = (c.each k (record { place = 0; size = 0 }) within).rival
 
       stands : (k : ℕ) × (k < length order) × (rival_at order k ≡ rival_at least.rivals.items cover.place)
       stands = h.from cover.place cover.in_range
 
       is : (rival_at least.rivals.items cover.place).place ≡ place
-      is = minimal.minimal (rival_at least.rivals.items cover.place).place (subst (λ (r : Rival). IsRival supports joined own r.place) stands.2 (ordered stands.0 stands.1))
+      is = minimal.minimal (rival_at least.rivals.items cover.place).place (subst (λ (r : Rival). IsRival supports outer joined own most r.place) stands.2 (ordered stands.0 stands.1))
           (inside_residual outer (support_at supports (rival_at least.rivals.items cover.place).place) (support_at supports place)
           (subst (λ k. IsInsideUnionOf (support_at supports (rival_at least.rivals.items cover.place).place) outer (support_at supports k)) place_is cover.inside))
 
@@ -223,10 +223,10 @@ module _ (supports : List (List Bool)) (outer joined : List Bool) (own : ℕ) (o
       omega (arith, e, less)
 
   pub are_minimal : (before after : List ℕ) → AreAlone least (length least.rivals.items) before → IsPermutation before after → IsNonDecreasingBy (λ p. p) after →
-      AreMinimal supports outer joined own after
+      AreMinimal supports outer joined own most after
   are_minimal before after alone moves up = record {
-    each = All-permutation (IsMinimal supports outer joined own) before after moves
-        (λ k d within. let s = alone.each k d within in subst (IsMinimal supports outer joined own) s.3 (minimal_from_alone s.0 s.1 s.2));
+    each = All-permutation (IsMinimal supports outer joined own most) before after moves
+        (λ k d within. let s = alone.each k d within in subst (IsMinimal supports outer joined own most) s.3 (minimal_from_alone s.0 s.1 s.2));
     ascending = λ i j d less within. let differ = apart_permutation before after moves (alone.apart least_differ) i j d less within in
         let order = up i j d (omega arith) within in omega (arith, differ, order);
     complete = λ place minimal. let s = alone_from_minimal place minimal in

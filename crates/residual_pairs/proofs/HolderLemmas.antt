@@ -171,21 +171,21 @@ module _ (supports : List (List Bool)) (columns : List Bool) where
     }
 
   -- rays that have one of the columns are passed over
-  pub rivals_past : (outer : List Bool) (own n d : ℕ) (rivals : List Rival) → ((i : ℕ) → i < d → Meets (support_at supports (n + i)) columns) → AreRivals supports outer columns own n rivals → AreRivals supports outer columns own (n + d) rivals
-  rivals_past outer own n zero rivals meet h = subst (λ k. AreRivals supports outer columns own k rivals) {x = n} {y = n + 0} (omega arith) h
-  rivals_past outer own n (suc d) rivals meet h =
-      subst (λ k. AreRivals supports outer columns own k rivals) {x = n + 1 + d} {y = n + suc d} (omega arith)
-      (rivals_past outer own (n + 1) d rivals (λ i less. let e : n + suc i ≡ n + 1 + i = omega arith in subst (λ k. Meets (support_at supports k) columns) e (meet (suc i) (omega arith)))
-      (rival_skip supports outer columns own n rivals h (λ r. r.apart (let e : n + 0 ≡ n = omega arith in subst (λ k. Meets (support_at supports k) columns) e (meet 0 (omega arith))))))
+  pub rivals_past : (outer : List Bool) (own most n d : ℕ) (rivals : List Rival) → ((i : ℕ) → i < d → Meets (support_at supports (n + i)) columns) → AreRivals supports outer columns own most n rivals → AreRivals supports outer columns own most (n + d) rivals
+  rivals_past outer own most n zero rivals meet h = subst (λ k. AreRivals supports outer columns own most k rivals) {x = n} {y = n + 0} (omega arith) h
+  rivals_past outer own most n (suc d) rivals meet h =
+      subst (λ k. AreRivals supports outer columns own most k rivals) {x = n + 1 + d} {y = n + suc d} (omega arith)
+      (rivals_past outer own most (n + 1) d rivals (λ i less. let e : n + suc i ≡ n + 1 + i = omega arith in subst (λ k. Meets (support_at supports k) columns) e (meet (suc i) (omega arith)))
+      (rival_skip supports outer columns own most n rivals h (λ r. r.apart (let e : n + 0 ≡ n = omega arith in subst (λ k. Meets (support_at supports k) columns) e (meet 0 (omega arith))))))
 
-  pub rivals_to_end : (outer : List Bool) (own first place : ℕ) (rivals : List Rival) → place ≤ first + 64 → NamesApart supports columns place (first + 64) 0 → AreRivals supports outer columns own place rivals →
-      AreRivals supports outer columns own (first + 64) rivals
-  rivals_to_end outer own first place rivals most names h =
-      subst (λ k. AreRivals supports outer columns own k rivals) {x = place + (first + 64 - place)} {y = first + 64} (omega arith)
-      (rivals_past outer own place (first + 64 - place) rivals (λ i less. names.unset i (bit_at-zero i) (omega arith)) h)
+  pub rivals_to_end : (outer : List Bool) (own most first place : ℕ) (rivals : List Rival) → place ≤ first + 64 → NamesApart supports columns place (first + 64) 0 → AreRivals supports outer columns own most place rivals →
+      AreRivals supports outer columns own most (first + 64) rivals
+  rivals_to_end outer own most first place rivals low names h =
+      subst (λ k. AreRivals supports outer columns own most k rivals) {x = place + (first + 64 - place)} {y = first + 64} (omega arith)
+      (rivals_past outer own most place (first + 64 - place) rivals (λ i less. names.unset i (bit_at-zero i) (omega arith)) h)
 
-  pub rivals_all : (outer : List Bool) (own n : ℕ) (rivals : List Rival) → length supports ≤ n → AreRivals supports outer columns own n rivals → AreRivals supports outer columns own (length supports) rivals
-  rivals_all outer own n rivals all h = record {
+  pub rivals_all : (outer : List Bool) (own most n : ℕ) (rivals : List Rival) → length supports ≤ n → AreRivals supports outer columns own most n rivals → AreRivals supports outer columns own most (length supports) rivals
+  rivals_all outer own most n rivals all h = record {
     each = h.each;
     below = λ k d within. (h.each k d within).rival.in_range;
     ascending = h.ascending;

@@ -8,13 +8,13 @@ use Rattle.residual_pairs.specs.declared.rivals.Rival.{Rival}
 use Rattle.residual_pairs.specs.Residuals.{IsRival}
 use Rattle.residual_pairs.specs.Rivals.{IsSized, AreRivals}
 
-module _ (supports : List (List Bool)) (outer joined : List Bool) (own n : ℕ) (rivals : List Rival) (h : AreRivals supports outer joined own n rivals) where
+module _ (supports : List (List Bool)) (outer joined : List Bool) (own most n : ℕ) (rivals : List Rival) (h : AreRivals supports outer joined own most n rivals) where
   still_below : All (λ (r : Rival). r.place < n + 1) rivals
   still_below k d within = let less = h.below k d within in omega arith
 
-  pub rival_push : (r : Rival) → r.place ≡ n → IsSized supports outer joined own r → AreRivals supports outer joined own (n + 1) (rivals ++ r ∷ [])
+  pub rival_push : (r : Rival) → r.place ≡ n → IsSized supports outer joined own most r → AreRivals supports outer joined own most (n + 1) (rivals ++ r ∷ [])
   rival_push r at sized = record {
-    each = All-push (IsSized supports outer joined own) rivals r h.each sized;
+    each = All-push (IsSized supports outer joined own most) rivals r h.each sized;
     below = All-push (λ (r : Rival). r.place < n + 1) rivals r still_below (omega (arith, at));
     ascending = all_pairs_push (λ (r s : Rival). r.place < s.place) rivals r h.ascending (λ k d within. subst (λ m. (get_or rivals k d).place < m) (sym at) (h.below k d within));
     complete = λ place less rival. ⊎_elim
@@ -23,13 +23,13 @@ module _ (supports : List (List Bool)) (outer joined : List Bool) (own n : ℕ) 
         (cases_lt place n);
   }
 
-  pub rival_skip : ¬ IsRival supports joined own n → AreRivals supports outer joined own (n + 1) rivals
+  pub rival_skip : ¬ IsRival supports outer joined own most n → AreRivals supports outer joined own most (n + 1) rivals
   rival_skip none = record {
     each = h.each;
     below = still_below;
     ascending = h.ascending;
     complete = λ place less rival. ⊎_elim
         (λ old. h.complete place old rival)
-        (λ last. let e : place ≡ n = omega arith in absurd (none (subst (IsRival supports joined own) e rival)))
+        (λ last. let e : place ≡ n = omega arith in absurd (none (subst (IsRival supports outer joined own most) e rival)))
         (cases_lt place n);
   }

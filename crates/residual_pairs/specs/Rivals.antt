@@ -10,8 +10,8 @@ use Rattle.residual_pairs.specs.Holders.{TellsMeeting}
 use Rattle.residual_pairs.specs.Residuals.{support_at, IsRival, IsMinimal}
 
 -- a rival with the number of columns that it and the outer ray have together
-pub record IsSized (supports : List (List Bool)) (outer joined : List Bool) (own : ℕ) (r : Rival) : Type 0 where
-  pub rival : IsRival supports joined own r.place
+pub record IsSized (supports : List (List Bool)) (outer joined : List Bool) (own most : ℕ) (r : Rival) : Type 0 where
+  pub rival : IsRival supports outer joined own most r.place
   pub wide : length (support_at supports r.place) ≡ length outer
   pub size : r.size ≡ columns_in_either outer (support_at supports r.place)
 
@@ -20,11 +20,11 @@ abbrev pub HasPlace : List Rival → ℕ → Type 0
 HasPlace rivals place = (r : Rival) × Contains rivals r × (r.place ≡ place)
 
 -- the rivals at places below n, ascending
-pub record AreRivals (supports : List (List Bool)) (outer joined : List Bool) (own n : ℕ) (rivals : List Rival) : Type 0 where
-  pub each : All (IsSized supports outer joined own) rivals
+pub record AreRivals (supports : List (List Bool)) (outer joined : List Bool) (own most n : ℕ) (rivals : List Rival) : Type 0 where
+  pub each : All (IsSized supports outer joined own most) rivals
   pub below : All (λ r. r.place < n) rivals
   pub ascending : AllPairs (λ r s. r.place < s.place) rivals
-  pub complete : (place : ℕ) → place < n → IsRival supports joined own place → HasPlace rivals place
+  pub complete : (place : ℕ) → place < n → IsRival supports outer joined own most place → HasPlace rivals place
 
 -- each has its place in the list
 abbrev pub AreFound : List (List Bool) → List Rival → Type 0
@@ -62,11 +62,11 @@ pub record AreUnhit (supports : List (List Bool)) (marks : List ℕ) (single : �
   pub complete : (r : Rival) → Contains rivals r → (¬ IsHit supports marks single r) → Contains left r
 
 -- rivals of which none is missing that lies inside another or is minimal
-pub record AreCandidates (supports : List (List Bool)) (outer joined : List Bool) (own : ℕ) (candidates : List Rival) : Type 0 where
-  pub each : All (IsSized supports outer joined own) candidates
+pub record AreCandidates (supports : List (List Bool)) (outer joined : List Bool) (own most : ℕ) (candidates : List Rival) : Type 0 where
+  pub each : All (IsSized supports outer joined own most) candidates
   pub apart : AllPairs (λ p q. p ≢ q) (map (λ r. r.place) candidates)
-  pub closed : (r : Rival) (place : ℕ) → Contains candidates r → IsRival supports joined own place → IsInsideUnionOf (support_at supports place) outer (support_at supports r.place) → HasPlace candidates place
-  pub complete : (place : ℕ) → IsMinimal supports outer joined own place → HasPlace candidates place
+  pub closed : (r : Rival) (place : ℕ) → Contains candidates r → IsRival supports outer joined own most place → IsInsideUnionOf (support_at supports place) outer (support_at supports r.place) → HasPlace candidates place
+  pub complete : (place : ℕ) → IsMinimal supports outer joined own most place → HasPlace candidates place
 
 -- the rival at a place of a list
 abbrev pub rival_at : List Rival → ℕ → Rival
@@ -134,12 +134,12 @@ pub record AreAlone (least : Least) (n : ℕ) (places : List ℕ) : Type 0 where
       AllPairs (λ p q. p ≢ q) places
   pub complete : (i : ℕ) → i < n → slice_index_or least.doubled.items i false ≡ false → Contains places (rival_at least.rivals.items i).place
 
--- the ray at a place, with none of some columns, is one of the rivals unless it is the outer one
-abbrev pub IsRivalPushed : List (List Bool) → List Bool → ℕ → ℕ → List Rival → List Rival → Type 0
-IsRivalPushed supports outer own place old new = (joined : List Bool) → ¬ Meets (support_at supports place) joined → AreRivals supports outer joined own place old →
-    AreRivals supports outer joined own (place + 1) new
+-- the ray at a place, with none of some columns, is one of the rivals unless it is the outer one or has more columns together with it
+abbrev pub IsRivalPushed : List (List Bool) → List Bool → ℕ → ℕ → ℕ → List Rival → List Rival → Type 0
+IsRivalPushed supports outer own most place old new = (joined : List Bool) → ¬ Meets (support_at supports place) joined → AreRivals supports outer joined own most place old →
+    AreRivals supports outer joined own most (place + 1) new
 
 -- the rivals at 64 places more
-abbrev pub AreRivalsPushed : List (List Bool) → List Bool → ℕ → ℕ → ℕ → List Rival → List Rival → Type 0
-AreRivalsPushed supports outer own first word old new = (joined : List Bool) → TellsMeeting supports joined first word → AreRivals supports outer joined own first old →
-    AreRivals supports outer joined own (first + 64) new
+abbrev pub AreRivalsPushed : List (List Bool) → List Bool → ℕ → ℕ → ℕ → ℕ → List Rival → List Rival → Type 0
+AreRivalsPushed supports outer own most first word old new = (joined : List Bool) → TellsMeeting supports joined first word → AreRivals supports outer joined own most first old →
+    AreRivals supports outer joined own most (first + 64) new

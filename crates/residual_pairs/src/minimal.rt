@@ -30,12 +30,13 @@ fn candidates(
     outer: &Support,
     joined: &Support,
     own: usize,
+    most: u64,
 ) -> Result<Vec<Rival>, NoMemory>
     requires outer { length outer.now ≡ rays.now.columns }
     requires joined { length joined.now ≡ rays.now.columns }
-    ensures { IfOk result (λ candidates. AreCandidates rays.now.supports outer.now joined.now own candidates.items) }
+    ensures { IfOk result (λ candidates. AreCandidates rays.now.supports outer.now joined.now own most candidates.items) }
 {
-    let rivals = rivals_of(alloc, rays, outer, joined, own)?;
+    let rivals = rivals_of(alloc, rays, outer, joined, own, most)?;
     let table = rays.table();
     let single = single_size(outer);
     let marks = marks_of(alloc, table, outer, single, &rivals)?;
@@ -66,19 +67,21 @@ fn alone(alloc: Global, least: &Least) -> Result<Vec<usize>, NoMemory>
 
 /// Of the rays of a table the places, ascending, of those whose residual, their columns beside those of an outer ray, contains
 /// that of no other rival: no third ray lies inside the union of the outer ray and such a one. The outer ray stands at `own`,
-/// and rivals are the other rays with none of the `joined` columns, which clash with one of it. Without memory there are none.
+/// and rivals are the other rays with none of the `joined` columns, which clash with one of it, and with at most `most` columns
+/// together with it. Without memory there are none.
 pub fn minimal_places(
     alloc: Global,
     rays: &RayTable,
     outer: &Support,
     joined: &Support,
     own: usize,
+    most: u64,
 ) -> Result<Vec<usize>, NoMemory>
     requires outer { length outer.now ≡ rays.now.columns }
     requires joined { length joined.now ≡ rays.now.columns }
-    ensures { IfOk result (λ places. AreMinimal rays.now.supports outer.now joined.now own places.items) }
+    ensures { IfOk result (λ places. AreMinimal rays.now.supports outer.now joined.now own most places.items) }
 {
-    let mut order = candidates(alloc, rays, outer, joined, own)?;
+    let mut order = candidates(alloc, rays, outer, joined, own, most)?;
     sort_by_size(&mut order);
     let least = least_of(alloc, rays.table(), outer, &order)?;
     let mut places = alone(alloc, &least)?;

@@ -1,4 +1,5 @@
-// The rivals of an outer ray: the other rays that have none of the columns that clash with one of it.
+// The rivals of an outer ray: the other rays that have none of the columns that clash with one of it, and few columns together
+// with it.
 
 ghost use Rattle.std.specs.Prelude.{◌≡◌, ◌+◌, ◌<◌, ◌^◌, length, IfOk, OnOk};
 ghost use Rattle.residual_pairs.specs.Rivals.{AreRivals, IsRivalPushed, AreRivalsPushed};
@@ -16,20 +17,23 @@ pub struct Rival {
     pub size: u64,
 }
 
-/// Appends the ray at a place, where there is one other than the outer one.
+/// Appends the ray at a place, where there is one other than the outer one, and both have at most so many columns.
 fn push_rival(
     table: &SupportTable,
     outer: &Support,
     own: usize,
+    most: u64,
     place: usize,
     rivals: &mut Vec<Rival>,
 ) -> Result<(), NoMemory>
     requires { length outer.now ≡ table.now.columns }
-    ensures { OnOk result (IsRivalPushed table.now.supports outer.now own place rivals.old.items rivals.new.items) }
+    ensures { OnOk result (IsRivalPushed table.now.supports outer.now own most place rivals.old.items rivals.new.items) }
 {
     if place != own && place < table.len() {
         let size = table.union_count(place, outer);
-        rivals.push(Rival { place, size })?;
+        if size <= most {
+            rivals.push(Rival { place, size })?;
+        }
     }
     Ok(())
 }
@@ -39,20 +43,21 @@ fn push_rivals(
     table: &SupportTable,
     outer: &Support,
     own: usize,
+    most: u64,
     first: usize,
     word: u64,
     rivals: &mut Vec<Rival>,
 ) -> Result<(), NoMemory>
     requires outer { length outer.now ≡ table.now.columns }
     requires room { first + 64 < 2 ^ 64 }
-    ensures { OnOk result (AreRivalsPushed table.now.supports outer.now own first word rivals.old.items rivals.new.items) }
+    ensures { OnOk result (AreRivalsPushed table.now.supports outer.now own most first word rivals.old.items rivals.new.items) }
 {
     let mut rest = !word;
     let mut place = first;
     while rest != 0 {
         let skip = rest.trailing_zeros();
         let next = place + skip as usize;
-        push_rival(table, outer, own, next, rivals)?;
+        push_rival(table, outer, own, most, next, rivals)?;
         rest = (rest >> skip) >> 1;
         place = next + 1;
     }
@@ -66,17 +71,18 @@ pub fn rivals_of(
     outer: &Support,
     joined: &Support,
     own: usize,
+    most: u64,
 ) -> Result<Vec<Rival>, NoMemory>
     requires outer { length outer.now ≡ rays.now.columns }
     requires joined { length joined.now ≡ rays.now.columns }
-    ensures { IfOk result (λ rivals. AreRivals rays.now.supports outer.now joined.now own (length rays.now.supports) rivals.items) }
+    ensures { IfOk result (λ rivals. AreRivals rays.now.supports outer.now joined.now own most (length rays.now.supports) rivals.items) }
 {
     let places = rays.meeting(alloc, joined)?;
     let _count = places.columns();
     let table = rays.table();
     let mut rivals = Vec::new(alloc);
     for (k, word) in places.words().iter().enumerate() {
-        push_rivals(table, outer, own, 64 * k, *word, &mut rivals)?;
+        push_rivals(table, outer, own, most, 64 * k, *word, &mut rivals)?;
     }
     Ok(rivals)
 }

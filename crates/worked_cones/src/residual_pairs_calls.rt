@@ -17,12 +17,13 @@ fn smallest_beside_the_first(rt: HostRuntime) -> Result<(), NoMemory> {
     table.push(&joined)?;
     let rays = RayTable::of(alloc, table, 5)?;
     assert_eq!(rt; rays.meeting(alloc, &joined)?.words(), &[16u64][..]);
-    let places = minimal_places(alloc, &rays, &outer, &joined, 0)?;
+    let places = minimal_places(alloc, &rays, &outer, &joined, 0, 5)?;
     assert_eq!(rt; places.as_slice(), &[1usize, 2][..]);
     Ok(())
 }
 
-// Beside the first ray, the second and third have the same column more, which spoils both.
+// Beside the first ray, the second and third have the same column more, which spoils both. The fourth is far where three
+// columns are the most.
 #[test]
 fn equal_ones_spoil_each_other(rt: HostRuntime) -> Result<(), NoMemory> {
     let alloc = rt.alloc();
@@ -34,7 +35,9 @@ fn equal_ones_spoil_each_other(rt: HostRuntime) -> Result<(), NoMemory> {
     table.push(&Support::of(alloc, &[1, 0, 1, 0, 0])?)?;
     table.push(&Support::of(alloc, &[0, 0, 0, 1, 1])?)?;
     let rays = RayTable::of(alloc, table, 4)?;
-    let places = minimal_places(alloc, &rays, &outer, &none, 0)?;
+    let places = minimal_places(alloc, &rays, &outer, &none, 0, 5)?;
     assert_eq!(rt; places.as_slice(), &[3usize][..]);
+    let near = minimal_places(alloc, &rays, &outer, &none, 0, 3)?;
+    assert!(rt; near.is_empty());
     Ok(())
 }

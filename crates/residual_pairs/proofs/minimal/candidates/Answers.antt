@@ -14,8 +14,8 @@ returns c =
     let single = c.single_size-single.result in
     let rivals = c.in_ok-rivals.rivals.items in
     let marks = c.in_ok-marks.marks.items in
-    IfOk-weaker c.unhit.result (λ left. AreUnhit supports marks single rivals left.items) (λ left. AreCandidates supports outer joined c.args.own left.items)
-    (λ left h. candidates_left supports outer joined c.args.own single rivals left.items marks c.in_ok-rivals.ensures
+    IfOk-weaker c.unhit.result (λ left. AreUnhit supports marks single rivals left.items) (λ left. AreCandidates supports outer joined c.args.own c.args.most left.items)
+    (λ left h. candidates_left supports outer joined c.args.own c.args.most single rivals left.items marks c.in_ok-rivals.ensures
     (subst (λ (t : Table). AreMarks t.supports outer single rivals marks) c.table-table.ensures
     (subst (λ rs. AreMarks c.table-table.result.now.supports outer single rs marks) c.deref.ensures.value c.in_ok-marks.ensures)) h c.single_size-single.ensures)
     (subst (λ (t : Table). IfOk c.unhit.result (λ left. AreUnhit t.supports marks single rivals left.items)) c.table-table.ensures

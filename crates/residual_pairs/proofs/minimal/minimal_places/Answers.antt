@@ -11,8 +11,8 @@ least_of-requires-clause-order c =
     let outer = c.args.outer.now in
     let order = c.sort_by_size.new.rivals.items in
     subst (λ (t : Table). AreInOrder t.supports outer c.deref.result.now) (sym c.table.ensures) (subst (AreInOrder supports outer) (sym c.deref.ensures.value)
-    (in_order_from_sorted supports outer c.args.joined.now c.args.own order
-    (candidates_moved supports outer c.args.joined.now c.args.own c.in_ok-order.order.items order c.sort_by_size.ensures.permutation c.in_ok-order.ensures) c.sort_by_size.ensures.sorted))
+    (in_order_from_sorted supports outer c.args.joined.now c.args.own c.args.most order
+    (candidates_moved supports outer c.args.joined.now c.args.own c.args.most c.in_ok-order.order.items order c.sort_by_size.ensures.permutation c.in_ok-order.ensures) c.sort_by_size.ensures.sorted))
 
 pub returns : goal.returns
 returns c =
@@ -20,9 +20,10 @@ returns c =
     let outer = c.args.outer.now in
     let joined = c.args.joined.now in
     let own = c.args.own in
+    let most = c.args.most in
     let order = c.sort_by_size.new.rivals.items in
-    let candidates = candidates_moved supports outer joined own c.in_ok-order.order.items order c.sort_by_size.ensures.permutation c.in_ok-order.ensures in
-    are_minimal supports outer joined own order candidates (in_order_from_sorted supports outer joined own order candidates c.sort_by_size.ensures.sorted) c.in_ok-least.least
+    let candidates = candidates_moved supports outer joined own most c.in_ok-order.order.items order c.sort_by_size.ensures.permutation c.in_ok-order.ensures in
+    are_minimal supports outer joined own most order candidates (in_order_from_sorted supports outer joined own most order candidates c.sort_by_size.ensures.sorted) c.in_ok-least.least
     (subst (λ (t : Table). AreLeast t.supports outer order (length order) c.in_ok-least.least) c.table.ensures
     (subst (λ rs. AreLeast c.table.result.now.supports outer rs (length rs) c.in_ok-least.least) c.deref.ensures.value c.in_ok-least.ensures))
     c.in_ok-places.places.items c.sort_unstable.new.self.items c.in_ok-places.ensures c.sort_unstable.ensures.permutation

@@ -41,13 +41,13 @@ loop-rest-preserved c =
       names = λ joined tells. apart_more supports joined place end rest (c.loop-rest.invariant.names joined tells) some fits;
       so_far = λ joined tells h. let names = c.loop-rest.invariant.names joined tells in
           c.in_ok-push_rival.ensures joined (next_apart supports joined place end rest names some fits)
-          (rivals_past supports joined c.args.outer.now c.args.own place (trailing_zeros w64 rest) c.loop-rest.rivals.items (passed_meet supports joined place end rest names some fits)
+          (rivals_past supports joined c.args.outer.now c.args.own c.args.most place (trailing_zeros w64 rest) c.loop-rest.rivals.items (passed_meet supports joined place end rest names some fits)
           (c.loop-rest.invariant.so_far joined tells h));
     }
 
 pub returns : goal.returns
 returns c joined tells h =
     let none : c.loop-rest.rest ≡ 0 = omega (arith, c.loop-rest-test.false) in
-    rivals_to_end c.args.table.now.supports joined c.args.outer.now c.args.own c.args.first c.loop-rest.place c.loop-rest.rivals.items c.loop-rest.invariant.within
+    rivals_to_end c.args.table.now.supports joined c.args.outer.now c.args.own c.args.most c.args.first c.loop-rest.place c.loop-rest.rivals.items c.loop-rest.invariant.within
     (subst (NamesApart c.args.table.now.supports joined c.loop-rest.place (c.args.first + 64)) none (c.loop-rest.invariant.names joined tells))
     (c.loop-rest.invariant.so_far joined tells h)

@@ -10,7 +10,7 @@ invariant-loop-rest l = record {
   within : l.place ≤ l.first + 64;
   before : AreBefore l.place (l.first + 64) l.rest;
   names : (joined : List Bool) → TellsMeeting l.table.supports joined l.first l.word → NamesApart l.table.supports joined l.place (l.first + 64) l.rest;
-  so_far : (joined : List Bool) → TellsMeeting l.table.supports joined l.first l.word → AreRivals l.table.supports l.outer joined l.own l.first l.initial.rivals.items → AreRivals l.table.supports l.outer joined l.own l.place l.rivals.items;
+  so_far : (joined : List Bool) → TellsMeeting l.table.supports joined l.first l.word → AreRivals l.table.supports l.outer joined l.own l.most l.first l.initial.rivals.items → AreRivals l.table.supports l.outer joined l.own l.most l.place l.rivals.items;
 }
 
 abbrev pub decreases-loop-rest : goal.decreases-loop-rest

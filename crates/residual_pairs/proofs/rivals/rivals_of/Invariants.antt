@@ -4,4 +4,4 @@ use Rattle.residual_pairs.specs.Rivals.{AreRivals}
 use Rattle.residual_pairs.proofs.rivals.rivals_of.Given as goal
 
 abbrev pub invariant-loop-k : goal.invariant-loop-k
-invariant-loop-k l = AreRivals l.rays.supports l.outer l.joined l.own (64 * l.k) l.rivals.items
+invariant-loop-k l = AreRivals l.rays.supports l.outer l.joined l.own l.most (64 * l.k) l.rivals.items

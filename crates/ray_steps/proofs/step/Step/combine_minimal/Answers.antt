@@ -1,13 +1,14 @@
-use Rattle.std.proofs.Common.{◌+◌, ◌<◌, subst, subst₂, sym, ◌∙◌, ap}
+use Rattle.std.proofs.Common.{◌≡◌, ◌+◌, ◌<◌, length, subst, subst₂, sym, ◌∙◌, ap}
 use Rattle.std.proofs.lemmas.List.{get_or_default}
 use Rattle.cone_definitions.specs.Vectors.{ray_at}
 use Rattle.support_table.specs.Joins.{AreJoinedTo}
 use Rattle.residual_pairs.specs.Residuals.{AreMinimal}
 use Rattle.ray_steps.specs.declared.signs.Sign.TheVariants.{Zero}
 use Rattle.ray_steps.specs.Rays.{rays_of}
+use Rattle.ray_steps.specs.Unions.{HaveSmallUnions}
 use Rattle.ray_steps.specs.Steps.{StepData, AreMadeTo}
 use Rattle.ray_steps.proofs.FoundLemmas.{found_in_range, found_face, pairs_found, at_found, after_found, all_found}
-use Rattle.ray_steps.proofs.RayLemmas.{ray_read}
+use Rattle.ray_steps.proofs.RayLemmas.{ray_read, ray_width}
 use Rattle.ray_steps.proofs.CombinationLemmas.{made_skip_all}
 use Rattle.ray_steps.proofs.RivalLemmas.{support_read}
 use Rattle.ray_steps.proofs.ViewLemmas.{place_of_rays}
@@ -46,8 +47,8 @@ combine_found-requires-clause-second g c =
     let xs = c.deref-place-items.result.now in
     let outer_is = support_read u (ray_at d.rays i) (ap (λ rays. ray_at rays i) (sym same) ∙ ray_read ray_list i u (place_of_rays ray_list d.rays i same c.requires.in_range) c.index-u.ensures) in
     let joins = subst₂ (λ ps s. AreJoinedTo ps s joined) (ap (λ (d : StepData). d.pairs) c.self.view_is) outer_is c.in_ok-joined.ensures in
-    let found = subst (AreMinimal c.args.supports.now.supports u.support joined i) (sym c.deref-place-items.ensures.value) c.in_ok-places.ensures in
-    found_in_range d.pairs d.rays i d.columns joined c.args.supports.now c.requires.supports joins u.support outer_is xs c.loop-place.place-index 0 found c.loop-place-test.true
+    let found = subst (AreMinimal c.args.supports.now.supports u.support joined i c.self.inside.most) (sym c.deref-place-items.ensures.value) c.in_ok-places.ensures in
+    found_in_range d.pairs d.rays i d.columns c.self.inside.most joined c.args.supports.now c.requires.supports joins u.support outer_is xs c.loop-place.place-index 0 found c.loop-place-test.true
 
 pub combine_found-requires-clause-face : goal.combine_found-requires-clause-face
 combine_found-requires-clause-face g c =
@@ -60,8 +61,8 @@ combine_found-requires-clause-face g c =
     let xs = c.deref-place-items.result.now in
     let outer_is = support_read u (ray_at d.rays i) (ap (λ rays. ray_at rays i) (sym same) ∙ ray_read ray_list i u (place_of_rays ray_list d.rays i same c.requires.in_range) c.index-u.ensures) in
     let joins = subst₂ (λ ps s. AreJoinedTo ps s joined) (ap (λ (d : StepData). d.pairs) c.self.view_is) outer_is c.in_ok-joined.ensures in
-    let found = subst (AreMinimal c.args.supports.now.supports u.support joined i) (sym c.deref-place-items.ensures.value) c.in_ok-places.ensures in
-    found_face d.pairs d.rays i d.columns joined c.args.supports.now c.requires.supports joins u.support outer_is xs c.loop-place.place-index 0 found c.loop-place-test.true
+    let found = subst (AreMinimal c.args.supports.now.supports u.support joined i c.self.inside.most) (sym c.deref-place-items.ensures.value) c.in_ok-places.ensures in
+    found_face d.pairs d.rays i d.columns c.self.inside.most joined c.args.supports.now c.requires.supports joins u.support outer_is xs c.loop-place.place-index 0 found c.loop-place-test.true
 
 pub combine_found-requires-clause-made : goal.combine_found-requires-clause-made
 combine_found-requires-clause-made g c =
@@ -74,9 +75,12 @@ combine_found-requires-clause-made g c =
     let xs = c.deref-place-items.result.now in
     let outer_is = support_read u (ray_at d.rays i) (ap (λ rays. ray_at rays i) (sym same) ∙ ray_read ray_list i u (place_of_rays ray_list d.rays i same c.requires.in_range) c.index-u.ensures) in
     let joins = subst₂ (λ ps s. AreJoinedTo ps s joined) (ap (λ (d : StepData). d.pairs) c.self.view_is) outer_is c.in_ok-joined.ensures in
-    let found = subst (AreMinimal c.args.supports.now.supports u.support joined i) (sym c.deref-place-items.ensures.value) c.in_ok-places.ensures in
+    let i_in = c.requires.in_range in
+    let small = subst (λ (d : StepData). HaveSmallUnions d.columns c.self.inside.most d.pairs d.rays) c.self.view_is c.self.invariant.rays.small in
+    let wide = subst (λ (d : StepData). length (ray_at d.rays i) ≡ d.columns) c.self.view_is (ray_width ray_list i c.self.inside.clashes.now.columns (place_of_rays ray_list d.rays i same i_in) c.self.invariant.rays.widths) in
+    let found = subst (AreMinimal c.args.supports.now.supports u.support joined i c.self.inside.most) (sym c.deref-place-items.ensures.value) c.in_ok-places.ensures in
     record {
-      so_far = at_found d.limit d.pairs d.rays d.signs i xs found.ascending (pairs_found d.pairs d.rays i d.columns joined c.args.supports.now c.requires.supports joins u.support outer_is d.signs xs found)
+      so_far = at_found d.limit d.pairs d.rays d.signs i xs found.ascending (pairs_found d.pairs d.rays i d.columns c.self.inside.most joined c.args.supports.now c.requires.supports joins u.support outer_is small i_in wide d.signs xs found)
           c.loop-place.place-index (rays_of c.loop-place.made.items) c.loop-place-test.true c.loop-place.invariant.taken;
       widths = c.loop-place.invariant.widths;
     }
@@ -92,9 +96,12 @@ loop-place-preserved g c =
     let xs = c.deref-place-items.result.now in
     let outer_is = support_read u (ray_at d.rays i) (ap (λ rays. ray_at rays i) (sym same) ∙ ray_read ray_list i u (place_of_rays ray_list d.rays i same c.requires.in_range) c.index-u.ensures) in
     let joins = subst₂ (λ ps s. AreJoinedTo ps s joined) (ap (λ (d : StepData). d.pairs) c.self.view_is) outer_is c.in_ok-joined.ensures in
-    let found = subst (AreMinimal c.args.supports.now.supports u.support joined i) (sym c.deref-place-items.ensures.value) c.in_ok-places.ensures in
+    let i_in = c.requires.in_range in
+    let small = subst (λ (d : StepData). HaveSmallUnions d.columns c.self.inside.most d.pairs d.rays) c.self.view_is c.self.invariant.rays.small in
+    let wide = subst (λ (d : StepData). length (ray_at d.rays i) ≡ d.columns) c.self.view_is (ray_width ray_list i c.self.inside.clashes.now.columns (place_of_rays ray_list d.rays i same i_in) c.self.invariant.rays.widths) in
+    let found = subst (AreMinimal c.args.supports.now.supports u.support joined i c.self.inside.most) (sym c.deref-place-items.ensures.value) c.in_ok-places.ensures in
     record {
-      taken = after_found d.limit d.pairs d.rays d.signs i xs found.ascending (pairs_found d.pairs d.rays i d.columns joined c.args.supports.now c.requires.supports joins u.support outer_is d.signs xs found)
+      taken = after_found d.limit d.pairs d.rays d.signs i xs found.ascending (pairs_found d.pairs d.rays i d.columns c.self.inside.most joined c.args.supports.now c.requires.supports joins u.support outer_is small i_in wide d.signs xs found)
           c.loop-place.place-index (rays_of c.combine_found.new.made.items) c.loop-place-test.true c.in_ok-combine_found.ensures.ok.so_far;
       widths = c.in_ok-combine_found.ensures.ok.widths;
     }
@@ -110,9 +117,12 @@ returns-clause-ok g c =
     let xs = c.deref-place-items.result.now in
     let outer_is = support_read u (ray_at d.rays i) (ap (λ rays. ray_at rays i) (sym same) ∙ ray_read ray_list i u (place_of_rays ray_list d.rays i same c.requires.in_range) c.index-u.ensures) in
     let joins = subst₂ (λ ps s. AreJoinedTo ps s joined) (ap (λ (d : StepData). d.pairs) c.self.view_is) outer_is c.in_ok-joined.ensures in
-    let found = subst (AreMinimal c.args.supports.now.supports u.support joined i) (sym c.deref-place-items.ensures.value) c.in_ok-places.ensures in
+    let i_in = c.requires.in_range in
+    let small = subst (λ (d : StepData). HaveSmallUnions d.columns c.self.inside.most d.pairs d.rays) c.self.view_is c.self.invariant.rays.small in
+    let wide = subst (λ (d : StepData). length (ray_at d.rays i) ≡ d.columns) c.self.view_is (ray_width ray_list i c.self.inside.clashes.now.columns (place_of_rays ray_list d.rays i same i_in) c.self.invariant.rays.widths) in
+    let found = subst (AreMinimal c.args.supports.now.supports u.support joined i c.self.inside.most) (sym c.deref-place-items.ensures.value) c.in_ok-places.ensures in
     record {
-      so_far = all_found d.limit d.pairs d.rays d.signs i xs found.ascending (pairs_found d.pairs d.rays i d.columns joined c.args.supports.now c.requires.supports joins u.support outer_is d.signs xs found)
+      so_far = all_found d.limit d.pairs d.rays d.signs i xs found.ascending (pairs_found d.pairs d.rays i d.columns c.self.inside.most joined c.args.supports.now c.requires.supports joins u.support outer_is small i_in wide d.signs xs found)
           c.loop-place.place-index (rays_of c.loop-place.made.items) c.loop-place-test.false c.loop-place.invariant.taken;
       widths = c.loop-place.invariant.widths;
     }
