@@ -215,15 +215,17 @@ impl<'a, C: Compatible> Step<'a, C> {
     }
 
     /// Combines the ray at a place, where it is positive, with each negative ray that it makes a pair with. These are looked
-    /// for by residuals among all rays at once.
+    /// for by residuals among all rays at once, unless no negative ray is near.
     fn combine_minimal(
         &self,
         alloc: Global,
         i: usize,
+        negatives: &Negatives,
         supports: &RayTable,
         made: &mut Vec<RayWithSupport>,
     ) -> Result<(), StepFault>
         requires in_range { i < length self.now.rays }
+        requires negatives { AreNegatives self.now.rays self.now.signs self.now.columns negatives.now }
         requires supports { HasAllSupports self.now.rays self.now.columns supports.now }
         requires made { AreMadeTo self.now i 0 made.old.items }
         ensures ok { OnOk result (AreMadeTo self.now (i + 1) 0 made.new.items) }
@@ -235,6 +237,10 @@ impl<'a, C: Compatible> Step<'a, C> {
         let clashes = self.clashes;
         let u = &self.ray_list[i];
         let joined = clashes.joined(alloc, &u.support)?;
+        let near = first_near(&negatives.table, &u.support, &joined, self.most, 0);
+        if near == negatives.places.len() {
+            return Ok(());
+        }
         let places = minimal_places(alloc, supports, &u.support, &joined, i, self.most)?;
         for place in &places {
             self.combine_found(alloc, i, *place, made)?;
@@ -261,7 +267,7 @@ impl<'a, C: Compatible> Step<'a, C> {
     {
         if let Some(table) = supports {
             if !is_single(&self.ray_list[i].support) {
-                return self.combine_minimal(alloc, i, table, &mut made.ray_list);
+                return self.combine_minimal(alloc, i, negatives, table, &mut made.ray_list);
             }
         }
         self.combine_with(alloc, i, negatives, made)

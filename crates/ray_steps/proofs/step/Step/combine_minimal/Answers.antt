@@ -1,4 +1,4 @@
-use Rattle.std.proofs.Common.{◌≡◌, ◌+◌, ◌<◌, length, subst, subst₂, sym, ◌∙◌, ap}
+use Rattle.std.proofs.Common.{◌≡◌, ◌+◌, ◌<◌, length, subst, subst₂, sym, ◌∙◌, ap, arith}
 use Rattle.std.proofs.lemmas.List.{get_or_default}
 use Rattle.cone_definitions.specs.Vectors.{ray_at}
 use Rattle.support_table.specs.Joins.{AreJoinedTo}
@@ -11,7 +11,8 @@ use Rattle.ray_steps.proofs.FoundLemmas.{found_in_range, found_face, pairs_found
 use Rattle.ray_steps.proofs.RayLemmas.{ray_read, ray_width}
 use Rattle.ray_steps.proofs.CombinationLemmas.{made_skip_all}
 use Rattle.ray_steps.proofs.RivalLemmas.{support_read}
-use Rattle.ray_steps.proofs.ViewLemmas.{place_of_rays}
+use Rattle.ray_steps.proofs.NearLemmas.{none_near}
+use Rattle.ray_steps.proofs.ViewLemmas.{place_of_rays, negatives_read}
 use Rattle.ray_steps.proofs.PlaceLemmas.{taken_none}
 use Rattle.ray_steps.proofs.step.Step.combine_minimal.Goals as goal
 
@@ -28,6 +29,27 @@ returns-in_default g c =
       ok = subst (λ (d : StepData). AreMadeTo d (i + 1) 0 made) c.self.view_is (record {
         so_far = made_skip_all s.limit s.clashes.now.pairs (rays_of s.ray_list.items) signs i (rays_of made)
             (λ at_u p. c.in_default.not-Positive at_u (c.index.ensures ∙ get_or_default signs i c.index.result.now Zero within ∙ p)) before.so_far;
+        widths = before.widths;
+      });
+      err = tt;
+    }
+
+pub returns-then-near-len : goal.returns-then-near-len
+returns-then-near-len g c =
+    let s = c.self.inside in
+    let ray_list = s.ray_list.items in
+    let i = c.args.i in
+    let made = c.args.made.now.items in
+    let u = c.index-u.result.now in
+    let facts = c.self.invariant in
+    let i_in = place_of_rays ray_list c.args.self.now.rays i (ap (λ (d : StepData). d.rays) c.self.view_is) c.requires.in_range in
+    let read = ray_read ray_list i u i_in c.index-u.ensures in
+    let before = subst (λ (d : StepData). AreMadeTo d i 0 made) (sym c.self.view_is) c.requires.made in
+    record {
+      ok = subst (λ (d : StepData). AreMadeTo d (i + 1) 0 made) c.self.view_is (record {
+        so_far = none_near s.limit s.clashes.now.pairs ray_list s.signs.items i s.clashes.now.columns s.most c.first_near-near.result c.in_ok-joined.joined c.args.negatives.now u (rays_of made)
+            (subst (λ t. AreJoinedTo s.clashes.now.pairs t c.in_ok-joined.joined) (support_read u (ray_at (rays_of ray_list) i) read) c.in_ok-joined.ensures) facts.rays.small (negatives_read _ _ c.self.view_is _ c.requires.negatives) facts.count i_in facts.rays.widths read c.first_near-near.ensures
+            (omega (arith, c.if-near-len.true, c.len.ensures)) before.so_far;
         widths = before.widths;
       });
       err = tt;
