@@ -9,19 +9,22 @@ use std::alloc::Global;
 use support_bits::Support;
 use support_table::SupportTable;
 
-/// Rivals of which none has a residual inside that of another, and for each whether a further one has the same.
+/// Rivals of which none has a residual inside that of another, for each whether a further one has the same, and as a hint the
+/// place of the one whose residual was last found inside a further one's.
 #[derive(Drop)]
 pub struct Least {
     pub rivals: Vec<Rival>,
     pub doubled: Vec<bool>,
+    pub hint: usize,
 }
 
-/// The first of some rivals whose residual lies inside that of the ray at a place.
-fn first_inside(
+/// One of some rivals whose residual lies inside that of the ray at a place: the one at the hint, or else the first.
+fn one_inside(
     table: &SupportTable,
     outer: &Support,
     rivals: &[Rival],
     place: usize,
+    hint: usize,
 ) -> Option<usize>
     requires outer { length outer.now ≡ table.now.columns }
     requires places { AreFound table.now.supports rivals.now }
@@ -29,6 +32,9 @@ fn first_inside(
     ensures some { IfSome result (IsInsideAt table.now.supports outer.now rivals.now place) }
     ensures none { IfNone result ((k : ℕ) → k < length rivals.now → ¬ IsInsideAt table.now.supports outer.now rivals.now place k) }
 {
+    if hint < rivals.len() && table.is_inside(rivals[hint].place, outer, place) {
+        return Some(hint);
+    }
     for (at, rival) in rivals.iter().enumerate() {
         if table.is_inside(rival.place, outer, place) {
             return Some(at);
@@ -50,8 +56,9 @@ fn note(
     requires count { length least.old.doubled.items ≡ length least.old.rivals.items }
     ensures { OnOk result (IsNoted table.now.supports outer.now rival least.old least.new) }
 {
-    match first_inside(table, outer, &least.rivals, rival.place) {
+    match one_inside(table, outer, &least.rivals, rival.place, least.hint) {
         Some(at) => {
+            least.hint = at;
             if least.rivals[at].size == rival.size {
                 least.doubled[at] = true;
             }
@@ -78,6 +85,7 @@ pub fn least_of(
     let mut least = Least {
         rivals: Vec::new(alloc),
         doubled: Vec::new(alloc),
+        hint: 0,
     };
     for rival in order {
         note(table, outer, &mut least, *rival)?;
