@@ -1,7 +1,6 @@
 //! Moves and steps from text.
 
-ghost use Rattle.std.specs.Prelude.{◌≡◌, Some, None, option_map, slice_index};
-ghost use Rattle.table_definitions.specs.Permutation.{four, others};
+ghost use Rattle.std.specs.Prelude.{◌≡◌, ◌<◌, [], ◌∷◌, Some, None, option_map, IfSome, IfOk};
 ghost use Rattle.table_definitions.specs.Places.{edge_ends};
 ghost use Rattle.text_definitions.specs.Reading.{Gives};
 ghost use Rattle.move_definitions.specs.MoveText as text;
@@ -49,21 +48,22 @@ fn kind_of(word: &[u8]) -> Option<MoveKind>
     None
 }
 
-// The core of the one vertex that a word names.
-fn vertex_named(word: &[u8]) -> Option<Core>
-    ensures { result ≡ text.spelled text.single word.now }
+// The vertex that a word names.
+fn vertex_named(word: &[u8]) -> Option<u8>
+    ensures vertex { option_map (λ v. v ∷ []) result ≡ text.spelled text.single word.now }
+    ensures in_range { IfSome result (λ v. v < 4) }
 {
     if word == b"0".as_slice() {
-        return Core::new(1);
+        return Some(0);
     }
     if word == b"1".as_slice() {
-        return Core::new(2);
+        return Some(1);
     }
     if word == b"2".as_slice() {
-        return Core::new(4);
+        return Some(2);
     }
     if word == b"3".as_slice() {
-        return Core::new(8);
+        return Some(3);
     }
     None
 }
@@ -73,61 +73,34 @@ fn edge_named(word: &[u8]) -> Option<Core>
     ensures { result ≡ text.spelled edge_ends word.now }
 {
     if word == b"01".as_slice() {
-        return Core::new(3);
+        return Some(Core::edge(0));
     }
     if word == b"02".as_slice() {
-        return Core::new(5);
+        return Some(Core::edge(1));
     }
     if word == b"03".as_slice() {
-        return Core::new(9);
+        return Some(Core::edge(2));
     }
     if word == b"12".as_slice() {
-        return Core::new(6);
+        return Some(Core::edge(3));
     }
     if word == b"13".as_slice() {
-        return Core::new(10);
+        return Some(Core::edge(4));
     }
     if word == b"23".as_slice() {
-        return Core::new(12);
+        return Some(Core::edge(5));
     }
     None
 }
 
-// The core of the vertices of the face that a word names.
-fn face_named(word: &[u8]) -> Option<Core>
-    ensures { result ≡ option_map (λ f. others (slice_index f 0)) (text.spelled text.single word.now) }
-{
-    if word == b"0".as_slice() {
-        return Core::new(14);
-    }
-    if word == b"1".as_slice() {
-        return Core::new(13);
-    }
-    if word == b"2".as_slice() {
-        return Core::new(11);
-    }
-    if word == b"3".as_slice() {
-        return Core::new(7);
-    }
-    None
-}
-
-// The vertex that the next word names, as a core.
+// The vertex that the next word names.
 #[tactic(auto, unfolding(move_definitions::specs::MoveText::vertices_at))]
-fn read_vertex(lexer: &mut Lexer<'_>) -> Result<Core, LexFault>
-    ensures { Gives (λ core. core) result lexer.new (text.vertices_at text.single lexer.old) }
+fn read_vertex(lexer: &mut Lexer<'_>) -> Result<u8, LexFault>
+    ensures vertex { Gives (λ v. v ∷ []) result lexer.new (text.vertices_at text.single lexer.old) }
+    ensures in_range { IfOk result (λ v. v < 4) }
 {
     let word = lexer.word()?;
     vertex_named(word).ok_or(lexer.bad_word())
-}
-
-// The vertices of the face that the next word names, as a core.
-#[tactic(auto, unfolding(move_definitions::specs::MoveText::core_at, move_definitions::specs::MoveText::vertices_at))]
-fn read_face(lexer: &mut Lexer<'_>) -> Result<Core, LexFault>
-    ensures { Gives (λ core. core) result lexer.new (text.core_at text.two_three lexer.old) }
-{
-    let word = lexer.word()?;
-    face_named(word).ok_or(lexer.bad_word())
 }
 
 // The ends of the edge that the next word names, as a core.
@@ -139,23 +112,16 @@ fn read_edge(lexer: &mut Lexer<'_>) -> Result<Core, LexFault>
     edge_named(word).ok_or(lexer.bad_word())
 }
 
-// The core of all four vertices.
-fn all_vertices() -> Core
-    ensures { result ≡ four }
-{
-    Core::of_mask(15)
-}
-
 // The core of a move of this kind.
 #[tactic(auto, unfolding(move_definitions::specs::MoveText::core_at))]
 fn read_core(lexer: &mut Lexer<'_>, kind: MoveKind) -> Result<Core, LexFault>
     ensures { Gives (λ core. core) result lexer.new (text.core_at (kind_value kind) lexer.old) }
 {
     match kind {
-        MoveKind::OneFour => Ok(all_vertices()),
-        MoveKind::TwoThree => read_face(lexer),
+        MoveKind::OneFour => Ok(Core::all()),
+        MoveKind::TwoThree => Ok(Core::opposite_face(read_vertex(lexer)?)),
         MoveKind::ThreeTwo => read_edge(lexer),
-        MoveKind::FourOne => read_vertex(lexer),
+        MoveKind::FourOne => Ok(Core::vertex(read_vertex(lexer)?)),
     }
 }
 

@@ -1,12 +1,12 @@
 -- What holds of cores, mask by mask.
-use Rattle.std.proofs.Common.{◌≡◌, ℕ, ◌<◌, ◌/◌, ◌^◌, Bool, true, false, List, [], ◌∷◌, length, refl, Option, Some, arith, inl, inr}
+use Rattle.std.proofs.Common.{◌≡◌, ℕ, zero, suc, ◌*◌, ◌<◌, ◌≤◌, ◌/◌, ◌%◌, ◌^◌, Bool, true, false, List, [], ◌∷◌, length, refl, Option, Some, arith, inl, inr}
 use Rattle.std.specs.Prelude.{◌⊎◌, ◌||◌, filter, ◌==◌, ◌&&◌, nat_lt, slice_index, bit_and, if◌then◌else◌, not}
 use Rattle.std.proofs.lemmas.Bool.{eqb-true, or_cases}
 use Rattle.table_definitions.specs.Lists.{has, below, same_list}
 use Rattle.std.specs.List.{list_all}
 use Rattle.table_definitions.specs.Permutation.{four, is_permutation, IsPermutationOfFour, inverse, preimage, index}
 use Rattle.move_definitions.specs.Moves.{IsCore, vertices_by_label}
-use Rattle.table_definitions.proofs.ListFacts.{list_all-below}
+use Rattle.table_definitions.proofs.ListFacts.{list_all-below, same_list-true}
 use Rattle.pachner_moves.specs.Cores.{core_of}
 
 abbrev same_test : Bool → Bool → Bool
@@ -50,3 +50,15 @@ is_core m l h = pick (or_cases (m == 0) (nat_lt 0 (length (core_of m)) && same_l
     pick : ((m == 0) ≡ true) ⊎ ((nat_lt 0 (length (core_of m)) && same_list (filter (has (core_of m)) four) (core_of m)) ≡ true) → IsCore (core_of m)
     pick (inl e) = absurd (let q = eqb-true m 0 e in omega arith)
     pick (inr e) = e
+
+-- the mask of one vertex
+
+pub bit_low : (v : ℕ) → v < 4 → (1 * 2 ^ v) % 256 ≤ 8
+bit_low zero l = omega arith
+bit_low (suc zero) l = omega arith
+bit_low (suc (suc zero)) l = omega arith
+bit_low (suc (suc (suc zero))) l = omega arith
+bit_low (suc (suc (suc (suc v)))) l = absurd (omega arith)
+
+pub one_vertex : (v : ℕ) → v < 4 → core_of ((1 * 2 ^ v) % 256) ≡ v ∷ []
+one_vertex v l = same_list-true (core_of ((1 * 2 ^ v) % 256)) (v ∷ []) (list_all-below (λ k. same_list (core_of ((1 * 2 ^ k) % 256)) (k ∷ [])) 4 refl v l)

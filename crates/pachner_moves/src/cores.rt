@@ -1,8 +1,9 @@
 //! Cores: the vertices of a tetrahedron that a move keeps together.
 
-ghost use Rattle.std.specs.Prelude.{◌≡◌, ◌<◌, ◌≤◌, ◌-◌, ◌↔◌, length, drop, IsSome, IfSome};
+ghost use Rattle.std.specs.Prelude.{◌≡◌, ◌<◌, ◌≤◌, ◌-◌, ◌↔◌, [], ◌∷◌, length, drop, IsSome, IfSome};
+ghost use Rattle.std.specs.List.{slice_index_or};
 ghost use Rattle.table_definitions.specs.Lists.{has};
-ghost use Rattle.table_definitions.specs.Permutation.{four, IsPermutationOfFour, inverse};
+ghost use Rattle.table_definitions.specs.Permutation.{four, others, IsPermutationOfFour, inverse};
 ghost use Rattle.table_definitions.specs.Places.{edge_ends};
 ghost use Rattle.move_definitions.specs.Moves as moves;
 ghost use Rattle.move_definitions.specs.Moves.{IsCore, vertices_by_label};
@@ -19,6 +20,9 @@ const SIZES: [u8; 16] = [0, 1, 1, 2, 1, 2, 2, 3, 1, 2, 2, 3, 2, 3, 3, 4];
 
 /// By their number, the masks of the last vertices.
 const LAST: [u8; 5] = [15, 15, 14, 12, 8];
+
+/// By its number, the mask of the ends of an edge.
+const ENDS: [u8; 6] = [3, 5, 9, 6, 10, 12];
 
 /// Some of the vertices of a tetrahedron, at least one. Contracts see it as the list of its vertices, ascending.
 #[derive(Clone, Copy)]
@@ -68,17 +72,48 @@ impl Core {
         }
     }
 
+    /// All four vertices.
+    pub fn all() -> Core
+        ensures { result ≡ four }
+    {
+        Core::of_mask(15)
+    }
+
+    /// One vertex.
+    pub fn vertex(v: u8) -> Core
+        requires { v < 4 }
+        ensures { result ≡ v ∷ [] }
+    {
+        Core::of_mask(1 << v)
+    }
+
+    /// The vertices of the face opposite a vertex.
+    pub fn opposite_face(v: u8) -> Core
+        requires { v < 4 }
+        ensures { result ≡ others v }
+    {
+        Core::of_mask(15 - (1 << v))
+    }
+
+    /// The ends of an edge, by its number.
+    pub fn edge(e: u8) -> Core
+        requires { e < 6 }
+        ensures { result ≡ slice_index_or edge_ends e [] }
+    {
+        Core::of_mask(ENDS[e as usize])
+    }
+
     /// The ends of each edge, by its number.
     pub fn edges() -> [Core; 6]
         ensures { result ≡ edge_ends }
     {
         [
-            Core::of_mask(3),
-            Core::of_mask(5),
-            Core::of_mask(9),
-            Core::of_mask(6),
-            Core::of_mask(10),
-            Core::of_mask(12),
+            Core::edge(0),
+            Core::edge(1),
+            Core::edge(2),
+            Core::edge(3),
+            Core::edge(4),
+            Core::edge(5),
         ]
     }
 

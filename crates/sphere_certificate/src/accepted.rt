@@ -13,10 +13,10 @@ pub fn vertices() -> [Core; 4]
     ensures { result ≡ map (λ v. v ∷ []) four }
 {
     [
-        Core::of_mask(1),
-        Core::of_mask(2),
-        Core::of_mask(4),
-        Core::of_mask(8),
+        Core::vertex(0),
+        Core::vertex(1),
+        Core::vertex(2),
+        Core::vertex(3),
     ]
 }
 

@@ -1,6 +1,6 @@
 -- The mask of the vertices to which those of a core go.
-use Rattle.std.proofs.Common.{◌≡◌, ℕ, zero, suc, ◌+◌, ◌*◌, ◌^◌, ◌<◌, ◌≤◌, Bool, true, List, refl, sym, subst, arith}
-use Rattle.std.specs.Prelude.{◌%◌, ◌&&◌, nat_lt, if◌then◌else◌}
+use Rattle.std.proofs.Common.{◌≡◌, ℕ, ◌+◌, ◌^◌, ◌<◌, Bool, true, List, refl, sym, subst}
+use Rattle.std.specs.Prelude.{◌&&◌, nat_lt, if◌then◌else◌}
 use Rattle.std.specs.List.{list_all}
 use Rattle.std.proofs.lemmas.Bool.{ltb-true, and_parts}
 use Rattle.table_definitions.specs.Lists.{has, same_list}
@@ -11,13 +11,6 @@ use Rattle.move_definitions.specs.Moves.{IsCore}
 use Rattle.move_definitions.proofs.CoreTests.{cores, on_cores}
 use Rattle.certificate_definitions.specs.CarriedMoves.{core_under}
 use Rattle.pachner_moves.specs.Cores.{core_of}
-
-pub bit_low : (v : ℕ) → v < 4 → (1 * 2 ^ v) % 256 ≤ 8
-bit_low zero l = omega arith
-bit_low (suc zero) l = omega arith
-bit_low (suc (suc zero)) l = omega arith
-bit_low (suc (suc (suc zero))) l = omega arith
-bit_low (suc (suc (suc (suc v)))) l = absurd (omega arith)
 
 abbrev pub bit : List ℕ → List ℕ → ℕ → ℕ
 bit q core v = if has core v then 2 ^ image q v else 0

@@ -16,10 +16,10 @@ fn faces() -> [Core; 4]
     ensures { result ≡ map others four }
 {
     [
-        Core::of_mask(14),
-        Core::of_mask(13),
-        Core::of_mask(11),
-        Core::of_mask(7),
+        Core::opposite_face(0),
+        Core::opposite_face(1),
+        Core::opposite_face(2),
+        Core::opposite_face(3),
     ]
 }
 
@@ -54,7 +54,7 @@ pub fn candidates(alloc: Global, table: &Table) -> Result<Vec<Move>, NoMemory>
     append_accepted(&mut moves, table, &faces())?;
     append_accepted(&mut moves, table, &Core::edges())?;
     if moves.is_empty() {
-        append_accepted(&mut moves, table, &[Core::of_mask(15)])?;
+        append_accepted(&mut moves, table, &[Core::all()])?;
     }
     Ok(moves)
 }

@@ -14,7 +14,7 @@ returns c =
     elim c.if-is_empty.branch [
       | then-is_empty+in_ok-append_accepted-3 w ↦
           (let none : length c.append_accepted-2.new.moves.items ≡ 0 = (let t = w.if-is_empty.true in grind arith) in
-          ap (λ (v : Vec Move Global). v.items) w.moves-is ∙ none_first c.args.table.now c.append_accepted-2.new.moves.items _ (w.of_mask.result ∷ []) first none (ap (λ (core : List ℕ). core ∷ []) w.of_mask.ensures) w.in_ok-append_accepted-3.ensures)
+          ap (λ (v : Vec Move Global). v.items) w.moves-is ∙ none_first c.args.table.now c.append_accepted-2.new.moves.items _ (w.all.result ∷ []) first none (ap (λ (core : List ℕ). core ∷ []) w.all.ensures) w.in_ok-append_accepted-3.ensures)
       | else-is_empty w ↦
           (let some : length c.append_accepted-2.new.moves.items ≢ 0 = (let f = w.if-is_empty.false in grind arith) in
           ap (λ (v : Vec Move Global). v.items) w.moves-is ∙ some_first c.args.table.now c.append_accepted-2.new.moves.items first some)

@@ -1,5 +1,5 @@
 -- A bit of a vertex is at most the last one.
-use Rattle.tri_build.proofs.Bits.{bit_low}
+use Rattle.pachner_moves.proofs.MaskLaws.{bit_low}
 use Rattle.tri_build.proofs.carrying.bit_under.Goals as goal
 
 pub returns-then-has-clause-few : goal.returns-then-has-clause-few
