@@ -4,9 +4,9 @@ ghost use Rattle.text_definitions.specs.Text.{max_text};
 ghost use Rattle.text_document_definitions.specs.Documents.{moves_document};
 ghost use Rattle.text_definitions.specs.Reading.{Reads};
 
-use crate::moves::read_moves;
 use command_answers::read_table;
 use gluing_table::Table;
+use move_undo::read_moves;
 use pachner_moves::Move;
 use signature_codec::InputFault;
 use std::alloc::Global;

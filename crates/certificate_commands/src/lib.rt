@@ -8,7 +8,6 @@ mod descend_command;
 mod documents;
 mod faults;
 mod make_command;
-mod moves;
 mod summaries;
 
 pub use bulk_command::bulk;

@@ -1,3 +1,3 @@
-pub mod EachLine
+pub mod VectorLines
 pub mod RefusalLines
 pub mod LastLine

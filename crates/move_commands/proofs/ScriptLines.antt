@@ -17,7 +17,7 @@ use Rattle.move_undo.specs.declared.session.PlayFault.TheVariants.{Illegal, NoMe
 use Rattle.move_undo.specs.Faults.{IsRefusal}
 use Rattle.move_undo.specs.Steps.{step_value}
 use Rattle.outcome_definitions.specs.Scripts.{answers_text}
-use Rattle.command_answers.proofs.EachLine.{with_fronts}
+use Rattle.text_document_definitions.proofs.EachLine.{with_fronts}
 use Rattle.move_commands.specs.Scripts.{all_steps, Steps, Plays}
 
 -- what follows from a clause on success

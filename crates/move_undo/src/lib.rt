@@ -7,6 +7,6 @@ mod session;
 mod writer;
 
 pub use faults::append_move_fault;
-pub use reader::{Step, read_move, read_step};
+pub use reader::{Step, read_move, read_moves, read_step};
 pub use session::{PlayFault, Session};
 pub use writer::{write_move, write_moves};

@@ -2,11 +2,15 @@
 
 ghost use Rattle.std.specs.Prelude.{◌≡◌, ◌<◌, [], ◌∷◌, Some, None, option_map, IfSome, IfOk};
 ghost use Rattle.table_definitions.specs.Places.{edge_ends};
-ghost use Rattle.text_definitions.specs.Reading.{Gives};
+ghost use Rattle.table_definitions.specs.TableText.{lexed};
+ghost use Rattle.text_definitions.specs.Reading.{Gives, ReadsFrom};
+ghost use Rattle.text_document_definitions.specs.Documents.{each_line_from};
 ghost use Rattle.move_definitions.specs.MoveText as text;
 ghost use Rattle.move_undo.specs.Steps.{kind_value, step_value};
 
+use gluing_table::TextFault;
 use pachner_moves::{Core, Move};
+use std::alloc::Global;
 use text_io::{LexFault, Lexer};
 
 /// A line of a script.
@@ -154,6 +158,18 @@ pub fn read_move(lexer: &mut Lexer<'_>) -> Result<Move, LexFault>
 {
     let word = lexer.word()?;
     read_named(lexer, word)
+}
+
+/// The moves of all lines that are left.
+pub fn read_moves(alloc: Global, lexer: &mut Lexer<'_>) -> Result<Vec<Move>, TextFault>
+    ensures { ReadsFrom TextFault.NoMemory (λ moves. moves.items) result lexer.new (lexed (each_line_from text.move_at lexer.old.later lexer.old)) }
+{
+    let mut moves = Vec::new(alloc);
+    while lexer.next_line() {
+        let m = read_move(lexer)?;
+        moves.push(m)?;
+    }
+    Ok(moves)
 }
 
 // The step that is no move and that a word names.

@@ -11,7 +11,7 @@ use Rattle.table_definitions.proofs.LineLaws.{BeginsLine, line_begun}
 use Rattle.text_document_definitions.specs.Blocks.{Block, block_at, blocks_on, blocks_from}
 use Rattle.text_document_laws.proofs.BlockReading.{BlockRead, block_read}
 use Rattle.text_document_laws.proofs.SumDocuments.{any_most}
-use Rattle.command_answers.proofs.EachLine.{with_fronts, fault_lexed}
+use Rattle.text_document_definitions.proofs.EachLine.{with_fronts, fault_lexed}
 
 abbrev One : Type 0
 One = Result (Block × Reading) LexFault

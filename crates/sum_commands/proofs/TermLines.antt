@@ -7,7 +7,7 @@ use Rattle.table_definitions.specs.declared.TextFault.TheVariants.{NoMemory, Lex
 use Rattle.table_definitions.specs.TableText.{lexed}
 use Rattle.sum_definitions.specs.Sums.{Term}
 use Rattle.text_document_definitions.specs.Blocks.{term_at, terms_at}
-use Rattle.command_answers.proofs.EachLine.{with_fronts, fault_lexed}
+use Rattle.text_document_definitions.proofs.EachLine.{with_fronts, fault_lexed}
 
 abbrev Terms : Type 0
 Terms = Result (List Term × Reading) LexFault

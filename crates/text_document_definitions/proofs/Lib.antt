@@ -1,3 +1,4 @@
+pub mod EachLine
 pub mod Computed
 pub mod TextExamples
 pub mod DocumentExamples

@@ -5,7 +5,7 @@ use Rattle.std.proofs.lemmas.Bool.{iff_false}
 use Rattle.text_definitions.specs.Written.{limit}
 use Rattle.text_definitions.proofs.Readers.{number_at-takes, tokens-fewer, with_front-more, with_front-end, with_front-fault}
 use Rattle.table_definitions.proofs.TableFoundLaws.{lexed_with}
-use Rattle.command_answers.proofs.EachLine.{fault_lexed}
+use Rattle.text_document_definitions.proofs.EachLine.{fault_lexed}
 use Rattle.command_answers.proofs.vectors.read_numbers.Goals as goal
 
 pub loop-lexer-smaller : goal.loop-lexer-smaller

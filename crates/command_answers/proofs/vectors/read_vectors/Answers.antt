@@ -6,7 +6,8 @@ use Rattle.surface_definitions.proofs.VectorLaws.{vector_read}
 use Rattle.table_definitions.proofs.TableReadingLaws.{lexed_ok}
 use Rattle.table_definitions.proofs.TableFoundLaws.{lexed_with}
 use Rattle.command_answers.specs.Reads.{entries_of}
-use Rattle.command_answers.proofs.EachLine.{line_taken, line_fails, lines_ended, lines_fewer, entries_push}
+use Rattle.text_document_definitions.proofs.EachLine.{line_taken, line_fails, lines_ended, lines_fewer}
+use Rattle.command_answers.proofs.VectorLines.{entries_push}
 use Rattle.command_answers.proofs.vectors.read_vectors.Goals as goal
 
 pub loop-alloc-smaller : goal.loop-alloc-smaller

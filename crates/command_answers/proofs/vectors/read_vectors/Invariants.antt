@@ -2,7 +2,7 @@
 use Rattle.std.proofs.Common.{◌≡◌, length}
 use Rattle.cone_text_definitions.specs.VectorText.{vector_at}
 use Rattle.text_document_definitions.specs.Documents.{each_line_from}
-use Rattle.command_answers.proofs.EachLine.{with_fronts}
+use Rattle.text_document_definitions.proofs.EachLine.{with_fronts}
 use Rattle.command_answers.specs.Reads.{entries_of}
 use Rattle.command_answers.proofs.vectors.read_vectors.Given as goal
 

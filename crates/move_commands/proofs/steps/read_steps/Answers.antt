@@ -6,7 +6,7 @@ use Rattle.move_definitions.proofs.MoveReadingLaws.{step_read}
 use Rattle.move_undo.specs.Steps.{step_value}
 use Rattle.table_definitions.proofs.TableFoundLaws.{lexed_with}
 use Rattle.move_commands.specs.Scripts.{steps_of}
-use Rattle.command_answers.proofs.EachLine.{fault_lexed, line_taken, line_faulty, lines_ended, lines_fewer}
+use Rattle.text_document_definitions.proofs.EachLine.{fault_lexed, line_taken, line_faulty, lines_ended, lines_fewer}
 use Rattle.move_commands.proofs.ScriptLines.{steps_push}
 use Rattle.move_commands.proofs.steps.read_steps.Goals as goal
 

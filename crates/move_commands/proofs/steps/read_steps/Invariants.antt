@@ -2,7 +2,7 @@
 use Rattle.std.proofs.Common.{◌≡◌, length}
 use Rattle.move_definitions.specs.MoveText.{step_at}
 use Rattle.text_document_definitions.specs.Documents.{each_line_from}
-use Rattle.command_answers.proofs.EachLine.{with_fronts}
+use Rattle.text_document_definitions.proofs.EachLine.{with_fronts}
 use Rattle.move_commands.specs.Scripts.{steps_of}
 use Rattle.move_commands.proofs.steps.read_steps.Given as goal
 

@@ -1,7 +1,7 @@
 -- The blocks so far with those that are left are those of the input.
 use Rattle.std.proofs.Common.{◌≡◌, length}
 use Rattle.text_document_definitions.specs.Blocks.{blocks_from}
-use Rattle.command_answers.proofs.EachLine.{with_fronts}
+use Rattle.text_document_definitions.proofs.EachLine.{with_fronts}
 use Rattle.sum_commands.specs.Blocks.{blocks_of}
 use Rattle.sum_commands.proofs.blocks.read_blocks.Given as goal
 

@@ -2,7 +2,7 @@
 use Rattle.std.proofs.Common.{◌≡◌, ◌-◌}
 use Rattle.text_document_definitions.specs.Blocks.{terms_at}
 use Rattle.ray_decompose.specs.Sums.{terms_of}
-use Rattle.command_answers.proofs.EachLine.{with_fronts}
+use Rattle.text_document_definitions.proofs.EachLine.{with_fronts}
 use Rattle.sum_commands.proofs.blocks.read_terms.Given as goal
 
 abbrev pub invariant-loop-number : goal.invariant-loop-number

@@ -6,8 +6,8 @@ use Rattle.move_definitions.specs.MoveText.{move_at}
 use Rattle.text_document_definitions.specs.Documents.{each_line_from}
 use Rattle.move_definitions.proofs.MoveReadingLaws.{move_read}
 use Rattle.table_definitions.proofs.TableFoundLaws.{lexed_with}
-use Rattle.command_answers.proofs.EachLine.{with_fronts, fault_lexed, line_taken, line_faulty, lines_ended, lines_fewer}
-use Rattle.certificate_commands.proofs.moves.read_moves.Goals as goal
+use Rattle.text_document_definitions.proofs.EachLine.{with_fronts, fault_lexed, line_taken, line_faulty, lines_ended, lines_fewer}
+use Rattle.move_undo.proofs.reader.read_moves.Goals as goal
 
 pub loop-lexer-smaller : goal.loop-lexer-smaller
 loop-lexer-smaller c =

@@ -1,8 +1,5 @@
 -- Reading lines of one form to the end of the input, line by line.
-use Rattle.std.proofs.Common.{◌≡◌, ℕ, ◌<◌, List, [], ◌∷◌, ◌++◌, Result, Ok, Err, length, refl, sym, ap, ◌∙◌, arith, append_assoc, append-nil, Vec, map}
-use Rattle.std.specs.declared.alloc.Global.{Global}
-use Rattle.cone_text_definitions.specs.VectorText.{vector_at}
-use Rattle.std.proofs.lemmas.List.{map-append}
+use Rattle.std.proofs.Common.{◌≡◌, ◌<◌, List, [], ◌∷◌, ◌++◌, Result, Ok, Err, length, refl, sym, ap, ◌∙◌, arith, append_assoc, append-nil}
 use Rattle.text_definitions.specs.Text.{Line}
 use Rattle.text_definitions.specs.declared.LexFault.{LexFault}
 use Rattle.text_definitions.specs.Reading.{Reading, ◌>>=◌, begun, line_from, need_line_at, Fails}
@@ -84,11 +81,3 @@ module _ {A : Type 0} (form : Reading → Result (A × Reading) LexFault) where
       moved (Err found) is h =
           let wrapped : Lex found ≡ fault = cc in
           fault_lexed whole found (sym same ∙ line_faulty front c d found e is) ∙ ap (λ (f : TextFault). Err f) wrapped
-
--- a further vector
-pub entries_push : (before now : List (Vec ℕ Global)) (v : Vec ℕ Global) (d : Reading) (whole : Result (List (List ℕ) × Reading) LexFault)
-    → now ≡ before ++ v ∷ []
-    → with_fronts (map (λ (w : Vec ℕ Global). w.items) before ++ v.items ∷ []) (each_line_from vector_at d.later d) ≡ whole
-    → with_fronts (map (λ (w : Vec ℕ Global). w.items) now) (each_line_from vector_at d.later d) ≡ whole
-entries_push before now v d whole same h =
-    rw same (rw (map-append (λ (w : Vec ℕ Global). w.items) before (v ∷ [])) h)

@@ -2,8 +2,8 @@
 use Rattle.std.proofs.Common.{◌≡◌, length}
 use Rattle.move_definitions.specs.MoveText.{move_at}
 use Rattle.text_document_definitions.specs.Documents.{each_line_from}
-use Rattle.command_answers.proofs.EachLine.{with_fronts}
-use Rattle.certificate_commands.proofs.moves.read_moves.Given as goal
+use Rattle.text_document_definitions.proofs.EachLine.{with_fronts}
+use Rattle.move_undo.proofs.reader.read_moves.Given as goal
 
 abbrev pub invariant-loop-lexer : goal.invariant-loop-lexer
 invariant-loop-lexer l = with_fronts l.moves.items (each_line_from move_at l.lexer.later l.lexer) ≡ each_line_from move_at l.fn.lexer.later l.fn.lexer
