@@ -13,6 +13,7 @@ use Rattle.certificate_definitions.specs.SoFar.{DescendsSoFar}
 use Rattle.certificate_laws.proofs.Checked.{text_standard, standard_text}
 use Rattle.certificate_laws.proofs.Descents.{descents_end_lem, descents_certify_lem}
 use Rattle.certificate_laws.proofs.Loops.{descents_go_on_lem, descents_are_done_lem}
+use Rattle.sphere_certificate.specs.declared.accepted.AcceptedMove.{AcceptedMove}
 
 -- its signature tells it
 pub told_by_text : (rows : List Row) (text : List ℕ) (told : Bool) → IsTable rows → IsSignature rows text → (told ≡ true) ↔ (text ≡ sphere_text) → (told ≡ true) ↔ IsStandard rows
@@ -35,19 +36,15 @@ second_search rows vertices edges found are none ends e =
     ∙ sym (ap (λ (o : Option Move). option_or o (find (is_accepted rows) (three_two_moves (length rows)))) first)
 
 -- how a descent goes on at a table, or ends there
-abbrev pub Next : List Row → Option Move → Type 0
-Next rows next = MatchOption next (IsStandard rows ⊎ (descent_move rows ≡ None)) (λ m. (IsStandard rows → ⊥) × (descent_move rows ≡ Some m))
+abbrev pub Next : List Row → Option AcceptedMove → Type 0
+Next rows next = MatchOption next (IsStandard rows ⊎ (descent_move rows ≡ None)) (λ (a : AcceptedMove). (IsStandard rows → ⊥) × (descent_move rows ≡ Some a.played))
 
-pub goes_on : (rows : List Row) (next : Option Move) (m : Move) → Next rows next → next ≡ Some m → (IsStandard rows → ⊥) × (descent_move rows ≡ Some m)
-goes_on rows next m h e = subst (Next rows) e h
-
-pub ends_here : (rows : List Row) (next : Option Move) → Next rows next → next ≡ None → IsStandard rows ⊎ (descent_move rows ≡ None)
+pub ends_here : (rows : List Row) (next : Option AcceptedMove) → Next rows next → next ≡ None → IsStandard rows ⊎ (descent_move rows ≡ None)
 ends_here rows next h e = subst (Next rows) e h
 
-pub one_more : (rows : List Row) (before now : List Move) (table : List Row) (next : Option Move) (m : Move) (new : List Row) → DescendsSoFar rows before table → Next table next → next ≡ Some m → Plays table m new
+pub one_more : (rows : List Row) (before now : List Move) (table : List Row) (m : Move) (new : List Row) → DescendsSoFar rows before table → (IsStandard table → ⊥) × (descent_move table ≡ Some m) → Plays table m new
     → now ≡ before ++ m ∷ [] → DescendsSoFar rows now new
-one_more rows before now table next m new so_far h e plays pushed =
-    let g : (IsStandard table → ⊥) × (descent_move table ≡ Some m) = goes_on table next m h e in
+one_more rows before now table m new so_far g plays pushed =
     subst (λ (ms : List Move). DescendsSoFar rows ms new) (sym pushed) (descents_go_on_lem rows before table m new so_far (record { goes = g.0; first = g.1; plays = plays }))
 
 -- the end

@@ -1,12 +1,14 @@
 //! Moves that are accepted, and the first one of those with given cores.
 
-ghost use Rattle.std.specs.Prelude.{◌≡◌, ◌<◌, ◌∷◌, [], length, map, find};
+ghost use Rattle.std.specs.Prelude.{◌≡◌, ◌<◌, ◌∷◌, [], None, length, map, find, is_some, option_map, IfSome};
 ghost use Rattle.table_definitions.specs.Permutation.{four};
+ghost use Rattle.move_definitions.specs.Moves.{Plays, play_fault};
 ghost use Rattle.move_definitions.specs.Certificates as certificates;
-ghost use Rattle.move_definitions.specs.Certificates.{moves_with};
+ghost use Rattle.move_definitions.specs.Certificates.{moves_at, moves_with};
+ghost use Rattle.move_laws.specs.Faults.{IsPattern};
 
 use gluing_table::Table;
-use pachner_moves::{Core, Move, keeps_limit, legal};
+use pachner_moves::{Core, Move, Pattern, apply_legal, keeps_limit, legal};
 
 /// The cores of the moves 4-1: each vertex.
 pub fn vertices() -> [Core; 4]
@@ -20,33 +22,68 @@ pub fn vertices() -> [Core; 4]
     ]
 }
 
-/// Whether a move is legal and leads to a table of no more than 1,000 tetrahedra, so that `apply` takes it.
-pub fn is_accepted(table: &Table, m: Move) -> bool
-    ensures { result ≡ certificates.is_accepted table.now m }
-{
-    match legal(table, m) {
-        Ok(_) => keeps_limit(table, m),
-        Err(_) => false,
+/// A move that is accepted on a table, with the facets that it takes out there.
+#[derive(Drop)]
+pub struct AcceptedMove {
+    pub played: Move,
+    pub pattern: Pattern,
+}
+
+impl AcceptedMove {
+    /// Plays the move on the table on which it is accepted.
+    pub fn play(&self, table: &mut Table)
+        requires pattern { IsPattern table.old self.now.played self.now.pattern.facets.items }
+        requires accepted { play_fault table.old self.now.played ≡ None }
+        ensures { Plays table.old self.now.played table.new }
+    {
+        match apply_legal(table, self.played, &self.pattern) {
+            Ok(_) => {}
+            Err(_) => unreachable!(),
+        }
     }
 }
 
-/// The first accepted move of a tetrahedron with one of these cores.
-fn first_at(table: &Table, tet: u32, cores: &[Core]) -> Option<Move>
-    ensures { result ≡ find (certificates.is_accepted table.now) (map (λ core. record { tet = tet; core = core }) cores.now) }
+/// A move, where it is accepted: it is legal and leads to a table of no more than 1,000 tetrahedra, so that `apply` takes it.
+pub fn accept(table: &Table, m: Move) -> Option<AcceptedMove>
+    ensures accepted { is_some result ≡ certificates.is_accepted table.now m }
+    ensures same { IfSome result (λ a. a.played ≡ m) }
+    ensures pattern { IfSome result (λ a. IsPattern table.now a.played a.pattern.facets.items) }
 {
-    cores
-        .iter()
-        .map(|core| Move { tet, core: *core })
-        .find(|m| is_accepted(table, *m))
+    match legal(table, m) {
+        Ok(pattern) if keeps_limit(table, m) => Some(AcceptedMove { played: m, pattern }),
+        _ => None,
+    }
+}
+
+/// Whether a move is accepted.
+pub fn is_accepted(table: &Table, m: Move) -> bool
+    ensures { result ≡ certificates.is_accepted table.now m }
+{
+    accept(table, m).is_some()
+}
+
+/// The first accepted move of a tetrahedron with one of these cores.
+fn first_at(table: &Table, tet: u32, cores: &[Core]) -> Option<AcceptedMove>
+    ensures first { option_map (λ a. a.played) result ≡ find (certificates.is_accepted table.now) (moves_at tet cores.now) }
+    ensures pattern { IfSome result (λ a. IsPattern table.now a.played a.pattern.facets.items) }
+{
+    for core in cores {
+        let m = Move { tet, core: *core };
+        if let Some(accepted) = accept(table, m) {
+            return Some(accepted);
+        }
+    }
+    None
 }
 
 /// The first accepted move with one of these cores, by tetrahedron and then by core.
-pub fn first_accepted(table: &Table, cores: &[Core]) -> Option<Move>
-    ensures { result ≡ find (certificates.is_accepted table.now) (moves_with cores.now (length table.now)) }
+pub fn first_accepted(table: &Table, cores: &[Core]) -> Option<AcceptedMove>
+    ensures first { option_map (λ a. a.played) result ≡ find (certificates.is_accepted table.now) (moves_with cores.now (length table.now)) }
+    ensures pattern { IfSome result (λ a. IsPattern table.now a.played a.pattern.facets.items) }
 {
     for tet in 0..table.len() {
-        if let Some(m) = first_at(table, tet, cores) {
-            return Some(m);
+        if let Some(accepted) = first_at(table, tet, cores) {
+            return Some(accepted);
         }
     }
     None

@@ -1,19 +1,19 @@
 //! Descents: moves that lessen a table, up to the standard sphere or to a table that has none.
 
-ghost use Rattle.std.specs.Prelude.{◌≡◌, ◌≤◌, ◌+◌, ◌⊎◌, ◌↔◌, true, length, Some, None, MatchOption, IsTrue, IfOk, IfErr, OnOk};
+ghost use Rattle.std.specs.Prelude.{◌≡◌, ◌≤◌, ◌+◌, ◌⊎◌, ◌↔◌, true, length, Some, None, option_map, MatchOption, IsTrue, IfSome, IfOk, IfErr, OnOk};
 ghost use Rattle.no_memory.specs.Failures.{IfFault};
 ghost use Rattle.table_definitions.specs.Places.{IsConnected, IsLeastUnreached};
-ghost use Rattle.move_definitions.specs.Moves.{Plays, play_fault};
 ghost use Rattle.move_definitions.specs.Certificates as certificates;
 ghost use Rattle.move_definitions.specs.Certificates.{IsStandard, IsCertificate};
+ghost use Rattle.move_laws.specs.Faults.{IsPattern};
 ghost use Rattle.certificate_definitions.specs.Answers.{IsDescended};
 
-use crate::accepted::{first_accepted, vertices};
+use crate::accepted::{AcceptedMove, first_accepted, vertices};
 use crate::checking::is_sphere;
 use canonical_labelling::{NotConnected, WalkFault, signature};
 use gluing_table::Table;
 use no_memory::{Failure, NoMemory};
-use pachner_moves::{Core, Move, apply};
+use pachner_moves::{Core, Move};
 use std::alloc::Global;
 
 /// A descent: whether it reached the standard sphere, its moves, and the table at which it ended.
@@ -39,34 +39,26 @@ fn is_standard(alloc: Global, table: &Table) -> Result<bool, NoMemory>
 }
 
 /// The first accepted move 4-1, else the first accepted 3-2.
-fn descent_move(table: &Table) -> Option<Move>
-    ensures { result ≡ certificates.descent_move table.now }
+fn descent_move(table: &Table) -> Option<AcceptedMove>
+    ensures first { option_map (λ a. a.played) result ≡ certificates.descent_move table.now }
+    ensures pattern { IfSome result (λ a. IsPattern table.now a.played a.pattern.facets.items) }
 {
     match first_accepted(table, &vertices()) {
-        Some(m) => Some(m),
+        Some(accepted) => Some(accepted),
         None => first_accepted(table, &Core::edges()),
     }
 }
 
 /// The move by which a descent goes on: none where the table is standard.
-fn next_move(alloc: Global, table: &Table) -> Result<Option<Move>, NoMemory>
-    ensures { IfOk result (λ next. MatchOption next (IsStandard table.now ⊎ (certificates.descent_move table.now ≡ None)) (λ m. (IsStandard table.now → ⊥) × (certificates.descent_move table.now ≡ Some m))) }
+fn next_move(table: &Table, standard: bool) -> Option<AcceptedMove>
+    requires { IsTrue standard ↔ IsStandard table.now }
+    ensures next { MatchOption result (IsStandard table.now ⊎ (certificates.descent_move table.now ≡ None)) (λ a. (IsStandard table.now → ⊥) × (certificates.descent_move table.now ≡ Some a.played)) }
+    ensures pattern { IfSome result (λ a. IsPattern table.now a.played a.pattern.facets.items) }
 {
-    if is_standard(alloc, table)? {
-        return Ok(None);
+    if standard {
+        return None;
     }
-    Ok(descent_move(table))
-}
-
-/// Plays a move that is accepted.
-fn play(table: &mut Table, m: Move)
-    requires { play_fault table.old m ≡ None }
-    ensures { Plays table.old m table.new }
-{
-    match apply(table, m) {
-        Ok(_) => {}
-        Err(_) => unreachable!(),
-    }
+    descent_move(table)
 }
 
 /// The descent of a table.
@@ -77,11 +69,12 @@ fn descent_of(alloc: Global, table: &Table) -> Result<Descent, NoMemory>
 {
     let mut last = table.copy(alloc)?;
     let mut moves = Vec::new(alloc);
-    while let Some(m) = next_move(alloc, &last)? {
-        play(&mut last, m);
-        moves.push(m)?;
+    let mut reached = is_standard(alloc, &last)?;
+    while let Some(next) = next_move(&last, reached) {
+        next.play(&mut last);
+        moves.push(next.played)?;
+        reached = is_standard(alloc, &last)?;
     }
-    let reached = is_standard(alloc, &last)?;
     Ok(Descent {
         reached,
         moves,

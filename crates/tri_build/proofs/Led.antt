@@ -7,7 +7,7 @@ use Rattle.table_definitions.specs.Permutation.{IsPermutationOfFour}
 use Rattle.table_definitions.specs.Table.{Gluing, Row}
 use Rattle.table_definitions.specs.Relabelling.{Relabelling, IsRelabelling, Carries, stand_in}
 use Rattle.table_definitions.proofs.Carried.{length-images, perm_permutes}
-use Rattle.move_definitions.specs.Moves.{Move, Facet, facet, kept, new_facet, inverse_move, play_fault, old_facets, Plays}
+use Rattle.move_definitions.specs.Moves.{Move, Facet, facet, kept, new_facet, inverse_move, move_fault, play_fault, old_facets, Plays}
 use Rattle.move_definitions.specs.declared.MoveFault.{MoveFault}
 use Rattle.certificate_definitions.specs.CarriedMoves.{move_under, by_labels, is_taken}
 use Rattle.certificate_definitions.specs.CarriedBack.{IsCarriedBack, move_back}
@@ -16,6 +16,7 @@ use Rattle.move_laws.proofs.Legal.{no_fault}
 use Rattle.move_laws.proofs.Placed.{closed_up_small}
 use Rattle.move_laws.proofs.Played.{played_same}
 use Rattle.move_laws.specs.Facets.{IsOldFacet, AreOldFacets}
+use Rattle.move_laws.specs.Faults.{IsPattern}
 use Rattle.move_laws.proofs.LegalLaws.{legal_from}
 use Rattle.move_laws.proofs.ListedLaws.{are_old}
 use Rattle.pachner_moves.proofs.CodeLaws.{old_found}
@@ -154,6 +155,12 @@ filled_in step back on by t images perms s e i p =
 
 pub played_is : (old : List Row) (step : PlayedMove) (now : List Row) (on : Relabelling) (back : Back) (m : Move) → IsBefore old step now on → IsBack step now on back → m ≡ back.played → m ≡ move_back old step.played on
 played_is old step now on back m b k e = e ∙ k.played ∙ back_is old step now on b
+
+pub pattern_back : (old : List Row) (step : PlayedMove) (now : List Row) (on : Relabelling) (back : Back) (m : Move) (facets : List Facet) → IsBefore old step now on → IsBack step now on back → m ≡ back.played → facets ≡ back.facets
+    → IsPattern now m facets
+pattern_back old step now on back m facets b k e f =
+    let l : IsLed old step now on back = led old step now on back b k in
+    (f ∙ k.facets ∙ ap (old_facets now) (sym e), ap (move_fault now) (played_is old step now on back m b k e) ∙ l.plays.moved.legal)
 
 pub not_refused : (old : List Row) (step : PlayedMove) (now : List Row) (on : Relabelling) (back : Back) (m : Move) (fault : MoveFault) → IsBefore old step now on → IsBack step now on back → m ≡ back.played → play_fault now m ≡ Some fault → ⊥
 not_refused old step now on back m fault b k e f =

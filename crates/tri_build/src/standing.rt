@@ -7,9 +7,8 @@ ghost use Rattle.table_definitions.specs.Permutation.{preimage};
 ghost use Rattle.tri_build.specs.Standing.{CanStand, CanStandAt, number_without, put_in, retained_stands, facet_stands, stands_at};
 
 use crate::steps::PlayedMove;
-use arrayvec::ArrayVec;
 use gluing_table::{Glue, Relabelling};
-use pachner_moves::{Facet, Move, closed_number, facet_of};
+use pachner_moves::{Facet, Move, Pattern, closed_number, facet_of};
 use perm_four::Perm4;
 use std::marker::Model;
 
@@ -19,7 +18,7 @@ use std::marker::Model;
 pub struct Back {
     pub played: Move,
     pub kept: u32,
-    pub facets: ArrayVec<Facet, 4>,
+    pub pattern: Pattern,
     pub labels: [u8; 5],
 }
 
@@ -28,7 +27,7 @@ impl Model for Back {
 
     ghost Value = { standing.Back };
 
-    ghost view = { λ b. record { played = b.played; kept = b.kept; facets = b.facets.items; labels = b.labels } };
+    ghost view = { λ b. record { played = b.played; kept = b.kept; facets = b.pattern.facets.items; labels = b.labels } };
 }
 
 /// The vertex with a label of the facet that lacks one, or 4.
@@ -50,7 +49,7 @@ fn retained_stands(step: &PlayedMove, back: &Back, on: &Relabelling, tet: u32) -
 {
     let tet = closed_number(&step.facets, tet);
     Glue {
-        tet: closed_number(&back.facets, on.image(tet)),
+        tet: closed_number(&back.pattern.facets, on.image(tet)),
         perm: on.perm(tet),
     }
 }

@@ -40,7 +40,8 @@ impl PlayedMove {
     }
 }
 
-/// Plays a move that can be played.
+/// Plays a move that can be played. Its facets are looked for once more: of the candidates, which are many, the moves alone
+/// are kept.
 fn play_step(table: &mut Table, m: Move) -> PlayedMove
     requires { play_fault table.old m ≡ None }
     ensures played { result.played ≡ m }

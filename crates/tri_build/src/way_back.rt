@@ -15,7 +15,7 @@ use crate::standing::{Back, stands_at};
 use crate::steps::PlayedMove;
 use gluing_table::{Relabelling, Table};
 use no_memory::NoMemory;
-use pachner_moves::{Move, apply, legal, retained};
+use pachner_moves::{Move, apply_legal, legal, retained};
 use perm_four::Perm4;
 use std::alloc::Global;
 
@@ -54,7 +54,7 @@ fn back_of(step: &PlayedMove, now: &Table, on: &Relabelling) -> Back
         Ok(pattern) => Back {
             played,
             kept: retained(now.len(), played.core),
-            facets: pattern.facets,
+            pattern,
             labels: labels_back(step, on),
         },
         Err(_) => unreachable!(),
@@ -79,7 +79,7 @@ impl WayBack {
         let back = back_of(step, &self.now, &self.on);
         let by = carry_back(alloc, step, &back, &self.on)?;
         self.moves.push(back.played)?;
-        match apply(&mut self.now, back.played) {
+        match apply_legal(&mut self.now, back.played, &back.pattern) {
             Ok(_) => {
                 self.on = by;
                 Ok(())

@@ -1,29 +1,30 @@
 -- Each turn plays the move of the descent, which lessens the table, and the last one has none.
 use Rattle.certificate_laws.proofs.Descents.{descents_lessen_lem}
 use Rattle.certificate_laws.proofs.Answered.{descent_accepted}
-use Rattle.sphere_certificate.proofs.Descents.{goes_on, ends_here, one_more, ended, ended_certifies, ended_fewer}
+use Rattle.sphere_certificate.proofs.Descents.{ends_here, one_more, ended, ended_certifies, ended_fewer}
 use Rattle.sphere_certificate.proofs.descending.descent_of.Goals as goal
 
-pub play-requires : goal.play-requires
-play-requires c = descent_accepted c.loop-moves.last c.in-Some.m (goes_on c.loop-moves.last c.in_ok-m.field-0 c.in-Some.m c.in_ok-m.ensures c.in-Some.is).1
+pub play-requires-clause-accepted : goal.play-requires-clause-accepted
+play-requires-clause-accepted c = descent_accepted c.loop-next.last c.in-Some.next.played c.in-Some.ensures.next.1
 
-pub loop-moves-smaller : goal.loop-moves-smaller
-loop-moves-smaller c = descents_lessen_lem c.loop-moves.last c.in-Some.m c.play.new.table (goes_on c.loop-moves.last c.in_ok-m.field-0 c.in-Some.m c.in_ok-m.ensures c.in-Some.is).1 c.play.ensures
+pub loop-next-smaller : goal.loop-next-smaller
+loop-next-smaller c = descents_lessen_lem c.loop-next.last c.in-Some.next.played c.play.new.table c.in-Some.ensures.next.1 c.play.ensures
 
-pub loop-moves-preserved : goal.loop-moves-preserved
-loop-moves-preserved c =
-    one_more c.args.table.now c.loop-moves.moves.items c.push.new.self.items c.loop-moves.last c.in_ok-m.field-0 c.in-Some.m c.play.new.table c.loop-moves.invariant c.in_ok-m.ensures c.in-Some.is c.play.ensures
-    c.in_ok-push.ensures.items
+pub loop-next-preserved : goal.loop-next-preserved
+loop-next-preserved c = (
+  one_more c.args.table.now c.loop-next.moves.items c.push.new.self.items c.loop-next.last c.in-Some.next.played c.play.new.table c.loop-next.invariant.0 c.in-Some.ensures.next c.play.ensures c.in_ok-push.ensures.items,
+  c.in_ok-reached-2.ensures,
+)
 
 pub returns-clause-descent : goal.returns-clause-descent
 returns-clause-descent c =
-    ended c.args.table.now c.loop-moves.moves.items c.loop-moves.last c.in_ok-reached.reached c.loop-moves.invariant (ends_here c.loop-moves.last c.in_ok-m.field-0 c.in_ok-m.ensures c.in_default.is) c.in_ok-reached.ensures
+    ended c.args.table.now c.loop-next.moves.items c.loop-next.last c.loop-next.reached c.loop-next.invariant.0 (ends_here c.loop-next.last c.next_move.result c.next_move.ensures.next c.in_default.is) c.loop-next.invariant.1
 
 pub returns-clause-certificate : goal.returns-clause-certificate
 returns-clause-certificate c =
-    ended_certifies c.args.table.now c.loop-moves.moves.items c.loop-moves.last c.in_ok-reached.reached c.in_ok-last.ensures.is_table c.loop-moves.invariant
-    (ends_here c.loop-moves.last c.in_ok-m.field-0 c.in_ok-m.ensures c.in_default.is) c.in_ok-reached.ensures
+    ended_certifies c.args.table.now c.loop-next.moves.items c.loop-next.last c.loop-next.reached c.in_ok-last.ensures.is_table c.loop-next.invariant.0
+    (ends_here c.loop-next.last c.next_move.result c.next_move.ensures.next c.in_default.is) c.loop-next.invariant.1
 
 pub returns-clause-fewer : goal.returns-clause-fewer
 returns-clause-fewer c =
-    ended_fewer c.args.table.now c.loop-moves.moves.items c.loop-moves.last c.in_ok-last.ensures.is_table c.loop-moves.invariant (ends_here c.loop-moves.last c.in_ok-m.field-0 c.in_ok-m.ensures c.in_default.is)
+    ended_fewer c.args.table.now c.loop-next.moves.items c.loop-next.last c.in_ok-last.ensures.is_table c.loop-next.invariant.0 (ends_here c.loop-next.last c.next_move.result c.next_move.ensures.next c.in_default.is)

@@ -1,9 +1,11 @@
-use Rattle.std.specs.Prelude.{length}
+-- The moves so far lead to the table, and whether it is standard is known.
+use Rattle.std.specs.Prelude.{◌≡◌, ◌↔◌, true, length}
+use Rattle.move_definitions.specs.Certificates.{IsStandard}
 use Rattle.certificate_definitions.specs.SoFar.{DescendsSoFar}
 use Rattle.sphere_certificate.proofs.descending.descent_of.Given as goal
 
-abbrev pub invariant-loop-moves : goal.invariant-loop-moves
-invariant-loop-moves l = DescendsSoFar l.table l.moves.items l.last
+abbrev pub invariant-loop-next : goal.invariant-loop-next
+invariant-loop-next l = DescendsSoFar l.table l.moves.items l.last × ((l.reached ≡ true) ↔ IsStandard l.last)
 
-abbrev pub decreases-loop-moves : goal.decreases-loop-moves
-decreases-loop-moves l = length l.last
+abbrev pub decreases-loop-next : goal.decreases-loop-next
+decreases-loop-next l = length l.last
