@@ -40,8 +40,12 @@ pub record StopsAt {X E : Type 0} (read : Reading → Result X E) (c : Reading) 
   pub split : left_symbols c ≡ front ++ (p, symbol) ∷ after
   pub same : (other : Reading) (more : List Symbol) → shows other ≡ plain front ++ symbol ∷ more → (x : X) → read other ≢ Ok x
 
+-- something holds of each value that a reader gives, with what is left behind it
+abbrev pub WhereRead : {A E : Type 0} → (Reading → Result (A × Reading) E) → Reading → (A → Reading → Type 0) → Type 0
+WhereRead {A} read c P = (x : A) (d : Reading) → read c ≡ Ok (x, d) → P x d
+
 abbrev pub Goes : {A E : Type 0} → (Reading → Result (A × Reading) E) → Reading → Type 0
-Goes {A} read c = (x : A) (d : Reading) → read c ≡ Ok (x, d) → GoesOn read c x d
+Goes read c = WhereRead read c (GoesOn read c)
 
 pub bind_err : {A B E : Type 0} (r : Result A E) (g : A → Result B E) (e : E) → (r >>= g) ≡ Err e → (r ≡ Err e) ⊎ ((x : A) × (r ≡ Ok x) × (g x ≡ Err e))
 bind_err (Ok x) g e p = inr (x, refl, p)
@@ -69,7 +73,7 @@ module _ {A B E : Type 0} (first : Reading → Result (A × Reading) E) (second 
         (s.0, ap (λ (r : Result (A × Reading) E). r >>= λ (y : A × Reading). second y.0 y.1) f.1 ∙ s.1, s.2));
   }
 
-  pub goes_chained : (c : Reading) → Goes first c → ((x : A) (d : Reading) → first c ≡ Ok (x, d) → Goes (second x) d) → Goes chained c
+  pub goes_chained : (c : Reading) → Goes first c → WhereRead first c (λ x d. Goes (second x) d) → Goes chained c
   goes_chained c g h z last e =
       let b : (y : A × Reading) × (first c ≡ Ok y) × (second y.0 y.1 ≡ Ok (z, last)) = bind_ok (first c) (λ (y : A × Reading). second y.0 y.1) (z, last) e in
       goes_joined c (b.0).0 (b.0).1 z last (g (b.0).0 (b.0).1 b.1) (h (b.0).0 (b.0).1 b.1 z last b.2)
@@ -110,8 +114,8 @@ goes_pure {A} {E} x c y d e =
     subst (λ (z : A). GoesOn {A = A} {E = E} (λ d. Ok (x, d)) c z d) parts.0 (subst (λ (r : Reading). GoesOn {A = A} {E = E} (λ d. Ok (x, d)) c x r) parts.1 (record { front = []; split = refl; same = λ other more s o. (other, refl, s) }))
 
 -- readers that give the same everywhere
-pub goes_same : {A E : Type 0} (r s : Reading → Result (A × Reading) E) → ((c : Reading) → r c ≡ s c) → (c : Reading) → Goes r c → Goes s c
-goes_same {A} {E} r s e c g = subst (λ (q : Reading → Result (A × Reading) E). Goes q c) (λ i d. e d i) g
+pub of_same : {X : Type 0} (P : (Reading → X) → Type 0) (r s : Reading → X) → ((c : Reading) → r c ≡ s c) → P r → P s
+of_same P r s e h = subst P (λ i d. e d i) h
 
 -- readers that give no value
 abbrev pub alone : {E : Type 0} → Result Reading E → Result (⊤ × Reading) E
@@ -132,12 +136,19 @@ module _ {E : Type 0} (move : Reading → Result Reading E) where
 
   pub goes_moved : {A : Type 0} (g : Reading → Result (A × Reading) E) (c : Reading) → Goes moved c → ((d : Reading) → move c ≡ Ok d → Goes g d) → Goes (λ b. move b >>= g) c
   goes_moved {A} g c h n =
-      goes_same (chained moved (λ (u : ⊤). g)) (λ b. move b >>= g) (λ b. alone_bind (move b) g) c (goes_chained moved (λ (u : ⊤). g) c h (λ u d e. n d (alone_ok (move c) u d e)))
+      of_same (λ q. Goes q c) (chained moved (λ (u : ⊤). g)) (λ b. move b >>= g) (λ b. alone_bind (move b) g) (goes_chained moved (λ (u : ⊤). g) c h (λ u d e. n d (alone_ok (move c) u d e)))
 
 -- readers with another kind of fault
 pub record Lift {X E F : Type 0} (lift : Result X E → Result X F) : Type 0 where
   pub lowered : (r : Result X E) (x : X) → lift r ≡ Ok x → r ≡ Ok x
   pub lifted : (r : Result X E) (x : X) → r ≡ Ok x → lift r ≡ Ok x
+
+pub lift_of : {X E F : Type 0} (lift : Result X E → Result X F) → ((x : X) → lift (Ok x) ≡ Ok x) → ((f : E) (x : X) → lift (Err f) ≢ Ok x) → Lift lift
+lift_of {X} {E} {F} lift ok err = record { lowered = lowered; lifted = λ r x e. ap lift e ∙ ok x }
+  where
+    lowered : (r : Result X E) (x : X) → lift r ≡ Ok x → r ≡ Ok x
+    lowered (Ok y) x e = let s : ◌≡◌ {A = Result X F} (Ok y) (Ok x) = sym (ok y) ∙ e in let same : y ≡ x = cc in cc
+    lowered (Err f) x e = absurd (err f x e)
 
 pub goes_lifted : {A E F : Type 0} (lift : Result (A × Reading) E → Result (A × Reading) F) → Lift lift → (r : Reading → Result (A × Reading) E) (c : Reading) → Goes r c → Goes (λ d. lift (r d)) c
 goes_lifted lift l r c g x d e =

@@ -7,7 +7,7 @@ use Rattle.text_definitions.specs.declared.LexFault.{LexFault}
 use Rattle.text_definitions.specs.Text.{Token, word, decimal_value}
 use Rattle.text_definitions.specs.Reading.{Reading, ◌>>=◌, word_at, number_up_to, number_at, signed_at, magnitude, is_negative, with_sign, exactly_at, same_word, numbers_from, numbers_at, word_fault}
 use Rattle.table_definitions.proofs.ReadingLaws.{TakesNumber, number_read}
-use Rattle.text_document_laws.proofs.Local.{Goes, goes_chained, goes_pure, goes_same, alone, moved}
+use Rattle.text_document_laws.proofs.Local.{Goes, goes_chained, goes_pure, alone, moved, of_same}
 use Rattle.text_document_laws.proofs.LocalWords.{tested, word_with, goes_word}
 use Rattle.text_document_laws.proofs.LocalLines.{by_end, by_ends, goes_by_end}
 use Rattle.text_document_laws.proofs.Given.{Numbers}
@@ -46,7 +46,7 @@ number_word max c =
     (λ w. number_tested (λ n. n) max (decimal_value w.0) w.1 ∙ unwrapped (number_up_to max (decimal_value w.0) w.1))
 
 pub goes_number : (max : ℕ) (c : Reading) → Goes (number_at max) c
-goes_number max c = goes_same (word_with (plain_test max)) (number_at max) (number_word max) c (goes_word (plain_test max) c)
+goes_number max c = of_same (λ q. Goes q c) (word_with (plain_test max)) (number_at max) (number_word max) (goes_word (plain_test max) c)
 
 unfoldable pub signed_test : ℕ → List ℕ → Result ℤ LexKind
 signed_test max w = number_test (λ n. with_sign (is_negative w) n) max (decimal_value (magnitude w))
@@ -111,9 +111,9 @@ numbers_stepped max c = by_tokens c.current.tokens refl
 module _ (max : ℕ) where
   goes_numbers_in : (ts : List Token) (c : Reading) → c.current.tokens ≡ ts → Goes (numbers_at max) c
   goes_numbers_in [] c none =
-      goes_same (by_end [] (one_more max)) (numbers_at max) (numbers_stepped max) c (goes_by_end [] (one_more max) c (λ t ts split. (let e : [] ≡ t ∷ ts = sym none ∙ split in absurd cc)))
+      of_same (λ q. Goes q c) (by_end [] (one_more max)) (numbers_at max) (numbers_stepped max) (goes_by_end [] (one_more max) c (λ t ts split. (let e : [] ≡ t ∷ ts = sym none ∙ split in absurd cc)))
   goes_numbers_in (u ∷ us) c first =
-      goes_same (by_end [] (one_more max)) (numbers_at max) (numbers_stepped max) c
+      of_same (λ q. Goes q c) (by_end [] (one_more max)) (numbers_at max) (numbers_stepped max)
       (goes_by_end [] (one_more max) c (λ t ts split. goes_chained (number_at max) (others_with max) c (goes_number max c)
       (λ n d e. goes_chained (numbers_at max) (λ xs d'. Ok (n ∷ xs, d')) d (goes_numbers_in us d (sym (tokens_after max c u us n d first e))) (λ xs last q. goes_pure (n ∷ xs) last))))
 

@@ -19,7 +19,7 @@ use Rattle.signature_definitions.specs.declared.InputFault.TheVariants.{Text}
 use Rattle.signature_definitions.specs.declared.SigFault.{SigFault}
 use Rattle.signature_definitions.specs.SignatureText.{texted, decoded, signature_table, signature_at, named_table_at, any_table_at}
 use Rattle.text_document_definitions.specs.Documents.{worded}
-use Rattle.text_document_laws.proofs.Local.{Goes, goes_chained, goes_pure, goes_same, alone, moved, goes_moved, Lift, goes_lifted}
+use Rattle.text_document_laws.proofs.Local.{Goes, goes_chained, goes_pure, alone, moved, goes_moved, Lift, goes_lifted, of_same, lift_of}
 use Rattle.text_document_laws.proofs.LocalWords.{tested, word_with, goes_word, goes_end}
 use Rattle.text_document_laws.proofs.LocalLines.{goes_line}
 use Rattle.text_document_laws.proofs.LocalForms.{goes_number}
@@ -30,34 +30,13 @@ abbrev pub in_text : LexFault → InputFault
 in_text f = Text (Lex f)
 
 lexed_lift : {X : Type 0} → Lift {X = X} (λ r. lexed r)
-lexed_lift {X} = record { lowered = lowered; lifted = lifted }
-  where
-    lowered : (r : Result X LexFault) (x : X) → lexed r ≡ Ok x → r ≡ Ok x
-    lowered (Ok y) x e = let same : y ≡ x = cc in cc
-    lowered (Err f) x e = absurd cc
-
-    lifted : (r : Result X LexFault) (x : X) → r ≡ Ok x → lexed r ≡ Ok x
-    lifted r x e = ap (λ (q : Result X LexFault). lexed q) e
+lexed_lift {X} = lift_of {X = X} (λ r. lexed r) (λ x. refl) (λ f x e. cc)
 
 texted_lift : {X : Type 0} → Lift {X = X} (λ r. texted r)
-texted_lift {X} = record { lowered = lowered; lifted = lifted }
-  where
-    lowered : (r : Result X TextFault) (x : X) → texted r ≡ Ok x → r ≡ Ok x
-    lowered (Ok y) x e = let same : y ≡ x = cc in cc
-    lowered (Err f) x e = absurd cc
-
-    lifted : (r : Result X TextFault) (x : X) → r ≡ Ok x → texted r ≡ Ok x
-    lifted r x e = ap (λ (q : Result X TextFault). texted q) e
+texted_lift {X} = lift_of {X = X} (λ r. texted r) (λ x. refl) (λ f x e. cc)
 
 pub worded_lift : {X : Type 0} → Lift {X = X} (λ r. worded r)
-worded_lift {X} = record { lowered = lowered; lifted = lifted }
-  where
-    lowered : (r : Result X LexFault) (x : X) → worded r ≡ Ok x → r ≡ Ok x
-    lowered (Ok y) x e = let same : y ≡ x = cc in cc
-    lowered (Err f) x e = absurd cc
-
-    lifted : (r : Result X LexFault) (x : X) → r ≡ Ok x → worded r ≡ Ok x
-    lifted r x e = ap (λ (q : Result X LexFault). worded q) e
+worded_lift {X} = lift_of {X = X} (λ r. worded r) (λ x. refl) (λ f x e. cc)
 
 -- a reader of the lexer that gives no value, as one with another kind of fault
 pub lexed_alone : (r : Result Reading LexFault) → lexed (alone r) ≡ alone (lexed r)
@@ -70,10 +49,10 @@ worded_alone (Err f) = refl
 
 module _ (move : Reading → Result Reading LexFault) (c : Reading) (g : Goes (moved move) c) where
   goes_lexed : Goes (moved (λ d. lexed (move d))) c
-  goes_lexed = goes_same (λ d. lexed (alone (move d))) (moved (λ d. lexed (move d))) (λ d. lexed_alone (move d)) c (goes_lifted (λ r. lexed r) lexed_lift (moved move) c g)
+  goes_lexed = of_same (λ q. Goes q c) (λ d. lexed (alone (move d))) (moved (λ d. lexed (move d))) (λ d. lexed_alone (move d)) (goes_lifted (λ r. lexed r) lexed_lift (moved move) c g)
 
   pub goes_worded : Goes (moved (λ d. worded (move d))) c
-  goes_worded = goes_same (λ d. worded (alone (move d))) (moved (λ d. worded (move d))) (λ d. worded_alone (move d)) c (goes_lifted (λ r. worded r) worded_lift (moved move) c g)
+  goes_worded = of_same (λ q. Goes q c) (λ d. worded (alone (move d))) (moved (λ d. worded (move d))) (λ d. worded_alone (move d)) (goes_lifted (λ r. worded r) worded_lift (moved move) c g)
 
 -- entries
 unfoldable pub gluing_test : Option Gluing → Result (Option Gluing) LexKind
@@ -110,7 +89,7 @@ entry_word c = by_word (word_at c)
     by_word (Err f) = refl
 
 pub goes_entry : (c : Reading) → Goes entry_at c
-goes_entry c = goes_same (word_with entry_test) entry_at entry_word c (goes_word entry_test c)
+goes_entry c = of_same (λ q. Goes q c) (word_with entry_test) entry_at entry_word (goes_word entry_test c)
 
 -- rows
 abbrev pub Row : Type 0
@@ -213,7 +192,7 @@ signature_named c = ap (λ (r : Result (List ℕ × Reading) LexFault). worded r
 
 goes_signature : (c : Reading) → Goes signature_at c
 goes_signature c =
-    goes_same (λ d. worded_word any_text d >>= λ (w : List ℕ × Reading). text_on w.0 w.1) signature_at signature_named c
+    of_same (λ q. Goes q c) (λ d. worded_word any_text d >>= λ (w : List ℕ × Reading). text_on w.0 w.1) signature_at signature_named
     (goes_chained (worded_word any_text) text_on c (goes_worded_word any_text c)
     (λ w d e. goes_moved (λ b. worded (end_line_at b)) (λ end. decoded end (signature_table w)) d (goes_worded end_line_at d (goes_end d)) (λ end q. goes_decoded (signature_table w) end)))
 
@@ -246,4 +225,4 @@ goes_by_name true c = goes_lifted (λ r. texted r) texted_lift table_at c (goes_
 goes_by_name false c = goes_signature c
 
 pub goes_any_table : (c : Reading) → Goes any_table_at c
-goes_any_table c = goes_same (λ d. worded_word name_test d >>= λ (b : Bool × Reading). by_name b.0 b.1) any_table_at table_named c (goes_chained (worded_word name_test) by_name c (goes_worded_word name_test c) (λ b d e. goes_by_name b d))
+goes_any_table c = of_same (λ q. Goes q c) (λ d. worded_word name_test d >>= λ (b : Bool × Reading). by_name b.0 b.1) any_table_at table_named (goes_chained (worded_word name_test) by_name c (goes_worded_word name_test c) (λ b d e. goes_by_name b d))

@@ -7,7 +7,7 @@ use Rattle.text_definitions.specs.Text.{Token, word, stray, Line}
 use Rattle.text_definitions.specs.Reading.{Reading, ◌>>=◌}
 use Rattle.text_document_definitions.specs.Symbols.{Symbol, line_end, input_end, Placed, token_symbol, line_symbols, symbols_of, plain}
 use Rattle.table_definitions.proofs.ReadingLaws.{with_tokens}
-use Rattle.text_document_laws.proofs.Local.{left_symbols, shows, opening, opening_more, plain-append, shows_split, GoesOn, StopsAt, Goes, bind_err, stops_late, stops_early}
+use Rattle.text_document_laws.proofs.Local.{left_symbols, shows, opening, opening_more, plain-append, shows_split, GoesOn, StopsAt, Goes, bind_err, stops_late, stops_early, WhereRead}
 use Rattle.text_document_laws.proofs.LocalWords.{as_is}
 
 -- readings that can be read with an aim: from somewhere, where certain symbols are shown, and behind certain symbols
@@ -46,9 +46,6 @@ WellOpen lexical read Aim c = (f : LexFault) → read c ≡ Err (lexical f) → 
 pub record FreeOn {A E : Type 0} (read : Reading → Result (A × Reading) E) (c : Reading) (x : A) (d : Reading) : Type 0 where
   pub goes : GoesOn read c x d
   pub same : (o : Reading) (k : Reading) → shows o ≡ plain goes.front ++ shows k → (next : Reading) × (read o ≡ Ok (x, next)) × (shows next ≡ shows k)
-
-abbrev pub Free : {A E : Type 0} → (Reading → Result (A × Reading) E) → Reading → Type 0
-Free {A} read c = (x : A) (d : Reading) → read c ≡ Ok (x, d) → FreeOn read c x d
 
 -- what is left of a reading behind some symbols, with other symbols in place of what is left
 unfoldable pub line_before : Reading → Reading
@@ -180,7 +177,7 @@ module _ {A B E : Type 0} (lexical : LexFault → E) (first : Reading → Result
   early : (c : Reading) → Well lexical first (Then second Aim) c → (f : LexFault) → first c ≡ Err (lexical f) → (h : StopsAt both c f.place) × Way both h.front Aim
   early c w f p = (let u = w f p in (stops_early first second c f.place u.0, (way_early u.0.front u.1).0))
 
-  pub well_free : (c : Reading) → Free first c → Well lexical first (Then second Aim) c → ((x : A) (d : Reading) → first c ≡ Ok (x, d) → Well lexical (second x) Aim d) → Well lexical both Aim c
+  pub well_free : (c : Reading) → WhereRead first c (FreeOn first c) → Well lexical first (Then second Aim) c → WhereRead first c (λ x d. Well lexical (second x) Aim d) → Well lexical both Aim c
   well_free c g w1 w2 f e = by_case (case_of c f e)
     where
       late : (x : A) (d : Reading) → FreeOn first c x d → (h : StopsAt (second x) d f.place) × Way (second x) h.front Aim → (h : StopsAt both c f.place) × Way both h.front Aim
@@ -205,14 +202,14 @@ module _ {A B E : Type 0} (lexical : LexFault → E) (first : Reading → Result
         ap (λ (r : Reading). opening (shows r)) way.1 ∙ ap opening gr.1 ∙ opening_more (plain g.front) (shows (u.1.other)) (shows d) u.2 ∙ sym (ap opening (shows_split c d g.front g.split)),
       )
 
-  pub well_goes : (c : Reading) → Goes first c → Well lexical first (Then second Aim) c → ((x : A) (d : Reading) → first c ≡ Ok (x, d) → WellOpen lexical (second x) Aim d) → Well lexical both Aim c
+  pub well_goes : (c : Reading) → Goes first c → Well lexical first (Then second Aim) c → WhereRead first c (λ x d. WellOpen lexical (second x) Aim d) → Well lexical both Aim c
   well_goes c g w1 w2 f e = by_case (case_of c f e)
     where
       by_case : Case c f → (h : StopsAt both c f.place) × Way both h.front Aim
       by_case (inl p) = early c w1 f p
       by_case (inr (y, p, q)) = (let u = late_open c y.0 y.1 f.place (g y.0 y.1 p) (w2 y.0 y.1 p f q) in (u.0, u.1))
 
-  pub well_open : (c : Reading) → Goes first c → WellOpen lexical first (Then second Aim) c → ((x : A) (d : Reading) → first c ≡ Ok (x, d) → WellOpen lexical (second x) Aim d) → WellOpen lexical both Aim c
+  pub well_open : (c : Reading) → Goes first c → WellOpen lexical first (Then second Aim) c → WhereRead first c (λ x d. WellOpen lexical (second x) Aim d) → WellOpen lexical both Aim c
   well_open c g w1 w2 f e = by_case (case_of c f e)
     where
       by_case : Case c f → (h : StopsAt both c f.place) × (w : Way both h.front Aim) × (opening (shows w.other) ≡ opening (shows c))
@@ -223,8 +220,8 @@ module _ {A B E : Type 0} (lexical : LexFault → E) (first : Reading → Result
       by_case (inr (y, p, q)) = late_open c y.0 y.1 f.place (g y.0 y.1 p) (w2 y.0 y.1 p f q)
 
   -- the first reader takes a symbol, and doesn't look at the next one
-  pub well_behind : (c : Reading) → ((x : A) (d : Reading) → first c ≡ Ok (x, d) → (fr : FreeOn first c x d) × ((ss : List Symbol) → opening (plain fr.goes.front ++ ss) ≡ opening (shows c))) → WellOpen lexical first (Then second Aim) c
-      → ((x : A) (d : Reading) → first c ≡ Ok (x, d) → Well lexical (second x) Aim d) → WellOpen lexical both Aim c
+  pub well_behind : (c : Reading) → WhereRead first c (λ x d. (fr : FreeOn first c x d) × ((ss : List Symbol) → opening (plain fr.goes.front ++ ss) ≡ opening (shows c))) → WellOpen lexical first (Then second Aim) c
+      → WhereRead first c (λ x d. Well lexical (second x) Aim d) → WellOpen lexical both Aim c
   well_behind c g w1 w2 f e = by_case (case_of c f e)
     where
       late : (x : A) (d : Reading) → (fr : FreeOn first c x d) × ((ss : List Symbol) → opening (plain fr.goes.front ++ ss) ≡ opening (shows c)) → (h : StopsAt (second x) d f.place) × Way (second x) h.front Aim
@@ -241,13 +238,6 @@ module _ {A B E : Type 0} (lexical : LexFault → E) (first : Reading → Result
           let way = way_early u.0.front u.1 in
           (stops_early first second c f.place u.0, way.0, ap (λ (r : Reading). opening (shows r)) way.1 ∙ u.2)
       by_case (inr (y, p, q)) = late y.0 y.1 (g y.0 y.1 p) (w2 y.0 y.1 p f q)
-
--- readers that give the same everywhere
-pub free_same : {A E : Type 0} (r s : Reading → Result (A × Reading) E) → ((c : Reading) → r c ≡ s c) → (c : Reading) → Free r c → Free s c
-free_same {A} {E} r s e c g = subst (λ (q : Reading → Result (A × Reading) E). Free q c) (λ i d. e d i) g
-
-pub well_same : {A E : Type 0} (lexical : LexFault → E) (r s : Reading → Result (A × Reading) E) (Aim : A → List Symbol → Type 0) → ((c : Reading) → r c ≡ s c) → (c : Reading) → Well lexical r Aim c → Well lexical s Aim c
-well_same {A} {E} lexical r s Aim e c g = subst (λ (q : Reading → Result (A × Reading) E). Well lexical q Aim c) (λ i d. e d i) g
 
 pub from_sat : {A E : Type 0} (read : Reading → Result (A × Reading) E) (Aim : A → List Symbol → Type 0) (s : Sat read Aim) → From read Aim (shows s.start)
 from_sat read Aim s = record { start = s.start; there = refl; value = s.value; next = s.next; reads = s.reads; aim = s.aim }

@@ -10,10 +10,10 @@ use Rattle.text_definitions.specs.declared.LexKind.TheVariants.{NumberTooWide}
 use Rattle.text_document_definitions.specs.Symbols.{Symbol, shown, input_end, Placed, line_symbols, symbols_of, plain}
 use Rattle.table_definitions.proofs.ReadingLaws.{ok_parts, with_tokens, behind}
 use Rattle.table_definitions.proofs.LineLaws.{line_found}
-use Rattle.text_document_laws.proofs.Local.{shows, opening, plain-append, alone, moved}
+use Rattle.text_document_laws.proofs.Local.{shows, opening, plain-append, alone, moved, WhereRead, of_same}
 use Rattle.text_document_laws.proofs.LocalWords.{as_is, tested, word_with, at_word, again, StopsHere, stops_here, ends_again, stops_end_here}
 use Rattle.text_document_laws.proofs.LocalLines.{rest_of_line, line_split, rest_here, split_line, further, Further, no_input_end, StopsAfterLine, stops_line_in, ends_shown}
-use Rattle.text_document_laws.proofs.Ways.{Sat, Way, Well, WellOpen, FreeOn, Free, free_same, well_same}
+use Rattle.text_document_laws.proofs.Ways.{Sat, Way, Well, WellOpen, FreeOn}
 use Rattle.text_document_laws.proofs.LocalForms.{number_test, plain_test, number_word}
 
 way_here : {A E : Type 0} (read : Reading → Result (A × Reading) E) (Aim : A → List Symbol → Type 0) (front : List Placed) → front ≡ [] → Sat read Aim → Way read front Aim
@@ -32,7 +32,7 @@ module _ {A : Type 0} (test : List ℕ → Result A LexKind) where
     same = λ o k e. again test w (Ok x) o (shows k) t e;
   }
 
-  free_here : (ts : List Token) (c : Reading) → Free rd (with_tokens ts c)
+  free_here : (ts : List Token) (c : Reading) → WhereRead rd (with_tokens ts c) (FreeOn rd (with_tokens ts c))
   unfolding word_at
   free_here [] c x d e = absurd cc
   free_here (stray column ∷ ts) c x d e = absurd cc
@@ -44,7 +44,7 @@ module _ {A : Type 0} (test : List ℕ → Result A LexKind) where
           let parts : (y ≡ x) × (with_tokens ts (behind column c) ≡ d) = ok_parts (y, with_tokens ts (behind column c)) (x, d) e in
           subst (λ (r : Reading). FreeOn rd (with_tokens (word column w ∷ ts) c) x r) parts.1 (free_taken column w ts c x (t ∙ ap (λ (z : A). Ok z) parts.0))
 
-  pub free_word : (c : Reading) → Free rd c
+  pub free_word : (c : Reading) → WhereRead rd c (FreeOn rd c)
   free_word c = free_here c.current.tokens c
 
   pub sat_word : (w : List ℕ) (x : A) → test w ≡ Ok x → (Aim : A → List Symbol → Type 0) (k : Reading) → Aim x (shows k) → Sat rd Aim
@@ -123,9 +123,9 @@ pub naught_passes : (max : ℕ) → plain_test max (codes "0") ≡ Ok 0
 unfolding number_test
 naught_passes max = ap (λ (b : Bool). if◌then◌else◌ {A = Result ℕ LexKind} b (Err NumberTooWide) (Ok 0)) (le-ltb max 0 (omega arith))
 
-pub free_number : (max : ℕ) (c : Reading) → Free (number_at max) c
-free_number max c = free_same (word_with (plain_test max)) (number_at max) (number_word max) c (free_word (plain_test max) c)
+pub free_number : (max : ℕ) (c : Reading) → WhereRead (number_at max) c (FreeOn (number_at max) c)
+free_number max c = of_same (λ q. WhereRead q c (FreeOn q c)) (word_with (plain_test max)) (number_at max) (number_word max) (free_word (plain_test max) c)
 
 pub well_number : (max : ℕ) (Aim : ℕ → List Symbol → Type 0) (c k : Reading) → Aim 0 (shows k) → Well as_is (number_at max) Aim c
 well_number max Aim c k a =
-    well_same as_is (word_with (plain_test max)) (number_at max) Aim (number_word max) c (well_word (plain_test max) Aim c (sat_word (plain_test max) (codes "0") 0 (naught_passes max) Aim k a))
+    of_same (λ q. Well as_is q Aim c) (word_with (plain_test max)) (number_at max) (number_word max) (well_word (plain_test max) Aim c (sat_word (plain_test max) (codes "0") 0 (naught_passes max) Aim k a))
