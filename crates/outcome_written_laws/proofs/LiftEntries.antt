@@ -23,7 +23,8 @@ use Rattle.surface_laws.proofs.Lifts.{lift_matched}
 use Rattle.surface_laws.proofs.Quads.{projected_at}
 use Rattle.surface_laws.proofs.Turns.{keeping_below}
 use Rattle.surface_quad_lift_laws.proofs.DualTree.{beyond, triangles_seen, IsHung, hung}
-use Rattle.surface_quad_lift_laws.proofs.Flags.{IsVertexClass, IsFlag, mate_by, triangle_of}
+use Rattle.skeleton_class_laws.proofs.Rounds.{where_led}
+use Rattle.surface_quad_lift_laws.proofs.Flags.{IsVertexClass, IsFlag, triangle_of, mate_behind}
 use Rattle.surface_quad_lift_laws.proofs.Growing.{only_one, seen_apart, seen_within}
 use Rattle.surface_quad_lift_laws.proofs.SideLists.{member_listed}
 use Rattle.outcome_written_laws.specs.Lifts.{LiftsAreWithin}
@@ -39,7 +40,7 @@ module _ (s : Skeleton) (c : ℕ) (z : IsVertexClass s c) (xs ys : List ℕ) (l 
   quad_is t k lt lk = sym (projected_at ys (length s.rows) t k lt lk) ∙ ap (λ (w : List ℕ). slice_index w (3 * t + k)) l.quads_are
 
   over_side : (k : Corner) → IsFlag s c z k → (o : Option Gluing) → glue s.rows (left_through k) ≡ o
-      → triangle_at ys (triangle_of k) ≤ triangle_at ys (triangle_of (mate_by k o)) + beside xs (triangle_of (mate_by k o))
+      → triangle_at ys (triangle_of k) ≤ triangle_at ys (triangle_of (where_led mate_behind k o)) + beside xs (triangle_of (where_led mate_behind k o))
   over_side k flag None e = omega arith
   over_side k flag (Some g) e =
       let f = flag.four in

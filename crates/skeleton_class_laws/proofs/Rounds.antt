@@ -9,17 +9,17 @@ use Rattle.table_definitions.proofs.PermutationLaws.{image_below, image-of_inver
 use Rattle.skeleton_class_laws.specs.CornersIn.{IsCornerIn}
 use Rattle.skeleton_definitions.specs.Corners.{Corner, left_through, came_through, corner_behind, step, steps, Reaches, GoesRound, IsWalk, AreCorners}
 
--- the corner behind a gluing, and the corner itself where there is none
-abbrev pub behind_by : Corner → Option Gluing → Corner
-behind_by k None = k
-behind_by k (Some g) = corner_behind k g
+-- the corner to which a way across a gluing leads, and the corner itself where there is none
+abbrev pub where_led : (Corner → Gluing → Corner) → Corner → Option Gluing → Corner
+where_led way k None = k
+where_led way k (Some g) = way k g
 
 -- the next corner, and the corner before
 abbrev pub next : List Row → Corner → Corner
-next rows k = behind_by k (glue rows (left_through k))
+next rows k = where_led corner_behind k (glue rows (left_through k))
 
 abbrev pub before : List Row → Corner → Corner
-before rows k = behind_by k (glue rows (came_through k))
+before rows k = where_led corner_behind k (glue rows (came_through k))
 
 -- what the first of several steps leads to
 pub first_step : (rows : List Row) (n : ℕ) (l : Corner) (o : Option Corner) → option_and_then (λ m. steps rows n m) o ≡ Some l → (m : Corner) × (o ≡ Some m) × (steps rows n m ≡ Some l)
@@ -54,7 +54,7 @@ behind_is rows table k l four g e is = subst (IsStep rows k) is (record {
     b = sym (image-of_inverse g.perm k.b p four.b) i;
     c = sym (image-of_inverse g.perm k.c p four.c) i;
     d = sym (image-of_inverse g.perm k.d p four.d) i;
-  }) ∙ ap (behind_by (corner_behind k g)) (sym (table.leads_back (left_through k) g e));
+  }) ∙ ap (where_led corner_behind (corner_behind k g)) (sym (table.leads_back (left_through k) g e));
 })
   where
     p : IsPermutationOfFour g.perm

@@ -21,7 +21,8 @@ use Rattle.table_definitions.proofs.DistinctLists.{AreApart, apart_filter, apart
 use Rattle.surface_quad_lift_laws.proofs.Colours.{IsFree, ends_seen, AreJoined}
 use Rattle.surface_quad_lift_laws.proofs.DualTree.{beyond, triangles_seen, IsHung}
 use Rattle.surface_quad_lift_laws.proofs.Ends.{end_of, other_end, link_vertex_list}
-use Rattle.surface_quad_lift_laws.proofs.Flags.{IsVertexClass, IsFlag, mate, mate_by, mate_in, mate_back, mate-turn, side, side_parts, triangle_of, turn}
+use Rattle.skeleton_class_laws.proofs.Rounds.{where_led}
+use Rattle.surface_quad_lift_laws.proofs.Flags.{IsVertexClass, IsFlag, mate, mate_in, mate_back, mate-turn, side, side_parts, triangle_of, turn, mate_behind}
 use Rattle.surface_quad_lift_laws.proofs.Growing.{Covers, apart_covers, new_seen, old_seen, length-seen, fits, new_old, not_root}
 use Rattle.surface_quad_lift_laws.proofs.OneSides.{IsOneSide, has_sides, same_side, one_of_ends, four_flags}
 use Rattle.surface_quad_lift_laws.proofs.SideLists.{flag_of, flags_at, side_flags, flag_listed}
@@ -70,7 +71,7 @@ module _ (s : Skeleton) (c : ℕ) (z : IsVertexClass s c) where
       across_it g q =
           let x : Face = left_through k in
           let i : IsGlued s.rows x g = glued_is s.rows x g (z.skeleton).table q in
-          let there : left_through (mate s.rows k) ≡ other_side x g = ap (λ o. left_through (mate_by k o)) q in
+          let there : left_through (mate s.rows k) ≡ other_side x g = ap (λ o. left_through (where_led mate_behind k o)) q in
           let after : is_face_before x (other_side x g) ≡ false = ap (is_first_side x) (sym q) ∙ e in
           ap (λ y. is_first_side y (glue s.rows y)) there ∙ ap (is_first_side (other_side x g)) i.back ∙ ap (is_face_before (other_side x g)) i.returns
           ∙ elim (before_or_after x (other_side x g) ((z.skeleton).table.apart x g q)) [
@@ -95,7 +96,7 @@ module _ (s : Skeleton) (c : ℕ) (z : IsVertexClass s c) where
   ]
     where
       home : glue s.rows (left_through (mate s.rows m)) ≡ None → mate s.rows m ≡ m
-      home e = sym (ap (mate_by (mate s.rows m)) e) ∙ mate_back s c z m g
+      home e = sym (ap (where_led mate_behind (mate s.rows m)) e) ∙ mate_back s c z m g
 
   edge_listed : (k : Corner) → IsFlag s c z k → Among (edge_by k) first_sides
   edge_listed k h = go (first_side k) refl
@@ -213,7 +214,7 @@ module _ (s : Skeleton) (c : ℕ) (z : IsVertexClass s c) where
           | inl d ↦ (let m = map-among edge_by x ds d in
               let g : IsFlag s c z m.0 = in_tree m.0 m.1 in
               let o = free_alone f.k m.0 f.flag g f.free (edge_same f.k m.0 f.flag g (edge_free f.k f.free ∙ f.is ∙ m.2)) in
-              new_old triangle_of (beyond s) (IsFlag s c z) (root ∷ []) ds m.0 hung m.1 (sym (ap (λ o. triangle_of (mate_by m.0 o)) (by_pair m.0 o))))
+              new_old triangle_of (beyond s) (IsFlag s c z) (root ∷ []) ds m.0 hung m.1 (sym (ap (λ o. triangle_of (where_led mate_behind m.0 o)) (by_pair m.0 o))))
           | inr d ↦ (let m = map-among edge_by x gs d in
               let g : IsFlag s c z m.0 = (in_joined m.0 m.1).0 in
               let o = free_alone f.k m.0 f.flag g f.free (edge_same f.k m.0 f.flag g (edge_free f.k f.free ∙ f.is ∙ m.2)) in

@@ -18,7 +18,8 @@ use Rattle.surface_definitions.specs.Coordinates.{quad_column, keeping}
 use Rattle.surface_definitions.specs.declared.Coords.TheVariants.{Quad}
 use Rattle.surface_laws.proofs.Glued.{IsGlued, glued_is}
 use Rattle.surface_laws.proofs.Vertices.{one_vertex, number-vertex, IsCrossed, crossed_is}
-use Rattle.surface_quad_lift_laws.proofs.Flags.{IsVertexClass, IsFlag, mate, mate_by, mate-turn, mate_in, mate_back, triangle_of}
+use Rattle.skeleton_class_laws.proofs.Rounds.{where_led}
+use Rattle.surface_quad_lift_laws.proofs.Flags.{IsVertexClass, IsFlag, mate, mate-turn, mate_in, mate_back, triangle_of, mate_behind}
 use Rattle.surface_quad_lift_laws.proofs.Growing.{only_one, seen, Grown, Extends, Covers, grow, new_seen, old_seen}
 use Rattle.surface_quad_lift_laws.proofs.Searches.{search_list, has_not, fails_second}
 use Rattle.surface_quad_lift_laws.proofs.SideLists.{flag_of, flag_in, flag_is, side_flags, flag_listed, listed_flag, listed_member, member_listed}
@@ -71,7 +72,7 @@ module _ (s : Skeleton) (c : ℕ) (z : IsVertexClass s c) where
         let k : Corner = flag_of p.tet h.v f in
         let flag : IsFlag s c z k = flag_in s c z p.tet h.v f i.tet h.small i.face w.off h.chosen in
         let there : IsFlag s c z (mate s.rows k) = mate_in s c z k flag in
-        let is_mate : mate s.rows k ≡ mate_by k (Some w.g) = ap (mate_by k) w.glued in
+        let is_mate : mate s.rows k ≡ mate_behind k w.g = ap (where_led mate_behind k) w.glued in
         let to : IsSo (one_vertex w.g.tet (image w.g.perm h.v)) = record {
           v = image w.g.perm h.v;
           is = refl;

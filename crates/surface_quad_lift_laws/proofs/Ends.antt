@@ -19,7 +19,8 @@ use Rattle.skeleton_definitions.specs.Links.{directed, SameDirected, vertex_numb
 use Rattle.skeleton_definitions.specs.Skeleton.{Skeleton, IsSkeleton}
 use Rattle.surface_laws.proofs.Vertices.{class_across}
 use Rattle.surface_quad_laws.proofs.Rounds.{HasFourVertices}
-use Rattle.surface_quad_lift_laws.proofs.Flags.{IsVertexClass, IsFlag, mate, mate_by, turn}
+use Rattle.skeleton_class_laws.proofs.Rounds.{where_led}
+use Rattle.surface_quad_lift_laws.proofs.Flags.{IsVertexClass, IsFlag, mate, turn, mate_behind}
 use Rattle.skeleton_class_laws.specs.Crossings.{pair, pair_number}
 use Rattle.skeleton_class_laws.proofs.Cases.{pair_number-parts}
 use Rattle.skeleton_class_laws.proofs.DirectionTies.{pair_is}
@@ -104,12 +105,12 @@ module _ (s : Skeleton) (c : ℕ) (z : IsVertexClass s c) (directions : List ℕ
           let hb : (k.b == k.c) ≡ false = ne_eqb k.b k.c f.bc in
           let j : IsJoined s.rows (pair k.tet k.a k.b) (carried g (pair k.tet k.a k.b)) = joined_step s.rows (pair k.tet k.a k.b) k.c (carried g (pair k.tet k.a k.b)) (across_by s.rows (pair k.tet k.a k.b) k.c g e (rw (ha, hb) refl)) in
           let l : Corner = mate s.rows k in
-          let same : carried g (pair k.tet k.a k.b) ≡ pair l.tet l.a l.b = ap (λ o. let m : Corner = mate_by k o in pair m.tet m.a m.b) (sym e) in
+          let same : carried g (pair k.tet k.a k.b) ≡ pair l.tet l.a l.b = ap (λ o. let m : Corner = where_led mate_behind k o in pair m.tet m.a m.b) (sym e) in
           let q : HasFourVertices n l = m.four in
           sym (joined_ends k.tet k.a k.b l.tet l.a l.b f.tet f.a f.b f.ab q.tet q.a q.b q.ab (subst (IsJoined s.rows (pair k.tet k.a k.b)) same j))
 
       go : (o : Option Gluing) → glue s.rows (left_through k) ≡ o → end_of (mate s.rows k) ≡ end_of k
-      go None e = ap end_of (ap (mate_by k) e)
+      go None e = ap end_of (ap (where_led mate_behind k) e)
       go (Some g) e = glued g e
 
   -- the vertices of the link

@@ -1,15 +1,15 @@
 -- Flags of the link of a vertex class: a triangle, at the vertex a of a tetrahedron, with its side in face c and the end b of that side.
 use Rattle.std.proofs.Common.{◌≡◌, ℕ, ◌+◌, ◌*◌, ◌<◌, List, length, Option, Some, None, refl, sym, ap, ◌∙◌, subst, arith}
 use Rattle.std.specs.Prelude.{slice_index}
-use Rattle.table_definitions.specs.Permutation.{IsPermutationOfFour, image}
+use Rattle.table_definitions.specs.Permutation.{IsPermutationOfFour}
 use Rattle.table_definitions.specs.Table.{Gluing, Row, glue}
 use Rattle.table_definitions.proofs.PermutationLaws.{image_below, images_apart, image-of_inverse}
-use Rattle.skeleton_definitions.specs.Corners.{Corner, left_through}
+use Rattle.skeleton_definitions.specs.Corners.{Corner, left_through, corner_behind}
 use Rattle.skeleton_definitions.specs.Links.{vertex_number}
 use Rattle.skeleton_definitions.specs.Skeleton.{Skeleton, IsSkeleton}
 use Rattle.surface_laws.proofs.Vertices.{class_across}
 use Rattle.surface_laws.proofs.CornerSteps.{LeadsOn}
-use Rattle.skeleton_class_laws.proofs.Rounds.{before, next, behind_by}
+use Rattle.skeleton_class_laws.proofs.Rounds.{before, next, where_led}
 use Rattle.surface_quad_laws.proofs.Rounds.{HasFourVertices}
 
 -- a vertex class of a table
@@ -35,40 +35,32 @@ abbrev pub opposite : Corner → Corner
 opposite k = record { tet = k.tet; a = k.b; b = k.a; c = k.c; d = k.d }
 
 -- the same end of the same side, in the triangle that is glued there
-abbrev pub mate_by : Corner → Option Gluing → Corner
-mate_by k None = k
-mate_by k (Some g) = record { tet = g.tet; a = image g.perm k.a; b = image g.perm k.b; c = image g.perm k.c; d = image g.perm k.d }
+abbrev pub mate_behind : Corner → Gluing → Corner
+mate_behind k g = flip (corner_behind k g)
 
 abbrev pub mate : List Row → Corner → Corner
-mate rows k = mate_by k (glue rows (left_through k))
+mate rows k = where_led mate_behind k (glue rows (left_through k))
+
+-- a change that may come before the way across or behind it
+either_way : (way : Corner → Gluing → Corner) (change : Corner → Corner) (k : Corner) (o : Option Gluing) → ((g : Gluing) → way (change k) g ≡ change (way k g)) → where_led way (change k) o ≡ change (where_led way k o)
+either_way way change k None h = refl
+either_way way change k (Some g) h = h g
 
 pub mate-turn : (rows : List Row) (k : Corner) → mate rows (turn k) ≡ turn (mate rows k)
-mate-turn rows k = go (glue rows (left_through k))
-  where
-    go : (o : Option Gluing) → mate_by (turn k) o ≡ turn (mate_by k o)
-    go None = refl
-    go (Some g) = refl
+mate-turn rows k = either_way mate_behind turn k (glue rows (left_through k)) (λ g. refl)
 
 pub mate-opposite : (rows : List Row) (k : Corner) → mate rows (opposite k) ≡ opposite (mate rows k)
-mate-opposite rows k = go (glue rows (left_through k))
-  where
-    go : (o : Option Gluing) → mate_by (opposite k) o ≡ opposite (mate_by k o)
-    go None = refl
-    go (Some g) = refl
+mate-opposite rows k = either_way mate_behind opposite k (glue rows (left_through k)) (λ g. refl)
 
 pub next-opposite : (rows : List Row) (k : Corner) → next rows (opposite k) ≡ opposite (next rows k)
-next-opposite rows k = go (glue rows (left_through k))
-  where
-    go : (o : Option Gluing) → behind_by (opposite k) o ≡ opposite (behind_by k o)
-    go None = refl
-    go (Some g) = refl
+next-opposite rows k = either_way corner_behind opposite k (glue rows (left_through k)) (λ g. refl)
 
 -- where the side is glued, the flag on its other side is that of the next corner, and of the one before
 pub mate-next : (rows : List Row) (k : Corner) → LeadsOn rows k → mate rows k ≡ flip (next rows k)
-mate-next rows k w = ap (mate_by k) w.glued ∙ ap (λ o. flip (behind_by k o)) (sym w.glued)
+mate-next rows k w = ap (where_led mate_behind k) w.glued ∙ ap (λ o. flip (where_led corner_behind k o)) (sym w.glued)
 
 pub mate-before : (rows : List Row) (k : Corner) → LeadsOn rows (flip k) → mate rows (flip k) ≡ before rows k
-mate-before rows k w = ap (mate_by (flip k)) w.glued ∙ ap (behind_by k) (sym w.glued)
+mate-before rows k w = ap (where_led mate_behind (flip k)) w.glued ∙ ap (where_led corner_behind k) (sym w.glued)
 
 module _ (s : Skeleton) (c : ℕ) (z : IsVertexClass s c) where
   abbrev n : ℕ
@@ -91,7 +83,7 @@ module _ (s : Skeleton) (c : ℕ) (z : IsVertexClass s c) where
   }
 
   -- across a glued side, and at a boundary face
-  glued_mate : (k : Corner) → IsFlag k → (g : Gluing) → glue s.rows (left_through k) ≡ Some g → IsFlag (mate_by k (Some g))
+  glued_mate : (k : Corner) → IsFlag k → (g : Gluing) → glue s.rows (left_through k) ≡ Some g → IsFlag (mate_behind k g)
   glued_mate k h g e =
       let f : HasFourVertices n k = h.four in
       let p : IsPermutationOfFour g.perm = (z.skeleton).table.permutes (left_through k) g e in
@@ -116,18 +108,18 @@ module _ (s : Skeleton) (c : ℕ) (z : IsVertexClass s c) where
   mate_in k h = go (glue s.rows (left_through k)) refl
     where
       go : (o : Option Gluing) → glue s.rows (left_through k) ≡ o → IsFlag (mate s.rows k)
-      go None e = subst IsFlag (sym (ap (mate_by k) e)) h
-      go (Some g) e = subst IsFlag (sym (ap (mate_by k) e)) (glued_mate k h g e)
+      go None e = subst IsFlag (sym (ap (where_led mate_behind k) e)) h
+      go (Some g) e = subst IsFlag (sym (ap (where_led mate_behind k) e)) (glued_mate k h g e)
 
   pub mate_back : (k : Corner) → IsFlag k → mate s.rows (mate s.rows k) ≡ k
   mate_back k h = go (glue s.rows (left_through k)) refl
     where
       go : (o : Option Gluing) → glue s.rows (left_through k) ≡ o → mate s.rows (mate s.rows k) ≡ k
-      go None e = ap (mate s.rows) (ap (mate_by k) e) ∙ ap (mate_by k) e
+      go None e = ap (mate s.rows) (ap (where_led mate_behind k) e) ∙ ap (where_led mate_behind k) e
       go (Some g) e =
           let f : HasFourVertices n k = h.four in
           let p : IsPermutationOfFour g.perm = (z.skeleton).table.permutes (left_through k) g e in
-          ap (mate s.rows) (ap (mate_by k) e) ∙ ap (mate_by (mate_by k (Some g))) ((z.skeleton).table.leads_back (left_through k) g e)
+          ap (mate s.rows) (ap (where_led mate_behind k) e) ∙ ap (where_led mate_behind (mate_behind k g)) ((z.skeleton).table.leads_back (left_through k) g e)
           ∙ (λ i. record {
             tet = k.tet;
             a = image-of_inverse g.perm k.a p f.a i;

@@ -6,7 +6,7 @@ use Rattle.table_definitions.specs.Permutation.{image}
 use Rattle.table_definitions.specs.Table.{Row, Face, other_side, same_face, IsTable}
 use Rattle.skeleton_definitions.specs.Corners.{Corner, corner_behind, step, steps, Reaches, left_through}
 use Rattle.surface_laws.proofs.CornerSteps.{IsStep, step_is}
-use Rattle.skeleton_class_laws.proofs.Rounds.{before, next, first_step, behind_by}
+use Rattle.skeleton_class_laws.proofs.Rounds.{before, next, first_step, where_led}
 use Rattle.surface_quad_laws.proofs.Rounds.{HasFourVertices, next_is, before_next, behind_in, kept_by_steps}
 use Rattle.surface_quad_lift_laws.proofs.Flags.{flip}
 
@@ -44,7 +44,7 @@ module _ (rows : List Row) (table : IsTable rows) where
       let w : IsStep rows k m = step_is rows k m e in
       let v : IsStep rows y (flip k) = step_is rows y (flip k) f in
       let onto : next rows y ≡ flip k = next_is rows y v.on ∙ v.is in
-      sym (before_next rows table y four v.on) ∙ ap (before rows) onto ∙ ap (behind_by (flip k)) w.on.glued ∙ ap flip w.is
+      sym (before_next rows table y four v.on) ∙ ap (before rows) onto ∙ ap (where_led corner_behind (flip k)) w.on.glued ∙ ap flip w.is
 
   pub no_flip : (n : ℕ) (k : Corner) → HasFourVertices (length rows) k → steps rows n k ≡ Some (flip k) → ⊥
   no_flip zero k four e = let same : k ≡ flip k = cc in four.cd (ap (λ (l : Corner). l.c) same)

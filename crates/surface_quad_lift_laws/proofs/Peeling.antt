@@ -22,11 +22,11 @@ use Rattle.surface_quad_lift_laws.proofs.Cycles.{IsCycle}
 use Rattle.surface_quad_lift_laws.proofs.DualTree.{beyond, quads, IsLevel}
 use Rattle.surface_quad_lift_laws.proofs.EdgeCycles.{HasCycle, cycle_of}
 use Rattle.surface_quad_lift_laws.proofs.Ends.{end_of, other_end}
-use Rattle.surface_quad_lift_laws.proofs.Flags.{IsVertexClass, IsFlag, mate, mate_by, mate-next, mate_in, mate_back, triangle_of, turn, flip}
+use Rattle.surface_quad_lift_laws.proofs.Flags.{IsVertexClass, IsFlag, mate, mate-next, mate_in, mate_back, triangle_of, turn, flip, mate_behind}
 use Rattle.surface_quad_lift_laws.proofs.Growing.{one_left, new_seen, old_seen, fits, root_seen}
 use Rattle.surface_quad_lift_laws.proofs.OneSides.{IsOneSide, four_flags, level_mate, level_one_side, one_of_ends, other_same}
 use Rattle.surface_quad_lift_laws.proofs.SideLists.{flag_of, flag_in}
-use Rattle.skeleton_class_laws.proofs.Rounds.{next}
+use Rattle.skeleton_class_laws.proofs.Rounds.{next, where_led}
 
 module _ (s : Skeleton) (c : ℕ) (z : IsVertexClass s c) (directions : List ℕ) (count : ℕ) (numbered : IsNumbering (12 * length s.rows) (SameDirected s.rows) directions count)
     (quad_rows : List EquationRow) (equations : AreQuadEquations s.rows quad_rows) (xs : List ℕ) (solution : IsSolution (columns Quad (length s.rows)) quad_rows xs) (h : ℕ → ℕ) where
@@ -64,7 +64,7 @@ module _ (s : Skeleton) (c : ℕ) (z : IsVertexClass s c) (directions : List ℕ
 
   -- heights fit at a boundary side
   free_level : (m : Corner) → glue s.rows (left_through m) ≡ None → Level m
-  free_level m e = ap (λ o. let l : Corner = mate_by m o in h (triangle_of l) + quads xs l) (sym e)
+  free_level m e = ap (λ o. let l : Corner = where_led mate_behind m o in h (triangle_of l) + quads xs l) (sym e)
 
   -- no cycle has a flag and its mate
   never_mate : (ks : List Corner) → IsCycle s.rows xs ks → (k : Corner) → Among k ks → Among (mate s.rows k) ks → ⊥
@@ -142,4 +142,4 @@ module _ (s : Skeleton) (c : ℕ) (z : IsVertexClass s c) (directions : List ℕ
     all_heights x g v e lv off ch =
         let i : IsGlued s.rows x g = glued_is s.rows x g (z.skeleton).table e in
         let k : Corner = flag_of x.tet v x.face in
-        all_level k (flag_in s c z x.tet v x.face i.tet lv i.face off ch) ∙ ap (λ o. let m : Corner = mate_by k o in h (triangle_of m) + quads xs m) e
+        all_level k (flag_in s c z x.tet v x.face i.tet lv i.face off ch) ∙ ap (λ o. let m : Corner = where_led mate_behind k o in h (triangle_of m) + quads xs m) e
