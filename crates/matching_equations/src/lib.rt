@@ -8,7 +8,7 @@ mod quads;
 mod table_equations;
 
 pub use matching::matching_system;
-pub use normal_discs::columns;
+pub use normal_discs::{DiscCoords, columns};
 pub use pieces::column;
 pub use surface_definitions::{Coords, Piece};
 pub use table_equations::{equations, equations_of_table, quad_equations};

@@ -12,20 +12,18 @@ use crate::equation::row_of;
 use cone_core::System;
 use gluing_table::{Face, Glue, Table};
 use no_memory::NoMemory;
-use normal_discs::{arc_columns, columns};
+use normal_discs::{DiscCoords, arc_columns, columns};
 use std::alloc::Global;
-use surface_definitions::Coords;
 
 /// Appends the equation of the arcs round a vertex of a glued face.
 fn push_equation(
     alloc: Global,
-    coords: Coords,
+    coords: DiscCoords,
     face: Face,
     glue: Glue,
     vertex: u8,
     system: &mut System,
 ) -> Result<(), NoMemory>
-    requires coords { coords ≢ Coords.Quad }
     requires tet { face.tet < max_tets }
     requires other_tet { glue.tet < max_tets }
     requires a_face { face.face < 4 }
@@ -34,7 +32,7 @@ fn push_equation(
     requires permutes { IsPermutationOfFour glue.perm }
     requires room { length system.old.rows + 1 < 2 ^ 32 }
     ensures columns { OnOk result (system.new.columns ≡ system.old.columns) }
-    ensures rows { OnOk result (system.new.rows ≡ system.old.rows ++ equations.row_of system.old.columns (matching coords face glue vertex) ∷ []) }
+    ensures rows { OnOk result (system.new.rows ≡ system.old.rows ++ equations.row_of system.old.columns (matching coords.system face glue vertex) ∷ []) }
     ensures one_more { OnOk result (length system.new.rows ≡ length system.old.rows + 1) }
 {
     let left = arc_columns(coords, face.tet, face.face, vertex);
@@ -49,19 +47,18 @@ fn push_equation(
 /// Appends the equations of a glued face.
 fn push_glued(
     alloc: Global,
-    coords: Coords,
+    coords: DiscCoords,
     face: Face,
     glue: Glue,
     system: &mut System,
 ) -> Result<(), NoMemory>
-    requires coords { coords ≢ Coords.Quad }
     requires tet { face.tet < max_tets }
     requires other_tet { glue.tet < max_tets }
     requires a_face { face.face < 4 }
     requires permutes { IsPermutationOfFour glue.perm }
     requires room { length system.old.rows + 4 < 2 ^ 32 }
     ensures columns { OnOk result (system.new.columns ≡ system.old.columns) }
-    ensures rows { OnOk result (system.new.rows ≡ system.old.rows ++ glued_rows coords system.old.columns face glue) }
+    ensures rows { OnOk result (system.new.rows ≡ system.old.rows ++ glued_rows coords.system system.old.columns face glue) }
     ensures few { OnOk result (length system.new.rows ≤ length system.old.rows + 4) }
 {
     let opposite = face.face;
@@ -76,18 +73,17 @@ fn push_glued(
 /// Appends the equations of a face, where it is glued and the lesser side.
 fn push_face(
     alloc: Global,
-    coords: Coords,
+    coords: DiscCoords,
     table: &Table,
     face: Face,
     system: &mut System,
 ) -> Result<(), NoMemory>
-    requires coords { coords ≢ Coords.Quad }
     requires table { IsTable table.now }
     requires in_range { face.tet < length table.now }
     requires a_face { face.face < 4 }
     requires room { length system.old.rows + 4 < 2 ^ 32 }
     ensures columns { OnOk result (system.new.columns ≡ system.old.columns) }
-    ensures rows { OnOk result (system.new.rows ≡ system.old.rows ++ face_rows coords table.now system.old.columns face) }
+    ensures rows { OnOk result (system.new.rows ≡ system.old.rows ++ face_rows coords.system table.now system.old.columns face) }
     ensures few { OnOk result (length system.new.rows ≤ length system.old.rows + 4) }
 {
     if let Some(glue) = table.glue(face) {
@@ -101,17 +97,16 @@ fn push_face(
 /// Appends the equations of the faces of a tetrahedron.
 fn push_tet(
     alloc: Global,
-    coords: Coords,
+    coords: DiscCoords,
     table: &Table,
     tet: u32,
     system: &mut System,
 ) -> Result<(), NoMemory>
-    requires coords { coords ≢ Coords.Quad }
     requires table { IsTable table.now }
     requires in_range { tet < length table.now }
     requires room { length system.old.rows + 16 < 2 ^ 32 }
     ensures columns { OnOk result (system.new.columns ≡ system.old.columns) }
-    ensures rows { OnOk result (system.new.rows ≡ system.old.rows ++ tet_rows coords table.now system.old.columns tet) }
+    ensures rows { OnOk result (system.new.rows ≡ system.old.rows ++ tet_rows coords.system table.now system.old.columns tet) }
     ensures few { OnOk result (length system.new.rows ≤ length system.old.rows + 16) }
 {
     for face in 0..4 {
@@ -122,14 +117,13 @@ fn push_tet(
 
 /// The matching equations of a table in standard or octagon coordinates: one for each glued pair of faces and each
 /// vertex of the lesser side, as many arcs round the vertex on the one side as on the other (Haken 1961).
-pub fn matching_system(alloc: Global, coords: Coords, table: &Table) -> Result<System, NoMemory>
-    requires { coords ≢ Coords.Quad }
-    ensures columns { IfOk result (λ s. s.columns ≡ coordinates.columns coords (length table.now)) }
-    ensures rows { IfOk result (λ s. s.rows ≡ matching_rows coords table.now) }
+pub fn matching_system(alloc: Global, coords: DiscCoords, table: &Table) -> Result<System, NoMemory>
+    ensures columns { IfOk result (λ s. s.columns ≡ coordinates.columns coords.system (length table.now)) }
+    ensures rows { IfOk result (λ s. s.rows ≡ matching_rows coords.system table.now) }
     ensures few { IfOk result (λ s. length s.rows ≤ 16000) }
 {
     let tets = table.rows().len() as u32;
-    let mut system = System::new(alloc, columns(coords, tets));
+    let mut system = System::new(alloc, columns(coords.system, tets));
     for tet in 0..tets {
         push_tet(alloc, coords, table, tet, &mut system)?;
     }

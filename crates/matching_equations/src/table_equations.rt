@@ -9,6 +9,7 @@ use crate::quads::quad_system;
 use cone_core::System;
 use gluing_table::Table;
 use no_memory::NoMemory;
+use normal_discs::DiscCoords;
 use skeleton::Skeleton;
 use std::alloc::Global;
 use surface_definitions::Coords;
@@ -28,9 +29,9 @@ pub fn equations(alloc: Global, skeleton: &Skeleton, coords: Coords) -> Result<S
     ensures equations { IfOk result (λ s. AreEquations coords skeleton.now.rows s.rows) }
 {
     match coords {
-        Coords::Standard => matching_system(alloc, coords, skeleton.table()),
+        Coords::Standard => matching_system(alloc, DiscCoords::STANDARD, skeleton.table()),
         Coords::Quad => quad_equations(alloc, skeleton),
-        Coords::Octagon => matching_system(alloc, coords, skeleton.table()),
+        Coords::Octagon => matching_system(alloc, DiscCoords::OCTAGON, skeleton.table()),
     }
 }
 
@@ -49,8 +50,8 @@ pub fn equations_of_table(alloc: Global, table: &Table, coords: Coords) -> Resul
     ensures equations { IfOk result (λ s. AreEquations coords table.now s.rows) }
 {
     match coords {
-        Coords::Standard => matching_system(alloc, coords, table),
+        Coords::Standard => matching_system(alloc, DiscCoords::STANDARD, table),
         Coords::Quad => equations_round_edges(alloc, table),
-        Coords::Octagon => matching_system(alloc, coords, table),
+        Coords::Octagon => matching_system(alloc, DiscCoords::OCTAGON, table),
     }
 }

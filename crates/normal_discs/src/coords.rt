@@ -1,10 +1,11 @@
 //! Which pieces have columns, and which.
 
-ghost use Rattle.std.specs.Prelude.{◌≡◌, ◌≢◌, ◌+◌, ◌*◌, ◌/◌, ◌%◌, ◌<◌, ◌≤◌};
+ghost use Rattle.std.specs.Prelude.{◌≡◌, ◌+◌, ◌*◌, ◌/◌, ◌%◌, ◌<◌, ◌≤◌};
 ghost use Rattle.table_definitions.specs.Table.{max_tets};
 ghost use Rattle.surface_definitions.specs.Coordinates as coordinates;
 ghost use Rattle.surface_definitions.specs.Pieces.{type_in};
 
+use crate::disc_coords::DiscCoords;
 use surface_definitions::Coords;
 
 // How many columns of a tetrahedron stand before its octagons.
@@ -68,12 +69,12 @@ pub fn place_of(coords: Coords, column: u32) -> u32
 }
 
 /// The column of the triangles round a vertex.
-pub fn triangle_column(coords: Coords, tet: u32, vertex: u8) -> u32
+pub fn triangle_column(coords: DiscCoords, tet: u32, vertex: u8) -> u32
     requires tet { tet ≤ max_tets }
     requires a_vertex { vertex < 4 }
-    ensures { result ≡ coordinates.tri_column coords tet vertex }
+    ensures { result ≡ coordinates.tri_column coords.system tet vertex }
 {
-    first_column(coords, tet) + u32::from(vertex)
+    first_column(coords.system, tet) + u32::from(vertex)
 }
 
 /// The column of the quads of a type.
@@ -109,15 +110,14 @@ pub fn is_octagon(coords: Coords, column: u32) -> bool
 }
 
 /// The type of the quads or octagons in a column.
-pub fn type_of(coords: Coords, column: u32) -> u8
-    requires coords { coords ≢ Coords.Quad }
-    requires no_triangle { 4 ≤ column % coordinates.columns_each coords }
-    ensures value { result ≡ type_in coords column }
+pub fn type_of(coords: DiscCoords, column: u32) -> u8
+    requires { 4 ≤ column % coordinates.columns_each coords.system }
+    ensures value { result ≡ type_in coords.system column }
     ensures in_range { result < 3 }
 {
-    let place = place_of(coords, column);
+    let place = place_of(coords.system, column);
     if place < BEFORE_OCTAGONS {
-        (place - triangles_each(coords)) as u8
+        (place - triangles_each(coords.system)) as u8
     } else {
         (place - BEFORE_OCTAGONS) as u8
     }

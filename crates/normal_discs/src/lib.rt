@@ -3,6 +3,7 @@
 #![tactic(auto)]
 
 mod coords;
+mod disc_coords;
 mod meetings;
 mod types;
 
@@ -10,5 +11,6 @@ pub use coords::{
     columns, columns_each, first_column, is_octagon, is_quad_or_octagon, octagon_column, place_of,
     quad_column, tet_of, triangle_column, triangles_each, type_of,
 };
+pub use disc_coords::DiscCoords;
 pub use meetings::{arc_columns, edge_columns, octagon_arcs};
 pub use types::{keeping, other_types, partner};

@@ -6,6 +6,7 @@ ghost use Rattle.surface_definitions.specs.Coordinates as coordinates;
 ghost use Rattle.surface_definitions.specs.Characteristic.{crossings};
 
 use crate::coords::{octagon_column, quad_column, triangle_column};
+use crate::disc_coords::DiscCoords;
 use crate::types::{keeping, other_types};
 use arrayvec::ArrayVec;
 use surface_definitions::Coords;
@@ -28,18 +29,17 @@ pub fn octagon_arcs(coords: Coords, tet: u32, face: u8, vertex: u8) -> ArrayVec<
 }
 
 /// The columns of the pieces with an arc round a vertex in a face: a triangle, a quad, and the octagons.
-pub fn arc_columns(coords: Coords, tet: u32, face: u8, vertex: u8) -> ArrayVec<u32, 4>
-    requires coords { coords ≢ Coords.Quad }
+pub fn arc_columns(coords: DiscCoords, tet: u32, face: u8, vertex: u8) -> ArrayVec<u32, 4>
     requires tet { tet ≤ max_tets }
     requires a_vertex { vertex < 4 }
     requires a_face { face < 4 }
     requires apart { vertex ≢ face }
-    ensures { result.items ≡ coordinates.arc_columns coords tet face vertex }
+    ensures { result.items ≡ coordinates.arc_columns coords.system tet face vertex }
 {
     let mut columns = ArrayVec::new();
     columns.push(triangle_column(coords, tet, vertex));
-    columns.push(quad_column(coords, tet, keeping(vertex, face)));
-    let octagons = octagon_arcs(coords, tet, face, vertex);
+    columns.push(quad_column(coords.system, tet, keeping(vertex, face)));
+    let octagons = octagon_arcs(coords.system, tet, face, vertex);
     for column in octagons.as_slice() {
         columns.push(*column);
     }
@@ -48,22 +48,21 @@ pub fn arc_columns(coords: Coords, tet: u32, face: u8, vertex: u8) -> ArrayVec<u
 
 /// The columns of the pieces that meet the edge between two vertices, as often as they do so: of the octagons
 /// where they have columns each once, and that which keeps the two on one side once more.
-pub fn edge_columns(coords: Coords, tet: u32, vertex: u8, other: u8) -> ArrayVec<u32, 8>
-    requires coords { coords ≢ Coords.Quad }
+pub fn edge_columns(coords: DiscCoords, tet: u32, vertex: u8, other: u8) -> ArrayVec<u32, 8>
     requires tet { tet ≤ max_tets }
     requires a_vertex { vertex < 4 }
     requires another { other < 4 }
     requires apart { vertex ≢ other }
-    ensures { result.items ≡ crossings coords tet vertex other }
+    ensures { result.items ≡ crossings coords.system tet vertex other }
 {
     let kind = keeping(vertex, other);
     let (first, second) = other_types(kind);
     let mut columns = ArrayVec::new();
     columns.push(triangle_column(coords, tet, vertex));
     columns.push(triangle_column(coords, tet, other));
-    columns.push(quad_column(coords, tet, first));
-    columns.push(quad_column(coords, tet, second));
-    if let Coords::Octagon = coords {
+    columns.push(quad_column(coords.system, tet, first));
+    columns.push(quad_column(coords.system, tet, second));
+    if let Coords::Octagon = coords.system {
         columns.push(octagon_column(tet, kind));
         columns.push(octagon_column(tet, 0));
         columns.push(octagon_column(tet, 1));

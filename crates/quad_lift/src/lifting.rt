@@ -16,7 +16,9 @@ use crate::heights::heights_of;
 use crate::lows::lows_of;
 use crate::sums::four_times;
 use no_memory::{Failure, NoMemory};
-use normal_discs::{columns, columns_each, place_of, quad_column, tet_of, triangles_each, type_of};
+use normal_discs::{
+    DiscCoords, columns, columns_each, place_of, quad_column, tet_of, triangles_each, type_of,
+};
 use skeleton::Skeleton;
 use std::alloc::{AllocError, Global};
 use surface_definitions::Coords;
@@ -37,7 +39,7 @@ fn entry(skeleton: &Skeleton, x: &[u128], heights: &[u128], lows: &[u128], colum
         let class = skeleton.vertex_class(tet, place as u8);
         heights[4 * tet as usize + place as usize] - lows[class as usize]
     } else {
-        let kind = type_of(Coords::Standard, column);
+        let kind = type_of(DiscCoords::STANDARD, column);
         x[quad_column(Coords::Quad, tet, kind) as usize]
     }
 }

@@ -11,8 +11,7 @@ ghost use Rattle.surface_pieces.specs.Arcs.{IsOnlyArcOf, HasNoArc};
 use crate::columns::{SurfaceArc, behind};
 use crate::counts::Piece;
 use gluing_table::Table;
-use normal_discs::{partner, tet_of, triangle_column, type_of};
-use surface_definitions::Coords;
+use normal_discs::{DiscCoords, partner, tet_of, triangle_column, type_of};
 
 /// Whether a type keeps a vertex on the side of vertex 0.
 fn keeps_by_zero(kind: u8, v: u8) -> bool
@@ -24,12 +23,11 @@ fn keeps_by_zero(kind: u8, v: u8) -> bool
 }
 
 /// The number of triangles round the vertex of an arc.
-fn triangles(coords: Coords, x: &[u32], arc: SurfaceArc) -> u32
-    requires coords { coords ≢ Coords.Quad }
+fn triangles(coords: DiscCoords, x: &[u32], arc: SurfaceArc) -> u32
     requires a_vertex { arc.vertex < 4 }
     requires few { arc.tet < max_tets }
-    requires width { coordinates.columns coords (arc.tet + 1) < length x.now + 1 }
-    ensures { result ≡ pieces.triangles_round coords x.now arc }
+    requires width { coordinates.columns coords.system (arc.tet + 1) < length x.now + 1 }
+    ensures { result ≡ pieces.triangles_round coords.system x.now arc }
 {
     x[triangle_column(coords, arc.tet, arc.vertex) as usize]
 }
@@ -46,14 +44,13 @@ fn number_from_end(entry: u32, place: u32, by_zero: bool) -> u32
 }
 
 /// The piece whose arc this is.
-pub fn piece_of(coords: Coords, x: &[u32], arc: SurfaceArc) -> Piece
-    requires coords { coords ≢ Coords.Quad }
+pub fn piece_of(coords: DiscCoords, x: &[u32], arc: SurfaceArc) -> Piece
     requires a_face { arc.face < 4 }
     requires a_vertex { arc.vertex < 4 }
     requires off { arc.vertex ≢ arc.face }
     requires few { arc.tet < max_tets }
-    requires width { coordinates.columns coords (arc.tet + 1) < length x.now + 1 }
-    ensures { result ≡ pieces.piece_of coords x.now arc }
+    requires width { coordinates.columns coords.system (arc.tet + 1) < length x.now + 1 }
+    ensures { result ≡ pieces.piece_of coords.system x.now arc }
 {
     let triangles = triangles(coords, x, arc);
     if arc.place < triangles {
@@ -71,14 +68,13 @@ pub fn piece_of(coords: Coords, x: &[u32], arc: SurfaceArc) -> Piece
 }
 
 /// Whether the piece of an arc looks at its vertex with its positive side.
-pub fn looks_positive(coords: Coords, x: &[u32], arc: SurfaceArc) -> bool
-    requires coords { coords ≢ Coords.Quad }
+pub fn looks_positive(coords: DiscCoords, x: &[u32], arc: SurfaceArc) -> bool
     requires a_face { arc.face < 4 }
     requires a_vertex { arc.vertex < 4 }
     requires off { arc.vertex ≢ arc.face }
     requires few { arc.tet < max_tets }
-    requires width { coordinates.columns coords (arc.tet + 1) < length x.now + 1 }
-    ensures { result ≡ pieces.looks_positive coords x.now arc }
+    requires width { coordinates.columns coords.system (arc.tet + 1) < length x.now + 1 }
+    ensures { result ≡ pieces.looks_positive coords.system x.now arc }
 {
     if arc.place < triangles(coords, x, arc) {
         return true;
@@ -89,23 +85,22 @@ pub fn looks_positive(coords: Coords, x: &[u32], arc: SurfaceArc) -> bool
 /// The arc of a piece round a vertex of a face, where it has one there.
 pub fn arc_of(
     table: &Table,
-    coords: Coords,
+    coords: DiscCoords,
     x: &[u32],
     piece: Piece,
     face: u8,
     vertex: u8,
 ) -> Option<SurfaceArc>
-    requires coords { coords ≢ Coords.Quad }
-    requires surface { IsSurface table.now coords x.now }
+    requires surface { IsSurface table.now coords.system x.now }
     requires few { sum x.now ≤ most_pieces }
     requires piece { IsPieceOf x.now piece }
     requires a_face { face < 4 }
     requires a_vertex { vertex < 4 }
     requires off { vertex ≢ face }
-    ensures some { IfSome result (IsOnlyArcOf coords x.now piece face vertex) }
-    ensures none { IfNone result (HasNoArc coords x.now piece face vertex) }
+    ensures some { IfSome result (IsOnlyArcOf coords.system x.now piece face vertex) }
+    ensures none { IfNone result (HasNoArc coords.system x.now piece face vertex) }
 {
-    let tet = tet_of(coords, piece.column);
+    let tet = tet_of(coords.system, piece.column);
     let _tets = table.len();
     let first = SurfaceArc {
         tet,

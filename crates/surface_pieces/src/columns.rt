@@ -6,9 +6,8 @@ ghost use Rattle.surface_definitions.specs.Coordinates as coordinates;
 ghost use Rattle.surface_definitions.specs.Pieces as pieces;
 ghost use Rattle.surface_laws.specs.PieceLaws.{first_nonzero};
 
-use normal_discs::{keeping, octagon_arcs, quad_column};
+use normal_discs::{DiscCoords, keeping, octagon_arcs, quad_column};
 use std::marker::Model;
-use surface_definitions::Coords;
 
 /// The arc round a vertex of a face of a tetrahedron at a place, counted from the side of the vertex.
 #[derive(Clone, Copy)]
@@ -44,18 +43,17 @@ fn first_nonzero_of(x: &[u32], columns: &[u32], other: u32) -> u32
 }
 
 /// The column of the arcs behind the triangles.
-pub fn behind(coords: Coords, x: &[u32], arc: SurfaceArc) -> u32
-    requires coords { coords ≢ Coords.Quad }
+pub fn behind(coords: DiscCoords, x: &[u32], arc: SurfaceArc) -> u32
     requires a_face { arc.face < 4 }
     requires a_vertex { arc.vertex < 4 }
     requires off { arc.vertex ≢ arc.face }
     requires few { arc.tet < max_tets }
-    requires width { coordinates.columns coords (arc.tet + 1) < length x.now + 1 }
-    ensures column { result ≡ pieces.further_column coords x.now arc }
-    ensures no_triangle { 4 ≤ result % coordinates.columns_each coords }
+    requires width { coordinates.columns coords.system (arc.tet + 1) < length x.now + 1 }
+    ensures column { result ≡ pieces.further_column coords.system x.now arc }
+    ensures no_triangle { 4 ≤ result % coordinates.columns_each coords.system }
     ensures in_range { result < length x.now }
 {
-    let octagons = octagon_arcs(coords, arc.tet, arc.face, arc.vertex);
-    let quads = quad_column(coords, arc.tet, keeping(arc.vertex, arc.face));
+    let octagons = octagon_arcs(coords.system, arc.tet, arc.face, arc.vertex);
+    let quads = quad_column(coords.system, arc.tet, keeping(arc.vertex, arc.face));
     first_nonzero_of(x, octagons.as_slice(), quads)
 }

@@ -1,6 +1,6 @@
 //! The components of a surface.
 
-ghost use Rattle.std.specs.Prelude.{◌≡◌, ◌≢◌, ◌<◌, ◌≤◌, length, sum, Ok, Err, IfOk, IfErr};
+ghost use Rattle.std.specs.Prelude.{◌≡◌, ◌<◌, ◌≤◌, length, sum, Ok, Err, IfOk, IfErr};
 ghost use Rattle.std.specs.List.{slice_index_or};
 ghost use Rattle.no_memory.specs.Failures.{IfFault};
 ghost use Rattle.text_definitions.specs.Written.{limit};
@@ -16,6 +16,7 @@ use crate::vectors::vectors_of;
 use finite_walks::classes;
 use gluing_table::Table;
 use no_memory::Failure;
+use normal_discs::DiscCoords;
 use skeleton::Skeleton;
 use std::alloc::{AllocError, Global};
 use std::marker::Model;
@@ -54,13 +55,12 @@ const MOST_PIECES: u128 = 100_000;
 fn find_components(
     alloc: Global,
     table: &Table,
-    coords: Coords,
+    coords: DiscCoords,
     x: &[u32],
 ) -> Result<Pieces, AllocError>
-    requires coords { coords ≢ Coords.Quad }
-    requires surface { IsSurface table.now coords x.now }
+    requires surface { IsSurface table.now coords.system x.now }
     requires few { sum x.now ≤ most_pieces }
-    ensures { IfOk result (AreListedComponents table.now coords x.now) }
+    ensures { IfOk result (AreListedComponents table.now coords.system x.now) }
 {
     let starts = starts_of(alloc, x)?;
     let listed = all_pieces(alloc, x)?;
@@ -115,6 +115,7 @@ impl Pieces {
             return Err(Failure::Fault(ManyPieces { count }));
         }
         let entries = entries_of(alloc, x)?;
+        let coords = DiscCoords { system: coords };
         let pieces = find_components(alloc, skeleton.table(), coords, &entries)?;
         Ok(pieces)
     }

@@ -1,6 +1,6 @@
 //! Rows of what is joined to each piece, for a search.
 
-ghost use Rattle.std.specs.Prelude.{◌≡◌, ◌≢◌, ◌*◌, ◌<◌, ◌≤◌, sum, IfOk};
+ghost use Rattle.std.specs.Prelude.{◌≡◌, ◌*◌, ◌<◌, ◌≤◌, sum, IfOk};
 ghost use Rattle.surface_definitions.specs.Pieces as pieces;
 ghost use Rattle.surface_vector_definitions.specs.Components.{most_pieces};
 ghost use Rattle.surface_laws.specs.PieceLaws.{IsSurface, IsPieceOf};
@@ -10,26 +10,25 @@ ghost use Rattle.surface_pieces.specs.Searches.{IsRow, ArePieceRows, AreSignedRo
 use crate::counts::Piece;
 use crate::steps::{SearchKind, step_at};
 use gluing_table::Table;
+use normal_discs::DiscCoords;
 use std::alloc::{AllocError, Global};
-use surface_definitions::Coords;
 
 /// What is joined to a piece with a sign.
 fn row_of(
     table: &Table,
-    coords: Coords,
+    coords: DiscCoords,
     x: &[u32],
     starts: &[u32],
     kind: SearchKind,
     piece: Piece,
     sign: u32,
 ) -> [Option<u32>; 16]
-    requires coords { coords ≢ Coords.Quad }
-    requires surface { IsSurface table.now coords x.now }
+    requires surface { IsSurface table.now coords.system x.now }
     requires few { sum x.now ≤ most_pieces }
     requires starts { AreStarts x.now starts.now }
     requires piece { IsPieceOf x.now piece }
     requires a_sign { sign < 2 }
-    ensures { IsRow kind table.now coords x.now piece sign result }
+    ensures { IsRow kind table.now coords.system x.now piece sign result }
 {
     let mut row = [None; 16];
     for slot in 0..16 {
@@ -42,17 +41,16 @@ fn row_of(
 pub fn piece_rows(
     alloc: Global,
     table: &Table,
-    coords: Coords,
+    coords: DiscCoords,
     x: &[u32],
     starts: &[u32],
     listed: &[Piece],
 ) -> Result<Vec<[Option<u32>; 16]>, AllocError>
-    requires coords { coords ≢ Coords.Quad }
-    requires surface { IsSurface table.now coords x.now }
+    requires surface { IsSurface table.now coords.system x.now }
     requires few { sum x.now ≤ most_pieces }
     requires starts { AreStarts x.now starts.now }
     requires listed { listed.now ≡ pieces.pieces_of x.now }
-    ensures { IfOk result (λ rows. ArePieceRows table.now coords x.now rows.items) }
+    ensures { IfOk result (λ rows. ArePieceRows table.now coords.system x.now rows.items) }
 {
     let mut rows = Vec::with_capacity(alloc, listed.len())?;
     for piece in listed {
@@ -65,18 +63,17 @@ pub fn piece_rows(
 pub fn signed_rows(
     alloc: Global,
     table: &Table,
-    coords: Coords,
+    coords: DiscCoords,
     x: &[u32],
     starts: &[u32],
     listed: &[Piece],
     kind: SearchKind,
 ) -> Result<Vec<[Option<u32>; 16]>, AllocError>
-    requires coords { coords ≢ Coords.Quad }
-    requires surface { IsSurface table.now coords x.now }
+    requires surface { IsSurface table.now coords.system x.now }
     requires few { sum x.now ≤ most_pieces }
     requires starts { AreStarts x.now starts.now }
     requires listed { listed.now ≡ pieces.pieces_of x.now }
-    ensures { IfOk result (λ rows. AreSignedRows kind table.now coords x.now rows.items) }
+    ensures { IfOk result (λ rows. AreSignedRows kind table.now coords.system x.now rows.items) }
 {
     let mut rows = Vec::with_capacity(alloc, 2 * listed.len())?;
     for number in 0..2 * listed.len() {

@@ -13,8 +13,8 @@ use crate::rows::signed_rows;
 use crate::steps::SearchKind;
 use finite_walks::{Numbering, classes};
 use gluing_table::Table;
+use normal_discs::DiscCoords;
 use std::alloc::{AllocError, Global};
-use surface_definitions::Coords;
 
 /// Marks a component as not free where one of its pieces is joined to itself with the other sign.
 fn mark(free: &mut [bool], component: u32, same: bool)
@@ -50,21 +50,20 @@ fn free_components(
 pub fn signs_of(
     alloc: Global,
     table: &Table,
-    coords: Coords,
+    coords: DiscCoords,
     x: &[u32],
     starts: &[u32],
     listed: &[Piece],
     components: &Numbering,
     kind: SearchKind,
 ) -> Result<Vec<bool>, AllocError>
-    requires coords { coords ≢ Coords.Quad }
-    requires surface { IsSurface table.now coords x.now }
+    requires surface { IsSurface table.now coords.system x.now }
     requires few { sum x.now ≤ most_pieces }
     requires starts { AreStarts x.now starts.now }
     requires listed { listed.now ≡ pieces.pieces_of x.now }
-    requires components { pieces.AreComponents table.now coords x.now components.now.classes.items components.now.count }
+    requires components { pieces.AreComponents table.now coords.system x.now components.now.classes.items components.now.count }
     requires kind { kind ≢ SearchKind.Pieces }
-    ensures { IfOk result (λ signs. AreSigned kind table.now coords x.now components.now.classes.items components.now.count signs.items) }
+    ensures { IfOk result (λ signs. AreSigned kind table.now coords.system x.now components.now.classes.items components.now.count signs.items) }
 {
     let rows = signed_rows(alloc, table, coords, x, starts, listed, kind)?;
     let signed = classes(alloc, &rows)?;

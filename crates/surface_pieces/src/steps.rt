@@ -1,6 +1,6 @@
 //! What lies across an arc of a piece.
 
-ghost use Rattle.std.specs.Prelude.{◌≡◌, ◌≢◌, ◌+◌, ◌*◌, ◌<◌, ◌≤◌, ℕ, sum, IfSome, IfNone, if◌then◌else◌, not};
+ghost use Rattle.std.specs.Prelude.{◌≡◌, ◌+◌, ◌*◌, ◌<◌, ◌≤◌, ℕ, sum, IfSome, IfNone, if◌then◌else◌, not};
 ghost use Rattle.table_definitions.specs.Permutation.{IsPermutationOfFour};
 ghost use Rattle.surface_definitions.specs.Pieces as pieces;
 ghost use Rattle.surface_vector_definitions.specs.Components.{most_pieces};
@@ -13,7 +13,7 @@ use crate::arcs::{arc_of, looks_positive, piece_of};
 use crate::columns::SurfaceArc;
 use crate::counts::{Piece, number_of};
 use gluing_table::{Face, Glue, Table};
-use surface_definitions::Coords;
+use normal_discs::DiscCoords;
 
 /// What numbers a search joins: those of pieces, or those of pieces with a sign, which is kept where a test passes.
 #[derive(Clone, Copy)]
@@ -77,18 +77,17 @@ pub struct Meeting {
 /// The arc of a piece round a vertex of a face, where it meets another; the slot is 4 times the face plus the vertex.
 pub fn meeting_at(
     table: &Table,
-    coords: Coords,
+    coords: DiscCoords,
     x: &[u32],
     piece: Piece,
     slot: u32,
 ) -> Option<Meeting>
-    requires coords { coords ≢ Coords.Quad }
-    requires surface { IsSurface table.now coords x.now }
+    requires surface { IsSurface table.now coords.system x.now }
     requires few { sum x.now ≤ most_pieces }
     requires piece { IsPieceOf x.now piece }
     requires a_slot { slot < 16 }
-    ensures some { IfSome result (λ m. IsMeetingAt table.now coords x.now piece slot m.arc m.other m.odd) }
-    ensures none { IfNone result (HasNoMeeting table.now coords x.now piece slot) }
+    ensures some { IfSome result (λ m. IsMeetingAt table.now coords.system x.now piece slot m.arc m.other m.odd) }
+    ensures none { IfNone result (HasNoMeeting table.now coords.system x.now piece slot) }
 {
     let face = (slot / 4) as u8;
     let vertex = (slot % 4) as u8;
@@ -107,7 +106,7 @@ pub fn meeting_at(
 /// What is joined to a piece with a sign by its arc round a vertex of a face.
 pub fn step_at(
     table: &Table,
-    coords: Coords,
+    coords: DiscCoords,
     x: &[u32],
     starts: &[u32],
     kind: SearchKind,
@@ -115,15 +114,14 @@ pub fn step_at(
     sign: u32,
     slot: u32,
 ) -> Option<u32>
-    requires coords { coords ≢ Coords.Quad }
-    requires surface { IsSurface table.now coords x.now }
+    requires surface { IsSurface table.now coords.system x.now }
     requires few { sum x.now ≤ most_pieces }
     requires starts { AreStarts x.now starts.now }
     requires piece { IsPieceOf x.now piece }
     requires a_sign { sign < 2 }
     requires a_slot { slot < 16 }
-    ensures some { IfSome result (λ l. LeadsAt kind table.now coords x.now piece sign slot l × ((m : ℕ) → LeadsAt kind table.now coords x.now piece sign slot m → m ≡ l)) }
-    ensures none { IfNone result ((m : ℕ) → LeadsAt kind table.now coords x.now piece sign slot m → ⊥) }
+    ensures some { IfSome result (λ l. LeadsAt kind table.now coords.system x.now piece sign slot l × ((m : ℕ) → LeadsAt kind table.now coords.system x.now piece sign slot m → m ≡ l)) }
+    ensures none { IfNone result ((m : ℕ) → LeadsAt kind table.now coords.system x.now piece sign slot m → ⊥) }
 {
     let meeting = meeting_at(table, coords, x, piece, slot)?;
     let number = number_of(x, starts, piece_of(coords, x, meeting.other));

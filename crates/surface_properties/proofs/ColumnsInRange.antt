@@ -1,20 +1,20 @@
 -- The columns round a vertex of a face, and along an edge, are columns of the vector.
-use Rattle.std.proofs.Common.{◌≢◌, ℕ, zero, suc, ◌+◌, ◌<◌, List, get_or, refl, arith}
+use Rattle.std.proofs.Common.{◌≡◌, ◌≢◌, ℕ, zero, suc, ◌+◌, ◌<◌, List, get_or, arith}
 use Rattle.std.specs.Prelude.{All, slice_index}
 use Rattle.std.specs.List.{AllByRecursion}
 use Rattle.std.proofs.lemmas.List.Elements.{All-from_recursion}
 use Rattle.table_definitions.specs.Places.{ends}
-use Rattle.surface_definitions.specs.Coordinates.{columns, arc_columns}
+use Rattle.surface_definitions.specs.Coordinates.{columns, triangles_each, arc_columns}
 use Rattle.surface_definitions.specs.Characteristic.{crossings}
 use Rattle.surface_definitions.specs.declared.Coords.{Coords}
 use Rattle.surface_definitions.specs.declared.Coords.TheVariants.{Standard, Quad, Octagon}
 use Rattle.surface_laws.specs.MatchingLaws.{HasTriangles}
 use Rattle.surface_laws.proofs.Solved.{arcs_in_range}
 
-triangles_of : (coords : Coords) → coords ≢ Quad → HasTriangles coords
-triangles_of Standard ne = tt
-triangles_of Quad ne = absurd (ne refl)
-triangles_of Octagon ne = tt
+triangles_of : (coords : Coords) → triangles_each coords ≡ 4 → HasTriangles coords
+triangles_of Standard four = tt
+triangles_of Quad four = absurd (omega arith)
+triangles_of Octagon four = tt
 
 inside : (n m : ℕ) (cs : List ℕ) → n < m + 1 → AllByRecursion (λ c. c < n) cs → All (λ c. c < m) cs
 inside n m cs l h k d lk =
@@ -22,9 +22,9 @@ inside n m cs l h k d lk =
     let one : get_or cs k d < n = all k d lk in
     omega arith
 
-pub arcs_inside : (coords : Coords) (t f v m : ℕ) → coords ≢ Quad → f < 4 → v < 4 → v ≢ f → columns coords (t + 1) < m + 1 → All (λ c. c < m) (arc_columns coords t f v)
-arcs_inside coords t f v m ne lf lv off w =
-    inside (columns coords (t + 1)) m (arc_columns coords t f v) w (arcs_in_range coords (t + 1) t f v (triangles_of coords ne) (omega arith) lf lv off)
+pub arcs_inside : (coords : Coords) (t f v m : ℕ) → triangles_each coords ≡ 4 → f < 4 → v < 4 → v ≢ f → columns coords (t + 1) < m + 1 → All (λ c. c < m) (arc_columns coords t f v)
+arcs_inside coords t f v m four lf lv off w =
+    inside (columns coords (t + 1)) m (arc_columns coords t f v) w (arcs_in_range coords (t + 1) t f v (triangles_of coords four) (omega arith) lf lv off)
 
 crossings_in : (coords : Coords) (t e : ℕ) → HasTriangles coords → e < 6 → AllByRecursion (λ c. c < columns coords (t + 1)) (crossings coords t (slice_index (ends e) 0) (slice_index (ends e) 1))
 crossings_in Standard t zero h l = (omega arith, (omega arith, (omega arith, (omega arith, tt))))
@@ -43,6 +43,6 @@ crossings_in Octagon t (suc (suc (suc (suc (suc zero))))) h l = (omega arith, (o
 crossings_in Octagon t (suc (suc (suc (suc (suc (suc e)))))) h l = absurd (omega arith)
 crossings_in Quad t e h l = absurd h
 
-pub crossings_inside : (coords : Coords) (t e m : ℕ) → coords ≢ Quad → e < 6 → columns coords (t + 1) < m + 1 → All (λ c. c < m) (crossings coords t (slice_index (ends e) 0) (slice_index (ends e) 1))
-crossings_inside coords t e m ne le w =
-    inside (columns coords (t + 1)) m (crossings coords t (slice_index (ends e) 0) (slice_index (ends e) 1)) w (crossings_in coords t e (triangles_of coords ne) le)
+pub crossings_inside : (coords : Coords) (t e m : ℕ) → triangles_each coords ≡ 4 → e < 6 → columns coords (t + 1) < m + 1 → All (λ c. c < m) (crossings coords t (slice_index (ends e) 0) (slice_index (ends e) 1))
+crossings_inside coords t e m four le w =
+    inside (columns coords (t + 1)) m (crossings coords t (slice_index (ends e) 0) (slice_index (ends e) 1)) w (crossings_in coords t e (triangles_of coords four) le)

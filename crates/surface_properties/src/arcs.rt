@@ -13,22 +13,20 @@ ghost use Rattle.surface_properties.specs.Counted.{counted as counted_at};
 
 use crate::sums::{add, sum_at};
 use gluing_table::{Face, Table};
-use normal_discs::arc_columns;
-use surface_definitions::Coords;
+use normal_discs::{DiscCoords, arc_columns};
 
 // The vertices of each face.
 const CORNERS: [[u8; 3]; 4] = [[1, 2, 3], [0, 2, 3], [0, 1, 3], [0, 1, 2]];
 
 /// The arcs round a vertex of a face.
 #[tactic(auto, using(crate::proofs::ColumnsInRange::arcs_inside))]
-pub fn arcs_round(coords: Coords, x: &[u128], face: Face, v: u8) -> u128
-    requires coords { coords ≢ Coords.Quad }
+pub fn arcs_round(coords: DiscCoords, x: &[u128], face: Face, v: u8) -> u128
     requires a_face { face.face < 4 }
     requires a_vertex { v < 4 }
     requires off { v ≢ face.face }
     requires few { face.tet < max_tets }
-    requires width { columns coords (face.tet + 1) < length x.now + 1 }
-    ensures { result ≡ capped (pieces.arcs_round coords x.now face.tet face.face v) }
+    requires width { columns coords.system (face.tet + 1) < length x.now + 1 }
+    ensures { result ≡ capped (pieces.arcs_round coords.system x.now face.tet face.face v) }
 {
     let columns = arc_columns(coords, face.tet, face.face, v);
     sum_at(x, columns.as_slice())
@@ -46,12 +44,11 @@ fn corner(face: u8, number: usize) -> u8
 }
 
 /// The arcs in a face.
-pub fn arcs_in(coords: Coords, x: &[u128], face: Face) -> u128
-    requires coords { coords ≢ Coords.Quad }
+pub fn arcs_in(coords: DiscCoords, x: &[u128], face: Face) -> u128
     requires a_face { face.face < 4 }
     requires few { face.tet < max_tets }
-    requires width { columns coords (face.tet + 1) < length x.now + 1 }
-    ensures { result ≡ capped (characteristic.arcs_in coords x.now face) }
+    requires width { columns coords.system (face.tet + 1) < length x.now + 1 }
+    ensures { result ≡ capped (characteristic.arcs_in coords.system x.now face) }
 {
     let one = arcs_round(coords, x, face, corner(face.face, 0));
     let two = add(one, arcs_round(coords, x, face, corner(face.face, 1)));
@@ -71,13 +68,12 @@ fn is_first_side(table: &Table, face: Face) -> bool
 }
 
 /// The arcs in a face, where it is a boundary face or the lesser of two that are glued.
-fn arcs_if_first(table: &Table, coords: Coords, x: &[u128], face: Face) -> u128
-    requires coords { coords ≢ Coords.Quad }
+fn arcs_if_first(table: &Table, coords: DiscCoords, x: &[u128], face: Face) -> u128
     requires table { IsTable table.now }
     requires a_face { face.face < 4 }
     requires in_range { face.tet < length table.now }
-    requires width { length x.now ≡ columns coords (length table.now) }
-    ensures { result ≡ capped (counted_at table.now coords x.now face) }
+    requires width { length x.now ≡ columns coords.system (length table.now) }
+    ensures { result ≡ capped (counted_at table.now coords.system x.now face) }
 {
     if is_first_side(table, face) {
         arcs_in(coords, x, face)
@@ -87,11 +83,10 @@ fn arcs_if_first(table: &Table, coords: Coords, x: &[u128], face: Face) -> u128
 }
 
 /// The arcs in all faces, two glued ones counted once.
-pub fn arcs(table: &Table, coords: Coords, x: &[u128]) -> u128
-    requires coords { coords ≢ Coords.Quad }
+pub fn arcs(table: &Table, coords: DiscCoords, x: &[u128]) -> u128
     requires table { IsTable table.now }
-    requires width { length x.now ≡ columns coords (length table.now) }
-    ensures { result ≡ capped (characteristic.arcs table.now coords x.now) }
+    requires width { length x.now ≡ columns coords.system (length table.now) }
+    ensures { result ≡ capped (characteristic.arcs table.now coords.system x.now) }
 {
     let mut total = 0;
     for tet in 0..table.len() {

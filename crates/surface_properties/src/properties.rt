@@ -12,7 +12,7 @@ use crate::arcs::{arcs, arcs_in};
 use crate::points::points;
 use crate::sums::{add, sum_of};
 use gluing_table::{Face, Table};
-use normal_discs::{columns_each, triangles_each};
+use normal_discs::{DiscCoords, columns_each, triangles_each};
 use skeleton::Skeleton;
 use surface_definitions::Coords;
 use surface_vector_definitions::{Properties, PropertyFault, SurfaceSum};
@@ -20,8 +20,7 @@ use text_io::LIMIT;
 
 /// Whether a column of quads or octagons has pieces.
 fn has_others(coords: Coords, x: &[u128], column: usize) -> bool
-    requires coords { coords ≢ Coords.Quad }
-    requires in_range { column < length x.now }
+    requires { column < length x.now }
     ensures some { IsTrue result → is_quad_or_octagon coords column ≡ true × (0 < slice_index x.now column) }
     ensures none { result ≡ false → is_quad_or_octagon coords column ≡ true → slice_index x.now column ≡ 0 }
 {
@@ -31,7 +30,6 @@ fn has_others(coords: Coords, x: &[u128], column: usize) -> bool
 
 /// Whether all quads and octagons are 0.
 pub fn is_linking(coords: Coords, x: &[u128]) -> bool
-    requires { coords ≢ Coords.Quad }
     ensures { result ≡ characteristic.is_linking coords x.now }
 {
     for column in 0..x.len() {
@@ -43,14 +41,13 @@ pub fn is_linking(coords: Coords, x: &[u128]) -> bool
 }
 
 /// Whether a face is a boundary face with arcs.
-fn has_free_arcs(table: &Table, coords: Coords, x: &[u128], face: Face) -> bool
-    requires coords { coords ≢ Coords.Quad }
+fn has_free_arcs(table: &Table, coords: DiscCoords, x: &[u128], face: Face) -> bool
     requires table { IsTable table.now }
-    requires width { length x.now ≡ columns coords (length table.now) }
+    requires width { length x.now ≡ columns coords.system (length table.now) }
     requires in_range { face.tet < length table.now }
     requires a_face { face.face < 4 }
-    ensures some { IsTrue result → gluings.glue table.now face ≡ None × (0 < characteristic.arcs_in coords x.now face) }
-    ensures none { result ≡ false → gluings.glue table.now face ≡ None → characteristic.arcs_in coords x.now face ≡ 0 }
+    ensures some { IsTrue result → gluings.glue table.now face ≡ None × (0 < characteristic.arcs_in coords.system x.now face) }
+    ensures none { result ≡ false → gluings.glue table.now face ≡ None → characteristic.arcs_in coords.system x.now face ≡ 0 }
 {
     match table.glue(face) {
         None => arcs_in(coords, x, face) > 0,
@@ -59,11 +56,10 @@ fn has_free_arcs(table: &Table, coords: Coords, x: &[u128], face: Face) -> bool
 }
 
 /// Whether a boundary face has an arc.
-fn meets_boundary(table: &Table, coords: Coords, x: &[u128]) -> bool
-    requires coords { coords ≢ Coords.Quad }
+fn meets_boundary(table: &Table, coords: DiscCoords, x: &[u128]) -> bool
     requires table { IsTable table.now }
-    requires width { length x.now ≡ columns coords (length table.now) }
-    ensures { result ≡ characteristic.meets_boundary table.now coords x.now }
+    requires width { length x.now ≡ columns coords.system (length table.now) }
+    ensures { result ≡ characteristic.meets_boundary table.now coords.system x.now }
 {
     for place in 0..4 * table.len() {
         let face = Face {
@@ -98,6 +94,7 @@ pub fn properties_of(
     requires width { length x.now ≡ columns coords (length skeleton.now.rows) }
     ensures { IsPropertyAnswer limit skeleton.now coords x.now result }
 {
+    let coords = DiscCoords { system: coords };
     let table = skeleton.table();
     let points = points(skeleton, coords, x);
     if points > LIMIT {
@@ -123,7 +120,7 @@ pub fn properties_of(
         arcs,
         pieces,
         euler: euler(both, arcs),
-        linking: is_linking(coords, x),
+        linking: is_linking(coords.system, x),
         boundary: meets_boundary(table, coords, x),
     })
 }

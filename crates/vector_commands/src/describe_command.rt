@@ -19,7 +19,7 @@ use crate::refusals::{FirstRefusal, refusal_outcome};
 use command_answers::{Outcome, fault_outcome, invalid_edge_outcome, read_table_and_vectors};
 use cone_core::System;
 use gluing_table::Table;
-use matching_equations::{Coords, equations};
+use matching_equations::{Coords, DiscCoords, equations};
 use no_memory::{Failure, NoMemory};
 use outcome_definitions::Status;
 use skeleton::Skeleton;
@@ -41,23 +41,22 @@ fn describe_solution(
     alloc: Global,
     skeleton: &Skeleton,
     system: &System,
-    coords: Coords,
+    coords: DiscCoords,
     x: &[u128],
 ) -> Result<Description, Failure<Refusal>>
-    requires coords { coords ≢ Coords.Quad }
     requires skeleton { IsSkeleton skeleton.now }
-    requires equations { AreEquations coords skeleton.now.rows system.now.rows }
-    requires width { length x.now ≡ columns coords (length skeleton.now.rows) }
-    requires fit { verdict_in coords skeleton.now.rows system.now.rows x.now ≡ solution }
-    ensures { TellsDescription skeleton.now coords system.now.rows x.now result }
+    requires equations { AreEquations coords.system skeleton.now.rows system.now.rows }
+    requires width { length x.now ≡ columns coords.system (length skeleton.now.rows) }
+    requires fit { verdict_in coords.system skeleton.now.rows system.now.rows x.now ≡ solution }
+    ensures { TellsDescription skeleton.now coords.system system.now.rows x.now result }
 {
-    let properties = match properties_of(skeleton, coords, x) {
+    let properties = match properties_of(skeleton, coords.system, x) {
         Ok(properties) => properties,
         Err(PropertyFault::Large { sum }) => {
             return Err(Failure::Fault(Refusal::LargeSum { sum }));
         }
     };
-    match Pieces::build(alloc, skeleton, coords, x) {
+    match Pieces::build(alloc, skeleton, coords.system, x) {
         Ok(pieces) => Ok(Description { properties, pieces }),
         Err(Failure::Fault(TooManyPieces { count })) => {
             Err(Failure::Fault(Refusal::TooManyPieces { count }))
@@ -71,16 +70,15 @@ fn describe_vector(
     alloc: Global,
     skeleton: &Skeleton,
     system: &System,
-    coords: Coords,
+    coords: DiscCoords,
     x: &[u128],
 ) -> Result<Description, Failure<Refusal>>
-    requires coords { coords ≢ Coords.Quad }
     requires skeleton { IsSkeleton skeleton.now }
-    requires equations { AreEquations coords skeleton.now.rows system.now.rows }
-    requires columns { system.now.columns ≡ columns coords (length skeleton.now.rows) }
-    ensures { TellsDescription skeleton.now coords system.now.rows x.now result }
+    requires equations { AreEquations coords.system skeleton.now.rows system.now.rows }
+    requires columns { system.now.columns ≡ columns coords.system (length skeleton.now.rows) }
+    ensures { TellsDescription skeleton.now coords.system system.now.rows x.now result }
 {
-    match check(coords, skeleton.table(), system, x) {
+    match check(coords.system, skeleton.table(), system, x) {
         Ok(()) => describe_solution(alloc, skeleton, system, coords, x),
         Err(fault) => Err(Failure::Fault(Refusal::Unfit { fault })),
     }
@@ -91,15 +89,14 @@ fn append_vector(
     alloc: Global,
     skeleton: &Skeleton,
     system: &System,
-    coords: Coords,
+    coords: DiscCoords,
     x: &[u128],
     text: &mut Vec<u8>,
 ) -> Result<(), Failure<Refusal>>
-    requires coords { coords ≢ Coords.Quad }
     requires skeleton { IsSkeleton skeleton.now }
-    requires equations { AreEquations coords skeleton.now.rows system.now.rows }
-    requires columns { system.now.columns ≡ columns coords (length skeleton.now.rows) }
-    ensures { TellsOne (IsDescription skeleton.now coords system.now.rows) (description_text skeleton.now coords) x.now text.old.items text.new.items result }
+    requires equations { AreEquations coords.system skeleton.now.rows system.now.rows }
+    requires columns { system.now.columns ≡ columns coords.system (length skeleton.now.rows) }
+    ensures { TellsOne (IsDescription skeleton.now coords.system system.now.rows) (description_text skeleton.now coords.system) x.now text.old.items text.new.items result }
 {
     let told = describe_vector(alloc, skeleton, system, coords, x)?;
     append_description(
@@ -119,14 +116,13 @@ fn descriptions(
     alloc: Global,
     skeleton: &Skeleton,
     system: &System,
-    coords: Coords,
+    coords: DiscCoords,
     vectors: &[Vec<u128>],
 ) -> Result<Vec<u8>, Failure<FirstRefusal>>
-    requires coords { coords ≢ Coords.Quad }
     requires skeleton { IsSkeleton skeleton.now }
-    requires equations { AreEquations coords skeleton.now.rows system.now.rows }
-    requires columns { system.now.columns ≡ columns coords (length skeleton.now.rows) }
-    ensures { TellsEach (IsDescription skeleton.now coords system.now.rows) (description_text skeleton.now coords) (all_entries vectors.now) result }
+    requires equations { AreEquations coords.system skeleton.now.rows system.now.rows }
+    requires columns { system.now.columns ≡ columns coords.system (length skeleton.now.rows) }
+    ensures { TellsEach (IsDescription skeleton.now coords.system system.now.rows) (description_text skeleton.now coords.system) (all_entries vectors.now) result }
 {
     let mut text = Vec::new(alloc);
     for v in 0..vectors.len() {
@@ -146,14 +142,13 @@ fn describe_each(
     alloc: Global,
     skeleton: &Skeleton,
     system: &System,
-    coords: Coords,
+    coords: DiscCoords,
     vectors: &[Vec<u128>],
 ) -> Result<Outcome, NoMemory>
-    requires coords { coords ≢ Coords.Quad }
     requires skeleton { IsSkeleton skeleton.now }
-    requires equations { AreEquations coords skeleton.now.rows system.now.rows }
-    requires columns { system.now.columns ≡ columns coords (length skeleton.now.rows) }
-    ensures { IfOk result (AreDescribed skeleton.now coords (all_entries vectors.now)) }
+    requires equations { AreEquations coords.system skeleton.now.rows system.now.rows }
+    requires columns { system.now.columns ≡ columns coords.system (length skeleton.now.rows) }
+    ensures { IfOk result (AreDescribed skeleton.now coords.system (all_entries vectors.now)) }
 {
     match descriptions(alloc, skeleton, system, coords, vectors) {
         Ok(text) => Ok(Outcome::with_text(Status::Done, text)),
@@ -166,14 +161,13 @@ fn describe_each(
 fn describe_where_valid(
     alloc: Global,
     skeleton: &Skeleton,
-    coords: Coords,
+    coords: DiscCoords,
     vectors: &[Vec<u128>],
 ) -> Result<Outcome, NoMemory>
-    requires coords { coords ≢ Coords.Quad }
-    requires skeleton { IsSkeleton skeleton.now }
-    ensures { IfOk result (AreDescribed skeleton.now coords (all_entries vectors.now)) }
+    requires { IsSkeleton skeleton.now }
+    ensures { IfOk result (AreDescribed skeleton.now coords.system (all_entries vectors.now)) }
 {
-    let system = equations(alloc, skeleton, coords)?;
+    let system = equations(alloc, skeleton, coords.system)?;
     describe_each(alloc, skeleton, &system, coords, vectors)
 }
 
@@ -181,12 +175,11 @@ fn describe_where_valid(
 fn answer_by(
     alloc: Global,
     skeleton: &Skeleton,
-    coords: Coords,
+    coords: DiscCoords,
     vectors: &[Vec<u128>],
 ) -> Result<Outcome, NoMemory>
-    requires coords { coords ≢ Coords.Quad }
-    requires skeleton { IsSkeleton skeleton.now }
-    ensures { IfOk result (IsDescribeAnswer coords (skeleton.now.rows, all_entries vectors.now)) }
+    requires { IsSkeleton skeleton.now }
+    ensures { IfOk result (IsDescribeAnswer coords.system (skeleton.now.rows, all_entries vectors.now)) }
 {
     match skeleton.first_invalid() {
         Some(class) => invalid_edge_outcome(alloc, class),
@@ -198,11 +191,10 @@ fn answer_by(
 fn answer(
     alloc: Global,
     table: &Table,
-    coords: Coords,
+    coords: DiscCoords,
     vectors: &[Vec<u128>],
 ) -> Result<Outcome, NoMemory>
-    requires { coords ≢ Coords.Quad }
-    ensures { IfOk result (IsDescribeAnswer coords (table.now, all_entries vectors.now)) }
+    ensures { IfOk result (IsDescribeAnswer coords.system (table.now, all_entries vectors.now)) }
 {
     let skeleton = Skeleton::of(alloc, table)?;
     answer_by(alloc, &skeleton, coords, vectors)
@@ -215,7 +207,12 @@ pub fn describe(alloc: Global, coords: Coords, bytes: &[u8]) -> Result<Outcome, 
     ensures { IfOk result (IsReadOutcome (vectors_document bytes.now) (IsDescribeAnswer coords)) }
 {
     match read_table_and_vectors(alloc, bytes) {
-        Ok(document) => answer(alloc, &document.table, coords, &document.vectors),
+        Ok(document) => answer(
+            alloc,
+            &document.table,
+            DiscCoords { system: coords },
+            &document.vectors,
+        ),
         Err(fault) => fault_outcome(alloc, fault),
     }
 }

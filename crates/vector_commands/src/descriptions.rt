@@ -1,5 +1,5 @@
 // The lines of a vector that is described.
-ghost use Rattle.std.specs.Prelude.{◌≡◌, ◌≢◌, ◌<◌, ◌++◌, length, None, OnOk, Ok};
+ghost use Rattle.std.specs.Prelude.{◌≡◌, ◌<◌, ◌++◌, length, None, OnOk, Ok};
 ghost use Rattle.std.specs.Fmt.{signed_decimal};
 ghost use Rattle.std.specs.List.{flat_map, slice_index_or};
 ghost use Rattle.text_definitions.specs.Written.{limit};
@@ -11,7 +11,7 @@ ghost use Rattle.surface_pieces.specs.ComponentLists.{no_component};
 ghost use Rattle.vector_commands.specs.Describing.{AreSmall};
 
 use command_answers::yes_or_no;
-use matching_equations::Coords;
+use matching_equations::DiscCoords;
 use no_memory::NoMemory;
 use skeleton::Skeleton;
 use std::alloc::Global;
@@ -57,13 +57,12 @@ fn append_properties(
 }
 
 // The Euler characteristic of a vector none of whose sums is large.
-fn characteristic(skeleton: &Skeleton, coords: Coords, x: &[u128]) -> i128
-    requires coords { coords ≢ Coords.Quad }
-    requires width { length x.now ≡ columns coords (length skeleton.now.rows) }
-    requires small { first_large limit skeleton.now coords x.now ≡ None }
-    ensures { result ≡ definitions.characteristic skeleton.now coords x.now }
+fn characteristic(skeleton: &Skeleton, coords: DiscCoords, x: &[u128]) -> i128
+    requires width { length x.now ≡ columns coords.system (length skeleton.now.rows) }
+    requires small { first_large limit skeleton.now coords.system x.now ≡ None }
+    ensures { result ≡ definitions.characteristic skeleton.now coords.system x.now }
 {
-    match properties_of(skeleton, coords, x) {
+    match properties_of(skeleton, coords.system, x) {
         Ok(properties) => properties.euler,
         Err(_) => unreachable!(),
     }
@@ -74,14 +73,13 @@ fn append_component(
     alloc: Global,
     out: &mut Vec<u8>,
     skeleton: &Skeleton,
-    coords: Coords,
+    coords: DiscCoords,
     pieces: &Pieces,
     component: u32,
 ) -> Result<(), NoMemory>
-    requires coords { coords ≢ Coords.Quad }
-    requires small { AreSmall skeleton.now coords pieces.now }
+    requires small { AreSmall skeleton.now coords.system pieces.now }
     requires in_range { component < length pieces.now }
-    ensures { OnOk result (out.new.items ≡ out.old.items ++ texts.component_line skeleton.now coords (slice_index_or pieces.now component no_component)) }
+    ensures { OnOk result (out.new.items ≡ out.old.items ++ texts.component_line skeleton.now coords.system (slice_index_or pieces.now component no_component)) }
 {
     let vector = pieces.vector(component);
     let euler = characteristic(skeleton, coords, vector);
@@ -100,12 +98,11 @@ fn append_components(
     alloc: Global,
     out: &mut Vec<u8>,
     skeleton: &Skeleton,
-    coords: Coords,
+    coords: DiscCoords,
     pieces: &Pieces,
 ) -> Result<(), NoMemory>
-    requires coords { coords ≢ Coords.Quad }
-    requires small { AreSmall skeleton.now coords pieces.now }
-    ensures { OnOk result (out.new.items ≡ out.old.items ++ flat_map (texts.component_line skeleton.now coords) pieces.now) }
+    requires { AreSmall skeleton.now coords.system pieces.now }
+    ensures { OnOk result (out.new.items ≡ out.old.items ++ flat_map (texts.component_line skeleton.now coords.system) pieces.now) }
 {
     for component in 0..pieces.components() {
         append_component(alloc, out, skeleton, coords, pieces, component)?;
@@ -119,14 +116,13 @@ pub fn append_description(
     alloc: Global,
     out: &mut Vec<u8>,
     skeleton: &Skeleton,
-    coords: Coords,
+    coords: DiscCoords,
     x: &[u128],
     properties: &Properties,
     pieces: &Pieces,
 ) -> Result<(), NoMemory>
-    requires coords { coords ≢ Coords.Quad }
-    requires small { AreSmall skeleton.now coords pieces.now }
-    ensures { OnOk result (out.new.items ≡ out.old.items ++ texts.description_text skeleton.now coords (record { vector = x.now; properties = properties.now; components = pieces.now })) }
+    requires { AreSmall skeleton.now coords.system pieces.now }
+    ensures { OnOk result (out.new.items ≡ out.old.items ++ texts.description_text skeleton.now coords.system (record { vector = x.now; properties = properties.now; components = pieces.now })) }
 {
     write_vector(alloc, x, out)?;
     append_properties(alloc, out, properties, pieces.components())?;

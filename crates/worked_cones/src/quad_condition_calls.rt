@@ -1,6 +1,6 @@
 use crate::sample_cones::{SPHERE, read_table};
 use cone_core::MAX_ENTRY;
-use matching_equations::{Coords, matching_system};
+use matching_equations::{Coords, DiscCoords, matching_system};
 use no_memory::NoMemory;
 use quad_condition::{Masks, VectorFault, check_vector, clash_list, first_clash};
 use std::test::Fail;
@@ -10,7 +10,7 @@ use support_bits::Support;
 fn vectors_of_a_sphere_are_checked(rt: HostRuntime) -> Result<(), Fail> {
     let table = read_table(rt.alloc(), SPHERE)?;
     assert_eq!(rt; table.len(), 1);
-    let system = matching_system(rt.alloc(), Coords::Standard, &table)?;
+    let system = matching_system(rt.alloc(), DiscCoords::STANDARD, &table)?;
     let big = MAX_ENTRY;
     let check = |x: &[u128]| check_vector(Coords::Standard, 1, &system, x).err();
     assert!(rt; check(&[1, 1, 0, 0, 1, 0, 0]).is_none());

@@ -8,7 +8,7 @@ use Rattle.matching_equations.proofs.matching.push_tet.Goals as goal
 
 pub loop-face-preserved : goal.loop-face-preserved
 loop-face-preserved c =
-    let f : ℕ → ℕ → Rows = λ n k. face_rows c.args.coords c.args.table.now n (face_at c.args.tet k) in
+    let f : ℕ → ℕ → Rows = λ n k. face_rows c.args.coords.system c.args.table.now n (face_at c.args.tet k) in
     let few : length c.push_face.new.system.rows ≤ length c.loop-face.system.rows + 4 = c.in_ok-push_face.ensures.few in
     record {
       columns = c.in_ok-push_face.ensures.columns ∙ c.loop-face.invariant.columns;
@@ -20,6 +20,6 @@ loop-face-preserved c =
 pub returns-clause-rows : goal.returns-clause-rows
 returns-clause-rows c =
     let all : c.loop-face.face ≡ 4 = omega arith in
-    let f : ℕ → Rows = λ k. face_rows c.args.coords c.args.table.now c.args.system.now.columns (face_at c.args.tet k) in
+    let f : ℕ → Rows = λ k. face_rows c.args.coords.system c.args.table.now c.args.system.now.columns (face_at c.args.tet k) in
     c.loop-face.invariant.rows ∙ ap (λ k. c.args.system.now.rows ++ flat_map f (below k)) all
-    ∙ ap (λ r. c.args.system.now.rows ++ r) (tet_whole c.args.coords c.args.table.now c.args.system.now.columns c.args.tet)
+    ∙ ap (λ r. c.args.system.now.rows ++ r) (tet_whole c.args.coords.system c.args.table.now c.args.system.now.columns c.args.tet)

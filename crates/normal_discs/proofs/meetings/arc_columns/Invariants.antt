@@ -6,6 +6,6 @@ use Rattle.normal_discs.proofs.meetings.arc_columns.Given as goal
 
 abbrev pub invariant-loop-column : goal.invariant-loop-column
 invariant-loop-column l = record {
-  items : l.columns.items ≡ tri_column l.fn.coords l.fn.tet l.fn.vertex ∷ quad_column l.fn.coords l.fn.tet (keeping l.fn.vertex l.fn.face) ∷ take l.column-index l.column-items;
+  items : l.columns.items ≡ tri_column l.fn.coords.system l.fn.tet l.fn.vertex ∷ quad_column l.fn.coords.system l.fn.tet (keeping l.fn.vertex l.fn.face) ∷ take l.column-index l.column-items;
   size : array_vec_len l.columns ≡ 2 + l.column-index;
 }

@@ -17,9 +17,9 @@ classes-requires c = (
     (
       subst (λ (rs : List (List (Option ℕ))). HasNeighboursBelow (length rs) (neighbours_of rs)) (sym c.deref-3.ensures.value)
           (subst (λ n. HasNeighboursBelow n (neighbours_of c.in_ok-rows.rows.items)) (sym c.in_ok-rows.ensures.size)
-          (joins c.args.table.now c.args.coords c.args.x.now c.requires.surface c.in_ok-rows.rows.items c.in_ok-rows.ensures).below),
+          (joins c.args.table.now c.args.coords.system c.args.x.now c.requires.surface c.in_ok-rows.rows.items c.in_ok-rows.ensures).below),
       subst (λ (rs : List (List (Option ℕ))). IsSymmetric (neighbours_of rs)) (sym c.deref-3.ensures.value)
-          (joins c.args.table.now c.args.coords c.args.x.now c.requires.surface c.in_ok-rows.rows.items c.in_ok-rows.ensures).symmetric,
+          (joins c.args.table.now c.args.coords.system c.args.x.now c.requires.surface c.in_ok-rows.rows.items c.in_ok-rows.ensures).symmetric,
     ),
   ),
 )
@@ -30,18 +30,18 @@ vectors_of-requires-clause-few c =
 
 pub signs_of-requires-clause-components : goal.signs_of-requires-clause-components
 signs_of-requires-clause-components c =
-    components_of c.args.table.now c.args.coords c.args.x.now c.requires.surface c.in_ok-rows.rows.items c.in_ok-rows.ensures c.in_ok-all.all.classes.items c.in_ok-all.all.count
+    components_of c.args.table.now c.args.coords.system c.args.x.now c.requires.surface c.in_ok-rows.rows.items c.in_ok-rows.ensures c.in_ok-all.all.classes.items c.in_ok-all.all.count
     (subst (λ (rs : List (List (Option ℕ))). IsNumbering (length rs) (IsJoined (neighbours_of rs)) c.in_ok-all.all.classes.items c.in_ok-all.all.count) c.deref-3.ensures.value c.in_ok-all.ensures)
 
 pub signs_of-requires-2-clause-components : goal.signs_of-requires-2-clause-components
 signs_of-requires-2-clause-components c =
-    components_of c.args.table.now c.args.coords c.args.x.now c.requires.surface c.in_ok-rows.rows.items c.in_ok-rows.ensures c.in_ok-all.all.classes.items c.in_ok-all.all.count
+    components_of c.args.table.now c.args.coords.system c.args.x.now c.requires.surface c.in_ok-rows.rows.items c.in_ok-rows.ensures c.in_ok-all.all.classes.items c.in_ok-all.all.count
     (subst (λ (rs : List (List (Option ℕ))). IsNumbering (length rs) (IsJoined (neighbours_of rs)) c.in_ok-all.all.classes.items c.in_ok-all.all.count) c.deref-3.ensures.value c.in_ok-all.ensures)
 
 pub returns : goal.returns
 returns c =
-    told c.args.table.now c.args.coords c.args.x.now c.in_ok-all.all.classes.items c.in_ok-all.all.count (all_entries c.in_ok-vectors.vectors.items) c.in_ok-two_sided.two_sided.items c.in_ok-orientable.orientable.items
-    (components_of c.args.table.now c.args.coords c.args.x.now c.requires.surface c.in_ok-rows.rows.items c.in_ok-rows.ensures c.in_ok-all.all.classes.items c.in_ok-all.all.count
+    told c.args.table.now c.args.coords.system c.args.x.now c.in_ok-all.all.classes.items c.in_ok-all.all.count (all_entries c.in_ok-vectors.vectors.items) c.in_ok-two_sided.two_sided.items c.in_ok-orientable.orientable.items
+    (components_of c.args.table.now c.args.coords.system c.args.x.now c.requires.surface c.in_ok-rows.rows.items c.in_ok-rows.ensures c.in_ok-all.all.classes.items c.in_ok-all.all.count
     (subst (λ (rs : List (List (Option ℕ))). IsNumbering (length rs) (IsJoined (neighbours_of rs)) c.in_ok-all.all.classes.items c.in_ok-all.all.count) c.deref-3.ensures.value c.in_ok-all.ensures))
     (subst (λ (cs : List ℕ). AreVectors c.args.x.now cs c.in_ok-all.all.count (all_entries c.in_ok-vectors.vectors.items)) c.deref-5.ensures.value c.in_ok-vectors.ensures)
     c.in_ok-two_sided.ensures c.in_ok-orientable.ensures

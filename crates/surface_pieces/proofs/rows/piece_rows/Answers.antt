@@ -15,9 +15,9 @@ row_of-requires-clause-piece c = item_piece c.args.x.now c.args.listed.now c.loo
 pub loop-piece-preserved : goal.loop-piece-preserved
 loop-piece-preserved c = record {
   size = ap (λ (rs : List (List (Option ℕ))). length rs) c.in_ok-push.ensures.items ∙ length_push c.loop-piece.rows.items c.row_of.result ∙ (let s = c.loop-piece.invariant.size in omega arith);
-  each = rows_push (λ i row. IsRow Pieces c.args.table.now c.args.coords c.args.x.now (slice_index_or (pieces_of c.args.x.now) i no_piece) 0 row) c.loop-piece.rows.items c.push.new.self.items c.row_of.result
+  each = rows_push (λ i row. IsRow Pieces c.args.table.now c.args.coords.system c.args.x.now (slice_index_or (pieces_of c.args.x.now) i no_piece) 0 row) c.loop-piece.rows.items c.push.new.self.items c.row_of.result
       c.loop-piece.piece-index c.loop-piece.invariant.size c.loop-piece.invariant.each
-      (subst (λ (p : SurfacePiece). IsRow Pieces c.args.table.now c.args.coords c.args.x.now p 0 c.row_of.result)
+      (subst (λ (p : SurfacePiece). IsRow Pieces c.args.table.now c.args.coords.system c.args.x.now p 0 c.row_of.result)
       (item_is c.args.x.now c.args.listed.now c.loop-piece.piece-index c.piece-item.result c.requires.listed c.loop-piece-test.true c.piece-item.is) c.row_of.ensures)
       c.in_ok-push.ensures.items;
 }

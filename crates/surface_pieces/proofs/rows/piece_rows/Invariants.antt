@@ -10,5 +10,5 @@ use Rattle.surface_pieces.proofs.rows.piece_rows.Given as goal
 abbrev pub invariant-loop-piece : goal.invariant-loop-piece
 invariant-loop-piece l = record {
   size : length l.rows.items ≡ l.piece-index;
-  each : (i : ℕ) → i < l.piece-index → IsRow Pieces l.table l.coords l.x (slice_index_or (pieces_of l.x) i no_piece) 0 (slice_index_or l.rows.items i []);
+  each : (i : ℕ) → i < l.piece-index → IsRow Pieces l.table l.coords.system l.x (slice_index_or (pieces_of l.x) i no_piece) 0 (slice_index_or l.rows.items i []);
 }

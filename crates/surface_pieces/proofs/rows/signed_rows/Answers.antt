@@ -14,9 +14,9 @@ row_of-requires-clause-piece c = item_piece c.args.x.now c.args.listed.now (c.lo
 pub loop-number-preserved : goal.loop-number-preserved
 loop-number-preserved c = record {
   size = ap (λ (rs : List (List (Option ℕ))). length rs) c.in_ok-push.ensures.items ∙ length_push c.loop-number.rows.items c.row_of.result ∙ (let s = c.loop-number.invariant.size in omega arith);
-  each = rows_push (λ i row. IsRow c.args.kind c.args.table.now c.args.coords c.args.x.now (slice_index_or (pieces_of c.args.x.now) (i / 2) no_piece) (i % 2) row) c.loop-number.rows.items c.push.new.self.items
+  each = rows_push (λ i row. IsRow c.args.kind c.args.table.now c.args.coords.system c.args.x.now (slice_index_or (pieces_of c.args.x.now) (i / 2) no_piece) (i % 2) row) c.loop-number.rows.items c.push.new.self.items
       c.row_of.result c.loop-number.number c.loop-number.invariant.size c.loop-number.invariant.each
-      (subst (λ (p : SurfacePiece). IsRow c.args.kind c.args.table.now c.args.coords c.args.x.now p (c.loop-number.number % 2) c.row_of.result)
+      (subst (λ (p : SurfacePiece). IsRow c.args.kind c.args.table.now c.args.coords.system c.args.x.now p (c.loop-number.number % 2) c.row_of.result)
       (item_is c.args.x.now c.args.listed.now (c.loop-number.number / 2) c.index-listed-number.result c.requires.listed (omega arith) c.index-listed-number.is) c.row_of.ensures)
       c.in_ok-push.ensures.items;
 }

@@ -16,9 +16,9 @@ classes-requires c = (
     (
       subst (λ (rs : List (List (Option ℕ))). HasNeighboursBelow (length rs) (neighbours_of rs)) (sym c.deref.ensures.value)
           (subst (λ n. HasNeighboursBelow n (neighbours_of c.in_ok-rows.rows.items)) (sym c.in_ok-rows.ensures.size)
-          (signed_below c.args.table.now c.args.coords c.args.x.now c.requires.surface c.args.kind c.requires.kind c.in_ok-rows.rows.items c.in_ok-rows.ensures)),
+          (signed_below c.args.table.now c.args.coords.system c.args.x.now c.requires.surface c.args.kind c.requires.kind c.in_ok-rows.rows.items c.in_ok-rows.ensures)),
       subst (λ (rs : List (List (Option ℕ))). IsSymmetric (neighbours_of rs)) (sym c.deref.ensures.value)
-          (signed_back c.args.table.now c.args.coords c.args.x.now c.requires.surface c.args.kind c.requires.kind c.in_ok-rows.rows.items c.in_ok-rows.ensures),
+          (signed_back c.args.table.now c.args.coords.system c.args.x.now c.requires.surface c.args.kind c.requires.kind c.in_ok-rows.rows.items c.in_ok-rows.ensures),
     ),
   ),
 )
@@ -45,6 +45,6 @@ returns c = record {
     numbered = subst (λ n. IsNumbering n (IsJoined (neighbours_of rows)) c.in_ok-signed.signed.classes.items c.in_ok-signed.signed.count) c.in_ok-rows.ensures.size read
 
     told : (i : ℕ) → i < c.args.components.now.count → IsFree c.in_ok-signed.signed.classes.items c.args.components.now.classes.items i
-        ↔ HasSigns c.args.table.now c.args.coords c.args.x.now c.args.components.now.classes.items i (stays_at c.args.kind c.args.coords c.args.x.now)
-    told = λ i l. free_is c.args.table.now c.args.coords c.args.x.now c.requires.surface c.args.kind c.requires.kind
+        ↔ HasSigns c.args.table.now c.args.coords.system c.args.x.now c.args.components.now.classes.items i (stays_at c.args.kind c.args.coords.system c.args.x.now)
+    told = λ i l. free_is c.args.table.now c.args.coords.system c.args.x.now c.requires.surface c.args.kind c.requires.kind
         rows c.in_ok-rows.ensures c.in_ok-signed.signed.classes.items c.in_ok-signed.signed.count numbered c.args.components.now.classes.items c.args.components.now.count c.requires.components i l

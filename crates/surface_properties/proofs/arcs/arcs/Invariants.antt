@@ -7,4 +7,4 @@ use Rattle.surface_properties.specs.Counted.{counted_in}
 use Rattle.surface_properties.proofs.arcs.arcs.Given as goal
 
 abbrev pub invariant-loop-tet : goal.invariant-loop-tet
-invariant-loop-tet l = l.total ≡ capped (sum_by (counted_in l.table l.coords l.x) (below l.tet))
+invariant-loop-tet l = l.total ≡ capped (sum_by (counted_in l.table l.coords.system l.x) (below l.tet))

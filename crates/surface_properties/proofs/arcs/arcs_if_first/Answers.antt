@@ -8,4 +8,4 @@ use Rattle.surface_properties.proofs.arcs.arcs_if_first.Goals as goal
 
 pub returns-else-is_first_side : goal.returns-else-is_first_side
 returns-else-is_first_side c =
-    sym (ap (λ b. capped (if b then arcs_in c.args.coords c.args.x.now c.args.face else 0)) (sym c.is_first_side.ensures ∙ c.if-is_first_side.false) ∙ capped_zero)
+    sym (ap (λ b. capped (if b then arcs_in c.args.coords.system c.args.x.now c.args.face else 0)) (sym c.is_first_side.ensures ∙ c.if-is_first_side.false) ∙ capped_zero)

@@ -18,4 +18,4 @@ returns c =
     c.add-two.ensures ∙ ap capped (sym (three_others round c.args.face.face c.requires.a_face))
   where
     round : ℕ → ℕ
-    round v = arcs_round c.args.coords c.args.x.now c.args.face.tet c.args.face.face v
+    round v = arcs_round c.args.coords.system c.args.x.now c.args.face.tet c.args.face.face v

@@ -8,4 +8,4 @@ use Rattle.surface_properties.specs.Capped.{capped}
 use Rattle.surface_properties.proofs.points.points.Given as goal
 
 abbrev pub invariant-loop-class : goal.invariant-loop-class
-invariant-loop-class l = l.total ≡ capped (sum_by (λ c. weight l.coords l.x (least l.skeleton.edges.classes c)) (below l.class))
+invariant-loop-class l = l.total ≡ capped (sum_by (λ c. weight l.coords.system l.x (least l.skeleton.edges.classes c)) (below l.class))

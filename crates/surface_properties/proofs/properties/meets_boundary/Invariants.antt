@@ -6,4 +6,4 @@ use Rattle.surface_definitions.specs.Characteristic.{arcs_in}
 use Rattle.surface_properties.proofs.properties.meets_boundary.Given as goal
 
 abbrev pub invariant-loop-place : goal.invariant-loop-place
-invariant-loop-place l = (i : ℕ) → i < l.place → glue l.table (face_of i) ≡ None → arcs_in l.fn.coords l.x (face_of i) ≡ 0
+invariant-loop-place l = (i : ℕ) → i < l.place → glue l.table (face_of i) ≡ None → arcs_in l.fn.coords.system l.x (face_of i) ≡ 0

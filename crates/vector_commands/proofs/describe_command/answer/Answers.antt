@@ -7,4 +7,4 @@ use Rattle.outcome_definitions.specs.Vectors.{IsDescribeAnswer}
 use Rattle.vector_commands.proofs.describe_command.answer.Goals as goal
 
 pub returns : goal.returns
-returns c = subst (λ (rows : List Row). IfOk c.answer_by.result (IsDescribeAnswer c.args.coords (rows, all_entries c.args.vectors.now))) c.in_ok-skeleton.ensures.rows c.answer_by.ensures
+returns c = subst (λ (rows : List Row). IfOk c.answer_by.result (IsDescribeAnswer c.args.coords.system (rows, all_entries c.args.vectors.now))) c.in_ok-skeleton.ensures.rows c.answer_by.ensures

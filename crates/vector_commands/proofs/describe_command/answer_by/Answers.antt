@@ -7,10 +7,10 @@ use Rattle.vector_commands.proofs.describe_command.answer_by.Goals as goal
 
 pub returns-in-Some : goal.returns-in-Some
 returns-in-Some c = IfOk-weaker c.invalid_edge_outcome.result _ _
-    (λ o e. invalid_told c.args.skeleton.now c.args.coords c.args.skeleton.now.rows (all_entries c.args.vectors.now) o refl c.requires.skeleton c.in-Some.class c.in-Some.ensures e)
+    (λ o e. invalid_told c.args.skeleton.now c.args.coords.system c.args.skeleton.now.rows (all_entries c.args.vectors.now) o refl c.requires c.in-Some.class c.in-Some.ensures e)
     c.invalid_edge_outcome.ensures
 
 pub returns-in-None : goal.returns-in-None
 returns-in-None c = IfOk-weaker c.describe_where_valid.result _ _
-    (λ o d. valid_told c.args.skeleton.now c.args.coords c.args.skeleton.now.rows (all_entries c.args.vectors.now) o refl c.requires.skeleton c.in-None.ensures d)
+    (λ o d. valid_told c.args.skeleton.now c.args.coords.system c.args.skeleton.now.rows (all_entries c.args.vectors.now) o refl c.requires c.in-None.ensures d)
     c.describe_where_valid.ensures

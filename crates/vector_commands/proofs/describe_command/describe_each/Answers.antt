@@ -12,13 +12,13 @@ use Rattle.vector_commands.proofs.describe_command.describe_each.Goals as goal
 
 pub returns-in-Ok : goal.returns-in-Ok
 returns-in-Ok c =
-    described_told c.args.skeleton.now c.args.coords c.args.system.now.rows (all_entries c.args.vectors.now) c.with_text.result
+    described_told c.args.skeleton.now c.args.coords.system c.args.system.now.rows (all_entries c.args.vectors.now) c.with_text.result
     c.requires.equations c.in-Ok.text.items c.in-Ok.ensures c.with_text.ensures
 
 pub returns-in-Err-Fault : goal.returns-in-Err-Fault
 returns-in-Err-Fault c =
     IfOk-weaker c.refusal_outcome.result _ _
-    (λ o h. describe_refused c.args.skeleton.now c.args.coords c.args.system.now.rows (all_entries c.args.vectors.now) o
+    (λ o h. describe_refused c.args.skeleton.now c.args.coords.system c.args.system.now.rows (all_entries c.args.vectors.now) o
     c.requires.equations c.in-Err-Fault.first.vector c.in-Err-Fault.first.refusal
-    (subst (λ (e : Failure FirstRefusal). TellsEach (IsDescription c.args.skeleton.now c.args.coords c.args.system.now.rows) (description_text c.args.skeleton.now c.args.coords) (all_entries c.args.vectors.now) (Err e)) c.in-Err-Fault.field-0-is c.in-Err-Fault.ensures) h)
+    (subst (λ (e : Failure FirstRefusal). TellsEach (IsDescription c.args.skeleton.now c.args.coords.system c.args.system.now.rows) (description_text c.args.skeleton.now c.args.coords.system) (all_entries c.args.vectors.now) (Err e)) c.in-Err-Fault.field-0-is c.in-Err-Fault.ensures) h)
     c.refusal_outcome.ensures

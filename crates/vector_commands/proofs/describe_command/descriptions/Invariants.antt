@@ -7,4 +7,4 @@ use Rattle.vector_commands.specs.Telling.{AreAnsweredIn}
 use Rattle.vector_commands.proofs.describe_command.descriptions.Given as goal
 
 abbrev pub invariant-loop-v : goal.invariant-loop-v
-invariant-loop-v l = AreAnsweredIn (IsDescription l.skeleton l.coords l.system.rows) (description_text l.skeleton l.coords) (all_entries (take l.v l.vectors)) l.text.items
+invariant-loop-v l = AreAnsweredIn (IsDescription l.skeleton l.coords.system l.system.rows) (description_text l.skeleton l.coords.system) (all_entries (take l.v l.vectors)) l.text.items

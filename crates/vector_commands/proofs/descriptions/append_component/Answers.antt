@@ -35,7 +35,7 @@ returns c =
     told = slice_index_or c.args.pieces.now c.args.component no_component
 
     one : List ℕ
-    one = codes "component euler " ++ signed_decimal (characteristic c.args.skeleton.now c.args.coords told.vector)
+    one = codes "component euler " ++ signed_decimal (characteristic c.args.skeleton.now c.args.coords.system told.vector)
 
     sides : List ℕ
     sides = sides_word told.two_sided
@@ -49,4 +49,4 @@ returns c =
     first : c.append_euler.new.out.items ≡ old ++ one
     first = c.in_ok-append_euler.ensures ∙ append_assoc old (codes "component euler ") _
         ∙ ap (λ e. old ++ (codes "component euler " ++ signed_decimal e)) (to_z-of_z w128 c.characteristic-euler.result whole ∙ c.characteristic-euler.ensures)
-        ∙ ap (λ (x : List ℕ). old ++ (codes "component euler " ++ signed_decimal (characteristic c.args.skeleton.now c.args.coords x))) c.vector-vector.ensures
+        ∙ ap (λ (x : List ℕ). old ++ (codes "component euler " ++ signed_decimal (characteristic c.args.skeleton.now c.args.coords.system x))) c.vector-vector.ensures

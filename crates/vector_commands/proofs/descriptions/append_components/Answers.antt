@@ -7,7 +7,7 @@ use Rattle.vector_commands.proofs.descriptions.append_components.Goals as goal
 
 pub loop-component-preserved : goal.loop-component-preserved
 loop-component-preserved c =
-    lines_more (component_line c.args.skeleton.now c.args.coords) c.args.pieces.now c.loop-component.component no_component c.args.out.now.items c.loop-component.out.items
+    lines_more (component_line c.args.skeleton.now c.args.coords.system) c.args.pieces.now c.loop-component.component no_component c.args.out.now.items c.loop-component.out.items
     c.append_component.new.out.items inside c.loop-component.invariant c.in_ok-append_component.ensures
   where
     inside : c.loop-component.component < length c.args.pieces.now

@@ -4,4 +4,4 @@ use Rattle.surface_vector_definitions.specs.Texts.{component_line}
 use Rattle.vector_commands.proofs.descriptions.append_components.Given as goal
 
 abbrev pub invariant-loop-component : goal.invariant-loop-component
-invariant-loop-component l = l.out.items ≡ l.fn.out.items ++ flat_map (component_line l.skeleton l.coords) (take l.component l.pieces)
+invariant-loop-component l = l.out.items ≡ l.fn.out.items ++ flat_map (component_line l.skeleton l.coords.system) (take l.component l.pieces)
