@@ -11,15 +11,15 @@ use command_answers::{Outcome, accepted_outcome, fault_outcome};
 use gluing_table::Table;
 use no_memory::{Failure, NoMemory};
 use pachner_moves::Move;
-use sphere_certificate::check as check_moves;
+use sphere_certificate::check_owned;
 use std::alloc::Global;
 
 // The answer to a table and moves.
-fn answer(alloc: Global, table: &Table, moves: &[Move]) -> Result<Outcome, NoMemory>
+fn answer(alloc: Global, table: Table, moves: &[Move]) -> Result<Outcome, NoMemory>
     requires few { length moves.now < 2 ^ 32 - 1 }
-    ensures { IfOk result (IsCheckAnswer (table.now, moves.now)) }
+    ensures { IfOk result (IsCheckAnswer (table, moves.now)) }
 {
-    match check_moves(alloc, table, moves) {
+    match check_owned(alloc, table, moves) {
         Ok(()) => accepted_outcome(alloc),
         Err(Failure::Fault(fault)) => refused_outcome(alloc, fault),
         Err(Failure::NoMemory) => Err(NoMemory),
@@ -32,7 +32,7 @@ pub fn check(alloc: Global, bytes: &[u8]) -> Result<Outcome, NoMemory>
     ensures answer { IfOk result (IsReadOutcome (moves_document bytes.now) IsCheckAnswer) }
 {
     match read_table_and_moves(alloc, bytes) {
-        Ok(document) => answer(alloc, &document.table, &document.moves),
+        Ok(document) => answer(alloc, document.table, &document.moves),
         Err(fault) => fault_outcome(alloc, fault),
     }
 }

@@ -22,9 +22,6 @@ checked_on rows moves last (Err (Illegal step fault)) led r = absurd (none_refus
 checked_on rows moves last (Err (NotConnected t)) led (end, same, u) = (end, subst (λ (table : List Row). PlaysAll rows moves table) same led, u)
 checked_on rows moves last (Err (NotStandard text)) led (end, same, c, h, n) = (end, subst (λ (table : List Row). PlaysAll rows moves table) same led, c, h, n)
 
-pub checked_from : (rows copy : List Row) (moves : List Move) (last : List Row) (answer : CheckAnswer) → copy ≡ rows → PlaysAll copy moves last → IsChecked last [] answer → IsChecked rows moves answer
-checked_from rows copy moves last answer same led h = checked_on rows moves last answer (subst (λ (table : List Row). PlaysAll table moves last) same led) h
-
 -- a table and moves with a fault are no certificate
 pub fault_or_certificate : (rows : List Row) (moves : List Move) (fault : CheckFault (List ℕ)) → IsTable rows → IsChecked rows moves (Err fault) → IsCertificate rows moves → ⊥
 fault_or_certificate rows moves fault table h k = differ (Err fault) (Ok tt) (answers_agree_lem rows moves (Err fault) (Ok tt) table h k) refl refl

@@ -58,6 +58,25 @@ fn judge(alloc: Global, last: &Table) -> Result<(), Failure<CheckFault>>
     }
 }
 
+/// What `check` answers, of a table that isn't needed any more: the moves are played on it, and on no copy.
+pub fn check_owned(
+    alloc: Global,
+    mut table: Table,
+    moves: &[Move],
+) -> Result<(), Failure<CheckFault>>
+    requires few { length moves.now < 2 ^ 32 - 1 }
+    ensures certificate { OnOk result (IsCertificate table moves.now) }
+    ensures fault { IfErr result (λ e. IfFault e (λ fault. IsChecked table moves.now (Err (told fault)))) }
+    ensures no_certificate { IfErr result (λ e. IfFault e (λ _. IsCertificate table moves.now → ⊥)) }
+{
+    // so its rows are known to be those of a table
+    let _ = table.len();
+    if let Err(fault) = play_all(&mut table, moves) {
+        return Err(Failure::Fault(fault));
+    }
+    judge(alloc, &table)
+}
+
 /// Whether moves are a certificate of a table: they lead from it, one after another, to a relabelling of the standard
 /// sphere (Pachner). `Illegal` names the first move that is refused, counted from 1; else `NotConnected` the least
 /// tetrahedron of the last table that isn't reached; else `NotStandard` has its signature.
@@ -67,9 +86,6 @@ pub fn check(alloc: Global, table: &Table, moves: &[Move]) -> Result<(), Failure
     ensures fault { IfErr result (λ e. IfFault e (λ fault. IsChecked table.now moves.now (Err (told fault)))) }
     ensures no_certificate { IfErr result (λ e. IfFault e (λ _. IsCertificate table.now moves.now → ⊥)) }
 {
-    let mut last = table.copy(alloc)?;
-    if let Err(fault) = play_all(&mut last, moves) {
-        return Err(Failure::Fault(fault));
-    }
-    judge(alloc, &last)
+    let copy = table.copy(alloc)?;
+    check_owned(alloc, copy, moves)
 }

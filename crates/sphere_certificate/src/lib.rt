@@ -8,6 +8,6 @@ mod sphere;
 
 pub use accepted::is_accepted;
 pub use canonical_labelling::{NotConnected, WalkFault};
-pub use checking::{CheckFault, check};
+pub use checking::{CheckFault, check, check_owned};
 pub use descending::{Descent, descend};
 pub use sphere::standard;
