@@ -18,9 +18,9 @@ pub(crate) enum Entries {
 fn widen(alloc: Global, small: &[u64]) -> Result<Vec<u128>, NoMemory>
     ensures { IfOk result (λ wide. wide.items ≡ small.now) }
 {
-    let mut wide = Vec::with_capacity(alloc, small.len())?;
-    for entry in small {
-        wide.push(u128::from(*entry))?;
+    let mut wide = vec![in alloc; 0u128; small.len()]?;
+    for (column, entry) in small.iter().enumerate() {
+        wide[column] = u128::from(*entry);
     }
     Ok(wide)
 }
