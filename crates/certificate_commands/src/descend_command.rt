@@ -7,7 +7,7 @@ ghost use Rattle.outcome_definitions.specs.Outcomes.{IsReadOutcome};
 ghost use Rattle.outcome_definitions.specs.Certificates as certificates;
 ghost use Rattle.outcome_definitions.specs.Certificates.{IsDescendAnswer};
 
-use command_answers::{Outcome, fault_outcome, not_connected_outcome, read_table_document};
+use command_answers::{Outcome, answer_read, not_connected_outcome, read_table_document};
 use gluing_table::{Table, write_table};
 use move_undo::write_moves;
 use no_memory::{Failure, NoMemory};
@@ -74,8 +74,9 @@ pub fn descend(alloc: Global, bytes: &[u8]) -> Result<Outcome, NoMemory>
     requires { length bytes.now ≤ max_text }
     ensures answer { IfOk result (IsReadOutcome (table_document bytes.now) IsDescendAnswer) }
 {
-    match read_table_document(alloc, bytes) {
-        Ok(table) => answer(alloc, &table),
-        Err(fault) => fault_outcome(alloc, fault),
-    }
+    answer_read(
+        alloc,
+        read_table_document(alloc, bytes),
+        |table| answer(alloc, &table),
+    )
 }

@@ -1,6 +1,7 @@
 //! What the commands share: outcomes, the one line of each refusal, and documents of tables and vectors.
 #![tactic(auto)]
 
+mod answers;
 mod document;
 mod lines;
 mod outcome;
@@ -8,6 +9,7 @@ mod refusals;
 mod vectors;
 mod verdicts;
 
+pub use answers::answer_read;
 pub use document::{
     TableAndVector, TableAndVectors, TwoTables, end_document, read_table, read_table_and_vector,
     read_table_and_vectors, read_table_document, read_two_tables,

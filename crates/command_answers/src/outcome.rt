@@ -2,14 +2,39 @@
 ghost use Rattle.std.specs.Prelude.{◌≡◌};
 ghost use Rattle.outcome_definitions.specs.Outcomes.{usage_outcome, too_long_outcome, read_outcome};
 ghost use Rattle.outcome_definitions.specs.Canonical.{different_outcome};
+ghost use Rattle.command_answers.specs.Texts.{fixed_bytes};
 
 use outcome_definitions::Status;
 use std::marker::Model;
 
-/// A text that is to be written. The fixed ones need no memory.
+/// A text that needs no memory.
+#[derive(Clone, Copy)]
+pub enum Fixed {
+    Usage,
+    ReadFault,
+    TooLong,
+    Different,
+}
+
+impl Fixed {
+    /// Its bytes.
+    #[tactic(auto, unfolding(outcome_definitions::specs::Lines::usage_line, outcome_definitions::specs::Lines::read_line, outcome_definitions::specs::Lines::too_long_line, outcome_definitions::specs::Canonical::different_text))]
+    fn bytes(self) -> &'static [u8]
+        ensures { result.now ≡ fixed_bytes self }
+    {
+        match self {
+            Fixed::Usage => b"refused: usage\n",
+            Fixed::ReadFault => b"refused: read\n",
+            Fixed::TooLong => b"refused: input too-long\n",
+            Fixed::Different => b"different\n",
+        }
+    }
+}
+
+/// A text that is to be written.
 #[derive(Drop)]
 pub enum Text {
-    Fixed(&'static [u8]),
+    Fixed(Fixed),
     Built(Vec<u8>),
 }
 
@@ -41,46 +66,42 @@ impl Outcome {
     }
 
     /// The words are not accepted.
-    #[tactic(auto, unfolding(outcome_definitions::specs::Lines::usage_line))]
     pub fn usage() -> Outcome
         ensures { result ≡ usage_outcome }
     {
         Outcome {
             status: Status::Usage,
-            text: Text::Fixed(b"refused: usage\n"),
+            text: Text::Fixed(Fixed::Usage),
         }
     }
 
     /// The source failed.
-    #[tactic(auto, unfolding(outcome_definitions::specs::Lines::read_line))]
     pub fn read_fault() -> Outcome
         ensures { result ≡ read_outcome }
     {
         Outcome {
             status: Status::ReadFault,
-            text: Text::Fixed(b"refused: read\n"),
+            text: Text::Fixed(Fixed::ReadFault),
         }
     }
 
     /// The input is too long.
-    #[tactic(auto, unfolding(outcome_definitions::specs::Lines::too_long_line))]
     pub fn too_long() -> Outcome
         ensures { result ≡ too_long_outcome }
     {
         Outcome {
             status: Status::Input,
-            text: Text::Fixed(b"refused: input too-long\n"),
+            text: Text::Fixed(Fixed::TooLong),
         }
     }
 
     /// No relabelling carries the one table to the other.
-    #[tactic(auto, unfolding(outcome_definitions::specs::Canonical::different_text))]
     pub fn different() -> Outcome
         ensures { result ≡ different_outcome }
     {
         Outcome {
             status: Status::Done,
-            text: Text::Fixed(b"different\n"),
+            text: Text::Fixed(Fixed::Different),
         }
     }
 
@@ -96,7 +117,7 @@ impl Outcome {
         ensures { result.now ≡ self.now.text }
     {
         match &self.text {
-            Text::Fixed(text) => *text,
+            Text::Fixed(fixed) => fixed.bytes(),
             Text::Built(text) => text.as_slice(),
         }
     }

@@ -7,7 +7,7 @@ ghost use Rattle.outcome_definitions.specs.Outcomes.{IsReadOutcome};
 ghost use Rattle.outcome_definitions.specs.Covers.{IsCoverAnswered, IsCoverAnswer, large_cover_outcome};
 
 use crate::sheets::cover_text;
-use command_answers::{Outcome, fault_outcome, read_table_document};
+use command_answers::{Outcome, answer_read, read_table_document};
 use double_cover::{Cover, Failure};
 use gluing_table::Table;
 use no_memory::NoMemory;
@@ -59,8 +59,9 @@ pub fn cover(alloc: Global, bytes: &[u8]) -> Result<Outcome, NoMemory>
     requires { length bytes.now ≤ max_text }
     ensures { IfOk result (IsReadOutcome (table_document bytes.now) IsCoverAnswer) }
 {
-    match read_table_document(alloc, bytes) {
-        Ok(table) => answer(alloc, &table),
-        Err(fault) => fault_outcome(alloc, fault),
-    }
+    answer_read(
+        alloc,
+        read_table_document(alloc, bytes),
+        |table| answer(alloc, &table),
+    )
 }

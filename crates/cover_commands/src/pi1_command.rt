@@ -11,10 +11,9 @@ ghost use Rattle.outcome_definitions.specs.Presented.{IsPresentationAnswer};
 
 use crate::presentation::presentation_text;
 use command_answers::{
-    Outcome, fault_outcome, invalid_edge_outcome, not_connected_outcome, read_table_document,
+    Outcome, answer_read, invalid_edge_outcome, not_connected_outcome, read_table_document,
 };
 use edge_group::{Failure, Group, GroupFault};
-use gluing_table::Table;
 use no_memory::NoMemory;
 use outcome_definitions::Status;
 use skeleton::Skeleton;
@@ -45,21 +44,13 @@ fn answer_by(alloc: Global, skeleton: &Skeleton) -> Result<Outcome, NoMemory>
     }
 }
 
-/// The answer to a table.
-fn answer(alloc: Global, table: &Table) -> Result<Outcome, NoMemory>
-    ensures { IfOk result (IsPresentationAnswer table.now) }
-{
-    let skeleton = Skeleton::of(alloc, table)?;
-    answer_by(alloc, &skeleton)
-}
-
 /// The outcome of `pi1` on an input that isn't too long.
 pub fn pi1(alloc: Global, bytes: &[u8]) -> Result<Outcome, NoMemory>
     requires { length bytes.now ≤ max_text }
     ensures { IfOk result (IsReadOutcome (table_document bytes.now) IsPresentationAnswer) }
 {
-    match read_table_document(alloc, bytes) {
-        Ok(table) => answer(alloc, &table),
-        Err(fault) => fault_outcome(alloc, fault),
-    }
+    answer_read(alloc, read_table_document(alloc, bytes), |table| {
+        let skeleton = Skeleton::of(alloc, &table)?;
+        answer_by(alloc, &skeleton)
+    })
 }

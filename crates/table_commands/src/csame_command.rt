@@ -7,7 +7,7 @@ ghost use Rattle.outcome_definitions.specs.Outcomes.{IsReadOutcome};
 ghost use Rattle.outcome_definitions.specs.Parts.{IsSamePartsAnswer};
 
 use crate::same_command::relabelling_outcome;
-use command_answers::{Outcome, fault_outcome, read_two_tables};
+use command_answers::{Outcome, answer_read, read_two_tables};
 use component_signature::same_parts;
 use gluing_table::Table;
 use no_memory::NoMemory;
@@ -28,8 +28,7 @@ pub fn csame(alloc: Global, bytes: &[u8]) -> Result<Outcome, NoMemory>
     requires { length bytes.now ≤ max_text }
     ensures answer { IfOk result (IsReadOutcome (two_tables_document bytes.now) IsSamePartsAnswer) }
 {
-    match read_two_tables(alloc, bytes) {
-        Ok(tables) => answer(alloc, &tables.first, &tables.second),
-        Err(fault) => fault_outcome(alloc, fault),
-    }
+    answer_read(alloc, read_two_tables(alloc, bytes), |tables| {
+        answer(alloc, &tables.first, &tables.second)
+    })
 }

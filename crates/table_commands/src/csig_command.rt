@@ -6,28 +6,18 @@ ghost use Rattle.text_document_definitions.specs.Documents.{table_document};
 ghost use Rattle.outcome_definitions.specs.Outcomes.{IsReadOutcome};
 ghost use Rattle.outcome_definitions.specs.Parts.{IsComponentSignatureAnswer};
 
-use command_answers::{Outcome, fault_outcome, line_outcome, read_table_document};
+use command_answers::{Outcome, answer_read, line_outcome, read_table_document};
 use component_signature::component_signature;
-use gluing_table::Table;
 use no_memory::NoMemory;
 use std::alloc::Global;
-
-/// The answer to a table.
-fn answer(alloc: Global, table: &Table) -> Result<Outcome, NoMemory>
-    ensures { IfOk result (IsComponentSignatureAnswer table.now) }
-{
-    let text = component_signature(alloc, table)?;
-    let outcome = line_outcome(text)?;
-    Ok(outcome)
-}
 
 /// The outcome of `csig` on an input that isn't too long.
 pub fn csig(alloc: Global, bytes: &[u8]) -> Result<Outcome, NoMemory>
     requires { length bytes.now ≤ max_text }
     ensures answer { IfOk result (IsReadOutcome (table_document bytes.now) IsComponentSignatureAnswer) }
 {
-    match read_table_document(alloc, bytes) {
-        Ok(table) => answer(alloc, &table),
-        Err(fault) => fault_outcome(alloc, fault),
-    }
+    answer_read(alloc, read_table_document(alloc, bytes), |table| {
+        let text = component_signature(alloc, &table)?;
+        line_outcome(text)
+    })
 }

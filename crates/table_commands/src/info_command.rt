@@ -8,7 +8,7 @@ ghost use Rattle.outcome_definitions.specs.Outcomes.{IsReadOutcome};
 ghost use Rattle.outcome_definitions.specs.Information.{IsInformationAnswer, AreValid};
 
 use crate::information::information_text;
-use command_answers::{Outcome, fault_outcome, read_table_document};
+use command_answers::{Outcome, answer_read, read_table_document};
 use gluing_table::Table;
 use no_memory::NoMemory;
 use outcome_definitions::Status;
@@ -78,8 +78,9 @@ pub fn info(alloc: Global, bytes: &[u8]) -> Result<Outcome, NoMemory>
     requires { length bytes.now ≤ max_text }
     ensures { IfOk result (IsReadOutcome (table_document bytes.now) IsInformationAnswer) }
 {
-    match read_table_document(alloc, bytes) {
-        Ok(table) => answer(alloc, &table),
-        Err(fault) => fault_outcome(alloc, fault),
-    }
+    answer_read(
+        alloc,
+        read_table_document(alloc, bytes),
+        |table| answer(alloc, &table),
+    )
 }

@@ -9,7 +9,7 @@ ghost use Rattle.outcome_definitions.specs.Canonical as canonical;
 ghost use Rattle.outcome_definitions.specs.Canonical.{done, IsSameAnswer};
 
 use canonical_labelling::{SameFault, same as least_relabelling};
-use command_answers::{Outcome, fault_outcome, not_connected_outcome, read_two_tables};
+use command_answers::{Outcome, answer_read, not_connected_outcome, read_two_tables};
 use gluing_table::{Relabelling, Table};
 use no_memory::NoMemory;
 use outcome_definitions::Status;
@@ -90,8 +90,7 @@ pub fn same(alloc: Global, bytes: &[u8]) -> Result<Outcome, NoMemory>
     requires { length bytes.now ≤ max_text }
     ensures { IfOk result (IsReadOutcome (two_tables_document bytes.now) IsSameAnswer) }
 {
-    match read_two_tables(alloc, bytes) {
-        Ok(tables) => answer(alloc, &tables.first, &tables.second),
-        Err(fault) => fault_outcome(alloc, fault),
-    }
+    answer_read(alloc, read_two_tables(alloc, bytes), |tables| {
+        answer(alloc, &tables.first, &tables.second)
+    })
 }

@@ -7,7 +7,7 @@ ghost use Rattle.outcome_definitions.specs.Canonical.{IsSignatureAnswer};
 
 use canonical_labelling::signature;
 use command_answers::{
-    Outcome, fault_outcome, line_outcome, not_connected_outcome, read_table_document,
+    Outcome, answer_read, line_outcome, not_connected_outcome, read_table_document,
 };
 use gluing_table::Table;
 use no_memory::{Failure, NoMemory};
@@ -29,8 +29,9 @@ pub fn sig(alloc: Global, bytes: &[u8]) -> Result<Outcome, NoMemory>
     requires { length bytes.now ≤ max_text }
     ensures { IfOk result (IsReadOutcome (table_document bytes.now) IsSignatureAnswer) }
 {
-    match read_table_document(alloc, bytes) {
-        Ok(table) => answer(alloc, &table),
-        Err(fault) => fault_outcome(alloc, fault),
-    }
+    answer_read(
+        alloc,
+        read_table_document(alloc, bytes),
+        |table| answer(alloc, &table),
+    )
 }

@@ -1,0 +1,24 @@
+// Answers to what was read.
+ghost use Rattle.std.specs.Prelude.{IfOk, MatchResult};
+ghost use Rattle.std.specs.Result.{ForOk};
+ghost use Rattle.command_answers.specs.Refusals.{IsFaultOutcome};
+
+use crate::{Outcome, fault_outcome};
+use no_memory::NoMemory;
+use signature_codec::InputFault;
+use std::alloc::Global;
+
+/// The outcome of a command that reads a document: its answer to the document's value, or the input's fault.
+pub fn answer_read<T, F: FnOnce(T) -> Result<Outcome, NoMemory>>(
+    alloc: Global,
+    read: Result<T, InputFault>,
+    answer: F,
+) -> Result<Outcome, NoMemory>
+    requires { ForOk read (λ value. F.pre answer value) }
+    ensures { MatchResult read (λ value. F.post answer value result) (λ fault. IfOk result (IsFaultOutcome fault)) }
+{
+    match read {
+        Ok(value) => answer(value),
+        Err(fault) => fault_outcome(alloc, fault),
+    }
+}
