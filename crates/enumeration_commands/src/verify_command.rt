@@ -9,7 +9,7 @@ ghost use Rattle.outcome_definitions.specs.Outcomes.{IsReadOutcome};
 ghost use Rattle.surface_vector_definitions.specs.Answers.{verdict_in};
 ghost use Rattle.outcome_definitions.specs.Answers.{IsVerdictsAnswer};
 
-use command_answers::{Outcome, append_checked, fault_outcome, read_table_and_vectors};
+use command_answers::{Outcome, answer_read, append_checked, read_table_and_vectors};
 use cone_core::System;
 use gluing_table::Table;
 use matching_equations::{Coords, equations_of_table};
@@ -71,8 +71,7 @@ pub fn verify(alloc: Global, coords: Coords, bytes: &[u8]) -> Result<Outcome, No
     requires { length bytes.now ≤ max_text }
     ensures { IfOk result (IsReadOutcome (vectors_document bytes.now) (IsVerdictsAnswer coords)) }
 {
-    match read_table_and_vectors(alloc, bytes) {
-        Ok(document) => answer(alloc, coords, &document.table, &document.vectors),
-        Err(fault) => fault_outcome(alloc, fault),
-    }
+    answer_read(alloc, read_table_and_vectors(alloc, bytes), |document| {
+        answer(alloc, coords, &document.table, &document.vectors)
+    })
 }

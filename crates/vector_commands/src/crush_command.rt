@@ -10,7 +10,7 @@ ghost use Rattle.outcome_definitions.specs.Vectors.{IsCrushAnswer};
 ghost use Rattle.vector_commands.specs.Crushed.{TellsCrushed};
 
 use crate::refusals::refusal_outcome;
-use command_answers::{Outcome, fault_outcome, read_table_and_vector};
+use command_answers::{Outcome, answer_read, read_table_and_vector};
 use cone_core::System;
 use gluing_table::{Table, write_table};
 use matching_equations::{Coords, equations_of_table};
@@ -56,8 +56,7 @@ pub fn crush(alloc: Global, bytes: &[u8]) -> Result<Outcome, NoMemory>
     requires { length bytes.now ≤ max_text }
     ensures { IfOk result (IsReadOutcome (vector_document bytes.now) IsCrushAnswer) }
 {
-    match read_table_and_vector(alloc, bytes) {
-        Ok(document) => answer(alloc, &document.table, &document.vector),
-        Err(fault) => fault_outcome(alloc, fault),
-    }
+    answer_read(alloc, read_table_and_vector(alloc, bytes), |document| {
+        answer(alloc, &document.table, &document.vector)
+    })
 }

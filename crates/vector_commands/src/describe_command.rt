@@ -16,7 +16,7 @@ ghost use Rattle.vector_commands.specs.Describing.{TellsDescription};
 
 use crate::descriptions::append_description;
 use crate::refusals::{FirstRefusal, refusal_outcome};
-use command_answers::{Outcome, fault_outcome, invalid_edge_outcome, read_table_and_vectors};
+use command_answers::{Outcome, answer_read, invalid_edge_outcome, read_table_and_vectors};
 use cone_core::System;
 use gluing_table::Table;
 use matching_equations::{Coords, DiscCoords, equations};
@@ -206,13 +206,8 @@ pub fn describe(alloc: Global, coords: Coords, bytes: &[u8]) -> Result<Outcome, 
     requires few { length bytes.now ≤ max_text }
     ensures { IfOk result (IsReadOutcome (vectors_document bytes.now) (IsDescribeAnswer coords)) }
 {
-    match read_table_and_vectors(alloc, bytes) {
-        Ok(document) => answer(
-            alloc,
-            &document.table,
-            DiscCoords { system: coords },
-            &document.vectors,
-        ),
-        Err(fault) => fault_outcome(alloc, fault),
-    }
+    let coords = DiscCoords { system: coords };
+    answer_read(alloc, read_table_and_vectors(alloc, bytes), |document| {
+        answer(alloc, &document.table, coords, &document.vectors)
+    })
 }

@@ -15,7 +15,7 @@ ghost use Rattle.surface_vector_definitions.specs.Answers.{verdict_in, IsLifted}
 ghost use Rattle.vector_commands.specs.Telling.{TellsOne, TellsEach, TellsLift};
 
 use crate::refusals::{FirstRefusal, refusal_outcome};
-use command_answers::{Outcome, fault_outcome, read_table_and_vectors};
+use command_answers::{Outcome, answer_read, read_table_and_vectors};
 use cone_core::System;
 use gluing_table::Table;
 use matching_equations::{Coords, quad_equations};
@@ -137,8 +137,7 @@ pub fn lift(alloc: Global, bytes: &[u8]) -> Result<Outcome, NoMemory>
     requires { length bytes.now ≤ max_text }
     ensures { IfOk result (IsReadOutcome (vectors_document bytes.now) IsLiftsAnswer) }
 {
-    match read_table_and_vectors(alloc, bytes) {
-        Ok(document) => answer(alloc, &document.table, &document.vectors),
-        Err(fault) => fault_outcome(alloc, fault),
-    }
+    answer_read(alloc, read_table_and_vectors(alloc, bytes), |document| {
+        answer(alloc, &document.table, &document.vectors)
+    })
 }
