@@ -1,5 +1,6 @@
 -- Vectors built of multiples of unit vectors, and the one whose entries are minors.
 use Rattle.std.proofs.Common.{◌≡◌, ◌≢◌, ℕ, ◌+◌, ◌*◌, ◌≤◌, ◌<◌, List, [], ◌∷◌, map, length, slice_index, arith, sym, subst, refl, Bool, inl, inr, ◌∙◌}
+use Rattle.std.specs.List.{AllByRecursion}
 use Rattle.std.proofs.lemmas.Bool.{cases_eq}
 use Rattle.cone_definitions.specs.Vectors.{unit}
 use Rattle.cone_definitions.specs.Rows.{Row, plus_part, minus_part}
@@ -16,9 +17,8 @@ column_of columns free j = record { plus = λ row. plus_part row (unit columns j
 
 -- ---- lists of column numbers
 
-unfoldable pub Apart : ℕ → List ℕ → Type 0
-Apart i [] = Unit {0}
-Apart i (j ∷ js) = (i ≢ j) × Apart i js
+abbrev pub Apart : ℕ → List ℕ → Type 0
+Apart i js = AllByRecursion (λ j. i ≢ j) js
 
 unfoldable pub Distinct : List ℕ → Type 0
 Distinct [] = Unit {0}
@@ -81,7 +81,7 @@ module _ (columns : ℕ) where
     -- ---- its entries
 
     at_apart : (i : ℕ) (js : List ℕ) (f g : List Column → ℕ) → Apart i js → at (terms f g js) i ≡ 0
-    unfolding at terms Apart
+    unfolding at terms
     at_apart i [] f g h = refl
     at_apart i (j ∷ js) f g h = let z : slice_index (unit columns j) i ≡ 0 = entry-unit_other columns j i h.0 in
         let r : at (terms (behind (column_of columns free j) g) (behind (column_of columns free j) f) js) i ≡ 0 = at_apart i js (behind (column_of columns free j) g) (behind (column_of columns free j) f) h.1 in

@@ -1,5 +1,6 @@
 -- The columns of a solution's whole support have no minor but 0 of rows that are 0 at it.
 use Rattle.std.proofs.Common.{◌≡◌, ◌≢◌, ℕ, ◌+◌, ◌*◌, ◌<◌, inl, inr, List, [], ◌∷◌, ◌++◌, map, length, slice_index, Bool, ap, sym, subst, refl, arith, append_assoc, ◌∙◌}
+use Rattle.std.specs.List.{AllByRecursion}
 use Rattle.std.proofs.lemmas.Bool.{cases_eq, cases_lt}
 use Rattle.cone_definitions.specs.Vectors.{IsNonzero, unit}
 use Rattle.cone_definitions.specs.Rows.{Row, plus_part, minus_part, IsZeroAt}
@@ -11,12 +12,10 @@ use Rattle.cone_bound_laws.proofs.Forms.{Column}
 use Rattle.cone_bound_laws.proofs.Minors.{minor, minor_swaps, repeated_column}
 use Rattle.cone_bound_laws.proofs.Built.{column_of, columns_of, Apart, Distinct, at, built, length-built, entry-built, sum_of_units, built_linear}
 use Rattle.cone_bound_laws.proofs.Relations.{plus_sum, minus_sum, in_front, Related, related_minors}
-use Rattle.cone_bound_laws.proofs.Parts.{Every}
 
 -- the vector isn't 0 at any of the columns
-unfoldable pub OfSupport : List ℕ → List ℕ → Type 0
-OfSupport x [] = Unit {0}
-OfSupport x (j ∷ js) = (slice_index x j ≢ 0) × OfSupport x js
+abbrev pub OfSupport : List ℕ → List ℕ → Type 0
+OfSupport x js = AllByRecursion (λ j. slice_index x j ≢ 0) js
 
 module _ (columns : ℕ) (free : ℕ → Bool) (x : List ℕ) (width : length x ≡ columns) where
   -- the columns with the vector's entries
@@ -27,13 +26,13 @@ module _ (columns : ℕ) (free : ℕ → Bool) (x : List ℕ) (width : length x 
   fronts js = map (λ j. (slice_index x j, column_of columns free j)) js
 
   at_apart : (i : ℕ) (js : List ℕ) → Apart i js → at columns (weights js) i ≡ 0
-  unfolding at weights Apart
+  unfolding at weights
   at_apart i [] h = refl
   at_apart i (j ∷ js) h = let z : slice_index (unit columns j) i ≡ 0 = entry-unit_other columns j i h.0 in
       let e : slice_index x j * slice_index (unit columns j) i ≡ 0 = rw z (omega arith) in omega (arith, e, at_apart i js h.1)
 
   at_is : (i : ℕ) (js : List ℕ) → i < columns → Distinct js → (Apart i js → slice_index x i ≡ 0) → at columns (weights js) i ≡ slice_index x i
-  unfolding at weights Apart Distinct
+  unfolding at weights Distinct
   at_is i [] l d h = sym (h tt)
   at_is i (j ∷ js) l d h = elim (cases_eq i j) [
     | inl e ↦ subst (λ k. at columns (weights (j ∷ js)) k ≡ slice_index x k) (sym e) (same j js (subst (λ k. k < columns) e l) d.0)
@@ -62,8 +61,8 @@ module _ (columns : ℕ) (free : ℕ → Bool) (x : List ℕ) (width : length x 
   minus_is row [] = refl
   minus_is row (j ∷ js) = ap (λ n. slice_index x j * minus_part row (unit columns j) + n) (minus_is row js)
 
-  related : (js : List ℕ) → x ≡ built columns (weights js) → (rows : List Row) → Every (λ row. IsZeroAt row x) rows → Related (fronts js) rows
-  unfolding Related Every
+  related : (js : List ℕ) → x ≡ built columns (weights js) → (rows : List Row) → AllByRecursion (λ row. IsZeroAt row x) rows → Related (fronts js) rows
+  unfolding Related
   related js e [] h = tt
   related js e (row ∷ rows) h = (
     sym (ap (plus_part row) e ∙ built_linear columns (plus_part row) (plus_linear row) (weights js) ∙ plus_is row js) ∙ h.0
@@ -88,8 +87,7 @@ module _ (columns : ℕ) (free : ℕ → Bool) (x : List ℕ) (width : length x 
       ≡ slice_index x j * (minor rows).down (column_of columns free j ∷ xs) + in_front (minor rows).down (fronts js) xs = related_minors rows (fronts (j ∷ js)) h xs in
       mul_cancel (slice_index x j) ((minor rows).up (column_of columns free j ∷ xs)) ((minor rows).down (column_of columns free j ∷ xs)) (omega (arith, some)) (omega (arith, fronts_repeat rows js [] xs refl))
 
-  pub no_whole_minor : (rows : List Row) (js : List ℕ) → Distinct js → OfSupport x js → ((i : ℕ) → Apart i js → slice_index x i ≡ 0) → IsNonzero x → Every (λ row. IsZeroAt row x) rows →
+  pub no_whole_minor : (rows : List Row) (js : List ℕ) → Distinct js → OfSupport x js → ((i : ℕ) → Apart i js → slice_index x i ≡ 0) → IsNonzero x → AllByRecursion (λ row. IsZeroAt row x) rows →
       (minor rows).up (columns_of columns free js) ≡ (minor rows).down (columns_of columns free js)
-  unfolding OfSupport Apart
   no_whole_minor rows [] d s off some zero = absurd (some.1 (off some.0 tt))
   no_whole_minor rows (j ∷ js) d s off some zero = first_is rows j js s.0 (related (j ∷ js) (x_is (j ∷ js) d off) rows zero)

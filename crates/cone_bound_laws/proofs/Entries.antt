@@ -34,7 +34,6 @@ module _ (columns : ℕ) (rows : List Row) (pairs : List Clash) (free : ℕ → 
   before_end j some = nonzero_before x columns j hx.extreme.solution.width some
 
   all_before : (js : List ℕ) → OfSupport x js → Below columns js
-  unfolding OfSupport Below
   all_before [] h = tt
   all_before (j ∷ js) h = (before_end j h.0, all_before js h.1)
 
@@ -46,17 +45,17 @@ module _ (columns : ℕ) (rows : List Row) (pairs : List Clash) (free : ℕ → 
   ]
 
   alone : (j : ℕ) (js : List ℕ) → slice_index x j ≢ 0 → free j ≡ false → Apart j js → OfSupport x js → Alone free group (group j) js
-  unfolding Alone Apart OfSupport
+  unfolding Alone
   alone j [] sj fj a s = tt
   alone j (i ∷ js) sj fj a s = ((λ fi. other_group i j (λ e. a.0 (sym e)) s.0 sj fi fj), alone j js sj fj a.1 s.1)
 
   own_groups : (js : List ℕ) → Distinct js → OfSupport x js → OwnGroups free group js
-  unfolding OwnGroups Distinct OfSupport
+  unfolding OwnGroups Distinct
   own_groups [] d s = tt
   own_groups (j ∷ js) d s = ((λ f. alone j js s.0 f d.0 s.1), own_groups js d.1 s.1)
 
   groups_below : (js : List ℕ) → OfSupport x js → GroupsBelow free group groups js
-  unfolding GroupsBelow OfSupport
+  unfolding GroupsBelow
   groups_below [] s = tt
   groups_below (j ∷ js) s = ((λ f. caps.grouped j (before_end j s.0) f), groups_below js s.1)
 
@@ -75,6 +74,6 @@ module _ (columns : ℕ) (rows : List Row) (pairs : List Clash) (free : ℕ → 
   started e = omega arith
 
   pub entries : (j : ℕ) → slice_index x j ≤ caps_product cap groups
-  unfolding Distinct OfSupport Apart
+  unfolding Distinct
   entries = let s = support_below columns x in walked columns free rows x ray (caps_product cap groups) within s.list [] [] rows (nothing_taken rows) started tt tt s.of_support (all_fresh s.list s.distinct)
       (λ i a b. elim (cases_lt i columns) [ inl l ↦ s.off i l b | inr l ↦ entry_past x columns i hx.extreme.solution.width l ])

@@ -58,13 +58,13 @@ module _ (columns : ℕ) where
   cond_zero false n e = refl
 
   single_apart : (free : ℕ → Bool) (k t : ℕ) (js : List ℕ) → Apart t js → single free k t js ≡ 0
-  unfolding single Apart
+  unfolding single
   single_apart free k t [] h = refl
   single_apart free k t (j ∷ js) h = let z : slice_index (unit columns j) t ≡ 0 = entry-unit_other columns j t h.0 in
       let e : k * slice_index (unit columns j) t ≡ 0 = rw z (omega arith) in omega (arith, cond_zero (free j) (k * slice_index (unit columns j) t) e, single_apart free k t js h.1)
 
   single_is : (free : ℕ → Bool) (k t : ℕ) (js : List ℕ) → Distinct js → Below columns js → single free k t js ≤ cond (free t) k 0
-  unfolding single Distinct Below
+  unfolding single Distinct
   single_is free k t [] d b = omega arith
   single_is free k t (j ∷ js) d b = elim (cases_eq t j) [
     | inl e ↦ subst (λ i. single free k i (j ∷ js) ≤ cond (free i) k 0) (sym e) (same j js d.0 b.0)
@@ -150,7 +150,7 @@ module _ (columns : ℕ) where
     ]
 
     pub product_most : (js : List ℕ) → Below columns js → (ys : List Column) → Sub ys (columns_of columns free js) → product taken ys ≤ bound_product free group cap js
-    unfolding product bound_product Below
+    unfolding product bound_product
     product_most [] b [] s = omega arith
     product_most [] b (y ∷ ys) s = elim s [ ]
     product_most (j ∷ js) b ys (skip s) = let l : 1 * product taken ys ≤ cond {A = ℕ} (free j) 1 (cap (group j)) * bound_product free group cap js = mul-le-mul (some_factor j b.0) (product_most js b.1 ys s) in omega (arith, l)

@@ -1,41 +1,23 @@
 -- Rows parted into those that are taken and those that are left.
-use Rattle.std.proofs.Common.{◌≡◌, ◌≢◌, ℕ, zero, suc, ◌+◌, ◌≤◌, ◌⊎◌, inl, inr, List, [], ◌∷◌, ◌++◌, All, ap, subst, refl, arith, append_assoc}
+use Rattle.std.proofs.Common.{◌≡◌, ◌≢◌, ℕ, ◌+◌, ◌≤◌, ◌⊎◌, inl, inr, List, [], ◌∷◌, ◌++◌, ap, subst, refl, arith, append_assoc}
+use Rattle.std.specs.List.{AllByRecursion}
 use Rattle.std.proofs.lemmas.Bool.{cases_eq}
-use Rattle.std.proofs.lemmas.List.Elements.{All-head, All-tail}
 use Rattle.cone_definitions.specs.Rows.{Row}
 use Rattle.cone_bound_laws.proofs.Forms.{Column, cut}
 use Rattle.cone_bound_laws.proofs.Minors.{minor, repeated_row}
 use Rattle.cone_bound_laws.proofs.Weights.{weight, total, free_plus, free_minus}
 use Rattle.cone_bound_laws.proofs.Bounded.{GraphLike}
 
--- each row of a list, by recursion
-unfoldable pub Every : (Row → Type 0) → List Row → Type 0
-Every P [] = Unit {0}
-Every P (row ∷ rows) = P row × Every P rows
-
-pub every_from_all : (P : Row → Type 0) (rows : List Row) → All P rows → Every P rows
-unfolding Every
-every_from_all P [] h = tt
-every_from_all P (row ∷ rows) h = (All-head P row rows h, every_from_all P rows (All-tail P row rows h))
-
-pub all_from_every : (P : Row → Type 0) (rows : List Row) → Every P rows → All P rows
-unfolding Every
-all_from_every P [] h k d l = absurd (omega arith)
-all_from_every P (row ∷ rows) h zero d l = h.0
-all_from_every P (row ∷ rows) h (suc k) d l = all_from_every P rows h.1 k d (omega arith)
-
-pub every_mapped : (P Q : Row → Type 0) → ((row : Row) → P row → Q row) → (rows : List Row) → Every P rows → Every Q rows
-unfolding Every
+-- what holds of each row of a list
+pub every_mapped : (P Q : Row → Type 0) → ((row : Row) → P row → Q row) → (rows : List Row) → AllByRecursion P rows → AllByRecursion Q rows
 every_mapped P Q f [] h = tt
 every_mapped P Q f (row ∷ rows) h = (f row h.0, every_mapped P Q f rows h.1)
 
-every_put : (P : Row → Type 0) (before : List Row) (row : Row) (after : List Row) → P row → Every P (before ++ after) → Every P (before ++ row ∷ after)
-unfolding Every
+every_put : (P : Row → Type 0) (before : List Row) (row : Row) (after : List Row) → P row → AllByRecursion P (before ++ after) → AllByRecursion P (before ++ row ∷ after)
 every_put P [] row after h e = (h, e)
 every_put P (other ∷ before) row after h e = (e.0, every_put P before row after h e.1)
 
-every_out : (P : Row → Type 0) (before : List Row) (row : Row) (after : List Row) → Every P (before ++ row ∷ after) → P row × Every P (before ++ after)
-unfolding Every
+every_out : (P : Row → Type 0) (before : List Row) (row : Row) (after : List Row) → AllByRecursion P (before ++ row ∷ after) → P row × AllByRecursion P (before ++ after)
 every_out P [] row after e = e
 every_out P (other ∷ before) row after e = let r = every_out P before row after e.1 in (r.0, (e.0, r.1))
 
@@ -46,16 +28,16 @@ weight-inside c (other ∷ before) row after = omega (arith, weight-inside c bef
 
 -- the rows are those taken and those left, in some order
 pub record Parts (rows taken left : List Row) : Type 1 where
-  pub all : (P : Row → Type 0) → Every P taken → Every P left → Every P rows
-  pub each : (P : Row → Type 0) → Every P rows → Every P taken × Every P left
+  pub all : (P : Row → Type 0) → AllByRecursion P taken → AllByRecursion P left → AllByRecursion P rows
+  pub each : (P : Row → Type 0) → AllByRecursion P rows → AllByRecursion P taken × AllByRecursion P left
   pub weighed : (c : Column) → weight c taken + weight c left ≡ weight c rows
 
 pub nothing_taken : (rows : List Row) → Parts rows [] rows
-unfolding weight Every
+unfolding weight
 nothing_taken rows = record { all = λ P t l. l; each = λ P e. (tt, e); weighed = λ c. omega arith }
 
 pub one_taken : (rows taken before : List Row) (row : Row) (after : List Row) → Parts rows taken (before ++ row ∷ after) → Parts rows (row ∷ taken) (before ++ after)
-unfolding weight Every
+unfolding weight
 one_taken rows taken before row after h = record {
   all = λ P t l. h.all P t.1 (every_put P before row after t.0 l);
   each = λ P e. let r = h.each P e in let s = every_out P before row after r.1 in ((s.0, r.0), s.1);
@@ -63,28 +45,27 @@ one_taken rows taken before row after h = record {
 }
 
 pub GraphLike-taken : (rows taken left : List Row) (xs : List Column) → Parts rows taken left → GraphLike xs rows → GraphLike xs taken
-unfolding Every GraphLike
+unfolding GraphLike
 GraphLike-taken rows taken left xs h g = back taken (h.each (λ row. (total (free_plus row) xs ≤ 1) × (total (free_minus row) xs ≤ 1)) (to rows g)).0
   where
-    to : (rs : List Row) → GraphLike xs rs → Every (λ row. (total (free_plus row) xs ≤ 1) × (total (free_minus row) xs ≤ 1)) rs
+    to : (rs : List Row) → GraphLike xs rs → AllByRecursion (λ row. (total (free_plus row) xs ≤ 1) × (total (free_minus row) xs ≤ 1)) rs
     to [] k = tt
     to (r ∷ rs) k = ((k.0, k.1), to rs k.2)
 
-    back : (rs : List Row) → Every (λ row. (total (free_plus row) xs ≤ 1) × (total (free_minus row) xs ≤ 1)) rs → GraphLike xs rs
+    back : (rs : List Row) → AllByRecursion (λ row. (total (free_plus row) xs ≤ 1) × (total (free_minus row) xs ≤ 1)) rs → GraphLike xs rs
     back [] k = tt
     back (r ∷ rs) k = (k.0.0, k.0.1, back rs k.1)
 
 -- ---- the rows that are taken have no minor of one column more
 
-repeats_from : (before rows : List Row) (xs : List Column) → Every (λ row. (minor (row ∷ before ++ rows)).up xs ≡ (minor (row ∷ before ++ rows)).down xs) rows
-unfolding Every
+repeats_from : (before rows : List Row) (xs : List Column) → AllByRecursion (λ row. (minor (row ∷ before ++ rows)).up xs ≡ (minor (row ∷ before ++ rows)).down xs) rows
 repeats_from before [] xs = tt
 repeats_from before (row ∷ rows) xs = (
   repeated_row before row rows xs,
-  subst (λ all. Every (λ r. (minor (r ∷ all)).up xs ≡ (minor (r ∷ all)).down xs) rows) (append_assoc before (row ∷ []) rows) (repeats_from (before ++ row ∷ []) rows xs),
+  subst (λ all. AllByRecursion (λ r. (minor (r ∷ all)).up xs ≡ (minor (r ∷ all)).down xs) rows) (append_assoc before (row ∷ []) rows) (repeats_from (before ++ row ∷ []) rows xs),
 )
 
-pub repeats : (rows : List Row) (xs : List Column) → Every (λ row. (minor (row ∷ rows)).up xs ≡ (minor (row ∷ rows)).down xs) rows
+pub repeats : (rows : List Row) (xs : List Column) → AllByRecursion (λ row. (minor (row ∷ rows)).up xs ≡ (minor (row ∷ rows)).down xs) rows
 repeats rows xs = repeats_from [] rows xs
 
 -- ---- a row with such a minor
@@ -96,8 +77,7 @@ pub record FoundRow (f f_down : List Column → ℕ) (xs : List Column) (left : 
   pub is : before ++ row ∷ after ≡ left
   pub differs : cut row f f_down xs ≢ cut row f_down f xs
 
-pub search_row : (f f_down : List Column → ℕ) (xs : List Column) (left : List Row) → Every (λ row. cut row f f_down xs ≡ cut row f_down f xs) left ⊎ FoundRow f f_down xs left
-unfolding Every
+pub search_row : (f f_down : List Column → ℕ) (xs : List Column) (left : List Row) → AllByRecursion (λ row. cut row f f_down xs ≡ cut row f_down f xs) left ⊎ FoundRow f f_down xs left
 search_row f f_down xs [] = inl tt
 search_row f f_down xs (row ∷ left) = elim (cases_eq (cut row f f_down xs) (cut row f_down f xs)) [
   | inr ne ↦ inr (record { before = []; row = row; after = left; is = refl; differs = ne })

@@ -1,22 +1,20 @@
 -- The columns of a vector's support, as a list.
 use Rattle.std.proofs.Common.{◌≡◌, ◌≢◌, ℕ, zero, suc, ◌<◌, inl, inr, List, [], ◌∷◌, slice_index, sym, subst, arith}
+use Rattle.std.specs.List.{AllByRecursion}
 use Rattle.std.proofs.lemmas.Bool.{cases_eq}
 use Rattle.cone_bound_laws.proofs.Built.{Apart, Distinct}
 use Rattle.cone_bound_laws.proofs.Ends.{OfSupport}
 use Rattle.cone_bound_laws.proofs.Walk.{Fresh}
 
 -- all numbers are below n
-unfoldable pub Below : ℕ → List ℕ → Type 0
-Below n [] = Unit {0}
-Below n (j ∷ js) = (j < n) × Below n js
+abbrev pub Below : ℕ → List ℕ → Type 0
+Below n js = AllByRecursion (λ j. j < n) js
 
 below_apart : (n : ℕ) (js : List ℕ) → Below n js → Apart n js
-unfolding Below Apart
 below_apart n [] h = tt
 below_apart n (j ∷ js) h = (λ e. absurd (omega (arith, h.0)), below_apart n js h.1)
 
 below_more : (n : ℕ) (js : List ℕ) → Below n js → Below (suc n) js
-unfolding Below
 below_more n [] h = tt
 below_more n (j ∷ js) h = (omega (arith, h.0), below_more n js h.1)
 
@@ -28,7 +26,7 @@ pub record Support (n : ℕ) (x : List ℕ) : Type 0 where
   pub off : (i : ℕ) → i < n → Apart i list → slice_index x i ≡ 0
 
 pub support_below : (n : ℕ) (x : List ℕ) → Support n x
-unfolding Below Distinct OfSupport Apart
+unfolding Distinct
 support_below zero x = record { list = []; below = tt; distinct = tt; of_support = tt; off = λ i l a. absurd (omega arith) }
 support_below (suc n) x = let s = support_below n x in elim (cases_eq (slice_index x n) 0) [
   | inl z ↦ record {
@@ -48,22 +46,19 @@ support_below (suc n) x = let s = support_below n x in elim (cases_eq (slice_ind
 ]
 
 -- each is apart from others
-EachApart : List ℕ → List ℕ → Type 0
-EachApart [] done = Unit {0}
-EachApart (j ∷ js) done = Apart j done × EachApart js done
+abbrev EachApart : List ℕ → List ℕ → Type 0
+EachApart js done = AllByRecursion (λ j. Apart j done) js
 
 one_more_apart : (c : ℕ) (js done : List ℕ) → Apart c js → EachApart js done → EachApart js (c ∷ done)
-unfolding Apart EachApart
 one_more_apart c [] done a h = tt
 one_more_apart c (j ∷ js) done a h = ((λ e. a.0 (sym e), h.0), one_more_apart c js done a.1 h.1)
 
 fresh_list : (js done : List ℕ) → Distinct js → EachApart js done → Fresh js done
-unfolding Distinct EachApart Fresh
+unfolding Distinct Fresh
 fresh_list [] done d h = tt
 fresh_list (j ∷ js) done d h = (h.0, fresh_list js (j ∷ done) d.1 (one_more_apart j js done d.0 h.1))
 
 apart_from_none : (js : List ℕ) → EachApart js []
-unfolding Apart EachApart
 apart_from_none [] = tt
 apart_from_none (j ∷ js) = (tt, apart_from_none js)
 

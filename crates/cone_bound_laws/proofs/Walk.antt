@@ -1,7 +1,9 @@
 -- The columns of a ray's support are taken one by one, each with a row that gives a minor other than 0, until no row does: then the minors are a
 -- multiple of the ray.
 use Rattle.std.proofs.Common.{◌≡◌, ◌≢◌, ℕ, ◌≤◌, ◌<◌, inl, inr, List, [], ◌∷◌, ◌++◌, slice_index, Bool, sym, subst, arith, ◌∙◌}
+use Rattle.std.specs.List.{AllByRecursion}
 use Rattle.std.proofs.lemmas.Bool.{cases_lt}
+use Rattle.std.proofs.lemmas.List.Elements.{All-from_recursion, recursion_from_All}
 use Rattle.cone_definitions.specs.Rows.{Row, IsPrimitiveExtreme, IsZeroAt}
 use Rattle.cone_definitions.proofs.Entries.{entry_past, nonzero_before}
 use Rattle.cone_laws.proofs.Mixed.{IsBalanced}
@@ -10,7 +12,7 @@ use Rattle.cone_bound_laws.proofs.Minors.{IsWithin, minor}
 use Rattle.cone_bound_laws.proofs.Weights.{Sub}
 use Rattle.cone_bound_laws.proofs.Built.{columns_of, Apart, Distinct, terms, built, length-built, value_is_cut, entry_apart, entry_first, entry_within}
 use Rattle.cone_bound_laws.proofs.Multiples.{entries_at_most}
-use Rattle.cone_bound_laws.proofs.Parts.{Every, every_from_all, all_from_every, every_mapped, Parts, one_taken, repeats, search_row}
+use Rattle.cone_bound_laws.proofs.Parts.{every_mapped, Parts, one_taken, repeats, search_row}
 use Rattle.cone_bound_laws.proofs.Ends.{OfSupport, no_whole_minor}
 
 -- columns still to be taken, each apart from those that are
@@ -20,12 +22,11 @@ Fresh (c ∷ rest) done = Apart c done × Fresh rest (c ∷ done)
 
 -- a column at which the vector is 0 is none of its support
 apart_from_support : (x : List ℕ) (j : ℕ) (js : List ℕ) → slice_index x j ≡ 0 → OfSupport x js → Apart j js
-unfolding OfSupport Apart
 apart_from_support x j [] z h = tt
 apart_from_support x j (i ∷ js) z h = (λ e. h.0 (subst (λ k. slice_index x k ≡ 0) e z), apart_from_support x j js z h.1)
 
-cuts_of : (taken left : List Row) (xs : List Column) → Every (λ row. (minor (row ∷ taken)).up xs ≡ (minor (row ∷ taken)).down xs) left →
-    Every (λ row. cut row (minor taken).up (minor taken).down xs ≡ cut row (minor taken).down (minor taken).up xs) left
+cuts_of : (taken left : List Row) (xs : List Column) → AllByRecursion (λ row. (minor (row ∷ taken)).up xs ≡ (minor (row ∷ taken)).down xs) left →
+    AllByRecursion (λ row. cut row (minor taken).up (minor taken).down xs ≡ cut row (minor taken).down (minor taken).up xs) left
 unfolding minor
 cuts_of taken left xs h = h
 
@@ -35,17 +36,17 @@ module _ (columns : ℕ) (free : ℕ → Bool) (rows : List Row) (x : List ℕ) 
   before_end : (j : ℕ) → slice_index x j ≢ 0 → j < columns
   before_end j some = nonzero_before x columns j hx.extreme.solution.width some
 
-  zeros : Every (λ row. IsZeroAt row x) rows
-  zeros = every_from_all (λ row. IsZeroAt row x) rows hx.extreme.solution.zero
+  zeros : AllByRecursion (λ row. IsZeroAt row x) rows
+  zeros = recursion_from_All (λ row. IsZeroAt row x) rows hx.extreme.solution.zero
 
   -- no row gives a minor with one column more: the minors are a multiple of the ray
   ended : (c : ℕ) (done : List ℕ) (taken left : List Row) → Parts rows taken left → (minor taken).up (columns_of columns free done) ≢ (minor taken).down (columns_of columns free done) →
       Distinct (c ∷ done) → OfSupport x (c ∷ done) →
-      Every (λ row. cut row (minor taken).up (minor taken).down (columns_of columns free (c ∷ done)) ≡ cut row (minor taken).down (minor taken).up (columns_of columns free (c ∷ done))) left →
+      AllByRecursion (λ row. cut row (minor taken).up (minor taken).down (columns_of columns free (c ∷ done)) ≡ cut row (minor taken).down (minor taken).up (columns_of columns free (c ∷ done))) left →
       (j : ℕ) → slice_index x j ≤ b
-  unfolding Distinct OfSupport
+  unfolding Distinct
   ended c done taken left parts differs d s none = entries_at_most columns rows x hx p m (length-built columns _) (length-built columns _) outside
-      (all_from_every (λ row. IsBalanced row p m) rows (parts.all (λ row. IsBalanced row p m) (balanced taken (cuts_of taken taken (columns_of columns free (c ∷ done)) (repeats taken (columns_of columns free (c ∷ done)))))
+      (All-from_recursion (λ row. IsBalanced row p m) rows (parts.all (λ row. IsBalanced row p m) (balanced taken (cuts_of taken taken (columns_of columns free (c ∷ done)) (repeats taken (columns_of columns free (c ∷ done)))))
       (balanced left none))) b c first inside
     where
       up : List Column → ℕ
@@ -64,7 +65,7 @@ module _ (columns : ℕ) (free : ℕ → Bool) (rows : List Row) (x : List ℕ) 
       outside j z = let a : Apart j (c ∷ done) = apart_from_support x j (c ∷ done) z s in
           entry_apart columns free j (c ∷ done) up down a ∙ sym (entry_apart columns free j (c ∷ done) down up a)
 
-      balanced : (rs : List Row) → Every (λ row. cut row up down (columns_of columns free (c ∷ done)) ≡ cut row down up (columns_of columns free (c ∷ done))) rs → Every (λ row. IsBalanced row p m) rs
+      balanced : (rs : List Row) → AllByRecursion (λ row. cut row up down (columns_of columns free (c ∷ done)) ≡ cut row down up (columns_of columns free (c ∷ done))) rs → AllByRecursion (λ row. IsBalanced row p m) rs
       balanced rs h = every_mapped (λ row. cut row up down (columns_of columns free (c ∷ done)) ≡ cut row down up (columns_of columns free (c ∷ done))) (λ row. IsBalanced row p m)
           (λ row e. value_is_cut columns free row (c ∷ done) up down ∙ e ∙ sym (value_is_cut columns free row (c ∷ done) down up)) rs h
 
@@ -79,7 +80,7 @@ module _ (columns : ℕ) (free : ℕ → Bool) (rows : List Row) (x : List ℕ) 
 
   pub walked : (rest done : List ℕ) (taken left : List Row) → Parts rows taken left → (minor taken).up (columns_of columns free done) ≢ (minor taken).down (columns_of columns free done) →
       Distinct done → OfSupport x done → OfSupport x rest → Fresh rest done → ((i : ℕ) → Apart i done → Apart i rest → slice_index x i ≡ 0) → (j : ℕ) → slice_index x j ≤ b
-  unfolding Fresh OfSupport Distinct Apart minor
+  unfolding Fresh Distinct minor
   walked [] done taken left parts differs d s r f off = absurd (differs (no_whole_minor columns free x hx.extreme.solution.width taken done d s (λ i a. off i a tt) hx.extreme.nonzero
       (parts.each (λ row. IsZeroAt row x) zeros).0))
   walked (c ∷ rest) done taken left parts differs d s r f off =
