@@ -1,12 +1,12 @@
 // The two ways to a list: from solved rows where all numbers are bounded, or row by row in a named order.
 
-ghost use Rattle.std.specs.Prelude.{◌≡◌, ◌≢◌, ◌≤◌, IsTrue, IfOk, IfErr, IfSome};
+ghost use Rattle.std.specs.Prelude.{◌≡◌, ◌≤◌, IsTrue, IfOk, IfErr, IfSome};
 ghost use Rattle.cone_definitions.specs.Listings.{IsListed};
 ghost use Rattle.cone_definitions.specs.Surfaces.{IsSurfaceList};
 ghost use Rattle.bounded_list.specs.Lists.{enumeration_of, AreAlwaysWithin, IsOnlyListing, AreRefused};
 
 use cone_core::{MAX_ENTRY, Ray, System};
-use double_description::{EnumFault, Order, Picker, Rays, choice, eliminate};
+use double_description::{EnumFault, NamedOrder, Picker, Rays, choice, eliminate};
 use late_columns::vertex_surfaces;
 use no_memory::NoMemory;
 use ray_steps::{Clashes, Compatible};
@@ -16,7 +16,7 @@ use std::alloc::Global;
 /// In which order the rows are taken, the greatest number, and whether no number passes it in any order.
 #[derive(Clone, Copy)]
 pub struct Terms {
-    pub order: Order,
+    pub order: NamedOrder,
     pub limit: u128,
     pub is_bounded: bool,
 }
@@ -45,17 +45,17 @@ fn list_by_elimination<C: Compatible>(
     alloc: Global,
     system: &System,
     clashes: &Clashes<C>,
-    order: Order,
+    order: NamedOrder,
     limit: u128,
 ) -> Result<Rays, EnumFault>
     requires columns { clashes.now.columns ≡ system.now.columns }
-    requires named { order ≢ Order.Free }
     requires some_limit { 1 ≤ limit }
     requires most_limit { limit ≤ MAX_ENTRY }
-    ensures ok { IfOk result (λ rays. IsListed (enumeration_of system.now clashes.now.pairs order limit) rays.order.items rays.list.items) }
-    ensures err { IfErr result (AreRefused (enumeration_of system.now clashes.now.pairs order limit)) }
+    ensures ok { IfOk result (λ rays. IsListed (enumeration_of system.now clashes.now.pairs order.rule limit) rays.order.items rays.list.items) }
+    ensures err { IfErr result (AreRefused (enumeration_of system.now clashes.now.pairs order.rule limit)) }
 {
-    let picker = Picker::new(order, |s: &System, rows: &[u32]| choice(order, s, rows));
+    let rule = order.rule;
+    let picker = Picker::new(rule, |s: &System, rows: &[u32]| choice(rule, s, rows));
     eliminate(alloc, system, clashes, &picker, limit)
 }
 
@@ -69,12 +69,11 @@ fn quickest_list<C: Compatible>(
     terms: Terms,
 ) -> Result<Vec<Ray>, EnumFault>
     requires columns { clashes.now.columns ≡ system.now.columns }
-    requires named { terms.order ≢ Order.Free }
     requires some_limit { 1 ≤ terms.limit }
     requires most_limit { terms.limit ≤ MAX_ENTRY }
     requires bounded { IsTrue terms.is_bounded → AreAlwaysWithin terms.limit system.now clashes.now.pairs }
-    ensures ok { IfOk result (λ list. IsOnlyListing (enumeration_of system.now clashes.now.pairs terms.order terms.limit) list.items) }
-    ensures err { IfErr result (AreRefused (enumeration_of system.now clashes.now.pairs terms.order terms.limit)) }
+    ensures ok { IfOk result (λ list. IsOnlyListing (enumeration_of system.now clashes.now.pairs terms.order.rule terms.limit) list.items) }
+    ensures err { IfErr result (AreRefused (enumeration_of system.now clashes.now.pairs terms.order.rule terms.limit)) }
 {
     // Where no number can pass the limit, it doesn't matter how the list was found.
     if terms.is_bounded
@@ -99,12 +98,11 @@ pub fn vertex_list<C: Compatible>(
 ) -> Result<Vec<Ray>, EnumFault>
     requires columns { C.width test ≡ system.now.columns }
     requires decides { C.decides test }
-    requires named { terms.order ≢ Order.Free }
     requires some_limit { 1 ≤ terms.limit }
     requires most_limit { terms.limit ≤ MAX_ENTRY }
     requires bounded { IsTrue terms.is_bounded → AreAlwaysWithin terms.limit system.now (C.clashing test) }
-    ensures ok { IfOk result (λ list. IsOnlyListing (enumeration_of system.now (C.clashing test) terms.order terms.limit) list.items) }
-    ensures err { IfErr result (AreRefused (enumeration_of system.now (C.clashing test) terms.order terms.limit)) }
+    ensures ok { IfOk result (λ list. IsOnlyListing (enumeration_of system.now (C.clashing test) terms.order.rule terms.limit) list.items) }
+    ensures err { IfErr result (AreRefused (enumeration_of system.now (C.clashing test) terms.order.rule terms.limit)) }
 {
     let clashes = Clashes::new(alloc, test)?;
     quickest_list(alloc, system, &clashes, each, pivots, terms)

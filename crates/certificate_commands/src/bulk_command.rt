@@ -7,7 +7,7 @@ ghost use Rattle.outcome_definitions.specs.Makings.{IsSummary, IsBulkAnswer};
 use crate::summaries::{Numbers, summary_outcome};
 use command_answers::Outcome;
 use cone_core::MAX_ENTRY;
-use double_description::Order;
+use double_description::NamedOrder;
 use gluing_table::Table;
 use matching_equations::Coords;
 use no_memory::{Failure, NoMemory};
@@ -32,7 +32,13 @@ fn accept(alloc: Global, made: &Made) -> Result<(), NoMemory>
 fn outcome_of_making(alloc: Global, numbers: Numbers, table: &Table) -> Result<Outcome, NoMemory>
     ensures { IfOk result (IsSummary numbers table.now) }
 {
-    match surface_list::surfaces_of_table(alloc, table, Coords::Standard, Order::Given, MAX_ENTRY) {
+    match surface_list::surfaces_of_table(
+        alloc,
+        table,
+        Coords::Standard,
+        NamedOrder::GIVEN,
+        MAX_ENTRY,
+    ) {
         Ok(surfaces) => summary_outcome(alloc, numbers, &surfaces),
         Err(Failure::Fault(large)) => large_outcome(alloc, &large.order, &large.kind),
         Err(Failure::NoMemory) => Err(NoMemory),

@@ -10,7 +10,7 @@ ghost use Rattle.enumeration_commands.specs.Cones.{GivesConeDocument};
 use crate::enumerations::list_outcome;
 use command_answers::{Outcome, end_document, fault_outcome};
 use cone_core::{ConeFault, MAX_ENTRY, System, read_cone};
-use double_description::Order;
+use double_description::{NamedOrder, Order};
 use gluing_table::TextFault;
 use no_memory::{Failure, NoMemory};
 use signature_codec::InputFault;
@@ -32,11 +32,15 @@ fn read_cone_document(alloc: Global, bytes: &[u8]) -> Result<System, ConeFault>
 }
 
 // The answer to a cone.
-fn answer(alloc: Global, system: &System, order: Order, limit: u128) -> Result<Outcome, NoMemory>
-    requires named { order ≢ Order.Free }
+fn answer(
+    alloc: Global,
+    system: &System,
+    order: NamedOrder,
+    limit: u128,
+) -> Result<Outcome, NoMemory>
     requires some_limit { 1 ≤ limit }
     requires most_limit { limit ≤ MAX_ENTRY }
-    ensures { IfOk result (IsEnumerationAnswer (codes "rays") (without_pairs system.now order limit)) }
+    ensures { IfOk result (IsEnumerationAnswer (codes "rays") (without_pairs system.now order.rule limit)) }
 {
     match ray_answers::rays(alloc, system, order, limit) {
         Ok(rays) => list_outcome(alloc, b"rays", &rays),
@@ -54,7 +58,7 @@ pub fn rays(alloc: Global, order: Order, limit: u128, bytes: &[u8]) -> Result<Ou
     ensures { IfOk result (IsReadOutcome (worded (cone_document bytes.now)) (λ cone. IsEnumerationAnswer (codes "rays") (ray_enumeration order limit cone))) }
 {
     match read_cone_document(alloc, bytes) {
-        Ok(system) => answer(alloc, &system, order, limit),
+        Ok(system) => answer(alloc, &system, NamedOrder { rule: order }, limit),
         Err(ConeFault::Lex(fault)) => fault_outcome(alloc, InputFault::Text(TextFault::Lex(fault))),
         Err(ConeFault::NoMemory) => Err(NoMemory),
     }

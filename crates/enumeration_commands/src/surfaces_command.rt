@@ -8,7 +8,7 @@ ghost use Rattle.outcome_definitions.specs.Enumerations.{IsSurfacesAnswer};
 use crate::enumerations::list_outcome;
 use command_answers::{Outcome, fault_outcome, read_table_document};
 use cone_core::MAX_ENTRY;
-use double_description::Order;
+use double_description::{NamedOrder, Order};
 use gluing_table::Table;
 use matching_equations::Coords;
 use no_memory::{Failure, NoMemory};
@@ -20,13 +20,12 @@ fn answer(
     alloc: Global,
     table: &Table,
     coords: Coords,
-    order: Order,
+    order: NamedOrder,
     limit: u128,
 ) -> Result<Outcome, NoMemory>
-    requires named { order ≢ Order.Free }
     requires some_limit { 1 ≤ limit }
     requires most_limit { limit ≤ MAX_ENTRY }
-    ensures { IfOk result (IsSurfacesAnswer coords order limit table.now) }
+    ensures { IfOk result (IsSurfacesAnswer coords order.rule limit table.now) }
 {
     match surface_list::surfaces_of_table(alloc, table, coords, order, limit) {
         Ok(surfaces) => list_outcome(alloc, b"surfaces", &surfaces),
@@ -50,7 +49,7 @@ pub fn surfaces(
     ensures { IfOk result (IsReadOutcome (table_document bytes.now) (IsSurfacesAnswer coords order limit)) }
 {
     match read_table_document(alloc, bytes) {
-        Ok(table) => answer(alloc, &table, coords, order, limit),
+        Ok(table) => answer(alloc, &table, coords, NamedOrder { rule: order }, limit),
         Err(fault) => fault_outcome(alloc, fault),
     }
 }

@@ -1,12 +1,12 @@
 // All rays of a cone, with no pairs of columns that clash.
 
-ghost use Rattle.std.specs.Prelude.{◌≢◌, ◌≤◌, IfOk, IfErr};
+ghost use Rattle.std.specs.Prelude.{◌≤◌, IfOk, IfErr};
 ghost use Rattle.cone_definitions.specs.Listings.{without_pairs};
 ghost use Rattle.bounded_list.specs.Lists.{IsOnlyListing, AreRefused};
 
 use bounded_list::{Terms, vertex_list};
 use cone_core::{MAX_ENTRY, Ray, System};
-use double_description::{LargeStep, Order};
+use double_description::{LargeStep, NamedOrder};
 use no_memory::Failure;
 use number_bounds::columns_fit;
 use ray_steps::NoClash;
@@ -17,14 +17,13 @@ use std::alloc::Global;
 pub fn rays(
     alloc: Global,
     system: &System,
-    order: Order,
+    order: NamedOrder,
     limit: u128,
 ) -> Result<Vec<Ray>, Failure<LargeStep>>
-    requires named { order ≢ Order.Free }
     requires some_limit { 1 ≤ limit }
     requires most_limit { limit ≤ MAX_ENTRY }
-    ensures ok { IfOk result (λ list. IsOnlyListing (without_pairs system.now order limit) list.items) }
-    ensures err { IfErr result (AreRefused (without_pairs system.now order limit)) }
+    ensures ok { IfOk result (λ list. IsOnlyListing (without_pairs system.now order.rule limit) list.items) }
+    ensures err { IfErr result (AreRefused (without_pairs system.now order.rule limit)) }
 {
     let columns = system.columns();
     let is_bounded = columns_fit(alloc, system, limit)?;

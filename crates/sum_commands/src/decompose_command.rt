@@ -16,7 +16,7 @@ use crate::refusals::refusal_outcome;
 use crate::writing::append_block;
 use command_answers::{Outcome, fault_outcome, read_table_and_vectors};
 use cone_core::{MAX_ENTRY, Ray, System};
-use double_description::Order;
+use double_description::NamedOrder;
 use gluing_table::{Table, write_table};
 use matching_equations::{Coords, equations_of_table};
 use no_memory::{Failure, NoMemory};
@@ -124,7 +124,7 @@ fn answer_by(
             SumRefusal::Unfit { fault: first.fault },
         );
     }
-    match surfaces_by(alloc, table, system, coords, Order::Given, limit) {
+    match surfaces_by(alloc, table, system, coords, NamedOrder::GIVEN, limit) {
         Ok(list) => outcome_of(alloc, table, system, &list, vectors, limit),
         Err(Failure::Fault(large)) => large_outcome(alloc, &large.order, &large.kind),
         Err(Failure::NoMemory) => Err(NoMemory),

@@ -1,6 +1,6 @@
 //! All admissible vertex surfaces, by elimination of the equations.
 
-ghost use Rattle.std.specs.Prelude.{◌≡◌, ◌≢◌, ◌≤◌, length, IfOk, IfErr};
+ghost use Rattle.std.specs.Prelude.{◌≡◌, ◌≤◌, length, IfOk, IfErr};
 ghost use Rattle.surface_definitions.specs.Coordinates as coordinates;
 ghost use Rattle.surface_definitions.specs.QuadEquations.{AreEquations};
 ghost use Rattle.surface_equation_laws.specs.OneForm.{is_triangle};
@@ -9,7 +9,7 @@ ghost use Rattle.surface_list.specs.Surfaces.{AreTableSurfaces, IsTableRefused};
 use crate::bounds::numbers_fit;
 use bounded_list::{Terms, vertex_list};
 use cone_core::{MAX_ENTRY, Ray, System};
-use double_description::{EnumFault, Order};
+use double_description::{EnumFault, NamedOrder};
 use gluing_table::Table;
 use matching_equations::{Coords, equations_of_table};
 use no_memory::NoMemory;
@@ -42,16 +42,15 @@ pub fn surfaces_by(
     table: &Table,
     system: &System,
     coords: Coords,
-    order: Order,
+    order: NamedOrder,
     limit: u128,
 ) -> Result<Vec<Ray>, EnumFault>
     requires columns { system.now.columns ≡ coordinates.columns coords (length table.now) }
     requires equations { AreEquations coords table.now system.now.rows }
-    requires named { order ≢ Order.Free }
     requires some_limit { 1 ≤ limit }
     requires most_limit { limit ≤ MAX_ENTRY }
-    ensures ok { IfOk result (λ rays. AreTableSurfaces limit coords table.now order rays.items) }
-    ensures err { IfErr result (IsTableRefused limit coords table.now order) }
+    ensures ok { IfOk result (λ rays. AreTableSurfaces limit coords table.now order.rule rays.items) }
+    ensures err { IfErr result (IsTableRefused limit coords table.now order.rule) }
 {
     let tets = table.len();
     let test = MaskedClashes::new(alloc, coords, tets, system.columns())?;
@@ -69,14 +68,13 @@ pub fn surfaces_of_table(
     alloc: Global,
     table: &Table,
     coords: Coords,
-    order: Order,
+    order: NamedOrder,
     limit: u128,
 ) -> Result<Vec<Ray>, EnumFault>
-    requires named { order ≢ Order.Free }
     requires some_limit { 1 ≤ limit }
     requires most_limit { limit ≤ MAX_ENTRY }
-    ensures ok { IfOk result (λ rays. AreTableSurfaces limit coords table.now order rays.items) }
-    ensures err { IfErr result (IsTableRefused limit coords table.now order) }
+    ensures ok { IfOk result (λ rays. AreTableSurfaces limit coords table.now order.rule rays.items) }
+    ensures err { IfErr result (IsTableRefused limit coords table.now order.rule) }
 {
     let system = equations_of_table(alloc, table, coords)?;
     surfaces_by(alloc, table, &system, coords, order, limit)

@@ -5,7 +5,7 @@ ghost use Rattle.surface_list.specs.Surfaces.{AreTableSurfaces, IsTableRefused};
 
 use crate::listed::surfaces_by;
 use cone_core::{MAX_ENTRY, Ray};
-use double_description::{EnumFault, Order};
+use double_description::{EnumFault, NamedOrder, Order};
 use matching_equations::{Coords, equations};
 use skeleton::Skeleton;
 use std::alloc::Global;
@@ -26,5 +26,6 @@ pub fn surfaces(
     ensures err { IfErr result (IsTableRefused limit coords skeleton.now.rows order) }
 {
     let system = equations(alloc, skeleton, coords)?;
+    let order = NamedOrder { rule: order };
     surfaces_by(alloc, skeleton.table(), &system, coords, order, limit)
 }

@@ -1,11 +1,13 @@
-ghost use Rattle.std.specs.Prelude.{◌≡◌, ◌≢◌, ◌+◌, ◌<◌, ◌≤◌, ◌↔◌, length, IsTrue};
+ghost use Rattle.std.specs.Prelude.{◌≡◌, ◌+◌, ◌<◌, ◌≤◌, ◌↔◌, length, IsTrue};
 ghost use Rattle.text_definitions.specs.Text.{max_text};
 ghost use Rattle.ray_steps.specs.Clashes.{AreClashes, IsClashFree, IsInUnion};
 ghost use Rattle.double_description.specs.Orders.{ChoosesBy};
 
 use crate::sample_cones::{are_rays, cone};
 use cone_core::{MAX_ENTRY, System};
-use double_description::{LargeKind, LargeStep, Order, Permit, Picker, choice, enumerate};
+use double_description::{
+    LargeKind, LargeStep, NamedOrder, Order, Permit, Picker, choice, enumerate,
+};
 use no_memory::{Failure, NoMemory};
 use std::alloc::Global;
 use std::cell::Cell;
@@ -18,13 +20,12 @@ fn rays_are(
     rt: &impl Abort,
     alloc: Global,
     text: &[u8],
-    order: Order,
+    order: NamedOrder,
     limit: u128,
     vectors: &[&[u128]],
     rows: &[u32],
 ) -> Result<bool, Fail>
     requires text { length text.now ≤ max_text }
-    requires named { order ≢ Order.Free }
     requires some_limit { 1 ≤ limit }
     requires most_limit { limit ≤ MAX_ENTRY }
 {
@@ -34,7 +35,8 @@ fn rays_are(
         system.columns(),
         |_: &Support, _: &Support| true,
     );
-    let picker = Picker::new(order, |s: &System, rows: &[u32]| choice(order, s, rows));
+    let rule = order.rule;
+    let picker = Picker::new(rule, |s: &System, rows: &[u32]| choice(rule, s, rows));
     match enumerate(alloc, &system, &permit, &picker, limit) {
         Ok(rays) => {
             are_rays(rt, &rays.list, vectors);
@@ -57,25 +59,65 @@ fn rays_are(
 fn small_cones(rt: HostRuntime) -> Result<(), Fail> {
     let alloc = rt.alloc();
     let one = b"cone 2 1\n2 -1";
-    assert!(rt; rays_are(&rt, alloc, one, Order::Given, MAX_ENTRY, &[&[1, 2]], &[0])?);
-    assert!(rt; !rays_are(&rt, alloc, one, Order::Given, 1, &[&[1, 0]], &[0])?);
+    assert!(rt;
+        rays_are(
+            &rt,
+            alloc,
+            one,
+            NamedOrder::GIVEN,
+            MAX_ENTRY,
+            &[&[1, 2]],
+            &[0]
+        )?
+    );
+    assert!(rt; !rays_are(&rt, alloc, one, NamedOrder::GIVEN, 1, &[&[1, 0]], &[0])?);
     let two = b"cone 3 2\n1 -2 0\n0 1 -2";
-    assert!(rt; rays_are(&rt, alloc, two, Order::Zeros, 4, &[&[4, 2, 1]], &[1, 0])?);
+    assert!(rt;
+        rays_are(
+            &rt,
+            alloc,
+            two,
+            NamedOrder::ZEROS,
+            4,
+            &[&[4, 2, 1]],
+            &[1, 0]
+        )?
+    );
     assert!(rt;
         !rays_are(
             &rt,
             alloc,
             two,
-            Order::Given,
+            NamedOrder::GIVEN,
             2,
             &[&[2, 1, 0], &[0, 0, 1]],
             &[0, 1]
         )?
     );
-    assert!(rt; !rays_are(&rt, alloc, two, Order::Zeros, 2, &[&[0, 2, 1]], &[1, 0])?);
+    assert!(rt;
+        !rays_are(
+            &rt,
+            alloc,
+            two,
+            NamedOrder::ZEROS,
+            2,
+            &[&[0, 2, 1]],
+            &[1, 0]
+        )?
+    );
     let short = b"cone 3 2\n1 1 -1\n2 -1 0";
-    assert!(rt; !rays_are(&rt, alloc, short, Order::Short, 1, &[&[1, 0, 0]], &[1])?);
-    assert!(rt; !rays_are(&rt, alloc, short, Order::Given, 1, &[&[1, 0, 1]], &[0, 1])?);
+    assert!(rt; !rays_are(&rt, alloc, short, NamedOrder::SHORT, 1, &[&[1, 0, 0]], &[1])?);
+    assert!(rt;
+        !rays_are(
+            &rt,
+            alloc,
+            short,
+            NamedOrder::GIVEN,
+            1,
+            &[&[1, 0, 1]],
+            &[0, 1]
+        )?
+    );
     Ok(())
 }
 

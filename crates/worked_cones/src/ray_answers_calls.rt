@@ -1,5 +1,5 @@
 use cone_core::{MAX_ENTRY, Ray, read_cone};
-use double_description::Order;
+use double_description::NamedOrder;
 use ray_answers::rays;
 use std::test::Fail;
 use text_io::Lexer;
@@ -12,7 +12,7 @@ fn writes_the_rays_of_a_cone(rt: HostRuntime) -> Result<(), Fail> {
     assert!(rt; lexer.next_line());
     let system = read_cone(alloc, &mut lexer).ok().ok_or("no cone")?;
     let mut out = Vec::from_slice(alloc, b"# rays 2\n")?;
-    match rays(alloc, &system, Order::Given, MAX_ENTRY) {
+    match rays(alloc, &system, NamedOrder::GIVEN, MAX_ENTRY) {
         Ok(found) => write_list(alloc, &found, &mut out)?,
         Err(_) => panic!(rt; "a list was expected"),
     }

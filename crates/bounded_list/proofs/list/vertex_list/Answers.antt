@@ -9,10 +9,10 @@ quickest_list-requires-clause-bounded g c fit = subst (AreAlwaysWithin c.args.te
 
 pub returns-clause-ok : goal.returns-clause-ok
 returns-clause-ok g c =
-    subst (λ (pairs : List Clash). IfOk c.quickest_list.result (λ list. IsOnlyListing (enumeration_of c.args.system.now pairs c.args.terms.order c.args.terms.limit) list.items))
+    subst (λ (pairs : List Clash). IfOk c.quickest_list.result (λ list. IsOnlyListing (enumeration_of c.args.system.now pairs c.args.terms.order.rule c.args.terms.limit) list.items))
     c.in_ok-clashes.ensures.pairs c.quickest_list.ensures.ok
 
 pub returns-clause-err : goal.returns-clause-err
 returns-clause-err g c =
-    subst (λ (pairs : List Clash). IfErr c.quickest_list.result (AreRefused (enumeration_of c.args.system.now pairs c.args.terms.order c.args.terms.limit)))
+    subst (λ (pairs : List Clash). IfErr c.quickest_list.result (AreRefused (enumeration_of c.args.system.now pairs c.args.terms.order.rule c.args.terms.limit)))
     c.in_ok-clashes.ensures.pairs c.quickest_list.ensures.err

@@ -5,15 +5,15 @@ use Rattle.surface_list.proofs.listed.surfaces_by.Goals as goal
 
 pub vertex_list-requires-clause-bounded : goal.vertex_list-requires-clause-bounded
 vertex_list-requires-clause-bounded c fit =
-    numbers_within c.args.limit c.args.coords c.args.table.now c.args.system.now c.in_ok-test.test.pairs.items c.args.order c.requires.columns
+    numbers_within c.args.limit c.args.coords c.args.table.now c.args.system.now c.in_ok-test.test.pairs.items c.args.order.rule c.requires.columns
     (c.in_ok-test.ensures.pairs ∙ ap (clash_list c.args.coords) c.len-tets.ensures.value) c.requires.equations c.len-tets.result c.len-tets.ensures.value c.len-tets.ensures.is_table (c.numbers_fit.ensures.0 fit)
 
 pub returns-clause-ok : goal.returns-clause-ok
 returns-clause-ok c =
-    surfaces_listed c.args.limit c.args.coords c.args.table.now c.args.system.now c.in_ok-test.test.pairs.items c.args.order c.requires.columns
+    surfaces_listed c.args.limit c.args.coords c.args.table.now c.args.system.now c.in_ok-test.test.pairs.items c.args.order.rule c.requires.columns
     (c.in_ok-test.ensures.pairs ∙ ap (clash_list c.args.coords) c.len-tets.ensures.value) c.requires.equations _ (λ v. v.items) c.vertex_list.result c.vertex_list.ensures.ok
 
 pub returns-clause-err : goal.returns-clause-err
 returns-clause-err c =
-    table_refused c.args.limit c.args.coords c.args.table.now c.args.system.now c.in_ok-test.test.pairs.items c.args.order c.requires.columns
+    table_refused c.args.limit c.args.coords c.args.table.now c.args.system.now c.in_ok-test.test.pairs.items c.args.order.rule c.requires.columns
     (c.in_ok-test.ensures.pairs ∙ ap (clash_list c.args.coords) c.len-tets.ensures.value) c.requires.equations _ c.vertex_list.result c.vertex_list.ensures.err
