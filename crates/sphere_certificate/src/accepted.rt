@@ -43,7 +43,7 @@ impl AcceptedMove {
     }
 }
 
-/// A move, where it is accepted: it is legal and leads to a table of no more than 1,000 tetrahedra, so that `apply` takes it.
+/// A move with the facets that it takes out, where it is accepted.
 pub fn accept(table: &Table, m: Move) -> Option<AcceptedMove>
     ensures accepted { is_some result ≡ certificates.is_accepted table.now m }
     ensures same { IfSome result (λ a. a.played ≡ m) }
@@ -55,7 +55,7 @@ pub fn accept(table: &Table, m: Move) -> Option<AcceptedMove>
     }
 }
 
-/// Whether a move is accepted.
+/// Whether a move is legal and leads to a table of no more than 1,000 tetrahedra, so that `apply` takes it.
 pub fn is_accepted(table: &Table, m: Move) -> bool
     ensures { result ≡ certificates.is_accepted table.now m }
 {
