@@ -80,42 +80,43 @@ def number(text: str, name: str) -> int:
     return int(body(text, name).partition("=")[2])
 
 
-def values_of_option(option: str, reader: str, values: str) -> Option:
-    """An option by the definition that reads its values."""
-    requests, limit = definitions("command_definitions", "Requests"), definitions("text_definitions", "Written")
-    if option == "coords":
+def option_of_kind(kind: str) -> Option:
+    """An option that a command takes, such as `Limit` or `Moves most_moves`, by the definitions of its kind."""
+    definition, values = definitions("command_definitions", "Commands"), definitions("command_definitions", "Values")
+    kind, _, most = kind.partition(" ")
+    name = codes(body(definition, rf"option_name \(?{kind}"))[0]
+    if kind in ("Coordinates", "PieceCoordinates"):
         told = codes(body(values, "coordinates_named"))
-        with_pieces = [name for name in told if f"has_pieces {name.capitalize()} = Some" in values]
-        return Option(option, tuple(with_pieces if "piece_coordinates_in" in reader else told), (0, 0), False)
-    if option == "order":
-        return Option(option, tuple(codes(body(values, "order_named"))), (0, 0), False)
-    if option == "max-entry":
-        return Option(option, (), (1, number(limit, "limit")), False)
-    if option == "seed":
-        return Option(option, (), (0, number(values, "most_seed")), True)
-    if option == "moves":
-        most = re.search(r"\bmost_\w*moves\b", reader)
-        if most is None:
-            raise NotFound("no greatest number of moves")
-        return Option(option, (), (0, number(requests, most[0])), True)
-    raise NotFound(f"values of --{option}")
+        with_pieces = [word for word in told if f"has_pieces {word.capitalize()} = Some" in values]
+        return Option(name, tuple(with_pieces if kind == "PieceCoordinates" else told), (0, 0), False)
+    if kind == "RowOrder":
+        return Option(name, tuple(codes(body(values, "order_named"))), (0, 0), False)
+    if kind == "Limit":
+        return Option(name, (), (1, number(definitions("text_definitions", "Written"), "limit")), False)
+    if kind == "Seed":
+        return Option(name, (), (0, number(values, "most_seed")), True)
+    if kind == "Moves":
+        return Option(name, (), (0, number(definitions("command_definitions", "Requests"), most)), True)
+    raise NotFound(f"values of an option {kind}")
 
 
-def reader_of(name: str, values: str) -> str:
-    """How the request of a command is read from the values of its options."""
-    found = re.search(rf'same_word w \(codes "{name}"\) then (.*)', body(values, "request_with"))
-    return found[1] if found else ""
+class Entry(NamedTuple):
+    """A row of the definitions' table: the name of a command, the kinds of its options, and the case of its request."""
+
+    name: str
+    kinds: List[str]
+    request: str
 
 
-def requests() -> Dict[str, str]:
-    """The name of each request's command."""
-    text = definitions("command_definitions", "Grammar")
-    return {request: name for request, name in re.findall(r'^name_of \(?(\w+)[^=]*= codes "([^"]+)"', text, re.M)}
+def entries() -> List[Entry]:
+    """The table of commands as the definitions have it."""
+    rows = re.findall(r'\(codes "([\w-]+)", \((.*)\[\], (\w+)\)\)', body(definitions("command_definitions", "Commands"), "commands"))
+    return [Entry(name, kinds.split(" ∷ ")[:-1], request) for name, kinds, request in rows]
 
 
 def documents() -> Dict[str, str]:
     """The document that each command reads."""
-    names, found = requests(), {}
+    names, found = {entry.request: entry.name for entry in entries()}, {}
     for request, rest in re.findall(r"^IsAnswerTo \(?(\w+)(.*)$", definitions("outcome_definitions", "Answers"), re.M):
         document = re.search(r"\b(\w+)_document bytes", rest)
         found[names.get(request, "")] = DOCUMENTS[document[1]] if document else "none"
@@ -130,11 +131,8 @@ def rows_of_readme() -> Dict[str, Tuple[str, str]]:
 
 def made() -> List[Command]:
     """The commands, in README's order, which is that of what one wants to know."""
-    values, grammar = definitions("command_definitions", "Values"), definitions("command_definitions", "Words")
-    options, reads, rows = {}, documents(), rows_of_readme()
-    for line in re.findall(r"\((codes .*)\)", body(grammar, "commands")):
-        name, *names = codes(line)
-        options[name] = [values_of_option(option, reader_of(name, values), values) for option in names]
+    reads, rows = documents(), rows_of_readme()
+    options = {entry.name: [option_of_kind(kind) for kind in entry.kinds] for entry in entries()}
     for name in set(options) ^ set(rows):
         raise NotFound(f"the command {name} stands in README's table or in the grammar, and not in both")
     return [Command(name, reads[name], options[name], example, answers) for name, (answers, example) in rows.items()]

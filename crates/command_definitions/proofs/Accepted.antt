@@ -2,18 +2,20 @@
 use Rattle.std.proofs.Common.{◌≡◌, ◌≢◌, ℕ, ◌≤◌, Bool, true, false, List, [], ◌∷◌, Option, Some, None, refl, subst, arith, nat_lt}
 use Rattle.std.proofs.Common.{ltb-false, ltb-true}
 use Rattle.std.specs.Prelude.{codes, if◌then◌else◌, ⊤}
-use Rattle.std.specs.Option.{option_map, option_and_then}
+use Rattle.std.specs.List.{AllByRecursion, find}
+use Rattle.std.specs.Option.{option_and_then}
 use Rattle.text_definitions.specs.Text.{digits_value}
 use Rattle.text_definitions.specs.Reading.{same_word}
 use Rattle.text_definitions.specs.Written.{limit}
 use Rattle.cone_definitions.specs.declared.Order.{Order}
 use Rattle.cone_definitions.specs.declared.Order.TheVariants.{Given, Short, Zeros, Free}
 use Rattle.command_definitions.specs.declared.Request.{Request}
-use Rattle.command_definitions.specs.declared.Request.TheVariants.{Verify, Describe, Make, Bulk, Addup}
+use Rattle.command_definitions.specs.declared.Request.TheVariants.{Make, Bulk}
 use Rattle.command_definitions.specs.Requests.{IsLimit, HoldsRange, most_moves, most_bulk_moves}
 use Rattle.surface_definitions.specs.declared.Coords.{Coords}
 use Rattle.surface_definitions.specs.declared.Coords.TheVariants.{Standard, Quad, Octagon}
-use Rattle.command_definitions.specs.Values.{Values, has_pieces, coordinates_named, piece_coordinates_named, ◌>>=◌, request_with, plain_request, surfaces_with, rays_with, made_with, decompose_with, coordinates_in, piece_coordinates_in, order_in, order_named, limit_in, limit_named, positive, decimal_up_to, is_short_decimal, seed_in, moves_in, values_of, or_default, needed}
+use Rattle.command_definitions.specs.Commands.{Command, Kind, Coordinates, PieceCoordinates, RowOrder, Limit, Seed, Moves, RequestBy, ValueOf, commands, option_names}
+use Rattle.command_definitions.specs.Values.{Values, has_pieces, coordinates_named, piece_coordinates_named, ◌>>=◌, value_in, request_by, coordinates_in, order_named, limit_named, positive, decimal_up_to, is_short_decimal, most_seed, values_of, or_default, needed}
 use Rattle.command_definitions.specs.Options.{options_of}
 use Rattle.command_definitions.specs.Words.{command_named, accepted_request}
 
@@ -30,9 +32,9 @@ pub holds_bind : {A B : Type 0} (P : A → Type 0) (Q : B → Type 0) (x : Optio
 holds_bind P Q None f h k = tt
 holds_bind P Q (Some a) f h k = k a h
 
-holds_map : {A B : Type 0} (Q : B → Type 0) (f : A → B) (x : Option A) → ((a : A) → Q (f a)) → Holds Q (option_map f x)
-holds_map Q f None k = tt
-holds_map Q f (Some a) k = k a
+pub weaker : {A : Type 0} (P Q : A → Type 0) (x : Option A) → ((a : A) → P a → Q a) → Holds P x → Holds Q x
+weaker P Q None h held = tt
+weaker P Q (Some a) h held = h a held
 
 anything : {A : Type 0} (x : Option A) → Holds (λ (a : A). ⊤) x
 anything None = tt
@@ -45,9 +47,9 @@ within_if max n false e = ltb-false max n e
 pub decimals_within : (max : ℕ) (w : List ℕ) → Holds (λ (m : ℕ). m ≤ max) (decimal_up_to max w)
 decimals_within max w = holds_if (λ (m : ℕ). m ≤ max) (is_short_decimal w) _ None (within_if max (digits_value w) (nat_lt max (digits_value w)) refl) tt
 
-moves_within : (max : ℕ) (x : Option (List ℕ)) → Holds (λ (m : ℕ). m ≤ max) (needed (decimal_up_to max) x)
-moves_within max None = tt
-moves_within max (Some w) = decimals_within max w
+needed_within : (max : ℕ) (x : Option (List ℕ)) → Holds (λ (m : ℕ). m ≤ max) (needed (decimal_up_to max) x)
+needed_within max None = tt
+needed_within max (Some w) = decimals_within max w
 
 positive_if : (n : ℕ) (b : Bool) → nat_lt 0 n ≡ b → n ≤ limit → Holds IsLimit (if b then Some n else None)
 positive_if n true e h = record { some = ltb-true 0 n e; few = h }
@@ -62,7 +64,7 @@ limit_holds None = record { some = omega arith; few = omega arith }
 limit_holds (Some w) = and_positive (decimal_up_to limit w) (decimals_within limit w)
 
 -- a word names an order
-abbrev HasName : Order → Type 0
+abbrev pub HasName : Order → Type 0
 HasName order = order ≢ Free
 
 given_named : HasName Given
@@ -82,17 +84,8 @@ order_holds : (x : Option (List ℕ)) → Holds HasName (or_default Given order_
 order_holds None = given_named
 order_holds (Some w) = word_named w
 
-surfaces_hold : (v : Values) → Holds HoldsRange (surfaces_with v)
-surfaces_hold v = holds_bind (λ a. ⊤) HoldsRange (coordinates_in v) _ (anything (coordinates_in v)) (λ coords u.
-    holds_bind HasName HoldsRange (order_in v) _ (order_holds v.order) (λ order named. holds_bind IsLimit HoldsRange (limit_in v) _ (limit_holds v.max_entry)
-    (λ most h. record { named = named; some = h.some; few = h.few })))
-
-rays_hold : (v : Values) → Holds HoldsRange (rays_with v)
-rays_hold v = holds_bind HasName HoldsRange (order_in v) _ (order_holds v.order) (λ order named. holds_bind IsLimit HoldsRange (limit_in v) _ (limit_holds v.max_entry)
-    (λ most h. record { named = named; some = h.some; few = h.few }))
-
 -- coordinates in which surfaces have pieces
-abbrev HasPieces : Coords → Type 0
+abbrev pub HasPieces : Coords → Type 0
 HasPieces coords = coords ≢ Quad
 
 pieces_in : (coords : Coords) → Holds HasPieces (has_pieces coords)
@@ -108,42 +101,116 @@ pieces_hold : (x : Option (List ℕ)) → Holds HasPieces (or_default Standard p
 pieces_hold None = λ e. absurd (let z : Standard ≡ Quad = e in cc)
 pieces_hold (Some w) = pieces_within (coordinates_named w)
 
-describe_holds : (x : Option Coords) → Holds HasPieces x → Holds HoldsRange (option_map Describe x)
-describe_holds None h = tt
-describe_holds (Some coords) h = h
+-- ---- what options and requests hold
 
-make_holds : (v : Values) → Holds HoldsRange (made_with Make most_moves v)
-make_holds v = holds_bind (λ a. ⊤) HoldsRange (seed_in v) _ (anything (seed_in v)) (λ seed u. holds_bind (λ (m : ℕ). m ≤ most_moves) HoldsRange (moves_in most_moves v) _ (moves_within most_moves v.moves) (λ moves few. few))
+-- what the value of an option is, where it is read
+abbrev pub IsValueInRange : (kind : Kind) → ValueOf kind → Type 0
+IsValueInRange Coordinates coords = ⊤
+IsValueInRange PieceCoordinates coords = HasPieces coords
+IsValueInRange RowOrder order = HasName order
+IsValueInRange Limit most = IsLimit most
+IsValueInRange Seed seed = seed ≤ most_seed
+IsValueInRange (Moves most) moves = moves ≤ most
 
-bulk_holds : (v : Values) → Holds HoldsRange (made_with Bulk most_bulk_moves v)
-bulk_holds v = holds_bind (λ a. ⊤) HoldsRange (seed_in v) _ (anything (seed_in v)) (λ seed u. holds_bind (λ (m : ℕ). m ≤ most_bulk_moves) HoldsRange (moves_in most_bulk_moves v) _ (moves_within most_bulk_moves v.moves) (λ moves few. few))
+value_holds : (kind : Kind) (v : Values) → Holds (IsValueInRange kind) (value_in kind v)
+value_holds Coordinates v = anything (coordinates_in v)
+value_holds PieceCoordinates v = pieces_hold v.coords
+value_holds RowOrder v = order_holds v.order
+value_holds Limit v = limit_holds v.max_entry
+value_holds Seed v = needed_within most_seed v.seed
+value_holds (Moves most) v = needed_within most v.moves
 
-decompose_holds : (v : Values) → Holds HoldsRange (decompose_with v)
-decompose_holds v = holds_bind (λ a. ⊤) HoldsRange (coordinates_in v) _ (anything (coordinates_in v)) (λ coords u. holds_bind IsLimit HoldsRange (limit_in v) _ (limit_holds v.max_entry) (λ most h. h))
+-- what a request holds is in range, a seed too
+abbrev pub HoldsAll : Request → Type 0
+HoldsAll (Make seed moves) = (seed ≤ most_seed) × (moves ≤ most_moves)
+HoldsAll (Bulk seed moves) = (seed ≤ most_seed) × (moves ≤ most_bulk_moves)
+HoldsAll r = HoldsRange r
 
-plain_holds : (w : List ℕ) → Holds HoldsRange (plain_request w)
-plain_holds w =
-    holds_if HoldsRange (same_word w (codes "info")) _ _ tt (holds_if HoldsRange (same_word w (codes "lift")) _ _ tt (holds_if HoldsRange (same_word w (codes "crush")) _ _ tt
-    (holds_if HoldsRange (same_word w (codes "play")) _ _ tt (holds_if HoldsRange (same_word w (codes "sig")) _ _ tt (holds_if HoldsRange (same_word w (codes "same")) _ _ tt
-    (holds_if HoldsRange (same_word w (codes "group")) _ _ tt (holds_if HoldsRange (same_word w (codes "check")) _ _ tt (holds_if HoldsRange (same_word w (codes "descend")) _ _ tt
-    (holds_if HoldsRange (same_word w (codes "cover")) _ _ tt (holds_if HoldsRange (same_word w (codes "pi1")) _ _ tt (holds_if HoldsRange (same_word w (codes "csig")) _ _ tt (holds_if HoldsRange (same_word w (codes "csame")) _ _ tt tt))))))))))))
+pub holds_range : (r : Request) → HoldsAll r → HoldsRange r
+holds_range (Make seed moves) h = h.1
+holds_range (Bulk seed moves) h = h.1
+holds_range r h = h
 
-requests_hold : (w : List ℕ) (v : Values) → Holds HoldsRange (request_with w v)
-requests_hold w v =
-    holds_if HoldsRange (same_word w (codes "verify")) _ _ (holds_map HoldsRange Verify (coordinates_in v) (λ a. tt))
-    (holds_if HoldsRange (same_word w (codes "surfaces")) _ _ (surfaces_hold v)
-    (holds_if HoldsRange (same_word w (codes "rays")) _ _ (rays_hold v)
-    (holds_if HoldsRange (same_word w (codes "describe")) _ _ (describe_holds (piece_coordinates_in v) (pieces_hold v.coords))
-    (holds_if HoldsRange (same_word w (codes "make")) _ _ (make_holds v)
-    (holds_if HoldsRange (same_word w (codes "bulk")) _ _ (bulk_holds v)
-    (holds_if HoldsRange (same_word w (codes "decompose")) _ _ (decompose_holds v)
-    (holds_if HoldsRange (same_word w (codes "addup")) _ _ (holds_map HoldsRange Addup (coordinates_in v) (λ a. tt)) (plain_holds w))))))))
+-- by values in range of these options the request holds what is in range
+abbrev HoldsBy : (kinds : List Kind) → RequestBy kinds → Type 0
+HoldsBy [] request = HoldsAll request
+HoldsBy (kind ∷ kinds) request = (value : ValueOf kind) → IsValueInRange kind value → HoldsBy kinds (request value)
+
+abbrev CommandHolds : Command → Type 0
+CommandHolds c = HoldsBy c.1.0 c.1.1
+
+each_holds : AllByRecursion CommandHolds commands
+each_holds = (
+  (λ coords u. tt),
+  (
+    tt,
+    (
+      (λ coords u order named most h. record { named = named; some = h.some; few = h.few }),
+      (
+        (λ order named most h. record { named = named; some = h.some; few = h.few }),
+        (
+          (λ coords pieces. pieces),
+          (
+            tt,
+            (
+              tt,
+              (
+                tt,
+                (
+                  tt,
+                  (
+                    tt,
+                    (
+                      tt,
+                      (
+                        tt,
+                        (
+                          tt,
+                          (
+                            (λ seed short moves few. (short, few)),
+                            (
+                              (λ seed short moves few. (short, few)),
+                              (
+                                (λ coords u most h. h),
+                                (
+                                  (λ coords u. tt),
+                                  (tt, (tt, (tt, (tt, tt)))),
+                                ),
+                              ),
+                            ),
+                          ),
+                        ),
+                      ),
+                    ),
+                  ),
+                ),
+              ),
+            ),
+          ),
+        ),
+      ),
+    ),
+  ),
+)
+
+requests_hold : (kinds : List Kind) (request : RequestBy kinds) (v : Values) → HoldsBy kinds request → Holds HoldsAll (request_by kinds request v)
+requests_hold [] request v h = h
+requests_hold (kind ∷ kinds) request v h =
+    holds_bind (IsValueInRange kind) HoldsAll (value_in kind v) _ (value_holds kind v) (λ value is. requests_hold kinds (request value) v (h value is))
+
+command_holds : (cs : List Command) (w : List ℕ) → AllByRecursion CommandHolds cs → Holds CommandHolds (find (λ c. same_word c.0 w) cs)
+command_holds [] w all = tt
+command_holds (c ∷ cs) w all = holds_if CommandHolds (same_word c.0 w) (Some c) _ all.0 (command_holds cs w all.1)
+
+pub accepted_hold_all : (words : List (List ℕ)) → Holds HoldsAll (accepted_request words)
+accepted_hold_all [] = tt
+accepted_hold_all (w ∷ ws) =
+    holds_bind CommandHolds HoldsAll (command_named w) _ (command_holds commands w each_holds) (λ command held.
+    holds_bind (λ a. ⊤) HoldsAll (options_of (option_names command.1) ws) _ (anything (options_of (option_names command.1) ws)) (λ options t.
+    requests_hold command.1.0 command.1.1 (values_of options) held))
 
 pub accepted_hold : (words : List (List ℕ)) → Holds HoldsRange (accepted_request words)
-accepted_hold [] = tt
-accepted_hold (w ∷ ws) =
-    holds_bind (λ a. ⊤) HoldsRange (command_named w) _ (anything (command_named w)) (λ command u.
-    holds_bind (λ a. ⊤) HoldsRange (options_of command.1 ws) _ (anything (options_of command.1 ws)) (λ options t. requests_hold command.0 (values_of options)))
+accepted_hold words = weaker HoldsAll HoldsRange (accepted_request words) holds_range (accepted_hold_all words)
 
 pub accepted_in_range : (words : List (List ℕ)) (r : Request) → accepted_request words ≡ Some r → HoldsRange r
 accepted_in_range words r e = subst (Holds HoldsRange) e (accepted_hold words)

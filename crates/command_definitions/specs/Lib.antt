@@ -1,4 +1,5 @@
 pub mod Requests
+pub mod Commands
 pub mod Options
 pub mod Values
 pub mod Words

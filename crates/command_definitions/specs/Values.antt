@@ -1,17 +1,16 @@
 -- The values that options take, and the request of a command with such values.
-use Rattle.std.specs.Prelude.{ℕ, Bool, ◌&&◌, nat_lt, nat_le, List, length, Option, Some, None, codes, if◌then◌else◌}
-use Rattle.std.specs.Option.{option_map, option_and_then}
+use Rattle.std.specs.Prelude.{ℕ, Bool, ◌&&◌, nat_lt, nat_le, List, [], ◌∷◌, length, Option, Some, None, codes, if◌then◌else◌}
+use Rattle.std.specs.Option.{option_and_then}
 use Rattle.text_definitions.specs.Reading.{same_word}
 use Rattle.text_definitions.specs.Text.{is_decimal, digits_value}
 use Rattle.text_definitions.specs.Written.{limit}
 use Rattle.surface_definitions.specs.declared.Coords.{Coords}
 use Rattle.surface_definitions.specs.declared.Coords.TheVariants.{Standard, Quad, Octagon}
 use Rattle.command_definitions.specs.Options.{Given, value_of}
-use Rattle.command_definitions.specs.Requests.{most_moves, most_bulk_moves}
 use Rattle.cone_definitions.specs.declared.Order.{Order}
 use Rattle.cone_definitions.specs.declared.Order.TheVariants as orders
 use Rattle.command_definitions.specs.declared.Request.{Request}
-use Rattle.command_definitions.specs.declared.Request.TheVariants.{Verify, Info, Surfaces, Rays, Describe, Lift, Crush, Play, Sig, Same, Group, Check, Descend, Make, Bulk, Decompose, Addup, Cover, Pi1, Csig, Csame}
+use Rattle.command_definitions.specs.Commands.{Kind, Coordinates, PieceCoordinates, RowOrder, Limit, Seed, Moves, Takes, RequestBy, ValueOf}
 
 -- what stands for each option, where it is named
 pub record Values : Type 0 where
@@ -106,62 +105,22 @@ abbrev pub ◌>>=◌ : {A B : Type 0} → Option A → (A → Option B) → Opti
 None >>= f = None
 (Some x) >>= f = f x
 
--- the request of `surfaces`
-abbrev pub surfaces_with : Values → Option Request
-surfaces_with v = do
-  coords ← coordinates_in v
-  order ← order_in v
-  most ← limit_in v
-  Some (Surfaces coords order most)
+-- the value of an option of this kind
+abbrev pub value_in : (kind : Kind) → Values → Option (ValueOf kind)
+value_in Coordinates v = coordinates_in v
+value_in PieceCoordinates v = piece_coordinates_in v
+value_in RowOrder v = order_in v
+value_in Limit v = limit_in v
+value_in Seed v = seed_in v
+value_in (Moves most) v = moves_in most v
 
--- the request of `rays`
-abbrev pub rays_with : Values → Option Request
-rays_with v = do
-  order ← order_in v
-  most ← limit_in v
-  Some (Rays order most)
+-- the request by the values of these options
+abbrev pub request_by : (kinds : List Kind) → RequestBy kinds → Values → Option Request
+request_by [] request v = Some request
+request_by (kind ∷ kinds) request v = do
+  value ← value_in kind v
+  request_by kinds (request value) v
 
--- the request of `make` or `bulk`, by the greatest number of moves
-abbrev pub made_with : (ℕ → ℕ → Request) → ℕ → Values → Option Request
-made_with request most v = do
-  seed ← seed_in v
-  moves ← moves_in most v
-  Some (request seed moves)
-
--- the request of `decompose`
-abbrev pub decompose_with : Values → Option Request
-decompose_with v = do
-  coords ← coordinates_in v
-  most ← limit_in v
-  Some (Decompose coords most)
-
--- the request of a command without options
-abbrev pub plain_request : List ℕ → Option Request
-plain_request w =
-    if same_word w (codes "info") then Some Info
-    else if same_word w (codes "lift") then Some Lift
-    else if same_word w (codes "crush") then Some Crush
-    else if same_word w (codes "play") then Some Play
-    else if same_word w (codes "sig") then Some Sig
-    else if same_word w (codes "same") then Some Same
-    else if same_word w (codes "group") then Some Group
-    else if same_word w (codes "check") then Some Check
-    else if same_word w (codes "descend") then Some Descend
-    else if same_word w (codes "cover") then Some Cover
-    else if same_word w (codes "pi1") then Some Pi1
-    else if same_word w (codes "csig") then Some Csig
-    else if same_word w (codes "csame") then Some Csame
-    else None
-
--- the request of a command with these values
-abbrev pub request_with : List ℕ → Values → Option Request
-request_with w v =
-    if same_word w (codes "verify") then option_map Verify (coordinates_in v)
-    else if same_word w (codes "surfaces") then surfaces_with v
-    else if same_word w (codes "rays") then rays_with v
-    else if same_word w (codes "describe") then option_map Describe (piece_coordinates_in v)
-    else if same_word w (codes "make") then made_with Make most_moves v
-    else if same_word w (codes "bulk") then made_with Bulk most_bulk_moves v
-    else if same_word w (codes "decompose") then decompose_with v
-    else if same_word w (codes "addup") then option_map Addup (coordinates_in v)
-    else plain_request w
+-- the request of a command that takes this, with these values
+abbrev pub request_with : Takes → Values → Option Request
+request_with takes v = request_by takes.0 takes.1 v

@@ -1,6 +1,6 @@
 -- Words for each request, with all its options in words `--name=value`, and what is in range of a request that words spell.
-use Rattle.std.proofs.Common.{◌≡◌, ◌≢◌, ◌++◌, ℕ, ◌≤◌, true, inl, refl, subst, List, [], ◌∷◌, length, map, Option, Some, codes, ◌^◌, arith}
-use Rattle.std.specs.Prelude.{nat_lt, decimal}
+use Rattle.std.proofs.Common.{◌≡◌, ◌≢◌, ◌++◌, ℕ, ◌≤◌, true, inl, inr, refl, subst, List, [], ◌∷◌, length, map, Option, Some, codes, ◌^◌, arith}
+use Rattle.std.specs.Prelude.{nat_lt, decimal, ⊤}
 use Rattle.std.specs.List.{AllByRecursion, AllZip, Contains, slice_index_or}
 use Rattle.std.proofs.lemmas.Bool.{ltb-true}
 use Rattle.std.proofs.lemmas.List.Elements.{All-from_recursion}
@@ -12,14 +12,14 @@ use Rattle.surface_definitions.specs.declared.Coords.{Coords}
 use Rattle.surface_definitions.specs.declared.Coords.TheVariants.{Standard, Quad, Octagon}
 use Rattle.command_definitions.specs.declared.Request.{Request}
 use Rattle.command_definitions.specs.declared.Request.TheVariants.{Verify, Info, Surfaces, Rays, Describe, Lift, Crush, Play, Sig, Same, Group, Check, Descend, Make, Bulk, Decompose, Addup, Cover, Pi1, Csig, Csame}
+use Rattle.command_definitions.specs.Commands.{Command, Kind, Coordinates, PieceCoordinates, RowOrder, Limit, Seed, Moves, Takes, RequestBy, ValueOf, commands, option_name, option_names}
 use Rattle.command_definitions.specs.Options.{Given}
 use Rattle.command_definitions.specs.Requests.{HoldsRange, most_moves, most_bulk_moves}
-use Rattle.command_definitions.specs.Values.{coordinates_named, order_named, decimal_up_to, most_seed}
-use Rattle.command_definitions.specs.Words.{commands}
-use Rattle.command_definitions.specs.Grammar.{IsGiven, IsRequest, IsSpelled, HasCoordinates, HasLimit, HasOrder, HasValues, name_of}
-use Rattle.command_definitions.proofs.Accepted.{Holds, decimals_within, accepted_in_range}
+use Rattle.command_definitions.specs.Values.{coordinates_named, order_named, limit_named, decimal_up_to, most_seed}
+use Rattle.command_definitions.specs.Grammar.{IsRequest, IsSpelled, HasValue, HasValues}
+use Rattle.command_definitions.proofs.Accepted.{Holds, HoldsAll, accepted_hold_all, holds_range}
 use Rattle.command_laws.specs.Laws.{HasShortSeed}
-use Rattle.command_laws.proofs.Lookups.{Text, Apart, apart_by_test, are_apart}
+use Rattle.command_laws.proofs.Lookups.{Text, Apart, Member, apart_by_test, are_apart, contains_of}
 use Rattle.command_laws.proofs.OptionLists.{AreApart, joined}
 use Rattle.command_laws.proofs.Decimals.{decimal_read, limit_read}
 use Rattle.command_laws.proofs.Accepted.{spelled_accept}
@@ -44,27 +44,7 @@ all_spelled (option ∷ options) = (inl refl, all_spelled options)
 abbrev Words : Request → Type 0
 Words r = (words : List Text) × IsRequest words r
 
-asking : (r : Request) (names : List Text) (options : List Given) → Contains commands (name_of r, names) → AllByRecursion (λ option. Contains names option.0) options → are_apart options ≡ true
-    → HasValues r options → Words r
-asking r names options listed known apart values = (
-  name_of r ∷ joined (map in_one_word options),
-  record {
-    names = names;
-    command = listed;
-    options = options;
-    known = All-from_recursion (λ (option : Given). Contains names option.0) options known;
-    apart = pairs_of options (apart_by_test options apart);
-    spellings = map in_one_word options;
-    spelled = all_spelled options;
-    whole = refl;
-    values = values;
-  },
-)
-
-plain : (r : Request) (k : ℕ) → nat_lt k (length commands) ≡ true → slice_index_or commands k (name_of r, []) ≡ (name_of r, []) → HasValues r [] → Words r
-plain r k less e values = asking r [] [] (placed commands (name_of r, []) k less e) tt refl values
-
--- ---- the options of commands, with their values
+-- ---- words for values of options
 
 coords_word : Coords → Text
 coords_word Standard = codes "standard"
@@ -90,100 +70,135 @@ order_read orders.Short named = refl
 order_read orders.Zeros named = refl
 order_read orders.Free named = absurd (named refl)
 
-abbrev coords_option : Coords → Given
-coords_option coords = (codes "coords", coords_word coords)
+-- the word means this value of an option
+abbrev Means : (kind : Kind) → Text → ValueOf kind → Type 0
+Means Coordinates word coords = coordinates_named word ≡ Some coords
+Means PieceCoordinates word coords = (coordinates_named word ≡ Some coords) × (coords ≢ Quad)
+Means RowOrder word order = order_named word ≡ Some order
+Means Limit word most = limit_named word ≡ Some most
+Means Seed word seed = decimal_up_to most_seed word ≡ Some seed
+Means (Moves most) word moves = decimal_up_to most word ≡ Some moves
 
-abbrev order_option : Order → Given
-order_option order = (codes "order", order_word order)
+has_value : (kind : Kind) (options : List Given) (word : Text) (value : ValueOf kind) → Contains options (option_name kind, word) → Means kind word value → HasValue kind options value
+has_value Coordinates options word coords has means = inl (word, has, means)
+has_value PieceCoordinates options word coords has means = (inl (word, has, means.0), means.1)
+has_value RowOrder options word order has means = inl (word, has, means)
+has_value Limit options word most has means = inl (word, has, means)
+has_value Seed options word seed has means = (word, has, means)
+has_value (Moves most) options word moves has means = (word, has, means)
 
-abbrev limit_option : ℕ → Given
-limit_option most = (codes "max-entry", decimal most)
+-- a word that means this value
+abbrev Meant : (kind : Kind) → ValueOf kind → Type 0
+Meant kind value = (word : Text) × Means kind word value
 
-abbrev made_options : ℕ → ℕ → List Given
-made_options seed moves = (codes "seed", decimal seed) ∷ (codes "moves", decimal moves) ∷ []
+coords_meant : (coords : Coords) → Meant Coordinates coords
+coords_meant coords = (coords_word coords, coords_read coords)
 
-has_coords : (options : List Given) (coords : Coords) (k : ℕ) → nat_lt k (length options) ≡ true → slice_index_or options k (coords_option coords) ≡ coords_option coords → HasCoordinates options coords
-has_coords options coords k less e = inl (coords_word coords, placed options (coords_option coords) k less e, coords_read coords)
+pieces_meant : (coords : Coords) → coords ≢ Quad → Meant PieceCoordinates coords
+pieces_meant coords pieces = (coords_word coords, (coords_read coords, pieces))
 
-has_order : (options : List Given) (order : Order) (k : ℕ) → order ≢ orders.Free → nat_lt k (length options) ≡ true → slice_index_or options k (order_option order) ≡ order_option order → HasOrder options order
-has_order options order k named less e = inl (order_word order, placed options (order_option order) k less e, order_read order named)
+order_meant : (order : Order) → order ≢ orders.Free → Meant RowOrder order
+order_meant order named = (order_word order, order_read order named)
 
-has_limit : (options : List Given) (most k : ℕ) → 1 ≤ most → most ≤ limit → nat_lt k (length options) ≡ true → slice_index_or options k (limit_option most) ≡ limit_option most → HasLimit options most
-has_limit options most k some few less e = inl (decimal most, placed options (limit_option most) k less e, limit_read most some few)
+limit_meant : (most : ℕ) → 1 ≤ most → most ≤ limit → Meant Limit most
+limit_meant most some few = (decimal most, limit_read most some few)
 
--- the option of one name, with one name there
-one_known : (name : Text) → Contains (name ∷ []) name
-one_known name = placed (name ∷ []) name 0 refl refl
+seed_meant : (seed : ℕ) → seed ≤ most_seed → Meant Seed seed
+seed_meant seed few = (decimal seed, decimal_read most_seed seed refl few)
 
-made_known : (seed moves : ℕ) → AllByRecursion (λ (option : Given). Contains (codes "seed" ∷ codes "moves" ∷ []) option.0) (made_options seed moves)
-made_known seed moves = (placed (codes "seed" ∷ codes "moves" ∷ []) (codes "seed") 0 refl refl, (placed (codes "seed" ∷ codes "moves" ∷ []) (codes "moves") 1 refl refl, tt))
+moves_meant : (most moves : ℕ) → nat_lt most (10 ^ 45) ≡ true → moves ≤ most → Meant (Moves most) moves
+moves_meant most moves less few = (decimal moves, decimal_read most moves less few)
 
-has_seed : (seed moves : ℕ) → seed ≤ most_seed → IsGiven (codes "seed") (decimal_up_to most_seed) (made_options seed moves) seed
-has_seed seed moves few = (decimal seed, placed (made_options seed moves) (codes "seed", decimal seed) 0 refl refl, decimal_read most_seed seed refl few)
+-- ---- words for a request
 
-has_moves : (most seed moves : ℕ) → nat_lt most (10 ^ 45) ≡ true → moves ≤ most → IsGiven (codes "moves") (decimal_up_to most) (made_options seed moves) moves
-has_moves most seed moves less few = (decimal moves, placed (made_options seed moves) (codes "moves", decimal moves) 1 refl refl, decimal_read most moves less few)
+-- a value of each of these options, with a word that means it
+abbrev ValuesOf : List Kind → Type 0
+ValuesOf [] = ⊤
+ValuesOf (kind ∷ kinds) = (value : ValueOf kind) × Meant kind value × ValuesOf kinds
 
--- ---- words for each request
+abbrev options_for : (kinds : List Kind) → ValuesOf kinds → List Given
+options_for [] values = []
+options_for (kind ∷ kinds) values = (option_name kind, values.1.0) ∷ options_for kinds values.2
+
+abbrev request_for : (kinds : List Kind) → RequestBy kinds → ValuesOf kinds → Request
+request_for [] request values = request
+request_for (kind ∷ kinds) request values = request_for kinds (request values.0) values.2
+
+each_known : (kinds : List Kind) (values : ValuesOf kinds) (names : List Text) → ((name : Text) → Member name (map option_name kinds) → Member name names)
+    → AllByRecursion (λ (option : Given). Contains names option.0) (options_for kinds values)
+each_known [] values names among = tt
+each_known (kind ∷ kinds) values names among =
+    (contains_of names (option_name kind) (among (option_name kind) (inl refl)), each_known kinds values.2 names (λ name m. among name (inr m)))
+
+each_has : (kinds : List Kind) (request : RequestBy kinds) (values : ValuesOf kinds) (options : List Given) → ((option : Given) → Member option (options_for kinds values) → Member option options)
+    → HasValues kinds request options (request_for kinds request values)
+each_has [] request values options among = refl
+each_has (kind ∷ kinds) request values options among =
+    let option : Given = (option_name kind, values.1.0) in (
+      values.0,
+      has_value kind options values.1.0 values.0 (contains_of options option (among option (inl refl))) values.1.1,
+      each_has kinds (request values.0) values.2 options (λ other m. among other (inr m)),
+    )
+
+-- the command in this place
+abbrev command_at : ℕ → Command
+command_at k = slice_index_or commands k ([], ([], Info))
+
+module _ (k : ℕ) (less : nat_lt k (length commands) ≡ true) (same : slice_index_or commands k (command_at k) ≡ command_at k) where
+  abbrev takes : Takes
+  takes = (command_at k).1
+
+  asking : (values : ValuesOf takes.0) → are_apart (options_for takes.0 values) ≡ true → Words (request_for takes.0 takes.1 values)
+  asking values apart =
+      let options : List Given = options_for takes.0 values in (
+        (command_at k).0 ∷ joined (map in_one_word options),
+        record {
+          name = (command_at k).0;
+          kinds = takes.0;
+          request = takes.1;
+          command = placed commands (command_at k) k less same;
+          options = options;
+          known = All-from_recursion (λ (option : Given). Contains (option_names takes) option.0) options (each_known takes.0 values (option_names takes) (λ name m. m));
+          apart = pairs_of options (apart_by_test options apart);
+          spellings = map in_one_word options;
+          spelled = all_spelled options;
+          whole = refl;
+          values = each_has takes.0 takes.1 values options (λ option m. m);
+        },
+      )
 
 pub words_for : (r : Request) → HoldsRange r → HasShortSeed r → Words r
-words_for (Verify coords) range seed =
-    let options : List Given = coords_option coords ∷ [] in
-    asking (Verify coords) (codes "coords" ∷ []) options (placed commands _ 0 refl refl) (one_known (codes "coords"), tt) refl (has_coords options coords 0 refl refl)
+words_for (Verify coords) range seed = asking 0 refl refl (coords, coords_meant coords, tt) refl
+words_for Info range seed = asking 1 refl refl tt refl
 words_for (Surfaces coords order most) range seed =
-    let options : List Given = coords_option coords ∷ order_option order ∷ limit_option most ∷ [] in
-    let names : List Text = codes "coords" ∷ codes "order" ∷ codes "max-entry" ∷ [] in
-    asking (Surfaces coords order most) names options (placed commands (codes "surfaces", names) 2 refl refl)
-    (placed names (codes "coords") 0 refl refl, (placed names (codes "order") 1 refl refl, (placed names (codes "max-entry") 2 refl refl, tt))) refl
-    (has_coords options coords 0 refl refl, has_order options order 1 range.named refl refl, has_limit options most 2 range.some range.few refl refl)
-words_for (Rays order most) range seed =
-    let options : List Given = order_option order ∷ limit_option most ∷ [] in
-    let names : List Text = codes "order" ∷ codes "max-entry" ∷ [] in
-    asking (Rays order most) names options (placed commands (codes "rays", names) 3 refl refl)
-    (placed names (codes "order") 0 refl refl, (placed names (codes "max-entry") 1 refl refl, tt)) refl
-    (has_order options order 0 range.named refl refl, has_limit options most 1 range.some range.few refl refl)
-words_for (Describe coords) range seed =
-    let options : List Given = coords_option coords ∷ [] in
-    asking (Describe coords) (codes "coords" ∷ []) options (placed commands (codes "describe", codes "coords" ∷ []) 4 refl refl) (one_known (codes "coords"), tt) refl
-    (has_coords options coords 0 refl refl, range)
-words_for (Make seed moves) range short =
-    asking (Make seed moves) (codes "seed" ∷ codes "moves" ∷ []) (made_options seed moves) (placed commands (codes "make", codes "seed" ∷ codes "moves" ∷ []) 13 refl refl) (made_known seed moves) refl
-    (has_seed seed moves short, has_moves most_moves seed moves refl range)
-words_for (Bulk seed moves) range short =
-    asking (Bulk seed moves) (codes "seed" ∷ codes "moves" ∷ []) (made_options seed moves) (placed commands (codes "bulk", codes "seed" ∷ codes "moves" ∷ []) 14 refl refl) (made_known seed moves) refl
-    (has_seed seed moves short, has_moves most_bulk_moves seed moves refl range)
-words_for (Decompose coords most) range seed =
-    let options : List Given = coords_option coords ∷ limit_option most ∷ [] in
-    let names : List Text = codes "coords" ∷ codes "max-entry" ∷ [] in
-    asking (Decompose coords most) names options (placed commands (codes "decompose", names) 15 refl refl)
-    (placed names (codes "coords") 0 refl refl, (placed names (codes "max-entry") 1 refl refl, tt)) refl
-    (has_coords options coords 0 refl refl, has_limit options most 1 range.some range.few refl refl)
-words_for (Addup coords) range seed =
-    let options : List Given = coords_option coords ∷ [] in
-    asking (Addup coords) (codes "coords" ∷ []) options (placed commands (codes "addup", codes "coords" ∷ []) 16 refl refl) (one_known (codes "coords"), tt) refl (has_coords options coords 0 refl refl)
-words_for Info range seed = plain Info 1 refl refl tt
-words_for Lift range seed = plain Lift 5 refl refl tt
-words_for Crush range seed = plain Crush 6 refl refl tt
-words_for Play range seed = plain Play 7 refl refl tt
-words_for Sig range seed = plain Sig 8 refl refl tt
-words_for Same range seed = plain Same 9 refl refl tt
-words_for Group range seed = plain Group 10 refl refl tt
-words_for Check range seed = plain Check 11 refl refl tt
-words_for Descend range seed = plain Descend 12 refl refl tt
-words_for Cover range seed = plain Cover 17 refl refl tt
-words_for Pi1 range seed = plain Pi1 18 refl refl tt
-words_for Csig range seed = plain Csig 19 refl refl tt
-words_for Csame range seed = plain Csame 20 refl refl tt
+    asking 2 refl refl (coords, coords_meant coords, (order, order_meant order range.named, (most, limit_meant most range.some range.few, tt))) refl
+words_for (Rays order most) range seed = asking 3 refl refl (order, order_meant order range.named, (most, limit_meant most range.some range.few, tt)) refl
+words_for (Describe coords) range seed = asking 4 refl refl (coords, pieces_meant coords range, tt) refl
+words_for Lift range seed = asking 5 refl refl tt refl
+words_for Crush range seed = asking 6 refl refl tt refl
+words_for Play range seed = asking 7 refl refl tt refl
+words_for Sig range seed = asking 8 refl refl tt refl
+words_for Same range seed = asking 9 refl refl tt refl
+words_for Group range seed = asking 10 refl refl tt refl
+words_for Check range seed = asking 11 refl refl tt refl
+words_for Descend range seed = asking 12 refl refl tt refl
+words_for (Make seed moves) range short = asking 13 refl refl (seed, seed_meant seed short, (moves, moves_meant most_moves moves refl range, tt)) refl
+words_for (Bulk seed moves) range short = asking 14 refl refl (seed, seed_meant seed short, (moves, moves_meant most_bulk_moves moves refl range, tt)) refl
+words_for (Decompose coords most) range seed = asking 15 refl refl (coords, coords_meant coords, (most, limit_meant most range.some range.few, tt)) refl
+words_for (Addup coords) range seed = asking 16 refl refl (coords, coords_meant coords, tt) refl
+words_for Cover range seed = asking 17 refl refl tt refl
+words_for Pi1 range seed = asking 18 refl refl tt refl
+words_for Csig range seed = asking 19 refl refl tt refl
+words_for Csame range seed = asking 20 refl refl tt refl
 
 -- ---- what words spell is in range
 
-seed_within : (options : List Given) (seed : ℕ) → IsGiven (codes "seed") (decimal_up_to most_seed) options seed → seed ≤ most_seed
-seed_within options seed is = subst (λ (o : Option ℕ). Holds (λ n. n ≤ most_seed) o) is.2 (decimals_within most_seed is.0)
-
-short_seed : (r : Request) (options : List Given) → HasValues r options → HasShortSeed r
-short_seed (Make seed moves) options values = seed_within options seed values.0
-short_seed (Bulk seed moves) options values = seed_within options seed values.0
-short_seed _ options values = tt
+short_seed : (r : Request) → HoldsAll r → HasShortSeed r
+short_seed (Make seed moves) held = held.0
+short_seed (Bulk seed moves) held = held.0
+short_seed _ held = tt
 
 pub in_range : (r : Request) → Words r → HoldsRange r × HasShortSeed r
-in_range r asked = (accepted_in_range asked.0 r (spelled_accept r asked.0 asked.1), short_seed r (asked.1).options (asked.1).values)
+in_range r asked =
+    let held : HoldsAll r = subst (λ (o : Option Request). Holds HoldsAll o) (spelled_accept r asked.0 asked.1) (accepted_hold_all asked.0) in
+    (holds_range r held, short_seed r held)

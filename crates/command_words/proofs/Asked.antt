@@ -18,7 +18,8 @@ use Rattle.clap.specs.declared.parser.matches.ArgMatches.{ArgMatches}
 use Rattle.command_definitions.specs.declared.Request.{Request}
 use Rattle.command_definitions.specs.Options.{Given, options_of, value_of}
 use Rattle.command_definitions.specs.Values.{request_with, values_of, ◌>>=◌}
-use Rattle.command_definitions.specs.Words.{Command, command_named, commands, request_given, accepted_request}
+use Rattle.command_definitions.specs.Commands.{Command, commands, option_names}
+use Rattle.command_definitions.specs.Words.{request_given, accepted_request}
 use Rattle.plain_facts.proofs.Options.{some≢none}
 use Rattle.command_words.specs.Apps.{command_before, option_argument, program_with, request_in, values_in}
 use Rattle.command_words.specs.Requests.{FailsWords, parse_fault}
@@ -35,7 +36,7 @@ filled_options i [] = refl
 filled_options i (n ∷ ns) = ap (λ rs. option_rule n ∷ rs) (filled_options i ns)
 
 program_built : (c : Command) → built (program_with c) ≡ app (c ∷ [])
-program_built c = ap (λ (rs : List Rule). let a : App = record { top = top; subs = record (leaf c.0 c.1) { rules = rs } ∷ [] } in a) (filled_options 1 c.1)
+program_built c = ap (λ (rs : List Rule). let a : App = record { top = top; subs = record (leaf c.0 (option_names c.1)) { rules = rs } ∷ [] } in a) (filled_options 1 (option_names c.1))
 
 all_free : list_all (λ c. is_simple_and_free (program_with c)) commands ≡ true
 all_free = refl
@@ -94,32 +95,29 @@ values_same given = λ i. record {
   moves = first_value (codes "moves") given i;
 }
 
-given_same : (c : Command) (os : Option (List Given)) → request_in (option_map (λ given. (c.0, rows given)) os) ≡ (os >>= λ given. request_given c given)
+given_same : (c : Command) (os : Option (List Given)) → request_in c.1 (option_map (λ given. (c.0, rows given)) os) ≡ (os >>= λ given. request_given c given)
 given_same c None = refl
-given_same c (Some given) = ap (λ v. request_with c.0 v) (values_same given)
+given_same c (Some given) = ap (λ v. request_with c.1 v) (values_same given)
 
-pub asked_is : (words : List Text) → request_in (asked commands words) ≡ accepted_request words
-asked_is [] = refl
-asked_is (w ∷ ws) = go (command_named w)
-  where
-    go : (o : Option Command) → request_in (option_and_then (λ (c : Command). option_map (λ given. (c.0, rows given)) (options_of c.1 ws)) o)
-        ≡ (o >>= λ c. options_of c.1 ws >>= λ given. request_given c given)
-    go None = refl
-    go (Some c) = given_same c (options_of c.1 ws)
+asked_is : (words : List Text) (c : Command) → command_before words ≡ Some c → request_in c.1 (asked commands words) ≡ accepted_request words
+asked_is [] c named = absurd (some≢none c (sym named))
+asked_is (w ∷ ws) c named = ap (request_in c.1) (asks commands w ws c named) ∙ given_same c (options_of (option_names c.1) ws)
+    ∙ sym (ap (λ (o : Option Command). o >>= λ d. options_of (option_names d.1) ws >>= λ given. request_given d given) named)
 
 -- ---- answers
 
 pub ok_answers : (words : List Text) (c : Command) (m : ArgMatches) (a : App) → command_before words ≡ Some c → a ≡ program_with c → AreWords words → HasMatchesOf a words m → fault_of a words ≡ []
-    → request_in (subcommand_rows_of m) ≡ accepted_request words
+    → request_in c.1 (subcommand_rows_of m) ≡ accepted_request words
 ok_answers words c m a named is are has none =
     let matches = has (ap is_simple is ∙ program_simple words c named) in
     let faults : built_fault (app (c ∷ [])) nothing_held words ≡ [] = sym (program_faults c words) ∙ sym (ap (λ (x : App). fault_of x words) is) ∙ none in
     let enters = program_enters c words ∙ enters_asked (c ∷ []) words are faults ∙ asked_alone words c named in
-    ap request_in (matches.1 ∙ ap (λ (x : App). subcommand_of x words) is ∙ enters) ∙ asked_is words
+    ap (request_in c.1) (matches.1 ∙ ap (λ (x : App). subcommand_of x words) is ∙ enters) ∙ asked_is words c named
 
-asks_something : (words : List Text) (r : Request) → accepted_request words ≡ Some r → (o : Option (Text × List Row)) → asked commands words ≡ o → (p : Text × List Row) × (asked commands words ≡ Some p)
-asks_something words r some None e = absurd (some≢none r (sym some ∙ sym (asked_is words) ∙ ap request_in e))
-asks_something words r some (Some p) e = (p, e)
+asks_something : (words : List Text) (c : Command) (r : Request) → command_before words ≡ Some c → accepted_request words ≡ Some r → (o : Option (Text × List Row)) → asked commands words ≡ o
+    → (p : Text × List Row) × (asked commands words ≡ Some p)
+asks_something words c r named some None e = absurd (some≢none r (sym some ∙ sym (asked_is words c named) ∙ ap (request_in c.1) e))
+asks_something words c r named some (Some p) e = (p, e)
 
 pub err_answers : (words : List Text) (c : Command) (e : Error) (a : App) → command_before words ≡ Some c → a ≡ program_with c → AreWords words → HasKind (fault_of a words) e → (kind_of e ≡ OutOfMemory → ⊥) → accepted_request words ≡ None
 err_answers words c e a named is are kinds no_memory = go (accepted_request words) refl
@@ -130,7 +128,7 @@ err_answers words c e a named is are kinds no_memory = go (accepted_request word
     go : (o : Option Request) → accepted_request words ≡ o → o ≡ None
     go None same = refl
     go (Some r) same =
-        let p = asks_something words r same (asked commands words) refl in
+        let p = asks_something words c r named same (asked commands words) refl in
         let empty : HasKind [] e = subst (λ ks. HasKind ks e) (none p.0 p.1) kinds in
         elim empty [ inl m ↦ absurd (no_memory m) | inr never ↦ absurd never ]
 

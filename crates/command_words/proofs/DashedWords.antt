@@ -5,7 +5,8 @@ use Rattle.std.specs.Str.{bytes_eq}
 use Rattle.std.proofs.lemmas.Slice.Eq.{bytes_eq-Decides}
 use Rattle.clap.specs.Walk.{Text}
 use Rattle.command_definitions.specs.Options.{Given, Next, options_from, options_of, word_read}
-use Rattle.command_definitions.specs.Words.{Command, command_named, request_given, accepted_request}
+use Rattle.command_definitions.specs.Commands.{Command, option_names}
+use Rattle.command_definitions.specs.Words.{command_named, request_given, accepted_request}
 use Rattle.command_definitions.specs.Values.{◌>>=◌}
 use Rattle.command_words.proofs.NeverRead.{word_never}
 use Rattle.command_words.specs.Texts.{dashes, has_dashes}
@@ -32,6 +33,6 @@ dashes_ask_nothing (w ∷ ws) e = go (bytes_eq w dashes) refl e
     go true t e = ap (λ x. accepted_request (x ∷ ws)) ((bytes_eq-Decides w dashes).0 t)
     go false t e = named (command_named w)
       where
-        named : (o : Option Command) → (o >>= λ c. options_of c.1 ws >>= λ os. request_given c os) ≡ None
+        named : (o : Option Command) → (o >>= λ c. options_of (option_names c.1) ws >>= λ os. request_given c os) ≡ None
         named None = refl
-        named (Some c) = rw (never_read c.1 ws e [] None) refl
+        named (Some c) = rw (never_read (option_names c.1) ws e [] None) refl

@@ -14,7 +14,7 @@ use Rattle.clap.specs.Faults.{built_fault, entered_fault, defaults_fault, flags_
 use Rattle.clap.specs.declared.error.kind.ErrorKind.{ErrorKind}
 use Rattle.clap.specs.declared.error.kind.ErrorKind.TheVariants.{InvalidSubcommand, UnknownArgument}
 use Rattle.command_definitions.specs.Options.{Given, options_of}
-use Rattle.command_definitions.specs.Words.{Command}
+use Rattle.command_definitions.specs.Commands.{Command, option_names}
 use Rattle.plain_facts.proofs.Options.{some≢none}
 use Rattle.command_words.proofs.OptionRules.{rules_for, rows}
 use Rattle.command_words.specs.Texts.{dashes}
@@ -23,7 +23,7 @@ use Rattle.command_words.proofs.OptionWalk.{AreWords, found_for, leaf_gives}
 use Rattle.command_words.proofs.LeafFaults.{level_faults, rows_found}
 
 abbrev leaf_of : Command → Shape
-leaf_of c = leaf c.0 c.1
+leaf_of c = leaf c.0 (option_names c.1)
 
 abbrev pub top : Shape
 top = record (new_shape (codes "trinorm")) {
@@ -129,23 +129,23 @@ module _ (cs : List Command) where
       leaf_is : find (λ s. answers_to c.0 (label_of s)) (map leaf_of cs) ≡ Some (leaf_of c)
       leaf_is = leaf_met cs c.0 ∙ ap (λ t. option_map leaf_of (command_in cs t)) (found_name cs w c is) ∙ ap (option_map leaf_of) is
 
-      entered_is : entered app (Some (c.0, ws)) ≡ Some (c.0, rows_after (rules_for c.1) [] ws)
+      entered_is : entered app (Some (c.0, ws)) ≡ Some (c.0, rows_after (rules_for (option_names c.1)) [] ws)
       entered_is = ap (option_map (λ s. rows_at s ws)) leaf_is
 
       entered_faults : entered_fault app (Some (c.0, ws)) ≡ level_fault (leaf_of c) [] nothing_held ws false []
       entered_faults = rw leaf_is refl
 
       pub command_rows : option_and_then (λ (p : Text × List Text). entered app (Some p)) (walk [] names nothing_held (w ∷ ws)).stopped
-          ≡ Some (c.0, rows_after (rules_for c.1) [] ws)
+          ≡ Some (c.0, rows_after (rules_for (option_names c.1)) [] ws)
       command_rows = ap (λ (v : Walk). option_and_then (λ (p : Text × List Text). entered app (Some p)) v.stopped) walk_is ∙ entered_is
 
-      pub command_entered : entered app (walk [] names nothing_held (w ∷ ws)).stopped ≡ Some (c.0, rows_after (rules_for c.1) [] ws)
+      pub command_entered : entered app (walk [] names nothing_held (w ∷ ws)).stopped ≡ Some (c.0, rows_after (rules_for (option_names c.1)) [] ws)
       command_entered = ap (λ (v : Walk). entered app v.stopped) walk_is ∙ entered_is
 
-      pub command_faults : built_fault app nothing_held (w ∷ ws) ≡ fault_from c.0 c.1 (walk_of nothing_held idle) ws
+      pub command_faults : built_fault app nothing_held (w ∷ ws) ≡ fault_from c.0 (option_names c.1) (walk_of nothing_held idle) ws
       unfolding defaults_fault
       command_faults = rw (walk_passes, walk_is, entered_is)
-          (nothing_after (entered_fault app (Some (c.0, ws))) ∙ entered_faults ∙ level_faults c.0 c.1 ws)
+          (nothing_after (entered_fault app (Some (c.0, ws))) ∙ entered_faults ∙ level_faults c.0 (option_names c.1) ws)
 
     -- ---- no command
 
@@ -171,13 +171,13 @@ module _ (cs : List Command) where
   -- the command that words name, and what is found for its options
   abbrev pub asked : List Text → Option (Text × List Row)
   asked [] = None
-  asked (w ∷ ws) = option_and_then (λ (c : Command). option_map (λ os. (c.0, rows os)) (options_of c.1 ws)) (command_in cs w)
+  asked (w ∷ ws) = option_and_then (λ (c : Command). option_map (λ os. (c.0, rows os)) (options_of (option_names c.1) ws)) (command_in cs w)
 
-  pub asks : (w : Text) (ws : List Text) (c : Command) → command_in cs w ≡ Some c → asked (w ∷ ws) ≡ option_map (λ os. (c.0, rows os)) (options_of c.1 ws)
-  asks w ws c is = ap (option_and_then (λ (d : Command). option_map (λ os. (d.0, rows os)) (options_of d.1 ws))) is
+  pub asks : (w : Text) (ws : List Text) (c : Command) → command_in cs w ≡ Some c → asked (w ∷ ws) ≡ option_map (λ os. (c.0, rows os)) (options_of (option_names c.1) ws)
+  asks w ws c is = ap (option_and_then (λ (d : Command). option_map (λ os. (d.0, rows os)) (options_of (option_names d.1) ws))) is
 
   asks_none : (w : Text) (ws : List Text) → command_in cs w ≡ None → asked (w ∷ ws) ≡ None
-  asks_none w ws is = ap (option_and_then (λ (d : Command). option_map (λ os. (d.0, rows os)) (options_of d.1 ws))) is
+  asks_none w ws is = ap (option_and_then (λ (d : Command). option_map (λ os. (d.0, rows os)) (options_of (option_names d.1) ws))) is
 
   rows_asked : (name : Text) (faults : Kinds) (found : List Row) (os : Option (List Given)) → answer faults found ≡ found_for os → faults ≡ []
       → ◌≡◌ {A = Option (Text × List Row)} (Some (name, found)) (option_map (λ given. (name, rows given)) os)
@@ -199,8 +199,8 @@ module _ (cs : List Command) where
     where
       go : (o : Option Command) → command_in cs w ≡ o → entered app (walk [] names nothing_held (w ∷ ws)).stopped ≡ asked (w ∷ ws)
       go None is = absurd (unknown_command w ws a.0 a.1 is none)
-      go (Some c) is = command_entered w ws c is ∙ ap (λ rs. Some (c.0, rs)) (rows_found c.0 c.1 ws)
-          ∙ rows_asked c.0 (fault_from c.0 c.1 (walk_of nothing_held idle) ws) _ (options_of c.1 ws) (leaf_gives c.0 c.1 ws a.2) (sym (command_faults w ws c is) ∙ none)
+      go (Some c) is = command_entered w ws c is ∙ ap (λ rs. Some (c.0, rs)) (rows_found c.0 (option_names c.1) ws)
+          ∙ rows_asked c.0 (fault_from c.0 (option_names c.1) (walk_of nothing_held idle) ws) _ (options_of (option_names c.1) ws) (leaf_gives c.0 (option_names c.1) ws a.2) (sym (command_faults w ws c is) ∙ none)
           ∙ sym (asks w ws c is)
 
   -- where something is asked, nothing fails
@@ -211,4 +211,4 @@ module _ (cs : List Command) where
       go : (o : Option Command) → command_in cs w ≡ o → built_fault app nothing_held (w ∷ ws) ≡ []
       go None is = absurd (some≢none p (sym some ∙ asks_none w ws is))
       go (Some c) is = command_faults w ws c is
-          ∙ no_faults_asked c.0 (fault_from c.0 c.1 (walk_of nothing_held idle) ws) _ (options_of c.1 ws) p (leaf_gives c.0 c.1 ws a.2) (sym (asks w ws c is) ∙ some)
+          ∙ no_faults_asked c.0 (fault_from c.0 (option_names c.1) (walk_of nothing_held idle) ws) _ (options_of (option_names c.1) ws) p (leaf_gives c.0 (option_names c.1) ws a.2) (sym (asks w ws c is) ∙ some)

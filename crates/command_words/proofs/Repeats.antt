@@ -10,7 +10,8 @@ use Rattle.std.proofs.lemmas.List.{take-append-drop, append-nil}
 use Rattle.clap.proofs.CutLemmas.{Lacks, before_first-Lacks, before_first-at}
 use Rattle.clap.specs.Walk.{Text}
 use Rattle.command_definitions.specs.Options.{Given, is_equals_sign, is_hyphened, is_known, is_named, option_met, name_and_value, option_read, option_word, options_from, options_of, with_value, word_read}
-use Rattle.command_definitions.specs.Words.{Command, command_named, request_given, accepted_request}
+use Rattle.command_definitions.specs.Commands.{Command, option_names}
+use Rattle.command_definitions.specs.Words.{command_named, request_given, accepted_request}
 use Rattle.command_definitions.specs.Values.{◌>>=◌}
 use Rattle.command_words.proofs.NeverRead.{word_never}
 use Rattle.command_words.specs.Texts.{options, ends_option, is_naming, is_repeated, has_repeats}
@@ -148,9 +149,9 @@ after_command : (o name : Text) (w : Text) (ws : List Text) (b : Bool) → ((v :
 after_command o name w ws true reads none t few = rw (none t) refl
 after_command o name w ws false reads none t few = named (command_named w)
   where
-    named : (c : Option Command) → (c >>= λ c. options_of c.1 ws >>= λ os. request_given c os) ≡ None
+    named : (c : Option Command) → (c >>= λ c. options_of (option_names c.1) ws >>= λ os. request_given c os) ≡ None
     named None = refl
-    named (Some c) = rw (twice c.1 o name reads ws (omega arith) [] None) refl
+    named (Some c) = rw (twice (option_names c.1) o name reads ws (omega arith) [] None) refl
 
 no_command : (c : ℕ) (cs w : Text) → is_naming (45 ∷ 45 ∷ c ∷ cs) w ≡ true → command_named w ≡ None
 no_command c cs w e = ap command_named (spelled_so (45 ∷ 45 ∷ c ∷ cs) w e).1

@@ -1,13 +1,16 @@
 -- The command line as the parser is told it, and what is read of its matches.
 use Rattle.std.specs.Prelude.{true, if◌then◌else◌, List, [], ◌∷◌, map, Option, Some, None, codes}
 use Rattle.std.specs.Borrow.{Bor}
-use Rattle.clap.specs.Walk.{Row, Rule, Text, first_of, texts}
+use Rattle.clap.specs.Walk.{Row, Rule, Text, first_of}
 use Rattle.clap.specs.Simple.{App, Shape, new_rule, new_shape, with_subcommand}
 use Rattle.clap.specs.declared.builder.action.ArgAction.TheVariants.{Set}
 use Rattle.command_definitions.specs.declared.Request.{Request}
+use Rattle.command_definitions.specs.declared.Request.TheVariants.{Verify, Surfaces, Rays, Describe, Make, Bulk, Decompose, Addup}
+use Rattle.command_definitions.specs.Requests.{most_moves, most_bulk_moves}
+use Rattle.command_definitions.specs.Commands.{Command, Coordinates, PieceCoordinates, RowOrder, Limit, Seed, Moves, Takes, option_names}
 use Rattle.command_definitions.specs.Values.{Values, request_with}
 use Rattle.text_definitions.specs.Reading.{same_word}
-use Rattle.command_definitions.specs.Words.{Command, command_named}
+use Rattle.command_definitions.specs.Words.{command_named}
 
 -- the argument of an option
 abbrev pub option_argument : Text → Rule
@@ -31,14 +34,26 @@ bare_program = record {
 
 -- the program with one command alone
 abbrev pub program_with : Command → App
-program_with c = with_subcommand bare_program (subcommand_with c.0 c.1)
+program_with c = with_subcommand bare_program (subcommand_with c.0 (option_names c.1))
 
--- a command and the names of its options, as the code lists them
+-- what the command of a request takes, whatever the request holds
+abbrev pub takes_of : Request → Takes
+takes_of (Verify coords) = (Coordinates ∷ [], Verify)
+takes_of (Surfaces coords order most) = (Coordinates ∷ RowOrder ∷ Limit ∷ [], Surfaces)
+takes_of (Rays order most) = (RowOrder ∷ Limit ∷ [], Rays)
+takes_of (Describe coords) = (PieceCoordinates ∷ [], Describe)
+takes_of (Make seed moves) = (Seed ∷ Moves most_moves ∷ [], Make)
+takes_of (Bulk seed moves) = (Seed ∷ Moves most_bulk_moves ∷ [], Bulk)
+takes_of (Decompose coords most) = (Coordinates ∷ Limit ∷ [], Decompose)
+takes_of (Addup coords) = (Coordinates ∷ [], Addup)
+takes_of request = ([], request)
+
+-- a command as the code lists it: its name, and a request of it
 abbrev pub Listed : Type 0
-Listed = Bor Text × Bor (List (Bor Text))
+Listed = Bor Text × Request
 
 abbrev pub listed_command : Listed → Command
-listed_command row = (row.0.now, texts row.1.now)
+listed_command row = (row.0.now, takes_of row.1)
 
 -- the first of these commands that has this name
 abbrev pub command_among : Text → List Listed → Option Command
@@ -60,7 +75,7 @@ values_in found = record {
   moves = first_of (codes "moves") found;
 }
 
--- the request of the subcommand that was met, with what was found for its options
-abbrev pub request_in : Option (Text × List Row) → Option Request
-request_in None = None
-request_in (Some p) = request_with p.0 (values_in p.1)
+-- the request of a command that takes this, with what was found for its options, where it was met
+abbrev pub request_in : Takes → Option (Text × List Row) → Option Request
+request_in takes None = None
+request_in takes (Some p) = request_with takes (values_in p.1)

@@ -1,8 +1,6 @@
 -- What the words ask for, as the code has it.
-use Rattle.std.specs.Prelude.{◌≡◌, ℕ, if◌then◌else◌, List, [], ◌∷◌, Option, Some, None, Result, Ok, Err, ⊤}
-use Rattle.std.specs.Borrow.{Bor}
+use Rattle.std.specs.Prelude.{◌≡◌, Option, Some, None, Result, Ok, Err, ⊤}
 use Rattle.std.specs.Option.{option_map}
-use Rattle.text_definitions.specs.Reading.{same_word}
 use Rattle.command_definitions.specs.Values as values
 use Rattle.command_definitions.specs.declared.Request.{Request}
 use Rattle.clap.specs.declared.error.kind.ErrorKind.{ErrorKind}
@@ -20,11 +18,6 @@ texts_of v = record {
   seed = option_map (λ s. s.now) v.seed;
   moves = option_map (λ s. s.now) v.moves;
 }
-
--- the request beside the first of these words that is this one
-abbrev pub request_among : List ℕ → List (Bor (List ℕ) × Request) → Option Request
-request_among word [] = None
-request_among word (row ∷ rows) = if same_word word row.0.now then Some row.1 else request_among word rows
 
 -- words are answered as the definitions ask; of want of memory nothing is said
 abbrev pub FailsWords : WordsFault → Option Request → Type 0

@@ -4,35 +4,65 @@ ghost use Rattle.std.specs.Option.{option_map};
 ghost use Rattle.clap.specs.Walk.{rule_of, texts};
 ghost use Rattle.clap.specs.Simple.{app_of, shape_of, with_subcommand};
 ghost use Rattle.clap.specs.declared.builder.command.Command.TheViews.{out-Command};
-ghost use Rattle.command_words.specs.Apps.{bare_program, command_among, command_before, listed_command, option_argument, program_with, subcommand_with};
+ghost use Rattle.command_definitions.specs.Commands.{option_names};
+ghost use Rattle.command_words.specs.Apps.{bare_program, command_among, command_before, listed_command, option_argument, program_with, subcommand_with, takes_of};
 
 use clap::{Arg, ArgAction, Command};
+use command_definitions::Request;
+use cone_definitions::Order;
 use std::alloc::{AllocError, Global};
+use surface_definitions::Coords;
+use text_io::LIMIT;
 
-// Each command, with its options.
-static COMMANDS: [(&str, &[&str]); 21] = [
-    ("verify", &["coords"]),
-    ("info", &[]),
-    ("surfaces", &["coords", "order", "max-entry"]),
-    ("rays", &["order", "max-entry"]),
-    ("describe", &["coords"]),
-    ("lift", &[]),
-    ("crush", &[]),
-    ("play", &[]),
-    ("sig", &[]),
-    ("same", &[]),
-    ("group", &[]),
-    ("check", &[]),
-    ("descend", &[]),
-    ("make", &["seed", "moves"]),
-    ("bulk", &["seed", "moves"]),
-    ("decompose", &["coords", "max-entry"]),
-    ("addup", &["coords"]),
-    ("cover", &[]),
-    ("pi1", &[]),
-    ("csig", &[]),
-    ("csame", &[]),
+// Each command, with what it asks for where no option is given. Of one whose options have to be given that is any request.
+static COMMANDS: [(&str, Request); 21] = [
+    ("verify", Request::Verify(Coords::Standard)),
+    ("info", Request::Info),
+    (
+        "surfaces",
+        Request::Surfaces(Coords::Standard, Order::Given, LIMIT),
+    ),
+    ("rays", Request::Rays(Order::Given, LIMIT)),
+    ("describe", Request::Describe(Coords::Standard)),
+    ("lift", Request::Lift),
+    ("crush", Request::Crush),
+    ("play", Request::Play),
+    ("sig", Request::Sig),
+    ("same", Request::Same),
+    ("group", Request::Group),
+    ("check", Request::Check),
+    ("descend", Request::Descend),
+    ("make", Request::Make(0, 0)),
+    ("bulk", Request::Bulk(0, 0)),
+    ("decompose", Request::Decompose(Coords::Standard, LIMIT)),
+    ("addup", Request::Addup(Coords::Standard)),
+    ("cover", Request::Cover),
+    ("pi1", Request::Pi1),
+    ("csig", Request::Csig),
+    ("csame", Request::Csame),
 ];
+
+// Names of options that commands take together.
+const NONE: &[&str] = &[];
+const COORDS: &[&str] = &["coords"];
+const COORDS_ORDER_LIMIT: &[&str] = &["coords", "order", "max-entry"];
+const ORDER_LIMIT: &[&str] = &["order", "max-entry"];
+const COORDS_LIMIT: &[&str] = &["coords", "max-entry"];
+const SEED_MOVES: &[&str] = &["seed", "moves"];
+
+// The names of the options that a command takes.
+fn option_names(command: Request) -> &'static [&'static str]
+    ensures { texts result.now ≡ option_names (takes_of command) }
+{
+    match command {
+        Request::Verify(_) | Request::Describe(_) | Request::Addup(_) => COORDS,
+        Request::Surfaces(_, _, _) => COORDS_ORDER_LIMIT,
+        Request::Rays(_, _) => ORDER_LIMIT,
+        Request::Make(_, _) | Request::Bulk(_, _) => SEED_MOVES,
+        Request::Decompose(_, _) => COORDS_LIMIT,
+        _ => NONE,
+    }
+}
 
 // The argument of an option.
 fn option_argument<'a>(alloc: Global, name: &'a str) -> Arg<'a>
@@ -82,22 +112,19 @@ fn bare_program<'a>(alloc: Global) -> Command<'a>
 }
 
 // The command of this name among others.
-fn command_among(
-    name: &str,
-    rows: &[(&'static str, &'static [&'static str])],
-) -> Option<(&'static str, &'static [&'static str])>
+fn command_among(name: &str, rows: &[(&'static str, Request)]) -> Option<(&'static str, Request)>
     ensures { option_map listed_command result ≡ command_among name.now rows.now }
 {
-    for (word, options) in rows {
+    for (word, command) in rows {
         if *word == name {
-            return Some((*word, *options));
+            return Some((*word, *command));
         }
     }
     None
 }
 
-/// The command that words begin with, and the names of its options.
-pub fn command_before(words: &[&str]) -> Option<(&'static str, &'static [&'static str])>
+/// The command that words begin with: its name, and a request of it.
+pub fn command_before(words: &[&str]) -> Option<(&'static str, Request)>
     ensures { option_map listed_command result ≡ command_before (texts words.now) }
 {
     let name = words.first()?;
@@ -108,9 +135,9 @@ pub fn command_before(words: &[&str]) -> Option<(&'static str, &'static [&'stati
 pub fn program_with<'a>(
     alloc: Global,
     name: &'static str,
-    options: &'static [&'static str],
+    command: Request,
 ) -> Result<Command<'a>, AllocError>
-    ensures { IfOk result (λ c. app_of c ≡ program_with (name.entry.now, texts options.entry.now)) }
+    ensures { IfOk result (λ c. app_of c ≡ program_with (name.entry.now, takes_of command)) }
 {
-    add(alloc, bare_program(alloc), name, options)
+    add(alloc, bare_program(alloc), name, option_names(command))
 }

@@ -8,7 +8,7 @@ ghost use Rattle.clap.specs.Simple.{subcommand_rows_of};
 ghost use Rattle.clap.specs.Walk.{rows_of, texts};
 ghost use Rattle.command_definitions.specs.Requests.{HoldsRange};
 ghost use Rattle.command_definitions.specs.Words.{accepted_request};
-ghost use Rattle.command_words.specs.Apps.{request_in, values_in};
+ghost use Rattle.command_words.specs.Apps.{request_in, takes_of, values_in};
 ghost use Rattle.command_words.specs.Requests.{parse_fault, texts_of, AnswersWords};
 ghost use Rattle.command_words.specs.Texts.{AreTexts, has_dashes, ends_option, is_naming, is_repeated, has_repeats};
 
@@ -34,21 +34,21 @@ fn values_in<'a>(matches: &ArgMatches<'a>) -> Values<'a>
     }
 }
 
-// The request of the command that was met.
-fn request_in(matches: &ArgMatches<'_>) -> Option<Request>
-    ensures { result ≡ request_in (subcommand_rows_of matches.now) }
+// The request of the command, where it was met.
+fn request_in(command: Request, matches: &ArgMatches<'_>) -> Option<Request>
+    ensures { result ≡ request_in (takes_of command) (subcommand_rows_of matches.now) }
 {
     match matches.subcommand() {
-        Some((name, found)) => request_with(name, &values_in(found)),
+        Some((_, found)) => request_with(command, &values_in(found)),
         None => None,
     }
 }
 
 // The same, where no request is a fault.
-fn request_or_usage(matches: &ArgMatches<'_>) -> Result<Request, WordsFault>
-    ensures { AnswersWords result (request_in (subcommand_rows_of matches.now)) }
+fn request_or_usage(command: Request, matches: &ArgMatches<'_>) -> Result<Request, WordsFault>
+    ensures { AnswersWords result (request_in (takes_of command) (subcommand_rows_of matches.now)) }
 {
-    match request_in(matches) {
+    match request_in(command, matches) {
         Some(request) => Ok(request),
         None => Err(WordsFault::Usage),
     }
@@ -134,12 +134,12 @@ fn parse(alloc: Global, words: &[&str]) -> Result<Request, WordsFault>
     requires no_dashes { has_dashes (texts words.now) ≡ false }
     ensures { AnswersWords result (accepted_request (texts words.now)) }
 {
-    let Some((name, options)) = command_before(words) else {
+    let Some((name, command)) = command_before(words) else {
         return Err(WordsFault::Usage);
     };
-    let program = program_with(alloc, name, options)?;
+    let program = program_with(alloc, name, command)?;
     match program.try_get_matches_from(words) {
-        Ok(matches) => request_or_usage(&matches),
+        Ok(matches) => request_or_usage(command, &matches),
         Err(error) => Err(fault_of(&error)),
     }
 }

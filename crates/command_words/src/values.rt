@@ -1,9 +1,10 @@
 // The values of options, and the request of a command with such values.
-ghost use Rattle.std.specs.Prelude.{◌≡◌, ◌<◌};
-ghost use Rattle.std.specs.Option.{option_map};
+ghost use Rattle.std.specs.Prelude.{◌≡◌, ◌<◌, [], ◌∷◌};
+ghost use Rattle.command_definitions.specs.Commands.{Coordinates, PieceCoordinates, RowOrder, Limit, Seed, Moves};
 ghost use Rattle.command_definitions.specs.Requests.{most_moves, most_bulk_moves};
 ghost use Rattle.command_definitions.specs.Values as spec;
-ghost use Rattle.command_words.specs.Requests.{texts_of, request_among};
+ghost use Rattle.command_words.specs.Apps.{takes_of};
+ghost use Rattle.command_words.specs.Requests.{texts_of};
 
 use command_definitions::Request;
 use cone_definitions::Order;
@@ -145,7 +146,7 @@ fn moves_in(values: &Values<'_>, most: u32) -> Option<u32>
 }
 
 fn surfaces_with(values: &Values<'_>) -> Option<Request>
-    ensures { result ≡ spec.surfaces_with (texts_of values.now) }
+    ensures { result ≡ spec.request_by (Coordinates ∷ RowOrder ∷ Limit ∷ []) Request.Surfaces (texts_of values.now) }
 {
     let coords = coords_in(values)?;
     let order = order_in(values)?;
@@ -154,7 +155,7 @@ fn surfaces_with(values: &Values<'_>) -> Option<Request>
 }
 
 fn rays_with(values: &Values<'_>) -> Option<Request>
-    ensures { result ≡ spec.rays_with (texts_of values.now) }
+    ensures { result ≡ spec.request_by (RowOrder ∷ Limit ∷ []) Request.Rays (texts_of values.now) }
 {
     let order = order_in(values)?;
     let limit = limit_in(values)?;
@@ -162,7 +163,7 @@ fn rays_with(values: &Values<'_>) -> Option<Request>
 }
 
 fn make_with(values: &Values<'_>) -> Option<Request>
-    ensures { result ≡ spec.made_with Request.Make most_moves (texts_of values.now) }
+    ensures { result ≡ spec.request_by (Seed ∷ Moves most_moves ∷ []) Request.Make (texts_of values.now) }
 {
     let seed = seed_in(values)?;
     let moves = moves_in(values, 1_000)?;
@@ -170,7 +171,7 @@ fn make_with(values: &Values<'_>) -> Option<Request>
 }
 
 fn bulk_with(values: &Values<'_>) -> Option<Request>
-    ensures { result ≡ spec.made_with Request.Bulk most_bulk_moves (texts_of values.now) }
+    ensures { result ≡ spec.request_by (Seed ∷ Moves most_bulk_moves ∷ []) Request.Bulk (texts_of values.now) }
 {
     let seed = seed_in(values)?;
     let moves = moves_in(values, 5)?;
@@ -178,21 +179,21 @@ fn bulk_with(values: &Values<'_>) -> Option<Request>
 }
 
 fn verify_with(values: &Values<'_>) -> Option<Request>
-    ensures { result ≡ option_map Request.Verify (spec.coordinates_in (texts_of values.now)) }
+    ensures { result ≡ spec.request_by (Coordinates ∷ []) Request.Verify (texts_of values.now) }
 {
     let coords = coords_in(values)?;
     Some(Request::Verify(coords))
 }
 
 fn describe_with(values: &Values<'_>) -> Option<Request>
-    ensures { result ≡ option_map Request.Describe (spec.piece_coordinates_in (texts_of values.now)) }
+    ensures { result ≡ spec.request_by (PieceCoordinates ∷ []) Request.Describe (texts_of values.now) }
 {
     let coords = piece_coords_in(values)?;
     Some(Request::Describe(coords))
 }
 
 fn decompose_with(values: &Values<'_>) -> Option<Request>
-    ensures { result ≡ spec.decompose_with (texts_of values.now) }
+    ensures { result ≡ spec.request_by (Coordinates ∷ Limit ∷ []) Request.Decompose (texts_of values.now) }
 {
     let coords = coords_in(values)?;
     let limit = limit_in(values)?;
@@ -200,75 +201,25 @@ fn decompose_with(values: &Values<'_>) -> Option<Request>
 }
 
 fn addup_with(values: &Values<'_>) -> Option<Request>
-    ensures { result ≡ option_map Request.Addup (spec.coordinates_in (texts_of values.now)) }
+    ensures { result ≡ spec.request_by (Coordinates ∷ []) Request.Addup (texts_of values.now) }
 {
     let coords = coords_in(values)?;
     Some(Request::Addup(coords))
 }
 
-// Each command without options, with its request.
-static PLAIN: [(&str, Request); 13] = [
-    ("info", Request::Info),
-    ("lift", Request::Lift),
-    ("crush", Request::Crush),
-    ("play", Request::Play),
-    ("sig", Request::Sig),
-    ("same", Request::Same),
-    ("group", Request::Group),
-    ("check", Request::Check),
-    ("descend", Request::Descend),
-    ("cover", Request::Cover),
-    ("pi1", Request::Pi1),
-    ("csig", Request::Csig),
-    ("csame", Request::Csame),
-];
-
-// The request beside this name among others.
-fn request_among(name: &str, rows: &[(&str, Request)]) -> Option<Request>
-    ensures { result ≡ request_among name.now rows.now }
+/// The request of a command, of which one is given, with these values, where each value is one that its option takes.
+pub fn request_with(command: Request, values: &Values<'_>) -> Option<Request>
+    ensures { result ≡ spec.request_with (takes_of command) (texts_of values.now) }
 {
-    for (word, request) in rows {
-        if name == *word {
-            return Some(*request);
-        }
+    match command {
+        Request::Verify(_) => verify_with(values),
+        Request::Surfaces(_, _, _) => surfaces_with(values),
+        Request::Rays(_, _) => rays_with(values),
+        Request::Describe(_) => describe_with(values),
+        Request::Make(_, _) => make_with(values),
+        Request::Bulk(_, _) => bulk_with(values),
+        Request::Decompose(_, _) => decompose_with(values),
+        Request::Addup(_) => addup_with(values),
+        plain => Some(plain),
     }
-    None
-}
-
-// The request of a command without options.
-fn plain_request(name: &str) -> Option<Request>
-    ensures { result ≡ spec.plain_request name.now }
-{
-    request_among(name, &PLAIN)
-}
-
-/// The request of a command with these values, where each value is one that its option takes.
-pub fn request_with(name: &str, values: &Values<'_>) -> Option<Request>
-    ensures { result ≡ spec.request_with name.now (texts_of values.now) }
-{
-    if name == "verify" {
-        return verify_with(values);
-    }
-    if name == "surfaces" {
-        return surfaces_with(values);
-    }
-    if name == "rays" {
-        return rays_with(values);
-    }
-    if name == "describe" {
-        return describe_with(values);
-    }
-    if name == "make" {
-        return make_with(values);
-    }
-    if name == "bulk" {
-        return bulk_with(values);
-    }
-    if name == "decompose" {
-        return decompose_with(values);
-    }
-    if name == "addup" {
-        return addup_with(values);
-    }
-    plain_request(name)
 }

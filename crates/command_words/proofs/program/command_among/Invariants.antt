@@ -1,6 +1,6 @@
 -- What is left decides.
 use Rattle.std.proofs.Common.{◌≡◌, drop, Option}
-use Rattle.command_definitions.specs.Words.{Command}
+use Rattle.command_definitions.specs.Commands.{Command}
 use Rattle.command_words.specs.Apps.{command_among}
 use Rattle.command_words.proofs.program.command_among.Given as goal
 

@@ -3,7 +3,8 @@ use Rattle.clap.specs.Values.{kind_of}
 use Rattle.clap.specs.Walk.{texts}
 use Rattle.clap.specs.Simple.{app_of}
 use Rattle.clap.specs.Faults.{is_simple_and_free}
-use Rattle.command_definitions.specs.Words.{Command, accepted_request}
+use Rattle.command_definitions.specs.Commands.{Command}
+use Rattle.command_definitions.specs.Words.{accepted_request}
 use Rattle.command_words.specs.Apps.{command_before, listed_command}
 use Rattle.command_words.specs.Requests.{AnswersWords, FailsWords}
 use Rattle.command_words.proofs.Asked.{ok_answers, err_answers, fault_answers, program_free}
@@ -13,7 +14,7 @@ use Rattle.command_words.proofs.reader.parse.Goals as goal
 pub returns-in-Ok : goal.returns-in-Ok
 returns-in-Ok c =
     let words = texts c.args.words.now in
-    let command : Command = listed_command (c.in-Some.name, c.in-Some.options) in
+    let command : Command = listed_command (c.in-Some.name, c.in-Some.command) in
     let named : command_before words ≡ Some command = sym c.in-Some.ensures in
     let is = c.in_ok-program.ensures in
     let are = are_words words c.requires.no_dashes c.requires.utf8 in
@@ -23,7 +24,7 @@ returns-in-Ok c =
 pub returns-in-Err : goal.returns-in-Err
 returns-in-Err c =
     let words = texts c.args.words.now in
-    let command : Command = listed_command (c.in-Some.name, c.in-Some.options) in
+    let command : Command = listed_command (c.in-Some.name, c.in-Some.command) in
     let named : command_before words ≡ Some command = sym c.in-Some.ensures in
     let is = c.in_ok-program.ensures in
     let are = are_words words c.requires.no_dashes c.requires.utf8 in
