@@ -5,7 +5,7 @@ ghost use Rattle.cone_definitions.specs.Listings.{IsListed};
 ghost use Rattle.cone_definitions.specs.Surfaces.{IsSurfaceList};
 ghost use Rattle.bounded_list.specs.Lists.{enumeration_of, AreAlwaysWithin, IsOnlyListing, AreRefused};
 
-use cone_core::{MAX_ENTRY, Ray, System};
+use cone_arithmetic::{MAX_ENTRY, Ray, System};
 use double_description::{EnumFault, NamedOrder, Picker, Rays, choice, eliminate};
 use late_columns::vertex_surfaces;
 use no_memory::NoMemory;

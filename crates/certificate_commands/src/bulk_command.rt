@@ -6,7 +6,7 @@ ghost use Rattle.outcome_definitions.specs.Makings.{IsSummary, IsBulkAnswer};
 
 use crate::summaries::{Numbers, summary_outcome};
 use command_answers::Outcome;
-use cone_core::MAX_ENTRY;
+use cone_arithmetic::MAX_ENTRY;
 use double_description::NamedOrder;
 use gluing_table::Table;
 use matching_equations::Coords;

@@ -6,7 +6,7 @@ ghost use Rattle.outcome_definitions.specs.Makings.{IsGreatestEntry, summary_tex
 ghost use Rattle.certificate_commands.specs.Entries.{IsGreatestOf};
 
 use command_answers::{Outcome, append_number_line};
-use cone_core::Ray;
+use cone_arithmetic::Ray;
 use no_memory::NoMemory;
 use outcome_definitions::Status;
 use std::alloc::Global;

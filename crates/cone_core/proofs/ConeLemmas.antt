@@ -16,7 +16,7 @@ use Rattle.text_definitions.specs.Reading.{end_line_at, exactly_at, same_word, R
 use Rattle.text_definitions.proofs.Readers.{bind_ok}
 use Rattle.cone_text_definitions.specs.ConeText.{Cone, is_zero, sparse, coefficients_at, cone_row_at, cone_rows_at, rows_of_cone_at, cone_at}
 use Rattle.cone_definitions.specs.Rows.{Row}
-use Rattle.cone_core.specs.Sparse.{IsSparse, IsInRange}
+use Rattle.cone_arithmetic.specs.Sparse.{IsSparse, IsInRange}
 use Rattle.cone_core.specs.ConeReads.{FailsHere, GivesCone, entries_of, sparse_row_at}
 
 -- a number is at most the greatest one that is read

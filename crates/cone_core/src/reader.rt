@@ -1,12 +1,11 @@
 // Cones in text: `cone C R`, and R lines of C coefficients, or no line where C is 0.
 
 ghost use Rattle.std.specs.Prelude.{◌≡◌, ◌<◌, IfOk, OnOk, ◌++◌, replicate, []};
-ghost use Rattle.cone_core.specs.Sparse.{IsInRange};
+ghost use Rattle.cone_arithmetic.specs.Sparse.{IsInRange};
 ghost use Rattle.cone_core.specs.ConeReads.{GivesHere, GivesCone, sparse_row_at, entries_of, sparse_entries_at, sparse_rows_at};
 ghost use Rattle.cone_text_definitions.specs.ConeText.{cone_at};
 
-use crate::row::{MAX_COEFFICIENT, SparseRow};
-use crate::system::System;
+use cone_arithmetic::{MAX_COEFFICIENT, SparseRow, System};
 use no_memory::NoMemory;
 use smallvec::SmallVec;
 use std::alloc::{AllocFailed, Global};
@@ -79,7 +78,7 @@ fn read_entries(alloc: Global, lexer: &mut Lexer<'_>, columns: u32) -> Result<Sp
         let coefficient = lexer.signed(MAX_COEFFICIENT)?;
         push_coefficient(&mut entries, column, coefficient)?;
     }
-    Ok(SparseRow { entries })
+    Ok(SparseRow::of(entries))
 }
 
 /// A line of so many coefficients.

@@ -3,7 +3,7 @@ ghost use Rattle.std.specs.Prelude.{◌≡◌, IfOk};
 ghost use Rattle.outcome_definitions.specs.Enumerations.{list_outcome};
 
 use command_answers::Outcome;
-use cone_core::Ray;
+use cone_arithmetic::Ray;
 use no_memory::NoMemory;
 use outcome_definitions::Status;
 use std::alloc::Global;

@@ -9,7 +9,8 @@ ghost use Rattle.enumeration_commands.specs.Cones.{GivesConeDocument};
 
 use crate::enumerations::list_outcome;
 use command_answers::{Outcome, end_document, fault_outcome};
-use cone_core::{ConeFault, MAX_ENTRY, System, read_cone};
+use cone_arithmetic::{MAX_ENTRY, System};
+use cone_core::{ConeFault, read_cone};
 use double_description::{NamedOrder, Order};
 use gluing_table::TextFault;
 use no_memory::{Failure, NoMemory};

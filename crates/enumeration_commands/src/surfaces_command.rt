@@ -7,7 +7,7 @@ ghost use Rattle.outcome_definitions.specs.Enumerations.{IsSurfacesAnswer};
 
 use crate::enumerations::list_outcome;
 use command_answers::{Outcome, fault_outcome, read_table_document};
-use cone_core::MAX_ENTRY;
+use cone_arithmetic::MAX_ENTRY;
 use double_description::{NamedOrder, Order};
 use gluing_table::Table;
 use matching_equations::Coords;

@@ -10,7 +10,7 @@ ghost use Rattle.surface_vector_definitions.specs.Answers.{verdict_in};
 ghost use Rattle.outcome_definitions.specs.Answers.{IsVerdictsAnswer};
 
 use command_answers::{Outcome, answer_read, append_checked, read_table_and_vectors};
-use cone_core::System;
+use cone_arithmetic::System;
 use gluing_table::Table;
 use matching_equations::{Coords, equations_of_table};
 use no_memory::NoMemory;

@@ -1,6 +1,6 @@
 -- What it tells that no list is found: the next row's step, at late rays of the rows before, has a number past the greatest entry.
 use Rattle.std.specs.Prelude.{◌≡◌, ℕ, ◌⊎◌, List, ◌∷◌, ◌++◌, Bool}
-use Rattle.cone_core.specs.declared.numbers.TheConstants.{MAX_ENTRY}
+use Rattle.cone_arithmetic.specs.declared.numbers.TheConstants.{MAX_ENTRY}
 use Rattle.cone_definitions.specs.Rows.{Row}
 use Rattle.cone_definitions.specs.Elimination.{Named}
 use Rattle.ray_steps.specs.Clashes.{ClashData}

@@ -1,7 +1,7 @@
 // The elimination of a row all of whose columns are seen.
 
 ghost use Rattle.std.specs.Prelude.{◌∷◌, [], ◌++◌, List, IfOk, IfErr};
-ghost use Rattle.cone_core.specs.Sparse.{IsInRange};
+ghost use Rattle.cone_arithmetic.specs.Sparse.{IsInRange};
 ghost use Rattle.cone_definitions.specs.Rows.{Row};
 ghost use Rattle.cone_definitions.specs.Unordered.{HasSurfaces};
 ghost use Rattle.ray_steps.specs.Faults.{IfLarge};
@@ -9,7 +9,7 @@ ghost use Rattle.ray_steps.specs.Rays.{rays_of};
 ghost use Rattle.ray_steps.specs.Steps.{AreStepRays};
 ghost use Rattle.late_columns.specs.Passing.{PassesAt};
 
-use cone_core::{MAX_ENTRY, SparseRow};
+use cone_arithmetic::{MAX_ENTRY, SparseRow};
 use ray_steps::{Clashes, Compatible, RayWithSupport, Step, StepFault};
 use std::alloc::Global;
 

@@ -1,7 +1,7 @@
 // All steps, in the order of the rows.
 
 ghost use Rattle.std.specs.Prelude.{◌≡◌, ℕ, List, IfOk, IfErr, IfSome, IfNone};
-ghost use Rattle.cone_core.specs.Sparse.{IsInRange};
+ghost use Rattle.cone_arithmetic.specs.Sparse.{IsInRange};
 ghost use Rattle.cone_definitions.specs.Rows.{Row};
 ghost use Rattle.cone_definitions.specs.Surfaces.{Clash, IsSurfaceList};
 ghost use Rattle.cone_definitions.specs.Unordered.{HasSurfaces};
@@ -15,7 +15,7 @@ use crate::elimination::next_rays;
 use crate::entering::{LateRays, enter_all, enter_others, enter_row, none_seen};
 use crate::fresh::{Fresh, free_column};
 use crate::raising::raised_rays;
-use cone_core::{Ray, SparseRow, System};
+use cone_arithmetic::{Ray, SparseRow, System};
 use no_memory::NoMemory;
 use ray_steps::{Clashes, Compatible, RayWithSupport, StepFault, sort_rays, without_supports};
 use std::alloc::Global;

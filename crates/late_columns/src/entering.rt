@@ -1,12 +1,12 @@
 // Columns that enter: the unit vector of a column joins the rays when a row first has it.
 
 ghost use Rattle.std.specs.Prelude.{◌≡◌, ℕ, ◌<◌, true, [], List, length, slice_set, slice_index_or, IfOk, OnOk};
-ghost use Rattle.cone_core.specs.Sparse.{IsInRange};
+ghost use Rattle.cone_arithmetic.specs.Sparse.{IsInRange};
 ghost use Rattle.cone_definitions.specs.Surfaces.{Clash};
 ghost use Rattle.late_columns.specs.Late.{IsUnseen, AreLate, AreSeen, HaveEntered};
 ghost use Rattle.late_columns.specs.Fresh.{IsLone};
 
-use cone_core::SparseRow;
+use cone_arithmetic::SparseRow;
 use no_memory::NoMemory;
 use ray_steps::RayWithSupport;
 use std::alloc::Global;

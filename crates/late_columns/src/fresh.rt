@@ -1,11 +1,11 @@
 // Columns of rows that aren't seen, with the coefficient 1 or -1, and clashing with none.
 
 ghost use Rattle.std.specs.Prelude.{◌≡◌, ◌<◌, length, IsTrue, IfOk, IfSome};
-ghost use Rattle.cone_core.specs.Sparse.{IsInRange};
+ghost use Rattle.cone_arithmetic.specs.Sparse.{IsInRange};
 ghost use Rattle.late_columns.specs.Late.{IsUnseen};
 ghost use Rattle.late_columns.specs.Fresh.{HasOne, IsFree, IsFreeColumn};
 
-use cone_core::{MAX_ENTRY, PackedRay, PlusMinus, SparseRow};
+use cone_arithmetic::{MAX_ENTRY, PackedRay, PlusMinus, SparseRow};
 use no_memory::NoMemory;
 use std::alloc::Global;
 

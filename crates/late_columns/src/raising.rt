@@ -2,7 +2,7 @@
 
 ghost use Rattle.std.specs.Prelude.{◌≡◌, ◌<◌, ◌≤◌, List, length, slice_set, IfOk, IfErr, OnOk};
 ghost use Rattle.std.specs.List.{All};
-ghost use Rattle.cone_core.specs.Sparse.{IsInRange};
+ghost use Rattle.cone_arithmetic.specs.Sparse.{IsInRange};
 ghost use Rattle.cone_definitions.specs.Surfaces.{Clash};
 ghost use Rattle.ray_steps.specs.Faults.{IfLarge, IsFirstLargeValue};
 ghost use Rattle.ray_steps.specs.Rays.{rays_of};
@@ -13,7 +13,7 @@ ghost use Rattle.late_columns.specs.Passing.{PassesAt};
 ghost use Rattle.late_columns.specs.Raised.{HasRoom, AppendsRaised, IsRaisedFrom, AreRaised};
 
 use crate::fresh::Fresh;
-use cone_core::{MAX_ENTRY, SparseRow};
+use cone_arithmetic::{MAX_ENTRY, SparseRow};
 use no_memory::NoMemory;
 use ray_steps::{Clashes, Compatible, RayWithSupport, Sign, Step, StepFault};
 use std::alloc::Global;

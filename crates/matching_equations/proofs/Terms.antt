@@ -9,7 +9,7 @@ use Rattle.std.proofs.lemmas.List.Elements.{All-cons}
 use Rattle.std.proofs.lemmas.List.Kept.{AllPairs-cons}
 use Rattle.table_definitions.specs.Lists.{below, times_in}
 use Rattle.surface_definitions.specs.Equations.{Equation, coefficient, term_of, row_of}
-use Rattle.cone_core.specs.Sparse.{IsSparse, IsInRange}
+use Rattle.cone_arithmetic.specs.Sparse.{IsSparse, IsInRange}
 use Rattle.std.specs.Prelude.{Result, Ok, Err, IfOk}
 use Rattle.no_memory.specs.declared.NoMemory.{NoMemory}
 use Rattle.surface_coordinate_laws.proofs.Ranges.{quiet, filter_map-more}

@@ -3,9 +3,9 @@
 ghost use Rattle.std.specs.Prelude.{◌≡◌, ℕ, ◌+◌, ◌<◌, ◌≤◌, ◌++◌, length, slice_index, option_to_list, IfOk, OnOk};
 ghost use Rattle.table_definitions.specs.Lists as lists;
 ghost use Rattle.surface_definitions.specs.Equations as equations;
-ghost use Rattle.cone_core.specs.Sparse.{IsInRange};
+ghost use Rattle.cone_arithmetic.specs.Sparse.{IsInRange};
 
-use cone_core::SparseRow;
+use cone_arithmetic::SparseRow;
 use no_memory::NoMemory;
 use smallvec::SmallVec;
 use std::alloc::Global;

@@ -9,7 +9,7 @@ ghost use Rattle.table_definitions.specs.Table.{max_tets, IsTable};
 ghost use Rattle.matching_equations.specs.Matching.{glued_rows, face_rows, tet_rows};
 
 use crate::equation::row_of;
-use cone_core::System;
+use cone_arithmetic::System;
 use gluing_table::{Face, Glue, Table};
 use no_memory::NoMemory;
 use normal_discs::{DiscCoords, arc_columns, columns};

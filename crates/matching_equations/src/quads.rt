@@ -10,7 +10,7 @@ ghost use Rattle.skeleton_class_laws.specs.CornersIn.{AreCornersIn};
 ghost use Rattle.matching_equations.specs.Quads.{IsRowAppended};
 
 use crate::equation::row_of;
-use cone_core::System;
+use cone_arithmetic::System;
 use no_memory::NoMemory;
 use normal_discs::{columns, keeping, quad_column};
 use skeleton::{Corner, Skeleton};

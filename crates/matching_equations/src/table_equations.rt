@@ -6,7 +6,7 @@ ghost use Rattle.surface_definitions.specs.QuadEquations.{AreEquations};
 
 use crate::matching::matching_system;
 use crate::quads::quad_system;
-use cone_core::System;
+use cone_arithmetic::System;
 use gluing_table::Table;
 use no_memory::NoMemory;
 use normal_discs::DiscCoords;

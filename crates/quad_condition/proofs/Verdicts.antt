@@ -5,9 +5,9 @@ use Rattle.std.specs.Prelude.{Err}
 use Rattle.cone_definitions.specs.Met.{IsMet}
 use Rattle.surface_definitions.specs.Verdict.{both_nonzero, clash_verdict, verdict}
 use Rattle.surface_definitions.specs.declared.VectorFault.TheVariants.{Length}
-use Rattle.cone_core.specs.Faults.{SolutionFails}
-use Rattle.cone_core.specs.declared.system.SolutionFault.{SolutionFault}
-use Rattle.cone_core.specs.declared.system.SolutionFault.TheVariants.{Passed, NotZero}
+use Rattle.cone_arithmetic.specs.Faults.{SolutionFails}
+use Rattle.cone_arithmetic.specs.declared.system.SolutionFault.{SolutionFault}
+use Rattle.cone_arithmetic.specs.declared.system.SolutionFault.TheVariants.{Passed, NotZero}
 use Rattle.quad_condition.specs.Faults.{fault_of}
 use Rattle.surface_coordinate_laws.proofs.FirstFaults.{length_told, large_told, failure_told, clash_told}
 

@@ -1,6 +1,6 @@
 -- What is wrong with a vector that is no solution.
-use Rattle.cone_core.specs.declared.system.SolutionFault.{SolutionFault}
-use Rattle.cone_core.specs.declared.system.SolutionFault.TheVariants.{Passed, NotZero}
+use Rattle.cone_arithmetic.specs.declared.system.SolutionFault.{SolutionFault}
+use Rattle.cone_arithmetic.specs.declared.system.SolutionFault.TheVariants.{Passed, NotZero}
 use Rattle.surface_definitions.specs.declared.VectorFault.{VectorFault}
 use Rattle.surface_definitions.specs.declared.VectorFault.TheVariants.{Large, NotSolution}
 

@@ -8,7 +8,7 @@ ghost use Rattle.surface_definitions.specs.Laws.{IsAccepted};
 ghost use Rattle.quad_condition.specs.Faults.{fault_of};
 
 use crate::clashes::first_clash;
-use cone_core::{MAX_ENTRY, SolutionFault, System, is_solution};
+use cone_arithmetic::{MAX_ENTRY, SolutionFault, System, is_solution};
 use surface_definitions::{Coords, VectorFault};
 
 /// Why a vector that is no solution isn't accepted.

@@ -5,7 +5,7 @@ ghost use Rattle.cone_definitions.specs.Listings.{without_pairs};
 ghost use Rattle.bounded_list.specs.Lists.{IsOnlyListing, AreRefused};
 
 use bounded_list::{Terms, vertex_list};
-use cone_core::{MAX_ENTRY, Ray, System};
+use cone_arithmetic::{MAX_ENTRY, Ray, System};
 use double_description::{LargeStep, NamedOrder};
 use no_memory::Failure;
 use number_bounds::columns_fit;

@@ -2,12 +2,12 @@
 
 ghost use Rattle.std.specs.Prelude.{◌≡◌, ◌≤◌, ◌<◌, ◌^◌, length, Some, None, IsOk, OnOk, IfErr, IsTrue, ◌↔◌};
 ghost use Rattle.std.specs.List.{All};
-ghost use Rattle.cone_core.specs.declared.numbers.TheConstants.{MAX_ENTRY};
+ghost use Rattle.cone_arithmetic.specs.declared.numbers.TheConstants.{MAX_ENTRY};
 ghost use Rattle.sum_definitions.specs.Adding.{AddsUp, add_fault, column_fault, sum_at};
 ghost use Rattle.ray_decompose.specs.Sums.{terms_of, HasWidth};
 
 use crate::products::product_within;
-use cone_core::MAX_ENTRY;
+use cone_arithmetic::MAX_ENTRY;
 use sum_definitions::AddFault;
 
 /// A vector that was given, taken so many times.

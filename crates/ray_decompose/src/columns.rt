@@ -1,13 +1,13 @@
 // Columns of vectors: whether a support lies inside another, and the first entry that passes the limit.
 
 ghost use Rattle.std.specs.Prelude.{◌≡◌, ◌*◌, ◌<◌, ◌≤◌, ◌^◌, ◌↔◌, IsTrue, IfSome, IfNone, length};
-ghost use Rattle.cone_core.specs.declared.numbers.TheConstants.{MAX_ENTRY};
+ghost use Rattle.cone_arithmetic.specs.declared.numbers.TheConstants.{MAX_ENTRY};
 ghost use Rattle.cone_definitions.specs.Vectors.{IsInside};
 ghost use Rattle.sum_definitions.specs.Sums.{IsWithinTimes};
 ghost use Rattle.ray_decompose.specs.Sums.{IsFirstLarge};
 
 use crate::products::product_within;
-use cone_core::MAX_ENTRY;
+use cone_arithmetic::MAX_ENTRY;
 
 /// Whether the support of a vector lies in that of another.
 pub fn is_inside(x: &[u128], other: &[u128]) -> bool

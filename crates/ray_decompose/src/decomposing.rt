@@ -2,14 +2,14 @@
 
 ghost use Rattle.std.specs.Prelude.{ℕ, ◌≤◌, IfOk, IfErr, slice_index};
 ghost use Rattle.no_memory.specs.Failures.{IfFault};
-ghost use Rattle.cone_core.specs.declared.numbers.TheConstants.{MAX_ENTRY};
+ghost use Rattle.cone_arithmetic.specs.declared.numbers.TheConstants.{MAX_ENTRY};
 ghost use Rattle.sum_definitions.specs.Sums.{HasRays, IsSum, IsLargeTurn};
 ghost use Rattle.sum_laws.specs.Laws.{IsSumOfRays};
 
 use crate::columns::first_large;
 use crate::fraction::fraction_inside;
 use crate::taking::take_ray;
-use cone_core::{MAX_ENTRY, Ray, System};
+use cone_arithmetic::{MAX_ENTRY, Ray, System};
 use no_memory::Failure;
 use std::alloc::Global;
 use sum_definitions::LargeTurn;

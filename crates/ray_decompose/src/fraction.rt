@@ -6,7 +6,7 @@ ghost use Rattle.sum_definitions.specs.Sums.{IsLeastFraction};
 ghost use Rattle.ray_decompose.specs.Fractions.{IsLeastColumn};
 
 use crate::columns::is_inside;
-use cone_core::gcd;
+use cone_arithmetic::gcd;
 
 /// A fraction of two whole numbers.
 #[derive(Clone, Copy)]

@@ -1,9 +1,9 @@
 // Products within a limit.
 
 ghost use Rattle.std.specs.Prelude.{◌≡◌, ◌*◌, ◌<◌, ◌≤◌, IfSome, IfNone, OnSome};
-ghost use Rattle.cone_core.specs.declared.numbers.TheConstants.{MAX_ENTRY};
+ghost use Rattle.cone_arithmetic.specs.declared.numbers.TheConstants.{MAX_ENTRY};
 
-use cone_core::MAX_ENTRY;
+use cone_arithmetic::MAX_ENTRY;
 
 /// The product, where it is within the limit.
 pub fn product_within(a: u128, b: u128, limit: u128) -> Option<u128>

@@ -10,7 +10,7 @@ use Rattle.cone_definitions.specs.Enumeration.{ComesFromPair}
 use Rattle.cone_definitions.proofs.Surfaces.{pairs_differ_lem}
 use Rattle.cone_definitions.proofs.Unordered.{pair_from_places, place_is_one}
 use Rattle.cone_definitions.specs.Vectors.{ray_at}
-use Rattle.cone_core.specs.Combinations.{IsCombinationBy, IsReducedBy}
+use Rattle.cone_arithmetic.specs.Combinations.{IsCombinationBy, IsReducedBy}
 use Rattle.ray_steps.specs.declared.signs.Sign.{Sign}
 use Rattle.ray_steps.specs.declared.signs.Sign.TheVariants.{Zero, Positive, Negative}
 use Rattle.ray_steps.specs.Next.{step_of}

@@ -3,7 +3,7 @@ use Rattle.std.proofs.Common.{◌≡◌, ℕ, ◌/◌, List, length, subst₂, a
 use Rattle.cone_definitions.specs.Vectors.{multiple, ray_at}
 use Rattle.cone_definitions.specs.Surfaces.{Clash}
 use Rattle.cone_definitions.proofs.Entries.{length-multiple, length-sum_of}
-use Rattle.cone_core.specs.Combinations.{IsReducedBy, HasFirstPast}
+use Rattle.cone_arithmetic.specs.Combinations.{IsReducedBy, HasFirstPast}
 use Rattle.ray_steps.specs.declared.signs.Sign.{Sign}
 use Rattle.ray_steps.specs.declared.rays.StepFault.{StepFault}
 use Rattle.ray_steps.specs.declared.rays.StepFault.TheVariants.{Large, NoMemory}

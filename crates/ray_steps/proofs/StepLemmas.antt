@@ -20,7 +20,7 @@ use Rattle.cone_definitions.specs.Vectors.{ray_at}
 use Rattle.ray_steps.specs.Faults.{IfLarge, IsFirstLargeValue, IsFirstLargeSum}
 use Rattle.ray_steps.specs.Next.{step_of, IsNextOf, IsNamedFrom}
 use Rattle.ray_steps.specs.Signs.{IsSignAt, IsBoundedSign, AreSigns, IsSignedPair, ComesFromPlaces, ComesFromZero, IsNextFrom, IsFirstLargeRay, IsFirstLargePair}
-use Rattle.cone_core.specs.Combinations.{IsReducedBy}
+use Rattle.cone_arithmetic.specs.Combinations.{IsReducedBy}
 use Rattle.cone_definitions.specs.Unordered.{HasSurfaces}
 use Rattle.cone_definitions.proofs.Unordered.{without_order, place_of}
 use Rattle.ray_steps.proofs.SurfaceSteps.{the_step, zero_sign, sign_at_place, signed_pair, kept_or_made_read}

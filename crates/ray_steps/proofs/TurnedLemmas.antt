@@ -11,7 +11,7 @@ use Rattle.cone_definitions.specs.Elimination.{HasPartsWithin}
 use Rattle.cone_definitions.specs.Vectors.{sum_of, ray_at}
 use Rattle.cone_row_laws.specs.Operations.{turned}
 use Rattle.cone_row_laws.proofs.Sums.{plus-turned, minus-turned}
-use Rattle.cone_core.specs.Combinations.{IsCombinationBy, IsReducedBy}
+use Rattle.cone_arithmetic.specs.Combinations.{IsCombinationBy, IsReducedBy}
 use Rattle.ray_steps.specs.declared.signs.Sign.{Sign}
 use Rattle.ray_steps.specs.declared.signs.Sign.TheVariants.{Zero, Positive, Negative}
 use Rattle.ray_steps.specs.Signs.{IsSignAt, AreSigns, IsBoundedSign, IsFacePair, IsSignedPair, ComesFromPlaces, IsStepAt, IsMadeUpTo}

@@ -8,9 +8,9 @@ use Rattle.cone_definitions.proofs.Combined.{u_inside_combined, w_inside_combine
 use Rattle.cone_definitions.proofs.Surfaces.{x_inside_multiple}
 use Rattle.support_bits.specs.Columns.{support_of, IsUnion}
 use Rattle.support_bits.proofs.WordLemmas.{get_or-support_of}
-use Rattle.cone_core.specs.Combinations.{IsReducedBy}
-use Rattle.cone_core.specs.Filled.{AreInside}
-use Rattle.cone_core.proofs.EntryLemmas.{quotient_positive}
+use Rattle.cone_arithmetic.specs.Combinations.{IsReducedBy}
+use Rattle.cone_arithmetic.specs.Filled.{AreInside}
+use Rattle.cone_arithmetic.proofs.EntryLemmas.{quotient_positive}
 use Rattle.ray_steps.proofs.LargeLemmas.{reduced_width}
 
 -- one of two truth values is true

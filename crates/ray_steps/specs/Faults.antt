@@ -6,7 +6,7 @@ use Rattle.cone_definitions.specs.Elimination.{Named}
 use Rattle.cone_definitions.specs.declared.LargeKind.TheVariants.{Value, Pair}
 use Rattle.ray_steps.specs.declared.rays.StepFault.{StepFault}
 use Rattle.ray_steps.specs.declared.rays.StepFault.TheVariants.{Large, NoMemory}
-use Rattle.cone_core.specs.Combinations.{HasFirstPast}
+use Rattle.cone_arithmetic.specs.Combinations.{HasFirstPast}
 use Rattle.ray_steps.specs.declared.signs.Sign.{Sign}
 use Rattle.ray_steps.specs.Signs.{IsFirstLargeRay, IsFirstLargePair}
 

@@ -5,7 +5,7 @@ use Rattle.cone_definitions.specs.Vectors.{IsInsideUnion, ray_at}
 use Rattle.cone_definitions.specs.Rows.{Row, IsZeroAt, IsPositiveAt, IsNegativeAt, value_at, magnitude_at}
 use Rattle.cone_definitions.specs.Surfaces.{Clash, IsAdmissibleUnion}
 use Rattle.cone_definitions.specs.Elimination.{HasPartsWithin, HasLargePart}
-use Rattle.cone_core.specs.Combinations.{IsReducedBy, HasFirstPast}
+use Rattle.cone_arithmetic.specs.Combinations.{IsReducedBy, HasFirstPast}
 use Rattle.cone_definitions.specs.Unordered.{HasSurfaces}
 use Rattle.ray_steps.specs.declared.signs.Sign.{Sign}
 use Rattle.ray_steps.specs.declared.signs.Sign.TheVariants.{Zero, Positive, Negative}

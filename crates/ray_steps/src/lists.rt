@@ -7,7 +7,7 @@ ghost use Rattle.std.specs.List.Sorted.{IsPermutation, IsSorted};
 ghost use Rattle.ray_steps.specs.Rays.{rays_of};
 
 use crate::rays::RayWithSupport;
-use cone_core::Ray;
+use cone_arithmetic::Ray;
 use no_memory::NoMemory;
 use std::alloc::{AllocError, Global};
 

@@ -1,11 +1,11 @@
 // What a pair of a step's rays is combined to.
 
 ghost use Rattle.std.specs.Prelude.{◌≡◌, ◌≤◌, length, IfOk, IfErr};
-ghost use Rattle.cone_core.specs.Combinations.{IsReducedBy};
+ghost use Rattle.cone_arithmetic.specs.Combinations.{IsReducedBy};
 ghost use Rattle.ray_steps.specs.Faults.{IfLarge, IsLargeSumOf};
 
 use crate::rays::{LargeKind, RayWithSupport, StepFault};
-use cone_core::{CombineFault, MAX_ENTRY, combine_inside};
+use cone_arithmetic::{CombineFault, MAX_ENTRY, combine_inside};
 use std::alloc::Global;
 
 /// The combination of two rays at which a row has these values, beside its support, which is the union of theirs.

@@ -4,7 +4,7 @@ ghost use Rattle.std.specs.Prelude.{◌≡◌, ◌<◌, IfOk};
 ghost use Rattle.cone_definitions.specs.Vectors.{unit};
 ghost use Rattle.support_bits.specs.Columns.{support_of};
 
-use cone_core::{PackedRay, Ray};
+use cone_arithmetic::{PackedRay, Ray};
 use no_memory::NoMemory;
 use std::alloc::{AllocError, AllocFailed, Global};
 use support_bits::Support;

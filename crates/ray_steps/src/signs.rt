@@ -1,7 +1,7 @@
 // The signs of a step's row at its rays.
 
 ghost use Rattle.std.specs.Prelude.{◌≡◌, ◌↔◌, IsTrue, ◌<◌, ◌≤◌, length, ◌-◌, IfOk, IfErr, OnOk, OnErr};
-ghost use Rattle.cone_core.specs.Sparse.{IsInRange};
+ghost use Rattle.cone_arithmetic.specs.Sparse.{IsInRange};
 ghost use Rattle.cone_definitions.specs.Elimination.{HasPartsWithin, HasLargePart};
 ghost use Rattle.ray_steps.specs.Signs.{IsNegative, IsSignAt, AreSigns};
 ghost use Rattle.ray_steps.specs.Rays.{rays_of};
@@ -9,7 +9,7 @@ ghost use Rattle.ray_steps.specs.Faults.{IfLarge, IsFirstLargeValue};
 ghost use Rattle.std.specs.List.{All};
 
 use crate::rays::{LargeKind, RayWithSupport, StepFault};
-use cone_core::{MAX_ENTRY, Passed, PlusMinus, SparseRow};
+use cone_arithmetic::{MAX_ENTRY, Passed, PlusMinus, SparseRow};
 use std::alloc::Global;
 
 /// Whether a row is zero, positive or negative at a ray, and its value or magnitude there.

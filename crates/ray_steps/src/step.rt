@@ -1,7 +1,7 @@
 // A step: the rays so far, a row's signs at them, and what the search for its pairs needs.
 
 ghost use Rattle.std.specs.Prelude.{◌≡◌, ◌+◌, ◌<◌, ◌≤◌, ◌↔◌, length, IsTrue, IfOk, IfErr, IfSome, OnOk};
-ghost use Rattle.cone_core.specs.Sparse.{IsInRange};
+ghost use Rattle.cone_arithmetic.specs.Sparse.{IsInRange};
 ghost use Rattle.ray_steps.specs.Faults.{IfLarge, IsFirstLargeValue};
 ghost use Rattle.ray_steps.specs.Rays.{rays_of, AreOfWidth};
 ghost use Rattle.ray_steps.specs.Negatives.{AreNegatives};
@@ -19,7 +19,7 @@ use crate::signs::{Sign, signs_at};
 use crate::thirds::{has_single, is_single, third_inside};
 use crate::turned::{has_more_positives, has_positive, positive_count, turned_signs};
 use crate::zeros::keep_zeros;
-use cone_core::{MAX_ENTRY, SparseRow};
+use cone_arithmetic::{MAX_ENTRY, SparseRow};
 use no_memory::NoMemory;
 use residual_pairs::{RayTable, minimal_places};
 use std::alloc::Global;

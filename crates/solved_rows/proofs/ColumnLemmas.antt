@@ -4,7 +4,7 @@ use Rattle.std.specs.Prelude.{unsigned_abs}
 use Rattle.std.proofs.lemmas.Bool.{cases_lt}
 use Rattle.std.proofs.lemmas.List.{get_or_default}
 use Rattle.cone_definitions.specs.Rows.{Row}
-use Rattle.cone_core.specs.Sparse.{IsSparse, IsInRange}
+use Rattle.cone_arithmetic.specs.Sparse.{IsSparse, IsInRange}
 use Rattle.solved_rows.specs.declared.fault.SolveFault.{SolveFault}
 use Rattle.solved_rows.specs.declared.fault.SolveFault.TheVariants.{Passed, NoMemory}
 use Rattle.solved_rows.specs.Merging.{next_column, term_at, IsTaken, IsLeastColumn}

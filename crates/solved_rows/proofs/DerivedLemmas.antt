@@ -6,7 +6,7 @@ use Rattle.std.proofs.lemmas.Bool.{cases_lt}
 use Rattle.std.proofs.lemmas.List.{get_or_default}
 use Rattle.std.proofs.lemmas.List.Elements.{All-cons, All-head, All-tail, All-push, All-append, All-weaker, All-contains_itself, Contains-append_left, Contains-append_right}
 use Rattle.cone_definitions.specs.Rows.{Row}
-use Rattle.cone_core.specs.Sparse.{IsSparse}
+use Rattle.cone_arithmetic.specs.Sparse.{IsSparse}
 use Rattle.solved_rows.specs.Clearing.{AddsRow, IsUnitAt}
 use Rattle.solved_rows.specs.Merging.{term_at, IsCoefficientSum}
 use Rattle.solved_rows.specs.Passing.{IsUnit, TakesTerm, IsDerived, stands}

@@ -2,7 +2,7 @@
 use Rattle.std.specs.Prelude.{◌≡◌, ◌≢◌, ℕ, ◌<◌, ◌⊎◌, List, ℤ, pos, negsuc, Contains, unsigned_abs}
 use Rattle.std.specs.List.{All}
 use Rattle.cone_definitions.specs.Rows.{Row}
-use Rattle.cone_core.specs.Sparse.{IsSparse}
+use Rattle.cone_arithmetic.specs.Sparse.{IsSparse}
 use Rattle.cone_row_laws.specs.Operations.{IsSumWith}
 use Rattle.solved_rows.specs.declared.fault.SolveFault.{SolveFault}
 use Rattle.solved_rows.specs.declared.fault.SolveFault.TheVariants.{Passed, NoMemory}

@@ -2,7 +2,7 @@
 
 ghost use Rattle.std.specs.List.Sorted.{IsPermutation};
 
-use cone_core::SparseRow;
+use cone_arithmetic::SparseRow;
 use no_memory::NoMemory;
 use std::alloc::Global;
 

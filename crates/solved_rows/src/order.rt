@@ -3,7 +3,7 @@
 ghost use Rattle.std.specs.Prelude.{◌<◌, IfOk, length};
 ghost use Rattle.std.specs.List.Sorted.{IsPermutation};
 
-use cone_core::SparseRow;
+use cone_arithmetic::SparseRow;
 use no_memory::NoMemory;
 use std::alloc::Global;
 

@@ -2,14 +2,14 @@
 
 ghost use Rattle.std.specs.Prelude.{◌≡◌, ◌<◌, ◌≢◌, ◌≤◌, ◌⊎◌, pos, negsuc, length, IfSome, OnOk, IfErr};
 ghost use Rattle.std.specs.List.{All};
-ghost use Rattle.cone_core.specs.Sparse.{IsInRange};
+ghost use Rattle.cone_arithmetic.specs.Sparse.{IsInRange};
 ghost use Rattle.cone_row_laws.specs.Solutions.{HaveSameZeros};
 ghost use Rattle.solved_rows.specs.Merging.{IsCoefficientSum};
 ghost use Rattle.solved_rows.specs.Passing.{TakesTerm, IsDerived, HasPassedSum, IfPassed};
 
 use crate::clear::{add_at, copy};
 use crate::fault::SolveFault;
-use cone_core::SparseRow;
+use cone_arithmetic::SparseRow;
 use std::alloc::Global;
 
 /// How often all pairs of rows are looked at, at most.

@@ -13,7 +13,7 @@ use crate::blocks::{Block, read_table_and_blocks};
 use crate::checks::{FirstFault, check_terms};
 use crate::refusals::refusal_outcome;
 use command_answers::{Outcome, accepted_outcome, fault_outcome};
-use cone_core::System;
+use cone_arithmetic::System;
 use gluing_table::Table;
 use matching_equations::{Coords, equations_of_table};
 use no_memory::NoMemory;

@@ -6,7 +6,7 @@ ghost use Rattle.command_answers.specs.Reads.{all_entries};
 ghost use Rattle.ray_decompose.specs.Sums.{terms_of};
 ghost use Rattle.sum_commands.specs.Firsts.{AreAllAnswered};
 
-use cone_core::System;
+use cone_arithmetic::System;
 use gluing_table::Table;
 use ray_decompose::Given;
 use surface_answers::check;

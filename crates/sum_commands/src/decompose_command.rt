@@ -1,7 +1,7 @@
 // The command `decompose`: vectors as sums of the vertex surfaces of their table.
 ghost use Rattle.std.specs.Prelude.{◌≡◌, ℕ, ◌≤◌, length, IfOk, slice_index};
 ghost use Rattle.text_definitions.specs.Text.{max_text};
-ghost use Rattle.cone_core.specs.declared.numbers.TheConstants.{MAX_ENTRY};
+ghost use Rattle.cone_arithmetic.specs.declared.numbers.TheConstants.{MAX_ENTRY};
 ghost use Rattle.surface_definitions.specs.Coordinates.{columns};
 ghost use Rattle.surface_definitions.specs.QuadEquations.{AreEquations};
 ghost use Rattle.text_document_definitions.specs.Documents.{vectors_document};
@@ -15,7 +15,7 @@ use crate::checks::{FirstFault, check_vectors};
 use crate::refusals::refusal_outcome;
 use crate::writing::append_block;
 use command_answers::{Outcome, fault_outcome, read_table_and_vectors};
-use cone_core::{MAX_ENTRY, Ray, System};
+use cone_arithmetic::{MAX_ENTRY, Ray, System};
 use double_description::NamedOrder;
 use gluing_table::{Table, write_table};
 use matching_equations::{Coords, equations_of_table};

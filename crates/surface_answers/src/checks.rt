@@ -3,7 +3,7 @@ ghost use Rattle.std.specs.Prelude.{◌≡◌, ◌<◌, ◌^◌, length, IsOk};
 ghost use Rattle.surface_definitions.specs.Coordinates.{columns};
 ghost use Rattle.surface_vector_definitions.specs.Answers.{verdict_in};
 
-use cone_core::System;
+use cone_arithmetic::System;
 use gluing_table::Table;
 use quad_condition::check_vector;
 use surface_definitions::{Coords, VectorFault};

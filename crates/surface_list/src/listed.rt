@@ -8,7 +8,7 @@ ghost use Rattle.surface_list.specs.Surfaces.{AreTableSurfaces, IsTableRefused};
 
 use crate::bounds::numbers_fit;
 use bounded_list::{Terms, vertex_list};
-use cone_core::{MAX_ENTRY, Ray, System};
+use cone_arithmetic::{MAX_ENTRY, Ray, System};
 use double_description::{EnumFault, NamedOrder};
 use gluing_table::Table;
 use matching_equations::{Coords, equations_of_table};

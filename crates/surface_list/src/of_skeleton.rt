@@ -4,7 +4,7 @@ ghost use Rattle.std.specs.Prelude.{◌≢◌, ◌≤◌, IfOk, IfErr};
 ghost use Rattle.surface_list.specs.Surfaces.{AreTableSurfaces, IsTableRefused};
 
 use crate::listed::surfaces_by;
-use cone_core::{MAX_ENTRY, Ray};
+use cone_arithmetic::{MAX_ENTRY, Ray};
 use double_description::{EnumFault, NamedOrder, Order};
 use matching_equations::{Coords, equations};
 use skeleton::Skeleton;

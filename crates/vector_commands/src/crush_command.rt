@@ -11,7 +11,7 @@ ghost use Rattle.vector_commands.specs.Crushed.{TellsCrushed};
 
 use crate::refusals::refusal_outcome;
 use command_answers::{Outcome, answer_read, read_table_and_vector};
-use cone_core::System;
+use cone_arithmetic::System;
 use gluing_table::{Table, write_table};
 use matching_equations::{Coords, equations_of_table};
 use no_memory::NoMemory;

@@ -17,7 +17,7 @@ ghost use Rattle.vector_commands.specs.Describing.{TellsDescription};
 use crate::descriptions::append_description;
 use crate::refusals::{FirstRefusal, refusal_outcome};
 use command_answers::{Outcome, answer_read, invalid_edge_outcome, read_table_and_vectors};
-use cone_core::System;
+use cone_arithmetic::System;
 use gluing_table::Table;
 use matching_equations::{Coords, DiscCoords, equations};
 use no_memory::{Failure, NoMemory};

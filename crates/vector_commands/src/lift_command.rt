@@ -16,7 +16,7 @@ ghost use Rattle.vector_commands.specs.Telling.{TellsOne, TellsEach, TellsLift};
 
 use crate::refusals::{FirstRefusal, refusal_outcome};
 use command_answers::{Outcome, answer_read, read_table_and_vectors};
-use cone_core::System;
+use cone_arithmetic::System;
 use gluing_table::Table;
 use matching_equations::{Coords, quad_equations};
 use no_memory::{Failure, NoMemory};

@@ -4,7 +4,7 @@ ghost use Rattle.std.specs.Prelude.{◌≡◌, ◌<◌, ◌≤◌, ◌+◌, [], 
 ghost use Rattle.cone_text_definitions.specs.VectorText.{vector_text, entries_text, list_text};
 ghost use Rattle.vector_text.specs.Four.{four_from};
 
-use cone_core::Ray;
+use cone_arithmetic::Ray;
 use no_memory::NoMemory;
 use std::alloc::Global;
 use text_io::{append, append_decimal};

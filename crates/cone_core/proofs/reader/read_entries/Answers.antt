@@ -27,4 +27,4 @@ loop-column-preserved c =
     })
 
 pub returns-clause-gives : goal.returns-clause-gives
-returns-clause-gives c = sym c.loop-column.invariant.reads ∙ with_entries-end c.loop-column.entries.items c.loop-column.column c.args.columns c.loop-column.lexer c.loop-column-test.false
+returns-clause-gives c = rw c.of.ensures (sym c.loop-column.invariant.reads ∙ with_entries-end c.loop-column.entries.items c.loop-column.column c.args.columns c.loop-column.lexer c.loop-column-test.false)

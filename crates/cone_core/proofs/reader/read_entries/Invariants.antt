@@ -1,7 +1,7 @@
 -- what is read so far, before the coefficients of the columns that are left, is what all of them give
 use Rattle.std.proofs.Common.{◌≡◌, ◌-◌}
 use Rattle.cone_text_definitions.specs.ConeText.{coefficients_at}
-use Rattle.cone_core.specs.Sparse.{IsSparse, IsInRange}
+use Rattle.cone_arithmetic.specs.Sparse.{IsSparse, IsInRange}
 use Rattle.cone_core.specs.ConeReads.{sparse_entries_at}
 use Rattle.cone_core.proofs.ConeLemmas.{with_entries}
 use Rattle.cone_core.proofs.reader.read_entries.Given as goal

@@ -1,6 +1,6 @@
 use Rattle.std.proofs.Common.{inl, inr, false}
 use Rattle.std.proofs.lemmas.Result.{IfOk-weaker, IfErr-weaker, err_from_is_err_and}
-use Rattle.cone_core.specs.declared.numbers.TheConstants.{MAX_ENTRY}
+use Rattle.cone_arithmetic.specs.declared.numbers.TheConstants.{MAX_ENTRY}
 use Rattle.ray_steps.specs.Rays.{rays_of}
 use Rattle.ray_steps.specs.Faults.{IfLarge, IsFirstLargeValue}
 use Rattle.ray_steps.specs.Steps.{IsFirstLargeEitherWay}

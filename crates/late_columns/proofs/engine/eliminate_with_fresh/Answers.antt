@@ -1,5 +1,5 @@
 use Rattle.std.proofs.Common.{◌++◌, refl, subst}
-use Rattle.cone_core.specs.declared.numbers.TheConstants.{MAX_ENTRY}
+use Rattle.cone_arithmetic.specs.declared.numbers.TheConstants.{MAX_ENTRY}
 use Rattle.std.proofs.lemmas.Result.{err_from_is_err_and}
 use Rattle.ray_steps.specs.Rays.{rays_of}
 use Rattle.ray_steps.proofs.SingleLemmas.{single_pairs}

@@ -1,6 +1,6 @@
 use Rattle.std.proofs.Common.{inl, inr, All, length, subst, subst₂, sym, ap, ◌∙◌}
 use Rattle.std.proofs.lemmas.Result.{err_from_is_err_and}
-use Rattle.cone_core.specs.declared.numbers.TheConstants.{MAX_ENTRY}
+use Rattle.cone_arithmetic.specs.declared.numbers.TheConstants.{MAX_ENTRY}
 use Rattle.ray_steps.specs.Rays.{rays_of}
 use Rattle.ray_steps.specs.Signs.{IsBoundedSign, IsMadeUpTo}
 use Rattle.ray_steps.specs.Faults.{IsFirstLargeValue}

@@ -1,5 +1,5 @@
 use Rattle.std.proofs.Common.{◌≡◌, subst, sym, ◌∙◌, arith}
-use Rattle.cone_core.specs.Sparse.{IsSparse}
+use Rattle.cone_arithmetic.specs.Sparse.{IsSparse}
 use Rattle.matching_equations.proofs.Terms.{equation_of, first_terms, terms_on, made_row, row_is_sparse, kept_in_range}
 use Rattle.matching_equations.proofs.equation.row_of.Goals as goal
 

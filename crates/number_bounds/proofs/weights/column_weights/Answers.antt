@@ -1,7 +1,7 @@
 use Rattle.std.proofs.Common.{◌^◌, ◌≤◌, length, ap, sym, ◌∙◌, arith}
 use Rattle.std.proofs.lemmas.List.{take_all}
 use Rattle.cone_bound_laws.specs.Caps.{column_weight}
-use Rattle.cone_core.proofs.EntryLemmas.{refilled}
+use Rattle.cone_arithmetic.proofs.EntryLemmas.{refilled}
 use Rattle.number_bounds.proofs.Past.{column_past}
 use Rattle.number_bounds.proofs.Tallies.{rows_more}
 use Rattle.number_bounds.proofs.weights.column_weights.Goals as goal

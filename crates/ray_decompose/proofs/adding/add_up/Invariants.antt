@@ -1,5 +1,5 @@
 use Rattle.std.proofs.Common.{◌≡◌, ℕ, ◌<◌, None}
-use Rattle.cone_core.specs.declared.numbers.TheConstants.{MAX_ENTRY}
+use Rattle.cone_arithmetic.specs.declared.numbers.TheConstants.{MAX_ENTRY}
 use Rattle.sum_definitions.specs.Adding.{column_fault}
 use Rattle.ray_decompose.specs.Sums.{terms_of}
 use Rattle.ray_decompose.proofs.adding.add_up.Given as goal

@@ -2,7 +2,7 @@
 use Rattle.std.proofs.lemmas.List.Sorted.{All-permutation}
 use Rattle.std.proofs.lemmas.Result.{err_from_is_err_and}
 use Rattle.solved_rows.proofs.PassingLemmas.{rows_stand, fault_again}
-use Rattle.cone_core.specs.Sparse.{IsInRange}
+use Rattle.cone_arithmetic.specs.Sparse.{IsInRange}
 use Rattle.solved_rows.proofs.RowLemmas.{all_of_these, zeros_follow, zeros_reordered}
 use Rattle.solved_rows.proofs.blocks.ordered_rows.Goals as goal
 

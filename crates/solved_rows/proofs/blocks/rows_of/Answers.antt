@@ -2,7 +2,7 @@
 use Rattle.std.proofs.Common.{◌<◌, ◌≤◌, ◌∙◌, length, subst, sym, arith}
 use Rattle.std.proofs.lemmas.List.{take_all}
 use Rattle.std.proofs.lemmas.List.Elements.{All-push}
-use Rattle.cone_core.specs.Sparse.{IsInRange}
+use Rattle.cone_arithmetic.specs.Sparse.{IsInRange}
 use Rattle.solved_rows.proofs.RowLemmas.{rows_pushed}
 use Rattle.solved_rows.proofs.blocks.rows_of.Goals as goal
 

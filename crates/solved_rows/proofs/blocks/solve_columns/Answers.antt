@@ -3,7 +3,7 @@ use Rattle.std.proofs.lemmas.List.Elements.{All-nil}
 use Rattle.std.proofs.lemmas.Result.{err_from_is_err_and}
 use Rattle.solved_rows.proofs.PassingLemmas.{all_again, fault_again}
 use Rattle.solved_rows.proofs.DerivedLemmas.{joined_stand}
-use Rattle.cone_core.specs.Sparse.{IsInRange}
+use Rattle.cone_arithmetic.specs.Sparse.{IsInRange}
 use Rattle.solved_rows.proofs.RowLemmas.{joined_none, zeros_follow}
 use Rattle.solved_rows.proofs.blocks.solve_columns.Goals as goal
 

@@ -3,7 +3,7 @@ use Rattle.std.proofs.Common.{◌∙◌, subst, subst₂, sym}
 use Rattle.std.proofs.lemmas.Iterator.Adapters.{YieldsList-from_vec}
 use Rattle.std.proofs.lemmas.Iterator.Consumers.{YieldsList-end, YieldsList-turn}
 use Rattle.std.proofs.lemmas.List.{map-id}
-use Rattle.cone_core.specs.Sparse.{IsInRange}
+use Rattle.cone_arithmetic.specs.Sparse.{IsInRange}
 use Rattle.cone_row_laws.specs.Solutions.{HaveSameZeros}
 use Rattle.solved_rows.proofs.RowLemmas.{all_of_these}
 use Rattle.solved_rows.proofs.blocks.system_of.Goals as goal

@@ -1,7 +1,7 @@
 -- The terms before the place are of columns before this one, and those after it of later columns.
 use Rattle.std.proofs.Common.{rules, ◌≤◌, length, subst, sym, arith, w32, FitsSigned}
 use Rattle.std.proofs.lemmas.Int.{to_z-of_z}
-use Rattle.cone_core.specs.Sparse.{IsSparse}
+use Rattle.cone_arithmetic.specs.Sparse.{IsSparse}
 use Rattle.solved_rows.specs.Clearing.{IsUnitAt}
 use Rattle.solved_rows.specs.Merging.{term_at}
 use Rattle.solved_rows.proofs.DerivedLemmas.{unit_at, no_unit}

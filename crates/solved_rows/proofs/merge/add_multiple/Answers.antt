@@ -1,7 +1,7 @@
 -- The row that is made keeps the merged terms.
 use Rattle.std.proofs.Common.{subst, sym, ◌∙◌}
 use Rattle.std.proofs.lemmas.Int.{to_z-of_z}
-use Rattle.cone_core.specs.Sparse.{IsInRange}
+use Rattle.cone_arithmetic.specs.Sparse.{IsInRange}
 use Rattle.cone_row_laws.specs.Operations.{IsSumWith}
 use Rattle.solved_rows.proofs.merge.add_multiple.Goals as goal
 

@@ -1,6 +1,6 @@
 -- the rows are 0 where they were
 use Rattle.std.specs.List.{All}
-use Rattle.cone_core.specs.Sparse.{IsInRange}
+use Rattle.cone_arithmetic.specs.Sparse.{IsInRange}
 use Rattle.cone_row_laws.specs.Solutions.{HaveSameZeros}
 use Rattle.solved_rows.specs.Passing.{IsDerived}
 use Rattle.solved_rows.proofs.thin.thin_rows.Given as goal

@@ -4,7 +4,7 @@ use Rattle.std.proofs.lemmas.List.{get_or_default}
 use Rattle.std.proofs.lemmas.List.Elements.{All-push}
 use Rattle.std.proofs.lemmas.Result.{err_from_is_err_and}
 use Rattle.cone_definitions.specs.Vectors.{ray_at}
-use Rattle.cone_core.specs.Combinations.{IsReducedBy}
+use Rattle.cone_arithmetic.specs.Combinations.{IsReducedBy}
 use Rattle.ray_steps.specs.declared.signs.Sign.TheVariants.{Zero}
 use Rattle.ray_steps.specs.Faults.{IfLarge}
 use Rattle.ray_steps.specs.Rays.{rays_of, AreOfWidth}

@@ -1,0 +1,5 @@
+pub mod EntryLemmas
+pub mod FillLemmas
+pub mod PartLemmas
+pub mod OrderLemmas
+pub mod UnitLemmas

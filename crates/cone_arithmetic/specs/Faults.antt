@@ -1,0 +1,38 @@
+-- When each fault comes.
+use Rattle.std.specs.Prelude.{ℕ, ◌<◌, List, [], length, slice_index_or}
+use Rattle.cone_definitions.specs.Rows.{Row, IsZeroAt}
+use Rattle.cone_definitions.specs.Elimination.{HasLargePart, HasPartsWithin}
+use Rattle.cone_definitions.specs.Met.{AreMetBefore}
+use Rattle.cone_arithmetic.specs.Combinations.{HasFirstPast, IsFirstPast}
+use Rattle.cone_arithmetic.specs.declared.ray.CombineFault.{CombineFault}
+use Rattle.cone_arithmetic.specs.declared.ray.CombineFault.TheVariants.{Passed as CombinePassed, NoMemory}
+use Rattle.cone_arithmetic.specs.declared.system.SolutionFault.{SolutionFault}
+use Rattle.cone_arithmetic.specs.declared.system.SolutionFault.TheVariants.{Passed, NotZero}
+
+-- why two rays aren't combined
+abbrev pub CombineFails : ℕ → ℕ → ℕ → List ℕ → List ℕ → CombineFault → Type 0
+CombineFails limit at_u at_w u w (CombinePassed column) = HasFirstPast limit at_u at_w u w column
+CombineFails limit at_u at_w u w NoMemory = Unit {0}
+
+-- why the entries of a sum aren't listed
+abbrev pub PassesAt : ℕ → List ℕ → CombineFault → Type 0
+PassesAt limit z (CombinePassed column) = IsFirstPast limit z column
+PassesAt limit z NoMemory = Unit {0}
+
+-- at the first row that isn't met a part passes the limit
+pub record IsPastAt (limit : ℕ) (rows : List Row) (x : List ℕ) (i : ℕ) : Type 0 where
+  pub in_range : i < length rows
+  pub earlier : AreMetBefore limit rows x i
+  pub past : HasLargePart limit (slice_index_or rows i []) x
+
+-- or else the row isn't 0 there
+pub record IsNotZeroAt (limit : ℕ) (rows : List Row) (x : List ℕ) (i : ℕ) : Type 0 where
+  pub in_range : i < length rows
+  pub earlier : AreMetBefore limit rows x i
+  pub within : HasPartsWithin limit (slice_index_or rows i []) x
+  pub not_zero : ¬ IsZeroAt (slice_index_or rows i []) x
+
+-- why a vector is no solution
+abbrev pub SolutionFails : ℕ → List Row → List ℕ → SolutionFault → Type 0
+SolutionFails limit rows x (Passed row) = IsPastAt limit rows x row
+SolutionFails limit rows x (NotZero row) = IsNotZeroAt limit rows x row

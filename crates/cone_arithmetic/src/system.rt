@@ -1,0 +1,107 @@
+// Systems of rows, and their solutions.
+
+ghost use Rattle.std.specs.Prelude.{◌≡◌, ◌+◌, ◌<◌, ◌^◌, ◌↔◌, [], ◌∷◌, ◌++◌, length, IsOk, OnOk, OnErr, IfErr, slice_index_or};
+ghost use Rattle.std.specs.List.{All};
+ghost use Rattle.cone_arithmetic.specs.Sparse.{IsInRange};
+ghost use Rattle.cone_arithmetic.specs.Faults.{SolutionFails};
+ghost use Rattle.cone_definitions.specs.Rows.{IsSolution};
+ghost use Rattle.cone_definitions.specs.Met.{IsMet};
+
+use crate::numbers::{MAX_ENTRY, Passed, parts};
+use crate::row::SparseRow;
+use no_memory::NoMemory;
+use std::alloc::Global;
+use std::marker::Model;
+
+/// A system of rows over a number of columns.
+#[derive(Drop)]
+pub struct System {
+    columns: u32,
+    rows: Vec<SparseRow>,
+}
+
+impl Model for System {
+    ghost use Rattle.std.specs.Prelude.{◌<◌, ◌^◌};
+    ghost use Rattle.cone_definitions.specs.Systems as systems;
+
+    ghost Value = { systems.System };
+
+    ghost use Rattle.std.specs.List.{All};
+    ghost use Rattle.std.specs.Prelude.{length};
+    ghost use Rattle.cone_arithmetic.specs.Sparse.{IsInRange};
+
+    ghost view = { λ s. record { columns = s.columns; rows = s.rows.items } };
+
+    ghost invariant = { λ s. (length s.rows.items < 2 ^ 32) × All (IsInRange s.columns) s.rows.items };
+}
+
+/// Why a vector is no solution: the first row at which a part passes the greatest entry, or which isn't 0.
+#[derive(Clone, Copy)]
+pub enum SolutionFault {
+    Passed { row: u32 },
+    NotZero { row: u32 },
+}
+
+impl System {
+    /// A system of no rows.
+    pub fn new(alloc: Global, columns: u32) -> System
+        ensures columns { result.columns ≡ columns }
+        ensures rows { result.rows ≡ [] }
+    {
+        System {
+            columns,
+            rows: Vec::new(alloc),
+        }
+    }
+
+    /// Appends a row.
+    pub fn push_row(&mut self, row: SparseRow) -> Result<(), NoMemory>
+        requires in_range { IsInRange self.old.columns row }
+        requires room { length self.old.rows + 1 < 2 ^ 32 }
+        ensures ok { OnOk result (self.new ≡ record self.old { rows = self.old.rows ++ row ∷ [] }) }
+        ensures err { OnErr result (self.new ≡ self.old) }
+    {
+        self.rows.push(row)?;
+        Ok(())
+    }
+
+    /// How many columns it has.
+    pub fn columns(&self) -> u32
+        ensures { result ≡ self.now.columns }
+    {
+        self.columns
+    }
+
+    /// How many rows it has.
+    pub fn len(&self) -> u32
+        ensures { result ≡ length self.now.rows }
+    {
+        self.rows.len() as u32
+    }
+
+    /// One row.
+    pub fn row(&self, i: u32) -> &SparseRow
+        requires { i < length self.now.rows }
+        ensures row { result.now ≡ slice_index_or self.now.rows i [] }
+        ensures in_range { IsInRange self.now.columns result.now }
+    {
+        &self.rows[i as usize]
+    }
+}
+
+/// Whether a vector without negative entries is a solution, with parts up to the greatest entry.
+pub fn is_solution(system: &System, x: &[u128]) -> Result<(), SolutionFault>
+    requires { length x.now ≡ system.now.columns }
+    ensures ok { IsOk result ↔ All (IsMet MAX_ENTRY x.now) system.now.rows }
+    ensures solution { OnOk result (IsSolution system.now.columns system.now.rows x.now) }
+    ensures err { IfErr result (SolutionFails MAX_ENTRY system.now.rows x.now) }
+{
+    for row in 0..system.len() {
+        match parts(system.row(row), x, MAX_ENTRY) {
+            Ok(parts) if parts.plus == parts.minus => {}
+            Ok(_) => return Err(SolutionFault::NotZero { row }),
+            Err(Passed) => return Err(SolutionFault::Passed { row }),
+        }
+    }
+    Ok(())
+}

@@ -1,6 +1,0 @@
-use Rattle.std.proofs.Common.{take}
-use Rattle.cone_core.specs.Combinations.{IsEntriesGcd}
-use Rattle.cone_core.proofs.divisors.common_divisor.Given as goal
-
-abbrev pub invariant-loop-entry : goal.invariant-loop-entry
-invariant-loop-entry l = IsEntriesGcd (take l.entry-index l.entries) l.divisor

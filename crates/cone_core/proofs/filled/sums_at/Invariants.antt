@@ -1,8 +1,0 @@
--- the sums at the columns of the words so far are filled in
-use Rattle.std.proofs.Common.{◌*◌}
-use Rattle.cone_definitions.specs.Vectors.{multiple, sum_of}
-use Rattle.cone_core.specs.Filled.{AreFilled}
-use Rattle.cone_core.proofs.filled.sums_at.Given as goal
-
-abbrev pub invariant-loop-k : goal.invariant-loop-k
-invariant-loop-k l = AreFilled l.limit (sum_of (multiple l.a l.w) (multiple l.b l.u)) (64 * l.k) l.sums.items
