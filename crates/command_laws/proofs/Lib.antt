@@ -5,3 +5,4 @@ pub mod RequestValues
 pub mod Accepted
 pub mod Decimals
 pub mod Asking
+pub mod Worked

@@ -4,6 +4,7 @@
 #![tactic(auto)]
 
 ghost use Rattle.command_laws.specs.Laws.{RequestsAreAccepted, OthersAreRefused, WordsAskOnce, RequestsAreSpelled};
+ghost use Rattle.command_laws.specs.WorkedWords.{WorkedWords};
 
 /// Words are accepted for a request exactly where they spell it, refused exactly where they spell none, and spell one at most.
 pub fn requests_are_accepted()
@@ -15,4 +16,9 @@ pub fn requests_are_accepted()
 /// Each request that holds what is in range is spelled by some words, and no other request is.
 pub fn requests_are_spelled()
     ensures { RequestsAreSpelled }
+{}
+
+/// Some words, as read by hand: commands that take the same options ask each for its own request.
+pub fn worked_words()
+    ensures { WorkedWords }
 {}

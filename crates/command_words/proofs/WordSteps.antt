@@ -8,7 +8,7 @@ use Rattle.clap.specs.Simple.{Shape, new_shape}
 use Rattle.clap.specs.Kinds.{Kinds, or_else}
 use Rattle.clap.specs.Faults.{flag_word_fault, settle_fault, step_fault, turn_fault, walk_fault}
 use Rattle.clap.specs.declared.error.kind.ErrorKind.{ErrorKind}
-use Rattle.command_words.proofs.OptionRules.{rules_for, rows}
+use Rattle.command_words.proofs.OptionRules.{rules_for}
 use Rattle.command_words.specs.Texts.{dashes}
 
 -- a command with its options, as it is built

@@ -44,10 +44,15 @@ static COMMANDS: [(&str, Request); 21] = [
 
 // Names of options that commands take together.
 const NONE: &[&str] = &[];
+
 const COORDS: &[&str] = &["coords"];
+
 const COORDS_ORDER_LIMIT: &[&str] = &["coords", "order", "max-entry"];
+
 const ORDER_LIMIT: &[&str] = &["order", "max-entry"];
+
 const COORDS_LIMIT: &[&str] = &["coords", "max-entry"];
+
 const SEED_MOVES: &[&str] = &["seed", "moves"];
 
 // The names of the options that a command takes.

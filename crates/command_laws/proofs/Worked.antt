@@ -1,0 +1,26 @@
+-- Words that differ by the name of a command alone are read.
+use Rattle.std.proofs.Common.{refl}
+use Rattle.command_definitions.specs.Options.{options_from}
+use Rattle.command_laws.specs.WorkedWords.{WorkedWords}
+
+pub worked : WorkedWords
+unfolding options_from
+worked = record {
+  info = refl;
+  lift = refl;
+  crush = refl;
+  play = refl;
+  sig = refl;
+  same = refl;
+  group = refl;
+  check = refl;
+  descend = refl;
+  cover = refl;
+  pi1 = refl;
+  csig = refl;
+  csame = refl;
+  verify = refl;
+  addup = refl;
+  make = refl;
+  bulk = refl;
+}
