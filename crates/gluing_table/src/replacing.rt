@@ -7,10 +7,29 @@ ghost use Rattle.table_definitions.specs.Table as gluings;
 ghost use Rattle.table_definitions.specs.Table.{max_tets, IsTable};
 ghost use Rattle.table_definitions.specs.Replacing as exchange;
 ghost use Rattle.table_definitions.specs.Replacing.{replaced, replaced_length};
-ghost use Rattle.table_definitions.specs.Replaceable.{CanReplace, numbers_of, gone_before, row_back};
+ghost use Rattle.table_definitions.specs.Replaceable.{numbers_of, gone_before, row_back};
 
 use crate::table::{copy_row, glue_at};
 use crate::{Face, Glue, Row};
+use std::marker::Model;
+
+/// The rows of a table, the numbers of those that are taken out, and fresh ones that are put in.
+#[derive(Drop)]
+pub struct Exchange<'a> {
+    pub rows: &'a [Row],
+    pub removed: &'a [u32],
+    pub fresh: &'a [(u32, Row)],
+}
+
+impl<'a> Model for Exchange<'a> {
+    ghost use Rattle.gluing_table.specs.Exchanges as definition;
+
+    ghost Value = { definition.Exchange };
+
+    ghost view = { λ e. record { rows = e.rows.now; by = record { removed = e.removed.now; fresh = e.fresh.now } } };
+
+    ghost invariant = { λ e. definition.IsExchange e.rows.now (record { removed = e.removed.now; fresh = e.fresh.now }) };
+}
 
 /// Whether the number is one of them.
 fn is_among(numbers: &[u32], number: u32) -> bool
@@ -21,20 +40,18 @@ fn is_among(numbers: &[u32], number: u32) -> bool
 
 /// The number once those that are gone are closed up.
 fn closed_number(gone: &[u32], number: u32) -> u32
-    requires { length gone.now < 2 ^ 32 }
     ensures { result ≡ closed_up gone.now number }
 {
     let before = gone.iter().filter(|n| **n < number).count();
-    number.saturating_sub(before as u32)
+    (number as usize).saturating_sub(before) as u32
 }
 
 /// The same where rows are gone.
 fn closed_row(gone: &[(u32, Row)], number: u32) -> u32
-    requires { length gone.now < 2 ^ 32 }
     ensures { result ≡ closed_up (numbers_of gone.now) number }
 {
     let before = gone.iter().filter(|row| row.0 < number).count();
-    number.saturating_sub(before as u32)
+    (number as usize).saturating_sub(before) as u32
 }
 
 /// The number that is none of them and that has so many others before it.
@@ -83,7 +100,6 @@ fn fresh_row(fresh: &[(u32, Row)], number: u32) -> Option<Row>
 
 /// The gluing back from `target`, where the gluing of `from` leads to it.
 fn back_to_face(from: Face, glue: Option<Glue>, target: Face) -> Option<Glue>
-    requires { from.face < 4 }
     ensures { result ≡ option_and_then (exchange.leads_to target from) glue }
 {
     let glue = glue?;
@@ -122,76 +138,96 @@ fn back_to_fresh(fresh: &[(u32, Row)], target: Face) -> Option<Glue>
 }
 
 /// What `face` of the new table is glued to, where its row was kept and had the number `tet`.
-fn retained_glue(
-    rows: &[Row],
-    removed: &[u32],
-    fresh: &[(u32, Row)],
-    tet: u32,
-    face: Face,
-) -> Option<Glue>
-    requires table { IsTable rows.now }
-    requires can { CanReplace rows.now (record { removed = removed.now; fresh = fresh.now }) }
-    requires in_range { tet < length rows.now }
-    requires a_face { face.face < 4 }
-    ensures { result ≡ exchange.kept_gluing rows.now (record { removed = removed.now; fresh = fresh.now }) face (gluings.glue rows.now (record { tet = tet; face = face.face })) }
+fn retained_glue(swap: &Exchange<'_>, tet: u32, face: Face) -> Option<Glue>
+    requires { tet < length swap.now.rows }
+    ensures { result ≡ exchange.kept_gluing swap.now.rows swap.now.by face (gluings.glue swap.now.rows (record { tet = tet; face = face.face })) }
 {
     let face_before = Face {
         tet,
         face: face.face,
     };
-    let Some(glue) = glue_at(rows, face_before) else {
+    let Some(glue) = glue_at(swap.rows, face_before) else {
         return None;
     };
-    if is_among(removed, glue.tet) {
-        return back_to_fresh(fresh, face);
+    if is_among(swap.removed, glue.tet) {
+        return back_to_fresh(swap.fresh, face);
     }
-    let tet = opened_row(fresh, closed_number(removed, glue.tet));
+    let tet = opened_row(swap.fresh, closed_number(swap.removed, glue.tet));
     let perm = glue.perm;
     Some(Glue { tet, perm })
 }
 
 /// The row `number` of the new table, where it was kept and had the number `tet`.
-fn retained_row(rows: &[Row], removed: &[u32], fresh: &[(u32, Row)], tet: u32, number: u32) -> Row
-    requires table { IsTable rows.now }
-    requires can { CanReplace rows.now (record { removed = removed.now; fresh = fresh.now }) }
-    requires in_range { tet < length rows.now }
-    ensures { result ≡ exchange.kept_row rows.now (record { removed = removed.now; fresh = fresh.now }) tet number }
+fn retained_row(swap: &Exchange<'_>, tet: u32, number: u32) -> Row
+    requires { tet < length swap.now.rows }
+    ensures { result ≡ exchange.kept_row swap.now.rows swap.now.by tet number }
 {
-    let face = |face| Face { tet: number, face };
     [
-        retained_glue(rows, removed, fresh, tet, face(0)),
-        retained_glue(rows, removed, fresh, tet, face(1)),
-        retained_glue(rows, removed, fresh, tet, face(2)),
-        retained_glue(rows, removed, fresh, tet, face(3)),
+        retained_glue(
+            swap,
+            tet,
+            Face {
+                tet: number,
+                face: 0,
+            },
+        ),
+        retained_glue(
+            swap,
+            tet,
+            Face {
+                tet: number,
+                face: 1,
+            },
+        ),
+        retained_glue(
+            swap,
+            tet,
+            Face {
+                tet: number,
+                face: 2,
+            },
+        ),
+        retained_glue(
+            swap,
+            tet,
+            Face {
+                tet: number,
+                face: 3,
+            },
+        ),
     ]
 }
 
 /// The row `number` of the new table.
-fn new_row(rows: &[Row], removed: &[u32], fresh: &[(u32, Row)], number: u32) -> Row
-    requires table { IsTable rows.now }
-    requires can { CanReplace rows.now (record { removed = removed.now; fresh = fresh.now }) }
-    requires in_range { number < replaced_length rows.now (record { removed = removed.now; fresh = fresh.now }) }
-    ensures { result ≡ exchange.replaced_row rows.now (record { removed = removed.now; fresh = fresh.now }) number }
+fn new_row(swap: &Exchange<'_>, number: u32) -> Row
+    requires { number < replaced_length swap.now.rows swap.now.by }
+    ensures { result ≡ exchange.replaced_row swap.now.rows swap.now.by number }
 {
-    if let Some(row) = fresh_row(fresh, number) {
+    if let Some(row) = fresh_row(swap.fresh, number) {
         return row;
     }
-    let tet = opened_number(removed, closed_row(fresh, number));
-    retained_row(rows, removed, fresh, tet, number)
+    let tet = opened_number(swap.removed, closed_row(swap.fresh, number));
+    retained_row(swap, tet, number)
+}
+
+/// The number of rows of the new table.
+fn new_length(swap: &Exchange<'_>) -> u32
+    ensures value { result ≡ replaced_length swap.now.rows swap.now.by }
+    ensures few { result ≤ max_tets }
+    ensures is_table { IsTable (replaced swap.now.rows swap.now.by) }
+{
+    (swap.rows.len() - swap.removed.len() + swap.fresh.len()) as u32
 }
 
 /// Writes the rows of the new table where none are yet and there is room for all.
-pub fn write_replaced(new: &mut Vec<Row>, rows: &[Row], removed: &[u32], fresh: &[(u32, Row)])
+pub fn write_replaced(new: &mut Vec<Row>, swap: &Exchange<'_>)
     requires empty { new.old.items ≡ [] }
     requires room { max_tets ≤ vec_capacity new.old }
-    requires table { IsTable rows.now }
-    requires can { CanReplace rows.now (record { removed = removed.now; fresh = fresh.now }) }
-    ensures rows { new.new.items ≡ replaced rows.now (record { removed = removed.now; fresh = fresh.now }) }
+    ensures rows { new.new.items ≡ replaced swap.now.rows swap.now.by }
     ensures is_table { IsTable new.new.items }
     ensures room { max_tets ≤ vec_capacity new.new }
 {
-    let length = rows.len() - removed.len() + fresh.len();
-    for number in 0..length as u32 {
-        new.push_reserved(new_row(rows, removed, fresh, number));
+    for number in 0..new_length(swap) {
+        new.push_reserved(new_row(swap, number));
     }
 }

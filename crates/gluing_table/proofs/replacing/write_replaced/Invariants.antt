@@ -6,6 +6,6 @@ use Rattle.gluing_table.proofs.replacing.write_replaced.Given as goal
 
 abbrev pub invariant-loop-number : goal.invariant-loop-number
 invariant-loop-number l = record {
-  so_far : l.new.items ≡ map (replaced_row l.rows (record { removed = l.removed; fresh = l.fresh })) (below l.number);
+  so_far : l.new.items ≡ map (replaced_row l.swap.rows l.swap.by) (below l.number);
   room : 1000 ≤ vec_capacity l.new;
 }
