@@ -1,60 +1,54 @@
 //! Which edges lie in the boundary.
 
-ghost use Rattle.std.specs.Prelude.{◌≡◌, ◌*◌, ◌/◌, ◌%◌, ◌<◌, ◌&&◌, ◌||◌, not, ℕ, length, slice_index, IfOk};
+ghost use Rattle.std.specs.Prelude.{◌≡◌, ◌*◌, ◌/◌, ◌%◌, ◌<◌, ◌&&◌, ◌||◌, not, length, IfOk};
 ghost use Rattle.table_definitions.specs.Lists.{has};
-ghost use Rattle.table_definitions.specs.Table.{IsTable};
 ghost use Rattle.table_definitions.specs.Places as places;
 ghost use Rattle.skeleton.specs.Parts.{AreBoundaryMarks, is_open_at};
 
-use crate::crossings::behind;
+use crate::crossings::{Exit, behind};
 use crate::edges::edge_ends;
+use crate::numbering::Numbering;
 use gluing_table::{Face, Table};
 use no_memory::NoMemory;
 use std::alloc::Global;
 
 /// Whether this face is a boundary face in which the edge lies.
-fn is_bounded_by(table: &Table, edge: u32, face: u8) -> bool
-    requires table { IsTable table.now }
-    requires in_range { edge < 6 * length table.now }
-    requires a_face { face < 4 }
-    ensures { result ≡ (not (has (places.ends (edge % 6)) face) && places.is_boundary table.now (record { tet = edge / 6; face = face })) }
+fn is_bounded_by(exit: Exit<'_>, edge: u32) -> bool
+    requires { edge < 6 * length exit.table.now }
+    ensures { result ≡ (not (has (places.ends (edge % 6)) exit.entry.face) && places.is_boundary exit.entry.table.now (record { tet = edge / 6; face = exit.entry.face })) }
 {
     let (lower, higher) = edge_ends((edge % 6) as u8);
-    if lower == face {
+    if lower == exit.face {
         return false;
     }
-    if higher == face {
+    if higher == exit.face {
         return false;
     }
-    let tet = edge / 6;
-    behind(table, Face { tet, face }).is_none()
+    exit.of(edge / 6).is_none()
 }
 
 /// Whether an edge lies in a boundary face.
 fn lies_in_boundary(table: &Table, edge: u32) -> bool
-    requires table { IsTable table.now }
-    requires in_range { edge < 6 * length table.now }
+    requires { edge < 6 * length table.now }
     ensures { result ≡ places.lies_in_boundary table.now edge }
 {
-    is_bounded_by(table, edge, 0)
-        || is_bounded_by(table, edge, 1)
-        || is_bounded_by(table, edge, 2)
-        || is_bounded_by(table, edge, 3)
+    is_bounded_by(Exit { table, face: 0 }, edge)
+        || is_bounded_by(Exit { table, face: 1 }, edge)
+        || is_bounded_by(Exit { table, face: 2 }, edge)
+        || is_bounded_by(Exit { table, face: 3 }, edge)
 }
 
 /// Of which edge classes a member lies in a boundary face.
 pub fn boundary_marks(
     alloc: Global,
     table: &Table,
-    classes: &[u32],
-    count: usize,
+    edges: &Numbering,
 ) -> Result<Vec<bool>, NoMemory>
-    requires table { IsTable table.now }
-    requires one_each { length classes.now ≡ 6 * length table.now }
-    requires in_range { (i : ℕ) → i < length classes.now → slice_index classes.now i < count }
-    ensures { IfOk result (λ marks. AreBoundaryMarks table.now classes.now count marks.items) }
+    requires { length edges.now.classes.items ≡ 6 * length table.now }
+    ensures { IfOk result (λ marks. AreBoundaryMarks table.now edges.now.classes.items (length edges.now.firsts.items) marks.items) }
 {
-    let mut marks = vec![in alloc; false; count]?;
+    let classes = edges.classes.as_slice();
+    let mut marks = vec![in alloc; false; edges.firsts.len()]?;
     for edge in 0..classes.len() as u32 {
         if lies_in_boundary(table, edge) {
             marks[classes[edge as usize] as usize] = true;
@@ -65,7 +59,6 @@ pub fn boundary_marks(
 
 /// Whether no face is a boundary face.
 pub fn is_closed(table: &Table) -> bool
-    requires { IsTable table.now }
     ensures { result ≡ places.is_closed table.now }
 {
     for tet in 0..table.len() {
@@ -78,8 +71,7 @@ pub fn is_closed(table: &Table) -> bool
 
 /// Whether a tetrahedron has a boundary face.
 fn is_open(table: &Table, tet: u32) -> bool
-    requires table { IsTable table.now }
-    requires in_range { tet < length table.now }
+    requires { tet < length table.now }
     ensures { result ≡ (is_open_at table.now tet 0 || is_open_at table.now tet 1 || is_open_at table.now tet 2 || is_open_at table.now tet 3) }
 {
     behind(table, Face { tet, face: 0 }).is_none()

@@ -1,8 +1,8 @@
 //! Corners, and walks round edges.
 
-ghost use Rattle.std.specs.Prelude.{◌≡◌, ◌*◌, ◌<◌, ℕ, length, slice_index, IfOk, map, []};
+ghost use Rattle.std.specs.Prelude.{◌≡◌, ◌*◌, ◌<◌, ◌≤◌, ℕ, length, slice_index, IfOk, map, []};
 ghost use Rattle.table_definitions.specs.Permutation.{IsPermutationOfFour};
-ghost use Rattle.table_definitions.specs.Table.{IsTable};
+ghost use Rattle.table_definitions.specs.Table.{max_tets};
 ghost use Rattle.table_walk_laws.specs.Walks.{IsInjectiveBelow, step_of};
 ghost use Rattle.skeleton_class_laws.specs.Rounds.{corner_at, next_corner, start_of, swap, word_at, IsRound, IsRoundUnless};
 ghost use Rattle.skeleton.specs.Parts.{AreRounds};
@@ -34,6 +34,16 @@ impl Model for Corner {
     ghost view = { λ k. record { tet = k.tet; a = k.a; b = k.b; c = k.c; d = k.d } };
 
     ghost inverse = { λ k. record { tet = k.tet; a = k.a; b = k.b; c = k.c; d = k.d } };
+}
+
+/// The number of the next corner at each corner of so many tetrahedra, where there is one.
+#[derive(Drop)]
+struct NextCorners {
+    tets: u32,
+    next: Vec<Option<u32>>,
+    ghost few: { tets ≤ max_tets },
+    ghost size: { length next.items ≡ 24 * tets },
+    ghost injective: { IsInjectiveBelow (length next.items) (step_of next.items) },
 }
 
 /// The orders of the vertices of a tetrahedron.
@@ -79,8 +89,7 @@ fn corner_of(place: u32) -> Corner
 
 /// The number of the next corner, where there is one.
 fn next_place(table: &Table, place: u32) -> Option<u32>
-    requires table { IsTable table.now }
-    requires in_range { place < 24 * length table.now }
+    requires { place < 24 * length table.now }
     ensures { result ≡ next_corner table.now place }
 {
     let order = order(place);
@@ -96,17 +105,17 @@ fn next_place(table: &Table, place: u32) -> Option<u32>
 }
 
 /// The numbers of the next corners.
-pub fn next_places(alloc: Global, table: &Table) -> Result<Vec<Option<u32>>, NoMemory>
-    requires { IsTable table.now }
-    ensures size { IfOk result (λ next. length next.items ≡ 24 * length table.now) }
-    ensures steps { IfOk result (λ next. (k : ℕ) → step_of next.items k ≡ next_corner table.now k) }
+fn next_corners(alloc: Global, table: &Table) -> Result<NextCorners, NoMemory>
+    ensures tets { IfOk result (λ corners. corners.tets ≡ length table.now) }
+    ensures steps { IfOk result (λ corners. (k : ℕ) → step_of corners.next.items k ≡ next_corner table.now k) }
 {
-    let count = ORDERS * table.len();
+    let tets = table.len();
+    let count = ORDERS * tets;
     let mut next = Vec::with_capacity(alloc, count as usize)?;
     for place in 0..count {
         next.push(next_place(table, place))?;
     }
-    Ok(next)
+    Ok(NextCorners { tets, next })
 }
 
 /// The corners of these numbers.
@@ -121,33 +130,29 @@ fn corners_of(alloc: Global, places: &[u32]) -> Result<Vec<Corner>, NoMemory>
 }
 
 /// The corners that the walk from an edge comes to.
-pub fn walk(alloc: Global, next: &[Option<u32>], edge: u32) -> Result<Vec<Corner>, NoMemory>
-    requires injective { IsInjectiveBelow (length next.now) (step_of next.now) }
-    requires few { edge < 6000 }
-    requires start { start_of edge < length next.now }
-    ensures { IfOk result (λ corners. IsRound (step_of next.now) (start_of edge) corners.items) }
+fn walk(alloc: Global, corners: &NextCorners, edge: u32) -> Result<Vec<Corner>, NoMemory>
+    requires { edge < 6 * corners.now.tets }
+    ensures { IfOk result (λ walk. IsRound (step_of corners.now.next.items) (start_of edge) walk.items) }
 {
     let start = ORDERS * (edge / 6) + STARTS[(edge % 6) as usize] as u32;
-    let places = orbit(alloc, next, start)?;
+    let places = orbit(alloc, &corners.next, start)?;
     corners_of(alloc, &places)
 }
 
 /// The walk from an edge, or no corner where the edge's class is on the boundary.
 fn walk_unless(
     alloc: Global,
-    next: &[Option<u32>],
+    corners: &NextCorners,
     on_boundary: bool,
     edge: u32,
 ) -> Result<Vec<Corner>, NoMemory>
-    requires injective { IsInjectiveBelow (length next.now) (step_of next.now) }
-    requires few { edge < 6000 }
-    requires start { start_of edge < length next.now }
-    ensures { IfOk result (λ corners. IsRoundUnless (step_of next.now) on_boundary edge corners.items) }
+    requires { edge < 6 * corners.now.tets }
+    ensures { IfOk result (λ walk. IsRoundUnless (step_of corners.now.next.items) on_boundary edge walk.items) }
 {
     if on_boundary {
         return Ok(Vec::new(alloc));
     }
-    walk(alloc, next, edge)
+    walk(alloc, corners, edge)
 }
 
 /// The walk round each inner edge class from its first member, and no corner for a boundary class.
@@ -157,15 +162,14 @@ pub fn walks(
     firsts: &[u32],
     boundary: &[bool],
 ) -> Result<Vec<Vec<Corner>>, NoMemory>
-    requires table { IsTable table.now }
     requires in_range { (c : ℕ) → c < length firsts.now → slice_index firsts.now c < 6 * length table.now }
     requires one_each { length boundary.now ≡ length firsts.now }
     ensures { IfOk result (λ walks. AreRounds table.now firsts.now boundary.now (length firsts.now) walks.items) }
 {
-    let next = next_places(alloc, table)?;
+    let corners = next_corners(alloc, table)?;
     let mut walks = Vec::with_capacity(alloc, firsts.len())?;
     for class in 0..firsts.len() {
-        walks.push(walk_unless(alloc, &next, boundary[class], firsts[class])?)?;
+        walks.push(walk_unless(alloc, &corners, boundary[class], firsts[class])?)?;
     }
     Ok(walks)
 }

@@ -7,31 +7,53 @@ ghost use Rattle.skeleton_class_laws.specs.Crossings.{crossed_vertex, crossed_fa
 
 use gluing_table::{Face, Glue, Table};
 
+/// A table, and the number of the face through which its tetrahedra are left.
+#[derive(Clone, Copy)]
+pub struct Exit<'a> {
+    pub table: &'a Table,
+    pub face: u8,
+    pub ghost a_face: { face < 4 },
+}
+
 /// What a face is glued to.
 pub fn behind(table: &Table, face: Face) -> Option<Glue>
-    requires table { IsTable table.now }
-    requires in_range { face.tet < length table.now }
-    requires a_face { face.face < 4 }
+    requires { face.tet < length table.now }
     ensures value { result ≡ gluings.glue table.now face }
     ensures in_range { IfSome result (λ g. g.tet < length table.now) }
     ensures few { length table.now ≤ max_tets }
+    ensures is_table { IsTable table.now }
 {
     table.glue(face)
 }
 
+impl Exit<'_> {
+    /// What this face of a tetrahedron is glued to.
+    pub fn of(self, tet: u32) -> Option<Glue>
+        requires { tet < length self.table.now }
+        ensures value { result ≡ gluings.glue self.entry.table.now (record { tet = tet; face = self.entry.face }) }
+        ensures in_range { IfSome result (λ g. g.tet < length self.entry.table.now) }
+        ensures few { length self.entry.table.now ≤ max_tets }
+    {
+        behind(
+            self.table,
+            Face {
+                tet,
+                face: self.face,
+            },
+        )
+    }
+}
+
 /// The vertex behind a face that this vertex meets there.
-pub fn vertex_across(table: &Table, vertex: u32, face: u8) -> Option<u32>
-    requires table { IsTable table.now }
-    requires in_range { vertex < 4 * length table.now }
-    requires a_face { face < 4 }
-    ensures { result ≡ crossed_vertex table.now vertex face }
+pub fn vertex_across(exit: Exit<'_>, vertex: u32) -> Option<u32>
+    requires { vertex < 4 * length exit.table.now }
+    ensures { result ≡ crossed_vertex exit.entry.table.now vertex exit.entry.face }
 {
     let v = (vertex % 4) as u8;
-    if v == face {
+    if v == exit.face {
         return None;
     }
-    let tet = vertex / 4;
-    let Some(glue) = behind(table, Face { tet, face }) else {
+    let Some(glue) = exit.of(vertex / 4) else {
         return None;
     };
     Some(4 * glue.tet + glue.perm.image(v) as u32)
@@ -39,8 +61,7 @@ pub fn vertex_across(table: &Table, vertex: u32, face: u8) -> Option<u32>
 
 /// The face to which this face is glued, as the first of its neighbours.
 pub fn face_across(table: &Table, place: u32, choice: u8) -> Option<u32>
-    requires table { IsTable table.now }
-    requires in_range { place < 4 * length table.now }
+    requires { place < 4 * length table.now }
     ensures { result ≡ crossed_face table.now place choice }
 {
     if choice != 0 {

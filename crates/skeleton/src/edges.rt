@@ -1,14 +1,12 @@
 //! Edges across the faces of a tetrahedron, with and without a direction.
 
-ghost use Rattle.std.specs.Prelude.{◌≡◌, ◌*◌, ◌/◌, ◌%◌, ◌<◌, ◌≤◌, length, slice_index, [], ◌∷◌};
-ghost use Rattle.table_definitions.specs.Table.{IsTable};
+ghost use Rattle.std.specs.Prelude.{◌≡◌, ◌+◌, ◌*◌, ◌/◌, ◌%◌, ◌<◌, ◌≤◌, length, slice_index, [], ◌∷◌};
 ghost use Rattle.table_definitions.specs.Places as places;
 ghost use Rattle.table_definitions.specs.Permutation.{others};
 ghost use Rattle.skeleton_class_laws.specs.Crossings.{crossed_edge, crossed_direction, pair_number};
 ghost use Rattle.skeleton_class_laws.specs.Directions.{forward, backward, runs_against};
 
-use crate::crossings::behind;
-use gluing_table::{Face, Table};
+use crate::crossings::Exit;
 
 const LOWER_ENDS: [u8; 6] = [0, 0, 0, 1, 1, 2];
 
@@ -53,35 +51,31 @@ pub fn direction_ends(direction: u8) -> (u8, u8)
 }
 
 /// The place of a directed edge among the twelve of its tetrahedron.
-pub fn direction_number(from: u8, to: u8) -> u8
-    requires from_in_range { from < 4 }
-    requires to_in_range { to < 4 }
+pub fn direction_number(from: u8, to: u8) -> u32
     ensures value { result ≡ pair_number from to }
-    ensures small { result ≤ 12 }
+    ensures small { result ≤ 3 * from + to }
 {
+    let first = 3 * u32::from(from);
     if from < to {
-        3 * from + (to - 1)
+        first + (u32::from(to) - 1)
     } else {
-        3 * from + to
+        first + u32::from(to)
     }
 }
 
 /// The edge behind a face that this edge meets there.
-pub fn edge_across(table: &Table, edge: u32, face: u8) -> Option<u32>
-    requires table { IsTable table.now }
-    requires in_range { edge < 6 * length table.now }
-    requires a_face { face < 4 }
-    ensures { result ≡ crossed_edge table.now edge face }
+pub fn edge_across(exit: Exit<'_>, edge: u32) -> Option<u32>
+    requires { edge < 6 * length exit.table.now }
+    ensures { result ≡ crossed_edge exit.entry.table.now edge exit.entry.face }
 {
     let (lower, higher) = edge_ends((edge % 6) as u8);
-    if lower == face {
+    if lower == exit.face {
         return None;
     }
-    if higher == face {
+    if higher == exit.face {
         return None;
     }
-    let tet = edge / 6;
-    let Some(glue) = behind(table, Face { tet, face }) else {
+    let Some(glue) = exit.of(edge / 6) else {
         return None;
     };
     let number = number_of_edge(glue.perm.image(lower), glue.perm.image(higher));
@@ -89,52 +83,45 @@ pub fn edge_across(table: &Table, edge: u32, face: u8) -> Option<u32>
 }
 
 /// The directed edge behind a face that this directed edge meets there.
-pub fn direction_across(table: &Table, place: u32, face: u8) -> Option<u32>
-    requires table { IsTable table.now }
-    requires in_range { place < 12 * length table.now }
-    requires a_face { face < 4 }
-    ensures { result ≡ crossed_direction table.now place face }
+pub fn direction_across(exit: Exit<'_>, place: u32) -> Option<u32>
+    requires { place < 12 * length exit.table.now }
+    ensures { result ≡ crossed_direction exit.entry.table.now place exit.entry.face }
 {
     let (from, to) = direction_ends((place % 12) as u8);
-    if from == face {
+    if from == exit.face {
         return None;
     }
-    if to == face {
+    if to == exit.face {
         return None;
     }
-    let tet = place / 12;
-    let Some(glue) = behind(table, Face { tet, face }) else {
+    let Some(glue) = exit.of(place / 12) else {
         return None;
     };
     let number = direction_number(glue.perm.image(from), glue.perm.image(to));
-    Some(12 * glue.tet + number as u32)
+    Some(12 * glue.tet + number)
 }
 
 /// The edge as a directed edge, from its lesser end.
-fn forward(edge: u32) -> u32
-    requires { edge < 6000 }
+fn forward(edge: u32) -> usize
     ensures { result ≡ forward edge }
 {
     let (lower, higher) = edge_ends((edge % 6) as u8);
-    12 * (edge / 6) + direction_number(lower, higher) as u32
+    12 * (edge / 6) as usize + direction_number(lower, higher) as usize
 }
 
 /// The edge as a directed edge, from its greater end.
-fn backward(edge: u32) -> u32
-    requires { edge < 6000 }
+fn backward(edge: u32) -> usize
     ensures { result ≡ backward edge }
 {
     let (lower, higher) = edge_ends((edge % 6) as u8);
-    12 * (edge / 6) + direction_number(higher, lower) as u32
+    12 * (edge / 6) as usize + direction_number(higher, lower) as usize
 }
 
 /// Whether one edge is joined to another with its direction turned round.
 pub fn runs_against(directions: &[u32], one: u32, other: u32) -> bool
-    requires one_small { one < 6000 }
-    requires other_small { other < 6000 }
     requires one_in_range { forward one < length directions.now }
     requires other_in_range { backward other < length directions.now }
     ensures { result ≡ runs_against directions.now one other }
 {
-    directions[forward(one) as usize] == directions[backward(other) as usize]
+    directions[forward(one)] == directions[backward(other)]
 }

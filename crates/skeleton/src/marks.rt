@@ -2,7 +2,6 @@
 
 ghost use Rattle.std.specs.Prelude.{length, IfOk};
 ghost use Rattle.std.specs.Option.{option_map};
-ghost use Rattle.table_definitions.specs.Table.{IsTable};
 ghost use Rattle.skeleton_definitions.specs.Skeleton.{IsOrientation};
 ghost use Rattle.skeleton_class_laws.specs.Numberings.{AreClassesOf};
 ghost use Rattle.skeleton_class_laws.specs.declared.Kind.TheVariants.{Vertices, Edges};
@@ -35,7 +34,6 @@ pub fn marks_of(
     vertices: &Numbering,
     edges: &Numbering,
 ) -> Result<Marks, NoMemory>
-    requires table { IsTable table.now }
     requires vertices { AreClassesOf Vertices table.now vertices.now.classes.items vertices.now.firsts.items }
     requires edges { AreClassesOf Edges table.now edges.now.classes.items edges.now.firsts.items }
     ensures vertex_degrees { IfOk result (λ m. AreDegrees vertices.now.classes.items (length vertices.now.firsts.items) m.vertex_degrees.items) }
@@ -44,9 +42,9 @@ pub fn marks_of(
     ensures orientation { IfOk result (λ m. IsOrientation table.now (option_map items_of m.signs)) }
     ensures walks { IfOk result (λ m. AreRounds table.now edges.now.firsts.items m.boundary.items (length edges.now.firsts.items) m.walks.items) }
 {
-    let vertex_degrees = degrees_of(alloc, &vertices.classes, vertices.firsts.len())?;
-    let edge_degrees = degrees_of(alloc, &edges.classes, edges.firsts.len())?;
-    let boundary = boundary_marks(alloc, table, &edges.classes, edges.firsts.len())?;
+    let vertex_degrees = degrees_of(alloc, vertices)?;
+    let edge_degrees = degrees_of(alloc, edges)?;
+    let boundary = boundary_marks(alloc, table, edges)?;
     let signs = orientation_of(alloc, table)?;
     let walks = walks(alloc, table, &edges.firsts, &boundary)?;
     Ok(Marks {

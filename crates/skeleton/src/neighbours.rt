@@ -5,7 +5,7 @@ ghost use Rattle.table_definitions.specs.Table.{IsTable};
 ghost use Rattle.skeleton_class_laws.specs.Neighbours.{AreNeighbours, row_at};
 ghost use Rattle.skeleton_class_laws.specs.Numberings.{per_tet, crossing};
 
-use crate::crossings::{face_across, vertex_across};
+use crate::crossings::{Exit, face_across, vertex_across};
 use crate::edges::{direction_across, edge_across};
 use crate::signs::{sign_across, vertex_sign_across};
 use gluing_table::Table;
@@ -27,32 +27,29 @@ fn per_tet(kind: Kind) -> u32
 }
 
 /// What lies across one face.
-fn across(table: &Table, kind: Kind, place: u32, face: u8) -> Option<u32>
-    requires table { IsTable table.now }
-    requires in_range { place < per_tet kind * length table.now }
-    requires a_face { face < 4 }
-    ensures { result ≡ crossing kind table.now place face }
+fn across(exit: Exit<'_>, kind: Kind, place: u32) -> Option<u32>
+    requires { place < per_tet kind * length exit.table.now }
+    ensures { result ≡ crossing kind exit.entry.table.now place exit.entry.face }
 {
     match kind {
-        Kind::Vertices => vertex_across(table, place, face),
-        Kind::Edges => edge_across(table, place, face),
-        Kind::Directions => direction_across(table, place, face),
-        Kind::Faces => face_across(table, place, face),
-        Kind::Signs => sign_across(table, place, face),
-        Kind::VertexSigns => vertex_sign_across(table, place, face),
+        Kind::Vertices => vertex_across(exit, place),
+        Kind::Edges => edge_across(exit, place),
+        Kind::Directions => direction_across(exit, place),
+        Kind::Faces => face_across(exit.table, place, exit.face),
+        Kind::Signs => sign_across(exit, place),
+        Kind::VertexSigns => vertex_sign_across(exit, place),
     }
 }
 
 fn row_of(table: &Table, kind: Kind, place: u32) -> [Option<u32>; 4]
-    requires table { IsTable table.now }
-    requires in_range { place < per_tet kind * length table.now }
+    requires { place < per_tet kind * length table.now }
     ensures { result ≡ row_at (crossing kind table.now) place }
 {
     [
-        across(table, kind, place, 0),
-        across(table, kind, place, 1),
-        across(table, kind, place, 2),
-        across(table, kind, place, 3),
+        across(Exit { table, face: 0 }, kind, place),
+        across(Exit { table, face: 1 }, kind, place),
+        across(Exit { table, face: 2 }, kind, place),
+        across(Exit { table, face: 3 }, kind, place),
     ]
 }
 
@@ -62,8 +59,8 @@ pub fn neighbours(
     table: &Table,
     kind: Kind,
 ) -> Result<Vec<[Option<u32>; 4]>, NoMemory>
-    requires { IsTable table.now }
-    ensures { IfOk result (λ rows. AreNeighbours (per_tet kind * length table.now) (crossing kind table.now) rows.items) }
+    ensures rows { IfOk result (λ rows. AreNeighbours (per_tet kind * length table.now) (crossing kind table.now) rows.items) }
+    ensures is_table { IsTable table.now }
 {
     let count = count_of(table, kind);
     let mut rows = Vec::with_capacity(alloc, count as usize)?;
@@ -75,9 +72,9 @@ pub fn neighbours(
 
 /// How many of these things there are.
 fn count_of(table: &Table, kind: Kind) -> u32
-    requires { IsTable table.now }
     ensures value { result ≡ per_tet kind * length table.now }
     ensures few { result ≤ 24000 }
+    ensures is_table { IsTable table.now }
 {
     per_tet(kind) * table.len()
 }

@@ -1,7 +1,6 @@
 //! Classes of things under gluing.
 
-ghost use Rattle.std.specs.Prelude.{◌<◌, ◌^◌, length, IfOk};
-ghost use Rattle.table_definitions.specs.Table.{IsTable};
+ghost use Rattle.std.specs.Prelude.{◌<◌, ◌^◌, ℕ, length, slice_index, IfOk};
 ghost use Rattle.skeleton_class_laws.specs.Numberings.{AreClassesOf, AreFirsts, IsOrdered};
 ghost use Rattle.skeleton_class_laws.specs.declared.Kind.TheVariants.{Vertices, Edges, Directions, Faces};
 
@@ -17,6 +16,8 @@ use std::alloc::Global;
 pub struct Numbering {
     pub classes: Vec<u32>,
     pub firsts: Vec<u32>,
+    pub ghost few: { length classes.items < 2 ^ 32 },
+    pub ghost in_range: { (i : ℕ) → i < length classes.items → slice_index classes.items i < length firsts.items },
 }
 
 /// The classes of all that is numbered in a table.
@@ -45,7 +46,6 @@ fn firsts(alloc: Global, classes: &[u32]) -> Result<Vec<u32>, NoMemory>
 
 /// The classes of one kind of things.
 pub fn classes_of(alloc: Global, table: &Table, kind: Kind) -> Result<Numbering, NoMemory>
-    requires { IsTable table.now }
     ensures { IfOk result (λ r. AreClassesOf kind table.now r.classes.items r.firsts.items) }
 {
     let neighbours = neighbours(alloc, table, kind)?;
@@ -59,7 +59,6 @@ pub fn classes_of(alloc: Global, table: &Table, kind: Kind) -> Result<Numbering,
 
 /// The classes of each kind.
 pub fn all_classes(alloc: Global, table: &Table) -> Result<Classes, NoMemory>
-    requires { IsTable table.now }
     ensures vertices { IfOk result (λ c. AreClassesOf Vertices table.now c.vertices.classes.items c.vertices.firsts.items) }
     ensures edges { IfOk result (λ c. AreClassesOf Edges table.now c.edges.classes.items c.edges.firsts.items) }
     ensures faces { IfOk result (λ c. AreClassesOf Faces table.now c.faces.classes.items c.faces.firsts.items) }

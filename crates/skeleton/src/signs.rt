@@ -2,27 +2,23 @@
 
 ghost use Rattle.std.specs.Prelude.{◌≡◌, ◌*◌, ◌+◌, ◌<◌, ◌≤◌, ℕ, length, slice_index, IfOk, IsTrue, ◌≢◌, false};
 ghost use Rattle.std.specs.Option.{option_map};
-ghost use Rattle.table_definitions.specs.Table.{IsTable};
 ghost use Rattle.skeleton_definitions.specs.Skeleton.{IsOrientation};
 ghost use Rattle.skeleton_class_laws.specs.Signs.{crossed_sign, crossed_vertex_sign, AreSignsBy};
 ghost use Rattle.skeleton.specs.Parts.{items_of};
 
-use crate::crossings::behind;
+use crate::crossings::Exit;
 use crate::numbering::classes_of;
-use gluing_table::{Face, Table};
+use gluing_table::Table;
 use no_memory::NoMemory;
 use skeleton_class_laws::Kind;
 use std::alloc::Global;
 
 /// The signed tetrahedron behind a face.
-pub fn sign_across(table: &Table, place: u32, face: u8) -> Option<u32>
-    requires table { IsTable table.now }
-    requires in_range { place < 2 * length table.now }
-    requires a_face { face < 4 }
-    ensures { result ≡ crossed_sign table.now place face }
+pub fn sign_across(exit: Exit<'_>, place: u32) -> Option<u32>
+    requires { place < 2 * length exit.table.now }
+    ensures { result ≡ crossed_sign exit.entry.table.now place exit.entry.face }
 {
-    let tet = place / 2;
-    let Some(glue) = behind(table, Face { tet, face }) else {
+    let Some(glue) = exit.of(place / 2) else {
         return None;
     };
     let sign = place % 2;
@@ -34,18 +30,15 @@ pub fn sign_across(table: &Table, place: u32, face: u8) -> Option<u32>
 }
 
 /// The signed vertex behind a face.
-pub fn vertex_sign_across(table: &Table, place: u32, face: u8) -> Option<u32>
-    requires table { IsTable table.now }
-    requires in_range { place < 8 * length table.now }
-    requires a_face { face < 4 }
-    ensures { result ≡ crossed_vertex_sign table.now place face }
+pub fn vertex_sign_across(exit: Exit<'_>, place: u32) -> Option<u32>
+    requires { place < 8 * length exit.table.now }
+    ensures { result ≡ crossed_vertex_sign exit.entry.table.now place exit.entry.face }
 {
     let v = (place / 2 % 4) as u8;
-    if v == face {
+    if v == exit.face {
         return None;
     }
-    let tet = place / 8;
-    let Some(glue) = behind(table, Face { tet, face }) else {
+    let Some(glue) = exit.of(place / 8) else {
         return None;
     };
     let vertex = 4 * glue.tet + glue.perm.image(v) as u32;
@@ -85,7 +78,6 @@ fn signs_by(alloc: Global, classes: &[u32], count: u32) -> Result<Vec<bool>, NoM
 /// Signs that stay across odd gluings and change across even ones, true at the least tetrahedron of each
 /// component; nothing where there are none.
 pub fn orientation_of(alloc: Global, table: &Table) -> Result<Option<Vec<bool>>, NoMemory>
-    requires { IsTable table.now }
     ensures { IfOk result (λ r. IsOrientation table.now (option_map items_of r)) }
 {
     let classes = classes_of(alloc, table, Kind::Signs)?.classes;

@@ -4,6 +4,6 @@ use Rattle.skeleton.proofs.degrees.degrees_of.Given as goal
 
 abbrev pub invariant-loop-class : goal.invariant-loop-class
 invariant-loop-class l = record {
-  one_each : length l.degrees.items ≡ l.count;
-  counted : (c : ℕ) → c < l.count → slice_index l.degrees.items c ≡ times_in (take l.class-index l.classes) c;
+  one_each : length l.degrees.items ≡ length l.numbering.firsts.items;
+  counted : (c : ℕ) → c < length l.numbering.firsts.items → slice_index l.degrees.items c ≡ times_in (take l.class-index l.class-items) c;
 }

@@ -15,9 +15,9 @@ classes-requires c = (
     grind arith,
     (
       subst (λ (t : List (List (Option ℕ))). HasNeighboursBelow (length t) (neighbours_of t)) (sym c.deref.ensures.value)
-          (has_neighbours_below _ _ _ c.in_ok-neighbours.ensures (each_reversible c.args.kind c.args.table.now c.requires)),
+          (has_neighbours_below _ _ _ c.in_ok-neighbours.ensures.rows (each_reversible c.args.kind c.args.table.now c.in_ok-neighbours.ensures.is_table)),
       subst (λ (t : List (List (Option ℕ))). IsSymmetric (neighbours_of t)) (sym c.deref.ensures.value)
-          (is_symmetric _ _ _ c.in_ok-neighbours.ensures (each_reversible c.args.kind c.args.table.now c.requires)),
+          (is_symmetric _ _ _ c.in_ok-neighbours.ensures.rows (each_reversible c.args.kind c.args.table.now c.in_ok-neighbours.ensures.is_table)),
     ),
   ),
 )
@@ -37,12 +37,12 @@ firsts-requires-clause-ordered c = subst IsOrdered (sym c.deref-2.ensures.value)
 pub returns : goal.returns
 returns c =
     let rows = c.args.table.now in
-    let a : AreNeighbours (per_tet c.args.kind * length rows) (crossing c.args.kind rows) c.in_ok-neighbours.neighbours.items = c.in_ok-neighbours.ensures in
+    let a : AreNeighbours (per_tet c.args.kind * length rows) (crossing c.args.kind rows) c.in_ok-neighbours.neighbours.items = c.in_ok-neighbours.ensures.rows in
     let f : AreFirsts c.in_ok-numbered.numbered.classes.items c.in_ok-firsts.firsts.items =
     subst (λ classes. AreFirsts classes c.in_ok-firsts.firsts.items) c.deref-2.ensures.value c.in_ok-firsts.ensures in
     record {
       numbering = numbering_from (neighbours_of c.in_ok-neighbours.neighbours.items) (per_tet c.args.kind * length rows) (same c.args.kind rows) _ _ _
           (by_classes _ _ _ _ _ c.deref.ensures.value a.one_each c.in_ok-numbered.ensures) f
-          (joined_is_same c.args.kind rows c.in_ok-neighbours.neighbours.items c.requires a);
+          (joined_is_same c.args.kind rows c.in_ok-neighbours.neighbours.items c.in_ok-neighbours.ensures.is_table a);
       least_members = f;
     }

@@ -11,7 +11,7 @@ HasJoined classes n = (t : ℕ) × (t < n) × (slice_index classes (2 * t) ≡ s
 
 pub returns-then-tells_apart : goal.returns-then-tells_apart
 returns-then-tells_apart c =
-    oriented c.args.table.now c.requires _ _ c.in_ok-classes.ensures.numbering
+    oriented c.args.table.now c.len.ensures.is_table _ _ c.in_ok-classes.ensures.numbering
     (subst₂ AreApart c.deref.ensures.value c.len.ensures.value (c.tells_apart.ensures.apart c.if-tells_apart.true))
     _ (subst₂ (λ (classes : List ℕ) (n : ℕ). AreSignsBy classes n c.in_ok-signs.signs.items) c.deref-then-tells_apart.ensures.value c.len-then-tells_apart.ensures.value c.in_ok-signs.ensures)
 
@@ -19,4 +19,4 @@ pub returns : goal.returns
 returns c =
     let j : HasJoined c.in_ok-classes.field-0.classes.items (length c.args.table.now) =
     subst₂ HasJoined c.deref.ensures.value c.len.ensures.value (c.tells_apart.ensures.joined c.if-tells_apart.false) in
-    not_orientable c.args.table.now c.requires _ _ c.in_ok-classes.ensures.numbering j.0 j.1 j.2
+    not_orientable c.args.table.now c.len.ensures.is_table _ _ c.in_ok-classes.ensures.numbering j.0 j.1 j.2

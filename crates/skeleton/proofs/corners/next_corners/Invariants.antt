@@ -1,7 +1,7 @@
 use Rattle.std.proofs.Common.{◌≡◌, ◌<◌, ℕ, length}
 use Rattle.table_walk_laws.specs.Walks.{step_of}
 use Rattle.skeleton_class_laws.specs.Rounds.{next_corner}
-use Rattle.skeleton.proofs.corners.next_places.Given as goal
+use Rattle.skeleton.proofs.corners.next_corners.Given as goal
 
 abbrev pub invariant-loop-place : goal.invariant-loop-place
 invariant-loop-place l = record {
