@@ -1,3 +1,4 @@
 pub mod InputLaws
 pub mod Stops
+mod FacesJoined
 mod SeenJoined

@@ -1,16 +1,17 @@
 -- A face that is joined to a tetrahedron which is seen, or isn't.
-use Rattle.std.proofs.Common.{◌≡◌, ℕ, ◌+◌, ◌*◌, ◌<◌, ◌≤◌, Bool, true, false, List, [], ◌∷◌, length, drop, refl, sym, ap, ◌∙◌, subst₂, arith, length-drop}
-use Rattle.std.specs.Prelude.{Result, Err, Ok, All, Option, is_some, ◌||◌}
+use Rattle.std.proofs.Common.{◌≡◌, ℕ, ◌<◌, ◌≤◌, Bool, true, false, List, [], ◌∷◌, length, drop, refl, sym, ap, ◌∙◌, subst₂, arith, length-drop}
+use Rattle.std.specs.Prelude.{Result, Err, Ok, All, is_some, ◌||◌}
 use Rattle.std.specs.List.{slice_index_or}
 use Rattle.std.proofs.lemmas.Bool.{le-leb, lt-leb}
 use Rattle.table_definitions.specs.Lists.{times_in}
 use Rattle.table_definitions.specs.Permutation.{words}
-use Rattle.table_definitions.specs.Table.{Gluing, Face, other_side, same_face, face_number}
+use Rattle.table_definitions.specs.Table.{Gluing, Face, other_side, same_face}
 use Rattle.signature_definitions.specs.declared.SigFault.{SigFault}
 use Rattle.signature_definitions.specs.declared.SigFault.TheVariants as sig_faults
 use Rattle.signature_definitions.specs.SignatureText as signatures
-use Rattle.signature_text_laws.specs.Slots.{Slots, slot, meet_at, slot_glued, slot_seen, IsTaking}
+use Rattle.signature_text_laws.specs.Slots.{Slots, slot, meet_at, slot_glued, slot_seen}
 use Rattle.signature_text_laws.proofs.SlotLaws.{times-same}
+use Rattle.signature_codec.specs.Views.{glued_at}
 
 -- the destination and the gluing are those that were read
 module _ (x : Face) (s : Slots) (d i : ℕ × ℕ) (d_is : d ≡ signatures.first_pair s.parts.destinations) (i_is : i ≡ signatures.first_pair s.parts.gluings) where
@@ -46,10 +47,10 @@ module _ (x : Face) (s : Slots) (d i : ℕ × ℕ) (d_is : d ≡ signatures.firs
     pub face_taken : taken_by other ≡ true → slot_seen x s ≡ Err (sig_faults.FaceTaken i.1)
     face_taken h = seen ∙ ap (λ wrong. signatures.unless wrong (sig_faults.FaceTaken i.1) joined) (sym (ap taken_by made) ∙ h)
 
-    pub face_met : (met : List (Option (Option Gluing))) → taken_by other ≡ false → met ≡ meet_at s.met x (record { tet = d.0; perm = p }) → slot_seen x s ≡ Ok (record used { met = met })
-    face_met met h met_is =
+    pub face_met : taken_by other ≡ false → slot_seen x s ≡ Ok (glued_at s x (record { tet = d.0; perm = p }))
+    face_met h =
         seen ∙ ap (λ wrong. signatures.unless wrong (sig_faults.FaceTaken i.1) joined) (sym (ap taken_by made) ∙ h)
-        ∙ ap (λ q. Ok (record used { met = meet_at s.met x (record { tet = d.0; perm = q }) })) (sym p_is) ∙ ap (λ m. Ok (record used { met = m })) (sym met_is)
+        ∙ ap (λ q. Ok (record used { met = meet_at s.met x (record { tet = d.0; perm = q }) })) (sym p_is)
 
 -- where a type 2 was taken, there is a destination, and a gluing
 pub some_left : (u : ℕ) (types : List ℕ) (ps : List (ℕ × ℕ)) → length (drop u ps) ≡ times_in (2 ∷ types) 2 → u < length ps
@@ -58,13 +59,6 @@ some_left u types ps h = omega (arith, times-same 2 types, length-drop u ps)
 pub first_small : (ps : List (ℕ × ℕ)) → All (λ (i : ℕ × ℕ). i.0 < 24) ps → (signatures.first_pair ps).0 < 24
 first_small [] h = omega arith
 first_small (p ∷ ps) h = h 0 (0, 0) (omega arith)
-
--- a tetrahedron that is seen has its places
-pub has_row : (n t : ℕ) (s : Slots) → IsTaking n 2 s → t < s.seen → 4 * t + 4 ≤ length s.met
-has_row n t s h seen = let size = h.size in let room = h.room in omega arith
-
-pub has_place : (n : ℕ) (x : Face) (s : Slots) → IsTaking n 2 s → x.face < 4 → x.tet < s.seen → face_number x < length s.met
-has_place n x s h face seen = let row = has_row n x.tet s h seen in omega arith
 
 -- a test after one that failed decides
 pub or_next : (a b r : Bool) → a ≡ false → b ≡ r → (a || b) ≡ r

@@ -1,18 +1,20 @@
 -- What the calls keep and answer, as the definitions see it.
 use Rattle.std.specs.Prelude.{◌≡◌, ℕ, List, drop, Option, Some, None, Result, Ok, Err}
+use Rattle.table_definitions.specs.Table as gluings
 use Rattle.table_definitions.specs.Table.{Row, Face}
 use Rattle.signature_definitions.specs.declared.SigFault.{SigFault}
 use Rattle.signature_definitions.specs.declared.SigFault.TheVariants.{Destination, Gluing}
 use Rattle.signature_definitions.specs.SignatureText as signatures
 use Rattle.signature_definitions.specs.WalkOrder.{first_unordered, IsWalkOrdered}
 use Rattle.signature_definitions.specs.Spelling.{face_types, seen_gluings}
-use Rattle.signature_text_laws.specs.Slots.{Slots}
+use Rattle.signature_text_laws.specs.Slots.{Slots, meet_at}
 use Rattle.signature_text_laws.specs.Walks.{Walking}
 use Rattle.signature_codec.specs.declared.numbers.Segment.{Segment}
 use Rattle.signature_codec.specs.declared.numbers.Segment.TheVariants.{Destinations, Gluings}
-use Rattle.signature_codec.specs.declared.heads.Head.{Head}
-use Rattle.signature_codec.specs.declared.types.Types.{Types}
-use Rattle.signature_codec.specs.declared.parts.Parts.{Parts}
+use Rattle.signature_codec.specs.declared.read.Head.{Head}
+use Rattle.signature_codec.specs.declared.read.Types.{Types}
+use Rattle.signature_codec.specs.declared.read.TypesRead.{TypesRead}
+use Rattle.signature_codec.specs.declared.read.Parts.{Parts}
 use Rattle.signature_codec.specs.declared.joining.Joining.{Joining}
 use Rattle.signature_codec.specs.declared.walk.Walk.{Walk}
 use Rattle.signature_codec.specs.declared.walk.NotOrdered.{NotOrdered}
@@ -32,19 +34,23 @@ abbrev pub types_view : Types → signatures.Types
 types_view t = record { read = t.read.items; left = t.left; ones = t.ones }
 
 -- the types, and the place behind them
-abbrev pub read_behind : Types → signatures.Types × ℕ
-read_behind t = (types_view t, t.next)
+abbrev pub read_behind : TypesRead → signatures.Types × ℕ
+read_behind t = (types_view t.types, t.next)
 
 abbrev pub parts_view : Parts → signatures.Parts
 parts_view p = record { types = p.types.items; destinations = p.destinations.items; gluings = p.gluings.items }
 
 -- what the calls keep, as the definitions see it
-abbrev pub slots_view : Parts → Joining → Slots
-slots_view p j = record {
+abbrev pub slots_view : Joining → Slots
+slots_view j = record {
   met = j.met.items;
   seen = j.seen;
-  parts = record { types = drop j.types_used p.types.items; destinations = drop j.seen_used p.destinations.items; gluings = drop j.seen_used p.gluings.items };
+  parts = record { types = drop j.types_used j.parts.now.types.items; destinations = drop j.seen_used j.parts.now.destinations.items; gluings = drop j.seen_used j.parts.now.gluings.items };
 }
+
+-- what is kept where a face is glued to a tetrahedron that is seen
+abbrev pub glued_at : Slots → Face → gluings.Gluing → Slots
+glued_at s x g = record s { met = meet_at s.met x g; parts = record s.parts { destinations = drop 1 s.parts.destinations; gluings = drop 1 s.parts.gluings } }
 
 -- what a call keeps, as the definitions see it
 abbrev pub walk_view : Walk → Walking

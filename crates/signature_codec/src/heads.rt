@@ -1,7 +1,6 @@
 //! The count of tetrahedra, with which a text begins.
 
-ghost use Rattle.std.specs.Prelude.{◌≡◌, ◌<◌, ◌≤◌, length, IfOk};
-ghost use Rattle.table_definitions.specs.Table.{max_tets};
+ghost use Rattle.std.specs.Prelude.{◌≡◌, ◌≤◌, length, IfOk};
 ghost use Rattle.signature_definitions.specs.SignatureText as signatures;
 ghost use Rattle.signature_definitions.specs.Spelling as spellings;
 ghost use Rattle.signature_text_laws.specs.Faults.{Reads};
@@ -9,15 +8,8 @@ ghost use Rattle.signature_codec.specs.Views.{head_view};
 
 use crate::SigFault;
 use crate::numbers::{number_in, value_at};
+use crate::read::Head;
 use gluing_table::MAX_TETS;
-
-/// The count of tetrahedra, the number of characters for a number, and the place of the types.
-#[derive(Clone, Copy)]
-pub struct Head {
-    pub count: u32,
-    pub width: u32,
-    pub next: usize,
-}
 
 /// The count of so many tetrahedra takes one character.
 const FIRST_LONG: u32 = 63;
@@ -36,15 +28,18 @@ pub fn width(count: u32) -> u32
     }
 }
 
-/// The head of a text behind `-` and this width.
-fn wide_head(text: &[u8], width_read: u32) -> Result<Head, SigFault>
-    requires in_text { 2 ≤ length text.now }
-    requires narrow { width_read < 3 }
-    ensures reads { Reads head_view result (signatures.wide_head text.now width_read) }
-    ensures few { IfOk result (λ h. h.count ≤ max_tets) }
-    ensures narrow { IfOk result (λ h. h.width ≤ 2) }
+/// The head of a text that begins with `-`.
+fn long_head(text: &[u8]) -> Result<Head, SigFault>
+    ensures reads { Reads head_view result (signatures.long_head text.now) }
     ensures in_text { IfOk result (λ h. h.next ≤ length text.now) }
 {
+    let width_read = value_at(text, 1)?;
+    if width_read == 0 {
+        return Err(SigFault::Width { at: 1 });
+    }
+    if width_read >= 3 {
+        return Err(SigFault::TooMany);
+    }
     let count = number_in(text, width_read, 2)?;
     if count > MAX_TETS {
         return Err(SigFault::TooMany);
@@ -59,29 +54,10 @@ fn wide_head(text: &[u8], width_read: u32) -> Result<Head, SigFault>
     })
 }
 
-/// The head of a text that begins with `-`.
-fn long_head(text: &[u8]) -> Result<Head, SigFault>
-    ensures reads { Reads head_view result (signatures.long_head text.now) }
-    ensures few { IfOk result (λ h. h.count ≤ max_tets) }
-    ensures narrow { IfOk result (λ h. h.width ≤ 2) }
-    ensures in_text { IfOk result (λ h. h.next ≤ length text.now) }
-{
-    let width_read = value_at(text, 1)?;
-    if width_read == 0 {
-        return Err(SigFault::Width { at: 1 });
-    }
-    if width_read >= 3 {
-        return Err(SigFault::TooMany);
-    }
-    wide_head(text, width_read)
-}
-
 /// The head of a text.
 #[tactic(auto, unfolding(signature_definitions::specs::SignatureText::head_of))]
 pub fn head_of(text: &[u8]) -> Result<Head, SigFault>
     ensures reads { Reads head_view result (signatures.head_of text.now) }
-    ensures few { IfOk result (λ h. h.count ≤ max_tets) }
-    ensures narrow { IfOk result (λ h. h.width ≤ 2) }
     ensures in_text { IfOk result (λ h. h.next ≤ length text.now) }
 {
     let count = value_at(text, 0)?;

@@ -16,6 +16,17 @@ pub enum Segment {
     Gluings,
 }
 
+/// So many numbers of a segment, each in so many characters and below a bound.
+#[derive(Clone, Copy)]
+pub struct Numbers {
+    pub segment: Segment,
+    pub many: u32,
+    pub width: u32,
+    pub bound: u32,
+    pub ghost few: { many ≤ 4000 },
+    pub ghost narrow: { width ≤ 3 },
+}
+
 impl Segment {
     ghost use Rattle.signature_codec.specs.Views.{fault_of_segment};
 
@@ -61,30 +72,25 @@ pub fn number_in(text: &[u8], width: u32, at: usize) -> Result<u32, SigFault>
     Ok(low + 64 * high)
 }
 
-/// So many numbers below `bound`, each with its place.
+/// The numbers of a segment from a place on, each with its place.
 pub fn numbers_in(
     alloc: Global,
     text: &[u8],
-    segment: Segment,
-    many: u32,
-    width: u32,
-    bound: u32,
+    numbers: Numbers,
     at: usize,
 ) -> Result<Vec<(u32, usize)>, SigFault>
-    requires in_text { at ≤ length text.now }
-    requires narrow { width ≤ 3 }
-    requires few { many ≤ 4000 }
-    ensures reads { Reads (λ v. v.items) result (signatures.numbers_in many text.now width bound (fault_of_segment segment) at) }
-    ensures in_text { OnOk result (at + width * many ≤ length text.now) }
+    requires { at ≤ length text.now }
+    ensures reads { Reads (λ v. v.items) result (signatures.numbers_in numbers.many text.now numbers.width numbers.bound (fault_of_segment numbers.segment) at) }
+    ensures in_text { OnOk result (at + numbers.width * numbers.many ≤ length text.now) }
 {
-    let mut numbers = Vec::new(alloc);
-    for i in 0..many {
-        let next = at + (width * i) as usize;
-        let value = number_in(text, width, next)?;
-        if value >= bound {
-            return Err(segment.fault(next));
+    let mut read = Vec::new(alloc);
+    for i in 0..numbers.many {
+        let next = at + (numbers.width * i) as usize;
+        let value = number_in(text, numbers.width, next)?;
+        if value >= numbers.bound {
+            return Err(numbers.segment.fault(next));
         }
-        numbers.push((value, next))?;
+        read.push((value, next))?;
     }
-    Ok(numbers)
+    Ok(read)
 }

@@ -1,26 +1,15 @@
-//! What is read of a text before its faces are joined.
+//! The parts of a text behind its types.
 
 ghost use Rattle.std.specs.Prelude.{◌≡◌, ◌<◌, ◌≤◌, length, IfOk};
-ghost use Rattle.table_definitions.specs.Table.{max_tets};
 ghost use Rattle.table_definitions.specs.Lists.{times_in};
 ghost use Rattle.signature_text_laws.specs.Faults.{Reads};
 ghost use Rattle.signature_codec.specs.Views.{head_view, types_view, parts_view};
 ghost use Rattle.signature_text_laws.specs.Parts.{parts_of};
 
 use crate::SigFault;
-use crate::heads::Head;
-use crate::numbers::{Segment, numbers_in};
-use crate::types::Types;
+use crate::numbers::{Numbers, Segment, numbers_in};
+use crate::read::{Head, Parts, TypesRead};
 use std::alloc::Global;
-
-/// The count of tetrahedra, the types, and the destination and the gluing of each type 2, with their places.
-#[derive(Drop)]
-pub struct Parts {
-    pub count: u32,
-    pub types: Vec<u8>,
-    pub destinations: Vec<(u32, usize)>,
-    pub gluings: Vec<(u32, usize)>,
-}
 
 /// How many types are 2.
 fn twos_of(types: &[u8]) -> usize
@@ -31,38 +20,43 @@ fn twos_of(types: &[u8]) -> usize
 }
 
 /// The parts behind the types.
-pub fn read_parts(alloc: Global, text: &[u8], head: Head, types: Types) -> Result<Parts, SigFault>
-    requires in_text { types.next ≤ length text.now }
-    requires narrow { head.width ≤ 2 }
-    requires few { head.count ≤ max_tets }
-    requires few_types { length types.read.items ≤ 4000 }
-    requires few_ones { types.ones ≤ max_tets }
-    ensures reads { Reads parts_view result (parts_of text.now (head_view head) (types_view types) types.next) }
+pub fn read_parts(
+    alloc: Global,
+    text: &[u8],
+    head: Head,
+    types: TypesRead,
+) -> Result<Parts, SigFault>
+    requires { types.next ≤ length text.now }
+    ensures reads { Reads parts_view result (parts_of text.now (head_view head) (types_view types.types) types.next) }
     ensures count { IfOk result (λ p. p.count ≡ head.count) }
 {
-    let twos = twos_of(&types.read) as u32;
-    if types.ones + 1 < head.count {
+    let twos = twos_of(&types.types.read) as u32;
+    if types.types.ones + 1 < head.count {
         return Err(SigFault::Unreached);
     }
     let (width, at) = (head.width, types.next);
-    let destinations = numbers_in(
-        alloc,
-        text,
-        Segment::Destinations,
-        twos,
+    let destinations = Numbers {
+        segment: Segment::Destinations,
+        many: twos,
         width,
-        head.count,
-        at,
-    )?;
+        bound: head.count,
+    };
+    let destinations = numbers_in(alloc, text, destinations, at)?;
     let gluings_at = at + (width * twos) as usize;
-    let gluings = numbers_in(alloc, text, Segment::Gluings, twos, 1, 24, gluings_at)?;
+    let gluings = Numbers {
+        segment: Segment::Gluings,
+        many: twos,
+        width: 1,
+        bound: 24,
+    };
+    let gluings = numbers_in(alloc, text, gluings, gluings_at)?;
     let end = gluings_at + twos as usize;
     if end < text.len() {
         return Err(SigFault::Trailing { at: end });
     }
     Ok(Parts {
         count: head.count,
-        types: types.read,
+        types: types.types.read,
         destinations,
         gluings,
     })

@@ -8,7 +8,7 @@ ghost use Rattle.signature_text_laws.specs.Faults.{Reads, SpellsNothing};
 
 use crate::SigFault;
 use crate::heads::head_of;
-use crate::joining::join;
+use crate::joined::join;
 use crate::parts::read_parts;
 use crate::types::read_types;
 use gluing_table::{Row, Table};

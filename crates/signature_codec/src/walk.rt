@@ -1,10 +1,9 @@
 //! The walk through the faces of a table in order.
 
-ghost use Rattle.std.specs.Prelude.{◌≡◌, ◌<◌, ◌≤◌, ◌*◌, length, IfOk, IfErr};
+ghost use Rattle.std.specs.Prelude.{◌≡◌, ◌<◌, length, IfOk, IfErr};
 ghost use Rattle.table_definitions.specs.Lists.{same_list};
 ghost use Rattle.table_definitions.specs.Permutation.{identity};
 ghost use Rattle.table_definitions.specs.Table as gluings;
-ghost use Rattle.table_definitions.specs.Table.{max_tets, IsTable};
 ghost use Rattle.signature_text_laws.specs.Walks as walks;
 ghost use Rattle.signature_codec.specs.Views.{walk_view, named_face, Takes, IsWholeWalk, StopsAt};
 
@@ -47,12 +46,18 @@ fn is_identity(perm: Perm4) -> bool
     perm == perm_at(0)
 }
 
-/// Takes a face that is glued, if it is in order.
-fn take_glued(walk: &mut Walk, face: Face, glue: Glue) -> Result<(), SpellFault>
-    requires a_face { face.face < 4 }
-    requires few { walk.old.seen ≤ max_tets }
-    ensures takes { Takes (walk_view walk.new) face result (walks.take_glued face glue (walk_view walk.old)) }
+/// Takes a face, if it is in order.
+fn take_face(walk: &mut Walk, table: &Table, face: Face) -> Result<(), SpellFault>
+    requires { face.tet < length table.now }
+    ensures takes { Takes (walk_view walk.new) face result (walks.take_face table.now face (walk_view walk.old)) }
 {
+    if face.tet >= walk.seen {
+        return Err(Failure::Fault(not_ordered(face)));
+    }
+    let Some(glue) = table.glue(face) else {
+        walk.types.push(0)?;
+        return Ok(());
+    };
     if glue.other_side(face).is_before(face) {
         return Ok(());
     }
@@ -69,26 +74,8 @@ fn take_glued(walk: &mut Walk, face: Face, glue: Glue) -> Result<(), SpellFault>
     Err(Failure::Fault(not_ordered(face)))
 }
 
-/// Takes a face, if it is in order.
-fn take_face(walk: &mut Walk, table: &Table, face: Face) -> Result<(), SpellFault>
-    requires a_face { face.face < 4 }
-    requires in_range { face.tet < length table.now }
-    requires few { walk.old.seen ≤ max_tets }
-    ensures takes { Takes (walk_view walk.new) face result (walks.take_face table.now face (walk_view walk.old)) }
-{
-    if face.tet >= walk.seen {
-        return Err(Failure::Fault(not_ordered(face)));
-    }
-    let Some(glue) = table.glue(face) else {
-        walk.types.push(0)?;
-        return Ok(());
-    };
-    take_glued(walk, face, glue)
-}
-
 /// The walk through all faces.
 pub fn walk_of(alloc: Global, table: &Table) -> Result<Walk, SpellFault>
-    requires { IsTable table.now }
     ensures whole { IfOk result (IsWholeWalk table.now) }
     ensures stops { IfErr result (StopsAt table.now) }
 {

@@ -6,6 +6,6 @@ use Rattle.signature_codec.proofs.numbers.numbers_in.Given as goal
 
 abbrev pub invariant-loop-i : goal.invariant-loop-i
 invariant-loop-i l =
-    (l.at + l.width * l.i ≤ length l.text)
-    × (fronted l.numbers.items (signatures.numbers_in (l.many - l.i) l.text l.width l.bound (fault_of_segment l.segment) (l.at + l.width * l.i))
-    ≡ signatures.numbers_in l.many l.text l.width l.bound (fault_of_segment l.segment) l.at)
+    (l.at + l.numbers.width * l.i ≤ length l.text)
+    × (fronted l.read.items (signatures.numbers_in (l.numbers.many - l.i) l.text l.numbers.width l.numbers.bound (fault_of_segment l.numbers.segment) (l.at + l.numbers.width * l.i))
+    ≡ signatures.numbers_in l.numbers.many l.text l.numbers.width l.numbers.bound (fault_of_segment l.numbers.segment) l.at)

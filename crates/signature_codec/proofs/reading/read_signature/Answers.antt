@@ -35,13 +35,13 @@ returns-in_err-parts-clause-reads c =
     let e = c.in_err-parts.field-0.0 in
     let h = head_view c.in_ok-head.head in
     let P : Result (List Row) SigFault → Type 0 = λ q. Fails e q in
-    rw (p.1, p.2) (subst P (signature_table-parts c.args.text.now h (types_view c.in_ok-types.types) c.in_ok-types.types.next c.in_ok-head.ensures.reads c.in_ok-types.ensures.reads)
+    rw (p.1, p.2) (subst P (signature_table-parts c.args.text.now h (types_view c.in_ok-types.types.types) c.in_ok-types.types.next c.in_ok-head.ensures.reads c.in_ok-types.ensures.reads)
     (fails_on e _ (signatures.table_of c.in_ok-head.head.count) c.in_err-parts.ensures.reads))
 
 pub join-requires : goal.join-requires
 join-requires c =
     let h = head_view c.in_ok-head.head in
-    let fit = parts_fit c.args.text.now h (types_view c.in_ok-types.types) c.in_ok-types.types.next (parts_view c.in_ok-parts.parts) c.in_ok-head.ensures.few c.in_ok-types.ensures.reads c.in_ok-parts.ensures.reads in
+    let fit = parts_fit c.args.text.now h (types_view c.in_ok-types.types.types) c.in_ok-types.types.next (parts_view c.in_ok-parts.parts) c.in_ok-head.head.few c.in_ok-types.ensures.reads c.in_ok-parts.ensures.reads in
     rw c.in_ok-parts.ensures.count fit
 
 pub returns-in_err-rows-clause-reads : goal.returns-in_err-rows-clause-reads
@@ -50,23 +50,23 @@ returns-in_err-rows-clause-reads c =
     let e = c.in_err-rows.field-0.0 in
     let h = head_view c.in_ok-head.head in
     let P : Result (List Row) SigFault → Type 0 = λ q. Fails e q in
-    rw (p.1, p.2) (subst P (signature_table-joined c.args.text.now h (types_view c.in_ok-types.types) c.in_ok-types.types.next (parts_view c.in_ok-parts.parts) c.in_ok-parts.parts.count
+    rw (p.1, p.2) (subst P (signature_table-joined c.args.text.now h (types_view c.in_ok-types.types.types) c.in_ok-types.types.next (parts_view c.in_ok-parts.parts) c.in_ok-parts.parts.count
     c.in_ok-head.ensures.reads c.in_ok-types.ensures.reads c.in_ok-parts.ensures.reads c.in_ok-parts.ensures.count) c.in_err-rows.ensures)
 
 pub table_of-requires : goal.table_of-requires
 table_of-requires c =
     let h = head_view c.in_ok-head.head in
     let n = c.in_ok-parts.parts.count in
-    let fit = parts_fit c.args.text.now h (types_view c.in_ok-types.types) c.in_ok-types.types.next (parts_view c.in_ok-parts.parts) c.in_ok-head.ensures.few c.in_ok-types.ensures.reads c.in_ok-parts.ensures.reads in
+    let fit = parts_fit c.args.text.now h (types_view c.in_ok-types.types.types) c.in_ok-types.types.next (parts_view c.in_ok-parts.parts) c.in_ok-head.head.few c.in_ok-types.ensures.reads c.in_ok-parts.ensures.reads in
     let fits : 0 < n → IsSlots n (slots_begun n (parts_view c.in_ok-parts.parts)) = rw c.in_ok-parts.ensures.count fit in
-    let few : n ≤ 1000 = rw c.in_ok-parts.ensures.count c.in_ok-head.ensures.few in
+    let few : n ≤ 1000 = rw c.in_ok-parts.ensures.count c.in_ok-head.head.few in
     joined_table n (parts_view c.in_ok-parts.parts) c.in_ok-rows.rows.items few fits c.in_ok-rows.ensures
 
 pub returns-clause-reads : goal.returns-clause-reads
 returns-clause-reads c =
     let h = head_view c.in_ok-head.head in
     let P : Result (List Row) SigFault → Type 0 = λ q. Reads (λ t. t) c.table_of.result q in
-    let spelled = signature_table-joined c.args.text.now h (types_view c.in_ok-types.types) c.in_ok-types.types.next (parts_view c.in_ok-parts.parts) c.in_ok-parts.parts.count
+    let spelled = signature_table-joined c.args.text.now h (types_view c.in_ok-types.types.types) c.in_ok-types.types.next (parts_view c.in_ok-parts.parts) c.in_ok-parts.parts.count
     c.in_ok-head.ensures.reads c.in_ok-types.ensures.reads c.in_ok-parts.ensures.reads c.in_ok-parts.ensures.count in
     subst P (sym c.in_ok-rows.ensures ∙ spelled) c.table_of.ensures
 

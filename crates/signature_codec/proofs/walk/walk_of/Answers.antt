@@ -17,7 +17,7 @@ returns-in_err-take_face-clause-stops c =
 pub loop-place-preserved : goal.loop-place-preserved
 loop-place-preserved c =
     let inside : c.loop-place.place < 4 * length c.args.table.now = omega (arith, c.len-place-end.ensures.value) in
-    takes_on c.args.table.now c.loop-place.place (walk_view c.loop-place.walk) (walk_view c.take_face.new.walk) c.requires inside c.loop-place.invariant c.in_ok-take_face.ensures.takes
+    takes_on c.args.table.now c.loop-place.place (walk_view c.loop-place.walk) (walk_view c.take_face.new.walk) c.len-place-end.ensures.is_table inside c.loop-place.invariant c.in_ok-take_face.ensures.takes
 
 pub returns-clause-whole : goal.returns-clause-whole
 returns-clause-whole c =

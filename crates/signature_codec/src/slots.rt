@@ -1,0 +1,92 @@
+//! What is known of each face while the faces of a table are joined, at its place.
+
+ghost use Rattle.std.specs.Prelude.{◌≡◌, length, replicate, slice_set, Some, None, unwrap_or, IfOk};
+ghost use Rattle.table_definitions.specs.Table as gluings;
+ghost use Rattle.table_definitions.specs.Table.{face_number};
+ghost use Rattle.signature_text_laws.specs.Slots as slots;
+ghost use Rattle.signature_text_laws.specs.Slots.{meet_at};
+
+use gluing_table::{Face, Glue, Row};
+use std::alloc::{AllocError, Global};
+
+/// The place of a face among those of all tetrahedra.
+fn place(face: Face) -> usize
+    ensures { result ≡ face_number face }
+{
+    4 * face.tet as usize + face.face as usize
+}
+
+/// Whether two faces are the same.
+pub fn same_face(first: Face, second: Face) -> bool
+    ensures { result ≡ gluings.same_face first second }
+{
+    first.tet == second.tet && first.face == second.face
+}
+
+/// Places for so many faces, of which none is met.
+pub fn none_met(alloc: Global, faces: u32) -> Result<Vec<Option<Option<Glue>>>, AllocError>
+    ensures unmet { IfOk result (λ met. met.items ≡ replicate faces None) }
+    ensures size { IfOk result (λ met. length met.items ≡ faces) }
+{
+    let met = vec![in alloc; None; faces as usize]?;
+    Ok(met)
+}
+
+/// What is known of a face: nothing where it isn't met, or has no place.
+pub fn slot(met: &[Option<Option<Glue>>], face: Face) -> Option<Option<Glue>>
+    ensures { result ≡ slots.slot met.now face }
+{
+    let place = place(face);
+    if place < met.len() { met[place] } else { None }
+}
+
+/// Meets a face, if it has a place.
+pub fn set_slot(met: &mut [Option<Option<Glue>>], face: Face, glue: Option<Glue>)
+    ensures { met.new ≡ slice_set met.old (face_number face) (Some glue) }
+{
+    let place = place(face);
+    if place < met.len() {
+        met[place] = Some(glue);
+    }
+}
+
+/// Meets both sides of a face.
+pub fn meet(met: &mut [Option<Option<Glue>>], face: Face, glue: Glue)
+    ensures { met.new ≡ meet_at met.old face glue }
+{
+    set_slot(met, glue.other_side(face), Some(glue.way_back(face)));
+    set_slot(met, face, Some(glue));
+}
+
+/// What a face is glued to.
+fn gluing_in(met: &[Option<Option<Glue>>], face: Face) -> Option<Glue>
+    ensures { result ≡ unwrap_or (slots.slot met.now face) None }
+{
+    slot(met, face).unwrap_or(None)
+}
+
+fn row_of(met: &[Option<Option<Glue>>], tet: u32) -> Row
+    ensures { result ≡ slots.slot_row met.now tet }
+{
+    [
+        gluing_in(met, Face { tet, face: 0 }),
+        gluing_in(met, Face { tet, face: 1 }),
+        gluing_in(met, Face { tet, face: 2 }),
+        gluing_in(met, Face { tet, face: 3 }),
+    ]
+}
+
+/// The rows of so many tetrahedra.
+pub fn rows_of(
+    alloc: Global,
+    count: u32,
+    met: &[Option<Option<Glue>>],
+) -> Result<Vec<Row>, AllocError>
+    ensures { IfOk result (λ rows. rows.items ≡ slots.slot_rows count met.now) }
+{
+    let mut rows = Vec::new(alloc);
+    for tet in 0..count {
+        rows.push(row_of(met, tet))?;
+    }
+    Ok(rows)
+}
