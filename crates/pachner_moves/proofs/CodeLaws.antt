@@ -1,5 +1,5 @@
 -- What the calls give, piece by piece.
-use Rattle.std.proofs.Common.{◌≡◌, ℕ, zero, suc, ◌+◌, ◌-◌, ◌<◌, ◌≤◌, Bool, true, false, cond, List, [], ◌∷◌, ◌++◌, length, map, get_or, take, Some, None, refl, sym, ap, ◌∙◌, subst, arith, append-nil}
+use Rattle.std.proofs.Common.{◌≡◌, ℕ, zero, suc, ◌+◌, ◌<◌, Bool, true, false, cond, List, [], ◌∷◌, ◌++◌, length, map, get_or, take, Some, None, refl, sym, ap, ◌∙◌, subst, arith, append-nil}
 use Rattle.std.specs.Prelude.{◌==◌, ◌≢◌, filter, find, option_and_then}
 use Rattle.std.specs.List.{range_with_len}
 use Rattle.std.specs.Option.{option_or}
@@ -86,9 +86,6 @@ old_found rows m facets t f old e =
     let k = find-in (λ (f : Facet). f.tet == t) facets f (sym e) in
     (length m.core + k.0, subst (λ (g : Facet). IsOldFacet rows m (length m.core + k.0) g) k.2 (old.each k.0 f k.1))
 
-pub old_least : (rows : List Row) (m : Move) (i : ℕ) (f : Facet) → IsOldFacet rows m i f → length m.core ≤ f.missing
-old_least rows m i f F = omega (arith, F.missing_is, F.old_label)
-
 pub stand_some : (rows : List Row) (m : Move) (facets : List Facet) (f : Facet) (x : Face) (t l : ℕ) → facets ≡ old_facets rows m → Some f ≡ find (λ (f : Facet). f.tet == t) facets → t ≡ x.tet → l ≡ image f.labels x.face
     → facet_stand_in rows m f l ≡ stand_in_at rows m x
 stand_some rows m facets f x t l are e et el =
@@ -101,12 +98,8 @@ stand_none rows m facets x t s are e et es =
     ap (λ (k : Gluing). Some k) (es ∙ ap (kept_stand_in rows m) et)
     ∙ ap (stand_in_of rows m x) (e ∙ ap (λ u. find (λ (g : Facet). g.tet == u) facets) et ∙ ap (find (λ (g : Facet). g.tet == x.tet)) are)
 
-pub fresh_is : (rows : List Row) (m : Move) (facets : List Facet) (own label size : ℕ) (f : Facet) → AreOldFacets rows m facets → size ≡ length m.core → size ≤ label → label < 5 → f ≡ get_or facets (label - size) f
-    → outer_gluing rows m f own ≡ fresh_gluing rows m own label
-fresh_is rows m facets own label size f old es low high is =
-    let count = old.count in
-    let at : length m.core + (label - size) ≡ label = omega arith in
-    let F : IsOldFacet rows m label f =
-    subst (λ k. IsOldFacet rows m k f) at (subst (λ (g : Facet). IsOldFacet rows m (length m.core + (label - size)) g) (sym is) (old.each (label - size) f (omega arith))) in
+pub fresh_is : (rows : List Row) (m : Move) (own label : ℕ) (f : Facet) → IsOldFacet rows m label f → outer_gluing rows m f own ≡ fresh_gluing rows m own label
+fresh_is rows m own label f F =
+    let low = F.old_label in
     ap (option_and_then (λ g. outer_gluing rows m g own)) (sym F.found)
     ∙ ap (λ b. cond b (Some (facet_gluing rows m (new_facet rows m own) label)) (option_and_then (λ g. outer_gluing rows m g own) (facet rows m label))) (sym (le-ltb label (length m.core) (omega arith)))

@@ -1,3 +1,4 @@
 pub mod MaskLaws
 pub mod MatchLaws
 pub mod CodeLaws
+pub mod FreshLaws

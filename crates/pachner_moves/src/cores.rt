@@ -175,6 +175,17 @@ impl Model for Move {
     ghost inverse = { λ m. record { tet = m.tet; core = m.core } };
 }
 
+impl Move {
+    /// The number of vertices of its core.
+    pub fn core_size(&self) -> u8
+        ensures value { result ≡ length self.now.core }
+        ensures some { 0 < result }
+        ensures most { result ≤ 4 }
+    {
+        self.core.size()
+    }
+}
+
 /// The number of tetrahedra, of so many, that a move with this core keeps.
 pub fn retained(tets: u32, core: Core) -> u32
     ensures { result ≡ tets - (5 - length core) }

@@ -1,9 +1,10 @@
 //! Facets of a 4-simplex, as tetrahedra of a table.
 
-ghost use Rattle.std.specs.Prelude.{◌≡◌, ◌<◌, ◌≤◌, length, map, slice_index_or, None};
+ghost use Rattle.std.specs.Prelude.{◌≡◌, ◌<◌, ◌≤◌, map, slice_index_or, None};
 ghost use Rattle.table_definitions.specs.Lists.{in_place_of};
 ghost use Rattle.table_definitions.specs.Permutation.{image, preimage, compose};
 ghost use Rattle.table_definitions.specs.Table as gluings;
+ghost use Rattle.table_definitions.specs.Table.{IsTable};
 ghost use Rattle.move_definitions.specs.Moves as moves;
 
 use crate::Move;
@@ -56,13 +57,17 @@ pub fn vertex_of(labels: &[u8; 4], label: u8) -> u8
     labels.iter().take_while(|l| **l != label).count() as u8
 }
 
-/// What the face opposite a label is glued to; nothing where no vertex has the label.
+/// What the face opposite a label is glued to; nothing where no vertex has the label, or past the table.
 pub fn glue_opposite(table: &Table, facet: Facet, label: u8) -> Option<Glue>
-    requires { facet.tet < length table.now }
-    ensures { result ≡ gluings.glue table.now (moves.opposite facet label) }
+    ensures value { result ≡ gluings.glue table.now (moves.opposite facet label) }
+    ensures is_table { IsTable table.now }
 {
-    let row = &table.rows()[facet.tet as usize];
-    glue_in(row, vertex_of(&facet.labels, label))
+    let rows = table.rows();
+    let tet = facet.tet as usize;
+    if tet >= rows.len() {
+        return None;
+    }
+    glue_in(&rows[tet], vertex_of(&facet.labels, label))
 }
 
 /// What a face of a row is glued to; nothing past its four faces.
@@ -97,13 +102,14 @@ pub fn facet_behind(own: Facet, label: u8, glue: Glue) -> Facet
     }
 }
 
-/// The facet that is found behind the face of the move's tetrahedron opposite `label`.
+/// The facet that lacks a label: 4 is missing in the move's own, and the others are found behind its faces.
 pub fn facet_at(table: &Table, m: Move, label: u8) -> Option<Facet>
-    requires in_range { m.tet < length table.now }
-    requires a_label { label < 4 }
     ensures { result ≡ moves.facet table.now m label }
 {
     let own = own_facet(m);
+    if label == 4 {
+        return Some(own);
+    }
     match glue_opposite(table, own, label) {
         Some(glue) => Some(facet_behind(own, label, glue)),
         None => None,
@@ -145,7 +151,6 @@ fn labels_wanted(f: Facet, g: Facet) -> [u8; 4]
 
 /// Whether two facets are glued to each other label by label.
 pub fn is_matched(table: &Table, f: Facet, g: Facet) -> bool
-    requires { f.tet < length table.now }
     ensures { result ≡ moves.is_matched f g (gluings.glue table.now (moves.opposite f g.missing)) }
 {
     match glue_opposite(table, f, g.missing) {

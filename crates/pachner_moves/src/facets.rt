@@ -1,6 +1,6 @@
 //! The facets that a move puts in, and what stands for the old faces.
 
-ghost use Rattle.std.specs.Prelude.{◌≡◌, ◌≢◌, ◌<◌, ◌≤◌, length, filter, find, not, ◌==◌, map, All};
+ghost use Rattle.std.specs.Prelude.{◌≡◌, ◌≢◌, ◌<◌, ◌≤◌, filter, find, not, ◌==◌, map, All};
 ghost use Rattle.table_definitions.specs.Lists.{below, closed_up, in_place_of};
 ghost use Rattle.table_definitions.specs.Permutation.{IsPermutationOfFour, identity};
 ghost use Rattle.table_definitions.specs.Table.{max_tets, IsTable};
@@ -23,13 +23,28 @@ const OTHERS: [[u8; 4]; 5] = [
     [0, 1, 2, 3],
 ];
 
+/// A label of a vertex of a 4-simplex: one of five.
+#[derive(Clone, Copy)]
+pub struct Label {
+    pub number: u8,
+    ghost one_of_five: { number < 5 },
+}
+
+/// A table, a move on it, and the facets that the move takes out.
+#[derive(Clone, Copy)]
+pub struct TakenOut<'a> {
+    pub table: &'a Table,
+    pub m: &'a Move,
+    pub facets: &'a [Facet],
+    ghost old: { AreOldFacets table.now m.now facets.now },
+}
+
 /// The labels but one, ascending.
-pub fn other_labels(label: u8) -> [u8; 4]
-    requires { label < 5 }
-    ensures value { result ≡ filter (λ l. not (l == label)) (below 5) }
-    ensures other { All (λ l. (l < 5) × (l ≢ label)) result }
+pub fn other_labels(label: Label) -> [u8; 4]
+    ensures value { result ≡ filter (λ l. not (l == label.number)) (below 5) }
+    ensures other { All (λ l. (l < 5) × (l ≢ label.number)) result }
 {
-    OTHERS[label as usize]
+    OTHERS[label.number as usize]
 }
 
 /// The number of tetrahedra of a table that a move keeps.
@@ -42,13 +57,12 @@ pub fn retained_in(table: &Table, m: &Move) -> u32
 }
 
 /// The facet that is put in for a label.
-pub fn new_facet(table: &Table, m: &Move, label: u8) -> Facet
-    requires { label < 5 }
-    ensures { result ≡ moves.new_facet table.now m.now label }
+pub fn new_facet(table: &Table, m: &Move, label: Label) -> Facet
+    ensures { result ≡ moves.new_facet table.now m.now label.number }
 {
     Facet {
-        tet: retained_in(table, m) + label as u32,
-        missing: label,
+        tet: retained_in(table, m) + label.number as u32,
+        missing: label.number,
         labels: other_labels(label),
     }
 }
@@ -61,7 +75,7 @@ fn vertex_beside(facet: Facet, missing: u8, label: u8) -> u8
 }
 
 /// Where the vertices of a facet go in another, label by label.
-pub fn label_by_label(f: Facet, g: Facet) -> Perm4
+fn label_by_label(f: Facet, g: Facet) -> Perm4
     requires { IsPermutationOfFour (moves.label_by_label f g) }
     ensures { result ≡ moves.label_by_label f g }
 {
@@ -77,38 +91,44 @@ pub fn label_by_label(f: Facet, g: Facet) -> Perm4
     }
 }
 
+/// How a facet goes to the one that is put in for a label.
+pub fn glue_to_new(table: &Table, m: &Move, f: Facet, label: Label) -> Glue
+    requires { IsFacet f }
+    ensures { result ≡ moves.facet_gluing table.now m.now f label.number }
+{
+    let new = new_facet(table, m, label);
+    Glue {
+        tet: new.tet,
+        perm: label_by_label(f, new),
+    }
+}
+
 /// What stands for an old facet at its face opposite a label.
 fn facet_stand_in(table: &Table, m: &Move, f: Facet, label: u8) -> Option<Glue>
-    requires labelled { IsFacet f }
-    requires old { length m.now.core ≤ f.missing }
+    requires { IsFacet f }
     ensures { result ≡ moves.facet_stand_in table.now m.now f label }
 {
     if label >= m.core.size() {
         return None;
     }
-    let new = new_facet(table, m, label);
-    Some(Glue {
-        tet: new.tet,
-        perm: label_by_label(f, new),
-    })
+    let label = Label { number: label };
+    Some(glue_to_new(table, m, f, label))
 }
 
 /// The number of a tetrahedron once the facets are taken out.
 pub fn closed_number(facets: &[Facet], tet: u32) -> u32
-    requires { length facets.now ≤ 5 }
     ensures { result ≡ closed_up (map (λ f. f.tet) facets.now) tet }
 {
     let before = facets.iter().filter(|f| f.tet < tet).count();
-    tet.saturating_sub(before as u32)
+    (tet as usize).saturating_sub(before) as u32
 }
 
 /// What stands for a tetrahedron that is kept.
-fn retained_stand_in(table: &Table, m: &Move, facets: &[Facet], tet: u32) -> Glue
-    requires { AreOldFacets table.now m.now facets.now }
-    ensures { result ≡ moves.kept_stand_in table.now m.now tet }
+fn retained_stand_in(it: TakenOut<'_>, tet: u32) -> Glue
+    ensures { result ≡ moves.kept_stand_in it.entry.table.now it.entry.m.now tet }
 {
     Glue {
-        tet: closed_number(facets, tet),
+        tet: closed_number(it.facets, tet),
         perm: Perm4::identity(),
     }
 }
@@ -126,14 +146,12 @@ pub fn facet_of(facets: &[Facet], tet: u32) -> Option<Facet>
 }
 
 /// What stands for the tetrahedron of a face there.
-fn stand_in(table: &Table, m: &Move, facets: &[Facet], x: Face) -> Option<Glue>
-    requires old { AreOldFacets table.now m.now facets.now }
-    requires a_face { x.face < 4 }
-    ensures { result ≡ moves.stand_in_at table.now m.now x }
+fn stand_in(it: TakenOut<'_>, x: Face) -> Option<Glue>
+    ensures { result ≡ moves.stand_in_at it.entry.table.now it.entry.m.now x }
 {
-    match facet_of(facets, x.tet) {
-        Some(f) => facet_stand_in(table, m, f, f.labels[x.face as usize]),
-        None => Some(retained_stand_in(table, m, facets, x.tet)),
+    match facet_of(it.facets, x.tet) {
+        Some(f) => facet_stand_in(it.table, it.m, f, f.labels[x.face as usize]),
+        None => Some(retained_stand_in(it, x.tet)),
     }
 }
 
@@ -148,18 +166,9 @@ fn glue_under(s: Glue, r: Glue, glue: Glue) -> Glue
 }
 
 /// The gluing that stands for that of a face, whose tetrahedron `s` stands for.
-pub fn moved_glue(
-    table: &Table,
-    m: &Move,
-    facets: &[Facet],
-    x: Face,
-    s: Glue,
-    glue: Glue,
-) -> Option<Glue>
-    requires old { AreOldFacets table.now m.now facets.now }
-    requires a_face { x.face < 4 }
-    ensures { result ≡ moves.moved_gluing table.now m.now x s glue }
+pub fn moved_glue(it: TakenOut<'_>, x: Face, s: Glue, glue: Glue) -> Option<Glue>
+    ensures { result ≡ moves.moved_gluing it.entry.table.now it.entry.m.now x s glue }
 {
-    let r = stand_in(table, m, facets, glue.other_side(x))?;
+    let r = stand_in(it, glue.other_side(x))?;
     Some(glue_under(s, r, glue))
 }

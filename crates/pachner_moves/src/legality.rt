@@ -1,6 +1,6 @@
 //! Which moves are legal.
 
-ghost use Rattle.std.specs.Prelude.{◌≡◌, ◌<◌, ◌≤◌, ◌∷◌, length, map, Some, None, All, IfOk, IfErr, OnOk};
+ghost use Rattle.std.specs.Prelude.{◌≡◌, ◌<◌, ◌≤◌, ◌∷◌, length, map, Some, None, IfOk, IfErr, OnOk};
 ghost use Rattle.table_definitions.specs.Lists.{has};
 ghost use Rattle.move_definitions.specs.Moves as moves;
 ghost use Rattle.move_laws.specs.Faults.{verdict, first_facet_fault, found_facets, pairs_fault, IsPattern, facets_below};
@@ -38,7 +38,6 @@ fn is_taken(own: u32, facets: &[Facet], tet: u32) -> bool
 
 /// The facet behind the face of the move's tetrahedron opposite a label, where that is a tetrahedron of its own.
 fn find_facet(table: &Table, m: &Move, label: u8, found: &[Facet]) -> Result<Facet, MoveFault>
-    requires in_range { m.now.tet < length table.now }
     requires a_label { label < 4 }
     requires from_core { length m.now.core ≤ label }
     requires found { found.now ≡ facets_below table.now m.now label }
@@ -56,17 +55,15 @@ fn find_facet(table: &Table, m: &Move, label: u8, found: &[Facet]) -> Result<Fac
 }
 
 /// The facets behind the faces of the move's tetrahedron.
-fn find_facets(table: &Table, m: &Move, size: u8) -> Result<ArrayVec<Facet, 4>, MoveFault>
-    requires in_range { m.now.tet < length table.now }
-    requires size { size ≡ length m.now.core }
-    requires some { 0 < size }
-    requires most { size ≤ 4 }
+fn find_facets(table: &Table, m: &Move) -> Result<ArrayVec<Facet, 4>, MoveFault>
+    ensures some { 0 < length m.now.core }
+    ensures most { length m.now.core ≤ 4 }
     ensures facets { IfOk result (λ facets. facets.items ≡ found_facets table.now m.now) }
     ensures none { OnOk result (first_facet_fault table.now m.now ≡ None) }
     ensures fault { IfErr result (λ e. first_facet_fault table.now m.now ≡ Some e) }
 {
     let mut facets = ArrayVec::new();
-    for label in size..4 {
+    for label in m.core_size()..4 {
         let facet = find_facet(table, m, label, &facets)?;
         facets.push(facet);
     }
@@ -75,7 +72,6 @@ fn find_facets(table: &Table, m: &Move, size: u8) -> Result<ArrayVec<Facet, 4>, 
 
 /// Whether two facets are glued to each other.
 fn check_pair(table: &Table, f: Facet, g: Facet) -> Result<(), MoveFault>
-    requires { f.tet < length table.now }
     ensures { result ≡ verdict (moves.pair_fault table.now (Some f) (Some g)) }
 {
     if is_matched(table, f, g) {
@@ -90,7 +86,6 @@ fn check_pair(table: &Table, f: Facet, g: Facet) -> Result<(), MoveFault>
 
 /// Whether each two of the facets are glued to each other.
 fn check_pairs(table: &Table, facets: &[Facet]) -> Result<(), MoveFault>
-    requires in_range { All (λ f. f.tet < length table.now) facets.now }
     ensures { result ≡ verdict (pairs_fault table.now facets.now) }
 {
     if facets.len() == 2 {
@@ -113,8 +108,7 @@ pub fn legal(table: &Table, m: Move) -> Result<Pattern, MoveFault>
     if m.tet as usize >= table.rows().len() {
         return Err(MoveFault::NoSuchTet);
     }
-    let size = m.core.size();
-    let mut facets = find_facets(table, &m, size)?;
+    let mut facets = find_facets(table, &m)?;
     check_pairs(table, &facets)?;
     facets.push(own_facet(m));
     Ok(Pattern { facets })

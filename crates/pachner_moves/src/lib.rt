@@ -9,7 +9,7 @@ mod moving;
 
 pub use cores::{Core, Move, inverse_on, retained};
 pub use facet::Facet;
-pub use facets::{closed_number, facet_of};
+pub use facets::{Label, closed_number, facet_of};
 pub use legality::{Pattern, legal};
 pub use move_definitions::MoveFault;
 pub use moving::{Undo, apply, apply_legal, inverse_move, keeps_limit, take_back};

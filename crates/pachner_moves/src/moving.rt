@@ -1,6 +1,6 @@
 //! Moves are played, and taken back.
 
-ghost use Rattle.std.specs.Prelude.{◌≡◌, ◌≢◌, ◌<◌, ◌≤◌, ◌+◌, ◌-◌, [], length, map, not, nat_lt, All, IfOk, IfErr, OnOk, OnErr};
+ghost use Rattle.std.specs.Prelude.{◌≡◌, ◌<◌, ◌≤◌, ◌+◌, ◌-◌, [], length, map, not, nat_lt, All, IfOk, IfErr, OnOk, OnErr};
 ghost use Rattle.std.specs.List.{slice_index_or};
 ghost use Rattle.table_definitions.specs.Table.{max_tets, IsTable};
 ghost use Rattle.move_definitions.specs.Moves as moves;
@@ -8,11 +8,13 @@ ghost use Rattle.move_definitions.specs.Moves.{Plays, IsCore};
 ghost use Rattle.move_definitions.specs.Undos as undos;
 ghost use Rattle.move_definitions.specs.Undos.{CanTakeBack, IsTakenBack};
 ghost use Rattle.move_laws.specs.Faults.{IsPattern};
-ghost use Rattle.move_laws.specs.Facets.{IsOldFacet, AreOldFacets, CanPlay, outer_gluing, fresh_gluing, put_row, put_rows, exchange};
+ghost use Rattle.move_laws.specs.Facets.{IsFacet, outer_gluing, fresh_gluing, put_row, put_rows};
 
 use crate::cores::{inverse_on, retained};
 use crate::facet::{glue_opposite, vertex_of};
-use crate::facets::{label_by_label, moved_glue, new_facet, other_labels, retained_in};
+use crate::facets::{
+    Label, TakenOut, glue_to_new, moved_glue, new_facet, other_labels, retained_in,
+};
 use crate::legality::is_of_facet;
 use crate::{Facet, Move, MoveFault, Pattern, legal};
 use arrayvec::ArrayVec;
@@ -30,97 +32,81 @@ pub struct Undo {
 
 impl Model for Undo {
     ghost use Rattle.move_definitions.specs.Undos as undos;
+    ghost use Rattle.std.specs.Prelude.{◌≤◌};
+    ghost use Rattle.table_definitions.specs.Table.{max_tets};
 
     ghost Value = { undos.Undo };
 
     ghost view = { λ u. record { played = u.played; tets = u.tets; rows = u.rows.items } };
+
+    ghost invariant = { λ u. u.tets ≤ max_tets };
 }
 
 /// What the face of a new facet is glued to that stands for the one of an old facet.
-fn outer_glue(table: &Table, m: &Move, facets: &[Facet], old: Facet, label: u8) -> Option<Glue>
-    requires old { AreOldFacets table.now m.now facets.now }
-    requires labelled { IsOldFacet table.now m.now old.missing old }
-    requires new { label < length m.now.core }
-    ensures { result ≡ outer_gluing table.now m.now old label }
+fn outer_glue(it: TakenOut<'_>, old: Facet, label: Label) -> Option<Glue>
+    requires { IsFacet old }
+    ensures { result ≡ outer_gluing it.entry.table.now it.entry.m.now old label.number }
 {
-    let glue = glue_opposite(table, old, label)?;
-    let new = new_facet(table, m, label);
-    let stands_for = Glue {
-        tet: new.tet,
-        perm: label_by_label(old, new),
-    };
+    let glue = glue_opposite(it.table, old, label.number)?;
     let face = Face {
         tet: old.tet,
-        face: vertex_of(&old.labels, label),
+        face: vertex_of(&old.labels, label.number),
     };
-    moved_glue(table, m, facets, face, stands_for, glue)
+    moved_glue(it, face, glue_to_new(it.table, it.m, old, label), glue)
 }
 
 /// What the face of a new facet is glued to that leads to another new one.
-fn inner_glue(table: &Table, m: &Move, own: u8, label: u8) -> Glue
-    requires own_label { own < 5 }
-    requires a_label { label < 5 }
-    requires other { label ≢ own }
-    ensures { result ≡ moves.facet_gluing table.now m.now (moves.new_facet table.now m.now own) label }
+fn inner_glue(table: &Table, m: &Move, own: Label, label: Label) -> Glue
+    ensures { result ≡ moves.facet_gluing table.now m.now (moves.new_facet table.now m.now own.number) label.number }
 {
-    let new = new_facet(table, m, label);
-    Glue {
-        tet: new.tet,
-        perm: label_by_label(new_facet(table, m, own), new),
-    }
+    glue_to_new(table, m, new_facet(table, m, own), label)
 }
 
 /// What the face of a new facet opposite a label is glued to.
-fn fresh_glue(table: &Table, m: &Move, facets: &[Facet], own: u8, label: u8) -> Option<Glue>
-    requires old { AreOldFacets table.now m.now facets.now }
-    requires own_label { own < length m.now.core }
-    requires a_label { label < 5 }
-    requires other { label ≢ own }
-    ensures { result ≡ fresh_gluing table.now m.now own label }
+fn fresh_glue(it: TakenOut<'_>, own: Label, label: Label) -> Option<Glue>
+    ensures { result ≡ fresh_gluing it.entry.table.now it.entry.m.now own.number label.number }
 {
-    let size = m.core.size();
-    if label < size {
-        return Some(inner_glue(table, m, own, label));
+    let m = it.m;
+    let size = m.core_size();
+    if label.number < size {
+        return Some(inner_glue(it.table, m, own, label));
     }
-    outer_glue(table, m, facets, facets[(label - size) as usize], own)
+    outer_glue(it, it.facets[(label.number - size) as usize], own)
 }
 
 /// The row of a new facet.
-fn fresh_row(table: &Table, m: &Move, facets: &[Facet], own: u8) -> Row
-    requires old { AreOldFacets table.now m.now facets.now }
-    requires own_label { own < length m.now.core }
-    ensures { result ≡ put_row table.now m.now own }
+fn fresh_row(it: TakenOut<'_>, own: Label) -> Row
+    ensures { result ≡ put_row it.entry.table.now it.entry.m.now own.number }
 {
     let [a, b, c, d] = other_labels(own);
     [
-        fresh_glue(table, m, facets, own, a),
-        fresh_glue(table, m, facets, own, b),
-        fresh_glue(table, m, facets, own, c),
-        fresh_glue(table, m, facets, own, d),
+        fresh_glue(it, own, Label { number: a }),
+        fresh_glue(it, own, Label { number: b }),
+        fresh_glue(it, own, Label { number: c }),
+        fresh_glue(it, own, Label { number: d }),
     ]
 }
 
 /// The rows of the new facets, with their numbers.
-fn fresh_rows(table: &Table, m: &Move, facets: &[Facet]) -> ArrayVec<(u32, Row), 4>
-    requires { AreOldFacets table.now m.now facets.now }
-    ensures { result.items ≡ put_rows table.now m.now }
+fn fresh_rows(it: TakenOut<'_>) -> ArrayVec<(u32, Row), 4>
+    ensures { result.items ≡ put_rows it.entry.table.now it.entry.m.now }
 {
     let mut rows = ArrayVec::new();
-    let first = retained_in(table, m);
-    for label in 0..m.core.size() {
-        rows.push((first + label as u32, fresh_row(table, m, facets, label)));
+    let m = it.m;
+    let first = retained_in(it.table, m);
+    for label in 0..m.core_size() {
+        rows.push((first + label as u32, fresh_row(it, Label { number: label })));
     }
     rows
 }
 
 /// The numbers of the tetrahedra of the facets, ascending.
-fn taken_numbers(table: &Table, m: &Move, facets: &[Facet]) -> ArrayVec<u32, 4>
-    requires { AreOldFacets table.now m.now facets.now }
-    ensures { result.items ≡ undos.taken_numbers table.now m.now }
+fn taken_numbers(it: TakenOut<'_>) -> ArrayVec<u32, 4>
+    ensures { result.items ≡ undos.taken_numbers it.entry.table.now it.entry.m.now }
 {
     let mut numbers = ArrayVec::new();
-    for tet in 0..table.len() {
-        if is_of_facet(facets, tet) {
+    for tet in 0..it.table.len() {
+        if is_of_facet(it.facets, tet) {
             numbers.push(tet);
         }
     }
@@ -149,23 +135,31 @@ fn saved_rows(table: &Table, numbers: &[u32]) -> ArrayVec<(u32, Row), 4>
     rows
 }
 
-/// Takes out the facets and puts in the others.
-fn exchange(table: &mut Table, m: Move, facets: &[Facet]) -> Undo
-    requires can { CanPlay table.old m }
-    requires old { AreOldFacets table.old m facets.now }
-    ensures moved { Plays table.old m table.new }
-    ensures is_table { IsTable table.new }
-    ensures undo { result ≡ undos.undo_of table.old m }
+/// The numbers of the tetrahedra that a move takes out, the rows that it puts in, and what takes it back.
+#[derive(Drop)]
+struct Exchange {
+    removed: ArrayVec<u32, 4>,
+    fresh: ArrayVec<(u32, Row), 4>,
+    undo: Undo,
+}
+
+/// What a move takes out and puts in.
+fn exchange_of(it: TakenOut<'_>) -> Exchange
+    ensures removed { result.removed.items ≡ undos.taken_numbers it.entry.table.now it.entry.m.now }
+    ensures fresh { result.fresh.items ≡ put_rows it.entry.table.now it.entry.m.now }
+    ensures undo { result.undo ≡ undos.undo_of it.entry.table.now it.entry.m.now }
 {
-    let removed = taken_numbers(table, &m, facets);
-    let fresh = fresh_rows(table, &m, facets);
+    let removed = taken_numbers(it);
     let undo = Undo {
-        played: m,
-        tets: table.len(),
-        rows: saved_rows(table, &removed),
+        played: *it.m,
+        tets: it.table.len(),
+        rows: saved_rows(it.table, &removed),
     };
-    table.replace(&removed, &fresh);
-    undo
+    Exchange {
+        removed,
+        fresh: fresh_rows(it),
+        undo,
+    }
 }
 
 /// Whether the table to which a move leads has no more tetrahedra than a table may have.
@@ -190,7 +184,17 @@ pub fn apply_legal(table: &mut Table, m: Move, pattern: &Pattern) -> Result<Undo
     if !keeps_limit(table, m) {
         return Err(MoveFault::TooMany);
     }
-    Ok(exchange(table, m, &pattern.facets))
+    let Exchange {
+        removed,
+        fresh,
+        undo,
+    } = exchange_of(TakenOut {
+        table: &*table,
+        m: &m,
+        facets: &pattern.facets,
+    });
+    table.replace(&removed, &fresh);
+    Ok(undo)
 }
 
 /// Plays a move, and keeps what takes it back. The refusals are those of `legal`, and then `TooMany`.
@@ -215,7 +219,6 @@ pub fn inverse_move(undo: &Undo) -> Move
 
 /// The numbers of the tetrahedra that a move put in.
 fn put_numbers(undo: &Undo) -> ArrayVec<u32, 4>
-    requires few { undo.now.tets ≤ max_tets }
     ensures { result.items ≡ (undos.back_exchange undo.now).removed }
 {
     let mut numbers = ArrayVec::new();
@@ -229,7 +232,8 @@ fn put_numbers(undo: &Undo) -> ArrayVec<u32, 4>
 impl Undo {
     /// The number of tetrahedra that the move kept.
     fn retained_by_move(&self) -> u32
-        ensures { result ≡ self.now.tets - (5 - length self.now.played.core) }
+        ensures value { result ≡ self.now.tets - (5 - length self.now.played.core) }
+        ensures few { result ≤ max_tets }
     {
         retained(self.tets, self.played.core)
     }

@@ -2,23 +2,18 @@ use Rattle.std.proofs.Common.{ap, ◌∙◌, List, ℕ}
 use Rattle.table_definitions.specs.Permutation.{image}
 use Rattle.table_definitions.specs.Table.{Face}
 use Rattle.move_definitions.specs.Moves.{Facet}
-use Rattle.pachner_moves.proofs.CodeLaws.{old_found, old_least, stand_some, stand_none}
+use Rattle.pachner_moves.proofs.CodeLaws.{old_found, stand_some, stand_none}
 use Rattle.pachner_moves.proofs.facets.stand_in.Goals as goal
 
-pub facet_stand_in-requires-clause-labelled : goal.facet_stand_in-requires-clause-labelled
-facet_stand_in-requires-clause-labelled c = (old_found c.args.table.now c.args.m.now c.args.facets.now c.x.inside.tet c.in-Some.f c.requires.old c.in-Some.ensures).1.labelled
-
-pub facet_stand_in-requires-clause-old : goal.facet_stand_in-requires-clause-old
-facet_stand_in-requires-clause-old c =
-    let o = old_found c.args.table.now c.args.m.now c.args.facets.now c.x.inside.tet c.in-Some.f c.requires.old c.in-Some.ensures in
-    old_least c.args.table.now c.args.m.now o.0 c.in-Some.f o.1
+pub facet_stand_in-requires : goal.facet_stand_in-requires
+facet_stand_in-requires c = (old_found c.args.it.table.now c.args.it.m.now c.args.it.facets.now c.x.inside.tet c.in-Some.f c.args.it.old c.in-Some.ensures).1.labelled
 
 pub returns-in-Some : goal.returns-in-Some
 returns-in-Some c =
     c.facet_stand_in.ensures
-    ∙ stand_some c.args.table.now c.args.m.now c.args.facets.now c.in-Some.f c.args.x c.x.inside.tet _ c.requires.old.are c.in-Some.ensures (ap (λ (x : Face). x.tet) c.x.view_is)
+    ∙ stand_some c.args.it.table.now c.args.it.m.now c.args.it.facets.now c.in-Some.f c.args.x c.x.inside.tet _ c.args.it.old.are c.in-Some.ensures (ap (λ (x : Face). x.tet) c.x.view_is)
     (ap (λ (ls : List ℕ). image ls c.x.inside.face) (ap (λ (f : Facet). f.labels) c.f.view_is) ∙ ap (image c.in-Some.f.labels) (ap (λ (x : Face). x.face) c.x.view_is))
 
 pub returns-in-None : goal.returns-in-None
 returns-in-None c =
-    stand_none c.args.table.now c.args.m.now c.args.facets.now c.args.x c.x.inside.tet c.retained_stand_in.result c.requires.old.are c.in-None.ensures (ap (λ (x : Face). x.tet) c.x.view_is) c.retained_stand_in.ensures
+    stand_none c.args.it.table.now c.args.it.m.now c.args.it.facets.now c.args.x c.x.inside.tet c.retained_stand_in.result c.args.it.old.are c.in-None.ensures (ap (λ (x : Face). x.tet) c.x.view_is) c.retained_stand_in.ensures

@@ -1,10 +1,14 @@
-use Rattle.std.proofs.Common.{ap, ◌∙◌, length}
-use Rattle.move_definitions.specs.Moves.{Move}
+use Rattle.std.proofs.Common.{◌∙◌}
 use Rattle.pachner_moves.proofs.CodeLaws.{fresh_is}
+use Rattle.pachner_moves.proofs.FreshLaws.{old_at}
 use Rattle.pachner_moves.proofs.moving.fresh_glue.Goals as goal
+
+pub outer_glue-requires : goal.outer_glue-requires
+outer_glue-requires c =
+    (old_at c.args.it.table.now c.args.it.m.now c.args.it.facets.now c.args.label.number c.core_size-size.result c.index-it-label.result c.args.it.old c.core_size-size.ensures.value c.if-label-size.false c.args.label.one_of_five).labelled
 
 pub returns : goal.returns
 returns c =
     c.outer_glue.ensures
-    ∙ fresh_is c.args.table.now c.args.m.now c.args.facets.now c.args.own c.args.label c.size-size.result c.index-facets-label.result c.requires.old (c.size-size.ensures.value ∙ ap (λ (m : Move). length m.core) c.m.view_is)
-    c.if-label-size.false c.requires.a_label c.index-facets-label.is
+    ∙ fresh_is c.args.it.table.now c.args.it.m.now c.args.own.number c.args.label.number _
+    (old_at c.args.it.table.now c.args.it.m.now c.args.it.facets.now c.args.label.number c.core_size-size.result c.index-it-label.result c.args.it.old c.core_size-size.ensures.value c.if-label-size.false c.args.label.one_of_five)
