@@ -2,7 +2,7 @@
 
 ghost use Rattle.std.specs.Prelude.{◌≡◌, ◌==◌, ◌↔◌, IsTrue, ◌*◌, ◌/◌, ◌<◌, ℕ, length, slice_index, IfOk};
 ghost use Rattle.skeleton_definitions.specs.Links as definition;
-ghost use Rattle.skeleton_definitions.specs.Skeleton.{IsSkeleton, AreLinks};
+ghost use Rattle.skeleton_definitions.specs.Skeleton.{AreLinks};
 ghost use Rattle.skeleton_class_laws.specs.Numberings.{AreClassesOf};
 ghost use Rattle.skeleton_class_laws.specs.Tallies.{CountsCorners};
 
@@ -51,7 +51,6 @@ fn link_of(triangles: u32, edges: u32, vertices: u32, closed: bool, orientable: 
 /// How many members of each class are joined to themselves with the other sign: none exactly where the link is
 /// orientable.
 fn turned_tally(alloc: Global, skeleton: &Skeleton) -> Result<Vec<u32>, NoMemory>
-    requires { IsSkeleton skeleton.now }
     ensures size { IfOk result (λ t. length t.items ≡ skeleton.now.vertices.count) }
     ensures orientable { IfOk result (λ t. (c : ℕ) → c < skeleton.now.vertices.count → IsTrue (slice_index t.items c == 0) ↔ definition.IsOrientableLink skeleton.now.rows skeleton.now.vertices.classes c) }
 {
@@ -77,53 +76,54 @@ struct Tallies {
     directions: Numbering,
 }
 
+/// A skeleton, and the vertex class of the triangle of each corner in its links.
+#[derive(Clone, Copy)]
+struct Corners<'a> {
+    skeleton: &'a Skeleton,
+    owners: &'a [u32],
+    ghost one_each: { length owners.now ≡ 12 * length skeleton.now.rows },
+    ghost owned: { (j : ℕ) → j < 12 * length skeleton.now.rows → slice_index owners.now j ≡ slice_index skeleton.now.vertices.classes (j / 3) },
+}
+
 /// How many edges the link of each class has.
-fn edge_tally(alloc: Global, skeleton: &Skeleton, owners: &[u32]) -> Result<Vec<u32>, NoMemory>
-    requires skeleton { IsSkeleton skeleton.now }
-    requires one_each { length owners.now ≡ 12 * length skeleton.now.rows }
-    requires owned { (j : ℕ) → j < 12 * length skeleton.now.rows → slice_index owners.now j ≡ slice_index skeleton.now.vertices.classes (j / 3) }
-    ensures size { IfOk result (λ t. length t.items ≡ skeleton.now.vertices.count) }
-    ensures edges { IfOk result (λ t. (c : ℕ) → c < skeleton.now.vertices.count → slice_index t.items c ≡ definition.link_edges skeleton.now.rows skeleton.now.vertices.classes c) }
+fn edge_tally(alloc: Global, corners: Corners<'_>) -> Result<Vec<u32>, NoMemory>
+    ensures size { IfOk result (λ t. length t.items ≡ corners.entry.skeleton.now.vertices.count) }
+    ensures edges { IfOk result (λ t. (c : ℕ) → c < corners.entry.skeleton.now.vertices.count → slice_index t.items c ≡ definition.link_edges corners.entry.skeleton.now.rows corners.entry.skeleton.now.vertices.classes c) }
 {
+    let skeleton = corners.skeleton;
     let passes = first_sides(alloc, skeleton.table())?;
-    let tallies = tally(alloc, &passes, owners, skeleton.vertices() as usize)?;
+    let tallies = tally(alloc, &passes, corners.owners, skeleton.vertices() as usize)?;
     Ok(tallies)
 }
 
 /// How many sides of triangles of each class lie in boundary faces.
-fn open_tally(alloc: Global, skeleton: &Skeleton, owners: &[u32]) -> Result<Vec<u32>, NoMemory>
-    requires skeleton { IsSkeleton skeleton.now }
-    requires one_each { length owners.now ≡ 12 * length skeleton.now.rows }
-    requires owned { (j : ℕ) → j < 12 * length skeleton.now.rows → slice_index owners.now j ≡ slice_index skeleton.now.vertices.classes (j / 3) }
-    ensures size { IfOk result (λ t. length t.items ≡ skeleton.now.vertices.count) }
-    ensures closed { IfOk result (λ t. (c : ℕ) → c < skeleton.now.vertices.count → (slice_index t.items c == 0) ≡ definition.is_closed_link skeleton.now.rows skeleton.now.vertices.classes c) }
+fn open_tally(alloc: Global, corners: Corners<'_>) -> Result<Vec<u32>, NoMemory>
+    ensures size { IfOk result (λ t. length t.items ≡ corners.entry.skeleton.now.vertices.count) }
+    ensures closed { IfOk result (λ t. (c : ℕ) → c < corners.entry.skeleton.now.vertices.count → (slice_index t.items c == 0) ≡ definition.is_closed_link corners.entry.skeleton.now.rows corners.entry.skeleton.now.vertices.classes c) }
 {
+    let skeleton = corners.skeleton;
     let passes = open_sides(alloc, skeleton.table())?;
-    let tallies = tally(alloc, &passes, owners, skeleton.vertices() as usize)?;
+    let tallies = tally(alloc, &passes, corners.owners, skeleton.vertices() as usize)?;
     Ok(tallies)
 }
 
 /// How many vertices the link of each class has.
 fn corner_tally(
     alloc: Global,
-    skeleton: &Skeleton,
-    owners: &[u32],
+    corners: Corners<'_>,
     directions: &Numbering,
 ) -> Result<Vec<u32>, NoMemory>
-    requires skeleton { IsSkeleton skeleton.now }
-    requires directions { AreClassesOf Kind.Directions skeleton.now.rows directions.now.classes.items directions.now.firsts.items }
-    requires one_each { length owners.now ≡ 12 * length skeleton.now.rows }
-    requires owned { (j : ℕ) → j < 12 * length skeleton.now.rows → slice_index owners.now j ≡ slice_index skeleton.now.vertices.classes (j / 3) }
-    ensures size { IfOk result (λ t. length t.items ≡ skeleton.now.vertices.count) }
-    ensures vertices { IfOk result (λ t. CountsCorners skeleton.now directions.now.classes.items t.items) }
+    requires { AreClassesOf Kind.Directions corners.skeleton.now.rows directions.now.classes.items directions.now.firsts.items }
+    ensures size { IfOk result (λ t. length t.items ≡ corners.entry.skeleton.now.vertices.count) }
+    ensures vertices { IfOk result (λ t. CountsCorners corners.entry.skeleton.now directions.now.classes.items t.items) }
 {
-    let passes = least_corners(alloc, &directions.classes, &directions.firsts)?;
-    let tallies = tally(alloc, &passes, owners, skeleton.vertices() as usize)?;
+    let skeleton = corners.skeleton;
+    let passes = least_corners(alloc, directions)?;
+    let tallies = tally(alloc, &passes, corners.owners, skeleton.vertices() as usize)?;
     Ok(tallies)
 }
 
 fn tallies_of(alloc: Global, skeleton: &Skeleton) -> Result<Tallies, NoMemory>
-    requires { IsSkeleton skeleton.now }
     ensures sides { IfOk result (λ t. length t.sides.items ≡ skeleton.now.vertices.count) }
     ensures corners { IfOk result (λ t. length t.corners.items ≡ skeleton.now.vertices.count) }
     ensures unglued { IfOk result (λ t. length t.unglued.items ≡ skeleton.now.vertices.count) }
@@ -135,11 +135,15 @@ fn tallies_of(alloc: Global, skeleton: &Skeleton) -> Result<Tallies, NoMemory>
     ensures orientable { IfOk result (λ t. (c : ℕ) → c < skeleton.now.vertices.count → IsTrue (slice_index t.turned.items c == 0) ↔ definition.IsOrientableLink skeleton.now.rows skeleton.now.vertices.classes c) }
 {
     let table = skeleton.table();
-    let owners_of_corners = owners(alloc, skeleton, 3)?;
-    let sides = edge_tally(alloc, skeleton, &owners_of_corners)?;
-    let unglued = open_tally(alloc, skeleton, &owners_of_corners)?;
+    let owners = owners(alloc, skeleton, 3)?;
+    let all = Corners {
+        skeleton,
+        owners: &owners,
+    };
+    let sides = edge_tally(alloc, all)?;
+    let unglued = open_tally(alloc, all)?;
     let directions = classes_of(alloc, table, Kind::Directions)?;
-    let corners = corner_tally(alloc, skeleton, &owners_of_corners, &directions)?;
+    let corners = corner_tally(alloc, all, &directions)?;
     let turned = turned_tally(alloc, skeleton)?;
     Ok(Tallies {
         sides,

@@ -1,26 +1,23 @@
 //! The sides and the corners of the triangles of links. Each triangle has three of each, one for each directed edge
 //! that begins at its vertex.
 
-ghost use Rattle.std.specs.Prelude.{◌≡◌, ◌+◌, ◌*◌, ◌/◌, ◌%◌, ◌<◌, ◌≤◌, ◌==◌, ◌^◌, ℕ, length, slice_index, IfOk, false};
+ghost use Rattle.std.specs.Prelude.{◌≡◌, ◌+◌, ◌*◌, ◌/◌, ◌%◌, ◌<◌, ◌≤◌, ◌==◌, ℕ, length, slice_index, IfOk, false};
 ghost use Rattle.std.specs.List.{slice_index_or};
 ghost use Rattle.table_definitions.specs.Permutation.{others};
 ghost use Rattle.table_definitions.specs.Table as gluings;
-ghost use Rattle.table_definitions.specs.Table.{IsTable};
 ghost use Rattle.table_definitions.specs.Places.{is_boundary};
 ghost use Rattle.skeleton_definitions.specs.Links.{is_first_side};
-ghost use Rattle.skeleton_definitions.specs.Skeleton.{IsSkeleton};
 ghost use Rattle.skeleton_class_laws.specs.Tallies.{side_at};
 
 use gluing_table::{Face, Table};
 use no_memory::NoMemory;
-use skeleton::Skeleton;
+use skeleton::{Numbering, Skeleton};
 use std::alloc::Global;
 
 /// The vertex class of each of so many things a vertex.
 pub fn owners(alloc: Global, skeleton: &Skeleton, each: u32) -> Result<Vec<u32>, NoMemory>
     requires some { 0 < each }
     requires few { each ≤ 3 }
-    requires skeleton { IsSkeleton skeleton.now }
     ensures size { IfOk result (λ owners. length owners.items ≡ 4 * each * length skeleton.now.rows) }
     ensures owners { IfOk result (λ owners. (j : ℕ) → j < 4 * each * length skeleton.now.rows → slice_index owners.items j ≡ slice_index skeleton.now.vertices.classes (j / each)) }
 {
@@ -59,8 +56,7 @@ fn side(place: u32) -> Face
 
 /// Whether a face is a boundary face, or the lesser of two that are glued.
 fn is_first(table: &Table, face: Face) -> bool
-    requires in_range { face.tet < length table.now }
-    requires a_face { face.face < 4 }
+    requires { face.tet < length table.now }
     ensures { result ≡ is_first_side face (gluings.glue table.now face) }
 {
     let Some(glue) = table.glue(face) else {
@@ -72,7 +68,6 @@ fn is_first(table: &Table, face: Face) -> bool
 
 /// Of which sides the face is a boundary face or the lesser of two that are glued.
 pub fn first_sides(alloc: Global, table: &Table) -> Result<Vec<bool>, NoMemory>
-    requires { IsTable table.now }
     ensures size { IfOk result (λ passes. length passes.items ≡ 12 * length table.now) }
     ensures passes { IfOk result (λ passes. (j : ℕ) → j < 12 * length table.now → slice_index_or passes.items j false ≡ is_first_side (side_at j) (gluings.glue table.now (side_at j))) }
 {
@@ -86,7 +81,6 @@ pub fn first_sides(alloc: Global, table: &Table) -> Result<Vec<bool>, NoMemory>
 
 /// Of which sides the face is a boundary face.
 pub fn open_sides(alloc: Global, table: &Table) -> Result<Vec<bool>, NoMemory>
-    requires { IsTable table.now }
     ensures size { IfOk result (λ passes. length passes.items ≡ 12 * length table.now) }
     ensures passes { IfOk result (λ passes. (j : ℕ) → j < 12 * length table.now → slice_index_or passes.items j false ≡ is_boundary table.now (side_at j)) }
 {
@@ -99,15 +93,14 @@ pub fn open_sides(alloc: Global, table: &Table) -> Result<Vec<bool>, NoMemory>
 }
 
 /// Of which corners the directed edge is the least of its class.
-pub fn least_corners(alloc: Global, classes: &[u32], firsts: &[u32]) -> Result<Vec<bool>, NoMemory>
-    requires few { length classes.now < 2 ^ 32 }
-    requires in_range { (i : ℕ) → i < length classes.now → slice_index classes.now i < length firsts.now }
-    ensures size { IfOk result (λ passes. length passes.items ≡ length classes.now) }
-    ensures passes { IfOk result (λ passes. (j : ℕ) → j < length classes.now → slice_index_or passes.items j false ≡ (slice_index firsts.now (slice_index classes.now j) == j)) }
+pub fn least_corners(alloc: Global, directions: &Numbering) -> Result<Vec<bool>, NoMemory>
+    ensures size { IfOk result (λ passes. length passes.items ≡ length directions.now.classes.items) }
+    ensures passes { IfOk result (λ passes. (j : ℕ) → j < length directions.now.classes.items → slice_index_or passes.items j false ≡ (slice_index directions.now.firsts.items (slice_index directions.now.classes.items j) == j)) }
 {
-    let mut passes = Vec::with_capacity(alloc, classes.len())?;
-    for place in 0..classes.len() as u32 {
-        passes.push(firsts[classes[place as usize] as usize] == place)?;
+    let mut passes = Vec::with_capacity(alloc, directions.classes.len())?;
+    for place in 0..directions.classes.len() as u32 {
+        let class = directions.classes[place as usize];
+        passes.push(directions.firsts[class as usize] == place)?;
     }
     Ok(passes)
 }

@@ -7,10 +7,10 @@ use Rattle.vertex_links.proofs.SideLemmas.{tally_open}
 use Rattle.vertex_links.proofs.link.open_tally.Goals as goal
 
 pub returns-clause-closed : goal.returns-clause-closed
-returns-clause-closed c = tally_open c.args.skeleton.now.rows c.args.skeleton.now.vertices.classes c.in_ok-passes.passes.items c.args.owners.now c.in_ok-tallies.tallies.items c.args.skeleton.now.vertices.count
-    (subst₂ (λ (passes : List Bool) (n : ℕ). AreTallies passes c.args.owners.now n c.in_ok-tallies.tallies.items) c.deref.ensures.value c.vertices.ensures.count c.in_ok-tallies.ensures)
-    (omega (arith, c.requires.one_each, c.requires.skeleton.vertices.one_each))
-    (λ j m. passed j (omega (arith, c.requires.one_each))) (λ j m. c.requires.owned j (omega (arith, c.requires.one_each)))
+returns-clause-closed c = tally_open c.args.corners.skeleton.now.rows c.args.corners.skeleton.now.vertices.classes c.in_ok-passes.passes.items c.args.corners.owners.now c.in_ok-tallies.tallies.items c.args.corners.skeleton.now.vertices.count
+    (subst₂ (λ (passes : List Bool) (n : ℕ). AreTallies passes c.args.corners.owners.now n c.in_ok-tallies.tallies.items) c.deref.ensures.value c.vertices.ensures.count c.in_ok-tallies.ensures)
+    (omega (arith, c.args.corners.one_each, c.table.ensures.skeleton.vertices.one_each))
+    (λ j m. passed j (omega (arith, c.args.corners.one_each))) (λ j m. c.args.corners.owned j (omega (arith, c.args.corners.one_each)))
   where
-    passed : (j : ℕ) → j < 12 * length c.args.skeleton.now.rows → slice_index_or c.in_ok-passes.passes.items j false ≡ is_boundary c.args.skeleton.now.rows (side_at j)
+    passed : (j : ℕ) → j < 12 * length c.args.corners.skeleton.now.rows → slice_index_or c.in_ok-passes.passes.items j false ≡ is_boundary c.args.corners.skeleton.now.rows (side_at j)
     passed = subst (λ (rows : List Row). (j : ℕ) → j < 12 * length rows → slice_index_or c.in_ok-passes.passes.items j false ≡ is_boundary rows (side_at j)) c.table.ensures.rows c.in_ok-passes.ensures.passes

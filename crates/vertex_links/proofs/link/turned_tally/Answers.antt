@@ -9,7 +9,7 @@ use Rattle.skeleton_class_laws.proofs.LinkSigns.{tally_turned}
 use Rattle.vertex_links.proofs.link.turned_tally.Goals as goal
 
 pub returns-clause-orientable : goal.returns-clause-orientable
-returns-clause-orientable c k l = tally_turned c.args.skeleton.now.rows c.requires.table c.args.skeleton.now.vertices.classes c.args.skeleton.now.vertices.count c.requires.vertices
+returns-clause-orientable c k l = tally_turned c.args.skeleton.now.rows c.table-table.ensures.skeleton.table c.args.skeleton.now.vertices.classes c.args.skeleton.now.vertices.count c.table-table.ensures.skeleton.vertices
     c.in_ok-signs.signs.classes.items (length c.in_ok-signs.signs.firsts.items) classes.numbering k c.in_ok-passes.passes.items c.in_ok-members.members.items c.in_ok-tallies.tallies.items
     tallies c.in_ok-members.ensures.size passed owned l
   where
