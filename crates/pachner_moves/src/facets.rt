@@ -124,11 +124,11 @@ pub fn closed_number(facets: &[Facet], tet: u32) -> u32
 }
 
 /// What stands for a tetrahedron that is kept.
-fn retained_stand_in(it: TakenOut<'_>, tet: u32) -> Glue
-    ensures { result ≡ moves.kept_stand_in it.entry.table.now it.entry.m.now tet }
+fn retained_stand_in(taken: TakenOut<'_>, tet: u32) -> Glue
+    ensures { result ≡ moves.kept_stand_in taken.entry.table.now taken.entry.m.now tet }
 {
     Glue {
-        tet: closed_number(it.facets, tet),
+        tet: closed_number(taken.facets, tet),
         perm: Perm4::identity(),
     }
 }
@@ -146,12 +146,12 @@ pub fn facet_of(facets: &[Facet], tet: u32) -> Option<Facet>
 }
 
 /// What stands for the tetrahedron of a face there.
-fn stand_in(it: TakenOut<'_>, x: Face) -> Option<Glue>
-    ensures { result ≡ moves.stand_in_at it.entry.table.now it.entry.m.now x }
+fn stand_in(taken: TakenOut<'_>, x: Face) -> Option<Glue>
+    ensures { result ≡ moves.stand_in_at taken.entry.table.now taken.entry.m.now x }
 {
-    match facet_of(it.facets, x.tet) {
-        Some(f) => facet_stand_in(it.table, it.m, f, f.labels[x.face as usize]),
-        None => Some(retained_stand_in(it, x.tet)),
+    match facet_of(taken.facets, x.tet) {
+        Some(f) => facet_stand_in(taken.table, taken.m, f, f.labels[x.face as usize]),
+        None => Some(retained_stand_in(taken, x.tet)),
     }
 }
 
@@ -166,9 +166,9 @@ fn glue_under(s: Glue, r: Glue, glue: Glue) -> Glue
 }
 
 /// The gluing that stands for that of a face, whose tetrahedron `s` stands for.
-pub fn moved_glue(it: TakenOut<'_>, x: Face, s: Glue, glue: Glue) -> Option<Glue>
-    ensures { result ≡ moves.moved_gluing it.entry.table.now it.entry.m.now x s glue }
+pub fn moved_glue(taken: TakenOut<'_>, x: Face, s: Glue, glue: Glue) -> Option<Glue>
+    ensures { result ≡ moves.moved_gluing taken.entry.table.now taken.entry.m.now x s glue }
 {
-    let r = stand_in(it, glue.other_side(x))?;
+    let r = stand_in(taken, glue.other_side(x))?;
     Some(glue_under(s, r, glue))
 }

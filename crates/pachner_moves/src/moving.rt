@@ -43,16 +43,21 @@ impl Model for Undo {
 }
 
 /// What the face of a new facet is glued to that stands for the one of an old facet.
-fn outer_glue(it: TakenOut<'_>, old: Facet, label: Label) -> Option<Glue>
+fn outer_glue(taken: TakenOut<'_>, old: Facet, label: Label) -> Option<Glue>
     requires { IsFacet old }
-    ensures { result ≡ outer_gluing it.entry.table.now it.entry.m.now old label.number }
+    ensures { result ≡ outer_gluing taken.entry.table.now taken.entry.m.now old label.number }
 {
-    let glue = glue_opposite(it.table, old, label.number)?;
+    let glue = glue_opposite(taken.table, old, label.number)?;
     let face = Face {
         tet: old.tet,
         face: vertex_of(&old.labels, label.number),
     };
-    moved_glue(it, face, glue_to_new(it.table, it.m, old, label), glue)
+    moved_glue(
+        taken,
+        face,
+        glue_to_new(taken.table, taken.m, old, label),
+        glue,
+    )
 }
 
 /// What the face of a new facet is glued to that leads to another new one.
@@ -63,50 +68,53 @@ fn inner_glue(table: &Table, m: &Move, own: Label, label: Label) -> Glue
 }
 
 /// What the face of a new facet opposite a label is glued to.
-fn fresh_glue(it: TakenOut<'_>, own: Label, label: Label) -> Option<Glue>
-    ensures { result ≡ fresh_gluing it.entry.table.now it.entry.m.now own.number label.number }
+fn fresh_glue(taken: TakenOut<'_>, own: Label, label: Label) -> Option<Glue>
+    ensures { result ≡ fresh_gluing taken.entry.table.now taken.entry.m.now own.number label.number }
 {
-    let m = it.m;
+    let m = taken.m;
     let size = m.core_size();
     if label.number < size {
-        return Some(inner_glue(it.table, m, own, label));
+        return Some(inner_glue(taken.table, m, own, label));
     }
-    outer_glue(it, it.facets[(label.number - size) as usize], own)
+    outer_glue(taken, taken.facets[(label.number - size) as usize], own)
 }
 
 /// The row of a new facet.
-fn fresh_row(it: TakenOut<'_>, own: Label) -> Row
-    ensures { result ≡ put_row it.entry.table.now it.entry.m.now own.number }
+fn fresh_row(taken: TakenOut<'_>, own: Label) -> Row
+    ensures { result ≡ put_row taken.entry.table.now taken.entry.m.now own.number }
 {
     let [a, b, c, d] = other_labels(own);
     [
-        fresh_glue(it, own, Label { number: a }),
-        fresh_glue(it, own, Label { number: b }),
-        fresh_glue(it, own, Label { number: c }),
-        fresh_glue(it, own, Label { number: d }),
+        fresh_glue(taken, own, Label { number: a }),
+        fresh_glue(taken, own, Label { number: b }),
+        fresh_glue(taken, own, Label { number: c }),
+        fresh_glue(taken, own, Label { number: d }),
     ]
 }
 
 /// The rows of the new facets, with their numbers.
-fn fresh_rows(it: TakenOut<'_>) -> ArrayVec<(u32, Row), 4>
-    ensures { result.items ≡ put_rows it.entry.table.now it.entry.m.now }
+fn fresh_rows(taken: TakenOut<'_>) -> ArrayVec<(u32, Row), 4>
+    ensures { result.items ≡ put_rows taken.entry.table.now taken.entry.m.now }
 {
     let mut rows = ArrayVec::new();
-    let m = it.m;
-    let first = retained_in(it.table, m);
+    let m = taken.m;
+    let first = retained_in(taken.table, m);
     for label in 0..m.core_size() {
-        rows.push((first + label as u32, fresh_row(it, Label { number: label })));
+        rows.push((
+            first + label as u32,
+            fresh_row(taken, Label { number: label }),
+        ));
     }
     rows
 }
 
 /// The numbers of the tetrahedra of the facets, ascending.
-fn taken_numbers(it: TakenOut<'_>) -> ArrayVec<u32, 4>
-    ensures { result.items ≡ undos.taken_numbers it.entry.table.now it.entry.m.now }
+fn taken_numbers(taken: TakenOut<'_>) -> ArrayVec<u32, 4>
+    ensures { result.items ≡ undos.taken_numbers taken.entry.table.now taken.entry.m.now }
 {
     let mut numbers = ArrayVec::new();
-    for tet in 0..it.table.len() {
-        if is_of_facet(it.facets, tet) {
+    for tet in 0..taken.table.len() {
+        if is_of_facet(taken.facets, tet) {
             numbers.push(tet);
         }
     }
@@ -144,20 +152,20 @@ struct Exchange {
 }
 
 /// What a move takes out and puts in.
-fn exchange_of(it: TakenOut<'_>) -> Exchange
-    ensures removed { result.removed.items ≡ undos.taken_numbers it.entry.table.now it.entry.m.now }
-    ensures fresh { result.fresh.items ≡ put_rows it.entry.table.now it.entry.m.now }
-    ensures undo { result.undo ≡ undos.undo_of it.entry.table.now it.entry.m.now }
+fn exchange_of(taken: TakenOut<'_>) -> Exchange
+    ensures removed { result.removed.items ≡ undos.taken_numbers taken.entry.table.now taken.entry.m.now }
+    ensures fresh { result.fresh.items ≡ put_rows taken.entry.table.now taken.entry.m.now }
+    ensures undo { result.undo ≡ undos.undo_of taken.entry.table.now taken.entry.m.now }
 {
-    let removed = taken_numbers(it);
+    let removed = taken_numbers(taken);
     let undo = Undo {
-        played: *it.m,
-        tets: it.table.len(),
-        rows: saved_rows(it.table, &removed),
+        played: *taken.m,
+        tets: taken.table.len(),
+        rows: saved_rows(taken.table, &removed),
     };
     Exchange {
         removed,
-        fresh: fresh_rows(it),
+        fresh: fresh_rows(taken),
         undo,
     }
 }

@@ -6,14 +6,14 @@ use Rattle.pachner_moves.proofs.CodeLaws.{old_found, stand_some, stand_none}
 use Rattle.pachner_moves.proofs.facets.stand_in.Goals as goal
 
 pub facet_stand_in-requires : goal.facet_stand_in-requires
-facet_stand_in-requires c = (old_found c.args.it.table.now c.args.it.m.now c.args.it.facets.now c.x.inside.tet c.in-Some.f c.args.it.old c.in-Some.ensures).1.labelled
+facet_stand_in-requires c = (old_found c.args.taken.table.now c.args.taken.m.now c.args.taken.facets.now c.x.inside.tet c.in-Some.f c.args.taken.old c.in-Some.ensures).1.labelled
 
 pub returns-in-Some : goal.returns-in-Some
 returns-in-Some c =
     c.facet_stand_in.ensures
-    ∙ stand_some c.args.it.table.now c.args.it.m.now c.args.it.facets.now c.in-Some.f c.args.x c.x.inside.tet _ c.args.it.old.are c.in-Some.ensures (ap (λ (x : Face). x.tet) c.x.view_is)
+    ∙ stand_some c.args.taken.table.now c.args.taken.m.now c.args.taken.facets.now c.in-Some.f c.args.x c.x.inside.tet _ c.args.taken.old.are c.in-Some.ensures (ap (λ (x : Face). x.tet) c.x.view_is)
     (ap (λ (ls : List ℕ). image ls c.x.inside.face) (ap (λ (f : Facet). f.labels) c.f.view_is) ∙ ap (image c.in-Some.f.labels) (ap (λ (x : Face). x.face) c.x.view_is))
 
 pub returns-in-None : goal.returns-in-None
 returns-in-None c =
-    stand_none c.args.it.table.now c.args.it.m.now c.args.it.facets.now c.args.x c.x.inside.tet c.retained_stand_in.result c.args.it.old.are c.in-None.ensures (ap (λ (x : Face). x.tet) c.x.view_is) c.retained_stand_in.ensures
+    stand_none c.args.taken.table.now c.args.taken.m.now c.args.taken.facets.now c.args.x c.x.inside.tet c.retained_stand_in.result c.args.taken.old.are c.in-None.ensures (ap (λ (x : Face). x.tet) c.x.view_is) c.retained_stand_in.ensures

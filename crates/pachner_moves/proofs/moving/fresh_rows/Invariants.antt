@@ -6,4 +6,4 @@ use Rattle.move_laws.specs.Facets.{numbered, put_row}
 use Rattle.pachner_moves.proofs.moving.fresh_rows.Given as goal
 
 abbrev pub invariant-loop-label : goal.invariant-loop-label
-invariant-loop-label l = l.rows.items ≡ numbered (λ u. put_row l.it.table.now l.it.m.now (u - kept l.it.table.now l.it.m.now)) (range_with_len (kept l.it.table.now l.it.m.now) l.label)
+invariant-loop-label l = l.rows.items ≡ numbered (λ u. put_row l.taken.table.now l.taken.m.now (u - kept l.taken.table.now l.taken.m.now)) (range_with_len (kept l.taken.table.now l.taken.m.now) l.label)

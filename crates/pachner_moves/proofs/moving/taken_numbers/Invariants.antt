@@ -6,4 +6,4 @@ use Rattle.move_definitions.specs.Moves.{Facet}
 use Rattle.pachner_moves.proofs.moving.taken_numbers.Given as goal
 
 abbrev pub invariant-loop-tet : goal.invariant-loop-tet
-invariant-loop-tet l = l.numbers.items ≡ filter (has (map (λ (f : Facet). f.tet) l.it.facets.now)) (below l.tet)
+invariant-loop-tet l = l.numbers.items ≡ filter (has (map (λ (f : Facet). f.tet) l.taken.facets.now)) (below l.tet)
