@@ -4,6 +4,7 @@
 mod divisors;
 mod entries;
 mod filled;
+mod limit;
 mod numbers;
 mod packed;
 mod ray;
@@ -11,6 +12,7 @@ mod row;
 mod small;
 mod system;
 
+pub use limit::Limit;
 pub use numbers::{MAX_ENTRY, Passed, PlusMinus, gcd, parts};
 pub use packed::{PackedRay, combine_inside};
 pub use ray::{CombineFault, Ray, combine, compare};

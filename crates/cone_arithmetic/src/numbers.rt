@@ -40,7 +40,6 @@ pub fn gcd(a: u128, b: u128) -> u128
 /// A sum and one product more, where that is within the limit.
 fn add_product(sum: u128, magnitude: u32, entry: u128, limit: u128) -> Result<u128, Passed>
     requires within { sum ≤ limit }
-    requires limit { limit ≤ MAX_ENTRY }
     ensures ok { IfOk result (λ after. after ≡ sum + magnitude * entry) }
     ensures within { OnOk result (sum + magnitude * entry ≤ limit) }
     ensures passed { OnErr result (limit < sum + magnitude * entry) }
@@ -60,7 +59,6 @@ fn add_term(
 ) -> Result<PlusMinus, Passed>
     requires plus { sums.plus ≤ limit }
     requires minus { sums.minus ≤ limit }
-    requires limit { limit ≤ MAX_ENTRY }
     ensures plus { IfOk result (λ after. after.plus ≡ sums.plus + positive_coefficient coefficient * entry) }
     ensures minus { IfOk result (λ after. after.minus ≡ sums.minus + negative_coefficient coefficient * entry) }
     ensures plus_within { IfOk result (λ after. after.plus ≤ limit) }
@@ -89,7 +87,6 @@ fn add_term(
 /// A sum and one product of an entry of 64 bits more, where that is within the limit.
 fn add_small_product(sum: u128, magnitude: u32, entry: u64, limit: u128) -> Result<u128, Passed>
     requires within { sum ≤ limit }
-    requires limit { limit ≤ MAX_ENTRY }
     ensures ok { IfOk result (λ after. after ≡ sum + magnitude * entry) }
     ensures within { OnOk result (sum + magnitude * entry ≤ limit) }
     ensures passed { OnErr result (limit < sum + magnitude * entry) }
@@ -111,7 +108,6 @@ fn add_small_term(
 ) -> Result<PlusMinus, Passed>
     requires plus { sums.plus ≤ limit }
     requires minus { sums.minus ≤ limit }
-    requires limit { limit ≤ MAX_ENTRY }
     ensures plus { IfOk result (λ after. after.plus ≡ sums.plus + positive_coefficient coefficient * entry) }
     ensures minus { IfOk result (λ after. after.minus ≡ sums.minus + negative_coefficient coefficient * entry) }
     ensures plus_within { IfOk result (λ after. after.plus ≤ limit) }
@@ -144,7 +140,6 @@ pub(crate) fn small_parts(
     limit: u128,
 ) -> Result<PlusMinus, Passed>
     requires in_range { IsInRange (length x.now) entries.now }
-    requires limit { limit ≤ MAX_ENTRY }
     ensures ok { IfOk result (ArePartsAt entries.now x.now) }
     ensures within { OnOk result (HasPartsWithin limit entries.now x.now) }
     ensures passed { OnErr result (HasLargePart limit entries.now x.now) }
@@ -159,7 +154,6 @@ pub(crate) fn small_parts(
 /// The same at a vector of entries of 128 bits.
 pub(crate) fn parts_of(entries: &[(u32, i32)], x: &[u128], limit: u128) -> Result<PlusMinus, Passed>
     requires in_range { IsInRange (length x.now) entries.now }
-    requires limit { limit ≤ MAX_ENTRY }
     ensures ok { IfOk result (ArePartsAt entries.now x.now) }
     ensures within { OnOk result (HasPartsWithin limit entries.now x.now) }
     ensures passed { OnErr result (HasLargePart limit entries.now x.now) }
@@ -174,7 +168,6 @@ pub(crate) fn parts_of(entries: &[(u32, i32)], x: &[u128], limit: u128) -> Resul
 /// The parts of a row at a vector, where neither passes the limit.
 pub fn parts(row: &SparseRow, x: &[u128], limit: u128) -> Result<PlusMinus, Passed>
     requires in_range { IsInRange (length x.now) row.now }
-    requires limit { limit ≤ MAX_ENTRY }
     ensures ok { IfOk result (ArePartsAt row.now x.now) }
     ensures within { OnOk result (HasPartsWithin limit row.now x.now) }
     ensures passed { IsErr result ↔ HasLargePart limit row.now x.now }

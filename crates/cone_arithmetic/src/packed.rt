@@ -15,6 +15,7 @@ ghost use Rattle.cone_arithmetic.specs.Filled.{AreInside};
 use crate::divisors::{common_small_divisor, divide_small};
 use crate::entries::{Entries, count, entry, into_wide, small_entries, wide_entries, with_entry};
 use crate::filled::sums_at;
+use crate::limit::Limit;
 use crate::numbers::{MAX_ENTRY, Passed, PlusMinus, gcd, parts_of, small_parts};
 use crate::ray::{CombineFault, Ray, combine};
 use crate::row::SparseRow;
@@ -77,7 +78,6 @@ impl PackedRay {
     /// The parts of a row at the ray, where neither passes the limit.
     pub fn parts(&self, row: &SparseRow, limit: u128) -> Result<PlusMinus, Passed>
         requires in_range { IsInRange (length self.now) row.now }
-        requires limit { limit ≤ MAX_ENTRY }
         ensures ok { IfOk result (ArePartsAt row.now self.now) }
         ensures within { OnOk result (HasPartsWithin limit row.now self.now) }
         ensures passed { IsErr result ↔ HasLargePart limit row.now self.now }
@@ -202,22 +202,18 @@ fn combine_wide(
     w: &PackedRay,
     at_u: u128,
     at_w: u128,
-    limit: u128,
+    limit: Limit,
 ) -> Result<PackedRay, CombineFault>
     requires lengths { length u.now ≡ length w.now }
     requires some_u { 1 ≤ at_u }
     requires some_w { 1 ≤ at_w }
-    requires most_u { at_u ≤ MAX_ENTRY }
-    requires most_w { at_w ≤ MAX_ENTRY }
-    requires some_limit { 1 ≤ limit }
-    requires most_limit { limit ≤ MAX_ENTRY }
-    ensures ok { IfOk result (IsReducedBy limit at_u at_w u.now w.now) }
+    ensures ok { IfOk result (IsReducedBy limit.number at_u at_w u.now w.now) }
     ensures columns { IfOk result (λ ray. length ray ≡ length u.now) }
-    ensures err { IfErr result (CombineFails limit at_u at_w u.now w.now) }
+    ensures err { IfErr result (CombineFails limit.number at_u at_w u.now w.now) }
 {
     let first = u.to_ray(alloc)?;
     let second = w.to_ray(alloc)?;
-    let ray = combine(alloc, &first, &second, at_u, at_w, limit)?;
+    let ray = combine(alloc, &first, &second, at_u, at_w, limit.number)?;
     Ok(PackedRay::of(ray))
 }
 
@@ -229,20 +225,16 @@ pub fn combine_inside(
     support: &Support,
     at_u: u128,
     at_w: u128,
-    limit: u128,
+    limit: Limit,
 ) -> Result<PackedRay, CombineFault>
     requires lengths { length u.now ≡ length w.now }
     requires width { length support.now ≡ length w.now }
     requires inside { AreInside support.now u.now w.now }
     requires some_u { 1 ≤ at_u }
     requires some_w { 1 ≤ at_w }
-    requires most_u { at_u ≤ MAX_ENTRY }
-    requires most_w { at_w ≤ MAX_ENTRY }
-    requires some_limit { 1 ≤ limit }
-    requires most_limit { limit ≤ MAX_ENTRY }
-    ensures ok { IfOk result (IsReducedBy limit at_u at_w u.now w.now) }
+    ensures ok { IfOk result (IsReducedBy limit.number at_u at_w u.now w.now) }
     ensures columns { IfOk result (λ ray. length ray ≡ length u.now) }
-    ensures err { IfErr result (CombineFails limit at_u at_w u.now w.now) }
+    ensures err { IfErr result (CombineFails limit.number at_u at_w u.now w.now) }
 {
     let greatest = gcd(at_u, at_w);
     let answer = small_sums(
@@ -252,7 +244,7 @@ pub fn combine_inside(
         w,
         quotient(at_w, greatest),
         u,
-        limit,
+        limit.number,
     )?;
     let Some(mut sums) = answer else {
         return combine_wide(alloc, u, w, at_u, at_w, limit);

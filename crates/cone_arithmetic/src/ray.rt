@@ -125,7 +125,6 @@ impl Ray {
     /// The parts of a row at the ray, where neither passes the limit.
     pub fn parts(&self, row: &SparseRow, limit: u128) -> Result<PlusMinus, Passed>
         requires in_range { IsInRange (length self.now) row.now }
-        requires limit { limit ≤ MAX_ENTRY }
         ensures ok { IfOk result (ArePartsAt row.now self.now) }
         ensures within { OnOk result (HasPartsWithin limit row.now self.now) }
         ensures passed { IsErr result ↔ HasLargePart limit row.now self.now }
@@ -152,7 +151,6 @@ pub fn compare(a: &[u128], b: &[u128]) -> Ordering
 
 /// The sum of two products, where it is within the limit.
 fn sum_within(a: u128, x: u128, b: u128, y: u128, limit: u128) -> Option<u128>
-    requires { limit ≤ MAX_ENTRY }
     ensures some { IfSome result (λ sum. sum ≡ a * x + b * y) }
     ensures within { IfSome result (λ sum. sum ≤ limit) }
     ensures none { IfNone result (limit < a * x + b * y) }
@@ -175,7 +173,6 @@ fn sums_within(
     u: &[u128],
     limit: u128,
 ) -> Result<Vec<u128>, CombineFault>
-    requires limit { limit ≤ MAX_ENTRY }
     requires lengths { length u.now ≡ length w.now }
     requires width { length w.now < 2 ^ 32 }
     ensures ok { IfOk result (λ sums. sums.items ≡ sum_of (multiple a w.now) (multiple b u.now)) }
@@ -208,9 +205,6 @@ pub fn combine(
     requires lengths { length u.now ≡ length w.now }
     requires some_u { 1 ≤ at_u }
     requires some_w { 1 ≤ at_w }
-    requires most_u { at_u ≤ MAX_ENTRY }
-    requires most_w { at_w ≤ MAX_ENTRY }
-    requires some_limit { 1 ≤ limit }
     requires most_limit { limit ≤ MAX_ENTRY }
     ensures ok { IfOk result (IsReducedBy limit at_u at_w u.now w.now) }
     ensures columns { IfOk result (λ ray. length ray ≡ length u.now) }

@@ -1,33 +1,27 @@
 // The elimination of a row all of whose columns are seen.
 
 ghost use Rattle.std.specs.Prelude.{◌∷◌, [], ◌++◌, List, IfOk, IfErr};
-ghost use Rattle.cone_arithmetic.specs.Sparse.{IsInRange};
 ghost use Rattle.cone_definitions.specs.Rows.{Row};
 ghost use Rattle.cone_definitions.specs.Unordered.{HasSurfaces};
 ghost use Rattle.ray_steps.specs.Faults.{IfLarge};
-ghost use Rattle.ray_steps.specs.Rays.{rays_of};
 ghost use Rattle.ray_steps.specs.Steps.{AreStepRays};
+ghost use Rattle.ray_steps.specs.Rays.{rays_of};
 ghost use Rattle.late_columns.specs.Passing.{PassesAt};
 
-use cone_arithmetic::{MAX_ENTRY, SparseRow};
-use ray_steps::{Clashes, Compatible, RayWithSupport, Step, StepFault};
+use cone_arithmetic::Limit;
+use ray_steps::{Compatible, RayWithSupport, Step, StepFault, StepInput};
 use std::alloc::Global;
 
-/// The vertex surfaces of one row more, in any order, or what has a number past the greatest entry. The union of a pair has at
-/// most `most` columns.
+/// The vertex surfaces of one row more, in any order, or what has a number past the greatest entry.
 pub fn next_rays<C: Compatible>(
     alloc: Global,
-    clashes: &Clashes<C>,
-    row: &SparseRow,
-    ray_list: Vec<RayWithSupport>,
-    most: u64,
+    input: StepInput<C>,
 ) -> Result<Vec<RayWithSupport>, StepFault>
-    requires rays { AreStepRays clashes.now.columns most clashes.now.pairs ray_list.items }
-    requires in_range { IsInRange clashes.now.columns row.now }
-    ensures ok { IfOk result (λ next. (before : List Row) → HasSurfaces clashes.now.columns before clashes.now.pairs (rays_of ray_list.items)
-        → HasSurfaces clashes.now.columns (before ++ row.now ∷ []) clashes.now.pairs (rays_of next.items)) }
-    ensures err { IfErr result (IfLarge (PassesAt clashes.now row.now (rays_of ray_list.items))) }
+    requires { AreStepRays input.clashes.now.columns input.most input.clashes.now.pairs input.ray_list.items }
+    ensures ok { IfOk result (λ next. (before : List Row) → HasSurfaces input.entry.clashes.now.columns before input.entry.clashes.now.pairs (rays_of input.entry.ray_list.items)
+        → HasSurfaces input.entry.clashes.now.columns (before ++ input.entry.row.now ∷ []) input.entry.clashes.now.pairs (rays_of next.items)) }
+    ensures err { IfErr result (IfLarge (PassesAt input.entry.clashes.now input.entry.row.now (rays_of input.entry.ray_list.items))) }
 {
-    let step = Step::of(alloc, clashes, row, ray_list, most, MAX_ENTRY)?;
+    let step = Step::of(alloc, input, Limit::MAX)?;
     step.next_by_fewer(alloc)
 }

@@ -17,7 +17,7 @@ use crate::fresh::{Fresh, free_column};
 use crate::raising::raised_rays;
 use cone_arithmetic::{Ray, SparseRow, System};
 use no_memory::NoMemory;
-use ray_steps::{Clashes, Compatible, RayWithSupport, StepFault, sort_rays, without_supports};
+use ray_steps::{Clashes, Compatible, RayWithSupport, StepFault, StepInput, sort_rays, without_supports};
 use std::alloc::Global;
 
 /// One row more, all of whose columns enter before.
@@ -35,7 +35,13 @@ fn eliminate_row<C: Compatible>(
 {
     enter_row(alloc, clashes.columns(), row, &mut late)?;
     let LateRays { ray_list, seen } = late;
-    let next = next_rays(alloc, clashes, row, ray_list, most)?;
+    let input = StepInput {
+        clashes,
+        row,
+        ray_list,
+        most,
+    };
+    let next = next_rays(alloc, input)?;
     Ok(LateRays {
         ray_list: next,
         seen,
@@ -59,7 +65,13 @@ fn eliminate_with_fresh<C: Compatible>(
 {
     enter_others(alloc, clashes.columns(), row, fresh.column, &mut late)?;
     let LateRays { ray_list, mut seen } = late;
-    let next = raised_rays(alloc, clashes, row, fresh, ray_list, most)?;
+    let input = StepInput {
+        clashes,
+        row,
+        ray_list,
+        most,
+    };
+    let next = raised_rays(alloc, input, fresh)?;
     seen[fresh.column as usize] = true;
     Ok(LateRays {
         ray_list: next,

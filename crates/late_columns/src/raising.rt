@@ -2,7 +2,6 @@
 
 ghost use Rattle.std.specs.Prelude.{◌≡◌, ◌<◌, ◌≤◌, List, length, slice_set, IfOk, IfErr, OnOk};
 ghost use Rattle.std.specs.List.{All};
-ghost use Rattle.cone_arithmetic.specs.Sparse.{IsInRange};
 ghost use Rattle.cone_definitions.specs.Surfaces.{Clash};
 ghost use Rattle.ray_steps.specs.Faults.{IfLarge, IsFirstLargeValue};
 ghost use Rattle.ray_steps.specs.Rays.{rays_of};
@@ -13,9 +12,9 @@ ghost use Rattle.late_columns.specs.Passing.{PassesAt};
 ghost use Rattle.late_columns.specs.Raised.{HasRoom, AppendsRaised, IsRaisedFrom, AreRaised};
 
 use crate::fresh::Fresh;
-use cone_arithmetic::{MAX_ENTRY, SparseRow};
+use cone_arithmetic::{Limit, MAX_ENTRY};
 use no_memory::NoMemory;
-use ray_steps::{Clashes, Compatible, RayWithSupport, Sign, Step, StepFault};
+use ray_steps::{Compatible, RayWithSupport, Sign, Step, StepFault, StepInput};
 use std::alloc::Global;
 use support_bits::Support;
 
@@ -23,18 +22,14 @@ use support_bits::Support;
 /// greatest entry.
 fn oriented_step<'a, C: Compatible>(
     alloc: Global,
-    clashes: &'a Clashes<C>,
-    row: &SparseRow,
+    input: StepInput<'a, C>,
     is_turned: bool,
-    ray_list: Vec<RayWithSupport>,
-    most: u64,
 ) -> Result<Step<'a, C>, StepFault>
-    requires rays { AreStepRays clashes.now.columns most clashes.now.pairs ray_list.items }
-    requires in_range { IsInRange clashes.now.columns row.now }
-    ensures ok { IfOk result (IsStepOf MAX_ENTRY clashes.now (oriented is_turned row.now) (rays_of ray_list.items)) }
-    ensures err { IfErr result (IfLarge (IsFirstLargeValue MAX_ENTRY row.now (rays_of ray_list.items))) }
+    requires { AreStepRays input.clashes.now.columns input.most input.clashes.now.pairs input.ray_list.items }
+    ensures ok { IfOk result (IsStepOf MAX_ENTRY input.entry.clashes.now (oriented is_turned input.entry.row.now) (rays_of input.entry.ray_list.items)) }
+    ensures err { IfErr result (IfLarge (IsFirstLargeValue MAX_ENTRY input.entry.row.now (rays_of input.entry.ray_list.items))) }
 {
-    let step = Step::of(alloc, clashes, row, ray_list, most, MAX_ENTRY)?;
+    let step = Step::of(alloc, input, Limit::MAX)?;
     if !is_turned {
         return Ok(step);
     }
@@ -107,23 +102,17 @@ fn raise_all(
 }
 
 /// The vertex surfaces of one row more that has a fresh column, in any order, or what has a number past the greatest entry.
-/// The union of a pair has at most `most` columns.
 pub fn raised_rays<C: Compatible>(
     alloc: Global,
-    clashes: &Clashes<C>,
-    row: &SparseRow,
+    input: StepInput<C>,
     fresh: Fresh,
-    ray_list: Vec<RayWithSupport>,
-    most: u64,
 ) -> Result<Vec<RayWithSupport>, StepFault>
-    requires rays { AreStepRays clashes.now.columns most clashes.now.pairs ray_list.items }
-    requires in_range { IsInRange clashes.now.columns row.now }
-    requires column { fresh.column < clashes.now.columns }
-    requires room { All (HasRoom fresh.column) ray_list.items }
-    ensures ok { IfOk result (λ next. AreRaised MAX_ENTRY clashes.now.pairs (oriented fresh.is_turned row.now) fresh.column (rays_of ray_list.items) (rays_of next.items)) }
-    ensures err { IfErr result (IfLarge (PassesAt clashes.now row.now (rays_of ray_list.items))) }
+    requires rays { AreStepRays input.clashes.now.columns input.most input.clashes.now.pairs input.ray_list.items }
+    requires room { All (HasRoom fresh.column) input.ray_list.items }
+    ensures ok { IfOk result (λ next. AreRaised MAX_ENTRY input.entry.clashes.now.pairs (oriented fresh.is_turned input.entry.row.now) fresh.column (rays_of input.entry.ray_list.items) (rays_of next.items)) }
+    ensures err { IfErr result (IfLarge (PassesAt input.entry.clashes.now input.entry.row.now (rays_of input.entry.ray_list.items))) }
 {
-    let step = oriented_step(alloc, clashes, row, fresh.is_turned, ray_list, most)?;
+    let step = oriented_step(alloc, input, fresh.is_turned)?;
     let parts = step.combinations_by_fewer(alloc)?;
     let mut next = parts.made;
     raise_all(alloc, parts.ray_list, &parts.signs, fresh.column, &mut next)?;

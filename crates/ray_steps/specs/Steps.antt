@@ -1,7 +1,6 @@
 -- A step as one value, the facts that hold of its fields, and what its pairs are combined to.
 use Rattle.std.specs.Prelude.{◌≡◌, ℕ, ◌<◌, ◌≤◌, ◌⊎◌, List, length, map, IfSome}
 use Rattle.std.specs.List.{All}
-use Rattle.cone_arithmetic.specs.declared.numbers.TheConstants.{MAX_ENTRY}
 use Rattle.cone_definitions.specs.Surfaces.{Clash, IsAdmissibleUnion}
 use Rattle.ray_steps.specs.declared.rays.RayWithSupport.{RayWithSupport}
 use Rattle.ray_steps.specs.declared.signs.Sign.{Sign}
@@ -40,7 +39,6 @@ pub record IsStep (columns : ℕ) (pairs : List Clash) (ray_list : List RayWithS
   pub rays : AreStepRays columns most pairs ray_list
   pub count : length signs ≡ length ray_list
   pub bounded : All (IsBoundedSign limit) signs
-  pub limit_is : limit ≤ MAX_ENTRY
 
 -- what the pairs of the places before i are combined to, and rivals where some are at hand
 pub record AreMadeBelow (step : StepData) (i : ℕ) (made : CombinationsSoFar) : Type 0 where

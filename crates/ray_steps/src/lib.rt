@@ -3,11 +3,13 @@
 
 mod combinations;
 mod compatible;
+mod input;
 mod lists;
 mod negatives;
 mod no_clash;
 mod pairs;
 mod partners;
+mod ray_list;
 mod rays;
 mod rivals;
 mod signs;
@@ -18,6 +20,7 @@ mod zeros;
 
 pub use combinations::Combinations;
 pub use compatible::{Clashes, Compatible};
+pub use input::StepInput;
 pub use lists::{sort_rays, without_supports};
 pub use no_clash::NoClash;
 pub use rays::{LargeKind, RayWithSupport, StepFault};

@@ -1,11 +1,11 @@
 // The negative rays of a step, and the search among them for one that a positive ray can make a pair with.
 
 ghost use Rattle.std.specs.Prelude.{◌≡◌, ◌<◌, ◌≤◌, ◌↔◌, [], length, IsTrue, IfOk, slice_index_or};
-ghost use Rattle.ray_steps.specs.Rays.{rays_of, AreOfWidth};
+ghost use Rattle.ray_steps.specs.Rays.{rays_of};
 ghost use Rattle.ray_steps.specs.Signs.{AreNegativePlaces};
 ghost use Rattle.ray_steps.specs.Negatives.{AreNegatives, IsFar, IsFirstNear};
 
-use crate::rays::RayWithSupport;
+use crate::ray_list::RayList;
 use crate::rivals::supports_at;
 use crate::signs::{Sign, is_negative};
 use no_memory::NoMemory;
@@ -36,16 +36,14 @@ fn negative_places(alloc: Global, signs: &[Sign]) -> Result<Vec<usize>, NoMemory
 /// The negative rays, with their supports.
 pub fn negatives_of(
     alloc: Global,
-    ray_list: &[RayWithSupport],
+    rays: RayList,
     signs: &[Sign],
-    columns: u32,
 ) -> Result<Negatives, NoMemory>
-    requires count { length signs.now ≡ length ray_list.now }
-    requires widths { AreOfWidth columns ray_list.now }
-    ensures { IfOk result (AreNegatives (rays_of ray_list.now) signs.now columns) }
+    requires { length signs.now ≡ length rays.items.now }
+    ensures { IfOk result (AreNegatives (rays_of rays.entry.items.now) signs.now rays.entry.columns) }
 {
     let places = negative_places(alloc, signs)?;
-    let table = supports_at(alloc, ray_list, columns, &places)?;
+    let table = supports_at(alloc, rays, &places)?;
     Ok(Negatives { places, table })
 }
 

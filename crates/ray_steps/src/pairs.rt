@@ -5,7 +5,7 @@ ghost use Rattle.cone_arithmetic.specs.Combinations.{IsReducedBy};
 ghost use Rattle.ray_steps.specs.Faults.{IfLarge, IsLargeSumOf};
 
 use crate::rays::{LargeKind, RayWithSupport, StepFault};
-use cone_arithmetic::{CombineFault, MAX_ENTRY, combine_inside};
+use cone_arithmetic::{CombineFault, Limit, combine_inside};
 use std::alloc::Global;
 
 /// The combination of two rays at which a row has these values, beside its support, which is the union of theirs.
@@ -15,16 +15,13 @@ pub fn combine_pair(
     w: &RayWithSupport,
     at_u: u128,
     at_w: u128,
-    limit: u128,
+    limit: Limit,
 ) -> Result<RayWithSupport, StepFault>
     requires lengths { length u.now.ray ≡ length w.now.ray }
     requires some_u { 1 ≤ at_u }
     requires some_w { 1 ≤ at_w }
-    requires most_u { at_u ≤ limit }
-    requires most_w { at_w ≤ limit }
-    requires limit { limit ≤ MAX_ENTRY }
-    ensures ok { IfOk result (λ kept. IsReducedBy limit at_u at_w u.now.ray w.now.ray kept.ray) }
-    ensures err { IfErr result (IfLarge (IsLargeSumOf limit at_u at_w u.now.ray w.now.ray)) }
+    ensures ok { IfOk result (λ kept. IsReducedBy limit.number at_u at_w u.now.ray w.now.ray kept.ray) }
+    ensures err { IfErr result (IfLarge (IsLargeSumOf limit.number at_u at_w u.now.ray w.now.ray)) }
 {
     let _columns = u.ray.columns();
     let mut support = u.support.copy(alloc)?;

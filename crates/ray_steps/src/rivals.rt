@@ -5,6 +5,7 @@ ghost use Rattle.std.specs.List.{All};
 ghost use Rattle.ray_steps.specs.Rays.{rays_of, AreOfWidth};
 ghost use Rattle.ray_steps.specs.Rivals.{AreApart, HasSupportsOf, HasAllSupports, HaveRivals};
 
+use crate::ray_list::RayList;
 use crate::rays::RayWithSupport;
 use no_memory::NoMemory;
 use std::alloc::Global;
@@ -40,17 +41,15 @@ fn places_apart(
 /// The supports of the rays at some places.
 pub fn supports_at(
     alloc: Global,
-    ray_list: &[RayWithSupport],
-    columns: u32,
+    rays: RayList,
     places: &[usize],
 ) -> Result<SupportTable, NoMemory>
-    requires widths { AreOfWidth columns ray_list.now }
-    requires in_range { All (λ k. k < length ray_list.now) places.now }
-    ensures { IfOk result (HasSupportsOf (rays_of ray_list.now) columns places.now) }
+    requires { All (λ k. k < length rays.items.now) places.now }
+    ensures { IfOk result (HasSupportsOf (rays_of rays.entry.items.now) rays.entry.columns places.now) }
 {
-    let mut table = SupportTable::new(alloc, columns);
+    let mut table = SupportTable::new(alloc, rays.columns);
     for place in places {
-        let kept = &ray_list[*place];
+        let kept = &rays.items[*place];
         table.push(&kept.support)?;
     }
     Ok(table)
@@ -59,17 +58,15 @@ pub fn supports_at(
 /// The rays that have none of some columns.
 pub fn rivals_with(
     alloc: Global,
-    ray_list: &[RayWithSupport],
-    columns: u32,
+    rays: RayList,
     joined: Support,
 ) -> Result<Rivals, NoMemory>
-    requires count { length joined ≡ columns }
-    requires widths { AreOfWidth columns ray_list.now }
+    requires { length joined ≡ rays.columns }
     ensures joined { IfOk result (λ rivals. rivals.joined ≡ joined) }
-    ensures rivals { IfOk result (HaveRivals (rays_of ray_list.now) columns) }
+    ensures rivals { IfOk result (HaveRivals (rays_of rays.entry.items.now) rays.entry.columns) }
 {
-    let places = places_apart(alloc, ray_list, &joined)?;
-    let table = supports_at(alloc, ray_list, columns, &places)?;
+    let places = places_apart(alloc, rays.items, &joined)?;
+    let table = supports_at(alloc, rays, &places)?;
     Ok(Rivals {
         joined,
         places,
@@ -78,16 +75,11 @@ pub fn rivals_with(
 }
 
 /// The supports of all rays.
-pub fn all_supports(
-    alloc: Global,
-    ray_list: &[RayWithSupport],
-    columns: u32,
-) -> Result<SupportTable, NoMemory>
-    requires { AreOfWidth columns ray_list.now }
-    ensures { IfOk result (HasAllSupports (rays_of ray_list.now) columns) }
+pub fn all_supports(alloc: Global, rays: RayList) -> Result<SupportTable, NoMemory>
+    ensures { IfOk result (HasAllSupports (rays_of rays.entry.items.now) rays.entry.columns) }
 {
-    let mut table = SupportTable::new(alloc, columns);
-    for kept in ray_list {
+    let mut table = SupportTable::new(alloc, rays.columns);
+    for kept in rays.items {
         table.push(&kept.support)?;
     }
     Ok(table)

@@ -9,7 +9,7 @@ ghost use Rattle.ray_steps.specs.Faults.{IfLarge, IsFirstLargeValue};
 ghost use Rattle.std.specs.List.{All};
 
 use crate::rays::{LargeKind, RayWithSupport, StepFault};
-use cone_arithmetic::{MAX_ENTRY, Passed, PlusMinus, SparseRow};
+use cone_arithmetic::{Passed, PlusMinus, SparseRow};
 use std::alloc::Global;
 
 /// Whether a row is zero, positive or negative at a ray, and its value or magnitude there.
@@ -45,7 +45,6 @@ fn sign_of(parts: PlusMinus) -> Sign
 /// The sign of a row at a ray, where no part passes the limit.
 fn sign_at(row: &SparseRow, kept: &RayWithSupport, limit: u128) -> Result<Sign, Passed>
     requires in_range { IsInRange (length kept.now.ray) row.now }
-    requires limit { limit ≤ MAX_ENTRY }
     ensures sign { IfOk result (IsSignAt row.now kept.now.ray) }
     ensures within { OnOk result (HasPartsWithin limit row.now kept.now.ray) }
     ensures passed { OnErr result (HasLargePart limit row.now kept.now.ray) }
@@ -62,7 +61,6 @@ pub fn signs_at(
     limit: u128,
 ) -> Result<Vec<Sign>, StepFault>
     requires in_range { All (λ kept. IsInRange (length kept.ray) row.now) ray_list.now }
-    requires limit { limit ≤ MAX_ENTRY }
     ensures ok { IfOk result (λ signs. AreSigns limit row.now (rays_of ray_list.now) signs.items) }
     ensures err { IfErr result (IfLarge (IsFirstLargeValue limit row.now (rays_of ray_list.now))) }
 {

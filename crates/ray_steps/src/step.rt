@@ -1,7 +1,6 @@
 // A step: the rays so far, a row's signs at them, and what the search for its pairs needs.
 
 ghost use Rattle.std.specs.Prelude.{◌≡◌, ◌+◌, ◌<◌, ◌≤◌, ◌↔◌, length, IsTrue, IfOk, IfErr, IfSome, OnOk};
-ghost use Rattle.cone_arithmetic.specs.Sparse.{IsInRange};
 ghost use Rattle.ray_steps.specs.Faults.{IfLarge, IsFirstLargeValue};
 ghost use Rattle.ray_steps.specs.Rays.{rays_of, AreOfWidth};
 ghost use Rattle.ray_steps.specs.Negatives.{AreNegatives};
@@ -11,15 +10,17 @@ ghost use Rattle.ray_steps.specs.Steps.{AreStepRays, IsStepOf, IsSearchAt, AreMa
 
 use crate::combinations::{Combinations, CombinationsSoFar, Search};
 use crate::compatible::{Clashes, Compatible};
+use crate::input::StepInput;
 use crate::negatives::{Negatives, first_near, negatives_of};
 use crate::pairs::combine_pair;
+use crate::ray_list::RayList;
 use crate::rays::{RayWithSupport, StepFault};
 use crate::rivals::{Rivals, all_supports, rivals_with};
 use crate::signs::{Sign, signs_at};
 use crate::thirds::{has_single, is_single, third_inside};
 use crate::turned::{has_more_positives, has_positive, positive_count, turned_signs};
 use crate::zeros::keep_zeros;
-use cone_arithmetic::{MAX_ENTRY, SparseRow};
+use cone_arithmetic::Limit;
 use no_memory::NoMemory;
 use residual_pairs::{RayTable, minimal_places};
 use std::alloc::Global;
@@ -37,7 +38,7 @@ pub struct Step<'a, C: Compatible> {
     ray_list: Vec<RayWithSupport>,
     signs: Vec<Sign>,
     most: u64,
-    limit: u128,
+    limit: Limit,
 }
 
 impl<'a, C: Compatible> Model for Step<'a, C> {
@@ -46,33 +47,28 @@ impl<'a, C: Compatible> Model for Step<'a, C> {
 
     ghost Value = { StepData };
 
-    ghost view = { λ s. record { columns = s.clashes.now.columns; pairs = s.clashes.now.pairs; rays = rays_of s.ray_list.items; signs = s.signs.items; limit = s.limit } };
+    ghost view = { λ s. record { columns = s.clashes.now.columns; pairs = s.clashes.now.pairs; rays = rays_of s.ray_list.items; signs = s.signs.items; limit = s.limit.number } };
 
-    ghost invariant = { λ s. IsStep s.clashes.now.columns s.clashes.now.pairs s.ray_list.items s.signs.items s.most s.limit };
+    ghost invariant = { λ s. IsStep s.clashes.now.columns s.clashes.now.pairs s.ray_list.items s.signs.items s.most s.limit.number };
 }
 
 impl<'a, C: Compatible> Step<'a, C> {
     /// The step of a row, or the first ray at which a part of it passes the limit.
     pub fn of(
         alloc: Global,
-        clashes: &'a Clashes<C>,
-        row: &SparseRow,
-        ray_list: Vec<RayWithSupport>,
-        most: u64,
-        limit: u128,
+        input: StepInput<'a, C>,
+        limit: Limit,
     ) -> Result<Step<'a, C>, StepFault>
-        requires rays { AreStepRays clashes.now.columns most clashes.now.pairs ray_list.items }
-        requires in_range { IsInRange clashes.now.columns row.now }
-        requires limit { limit ≤ MAX_ENTRY }
-        ensures ok { IfOk result (IsStepOf limit clashes.now row.now (rays_of ray_list.items)) }
-        ensures err { IfErr result (IfLarge (IsFirstLargeValue limit row.now (rays_of ray_list.items))) }
+        requires { AreStepRays input.clashes.now.columns input.most input.clashes.now.pairs input.ray_list.items }
+        ensures ok { IfOk result (IsStepOf limit.number input.entry.clashes.now input.entry.row.now (rays_of input.entry.ray_list.items)) }
+        ensures err { IfErr result (IfLarge (IsFirstLargeValue limit.number input.entry.row.now (rays_of input.entry.ray_list.items))) }
     {
-        let signs = signs_at(alloc, row, &ray_list, limit)?;
+        let signs = signs_at(alloc, input.row, &input.ray_list, limit.number)?;
         Ok(Step {
-            clashes,
-            ray_list,
+            clashes: input.clashes,
+            ray_list: input.ray_list,
             signs,
-            most,
+            most: input.most,
             limit,
         })
     }
@@ -111,7 +107,11 @@ impl<'a, C: Compatible> Step<'a, C> {
         }
         let clashes = self.clashes;
         let joined = joined.copy(alloc)?;
-        rivals_with(alloc, &self.ray_list, clashes.columns(), joined)
+        let rays = RayList {
+            columns: clashes.columns(),
+            items: &self.ray_list,
+        };
+        rivals_with(alloc, rays, joined)
     }
 
     /// Whether the union of the supports at two places holds no clashing pair and contains the support at no third place. The
@@ -314,7 +314,11 @@ impl<'a, C: Compatible> Step<'a, C> {
             return Ok(None);
         };
         let clashes = self.clashes;
-        let table = all_supports(alloc, &self.ray_list, clashes.columns())?;
+        let rays = RayList {
+            columns: clashes.columns(),
+            items: &self.ray_list,
+        };
+        let table = all_supports(alloc, rays)?;
         let supports = RayTable::of(alloc, table, count)?;
         Ok(Some(supports))
     }
@@ -330,7 +334,11 @@ impl<'a, C: Compatible> Step<'a, C> {
             return Ok(made);
         }
         let clashes = self.clashes;
-        let negatives = negatives_of(alloc, &self.ray_list, &self.signs, clashes.columns())?;
+        let rays = RayList {
+            columns: clashes.columns(),
+            items: &self.ray_list,
+        };
+        let negatives = negatives_of(alloc, rays, &self.signs)?;
         let supports = self.supports_if_large(alloc)?;
         self.combine_each(alloc, &negatives, &supports)
     }

@@ -54,8 +54,8 @@ row-requires g c =
     taken_row (length c.args.system.now.rows) c.loop-left.order.items c.loop-left.left.items c.pick-position.result c.remove-number.result c.loop-left.invariant.rows_left
     (let e = ap length c.deref.ensures.value in omega (arith, c.pick-position.ensures.within)) c.remove-number.ensures.value
 
-pub next_rays-requires-clause-rays : goal.next_rays-requires-clause-rays
-next_rays-requires-clause-rays g c =
+pub next_rays-requires : goal.next_rays-requires
+next_rays-requires g c =
     let system = c.args.system.now in
     let taken = c.loop-left.order.items in
     let rows = in_order system.rows taken in
@@ -201,8 +201,8 @@ returns-in-Err-NoMemory-clause-err g c = tt
 pub returns-clause-err : goal.returns-clause-err
 returns-clause-err g c = tt
 
-pub next_rays-requires-clause-limit : goal.next_rays-requires-clause-limit
-next_rays-requires-clause-limit g c = c.requires.most_limit
+pub invariant_of-bound : goal.invariant_of-bound
+invariant_of-bound g c = record { fits = c.requires.most_limit }
 
 pub pick-position-requires-clause-chooses : goal.pick-position-requires-clause-chooses
 pick-position-requires-clause-chooses g c = c.requires.chooses

@@ -18,11 +18,11 @@ module _ (limit : ℕ) (system : System) (order : Order) (post : Bor System → 
   refused h = subst (λ (ps : List Clash). IfErr result (IsRefused limit system ps order post)) same h
 
 pub returns-clause-ok : goal.returns-clause-ok
-returns-clause-ok g c = enumerated c.args.limit c.args.system.now c.args.picker.now.order _ _ _ c.in_ok-clashes.ensures.pairs c.eliminate.result c.eliminate.ensures.ok
+returns-clause-ok g c = enumerated c.args.limit.number c.args.system.now c.args.picker.now.order _ _ _ c.in_ok-clashes.ensures.pairs c.eliminate.result c.eliminate.ensures.ok
 
 pub returns-clause-only : goal.returns-clause-only
 returns-clause-only g c =
     subst (λ (pairs : List Clash). IfOk c.eliminate.result (IsOnlyList c.args.system.now pairs)) c.in_ok-clashes.ensures.pairs c.eliminate.ensures.only
 
 pub returns-clause-err : goal.returns-clause-err
-returns-clause-err g c = refused c.args.limit c.args.system.now c.args.picker.now.order _ _ _ c.in_ok-clashes.ensures.pairs c.eliminate.result c.eliminate.ensures.err
+returns-clause-err g c = refused c.args.limit.number c.args.system.now c.args.picker.now.order _ _ _ c.in_ok-clashes.ensures.pairs c.eliminate.result c.eliminate.ensures.err

@@ -8,8 +8,8 @@ use Rattle.late_columns.specs.Passing.{PassesAt, PassesNext}
 use Rattle.late_columns.proofs.Passed.{fault_weaker}
 use Rattle.late_columns.proofs.engine.eliminate_row.Goals as goal
 
-pub next_rays-requires-clause-rays : goal.next_rays-requires-clause-rays
-next_rays-requires-clause-rays g c =
+pub next_rays-requires : goal.next_rays-requires
+next_rays-requires g c =
     let columns = c.args.clashes.now.columns in
     let pairs = c.args.clashes.now.pairs in
     let h = c.requires.late in

@@ -8,9 +8,9 @@ use Rattle.late_columns.proofs.raising.oriented_step.Goals as goal
 
 pub returns-then-not-is_turned-clause-ok : goal.returns-then-not-is_turned-clause-ok
 returns-then-not-is_turned-clause-ok g c =
-    subst (λ turn. IsStepOf MAX_ENTRY c.args.clashes.now (oriented turn c.args.row.now) (rays_of c.args.ray_list.items) c.in_ok-step.step) (sym c.if-not-is_turned.true) c.in_ok-step.ensures.ok
+    subst (λ turn. IsStepOf MAX_ENTRY c.args.input.clashes.now (oriented turn c.args.input.row.now) (rays_of c.args.input.ray_list.items) c.in_ok-step.step) (sym c.if-not-is_turned.true) c.in_ok-step.ensures.ok
 
 pub returns-clause-ok : goal.returns-clause-ok
 returns-clause-ok g c =
-    subst (λ turn. IsStepOf MAX_ENTRY c.args.clashes.now (oriented turn c.args.row.now) (rays_of c.args.ray_list.items) c.in_ok-turned.turned) (sym c.if-not-is_turned.false)
-    (turned_step_of MAX_ENTRY c.args.clashes.now c.args.row.now (rays_of c.args.ray_list.items) c.in_ok-step.step c.in_ok-turned.turned c.in_ok-step.ensures.ok c.in_ok-turned.ensures.step)
+    subst (λ turn. IsStepOf MAX_ENTRY c.args.input.clashes.now (oriented turn c.args.input.row.now) (rays_of c.args.input.ray_list.items) c.in_ok-turned.turned) (sym c.if-not-is_turned.false)
+    (turned_step_of MAX_ENTRY c.args.input.clashes.now c.args.input.row.now (rays_of c.args.input.ray_list.items) c.in_ok-step.step c.in_ok-turned.turned c.in_ok-step.ensures.ok c.in_ok-turned.ensures.step)

@@ -21,7 +21,7 @@ invariant_of-result c =
     let u = c.args.u.now in
     let w = c.args.w.now in
     record {
-      matches = united c.args.limit c.args.at_u c.args.at_w u.ray w.ray c.in-Ok.ray c.requires.some_u c.requires.some_w c.requires.lengths c.columns-columns.ensures.reduced.nonzero c.in-Ok.ensures.ok
+      matches = united c.args.limit.number c.args.at_u c.args.at_w u.ray w.ray c.in-Ok.ray c.requires.some_u c.requires.some_w c.requires.lengths c.columns-columns.ensures.reduced.nonzero c.in-Ok.ensures.ok
           u.support w.support c.add.new.self u.matches w.matches
           (subst (λ s. IsUnion s w.support c.add.new.self) c.in_ok-support.ensures c.add.ensures);
     }

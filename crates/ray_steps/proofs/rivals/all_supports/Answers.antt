@@ -10,7 +10,7 @@ use Rattle.ray_steps.proofs.rivals.all_supports.Goals as goal
 
 pub loop-kept-preserved : goal.loop-kept-preserved
 loop-kept-preserved c =
-    let ray_list = c.args.ray_list.now in
+    let ray_list = c.args.rays.items.now in
     let rays = rays_of ray_list in
     let k = c.loop-kept.kept-index in
     let kept = c.kept-item.result in

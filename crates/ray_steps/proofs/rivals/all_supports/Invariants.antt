@@ -5,4 +5,4 @@ use Rattle.ray_steps.specs.Rivals.{HasAllSupports}
 use Rattle.ray_steps.proofs.rivals.all_supports.Given as goal
 
 abbrev pub invariant-loop-kept : goal.invariant-loop-kept
-invariant-loop-kept l = HasAllSupports (take l.kept-index (rays_of l.ray_list)) l.columns l.table
+invariant-loop-kept l = HasAllSupports (take l.kept-index (rays_of l.rays.items.now)) l.rays.columns l.table

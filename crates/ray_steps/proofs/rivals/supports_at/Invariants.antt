@@ -5,4 +5,4 @@ use Rattle.ray_steps.specs.Rivals.{HasSupportsOf}
 use Rattle.ray_steps.proofs.rivals.supports_at.Given as goal
 
 abbrev pub invariant-loop-place : goal.invariant-loop-place
-invariant-loop-place l = HasSupportsOf (rays_of l.ray_list) l.columns (take l.place-index l.places) l.table
+invariant-loop-place l = HasSupportsOf (rays_of l.rays.items.now) l.rays.columns (take l.place-index l.places) l.table

@@ -58,6 +58,3 @@ returns-in-Err-clause-ok c = tt
 
 pub returns-clause-err : goal.returns-clause-err
 returns-clause-err c = tt
-
-pub sign_at-requires-clause-limit : goal.sign_at-requires-clause-limit
-sign_at-requires-clause-limit c = c.requires.limit

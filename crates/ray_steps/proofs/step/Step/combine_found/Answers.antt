@@ -31,7 +31,7 @@ returns-in_default g c =
     let before = subst (λ (d : StepData). AreMadeTo d i j made) (sym c.self.view_is) c.requires.made in
     record {
       ok = subst (λ (d : StepData). AreMadeTo d i (j + 1) made) c.self.view_is (record {
-        so_far = made_skip s.limit s.clashes.now.pairs (rays_of s.ray_list.items) signs i j (rays_of made) before.so_far
+        so_far = made_skip s.limit.number s.clashes.now.pairs (rays_of s.ray_list.items) signs i j (rays_of made) before.so_far
             (λ p. c.in_default.not-Positive p.at_u (c.index.ensures ∙ get_or_default signs i c.index.result.now Zero within ∙ p.positive));
         widths = before.widths;
       });
@@ -50,7 +50,7 @@ returns-in_default-index g c =
     let before = subst (λ (d : StepData). AreMadeTo d i j made) (sym c.self.view_is) c.requires.made in
     record {
       ok = subst (λ (d : StepData). AreMadeTo d i (j + 1) made) c.self.view_is (record {
-        so_far = made_skip s.limit s.clashes.now.pairs (rays_of s.ray_list.items) signs i j (rays_of made) before.so_far
+        so_far = made_skip s.limit.number s.clashes.now.pairs (rays_of s.ray_list.items) signs i j (rays_of made) before.so_far
             (λ p. c.in_default-index.not-Negative p.at_w (c.index-2.ensures ∙ get_or_default signs j c.index-2.result.now Zero within ∙ p.negative));
         widths = before.widths;
       });
@@ -81,7 +81,7 @@ returns-in_err-kept-clause-err g c =
     let face = (subst (λ (d : StepData). IsFaceIfAdmissible d i j) (sym c.self.view_is) c.requires.face) ((clash_read pairs a b (ray_at rays i) (ray_at rays j) u w).0 (c.allows.ensures.0 c.if-allows.true)) in
     let p = err_from_is_err_and c.from_residual.result c.from_residual.ensures.1 in
     rw (p.1, p.2) (subst (λ (d : StepData). IfLarge (IsFirstLargeOf d) c.in_err-kept.field-0.0) c.self.view_is
-    (first_large s.limit pairs rays signs i j (rays_of made) before.so_far
+    (first_large s.limit.number pairs rays signs i j (rays_of made) before.so_far
     (the_pair pairs ray_list signs i j c.in-Positive.at_u c.in-Negative.at_w facts.count i_in j_signed
     (sym (c.index.ensures ∙ get_or_default signs i c.index.result.now Zero i_signed) ∙ c.in-Positive.is)
     (sym (c.index-2.ensures ∙ get_or_default signs j c.index-2.result.now Zero j_signed) ∙ c.in-Negative.is) face)
@@ -118,21 +118,21 @@ returns-clause-ok g c =
           (sym (c.index.ensures ∙ get_or_default signs i c.index.result.now Zero i_signed) ∙ c.in-Positive.is)
           (sym (c.index-2.ensures ∙ get_or_default signs j c.index-2.result.now Zero j_signed) ∙ c.in-Negative.is) face in
           let e = ap (λ v. v.items) w'.made-is ∙ w'.in_ok-push.ensures.items in
-          let reduced = subst₂ (λ x y. IsReducedBy s.limit c.in-Positive.at_u c.in-Negative.at_w x y kept.ray) (sym u) (sym w) w'.in_ok-kept.ensures.ok in
+          let reduced = subst₂ (λ x y. IsReducedBy s.limit.number c.in-Positive.at_u c.in-Negative.at_w x y kept.ray) (sym u) (sym w) w'.in_ok-kept.ensures.ok in
           record {
-            so_far = subst (IsMadeUpTo s.limit pairs rays signs i (j + 1)) (sym (ap rays_of e ∙ rays_of-push made kept))
-                (made_push s.limit pairs rays signs i j (rays_of made) kept.ray before.so_far p reduced);
+            so_far = subst (IsMadeUpTo s.limit.number pairs rays signs i (j + 1)) (sym (ap rays_of e ∙ rays_of-push made kept))
+                (made_push s.limit.number pairs rays signs i j (rays_of made) kept.ray before.so_far p reduced);
             widths = subst (AreOfWidth columns) (sym e)
                 (All-push (λ kept. length kept.ray ≡ columns) made kept before.widths
-                (reduced_width s.limit c.in-Positive.at_u c.in-Negative.at_w (ray_at rays i) (ray_at rays j) kept.ray reduced
+                (reduced_width s.limit.number c.in-Positive.at_u c.in-Negative.at_w (ray_at rays i) (ray_at rays j) kept.ray reduced
                 (ray_width ray_list i columns i_in facts.rays.widths ∙ sym (ray_width ray_list j columns j_in facts.rays.widths))
                 ∙ ray_width ray_list j columns j_in facts.rays.widths));
           }
       | else-allows w' ↦
           let e = ap (λ v. v.items) w'.made-is in
           record {
-            so_far = subst (λ xs. IsMadeUpTo s.limit pairs rays signs i (j + 1) (rays_of xs)) (sym e)
-                (made_skip s.limit pairs rays signs i j (rays_of made) before.so_far
+            so_far = subst (λ xs. IsMadeUpTo s.limit.number pairs rays signs i (j + 1) (rays_of xs)) (sym e)
+                (made_skip s.limit.number pairs rays signs i j (rays_of made) before.so_far
                 (no_pair pairs rays signs i j (λ face. false≢true (sym w'.if-allows.false ∙ c.allows.ensures.1 (read.1 face.no_clash)))));
             widths = subst (AreOfWidth columns) (sym e) before.widths;
           }

@@ -35,7 +35,7 @@ returns-in_default g c =
     let so_far = subst (λ (d : StepData). AreMadeBelow d i made) (sym c.self.view_is) c.requires.made in
     record {
       ok = subst (λ (d : StepData). AreMadeBelow d (i + 1) made) c.self.view_is (record {
-        so_far = made_skip_all s.limit s.clashes.now.pairs (rays_of s.ray_list.items) signs i (rays_of made.ray_list.items)
+        so_far = made_skip_all s.limit.number s.clashes.now.pairs (rays_of s.ray_list.items) signs i (rays_of made.ray_list.items)
             (λ at_u p. c.in_default.not-Positive at_u (c.index.ensures ∙ get_or_default signs i c.index.result.now Zero within ∙ p)) so_far.so_far;
         widths = so_far.widths;
         rivals = so_far.rivals;
@@ -55,9 +55,9 @@ loop-m-init g c =
     let i_in = place_of_rays ray_list c.args.self.now.rays i (ap (λ (d : StepData). d.rays) c.self.view_is) c.requires.in_range in
     let so_far = subst (λ (d : StepData). AreMadeBelow d i made) (sym c.self.view_is) c.requires.made in
     let search = subst (λ (d : StepData). IsSearchAt d i c.in_ok-search.search) (sym c.self.view_is) c.in_ok-search.ensures in
-    let near = near_taken s.limit pairs ray_list signs i s.clashes.now.columns s.most 0 c.first_near-m.result c.in_ok-search.search.joined c.args.negatives.now c.index-u.result.now (rays_of made.ray_list.items)
+    let near = near_taken s.limit.number pairs ray_list signs i s.clashes.now.columns s.most 0 c.first_near-m.result c.in_ok-search.search.joined c.args.negatives.now c.index-u.result.now (rays_of made.ray_list.items)
     search.joined facts.rays.small (negatives_read _ _ c.self.view_is _ c.requires.negatives) facts.count i_in facts.rays.widths (ray_read ray_list i c.index-u.result.now i_in c.index-u.ensures) c.first_near-m.ensures
-    (taken_none s.limit pairs (rays_of ray_list) signs c.args.negatives.now.places.items i (rays_of made.ray_list.items) so_far.so_far) in
+    (taken_none s.limit.number pairs (rays_of ray_list) signs c.args.negatives.now.places.items i (rays_of made.ray_list.items) so_far.so_far) in
     record { within = near.0; taken = near.1; widths = so_far.widths; search = c.in_ok-search.ensures }
 
 pub is_face-requires-clause-second : goal.is_face-requires-clause-second
@@ -102,8 +102,8 @@ returns-in_err-kept-clause-err g c =
     let face = subst (λ (d : StepData). IsFacePair d.pairs d.rays i j) (sym c.self.view_is) (c.in_ok-is_face.ensures.face.0 c.if-branch.true) in
     let p = err_from_is_err_and c.from_residual-in_err-kept.result c.from_residual-in_err-kept.ensures.1 in
     rw (p.1, p.2) (subst (λ (d : StepData). IfLarge (IsFirstLargeOf d) c.in_err-kept.field-0.0) c.self.view_is
-    (first_large s.limit pairs rays signs i j made
-    (subst (λ n. IsMadeUpTo s.limit pairs rays signs i n made) (sym is) (made_at s.limit pairs rays signs i m t.up_to places made (negatives_read _ _ c.self.view_is _ c.requires.negatives).places less t.reached t.so_far))
+    (first_large s.limit.number pairs rays signs i j made
+    (subst (λ n. IsMadeUpTo s.limit.number pairs rays signs i n made) (sym is) (made_at s.limit.number pairs rays signs i m t.up_to places made (negatives_read _ _ c.self.view_is _ c.requires.negatives).places less t.reached t.so_far))
     (the_pair pairs ray_list signs i j c.in-Positive.at_u c.in-Negative.at_w facts.count i_in j_in
     (sym (c.index.ensures ∙ get_or_default signs i c.index.result.now Zero i_signed) ∙ c.in-Positive.is)
     (sym (c.index-in-loop-m.ensures ∙ get_or_default signs j c.index-in-loop-m.result.now Zero j_in) ∙ c.in-Negative.is) face)
@@ -154,13 +154,13 @@ loop-m-preserved g c =
     let j_in : j < length signs = subst (λ n. n < length signs) (sym is) ((negatives_read _ _ c.self.view_is _ c.requires.negatives).places.in_range m 0 less) in
     let j_within : j < length ray_list = omega (arith, facts.count) in
     let sign = c.index-in-loop-m.ensures ∙ get_or_default signs j c.index-in-loop-m.result.now Zero j_in in
-    let before = subst (λ n. IsMadeUpTo s.limit pairs rays signs i n (rays_of made)) (sym is) (made_at s.limit pairs rays signs i m t.up_to places (rays_of made) (negatives_read _ _ c.self.view_is _ c.requires.negatives).places less t.reached t.so_far) in
+    let before = subst (λ n. IsMadeUpTo s.limit.number pairs rays signs i n (rays_of made)) (sym is) (made_at s.limit.number pairs rays signs i m t.up_to places (rays_of made) (negatives_read _ _ c.self.view_is _ c.requires.negatives).places less t.reached t.so_far) in
     let u = ray_read ray_list i c.index-u.result.now i_in c.index-u.ensures in
     let after = c.match-index-2.search in
-    let near = λ (xs : List (List ℕ)) (search : IsSearchAt d i after) (h : IsMadeUpTo s.limit pairs rays signs i (j + 1) xs).
-    near_taken s.limit pairs ray_list signs i columns s.most (m + 1) c.first_near-m-in-loop-m.result after.joined c.args.negatives.now c.index-u.result.now xs
+    let near = λ (xs : List (List ℕ)) (search : IsSearchAt d i after) (h : IsMadeUpTo s.limit.number pairs rays signs i (j + 1) xs).
+    near_taken s.limit.number pairs ray_list signs i columns s.most (m + 1) c.first_near-m-in-loop-m.result after.joined c.args.negatives.now c.index-u.result.now xs
     (subst (λ (d : StepData). IsSearchAt d i after) (sym c.self.view_is) search).joined facts.rays.small (negatives_read _ _ c.self.view_is _ c.requires.negatives) facts.count i_in facts.rays.widths u c.first_near-m-in-loop-m.ensures
-    (taken_more s.limit pairs rays signs places i m xs (negatives_read _ _ c.self.view_is _ c.requires.negatives).places less (subst (λ n. IsMadeUpTo s.limit pairs rays signs i (n + 1) xs) is h)) in
+    (taken_more s.limit.number pairs rays signs places i m xs (negatives_read _ _ c.self.view_is _ c.requires.negatives).places less (subst (λ n. IsMadeUpTo s.limit.number pairs rays signs i (n + 1) xs) is h)) in
     elim c.match-index-2.branch [
       | in-Negative+in_ok-is_face+then-branch+in_ok-kept+in_ok-push w' ↦
           let search = subst (IsSearchAt d i) (sym w'.search-is) w'.in_ok-is_face.ensures.search in
@@ -169,15 +169,15 @@ loop-m-preserved g c =
           let p = the_pair pairs ray_list signs i j c.in-Positive.at_u w'.in-Negative.at_w facts.count i_in j_in
           (sym (c.index.ensures ∙ get_or_default signs i c.index.result.now Zero i_signed) ∙ c.in-Positive.is) (sym sign ∙ w'.in-Negative.is) face in
           let e = ap (λ v. v.ray_list.items) w'.made-is ∙ w'.in_ok-push.ensures.items in
-          let reduced = subst₂ (λ a b. IsReducedBy s.limit c.in-Positive.at_u w'.in-Negative.at_w a b w'.in_ok-kept.kept.ray) (sym u) (sym w) w'.in_ok-kept.ensures.ok in
-          let next = near _ search (subst (IsMadeUpTo s.limit pairs rays signs i (j + 1)) (sym (ap rays_of e ∙ rays_of-push made w'.in_ok-kept.kept))
-          (made_push s.limit pairs rays signs i j (rays_of made) w'.in_ok-kept.kept.ray before p reduced)) in
+          let reduced = subst₂ (λ a b. IsReducedBy s.limit.number c.in-Positive.at_u w'.in-Negative.at_w a b w'.in_ok-kept.kept.ray) (sym u) (sym w) w'.in_ok-kept.ensures.ok in
+          let next = near _ search (subst (IsMadeUpTo s.limit.number pairs rays signs i (j + 1)) (sym (ap rays_of e ∙ rays_of-push made w'.in_ok-kept.kept))
+          (made_push s.limit.number pairs rays signs i j (rays_of made) w'.in_ok-kept.kept.ray before p reduced)) in
           record {
             within = next.0;
             taken = next.1;
             widths = subst (AreOfWidth columns) (sym e)
                 (All-push (λ kept. length kept.ray ≡ columns) made w'.in_ok-kept.kept c.loop-m.invariant.widths
-                (reduced_width s.limit c.in-Positive.at_u w'.in-Negative.at_w (ray_at rays i) (ray_at rays j) w'.in_ok-kept.kept.ray reduced
+                (reduced_width s.limit.number c.in-Positive.at_u w'.in-Negative.at_w (ray_at rays i) (ray_at rays j) w'.in_ok-kept.kept.ray reduced
                 (ray_width ray_list i columns i_in facts.rays.widths ∙ sym (ray_width ray_list j columns j_within facts.rays.widths))
                 ∙ ray_width ray_list j columns j_within facts.rays.widths));
             search = search;
@@ -185,15 +185,15 @@ loop-m-preserved g c =
       | in-Negative+in_ok-is_face+else-branch w' ↦
           let search = subst (IsSearchAt d i) (sym w'.search-is) w'.in_ok-is_face.ensures.search in
           let e = ap (λ v. v.ray_list.items) w'.made-is in
-          let next = near _ search (subst (λ xs. IsMadeUpTo s.limit pairs rays signs i (j + 1) (rays_of xs)) (sym e)
-          (made_skip s.limit pairs rays signs i j (rays_of made) before
+          let next = near _ search (subst (λ xs. IsMadeUpTo s.limit.number pairs rays signs i (j + 1) (rays_of xs)) (sym e)
+          (made_skip s.limit.number pairs rays signs i j (rays_of made) before
           (no_pair pairs rays signs i j (λ face. false≢true (sym w'.if-branch.false ∙ w'.in_ok-is_face.ensures.face.1 (subst (λ (d : StepData). IsFacePair d.pairs d.rays i j) c.self.view_is face)))))) in
           record { within = next.0; taken = next.1; widths = subst (AreOfWidth columns) (sym e) c.loop-m.invariant.widths; search = search }
       | in_default-index w' ↦
           let search = subst (IsSearchAt d i) (sym w'.search-is) c.loop-m.invariant.search in
           let e = ap (λ v. v.ray_list.items) w'.made-is in
-          let next = near _ search (subst (λ xs. IsMadeUpTo s.limit pairs rays signs i (j + 1) (rays_of xs)) (sym e)
-          (made_skip s.limit pairs rays signs i j (rays_of made) before (λ p. w'.in_default-index.not-Negative p.at_w (sign ∙ p.negative)))) in
+          let next = near _ search (subst (λ xs. IsMadeUpTo s.limit.number pairs rays signs i (j + 1) (rays_of xs)) (sym e)
+          (made_skip s.limit.number pairs rays signs i j (rays_of made) before (λ p. w'.in_default-index.not-Negative p.at_w (sign ∙ p.negative)))) in
           record { within = next.0; taken = next.1; widths = subst (AreOfWidth columns) (sym e) c.loop-m.invariant.widths; search = search }
     ]
 
@@ -207,9 +207,9 @@ returns-clause-ok g c =
     let made = c.loop-m.made.ray_list.items in
     let result : CombinationsSoFar = record { ray_list = c.loop-m.made.ray_list; rivals = c.loop-m.search.rivals } in
     subst (λ (d : StepData). AreMadeBelow d (c.args.i + 1) result) c.self.view_is (record {
-      so_far = made_next s.limit s.clashes.now.pairs (rays_of ray_list) signs c.args.i (taken.up_to + length signs) (rays_of made)
+      so_far = made_next s.limit.number s.clashes.now.pairs (rays_of ray_list) signs c.args.i (taken.up_to + length signs) (rays_of made)
           (let n = length-rays_of ray_list in omega (arith, facts.count))
-          (made_end s.limit s.clashes.now.pairs (rays_of ray_list) signs c.args.i c.loop-m.m taken.up_to c.args.negatives.now.places.items (rays_of made)
+          (made_end s.limit.number s.clashes.now.pairs (rays_of ray_list) signs c.args.i c.loop-m.m taken.up_to c.args.negatives.now.places.items (rays_of made)
           (negatives_read _ _ c.self.view_is _ c.requires.negatives).places (let n = ap length c.as_slice-places.ensures.value in omega arith) taken.reached taken.so_far);
       widths = c.loop-m.invariant.widths;
       rivals = (subst (λ (d : StepData). IsSearchAt d c.args.i c.loop-m.search) (sym c.self.view_is) c.loop-m.invariant.search).rivals;

@@ -13,6 +13,5 @@ invariant_of-turned g c =
     record {
       rays = c.self.invariant.rays;
       count = ap length is ∙ length-map s.signs.items turned_sign ∙ c.self.invariant.count;
-      bounded = subst (All (IsBoundedSign s.limit)) (sym is) (all_bounded-turned s.limit s.signs.items c.self.invariant.bounded);
-      limit_is = c.self.invariant.limit_is;
+      bounded = subst (All (IsBoundedSign s.limit.number)) (sym is) (all_bounded-turned s.limit.number s.signs.items c.self.invariant.bounded);
     }
