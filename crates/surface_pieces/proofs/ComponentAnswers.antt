@@ -17,12 +17,13 @@ use Rattle.surface_laws.proofs.ComponentSurfaces.{piece_there}
 use Rattle.table_definitions.proofs.Listed.{below-among}
 use Rattle.surface_laws.proofs.MeetingPieces.{join_components}
 use Rattle.surface_laws.proofs.PieceNumbers.{no_piece, IsFound, piece_found, number-piece}
-use Rattle.surface_pieces.specs.declared.steps.SearchKind.TheVariants.{Pieces, Sides, Orientation}
-use Rattle.surface_pieces.specs.Searches.{LeadsTo, ArePieceRows, AreSigned}
+use Rattle.surface_pieces.specs.declared.joined.SearchKind.TheVariants.{Pieces}
+use Rattle.surface_pieces.specs.declared.joined.SignKind.TheVariants.{Sides, Orientation}
+use Rattle.surface_pieces.specs.Searches.{LeadsTo, AreRows, HasClasses, AreSigned}
 use Rattle.surface_pieces.specs.Vectors.{AreVectors}
 use Rattle.surface_pieces.specs.ComponentLists.{component_at, all_components, no_component}
 
-module _ (rows : List Row) (coords : Coords) (xs : List ℕ) (s : IsSurface rows coords xs) (table : List (List (Option ℕ))) (are : ArePieceRows rows coords xs table) where
+module _ (rows : List Row) (coords : Coords) (xs : List ℕ) (s : IsSurface rows coords xs) (table : List (List (Option ℕ))) (are : AreRows Pieces rows coords xs table) where
   abbrev n : ℕ
   n = length (pieces_of xs)
 
@@ -42,7 +43,7 @@ module _ (rows : List Row) (coords : Coords) (xs : List ℕ) (s : IsSurface rows
   meeting i j = (
     (λ c. elim (cases_lt i n) [
       | inr past ↦ absurd (none_past i j past c)
-      | inl low ↦ (let d : LeadsTo Pieces rows coords xs (slice_index_or (pieces_of xs) i no_piece) 0 j = (are.each i low j).0 c in
+      | inl low ↦ (let d : LeadsTo Pieces rows coords xs (slice_index_or (pieces_of xs) i no_piece) i j = (are.each i low j).0 c in
           record { arc = d.arc; gluing = d.gluing; meets = d.meets; one = ap (piece_number xs) d.one ∙ number-piece xs i no_piece low; other = d.other })
     ]),
     (λ p. (let f : IsFound xs (piece_of coords xs p.arc) = piece_found xs (piece_of coords xs p.arc) (piece_there rows coords xs s p.arc p.gluing p.meets) in
@@ -72,6 +73,10 @@ module _ (rows : List Row) (coords : Coords) (xs : List ℕ) (s : IsSurface rows
         ascending = k.ascending;
         none_empty = k.none_empty;
       }
+
+-- the classes of the pieces that are joined are the components
+pub components_found : (rows : List Row) (coords : Coords) (xs classes : List ℕ) (count : ℕ) → IsSurface rows coords xs → HasClasses Pieces rows coords xs classes count → AreComponents rows coords xs classes count
+components_found rows coords xs classes count s h = components_of rows coords xs s h.listed h.are classes count h.numbered
 
 zip_map : {A B : Type 0} (R : A → B → Type 0) (f : A → B) (xs : List A) → ((x : A) → Among x xs → R x (f x)) → AllZip R xs (map f xs)
 zip_map R f [] h = tt

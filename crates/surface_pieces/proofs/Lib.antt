@@ -1,5 +1,6 @@
 pub mod ArcsOfPieces
 pub mod Counted
+pub mod Held
 pub mod MetArcs
 pub mod RowsOfPieces
 pub mod Freeing
@@ -7,3 +8,4 @@ pub mod Tallies
 pub mod SignsFound
 pub mod ComponentAnswers
 pub mod FirstNonzero
+pub mod Searched

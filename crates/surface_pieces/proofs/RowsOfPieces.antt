@@ -1,21 +1,26 @@
--- Rows that list what pieces are joined to.
-use Rattle.std.proofs.Common.{◌≡◌, ℕ, suc, ◌+◌, ◌*◌, ◌/◌, ◌%◌, ◌<◌, ◌≤◌, inl, inr, List, [], ◌∷◌, length, Option, Some, None, IfSome, IfNone, set, ◌++◌, sym, ap, ◌∙◌, subst, arith}
+-- Rows of what pieces are joined to, and those of numbers that are read off from them.
+use Rattle.std.proofs.Common.{◌≡◌, ℕ, suc, ◌+◌, ◌*◌, ◌/◌, ◌%◌, ◌<◌, ◌≤◌, inl, inr, List, [], ◌∷◌, length, Option, Some, None, IfSome, IfNone, set, ◌++◌, refl, sym, ap, ◌∙◌, subst, arith}
 use Rattle.std.specs.List.{slice_index_or}
 use Rattle.std.proofs.lemmas.Bool.{cases_eq}
 use Rattle.std.proofs.lemmas.List.{length-set, get_or-set_same, get_or-set_other, get_or_append_left, get_or_push, get_or_default}
-use Rattle.table_definitions.specs.Table.{Row}
+use Rattle.table_definitions.specs.Table.{Gluing, Row}
 use Rattle.table_definitions.proofs.TableLaws.{Among}
-use Rattle.surface_definitions.specs.declared.Coords.{Coords}
-use Rattle.surface_definitions.specs.Pieces.{SurfacePiece, pieces_of}
-use Rattle.surface_laws.specs.PieceLaws.{IsSurface, IsPieceOf}
 use Rattle.table_definitions.proofs.Listed.{among_contains}
-use Rattle.surface_laws.proofs.PieceNumbers.{no_piece, listed_piece}
 use Rattle.table_walk_laws.specs.Joined.{present}
 use Rattle.table_walk_laws.proofs.Rows.{present_contains}
-use Rattle.surface_pieces.specs.declared.steps.SearchKind.{SearchKind}
-use Rattle.surface_pieces.specs.Searches.{LeadsAt, IsRow}
-use Rattle.surface_pieces.specs.Meetings.{IsInside}
-use Rattle.surface_pieces.proofs.MetArcs.{arc_inside}
+use Rattle.surface_definitions.specs.declared.Coords.{Coords}
+use Rattle.surface_definitions.specs.Pieces.{SurfacePiece, Arc, arc_across, piece_of, pieces_of, piece_number}
+use Rattle.surface_laws.specs.PieceLaws.{IsSurface, IsPieceOf, turned_if}
+use Rattle.surface_laws.proofs.PieceNumbers.{no_piece, listed_piece}
+use Rattle.surface_pieces.specs.Across.{Across}
+use Rattle.surface_pieces.specs.declared.joined.SearchKind.{SearchKind}
+use Rattle.surface_pieces.specs.declared.joined.SearchKind.TheVariants.{Pieces, Signed}
+use Rattle.surface_pieces.specs.declared.joined.SignKind.TheVariants.{Sides, Orientation}
+use Rattle.surface_pieces.specs.Meetings.{HasNoMeeting}
+use Rattle.surface_pieces.specs.Joinings.{IsJoinedAt, IsJoinedUpTo, IsJoinedRow, AreJoined}
+use Rattle.surface_pieces.specs.Searches.{numbers, piece_in, number_across, LeadsTo, IsRow, AreRows}
+use Rattle.surface_pieces.specs.Readings.{read_across, read_at, IsReadRow, AreReadRows}
+use Rattle.surface_pieces.proofs.MetArcs.{a_face}
 
 -- a number that is there stands at a place
 present_place : (row : List (Option ℕ)) (l : ℕ) → Among l (present row) → (s : ℕ) × (s < length row) × (slice_index_or row s None ≡ Some l)
@@ -24,56 +29,95 @@ present_place (None ∷ row) l h = let p = present_place row l h in (suc p.0, (l
 present_place (Some m ∷ row) l (inl e) = (0, omega arith, ap Some (sym e))
 present_place (Some m ∷ row) l (inr h) = let p = present_place row l h in (suc p.0, (let k = p.1 in omega arith), p.2)
 
--- the entries at the slots before this one
-pub record IsRowUpTo (kind : SearchKind) (rows : List Row) (coords : Coords) (xs : List ℕ) (p : SurfacePiece) (k slot : ℕ) (row : List (Option ℕ)) : Type 0 where
-  pub size : length row ≡ 16
-  pub each : (s m : ℕ) → s < slot → slice_index_or row s None ≡ Some m → LeadsAt kind rows coords xs p k s m
-  pub all : (s m : ℕ) → s < slot → LeadsAt kind rows coords xs p k s m → slice_index_or row s None ≡ Some m
+module _ (rows : List Row) (coords : Coords) (xs : List ℕ) (p : SurfacePiece) where
+  -- what is said of one slot
+  abbrev pub IsSlot : ℕ → Option Across → Type 0
+  IsSlot slot o = IfSome o (IsJoinedAt rows coords xs p slot) × IfNone o (HasNoMeeting rows coords xs p (slot / 4) (slot % 4))
 
--- what is said of one slot
-abbrev pub IsEntry : SearchKind → List Row → Coords → List ℕ → SurfacePiece → ℕ → ℕ → Option ℕ → Type 0
-IsEntry kind rows coords xs p k slot o =
-    IfSome o (λ l. LeadsAt kind rows coords xs p k slot l × ((m : ℕ) → LeadsAt kind rows coords xs p k slot m → m ≡ l))
-    × IfNone o ((m : ℕ) → LeadsAt kind rows coords xs p k slot m → ⊥)
+  slot_some : (slot : ℕ) (j : Across) (o : Option Across) → IsSlot slot o → o ≡ Some j → IsJoinedAt rows coords xs p slot j
+  slot_some slot j None h e = absurd (let q : None ≡ Some j = e in cc)
+  slot_some slot j (Some k) h e = subst (IsJoinedAt rows coords xs p slot) (let q : Some k ≡ Some j = e in cc) h.0
 
-module _ (kind : SearchKind) (rows : List Row) (coords : Coords) (xs : List ℕ) (p : SurfacePiece) (k : ℕ) where
-  entry_each : (slot m : ℕ) (o : Option ℕ) → IsEntry kind rows coords xs p k slot o → o ≡ Some m → LeadsAt kind rows coords xs p k slot m
-  entry_each slot m None h e = absurd (let q : None ≡ Some m = e in cc)
-  entry_each slot m (Some l) h e = subst (LeadsAt kind rows coords xs p k slot) (let q : Some l ≡ Some m = e in cc) h.0.0
+  slot_none : (slot : ℕ) (o : Option Across) → IsSlot slot o → o ≡ None → HasNoMeeting rows coords xs p (slot / 4) (slot % 4)
+  slot_none slot None h e = h.1
+  slot_none slot (Some k) h e = absurd (let q : Some k ≡ None = e in cc)
 
-  entry_all : (slot m : ℕ) (o : Option ℕ) → IsEntry kind rows coords xs p k slot o → LeadsAt kind rows coords xs p k slot m → o ≡ Some m
-  entry_all slot m None h d = absurd (h.1 m d)
-  entry_all slot m (Some l) h d = ap Some (sym (h.0.1 m d))
-
-  pub row_next : (slot : ℕ) (row : List (Option ℕ)) (o : Option ℕ) → slot < 16 → IsRowUpTo kind rows coords xs p k slot row → IsEntry kind rows coords xs p k slot o
-      → IsRowUpTo kind rows coords xs p k (slot + 1) (set row slot o)
-  row_next slot row o l u h = record {
+  pub slot_next : (slot : ℕ) (row : List (Option Across)) (o : Option Across) → slot < 16 → IsJoinedUpTo rows coords xs p slot row → IsSlot slot o → IsJoinedUpTo rows coords xs p (slot + 1) (set row slot o)
+  slot_next slot row o l u h = record {
     size = length-set row slot o ∙ u.size;
-    each = λ s m ls e. elim (cases_eq s slot) [
-      | inl same ↦ subst (λ t. LeadsAt kind rows coords xs p k t m) (sym same) (entry_each slot m o h (sym (get_or-set_same row slot o None (omega (arith, u.size))) ∙ ap (λ t. slice_index_or (set row slot o) t None) (sym same) ∙ e))
-      | inr apart ↦ u.each s m (omega arith) (sym (get_or-set_other row slot s o None apart) ∙ e)
+    some = λ s j ls e. elim (cases_eq s slot) [
+      | inl same ↦ subst (λ t. IsJoinedAt rows coords xs p t j) (sym same) (slot_some slot j o h (here s same ∙ e))
+      | inr apart ↦ u.some s j (omega arith) (sym (get_or-set_other row slot s o None apart) ∙ e)
     ];
-    all = λ s m ls d. elim (cases_eq s slot) [
-      | inl same ↦ ap (λ t. slice_index_or (set row slot o) t None) same ∙ get_or-set_same row slot o None (omega (arith, u.size)) ∙ entry_all slot m o h (subst (λ t. LeadsAt kind rows coords xs p k t m) same d)
-      | inr apart ↦ get_or-set_other row slot s o None apart ∙ u.all s m (omega arith) d
+    none = λ s ls e. elim (cases_eq s slot) [
+      | inl same ↦ subst (λ t. HasNoMeeting rows coords xs p (t / 4) (t % 4)) (sym same) (slot_none slot o h (here s same ∙ e))
+      | inr apart ↦ u.none s (omega arith) (sym (get_or-set_other row slot s o None apart) ∙ e)
     ];
   }
+    where
+      here : (s : ℕ) → s ≡ slot → o ≡ slice_index_or (set row slot o) s None
+      here s same = sym (get_or-set_same row slot o None (omega (arith, u.size))) ∙ ap (λ t. slice_index_or (set row slot o) t None) (sym same)
 
-  pub row_done : (s : IsSurface rows coords xs) (slot : ℕ) (row : List (Option ℕ)) → 16 ≤ slot → IsRowUpTo kind rows coords xs p k slot row → IsRow kind rows coords xs p k row
-  row_done s slot row l u m = (
-    (λ c. (let q : (t : ℕ) × (t < length row) × (slice_index_or row t None ≡ Some m) = present_place row m (among_contains m (present row) c) in
-        (u.each q.0 m (let b = q.1 in omega (arith, u.size)) q.2).0)),
-    (λ d. (let i : IsInside coords xs d.arc = arc_inside rows coords xs s d.arc d.gluing d.meets in
-        let slot_of : ℕ = 4 * (d.arc).face + (d.arc).vertex in
-        let a : (d.arc).face ≡ slot_of / 4 = omega (arith, i.a_vertex) in
-        let b : (d.arc).vertex ≡ slot_of % 4 = omega (arith, i.a_vertex) in
-        present_contains row slot_of m (u.all slot_of m (omega (arith, i.a_vertex, i.a_face)) (d, a, b)))),
-  )
+  module _ (kind : SearchKind) (k : ℕ) where
+    -- the number for what is across an arc
+    abbrev number_by : Arc → Gluing → ℕ
+    number_by a g = number_across kind coords xs a g k (piece_number xs (piece_of coords xs (arc_across g a)))
+
+    across_is : (slot : ℕ) (j : Across) (i : IsJoinedAt rows coords xs p slot j) → number_by i.arc i.gluing ≡ read_across kind k j
+    across_is slot j i = by_kind kind i
+      where
+        by_kind : (kind : SearchKind) (i : IsJoinedAt rows coords xs p slot j) → number_across kind coords xs i.arc i.gluing k (piece_number xs (piece_of coords xs (arc_across i.gluing i.arc))) ≡ read_across kind k j
+        by_kind Pieces i = sym i.piece
+        by_kind (Signed Sides) i = λ t. 2 * sym i.piece t + turned_if (sym i.sides t) (k % 2)
+        by_kind (Signed Orientation) i = λ t. 2 * sym i.piece t + turned_if (sym i.orientation t) (k % 2)
+
+    leads_from : (slot m : ℕ) (row : List (Option Across)) (o : Option Across) → IsJoinedRow rows coords xs p row → slot < 16 → slice_index_or row slot None ≡ o → read_at kind k o ≡ Some m → LeadsTo kind rows coords xs p k m
+    leads_from slot m row None u l e n = absurd (let q : None ≡ Some m = n in cc)
+    leads_from slot m row (Some j) u l e n =
+        let i : IsJoinedAt rows coords xs p slot j = u.some slot j l e in
+        record { arc = i.arc; gluing = i.gluing; meets = i.meets; one = i.one; other = across_is slot j i ∙ (let q : Some (read_across kind k j) ≡ Some m = n in cc) }
+
+    leads_to : (slot m : ℕ) (row : List (Option Across)) (o : Option Across) → IsJoinedRow rows coords xs p row → slot < 16 → slice_index_or row slot None ≡ o
+        → (d : LeadsTo kind rows coords xs p k m) → (d.arc).face ≡ slot / 4 → (d.arc).vertex ≡ slot % 4 → read_at kind k o ≡ Some m
+    leads_to slot m row None u l e d ef ev = absurd (u.none slot l e d.arc d.gluing d.meets ef ev d.one)
+    leads_to slot m row (Some j) u l e d ef ev =
+        let i : IsJoinedAt rows coords xs p slot j = u.some slot j l e in
+        let o : (d.arc ≡ i.arc) × (d.gluing ≡ i.gluing) = i.only d.arc d.gluing d.meets ef ev d.one in
+        ap Some (sym (across_is slot j i) ∙ (λ t. number_by (sym o.0 t) (sym o.1 t)) ∙ d.other)
+
+    row_read : IsSurface rows coords xs → (joined : List (Option Across)) (row : List (Option ℕ)) → IsJoinedRow rows coords xs p joined → IsReadRow kind k joined row → IsRow kind rows coords xs p k row
+    row_read s joined row u r m = (
+      (λ c. (let q : (t : ℕ) × (t < length row) × (slice_index_or row t None ≡ Some m) = present_place row m (among_contains m (present row) c) in
+          let l : q.0 < 16 = (let b = q.1 in omega (arith, r.size)) in
+          leads_from q.0 m joined (slice_index_or joined q.0 None) u l refl (sym (r.each q.0 l) ∙ q.2))),
+      (λ d. (let f : (d.arc).face < 4 = a_face rows coords xs s d.arc d.gluing d.meets in
+          let v : (d.arc).vertex < 4 = (d.meets).is_vertex in
+          let slot : ℕ = 4 * (d.arc).face + (d.arc).vertex in
+          let l : slot < 16 = omega arith in
+          present_contains row slot m (r.each slot l ∙ leads_to slot m joined (slice_index_or joined slot None) u l refl d (omega arith) (omega arith)))),
+    )
+
+pub piece_low : (kind : SearchKind) (i n : ℕ) → i < numbers kind n → piece_in kind i < n
+piece_low Pieces i n l = l
+piece_low (Signed signs) i n l = omega arith
+
+pub numbers_low : (kind : SearchKind) (n : ℕ) → numbers kind n ≤ 2 * n
+numbers_low Pieces n = omega arith
+numbers_low (Signed signs) n = omega arith
+
+-- the rows that are read off list what the pieces are joined to
+pub rows_read : (rows : List Row) (coords : Coords) (xs : List ℕ) → IsSurface rows coords xs → (kind : SearchKind) (joined : List (List (Option Across))) (listed : List (List (Option ℕ)))
+    → AreJoined rows coords xs joined → AreReadRows kind joined listed → AreRows kind rows coords xs listed
+rows_read rows coords xs s kind joined listed j r = record {
+  size = r.size ∙ ap (numbers kind) j.size;
+  each = λ i l. row_read rows coords xs (slice_index_or (pieces_of xs) (piece_in kind i) no_piece) kind i s (slice_index_or joined (piece_in kind i) []) (slice_index_or listed i [])
+      (j.each (piece_in kind i) (piece_low kind i (length (pieces_of xs)) l)) (r.each i (subst (λ n. i < numbers kind n) (sym j.size) l));
+}
 
 -- one row more
-pub rows_push : (P : ℕ → List (Option ℕ) → Type 0) (listed more : List (List (Option ℕ))) (r : List (Option ℕ)) (n : ℕ) → length listed ≡ n → ((i : ℕ) → i < n → P i (slice_index_or listed i [])) → P n r → more ≡ listed ++ r ∷ []
+pub rows_push : {A : Type 0} (P : ℕ → List A → Type 0) (listed more : List (List A)) (r : List A) (n : ℕ) → length listed ≡ n → ((i : ℕ) → i < n → P i (slice_index_or listed i [])) → P n r → more ≡ listed ++ r ∷ []
     → (i : ℕ) → i < n + 1 → P i (slice_index_or more i [])
-rows_push P listed more r n size each last e i l = subst (λ (ls : List (List (Option ℕ))). P i (slice_index_or ls i [])) (sym e) (elim (cases_eq i n) [
+rows_push {A} P listed more r n size each last e i l = subst (λ (ls : List (List A)). P i (slice_index_or ls i [])) (sym e) (elim (cases_eq i n) [
   | inl same ↦ subst (λ k. P k (slice_index_or (listed ++ r ∷ []) k [])) (sym same) (subst (P n) (sym (get_or_push listed r [] n size)) last)
   | inr apart ↦ (let before : i < n = omega arith in subst (P i) (sym (get_or_append_left listed (r ∷ []) [] i (omega arith))) (each i before))
 ])

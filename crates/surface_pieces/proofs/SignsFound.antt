@@ -1,5 +1,5 @@
 -- Signs of a component exist exactly where no piece is joined to itself with the other sign, by the classes of what rows of neighbours list.
-use Rattle.std.proofs.Common.{◌≡◌, ◌≢◌, ℕ, ◌+◌, ◌*◌, ◌/◌, ◌%◌, ◌<◌, ◌≤◌, ◌↔◌, Bool, List, [], ◌∷◌, length, Option, Contains, inl, inr, refl, sym, ap, ◌∙◌, subst, arith}
+use Rattle.std.proofs.Common.{◌≡◌, ℕ, ◌*◌, ◌/◌, ◌<◌, ◌≤◌, ◌↔◌, Bool, List, [], ◌∷◌, length, Option, Contains, inl, inr, sym, ap, ◌∙◌, subst, arith}
 use Rattle.std.specs.List.{slice_index_or}
 use Rattle.std.proofs.lemmas.Bool.{cases_lt}
 use Rattle.std.proofs.lemmas.List.{get_or_past}
@@ -8,26 +8,21 @@ use Rattle.table_definitions.specs.Classes.{IsNumbering}
 use Rattle.table_definitions.specs.Table.{Gluing, Row, way_back}
 use Rattle.surface_definitions.specs.declared.Coords.{Coords}
 use Rattle.surface_definitions.specs.Pieces.{Arc, arc_across, piece_of, pieces_of, piece_number, Meets, AreComponents, HasSigns}
-use Rattle.surface_laws.specs.PieceLaws.{IsSurface, face_of_arc, turned_if}
+use Rattle.surface_laws.specs.PieceLaws.{IsSurface, face_of_arc}
 use Rattle.surface_laws.proofs.PieceNumbers.{no_piece, number-piece}
 use Rattle.surface_laws.proofs.SignedSteps.{SignedStep, arc_found, sides_back, orientation_back, steps_below, steps_back, free_by_signs, signs_by_free}
-use Rattle.surface_pieces.specs.declared.steps.SearchKind.{SearchKind}
-use Rattle.surface_pieces.specs.declared.steps.SearchKind.TheVariants.{Pieces, Sides, Orientation}
-use Rattle.surface_pieces.specs.Searches.{number_with, stays_at, LeadsTo, AreSignedRows, IsFree}
-
-signed_number : (kind : SearchKind) → kind ≢ Pieces → (i k : ℕ) → number_with kind i k ≡ 2 * i + k
-signed_number Pieces out i k = absurd (out refl)
-signed_number Sides out i k = refl
-signed_number Orientation out i k = refl
+use Rattle.surface_pieces.specs.declared.joined.SignKind.{SignKind}
+use Rattle.surface_pieces.specs.declared.joined.SignKind.TheVariants.{Sides, Orientation}
+use Rattle.surface_pieces.specs.declared.joined.SearchKind.TheVariants.{Signed}
+use Rattle.surface_pieces.specs.Searches.{stays_at, LeadsTo, AreRows, IsFree}
 
 module _ (rows : List Row) (coords : Coords) (xs : List ℕ) (s : IsSurface rows coords xs) where
   -- whether signs stay is the same from either side of a gluing
-  stays_back : (kind : SearchKind) (a : Arc) (g : Gluing) → Meets rows coords xs a g → stays_at kind coords xs (arc_across g a) (way_back (face_of_arc a) g) ≡ stays_at kind coords xs a g
-  stays_back Pieces a g m = refl
+  stays_back : (signs : SignKind) (a : Arc) (g : Gluing) → Meets rows coords xs a g → stays_at signs coords xs (arc_across g a) (way_back (face_of_arc a) g) ≡ stays_at signs coords xs a g
   stays_back Sides a g m = sides_back rows coords xs s a g m
   stays_back Orientation a g m = orientation_back rows coords xs s a g m
 
-  module _ (kind : SearchKind) (with_signs : kind ≢ Pieces) (table : List (List (Option ℕ))) (are_rows : AreSignedRows kind rows coords xs table) where
+  module _ (signs : SignKind) (table : List (List (Option ℕ))) (are_rows : AreRows (Signed signs) rows coords xs table) where
     abbrev n : ℕ
     n = length (pieces_of xs)
 
@@ -35,7 +30,7 @@ module _ (rows : List Row) (coords : Coords) (xs : List ℕ) (s : IsSurface rows
     signed = neighbours_of table
 
     abbrev stays : Arc → Gluing → Bool
-    stays = stays_at kind coords xs
+    stays = stays_at signs coords xs
 
     abbrev piece : Arc → ℕ
     piece a = piece_number xs (piece_of coords xs a)
@@ -54,13 +49,13 @@ module _ (rows : List Row) (coords : Coords) (xs : List ℕ) (s : IsSurface rows
     step_of : (k l : ℕ) → Contains (signed k) l → SignedStep rows coords xs stays k l
     step_of k l c = elim (cases_lt k (2 * n)) [
       | inr past ↦ absurd (none_past k l past c)
-      | inl low ↦ (let d : LeadsTo kind rows coords xs (slice_index_or (pieces_of xs) (k / 2) no_piece) (k % 2) l = (are_rows.each k low l).0 c in
+      | inl low ↦ (let d : LeadsTo (Signed signs) rows coords xs (slice_index_or (pieces_of xs) (k / 2) no_piece) k l = (are_rows.each k low l).0 c in
           record {
             arc = d.arc;
             gluing = d.gluing;
             meets = d.meets;
             one = ap (piece_number xs) d.one ∙ number-piece xs (k / 2) no_piece (omega arith);
-            other = sym (signed_number kind with_signs (piece (arc_across d.gluing d.arc)) (turned_if (stays d.arc d.gluing) (k % 2))) ∙ d.other;
+            other = d.other;
           })
     ]
 
@@ -74,20 +69,20 @@ module _ (rows : List Row) (coords : Coords) (xs : List ℕ) (s : IsSurface rows
           gluing = p.gluing;
           meets = p.meets;
           one = sym ((arc_found rows coords xs s p.arc p.gluing p.meets).there) ∙ ap (λ i. slice_index_or (pieces_of xs) i no_piece) p.one;
-          other = signed_number kind with_signs (piece (arc_across p.gluing p.arc)) (turned_if (stays p.arc p.gluing) (k % 2)) ∙ p.other;
+          other = p.other;
         })
 
     pub signed_below : HasNeighboursBelow (2 * n) signed
-    signed_below = steps_below rows coords xs s stays (stays_back kind) signed step_of of_step
+    signed_below = steps_below rows coords xs s stays (stays_back signs) signed step_of of_step
 
     pub signed_back : IsSymmetric signed
-    signed_back = steps_back rows coords xs s stays (stays_back kind) signed step_of of_step
+    signed_back = steps_back rows coords xs s stays (stays_back signs) signed step_of of_step
 
     module _ (classes : List ℕ) (number : ℕ) (numbered : IsNumbering (2 * n) (IsJoined signed) classes number)
         (components : List ℕ) (count : ℕ) (are : AreComponents rows coords xs components count) (i : ℕ) where
       pub free_is : i < count → IsFree classes components i ↔ HasSigns rows coords xs components i stays
       free_is li = (
-        (λ h. signs_by_free rows coords xs s stays (stays_back kind) signed step_of of_step classes number numbered components count are i li
+        (λ h. signs_by_free rows coords xs s stays (stays_back signs) signed step_of of_step classes number numbered components count are i li
             (λ p lp. h p (omega (arith, are.one_each)))),
-        (λ signs p lp. free_by_signs rows coords xs s stays (stays_back kind) signed step_of of_step classes number numbered components count are i signs p (omega (arith, are.one_each))),
+        (λ have p lp. free_by_signs rows coords xs s stays (stays_back signs) signed step_of of_step classes number numbered components count are i have p (omega (arith, are.one_each))),
       )

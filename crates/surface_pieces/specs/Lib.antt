@@ -3,4 +3,7 @@ pub mod Arcs
 pub mod Searches
 pub mod Vectors
 pub mod Meetings
+pub mod Across
+pub mod Joinings
+pub mod Readings
 pub mod ComponentLists

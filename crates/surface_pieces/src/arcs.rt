@@ -1,35 +1,22 @@
 //! The piece of an arc, and the arc of a piece.
 
-ghost use Rattle.std.specs.Prelude.{◌≡◌, ◌≢◌, ◌+◌, ◌-◌, ◌<◌, ◌≤◌, length, sum, IfSome, IfNone, if◌then◌else◌};
-ghost use Rattle.table_definitions.specs.Table.{max_tets};
-ghost use Rattle.surface_definitions.specs.Coordinates as coordinates;
+ghost use Rattle.std.specs.Prelude.{◌≡◌, ◌+◌, ◌-◌, ◌<◌, length, IfSome, IfNone, if◌then◌else◌};
 ghost use Rattle.surface_definitions.specs.Pieces as pieces;
-ghost use Rattle.surface_vector_definitions.specs.Components.{most_pieces};
-ghost use Rattle.surface_laws.specs.PieceLaws.{IsSurface, IsPieceOf};
+ghost use Rattle.surface_laws.specs.PieceLaws.{IsPieceOf};
 ghost use Rattle.surface_pieces.specs.Arcs.{IsOnlyArcOf, HasNoArc};
 
-use crate::columns::{SurfaceArc, behind};
+use crate::columns::{Corner, SurfaceArc, first_nonzero_of};
 use crate::counts::Piece;
-use gluing_table::Table;
-use normal_discs::{DiscCoords, partner, tet_of, triangle_column, type_of};
+use crate::surface::Surface;
+use normal_discs::{
+    keeping, octagon_arcs, partner, quad_column, tet_of, triangle_column, type_of,
+};
 
-/// Whether a type keeps a vertex on the side of vertex 0.
-fn keeps_by_zero(kind: u8, v: u8) -> bool
-    requires a_type { kind < 3 }
-    requires a_vertex { v < 4 }
-    ensures { result ≡ pieces.keeps_by_zero kind v }
-{
-    v == 0 || partner(kind, v) == 0
-}
-
-/// The number of triangles round the vertex of an arc.
-fn triangles(coords: DiscCoords, x: &[u32], arc: SurfaceArc) -> u32
-    requires a_vertex { arc.vertex < 4 }
-    requires few { arc.tet < max_tets }
-    requires width { coordinates.columns coords.system (arc.tet + 1) < length x.now + 1 }
-    ensures { result ≡ pieces.triangles_round coords.system x.now arc }
-{
-    x[triangle_column(coords, arc.tet, arc.vertex) as usize]
+/// The column of the arcs behind the triangles, and whether its pieces keep the vertex on the side of vertex 0.
+#[derive(Clone, Copy)]
+struct Further {
+    column: u32,
+    by_zero: bool,
 }
 
 /// The number of a place counted from the one end or from the other.
@@ -43,89 +30,97 @@ fn number_from_end(entry: u32, place: u32, by_zero: bool) -> u32
     }
 }
 
-/// The piece whose arc this is.
-pub fn piece_of(coords: DiscCoords, x: &[u32], arc: SurfaceArc) -> Piece
-    requires a_face { arc.face < 4 }
-    requires a_vertex { arc.vertex < 4 }
-    requires off { arc.vertex ≢ arc.face }
-    requires few { arc.tet < max_tets }
-    requires width { coordinates.columns coords.system (arc.tet + 1) < length x.now + 1 }
-    ensures { result ≡ pieces.piece_of coords.system x.now arc }
-{
-    let triangles = triangles(coords, x, arc);
-    if arc.place < triangles {
-        return Piece {
-            column: triangle_column(coords, arc.tet, arc.vertex),
-            number: arc.place,
-        };
+impl<'a> Surface<'a> {
+    /// The number of triangles round the vertex of an arc.
+    fn triangles(&self, arc: SurfaceArc) -> u32
+        requires { arc.tet < length self.now.table.now }
+        ensures { result ≡ pieces.triangles_round self.now.coords.system self.now.entries.now arc }
+    {
+        self.entries[triangle_column(self.coords, arc.tet, arc.vertex) as usize]
     }
-    let further = behind(coords, x, arc);
-    let by_zero = keeps_by_zero(type_of(coords, further), arc.vertex);
-    Piece {
-        column: further,
-        number: number_from_end(x[further as usize], arc.place - triangles, by_zero),
-    }
-}
 
-/// Whether the piece of an arc looks at its vertex with its positive side.
-pub fn looks_positive(coords: DiscCoords, x: &[u32], arc: SurfaceArc) -> bool
-    requires a_face { arc.face < 4 }
-    requires a_vertex { arc.vertex < 4 }
-    requires off { arc.vertex ≢ arc.face }
-    requires few { arc.tet < max_tets }
-    requires width { coordinates.columns coords.system (arc.tet + 1) < length x.now + 1 }
-    ensures { result ≡ pieces.looks_positive coords.system x.now arc }
-{
-    if arc.place < triangles(coords, x, arc) {
-        return true;
+    /// What lies behind the triangles round the vertex of an arc.
+    fn behind(&self, arc: SurfaceArc) -> Further
+        requires { arc.tet < length self.now.table.now }
+        ensures column { result.column ≡ pieces.further_column self.now.coords.system self.now.entries.now arc }
+        ensures in_range { result.column < length self.now.entries.now }
+        ensures side { result.by_zero ≡ pieces.keeps_by_zero (pieces.type_in self.now.coords.system result.column) arc.vertex }
+    {
+        let system = self.coords.system;
+        let octagons = octagon_arcs(system, arc.tet, arc.face, arc.vertex);
+        let quads = quad_column(system, arc.tet, keeping(arc.vertex, arc.face));
+        let column = first_nonzero_of(self.entries, octagons.as_slice(), quads);
+        let kind = type_of(self.coords, column);
+        Further {
+            column,
+            by_zero: arc.vertex == 0 || partner(kind, arc.vertex) == 0,
+        }
     }
-    keeps_by_zero(type_of(coords, behind(coords, x, arc)), arc.vertex)
-}
 
-/// The arc of a piece round a vertex of a face, where it has one there.
-pub fn arc_of(
-    table: &Table,
-    coords: DiscCoords,
-    x: &[u32],
-    piece: Piece,
-    face: u8,
-    vertex: u8,
-) -> Option<SurfaceArc>
-    requires surface { IsSurface table.now coords.system x.now }
-    requires few { sum x.now ≤ most_pieces }
-    requires piece { IsPieceOf x.now piece }
-    requires a_face { face < 4 }
-    requires a_vertex { vertex < 4 }
-    requires off { vertex ≢ face }
-    ensures some { IfSome result (IsOnlyArcOf coords.system x.now piece face vertex) }
-    ensures none { IfNone result (HasNoArc coords.system x.now piece face vertex) }
-{
-    let tet = tet_of(coords.system, piece.column);
-    let _tets = table.len();
-    let first = SurfaceArc {
-        tet,
-        face,
-        vertex,
-        place: 0,
-    };
-    if piece.column == triangle_column(coords, tet, vertex) {
-        return Some(SurfaceArc {
+    /// The piece whose arc this is.
+    pub fn piece_of(&self, arc: SurfaceArc) -> Piece
+        requires { arc.tet < length self.now.table.now }
+        ensures { result ≡ pieces.piece_of self.now.coords.system self.now.entries.now arc }
+    {
+        let triangles = self.triangles(arc);
+        if arc.place < triangles {
+            return Piece {
+                column: triangle_column(self.coords, arc.tet, arc.vertex),
+                number: arc.place,
+            };
+        }
+        let further = self.behind(arc);
+        let entry = self.entries[further.column as usize];
+        Piece {
+            column: further.column,
+            number: number_from_end(entry, arc.place - triangles, further.by_zero),
+        }
+    }
+
+    /// Whether the piece of an arc looks at its vertex with its positive side.
+    pub fn looks_positive(&self, arc: SurfaceArc) -> bool
+        requires { arc.tet < length self.now.table.now }
+        ensures { result ≡ pieces.looks_positive self.now.coords.system self.now.entries.now arc }
+    {
+        if arc.place < self.triangles(arc) {
+            return true;
+        }
+        self.behind(arc).by_zero
+    }
+
+    /// The arc of a piece round a vertex of a face, where it has one there.
+    pub fn arc_of(&self, piece: Piece, corner: Corner) -> Option<SurfaceArc>
+        requires { IsPieceOf self.now.entries.now piece }
+        ensures some { IfSome result (IsOnlyArcOf self.now.coords.system self.now.entries.now piece corner.face corner.vertex) }
+        ensures none { IfNone result (HasNoArc self.now.coords.system self.now.entries.now piece corner.face corner.vertex) }
+    {
+        let tet = tet_of(self.coords.system, piece.column);
+        let Corner { face, vertex } = corner;
+        let first = SurfaceArc {
             tet,
             face,
             vertex,
-            place: piece.number,
-        });
+            place: 0,
+        };
+        if piece.column == triangle_column(self.coords, tet, vertex) {
+            return Some(SurfaceArc {
+                tet,
+                face,
+                vertex,
+                place: piece.number,
+            });
+        }
+        let further = self.behind(first);
+        if piece.column != further.column {
+            return None;
+        }
+        let entry = self.entries[further.column as usize];
+        let place = number_from_end(entry, piece.number, further.by_zero);
+        Some(SurfaceArc {
+            tet,
+            face,
+            vertex,
+            place: self.triangles(first) + place,
+        })
     }
-    let further = behind(coords, x, first);
-    if piece.column != further {
-        return None;
-    }
-    let by_zero = keeps_by_zero(type_of(coords, further), vertex);
-    let place = number_from_end(x[further as usize], piece.number, by_zero);
-    Some(SurfaceArc {
-        tet,
-        face,
-        vertex,
-        place: triangles(coords, x, first) + place,
-    })
 }

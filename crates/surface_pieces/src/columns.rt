@@ -1,13 +1,33 @@
 //! The arcs round a vertex of a face, and the column of those behind the triangles.
 
-ghost use Rattle.std.specs.Prelude.{◌≡◌, ◌≢◌, ◌+◌, ◌*◌, ◌%◌, ◌<◌, ◌≤◌, All, length};
-ghost use Rattle.table_definitions.specs.Table.{max_tets};
-ghost use Rattle.surface_definitions.specs.Coordinates as coordinates;
-ghost use Rattle.surface_definitions.specs.Pieces as pieces;
+ghost use Rattle.std.specs.Prelude.{◌≡◌, ◌≢◌, ◌<◌, All, IfSome, IfNone, ◌/◌, ◌%◌, length};
 ghost use Rattle.surface_laws.specs.PieceLaws.{first_nonzero};
 
-use normal_discs::{DiscCoords, keeping, octagon_arcs, quad_column};
 use std::marker::Model;
+
+/// A vertex of a face.
+#[derive(Clone, Copy)]
+pub struct Corner {
+    pub face: u8,
+    pub vertex: u8,
+    pub ghost a_face: { face < 4 },
+    pub ghost a_vertex: { vertex < 4 },
+    pub ghost off: { vertex ≢ face },
+}
+
+/// The vertex of a face at a slot, which is 4 times the face plus the vertex, unless the face lies across from it.
+pub fn corner_at(slot: u32) -> Option<Corner>
+    requires { slot < 16 }
+    ensures some { IfSome result (λ corner. corner.face ≡ slot / 4 × corner.vertex ≡ slot % 4) }
+    ensures none { IfNone result (slot % 4 ≡ slot / 4) }
+{
+    let face = (slot / 4) as u8;
+    let vertex = (slot % 4) as u8;
+    if vertex == face {
+        return None;
+    }
+    Some(Corner { face, vertex })
+}
 
 /// The arc round a vertex of a face of a tetrahedron at a place, counted from the side of the vertex.
 #[derive(Clone, Copy)]
@@ -19,6 +39,7 @@ pub struct SurfaceArc {
 }
 
 impl Model for SurfaceArc {
+    ghost use Rattle.std.specs.Prelude.{◌≢◌, ◌<◌};
     ghost use Rattle.surface_definitions.specs.Pieces as pieces;
 
     ghost Value = { pieces.Arc };
@@ -26,11 +47,13 @@ impl Model for SurfaceArc {
     ghost view = { λ a. record { tet = a.tet; face = a.face; vertex = a.vertex; place = a.place } };
 
     ghost inverse = { λ a. record { tet = a.tet; face = a.face; vertex = a.vertex; place = a.place } };
+
+    ghost invariant = { λ a. (a.face < 4) × (a.vertex < 4) × (a.vertex ≢ a.face) };
 }
 
 /// The first of these columns that isn't 0, or else another.
 #[tactic(auto, using(crate::proofs::FirstNonzero::nonzero_here, crate::proofs::FirstNonzero::zero_here))]
-fn first_nonzero_of(x: &[u32], columns: &[u32], other: u32) -> u32
+pub fn first_nonzero_of(x: &[u32], columns: &[u32], other: u32) -> u32
     requires { All (λ c. c < length x.now) columns.now }
     ensures { result ≡ first_nonzero x.now columns.now other }
 {
@@ -40,20 +63,4 @@ fn first_nonzero_of(x: &[u32], columns: &[u32], other: u32) -> u32
         }
     }
     other
-}
-
-/// The column of the arcs behind the triangles.
-pub fn behind(coords: DiscCoords, x: &[u32], arc: SurfaceArc) -> u32
-    requires a_face { arc.face < 4 }
-    requires a_vertex { arc.vertex < 4 }
-    requires off { arc.vertex ≢ arc.face }
-    requires few { arc.tet < max_tets }
-    requires width { coordinates.columns coords.system (arc.tet + 1) < length x.now + 1 }
-    ensures column { result ≡ pieces.further_column coords.system x.now arc }
-    ensures no_triangle { 4 ≤ result % coordinates.columns_each coords.system }
-    ensures in_range { result < length x.now }
-{
-    let octagons = octagon_arcs(coords.system, arc.tet, arc.face, arc.vertex);
-    let quads = quad_column(coords.system, arc.tet, keeping(arc.vertex, arc.face));
-    first_nonzero_of(x, octagons.as_slice(), quads)
 }

@@ -1,12 +1,8 @@
-//! The entries of a vector, and its pieces in their order.
+//! The entries of a vector, and what a piece is.
 
-ghost use Rattle.std.specs.Prelude.{◌≡◌, ◌+◌, ◌*◌, ◌<◌, ◌≤◌, ◌^◌, ◌++◌, length, map, sum, IfOk, OnOk};
+ghost use Rattle.std.specs.Prelude.{◌≡◌, ◌≤◌, sum, IfOk};
 ghost use Rattle.text_definitions.specs.Written.{limit};
-ghost use Rattle.table_definitions.specs.Lists.{below};
-ghost use Rattle.surface_definitions.specs.Pieces as pieces;
 ghost use Rattle.surface_vector_definitions.specs.Components.{most_pieces};
-ghost use Rattle.surface_laws.specs.PieceLaws.{IsPieceOf};
-ghost use Rattle.surface_pieces.specs.Starts.{AreStarts};
 
 use std::alloc::{AllocError, Global};
 use std::marker::Model;
@@ -50,51 +46,4 @@ pub fn entries_of(alloc: Global, x: &[u128]) -> Result<Vec<u32>, AllocError>
         entries.push(*entry as u32)?;
     }
     Ok(entries)
-}
-
-/// How many pieces stand before each column.
-pub fn starts_of(alloc: Global, x: &[u32]) -> Result<Vec<u32>, AllocError>
-    requires { sum x.now ≤ most_pieces }
-    ensures { IfOk result (λ starts. AreStarts x.now starts.items) }
-{
-    let mut starts = Vec::with_capacity(alloc, x.len())?;
-    let mut before = 0;
-    for entry in x {
-        starts.push(before)?;
-        before += *entry;
-    }
-    Ok(starts)
-}
-
-/// The number of a piece among all.
-pub fn number_of(x: &[u32], starts: &[u32], piece: Piece) -> u32
-    requires few { sum x.now ≤ most_pieces }
-    requires starts { AreStarts x.now starts.now }
-    requires piece { IsPieceOf x.now piece }
-    ensures { result ≡ pieces.piece_number x.now piece }
-{
-    let _entries = x.len();
-    starts[piece.column as usize] + piece.number
-}
-
-/// The pieces of one column behind those that are there.
-fn append_column(listed: &mut Vec<Piece>, column: u32, entry: u32) -> Result<(), AllocError>
-    ensures { OnOk result (listed.new.items ≡ listed.old.items ++ map (λ i. record { column = column; number = i }) (below entry)) }
-{
-    for number in 0..entry {
-        listed.push(Piece { column, number })?;
-    }
-    Ok(())
-}
-
-/// All pieces, ascending.
-pub fn all_pieces(alloc: Global, x: &[u32]) -> Result<Vec<Piece>, AllocError>
-    requires { length x.now < 2 ^ 32 }
-    ensures { IfOk result (λ listed. listed.items ≡ pieces.pieces_of x.now) }
-{
-    let mut listed = Vec::new(alloc);
-    for column in 0..x.len() as u32 {
-        append_column(&mut listed, column, x[column as usize])?;
-    }
-    Ok(listed)
 }

@@ -4,10 +4,14 @@
 mod arcs;
 mod columns;
 mod counts;
+mod joined;
+mod numbers;
 mod pieces;
 mod rows;
+mod searches;
 mod signs;
 mod steps;
+mod surface;
 mod vectors;
 
 pub use no_memory::Failure;

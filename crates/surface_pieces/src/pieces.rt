@@ -4,17 +4,17 @@ ghost use Rattle.std.specs.Prelude.{◌≡◌, ◌<◌, ◌≤◌, length, sum, 
 ghost use Rattle.std.specs.List.{slice_index_or};
 ghost use Rattle.no_memory.specs.Failures.{IfFault};
 ghost use Rattle.text_definitions.specs.Written.{limit};
-ghost use Rattle.surface_vector_definitions.specs.Components.{most_pieces, AreListedComponents, IsPiecesAnswer};
+ghost use Rattle.surface_vector_definitions.specs.Components.{AreListedComponents, IsPiecesAnswer};
 ghost use Rattle.surface_laws.specs.PieceLaws.{IsSurface};
 ghost use Rattle.surface_pieces.specs.ComponentLists.{no_component};
 
-use crate::counts::{all_pieces, entries_of, starts_of, total};
-use crate::rows::piece_rows;
+use crate::counts::{entries_of, total};
+use crate::joined::{SearchKind, SignKind};
+use crate::numbers::{all_pieces, starts_of};
+use crate::rows::joined_rows;
 use crate::signs::signs_of;
-use crate::steps::SearchKind;
+use crate::surface::{JoinedPieces, NumberedPieces, Surface};
 use crate::vectors::vectors_of;
-use finite_walks::classes;
-use gluing_table::Table;
 use no_memory::Failure;
 use normal_discs::DiscCoords;
 use skeleton::Skeleton;
@@ -51,42 +51,26 @@ pub type PiecesFault = Failure<ManyPieces>;
 // More pieces aren't looked at.
 const MOST_PIECES: u128 = 100_000;
 
-/// The components of the pieces with these entries.
-fn find_components(
-    alloc: Global,
-    table: &Table,
-    coords: DiscCoords,
-    x: &[u32],
-) -> Result<Pieces, AllocError>
-    requires surface { IsSurface table.now coords.system x.now }
-    requires few { sum x.now ≤ most_pieces }
-    ensures { IfOk result (AreListedComponents table.now coords.system x.now) }
+/// The components of a surface.
+fn find_components(alloc: Global, surface: &Surface) -> Result<Pieces, AllocError>
+    ensures { IfOk result (AreListedComponents surface.now.table.now surface.now.coords.system surface.now.entries.now) }
 {
-    let starts = starts_of(alloc, x)?;
-    let listed = all_pieces(alloc, x)?;
-    let rows = piece_rows(alloc, table, coords, x, &starts, &listed)?;
-    let all = classes(alloc, &rows)?;
-    let vectors = vectors_of(alloc, x, &listed, &all.classes, all.count)?;
-    let two_sided = signs_of(
-        alloc,
-        table,
-        coords,
-        x,
-        &starts,
-        &listed,
-        &all,
-        SearchKind::Sides,
-    )?;
-    let orientable = signs_of(
-        alloc,
-        table,
-        coords,
-        x,
-        &starts,
-        &listed,
-        &all,
-        SearchKind::Orientation,
-    )?;
+    let starts = starts_of(alloc, surface)?;
+    let listed = all_pieces(alloc, surface)?;
+    let pieces = NumberedPieces {
+        surface: *surface,
+        listed: &listed,
+        starts: &starts,
+    };
+    let rows = joined_rows(alloc, &pieces)?;
+    let joined = JoinedPieces {
+        surface: *surface,
+        rows: &rows,
+    };
+    let all = joined.classes_of(alloc, SearchKind::Pieces)?;
+    let vectors = vectors_of(alloc, &pieces, &all.classes, all.count)?;
+    let two_sided = signs_of(alloc, &joined, &all, SignKind::Sides)?;
+    let orientable = signs_of(alloc, &joined, &all, SignKind::Orientation)?;
     Ok(Pieces {
         vectors,
         two_sided,
@@ -116,7 +100,12 @@ impl Pieces {
         }
         let entries = entries_of(alloc, x)?;
         let coords = DiscCoords { system: coords };
-        let pieces = find_components(alloc, skeleton.table(), coords, &entries)?;
+        let surface = Surface {
+            table: skeleton.table(),
+            coords,
+            entries: &entries,
+        };
+        let pieces = find_components(alloc, &surface)?;
         Ok(pieces)
     }
 

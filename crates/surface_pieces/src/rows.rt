@@ -1,85 +1,36 @@
-//! Rows of what is joined to each piece, for a search.
+//! Rows of what is joined to each piece.
 
-ghost use Rattle.std.specs.Prelude.{◌≡◌, ◌*◌, ◌<◌, ◌≤◌, sum, IfOk};
-ghost use Rattle.surface_definitions.specs.Pieces as pieces;
-ghost use Rattle.surface_vector_definitions.specs.Components.{most_pieces};
-ghost use Rattle.surface_laws.specs.PieceLaws.{IsSurface, IsPieceOf};
-ghost use Rattle.surface_pieces.specs.Starts.{AreStarts};
-ghost use Rattle.surface_pieces.specs.Searches.{IsRow, ArePieceRows, AreSignedRows};
+ghost use Rattle.std.specs.Prelude.{IfOk};
+ghost use Rattle.surface_laws.specs.PieceLaws.{IsPieceOf};
+ghost use Rattle.surface_pieces.specs.Joinings.{IsJoinedRow, AreJoined};
 
 use crate::counts::Piece;
-use crate::steps::{SearchKind, step_at};
-use gluing_table::Table;
-use normal_discs::DiscCoords;
+use crate::joined::Joined;
+use crate::surface::NumberedPieces;
 use std::alloc::{AllocError, Global};
 
-/// What is joined to a piece with a sign.
-fn row_of(
-    table: &Table,
-    coords: DiscCoords,
-    x: &[u32],
-    starts: &[u32],
-    kind: SearchKind,
-    piece: Piece,
-    sign: u32,
-) -> [Option<u32>; 16]
-    requires surface { IsSurface table.now coords.system x.now }
-    requires few { sum x.now ≤ most_pieces }
-    requires starts { AreStarts x.now starts.now }
-    requires piece { IsPieceOf x.now piece }
-    requires a_sign { sign < 2 }
-    ensures { IsRow kind table.now coords.system x.now piece sign result }
+/// What a piece is joined to by each of its arcs.
+fn joined_row(pieces: &NumberedPieces, piece: Piece) -> [Option<Joined>; 16]
+    requires { IsPieceOf pieces.now.surface.entries.now piece }
+    ensures { IsJoinedRow pieces.now.surface.table.now pieces.now.surface.coords.system pieces.now.surface.entries.now piece result }
 {
     let mut row = [None; 16];
     for slot in 0..16 {
-        row[slot as usize] = step_at(table, coords, x, starts, kind, piece, sign, slot);
+        row[slot as usize] = pieces.joined_at(piece, slot);
     }
     row
 }
 
-/// The pieces that each piece meets.
-pub fn piece_rows(
+/// What each piece is joined to.
+pub fn joined_rows(
     alloc: Global,
-    table: &Table,
-    coords: DiscCoords,
-    x: &[u32],
-    starts: &[u32],
-    listed: &[Piece],
-) -> Result<Vec<[Option<u32>; 16]>, AllocError>
-    requires surface { IsSurface table.now coords.system x.now }
-    requires few { sum x.now ≤ most_pieces }
-    requires starts { AreStarts x.now starts.now }
-    requires listed { listed.now ≡ pieces.pieces_of x.now }
-    ensures { IfOk result (λ rows. ArePieceRows table.now coords.system x.now rows.items) }
+    pieces: &NumberedPieces,
+) -> Result<Vec<[Option<Joined>; 16]>, AllocError>
+    ensures { IfOk result (λ joined. AreJoined pieces.now.surface.table.now pieces.now.surface.coords.system pieces.now.surface.entries.now joined.items) }
 {
-    let mut rows = Vec::with_capacity(alloc, listed.len())?;
-    for piece in listed {
-        rows.push(row_of(table, coords, x, starts, SearchKind::Pieces, *piece, 0))?;
+    let mut joined = Vec::with_capacity(alloc, pieces.listed.len())?;
+    for piece in pieces.listed {
+        joined.push(joined_row(pieces, *piece))?;
     }
-    Ok(rows)
-}
-
-/// What is joined to each piece with each of two signs.
-pub fn signed_rows(
-    alloc: Global,
-    table: &Table,
-    coords: DiscCoords,
-    x: &[u32],
-    starts: &[u32],
-    listed: &[Piece],
-    kind: SearchKind,
-) -> Result<Vec<[Option<u32>; 16]>, AllocError>
-    requires surface { IsSurface table.now coords.system x.now }
-    requires few { sum x.now ≤ most_pieces }
-    requires starts { AreStarts x.now starts.now }
-    requires listed { listed.now ≡ pieces.pieces_of x.now }
-    ensures { IfOk result (λ rows. AreSignedRows kind table.now coords.system x.now rows.items) }
-{
-    let mut rows = Vec::with_capacity(alloc, 2 * listed.len())?;
-    for number in 0..2 * listed.len() {
-        let piece = listed[number / 2];
-        let sign = (number % 2) as u32;
-        rows.push(row_of(table, coords, x, starts, kind, piece, sign))?;
-    }
-    Ok(rows)
+    Ok(joined)
 }

@@ -1,19 +1,14 @@
 //! On which components signs exist.
 
-ghost use Rattle.std.specs.Prelude.{◌≡◌, ◌≢◌, ◌+◌, ◌*◌, ◌<◌, ◌≤◌, ◌↔◌, ℕ, true, false, length, sum, slice_index, slice_set, if◌then◌else◌, IfOk};
+ghost use Rattle.std.specs.Prelude.{◌≡◌, ◌*◌, ◌<◌, ◌↔◌, ℕ, true, false, length, slice_index, slice_set, if◌then◌else◌, IfOk};
 ghost use Rattle.std.specs.List.{slice_index_or};
 ghost use Rattle.surface_definitions.specs.Pieces as pieces;
-ghost use Rattle.surface_vector_definitions.specs.Components.{most_pieces};
-ghost use Rattle.surface_laws.specs.PieceLaws.{IsSurface};
-ghost use Rattle.surface_pieces.specs.Starts.{AreStarts};
+ghost use Rattle.surface_pieces.specs.Joinings.{AreJoined};
 ghost use Rattle.surface_pieces.specs.Searches.{IsFree, AreSigned};
 
-use crate::counts::Piece;
-use crate::rows::signed_rows;
-use crate::steps::SearchKind;
-use finite_walks::{Numbering, classes};
-use gluing_table::Table;
-use normal_discs::DiscCoords;
+use crate::joined::{SearchKind, SignKind};
+use crate::surface::JoinedPieces;
+use finite_walks::Numbering;
 use std::alloc::{AllocError, Global};
 
 /// Marks a component as not free where one of its pieces is joined to itself with the other sign.
@@ -34,7 +29,6 @@ fn free_components(
 ) -> Result<Vec<bool>, AllocError>
     requires in_range { (p : ℕ) → p < length components.now.classes.items → slice_index components.now.classes.items p < components.now.count }
     requires signed { length signed.now ≡ 2 * length components.now.classes.items }
-    requires few { length components.now.classes.items ≤ most_pieces }
     ensures size { IfOk result (λ free. length free.items ≡ components.now.count) }
     ensures each { IfOk result (λ free. (i : ℕ) → i < components.now.count → (slice_index_or free.items i true ≡ true) ↔ IsFree signed.now components.now.classes.items i) }
 {
@@ -49,24 +43,15 @@ fn free_components(
 /// Whether signs exist on each component.
 pub fn signs_of(
     alloc: Global,
-    table: &Table,
-    coords: DiscCoords,
-    x: &[u32],
-    starts: &[u32],
-    listed: &[Piece],
+    joined: &JoinedPieces,
     components: &Numbering,
-    kind: SearchKind,
+    signs: SignKind,
 ) -> Result<Vec<bool>, AllocError>
-    requires surface { IsSurface table.now coords.system x.now }
-    requires few { sum x.now ≤ most_pieces }
-    requires starts { AreStarts x.now starts.now }
-    requires listed { listed.now ≡ pieces.pieces_of x.now }
-    requires components { pieces.AreComponents table.now coords.system x.now components.now.classes.items components.now.count }
-    requires kind { kind ≢ SearchKind.Pieces }
-    ensures { IfOk result (λ signs. AreSigned kind table.now coords.system x.now components.now.classes.items components.now.count signs.items) }
+    requires joined { AreJoined joined.now.surface.table.now joined.now.surface.coords.system joined.now.surface.entries.now joined.now.rows.now }
+    requires components { pieces.AreComponents joined.now.surface.table.now joined.now.surface.coords.system joined.now.surface.entries.now components.now.classes.items components.now.count }
+    ensures { IfOk result (λ free. AreSigned signs joined.now.surface.table.now joined.now.surface.coords.system joined.now.surface.entries.now components.now.classes.items components.now.count free.items) }
 {
-    let rows = signed_rows(alloc, table, coords, x, starts, listed, kind)?;
-    let signed = classes(alloc, &rows)?;
+    let signed = joined.classes_of(alloc, SearchKind::Signed(signs))?;
     let free = free_components(alloc, &signed.classes, components)?;
     Ok(free)
 }

@@ -1,12 +1,10 @@
 //! The vectors of the components.
 
-ghost use Rattle.std.specs.Prelude.{◌≡◌, ◌+◌, ◌<◌, ◌≤◌, ◌^◌, ℕ, length, replicate, slice_set, slice_index, IfOk};
-ghost use Rattle.surface_definitions.specs.Pieces as pieces;
-ghost use Rattle.surface_vector_definitions.specs.Components.{most_pieces};
+ghost use Rattle.std.specs.Prelude.{◌≡◌, ◌+◌, ◌<◌, ◌^◌, ℕ, length, replicate, slice_set, slice_index, IfOk};
 ghost use Rattle.surface_vector_definitions.specs.Entries.{all_entries};
 ghost use Rattle.surface_pieces.specs.Vectors.{AreVectors};
 
-use crate::counts::Piece;
+use crate::surface::NumberedPieces;
 use std::alloc::{AllocError, Global};
 
 /// So many vectors of zeros.
@@ -32,20 +30,17 @@ fn count_piece(vector: &mut [u128], column: u32)
 /// The number of each component's pieces in each column.
 pub fn vectors_of(
     alloc: Global,
-    x: &[u32],
-    listed: &[Piece],
+    pieces: &NumberedPieces,
     components: &[u32],
     count: u32,
 ) -> Result<Vec<Vec<u128>>, AllocError>
-    requires listed { listed.now ≡ pieces.pieces_of x.now }
-    requires size { length components.now ≡ length listed.now }
-    requires few { length listed.now ≤ most_pieces }
+    requires size { length components.now ≡ length pieces.now.listed.now }
     requires in_range { (p : ℕ) → p < length components.now → slice_index components.now p < count }
-    ensures { IfOk result (λ vectors. AreVectors x.now components.now count (all_entries vectors.items)) }
+    ensures { IfOk result (λ vectors. AreVectors pieces.now.surface.entries.now components.now count (all_entries vectors.items)) }
 {
-    let mut vectors = zeros(alloc, count, x.len())?;
-    for number in 0..listed.len() {
-        let piece = listed[number];
+    let mut vectors = zeros(alloc, count, pieces.surface.entries.len())?;
+    for number in 0..pieces.listed.len() {
+        let piece = pieces.listed[number];
         let vector = &mut vectors[components[number] as usize];
         count_piece(vector, piece.column);
     }

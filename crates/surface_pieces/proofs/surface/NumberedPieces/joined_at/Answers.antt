@@ -1,0 +1,36 @@
+-- What the meeting arcs join.
+use Rattle.std.proofs.Common.{◌≡◌, ◌/◌, ◌%◌, ◌<◌, IfNone, refl, sym, ap, ◌∙◌, subst, arith}
+use Rattle.std.specs.Prelude.{sum}
+use mathlib.Core.Bool.{beq}
+use Rattle.surface_definitions.specs.Pieces.{SurfacePiece, piece_of, piece_number}
+use Rattle.surface_pieces.specs.Meetings.{HasNoMeeting}
+use Rattle.surface_pieces.proofs.MetArcs.{number_low, joined_is}
+use Rattle.surface_pieces.proofs.surface.NumberedPieces.joined_at.Goals as goal
+
+pub returns-in_err-corner-clause-none : goal.returns-in_err-corner-clause-none
+returns-in_err-corner-clause-none c =
+    subst (λ o. IfNone o (HasNoMeeting c.args.self.now.surface.table.now c.args.self.now.surface.coords.system c.args.self.now.surface.entries.now c.args.piece (c.args.slot / 4) (c.args.slot % 4))) (sym c.from_residual.ensures)
+    (λ a h m ef ev e. m.off_vertex (ev ∙ c.in_err-corner.ensures.none ∙ sym ef))
+
+pub returns-in_err-meeting-clause-none : goal.returns-in_err-meeting-clause-none
+returns-in_err-meeting-clause-none c =
+    subst (λ o. IfNone o (HasNoMeeting c.args.self.now.surface.table.now c.args.self.now.surface.coords.system c.args.self.now.surface.entries.now c.args.piece (c.args.slot / 4) (c.args.slot % 4))) (sym c.from_residual-in_err-meeting.ensures)
+    (λ a h m ef ev e. c.in_err-meeting.ensures.none a h m (ef ∙ sym c.in_ok-corner.ensures.some.0) (ev ∙ sym c.in_ok-corner.ensures.some.1) e)
+
+pub invariant_of-result : goal.invariant_of-result
+invariant_of-result c =
+    let low : piece_number c.args.self.now.surface.entries.now (piece_of c.args.self.now.surface.coords.system c.args.self.now.surface.entries.now c.in_ok-meeting.meeting.other) < sum c.args.self.now.surface.entries.now = number_low c.args.self.now.surface.entries.now (piece_of c.args.self.now.surface.coords.system c.args.self.now.surface.entries.now c.in_ok-meeting.meeting.other) c.in_ok-meeting.ensures.some.other_piece in
+    let same : c.number_of.result ≡ piece_number c.args.self.now.surface.entries.now (piece_of c.args.self.now.surface.coords.system c.args.self.now.surface.entries.now c.in_ok-meeting.meeting.other) = c.number_of.ensures ∙ ap (λ (p : SurfacePiece). piece_number c.args.self.now.surface.entries.now p) c.piece_of-other.ensures in
+    omega (arith, c.args.self.now.surface.few)
+
+pub returns-clause-some : goal.returns-clause-some
+returns-clause-some c =
+    joined_is c.args.self.now.surface.table.now c.args.self.now.surface.coords.system c.args.self.now.surface.entries.now c.args.piece c.args.slot c.in_ok-corner.corner.face c.in_ok-corner.corner.vertex c.in_ok-meeting.meeting.arc c.in_ok-meeting.meeting.other c.in_ok-meeting.meeting.odd
+    c.looks_positive-from.result c.looks_positive-to.result
+    (record {
+      piece = c.number_of.result;
+      keeps_sides = beq c.looks_positive-from.result c.looks_positive-to.result;
+      keeps_orientation = beq c.in_ok-meeting.meeting.odd (beq c.looks_positive-from.result c.looks_positive-to.result);
+    })
+    c.in_ok-corner.ensures.some.0 c.in_ok-corner.ensures.some.1 c.in_ok-meeting.ensures.some c.looks_positive-from.ensures c.looks_positive-to.ensures
+    (c.number_of.ensures ∙ ap (λ (p : SurfacePiece). piece_number c.args.self.now.surface.entries.now p) c.piece_of-other.ensures) refl refl

@@ -1,0 +1,55 @@
+//! The pieces of a surface in their order.
+
+ghost use Rattle.std.specs.Prelude.{◌≡◌, ◌+◌, ◌++◌, map, IfOk, OnOk};
+ghost use Rattle.table_definitions.specs.Lists.{below};
+ghost use Rattle.surface_definitions.specs.Pieces as pieces;
+ghost use Rattle.surface_laws.specs.PieceLaws.{IsPieceOf};
+ghost use Rattle.surface_pieces.specs.Starts.{AreStarts};
+
+use crate::counts::Piece;
+use crate::surface::{NumberedPieces, Surface};
+use std::alloc::{AllocError, Global};
+
+/// The pieces of one column behind those that are there.
+fn append_column(listed: &mut Vec<Piece>, column: u32, entry: u32) -> Result<(), AllocError>
+    ensures { OnOk result (listed.new.items ≡ listed.old.items ++ map (λ i. record { column = column; number = i }) (below entry)) }
+{
+    for number in 0..entry {
+        listed.push(Piece { column, number })?;
+    }
+    Ok(())
+}
+
+/// How many pieces stand before each column.
+pub fn starts_of(alloc: Global, surface: &Surface) -> Result<Vec<u32>, AllocError>
+    ensures { IfOk result (λ starts. AreStarts surface.now.entries.now starts.items) }
+{
+    let mut starts = Vec::with_capacity(alloc, surface.entries.len())?;
+    let mut before = 0;
+    for entry in surface.entries {
+        starts.push(before)?;
+        before += *entry;
+    }
+    Ok(starts)
+}
+
+/// All pieces, ascending.
+pub fn all_pieces(alloc: Global, surface: &Surface) -> Result<Vec<Piece>, AllocError>
+    ensures { IfOk result (λ listed. listed.items ≡ pieces.pieces_of surface.now.entries.now) }
+{
+    let mut listed = Vec::new(alloc);
+    for column in 0..surface.entries.len() as u32 {
+        append_column(&mut listed, column, surface.entries[column as usize])?;
+    }
+    Ok(listed)
+}
+
+impl<'a> NumberedPieces<'a> {
+    /// The number of a piece among all.
+    pub fn number_of(&self, piece: Piece) -> u32
+        requires { IsPieceOf self.now.surface.entries.now piece }
+        ensures { result ≡ pieces.piece_number self.now.surface.entries.now piece }
+    {
+        self.starts[piece.column as usize] + piece.number
+    }
+}

@@ -1,0 +1,108 @@
+//! The rows of numbers that a search reads off from what the pieces are joined to.
+
+ghost use Rattle.std.specs.Prelude.{◌≡◌, ◌+◌, ◌*◌, ◌/◌, ◌%◌, ◌<◌, ◌≤◌, length, IfOk};
+ghost use Rattle.surface_vector_definitions.specs.Components.{most_pieces};
+ghost use Rattle.surface_pieces.specs.Joinings.{AreJoined};
+ghost use Rattle.surface_pieces.specs.Searches as searches;
+ghost use Rattle.surface_pieces.specs.Searches.{HasClasses};
+ghost use Rattle.surface_pieces.specs.Readings as readings;
+ghost use Rattle.surface_pieces.specs.Readings.{IsReadRow, AreReadRows};
+
+use crate::joined::{Joined, SearchKind, SignKind};
+use crate::surface::JoinedPieces;
+use finite_walks::{Numbering, classes};
+use std::alloc::{AllocError, Global};
+
+/// Whether a sign is kept.
+fn keeps(signs: SignKind, joined: Joined) -> bool
+    ensures { result ≡ readings.keeps signs joined }
+{
+    match signs {
+        SignKind::Sides => joined.keeps_sides,
+        SignKind::Orientation => joined.keeps_orientation,
+    }
+}
+
+/// The number for what is joined to this number: that of a piece, or of a piece with its sign.
+fn number_across(kind: SearchKind, number: u32, joined: Joined) -> u32
+    ensures { result ≡ readings.read_across kind number joined }
+{
+    let SearchKind::Signed(signs) = kind else {
+        return joined.piece;
+    };
+    if keeps(signs, joined) {
+        2 * joined.piece + number % 2
+    } else {
+        2 * joined.piece + (1 - number % 2)
+    }
+}
+
+/// The number for what may be joined to this number.
+fn number_at(kind: SearchKind, number: u32, joined: Option<Joined>) -> Option<u32>
+    ensures { result ≡ readings.read_at kind number joined }
+{
+    let across = joined?;
+    Some(number_across(kind, number, across))
+}
+
+/// What is joined to a number, by the row of its piece.
+fn row_of(joined: &[Option<Joined>; 16], kind: SearchKind, number: u32) -> [Option<u32>; 16]
+    ensures { IsReadRow kind number joined.now result }
+{
+    let mut row = [None; 16];
+    for slot in 0..16 {
+        row[slot] = number_at(kind, number, joined[slot]);
+    }
+    row
+}
+
+/// The piece of a number.
+fn piece_in(kind: SearchKind, number: usize) -> usize
+    ensures { result ≡ searches.piece_in kind number }
+{
+    match kind {
+        SearchKind::Pieces => number,
+        SearchKind::Signed(_) => number / 2,
+    }
+}
+
+impl<'a> JoinedPieces<'a> {
+    /// How many numbers there are.
+    fn numbers(&self, kind: SearchKind) -> usize
+        ensures value { result ≡ searches.numbers kind (length self.now.rows.now) }
+        ensures few { result ≤ 2 * most_pieces }
+    {
+        match kind {
+            SearchKind::Pieces => self.rows.len(),
+            SearchKind::Signed(_) => 2 * self.rows.len(),
+        }
+    }
+
+    /// What is joined to each number.
+    fn rows_of(
+        &self,
+        alloc: Global,
+        kind: SearchKind,
+    ) -> Result<Vec<[Option<u32>; 16]>, AllocError>
+        ensures { IfOk result (λ rows. AreReadRows kind self.now.rows.now rows.items) }
+    {
+        let numbers = self.numbers(kind);
+        let joined = self.rows;
+        let mut rows = Vec::with_capacity(alloc, numbers)?;
+        for number in 0..numbers {
+            let of_piece = &joined[piece_in(kind, number)];
+            rows.push(row_of(of_piece, kind, number as u32))?;
+        }
+        Ok(rows)
+    }
+
+    /// The classes of the numbers that are joined.
+    pub fn classes_of(&self, alloc: Global, kind: SearchKind) -> Result<Numbering, AllocError>
+        requires { AreJoined self.now.surface.table.now self.now.surface.coords.system self.now.surface.entries.now self.now.rows.now }
+        ensures { IfOk result (λ r. HasClasses kind self.now.surface.table.now self.now.surface.coords.system self.now.surface.entries.now r.classes.items r.count) }
+    {
+        let rows = self.rows_of(alloc, kind)?;
+        let found = classes(alloc, &rows)?;
+        Ok(found)
+    }
+}

@@ -1,0 +1,44 @@
+//! A surface in a table, and its pieces in their order.
+
+ghost use Rattle.std.specs.Prelude.{◌≡◌, ◌≤◌, length, sum};
+ghost use Rattle.table_definitions.specs.Table.{max_tets};
+ghost use Rattle.surface_definitions.specs.Coordinates.{columns};
+ghost use Rattle.surface_definitions.specs.Pieces.{pieces_of};
+ghost use Rattle.surface_vector_definitions.specs.Components.{most_pieces};
+ghost use Rattle.surface_laws.specs.PieceLaws.{IsSurface};
+ghost use Rattle.surface_pieces.specs.Starts.{AreStarts};
+
+use crate::counts::Piece;
+use crate::joined::Joined;
+use gluing_table::Table;
+use normal_discs::DiscCoords;
+
+/// A surface with few pieces in a table, by the entries of its vector.
+#[derive(Clone, Copy)]
+pub struct Surface<'a> {
+    pub table: &'a Table,
+    pub coords: DiscCoords,
+    pub entries: &'a [u32],
+    pub ghost normal: { ∥ IsSurface table.now coords.system entries.now ∥₁ },
+    pub ghost few: { sum entries.now ≤ most_pieces },
+    pub ghost few_tets: { length table.now ≤ max_tets },
+    pub ghost width: { length entries.now ≡ columns coords.system (length table.now) },
+}
+
+/// The pieces of a surface in their order, and how many stand before each column.
+#[derive(Clone, Copy)]
+pub struct NumberedPieces<'a> {
+    pub surface: Surface<'a>,
+    pub listed: &'a [Piece],
+    pub starts: &'a [u32],
+    pub ghost all: { listed.now ≡ pieces_of surface.entries.now },
+    pub ghost counted: { AreStarts surface.entries.now starts.now },
+}
+
+/// What each piece of a surface is joined to, by the vertex of a face round which its arc stands.
+#[derive(Clone, Copy)]
+pub struct JoinedPieces<'a> {
+    pub surface: Surface<'a>,
+    pub rows: &'a [[Option<Joined>; 16]],
+    pub ghost few: { length rows.now ≤ most_pieces },
+}
