@@ -9,10 +9,10 @@ use Rattle.table_definitions.proofs.TableLaws.{glued_tet, glued_face}
 use Rattle.table_definitions.proofs.PermutationLaws.{image-of_inverse}
 use Rattle.table_definitions.proofs.Faces.{face_at}
 use Rattle.presentation_definitions.specs.Trees.{IsDistance, LeadsCloser}
-use Rattle.presentation_definitions.specs.Groups.{IsTreeFaceAt}
+use Rattle.presentation_definitions.specs.Groups.{IsTreeFaceAt, IsTree}
 use Rattle.presentation_laws.proofs.TreeLaws.{tree_face_of}
 use Rattle.edge_group.specs.Searches.{mark_of, AreDistances}
-use Rattle.edge_group.specs.Behind.{IsOneLess, IsCloser, IsCloserFace, IsNotAfter, IsLeastOf, IsLeastCloser}
+use Rattle.edge_group.specs.Behind.{IsOneLess, IsCloser, IsCloserFace, IsNotAfter, IsLeastOf, IsLeastCloser, AreLeastCloser}
 
 -- ---- the order of faces
 
@@ -24,20 +24,7 @@ not_before_on x y z d e = go x.tet y.tet z.tet x.face y.face z.face d e
 
 -- ---- the lesser of two
 
-module _ (rows : List Row) (table : IsTable rows) where
-  -- ---- the face behind one
-
-  pub closer_none : (marks : List (Option ℕ)) (x : Face) (g : Gluing) → AreDistances rows marks → glue rows x ≡ Some g → (IsOneLess (mark_of marks g.tet) (mark_of marks x.tet) → ⊥) → (y : Face) → IsCloser rows x y → ⊥
-  closer_none marks x g a e never y h =
-      let z : Some h.gluing ≡ Some g = sym h.glued ∙ e in
-      let same : h.gluing ≡ g = cc in
-      let tets : y.tet ≡ g.tet = ap (λ (w : Face). w.tet) (sym h.other) ∙ ap (λ (k : Gluing). k.tet) same in
-      never (
-        h.leads.distance,
-        (a.told g.tet h.leads.distance (table.in_range x g e)).1 (subst (λ u. IsDistance rows u h.leads.distance) tets h.leads.here),
-        (a.told x.tet (h.leads.distance + 1) (glued_tet rows x g e)).1 h.leads.there,
-      )
-
+module _ (rows : List Row) where
   one_closer : (x y z : Face) → IsCloser rows x y → IsCloser rows x z → y ≡ z
   one_closer x y z h k = let w : Some h.gluing ≡ Some k.gluing = sym h.glued ∙ k.glued in let same : h.gluing ≡ k.gluing = cc in sym h.other ∙ ap (other_side x) same ∙ k.other
 
@@ -69,6 +56,20 @@ module _ (rows : List Row) (table : IsTable rows) where
   ]
   least_more t f least closer (Some x) h k m = (leads_from t f least closer x h k m.0, not_after t f least closer x h k m.1 m.2)
 
+module _ (rows : List Row) (table : IsTable rows) where
+  -- ---- the face behind one
+
+  pub closer_none : (marks : List (Option ℕ)) (x : Face) (g : Gluing) → AreDistances rows marks → glue rows x ≡ Some g → (IsOneLess (mark_of marks g.tet) (mark_of marks x.tet) → ⊥) → (y : Face) → IsCloser rows x y → ⊥
+  closer_none marks x g a e never y h =
+      let z : Some h.gluing ≡ Some g = sym h.glued ∙ e in
+      let same : h.gluing ≡ g = cc in
+      let tets : y.tet ≡ g.tet = ap (λ (w : Face). w.tet) (sym h.other) ∙ ap (λ (k : Gluing). k.tet) same in
+      never (
+        h.leads.distance,
+        (a.told g.tet h.leads.distance (table.in_range x g e)).1 (subst (λ u. IsDistance rows u h.leads.distance) tets h.leads.here),
+        (a.told x.tet (h.leads.distance + 1) (glued_tet rows x g e)).1 h.leads.there,
+      )
+
   -- ---- each face that leads closer is behind one of the four
 
   record Behind (t : ℕ) (x : Face) : Type 0 where
@@ -88,9 +89,12 @@ module _ (rows : List Row) (table : IsTable rows) where
     };
   }
 
-  pub tree_face_at : (t : ℕ) (least : Option Face) → IsConnected rows → t < length rows → IsLeastCloser rows t 4 least → IsTreeFaceAt rows t least
+  tree_face_at : (t : ℕ) (least : Option Face) → IsConnected rows → t < length rows → IsLeastCloser rows t 4 least → IsTreeFaceAt rows t least
   tree_face_at t None connected l h = elim (cases_eq t 0) [
     | inl z ↦ z
     | inr n ↦ let x = tree_face_of rows table connected t l (omega arith) in let b = behind t x.0 x.1.leads in absurd (h b.face x.0 b.small b.closer)
   ]
   tree_face_at t (Some x) connected l h = record { leads = h.0; least = λ y k. let b = behind t y k in h.1 b.face y b.small b.closer }
+
+  pub closer_tree : IsConnected rows → (faces : List (Option Face)) → AreLeastCloser rows faces → IsTree rows faces
+  closer_tree connected faces h = record { one_each = h.one_each; told = λ t l. tree_face_at t _ connected l (h.told t l) }

@@ -1,5 +1,6 @@
 -- Faces that lead to a tetrahedron, as the other sides of its faces.
-use Rattle.std.specs.Prelude.{◌≡◌, ◌⊎◌, ℕ, ◌+◌, ◌<◌, false, List, Option, Some, None}
+use Rattle.std.specs.Prelude.{◌≡◌, ◌⊎◌, ℕ, ◌+◌, ◌<◌, false, List, length, Option, Some, None}
+use Rattle.std.specs.List.{slice_index_or}
 use Rattle.table_definitions.specs.Table.{Gluing, Row, Face, glue, other_side, is_face_before}
 use Rattle.presentation_definitions.specs.Trees.{LeadsCloser}
 
@@ -33,3 +34,8 @@ IsLeastOf first second (Some x) = ((first ≡ Some x) ⊎ (second ≡ Some x)) �
 abbrev pub IsLeastCloser : List Row → ℕ → ℕ → Option Face → Type 0
 IsLeastCloser rows t n None = (f : ℕ) (y : Face) → f < n → IsCloser rows (record { tet = t; face = f }) y → ⊥
 IsLeastCloser rows t n (Some x) = LeadsCloser rows t x × ((f : ℕ) (y : Face) → f < n → IsCloser rows (record { tet = t; face = f }) y → is_face_before y x ≡ false)
+
+-- the least such face behind the four of each tetrahedron, in order
+pub record AreLeastCloser (rows : List Row) (faces : List (Option Face)) : Type 0 where
+  pub one_each : length faces ≡ length rows
+  pub told : (t : ℕ) → t < length rows → IsLeastCloser rows t 4 (slice_index_or faces t None)

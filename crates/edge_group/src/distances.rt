@@ -83,8 +83,7 @@ fn first_marks(alloc: Global, count: usize) -> Result<Vec<Option<u32>>, AllocErr
 
 /// The distances of a table with a tetrahedron.
 fn search(alloc: Global, table: &Table) -> Result<Vec<Option<u32>>, AllocError>
-    requires table { IsTable table.now }
-    requires some { 0 < length table.now }
+    requires { 0 < length table.now }
     ensures { IfOk result (λ marks. AreDistances table.now marks.items) }
 {
     let mut marks = first_marks(alloc, table.len() as usize)?;
@@ -99,8 +98,8 @@ fn search(alloc: Global, table: &Table) -> Result<Vec<Option<u32>>, AllocError>
 
 /// The least number of gluings that lead from tetrahedron 0 to each tetrahedron to which any lead.
 pub fn distances(alloc: Global, table: &Table) -> Result<Vec<Option<u32>>, AllocError>
-    requires { IsTable table.now }
-    ensures { IfOk result (λ marks. AreDistances table.now marks.items) }
+    ensures distances { IfOk result (λ marks. AreDistances table.now marks.items) }
+    ensures is_table { IsTable table.now }
 {
     if table.len() == 0 {
         return Ok(Vec::new(alloc));

@@ -25,7 +25,6 @@ pub fn face_of(number: u32) -> Face
 
 /// The number of the least face of each class.
 pub fn first_faces(alloc: Global, skeleton: &Skeleton) -> Result<Vec<u32>, AllocError>
-    requires { IsSkeleton skeleton.now }
     ensures { IfOk result (λ firsts. AreLeastFaces skeleton.now firsts.items) }
 {
     let mut firsts = Vec::with_capacity(alloc, skeleton.faces() as usize)?;
@@ -39,13 +38,12 @@ pub fn first_faces(alloc: Global, skeleton: &Skeleton) -> Result<Vec<u32>, Alloc
 }
 
 /// Which face classes hold a tree face.
-fn tree_classes(
+pub fn tree_classes(
     alloc: Global,
     skeleton: &Skeleton,
     tree: &[Option<Face>],
 ) -> Result<Vec<bool>, AllocError>
-    requires skeleton { IsSkeleton skeleton.now }
-    requires tree { IsTree skeleton.now.rows tree.now }
+    requires { IsTree skeleton.now.rows tree.now }
     ensures { IfOk result (λ marks. AreTreeClasses skeleton.now marks.items) }
 {
     let mut marks = vec![in alloc; false; skeleton.faces() as usize]?;
@@ -58,8 +56,7 @@ fn tree_classes(
 }
 
 /// Whether a face class has two faces and holds no tree face.
-fn is_generator(skeleton: &Skeleton, in_tree: &[bool], firsts: &[u32], class: u32) -> bool
-    requires skeleton { IsSkeleton skeleton.now }
+pub fn is_generator(skeleton: &Skeleton, in_tree: &[bool], firsts: &[u32], class: u32) -> bool
     requires in_tree { AreTreeClasses skeleton.now in_tree.now }
     requires firsts { AreLeastFaces skeleton.now firsts.now }
     requires in_range { class < skeleton.now.faces.count }
@@ -67,27 +64,4 @@ fn is_generator(skeleton: &Skeleton, in_tree: &[bool], firsts: &[u32], class: u3
 {
     let first = face_of(firsts[class as usize]);
     !in_tree[class as usize] && skeleton.table().glue(first).is_some()
-}
-
-/// The face classes of two faces that hold no tree face.
-pub fn generators(
-    alloc: Global,
-    skeleton: &Skeleton,
-    tree: &[Option<Face>],
-    firsts: &[u32],
-) -> Result<Vec<u32>, NoMemory>
-    requires skeleton { IsSkeleton skeleton.now }
-    requires tree { IsTree skeleton.now.rows tree.now }
-    requires firsts { AreLeastFaces skeleton.now firsts.now }
-    ensures generators { IfOk result (λ generators. AreGenerators skeleton.now generators.items) }
-    ensures few { IfOk result (λ generators. length generators.items < 2 ^ 32) }
-{
-    let in_tree = tree_classes(alloc, skeleton, tree)?;
-    let mut generators = Vec::new(alloc);
-    for class in 0..skeleton.faces() {
-        if is_generator(skeleton, &in_tree, firsts, class) {
-            generators.push(class)?;
-        }
-    }
-    Ok(generators)
 }

@@ -4,13 +4,11 @@ ghost use Rattle.std.specs.Prelude.{◌≡◌, ◌-◌, ◌<◌, ◌≤◌, ◌�
 ghost use Rattle.std.specs.List.{slice_index_or};
 ghost use Rattle.no_memory.specs.Failures.{IfFault};
 ghost use Rattle.table_definitions.specs.Places.{IsConnected};
-ghost use Rattle.skeleton_definitions.specs.Skeleton.{IsSkeleton};
 ghost use Rattle.presentation_definitions.specs.Groups.{IsGroup, HasGroup, IsGroupFault};
 
-use crate::faces::{first_faces, generators};
-use crate::relators::{inner_edges, relators};
+use crate::generators::Generators;
+use crate::relators::inner_edges;
 use crate::tree::shortest_tree;
-use crate::turning::turning;
 use gluing_table::Face;
 use no_memory::{Failure, NoMemory};
 use presentation_definitions::{GroupFault, Letter};
@@ -51,19 +49,17 @@ impl Model for Group {
 
 /// The tree faces and the presentation of a connected table.
 fn presentation_of(alloc: Global, skeleton: &Skeleton) -> Result<Group, NoMemory>
-    requires skeleton { IsSkeleton skeleton.now }
-    requires connected { IsConnected skeleton.now.rows }
+    requires { IsConnected skeleton.now.rows }
     ensures { IfOk result (IsGroup skeleton.now) }
 {
     let tree = shortest_tree(alloc, skeleton.table())?;
-    let firsts = first_faces(alloc, skeleton)?;
-    let generators = generators(alloc, skeleton, &tree.faces, &firsts)?;
-    let turning = turning(alloc, skeleton, &tree, &firsts, &generators)?;
+    let generators = Generators::of(alloc, skeleton, &tree.faces)?;
+    let turning = generators.turning(alloc, &tree)?;
     let edges = inner_edges(alloc, skeleton)?;
-    let relators = relators(alloc, skeleton, &firsts, &generators, &edges)?;
+    let relators = generators.relators(alloc, &edges)?;
     Ok(Group {
         tree: tree.faces,
-        generators,
+        generators: generators.classes,
         turning,
         edges,
         relators,

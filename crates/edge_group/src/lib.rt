@@ -4,6 +4,7 @@
 
 mod distances;
 mod faces;
+mod generators;
 mod group;
 mod relators;
 mod tree;

@@ -3,9 +3,8 @@
 ghost use Rattle.std.specs.Prelude.{◌<◌, ◌↔◌, length, IsTrue, IfOk};
 ghost use Rattle.table_definitions.specs.Table.{IsTable};
 ghost use Rattle.table_definitions.specs.Places.{IsConnected};
-ghost use Rattle.presentation_definitions.specs.Groups.{IsTree, IsTreeFaceAt};
 ghost use Rattle.edge_group.specs.Searches.{AreDistances};
-ghost use Rattle.edge_group.specs.Behind.{IsOneLess, IsCloserFace, IsLeastOf};
+ghost use Rattle.edge_group.specs.Behind.{IsOneLess, IsCloserFace, IsLeastOf, IsLeastCloser, AreLeastCloser};
 ghost use Rattle.edge_group.specs.Turns.{IsTreeWith};
 
 use crate::distances::distances;
@@ -71,10 +70,9 @@ fn lesser(first: Option<Face>, second: Option<Face>) -> Option<Face>
 /// The least face that leads to a tetrahedron from one that lies closer to tetrahedron 0.
 fn tree_face(table: &Table, distances: &[Option<u32>], tet: u32) -> Option<Face>
     requires table { IsTable table.now }
-    requires connected { IsConnected table.now }
     requires distances { AreDistances table.now distances.now }
     requires in_range { tet < length table.now }
-    ensures { IsTreeFaceAt table.now tet result }
+    ensures { IsLeastCloser table.now tet 4 result }
 {
     let mut least = None;
     for face in 0..4 {
@@ -83,16 +81,14 @@ fn tree_face(table: &Table, distances: &[Option<u32>], tet: u32) -> Option<Face>
     least
 }
 
-/// The tree face of each tetrahedron, by the distances.
+/// The least such face of each tetrahedron.
 fn tree_faces(
     alloc: Global,
     table: &Table,
     distances: &[Option<u32>],
 ) -> Result<Vec<Option<Face>>, AllocError>
-    requires table { IsTable table.now }
-    requires connected { IsConnected table.now }
-    requires distances { AreDistances table.now distances.now }
-    ensures { IfOk result (λ faces. IsTree table.now faces.items) }
+    requires { AreDistances table.now distances.now }
+    ensures { IfOk result (λ faces. AreLeastCloser table.now faces.items) }
 {
     let mut faces = Vec::with_capacity(alloc, distances.len())?;
     for tet in 0..table.len() {
@@ -103,8 +99,7 @@ fn tree_faces(
 
 /// The tree faces of a connected table.
 pub fn shortest_tree(alloc: Global, table: &Table) -> Result<FaceTree, NoMemory>
-    requires table { IsTable table.now }
-    requires connected { IsConnected table.now }
+    requires { IsConnected table.now }
     ensures { IfOk result (λ tree. IsTreeWith table.now tree.faces.items tree.distances.items) }
 {
     let distances = distances(alloc, table)?;

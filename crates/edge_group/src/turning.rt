@@ -4,17 +4,15 @@ ghost use Rattle.std.specs.Prelude.{◌≡◌, ◌<◌, length, IsSome, IfOk};
 ghost use Rattle.std.specs.List.{AllZip};
 ghost use Rattle.table_definitions.specs.Table as gluings;
 ghost use Rattle.table_definitions.specs.Table.{IsTable};
-ghost use Rattle.skeleton_definitions.specs.Skeleton.{IsSkeleton};
 ghost use Rattle.presentation_definitions.specs.Trees.{is_even_gluing};
-ghost use Rattle.presentation_definitions.specs.Presentations.{AreGenerators, IsTurning, IsTurningFace};
-ghost use Rattle.presentation_laws.specs.Classes.{AreLeastFaces};
+ghost use Rattle.presentation_definitions.specs.Presentations.{IsTurning, IsTurningFace};
 ghost use Rattle.edge_group.specs.Turns.{IsPathOdd, IsTreeWith};
 
 use crate::faces::face_of;
+use crate::generators::Generators;
 use crate::tree::FaceTree;
 use gluing_table::{Face, Table};
 use no_memory::NoMemory;
-use skeleton::Skeleton;
 use std::alloc::Global;
 
 /// Whether a face is glued by an even gluing.
@@ -63,24 +61,17 @@ fn turns(table: &Table, tree: &FaceTree, face: Face) -> bool
     (forth != is_even(table, face)) != back
 }
 
-/// Which generators turn.
-pub fn turning(
-    alloc: Global,
-    skeleton: &Skeleton,
-    tree: &FaceTree,
-    firsts: &[u32],
-    generators: &[u32],
-) -> Result<Vec<bool>, NoMemory>
-    requires skeleton { IsSkeleton skeleton.now }
-    requires tree { IsTreeWith skeleton.now.rows tree.now.faces.items tree.now.distances.items }
-    requires firsts { AreLeastFaces skeleton.now firsts.now }
-    requires generators { AreGenerators skeleton.now generators.now }
-    ensures { IfOk result (λ turning. AllZip (IsTurning skeleton.now) generators.now turning.items) }
-{
-    let table = skeleton.table();
-    let mut turning = Vec::with_capacity(alloc, generators.len())?;
-    for class in generators {
-        turning.push(turns(table, tree, face_of(firsts[*class as usize])))?;
+impl Generators<'_> {
+    /// Which generators turn.
+    pub fn turning(&self, alloc: Global, tree: &FaceTree) -> Result<Vec<bool>, NoMemory>
+        requires { IsTreeWith self.now.skeleton.rows tree.now.faces.items tree.now.distances.items }
+        ensures { IfOk result (λ turning. AllZip (IsTurning self.now.skeleton) self.now.classes turning.items) }
+    {
+        let table = self.skeleton.table();
+        let mut turning = Vec::with_capacity(alloc, self.classes.len())?;
+        for class in &self.classes {
+            turning.push(turns(table, tree, face_of(self.firsts[*class as usize])))?;
+        }
+        Ok(turning)
     }
-    Ok(turning)
 }

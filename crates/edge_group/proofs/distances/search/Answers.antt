@@ -17,8 +17,8 @@ none (suc n) e = absurd (let z : true ≡ (suc n == 0) = e in grind arith)
 
 pub levels-init : goal.levels-init
 levels-init c = record {
-  searched = searched_start c.args.table.now c.requires.table c.in_ok-marks.marks.items c.in_ok-level.level.items c.requires.some first start;
-  few = let a : unmarked c.in_ok-marks.marks.items + 1 ≡ length c.args.table.now = start_count c.args.table.now c.requires.table c.in_ok-marks.marks.items c.requires.some first in
+  searched = searched_start c.args.table.now c.len.ensures.is_table c.in_ok-marks.marks.items c.in_ok-level.level.items c.requires first start;
+  few = let a : unmarked c.in_ok-marks.marks.items + 1 ≡ length c.args.table.now = start_count c.args.table.now c.len.ensures.is_table c.in_ok-marks.marks.items c.requires first in
       let b : length c.in_ok-level.level.items ≡ 1 = ap length start in omega arith;
 }
   where
@@ -30,14 +30,14 @@ levels-init c = record {
 
 pub next_level-requires-clause-in_range : goal.next_level-requires-clause-in_range
 next_level-requires-clause-in_range c =
-    subst (All (λ t. t < length c.args.table.now)) (sym c.deref.ensures.value) (level_inside c.args.table.now c.requires.table c.levels.distance c.levels.marks.items c.levels.level.items c.levels.invariant.searched)
+    subst (All (λ t. t < length c.args.table.now)) (sym c.deref.ensures.value) (level_inside c.args.table.now c.len.ensures.is_table c.levels.distance c.levels.marks.items c.levels.level.items c.levels.invariant.searched)
 
 pub levels-preserved : goal.levels-preserved
 levels-preserved c = record {
   searched = subst (λ (ms : List (Option ℕ)). IsSearched c.args.table.now (c.levels.distance + 1) ms c.in_ok-level-2.level.items) (sym written)
-      (searched_on c.args.table.now c.requires.table c.levels.distance c.levels.marks.items c.next_level.new.marks c.levels.level.items c.in_ok-level-2.level.items c.levels.invariant.searched grown);
+      (searched_on c.args.table.now c.len.ensures.is_table c.levels.distance c.levels.marks.items c.next_level.new.marks c.levels.level.items c.in_ok-level-2.level.items c.levels.invariant.searched grown);
   few = subst (λ (ms : List (Option ℕ)). c.levels.distance + 1 + (unmarked ms + length c.in_ok-level-2.level.items) ≤ length c.args.table.now) (sym written)
-      (few_turns c.args.table.now c.requires.table c.levels.distance c.levels.marks.items c.next_level.new.marks c.levels.level.items c.in_ok-level-2.level.items (IsFaceOfSome c.levels.level.items) grown some c.levels.invariant.few).0;
+      (few_turns c.args.table.now c.len.ensures.is_table c.levels.distance c.levels.marks.items c.next_level.new.marks c.levels.level.items c.in_ok-level-2.level.items (IsFaceOfSome c.levels.level.items) grown some c.levels.invariant.few).0;
 }
   where
     grown : IsGrown c.args.table.now (IsFaceOfSome c.levels.level.items) (c.levels.distance + 1) c.levels.marks.items c.next_level.new.marks c.in_ok-level-2.level.items
@@ -51,6 +51,6 @@ levels-preserved c = record {
     some = more_than_none (length c.levels.level.items) (c.levels-test.ensures ∙ ap (λ n. n == 0) c.levels.level.ok.0)
 
 pub returns : goal.returns
-returns c = searched_end c.args.table.now c.requires.table c.levels.distance c.levels.marks.items
+returns c = searched_end c.args.table.now c.len.ensures.is_table c.levels.distance c.levels.marks.items
     (subst (IsSearched c.args.table.now c.levels.distance c.levels.marks.items) (nil_from_length c.levels.level.items (none (length c.levels.level.items) (c.levels-test.ensures ∙ ap (λ n. n == 0) c.levels.level.ok.0)))
     c.levels.invariant.searched)

@@ -22,7 +22,7 @@ loop-number-preserved c = elim c.if-face_class-len.branch [
       let e : c.if-face_class-len.firsts.items ≡ c.loop-number.firsts.items = ap (λ (v : Vec ℕ Global). v.items) w.firsts-is in
       record {
         up_to = subst (AreFirstsUpTo (c.loop-number.number + 1) c.args.skeleton.now.faces.classes) (sym e)
-            (first_passes c.loop-number.number c.args.skeleton.now.faces.classes c.loop-number.firsts.items (faces_ordered c.args.skeleton.now c.requires) c.loop-number.invariant.up_to inside
+            (first_passes c.loop-number.number c.args.skeleton.now.faces.classes c.loop-number.firsts.items (faces_ordered c.args.skeleton.now c.faces.ensures.skeleton) c.loop-number.invariant.up_to inside
             (λ h. w.if-face_class-len.false (class ∙ h ∙ sym (c.len.ensures ∙ c.loop-number.firsts.ok.0))));
         few = omega (arith, ap (λ (xs : List ℕ). length xs) e);
       }
@@ -34,10 +34,10 @@ loop-number-preserved c = elim c.if-face_class-len.branch [
 
     inside : c.loop-number.number < length c.args.skeleton.now.faces.classes
     inside = let a : length c.table.result.now ≡ length c.args.skeleton.now.rows = ap length c.table.ensures.rows in
-        omega (arith, c.loop-number-test.true, c.len-number-end.ensures.value, c.requires.faces.one_each)
+        omega (arith, c.loop-number-test.true, c.len-number-end.ensures.value, c.faces.ensures.skeleton.faces.one_each)
 
 pub returns : goal.returns
-returns c = least_faces c.args.skeleton.now c.requires c.loop-number.number c.loop-number.firsts.items all c.loop-number.invariant.up_to
+returns c = least_faces c.args.skeleton.now c.faces.ensures.skeleton c.loop-number.number c.loop-number.firsts.items all c.loop-number.invariant.up_to
   where
     all : c.loop-number.number ≡ 4 * length c.args.skeleton.now.rows
     all = let a : length c.table.result.now ≡ length c.args.skeleton.now.rows = ap length c.table.ensures.rows in

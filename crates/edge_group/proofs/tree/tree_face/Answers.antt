@@ -1,14 +1,13 @@
 -- A face more, and in the end all four.
 use Rattle.std.proofs.Common.{◌≡◌, arith, subst}
 use Rattle.edge_group.specs.Behind.{IsLeastCloser}
-use Rattle.edge_group.proofs.Closer.{least_more, tree_face_at}
+use Rattle.edge_group.proofs.Closer.{least_more}
 use Rattle.edge_group.proofs.tree.tree_face.Goals as goal
 
 pub loop-face-preserved : goal.loop-face-preserved
 loop-face-preserved c =
-    least_more c.args.table.now c.requires.table c.args.tet c.loop-face.face c.loop-face.least c.closer_face.result c.lesser-least.result c.loop-face.invariant c.closer_face.ensures c.lesser-least.ensures
+    least_more c.args.table.now c.args.tet c.loop-face.face c.loop-face.least c.closer_face.result c.lesser-least.result c.loop-face.invariant c.closer_face.ensures c.lesser-least.ensures
 
 pub returns : goal.returns
 returns c = let all : c.loop-face.face ≡ 4 = omega arith in
-    tree_face_at c.args.table.now c.requires.table c.args.tet c.loop-face.least c.requires.connected c.requires.in_range
-    (subst (λ n. IsLeastCloser c.args.table.now c.args.tet n c.loop-face.least) all c.loop-face.invariant)
+    subst (λ n. IsLeastCloser c.args.table.now c.args.tet n c.loop-face.least) all c.loop-face.invariant

@@ -9,8 +9,8 @@ none_is {A} o e = subst (λ (p : Option A). IsNone p) (sym e) (search rules)
 pub returns-in-Some-first_invalid-clause-fault : goal.returns-in-Some-first_invalid-clause-fault
 returns-in-Some-first_invalid-clause-fault c = (subst IsConnected c.table.ensures.rows (c.in_ok-tet.ensures.connected.0 (none_is c.in_ok-tet.field-0 c.in_default.is)), c.in-Some-first_invalid.ensures)
 
-pub presentation_of-requires-clause-connected : goal.presentation_of-requires-clause-connected
-presentation_of-requires-clause-connected c = subst IsConnected c.table.ensures.rows (c.in_ok-tet.ensures.connected.0 (none_is c.in_ok-tet.field-0 c.in_default.is))
+pub presentation_of-requires : goal.presentation_of-requires
+presentation_of-requires c = subst IsConnected c.table.ensures.rows (c.in_ok-tet.ensures.connected.0 (none_is c.in_ok-tet.field-0 c.in_default.is))
 
 pub returns-clause-has_group : goal.returns-clause-has_group
 returns-clause-has_group c = record {

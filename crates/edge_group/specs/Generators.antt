@@ -1,0 +1,17 @@
+-- Generators over a skeleton, and what is known of them.
+use Rattle.std.specs.Prelude.{ℕ, ◌<◌, ◌^◌, List, length}
+use Rattle.skeleton_definitions.specs.Skeleton.{Skeleton, IsSkeleton}
+use Rattle.presentation_definitions.specs.Presentations.{AreGenerators}
+use Rattle.presentation_laws.specs.Classes.{AreLeastFaces}
+
+-- the face classes that are generators, ascending
+pub record Generators : Type 0 where
+  pub skeleton : Skeleton
+  pub classes : List ℕ
+
+-- with the least face of each class
+pub record AreFound (s : Skeleton) (faces numbers : List ℕ) : Type 0 where
+  pub skeleton : IsSkeleton s
+  pub firsts : AreLeastFaces s faces
+  pub generators : AreGenerators s numbers
+  pub few : length numbers < 2 ^ 32

@@ -1,0 +1,69 @@
+//! Generators, with what is asked of them.
+
+ghost use Rattle.std.specs.Prelude.{◌≡◌, IfOk};
+ghost use Rattle.presentation_definitions.specs.Groups.{IsTree};
+ghost use Rattle.presentation_definitions.specs.Presentations.{AreGenerators};
+ghost use Rattle.presentation_laws.specs.Classes.{generator_number};
+
+use crate::faces::{first_faces, is_generator, tree_classes};
+use gluing_table::Face;
+use no_memory::NoMemory;
+use skeleton::Skeleton;
+use std::alloc::Global;
+use std::marker::Model;
+
+/// The generators over a skeleton: the face classes of two faces off a tree of faces, ascending, with the least face
+/// of each class. Contracts see the skeleton and the face classes.
+#[derive(Drop)]
+pub struct Generators<'a> {
+    pub skeleton: &'a Skeleton,
+    pub firsts: Vec<u32>,
+    pub classes: Vec<u32>,
+}
+
+impl<'a> Model for Generators<'a> {
+    ghost use Rattle.edge_group.specs.Generators.{Generators as Seen, AreFound};
+
+    ghost Value = { Seen };
+
+    ghost view = { λ g. record { skeleton = g.skeleton.now; classes = g.classes.items } };
+
+    ghost invariant = { λ g. AreFound g.skeleton.now g.firsts.items g.classes.items };
+}
+
+impl<'a> Generators<'a> {
+    /// The generators off a tree of faces.
+    pub fn of(
+        alloc: Global,
+        skeleton: &'a Skeleton,
+        tree: &[Option<Face>],
+    ) -> Result<Generators<'a>, NoMemory>
+        requires { IsTree skeleton.now.rows tree.now }
+        ensures skeleton { IfOk result (λ g. g.skeleton ≡ skeleton.now) }
+        ensures generators { IfOk result (λ g. AreGenerators skeleton.now g.classes) }
+    {
+        let firsts = first_faces(alloc, skeleton)?;
+        let in_tree = tree_classes(alloc, skeleton, tree)?;
+        let mut classes = Vec::new(alloc);
+        for class in 0..skeleton.faces() {
+            if is_generator(skeleton, &in_tree, &firsts, class) {
+                classes.push(class)?;
+            }
+        }
+        Ok(Generators {
+            skeleton,
+            firsts,
+            classes,
+        })
+    }
+
+    /// The number, from 1, of a face class among the generators.
+    pub fn number_of(&self, class: u32) -> Option<u32>
+        ensures { result ≡ generator_number self.now.classes class }
+    {
+        match self.classes.binary_search(&class) {
+            Ok(place) => Some(place as u32 + 1),
+            Err(_) => None,
+        }
+    }
+}
