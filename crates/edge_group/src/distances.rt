@@ -15,11 +15,10 @@ fn cross_face(
     marks: &mut [Option<u32>],
     next: &mut Vec<u32>,
 ) -> Result<(), AllocError>
-    requires table { IsTable table.now }
     requires in_range { face.tet < length table.now }
-    requires a_face { face.face < 4 }
     requires one_each { length marks.old ≡ length table.now }
-    ensures { OnOk result (HasGrown table.now (IsFace face) distance marks.old marks.new next.old.items next.new.items) }
+    ensures grown { OnOk result (HasGrown table.now (IsFace face) distance marks.old marks.new next.old.items next.new.items) }
+    ensures is_table { IsTable table.now }
 {
     let Some(glue) = table.glue(face) else {
         return Ok(());
@@ -40,7 +39,6 @@ fn cross_faces(
     marks: &mut [Option<u32>],
     next: &mut Vec<u32>,
 ) -> Result<(), AllocError>
-    requires table { IsTable table.now }
     requires in_range { tet < length table.now }
     requires one_each { length marks.old ≡ length table.now }
     ensures { OnOk result (HasGrown table.now (IsFaceOf tet) distance marks.old marks.new next.old.items next.new.items) }
@@ -59,7 +57,6 @@ fn next_level(
     distance: u32,
     marks: &mut [Option<u32>],
 ) -> Result<Vec<u32>, AllocError>
-    requires table { IsTable table.now }
     requires in_range { All (λ t. t < length table.now) level.now }
     requires one_each { length marks.old ≡ length table.now }
     ensures { IfOk result (λ next. IsGrown table.now (IsFaceOfSome level.now) distance marks.old marks.new next.items) }

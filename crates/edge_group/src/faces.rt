@@ -1,10 +1,8 @@
 //! Face classes, and which of them are generators.
 
-ghost use Rattle.std.specs.Prelude.{◌≡◌, ◌<◌, ◌^◌, ◌↔◌, length, IsTrue, IfOk};
+ghost use Rattle.std.specs.Prelude.{◌≡◌, ◌<◌, ◌↔◌, IsTrue, IfOk};
 ghost use Rattle.table_definitions.specs.Places as places;
-ghost use Rattle.skeleton_definitions.specs.Skeleton.{IsSkeleton};
 ghost use Rattle.presentation_definitions.specs.Groups.{IsTree};
-ghost use Rattle.presentation_definitions.specs.Presentations.{AreGenerators};
 ghost use Rattle.presentation_laws.specs.Classes.{AreLeastFaces, AreTreeClasses, IsGenerator};
 
 use gluing_table::Face;

@@ -35,8 +35,7 @@ impl Generators<'_> {
     /// The letter of a face: none where its class is no generator, the generator at the lesser face of the class, and
     /// its inverse at the greater one.
     fn letter(&self, face: Face) -> Option<Letter>
-        requires in_range { face.tet < length self.now.skeleton.rows }
-        requires a_face { face.face < 4 }
+        requires { face.tet < length self.now.skeleton.rows }
         ensures { result ≡ letter_of self.now.skeleton self.now.classes (face_number face) }
     {
         let class = self.skeleton.face_class(face.tet, face.face);

@@ -1,7 +1,6 @@
 //! The tree of faces that lead from tetrahedron 0 to each other tetrahedron.
 
 ghost use Rattle.std.specs.Prelude.{◌<◌, ◌↔◌, length, IsTrue, IfOk};
-ghost use Rattle.table_definitions.specs.Table.{IsTable};
 ghost use Rattle.table_definitions.specs.Places.{IsConnected};
 ghost use Rattle.edge_group.specs.Searches.{AreDistances};
 ghost use Rattle.edge_group.specs.Behind.{IsOneLess, IsCloserFace, IsLeastOf, IsLeastCloser, AreLeastCloser};
@@ -34,10 +33,8 @@ fn is_one_less(near: Option<u32>, far: Option<u32>) -> bool
 
 /// The face to which this one is glued, where that lies closer to tetrahedron 0.
 fn closer_face(table: &Table, distances: &[Option<u32>], face: Face) -> Option<Face>
-    requires table { IsTable table.now }
     requires distances { AreDistances table.now distances.now }
     requires in_range { face.tet < length table.now }
-    requires a_face { face.face < 4 }
     ensures { IsCloserFace table.now face result }
 {
     let Some(glue) = table.glue(face) else {
@@ -69,7 +66,6 @@ fn lesser(first: Option<Face>, second: Option<Face>) -> Option<Face>
 
 /// The least face that leads to a tetrahedron from one that lies closer to tetrahedron 0.
 fn tree_face(table: &Table, distances: &[Option<u32>], tet: u32) -> Option<Face>
-    requires table { IsTable table.now }
     requires distances { AreDistances table.now distances.now }
     requires in_range { tet < length table.now }
     ensures { IsLeastCloser table.now tet 4 result }

@@ -17,9 +17,9 @@ use std::alloc::Global;
 
 /// Whether a face is glued by an even gluing.
 fn is_even(table: &Table, face: Face) -> bool
-    requires in_range { face.tet < length table.now }
-    requires a_face { face.face < 4 }
-    ensures { result ≡ is_even_gluing (gluings.glue table.now face) }
+    requires { face.tet < length table.now }
+    ensures value { result ≡ is_even_gluing (gluings.glue table.now face) }
+    ensures is_table { IsTable table.now }
 {
     match table.glue(face) {
         Some(glue) => !glue.perm.is_odd(),
@@ -29,7 +29,6 @@ fn is_even(table: &Table, face: Face) -> bool
 
 /// Whether the path of tree faces to a tetrahedron has an odd number of even gluings.
 fn is_path_odd(table: &Table, tree: &FaceTree, tet: u32) -> bool
-    requires table { IsTable table.now }
     requires tree { IsTreeWith table.now tree.now.faces.items tree.now.distances.items }
     requires in_range { tet < length table.now }
     ensures { IsPathOdd table.now tet result }
@@ -46,10 +45,8 @@ fn is_path_odd(table: &Table, tree: &FaceTree, tet: u32) -> bool
 /// Whether the closed list of gluings through tree faces to a face, across it, and back through tree faces has an odd
 /// number of even gluings.
 fn turns(table: &Table, tree: &FaceTree, face: Face) -> bool
-    requires table { IsTable table.now }
     requires tree { IsTreeWith table.now tree.now.faces.items tree.now.distances.items }
     requires in_range { face.tet < length table.now }
-    requires a_face { face.face < 4 }
     requires glued { IsSome (gluings.glue table.now face) }
     ensures { IsTurningFace table.now face result }
 {

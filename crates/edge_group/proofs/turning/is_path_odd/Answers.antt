@@ -2,6 +2,7 @@
 use Rattle.std.proofs.Common.{◌≡◌, ◌<◌, not, length, sym, ap, subst, ◌∙◌}
 use Rattle.std.specs.Bool.{beq}
 use Rattle.table_definitions.specs.Table.{Face}
+use Rattle.table_definitions.proofs.TableLaws.{glued_tet}
 use Rattle.presentation_definitions.specs.Trees.{IsTreeFace}
 use Rattle.edge_group.specs.Searches.{mark_of}
 use Rattle.presentation_laws.proofs.Marking.{tree_face_is, tree_root_is, tree_face_inside}
@@ -13,11 +14,8 @@ on_tree : (c : goal.In-Some) → IsTreeFace c.args.table.now c.path.tet c.in-Som
 on_tree c = tree_face_is c.args.table.now c.args.tree.now.faces.items c.path.tet c.index.result.now c.in-Some.face c.requires.tree.tree
     (subst (λ n. c.path.tet < n) (sym c.requires.tree.tree.one_each) c.path.invariant.in_range) (sym c.index.ensures ∙ c.in-Some.is)
 
-pub is_even-odd-requires-clause-in_range : goal.is_even-odd-requires-clause-in_range
-is_even-odd-requires-clause-in_range c = (tree_face_inside c.args.table.now c.path.tet c.in-Some.face c.requires.table (on_tree c)).0
-
-pub is_even-odd-requires-clause-a_face : goal.is_even-odd-requires-clause-a_face
-is_even-odd-requires-clause-a_face c = (tree_face_inside c.args.table.now c.path.tet c.in-Some.face c.requires.table (on_tree c)).1
+pub is_even-odd-requires : goal.is_even-odd-requires
+is_even-odd-requires c = glued_tet c.args.table.now c.in-Some.face (on_tree c).leads.gluing (on_tree c).leads.glued
 
 -- the same behind it
 module _ (c : goal.After-face) where
@@ -30,13 +28,13 @@ module _ (c : goal.After-face) where
 
 pub path-smaller : goal.path-smaller
 path-smaller c = subst (λ t. distance_or (mark_of c.args.tree.now.distances.items t) < distance_or (mark_of c.args.tree.now.distances.items c.path.tet)) (sym (there c))
-    (path_falls c.args.table.now c.args.tree.now.distances.items c.path.tet c.in-Some.face c.requires.table c.requires.tree.distances (tree_face c))
+    (path_falls c.args.table.now c.args.tree.now.distances.items c.path.tet c.in-Some.face c.is_even-odd.ensures.is_table c.requires.tree.distances (tree_face c))
 
 pub path-preserved : goal.path-preserved
 path-preserved c = record {
-  in_range = subst (λ t. t < length c.args.table.now) (sym (there c)) (tree_face_inside c.args.table.now c.path.tet c.in-Some.face c.requires.table (tree_face c)).0;
+  in_range = subst (λ t. t < length c.args.table.now) (sym (there c)) (tree_face_inside c.args.table.now c.path.tet c.in-Some.face c.is_even-odd.ensures.is_table (tree_face c)).0;
   on = subst (λ t. IsPathOn c.args.table.now c.args.tet t (not (beq c.path.odd c.is_even-odd.result))) (sym (there c))
-      (path_steps c.args.table.now c.args.tet c.path.tet c.in-Some.face c.path.odd c.is_even-odd.result (not (beq c.path.odd c.is_even-odd.result)) (tree_face c) c.is_even-odd.ensures (differ_is c.path.odd c.is_even-odd.result) c.path.invariant.on);
+      (path_steps c.args.table.now c.args.tet c.path.tet c.in-Some.face c.path.odd c.is_even-odd.result (not (beq c.path.odd c.is_even-odd.result)) (tree_face c) c.is_even-odd.ensures.value (differ_is c.path.odd c.is_even-odd.result) c.path.invariant.on);
 }
 
 pub returns : goal.returns
