@@ -1,6 +1,6 @@
 // Whether given terms add up to a vector.
 
-ghost use Rattle.std.specs.Prelude.{◌≡◌, ◌≤◌, ◌<◌, ◌^◌, length, Some, None, IsOk, OnOk, IfErr, IsTrue, ◌↔◌};
+ghost use Rattle.std.specs.Prelude.{◌≡◌, ◌<◌, ◌^◌, length, Some, None, IsOk, OnOk, IfErr, IsTrue, ◌↔◌};
 ghost use Rattle.std.specs.List.{All};
 ghost use Rattle.cone_arithmetic.specs.declared.numbers.TheConstants.{MAX_ENTRY};
 ghost use Rattle.sum_definitions.specs.Adding.{AddsUp, add_fault, column_fault, sum_at};
@@ -19,8 +19,7 @@ pub struct Given {
 
 /// Whether the counts times the entries at a column add up to a number.
 fn are_equal(sum: u128, terms: &[Given], column: usize) -> bool
-    requires most { sum ≤ MAX_ENTRY }
-    requires terms { All (λ given. column < length given.entries.items) terms.now }
+    requires { All (λ given. column < length given.entries.items) terms.now }
     ensures { IsTrue result ↔ (sum ≡ sum_at (terms_of terms.now) column) }
 {
     let mut left = sum;

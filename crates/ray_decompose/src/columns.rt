@@ -1,13 +1,11 @@
 // Columns of vectors: whether a support lies inside another, and the first entry that passes the limit.
 
-ghost use Rattle.std.specs.Prelude.{◌≡◌, ◌*◌, ◌<◌, ◌≤◌, ◌^◌, ◌↔◌, IsTrue, IfSome, IfNone, length};
-ghost use Rattle.cone_arithmetic.specs.declared.numbers.TheConstants.{MAX_ENTRY};
+ghost use Rattle.std.specs.Prelude.{◌≡◌, ◌*◌, ◌<◌, ◌^◌, ◌↔◌, IsTrue, IfSome, IfNone, length};
 ghost use Rattle.cone_definitions.specs.Vectors.{IsInside};
 ghost use Rattle.sum_definitions.specs.Sums.{IsWithinTimes};
 ghost use Rattle.ray_decompose.specs.Sums.{IsFirstLarge};
 
 use crate::products::product_within;
-use cone_arithmetic::MAX_ENTRY;
 
 /// Whether the support of a vector lies in that of another.
 pub fn is_inside(x: &[u128], other: &[u128]) -> bool
@@ -24,7 +22,6 @@ pub fn is_inside(x: &[u128], other: &[u128]) -> bool
 
 /// Whether an entry, taken `first` times `second` times, passes the limit.
 fn passes(entry: u128, first: u128, second: u128, limit: u128) -> bool
-    requires { limit ≤ MAX_ENTRY }
     ensures { IsTrue result ↔ (limit < first * second * entry) }
 {
     if entry == 0 {
@@ -38,8 +35,7 @@ fn passes(entry: u128, first: u128, second: u128, limit: u128) -> bool
 
 /// The first column whose entry, taken `first` times `second` times, passes the limit.
 pub fn first_large(x: &[u128], first: u128, second: u128, limit: u128) -> Option<u32>
-    requires limit { limit ≤ MAX_ENTRY }
-    requires width { length x.now < 2 ^ 32 }
+    requires { length x.now < 2 ^ 32 }
     ensures some { IfSome result (IsFirstLarge limit x.now (first * second)) }
     ensures none { IfNone result (IsWithinTimes limit x.now (first * second)) }
 {

@@ -1,15 +1,14 @@
 // A solution as a sum of listed rays.
 
-ghost use Rattle.std.specs.Prelude.{ℕ, ◌≤◌, IfOk, IfErr, slice_index};
+ghost use Rattle.std.specs.Prelude.{IfOk, IfErr};
 ghost use Rattle.no_memory.specs.Failures.{IfFault};
-ghost use Rattle.cone_arithmetic.specs.declared.numbers.TheConstants.{MAX_ENTRY};
 ghost use Rattle.sum_definitions.specs.Sums.{HasRays, IsSum, IsLargeTurn};
 ghost use Rattle.sum_laws.specs.Laws.{IsSumOfRays};
 
 use crate::columns::first_large;
 use crate::fraction::fraction_inside;
 use crate::taking::take_ray;
-use cone_arithmetic::{MAX_ENTRY, Ray, System};
+use cone_arithmetic::{Ray, System};
 use no_memory::Failure;
 use std::alloc::Global;
 use sum_definitions::LargeTurn;
@@ -39,10 +38,7 @@ pub fn decompose(
     x: &[u128],
     limit: u128,
 ) -> Result<Sum, SumFault>
-    requires rays { HasRays system.now.columns system.now.rows list.now x.now }
-    requires entries { (column : ℕ) → slice_index x.now column ≤ MAX_ENTRY }
-    requires some_limit { 1 ≤ limit }
-    requires most_limit { limit ≤ MAX_ENTRY }
+    requires { HasRays system.now.columns system.now.rows list.now x.now }
     ensures ok { IfOk result (λ sum. IsSum limit list.now x.now sum.times sum.terms.items) }
     ensures right { IfOk result (λ sum. IsSumOfRays list.now limit x.now sum.times sum.terms.items) }
     ensures err { IfErr result (λ e. IfFault e (λ large. IsLargeTurn limit list.now x.now large.turn large.column)) }

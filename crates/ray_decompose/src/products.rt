@@ -1,13 +1,9 @@
 // Products within a limit.
 
 ghost use Rattle.std.specs.Prelude.{◌≡◌, ◌*◌, ◌<◌, ◌≤◌, IfSome, IfNone, OnSome};
-ghost use Rattle.cone_arithmetic.specs.declared.numbers.TheConstants.{MAX_ENTRY};
-
-use cone_arithmetic::MAX_ENTRY;
 
 /// The product, where it is within the limit.
 pub fn product_within(a: u128, b: u128, limit: u128) -> Option<u128>
-    requires { limit ≤ MAX_ENTRY }
     ensures some { IfSome result (λ product. product ≡ a * b) }
     ensures within { OnSome result (a * b ≤ limit) }
     ensures none { IfNone result (limit < a * b) }

@@ -7,7 +7,7 @@ use Rattle.ray_decompose.proofs.adding.are_equal.Goals as goal
 pub returns-in-None : goal.returns-in-None
 returns-in-None c = (
   λ i. absurd (false≢true i),
-  λ e. absurd (too_much c.args.terms.now c.args.sum c.loop-term.left c.args.column c.loop-term.term-index c.term-item.result c.loop-term-test.true c.term-item.is c.loop-term.invariant.sum
+  λ e. absurd (too_much c.args.terms.now c.args.sum c.loop-term.left c.args.column c.loop-term.term-index c.term-item.result c.loop-term-test.true c.term-item.is c.loop-term.invariant
       (subst (λ n. c.loop-term.left < c.term-item.result.count * n) (entry_is c.term-item.result.entries.items c.args.column c.index.result.now
-      (subst (λ (g : Given). c.args.column < length g.entries.items) (sym c.term-item.is) (c.requires.terms c.loop-term.term-index c.term-item.result c.loop-term-test.true)) c.index.ensures) c.in-None.ensures.none) e),
+      (subst (λ (g : Given). c.args.column < length g.entries.items) (sym c.term-item.is) (c.requires c.loop-term.term-index c.term-item.result c.loop-term-test.true)) c.index.ensures) c.in-None.ensures.none) e),
 )

@@ -8,13 +8,13 @@ use Rattle.ray_decompose.proofs.decomposing.decompose.Goals as goal
 use Rattle.ray_decompose.proofs.decomposing.decompose.Goals.{in-Some+in_default-first_large+in_ok-take_ray, in_default}
 
 pub fraction_inside-requires-clause-lengths : goal.fraction_inside-requires-clause-lengths
-fraction_inside-requires-clause-lengths c = sym (same_lengths _ _ _ _ (at_place c.args.list.now c.loop-ray.ray-index _ _ c.loop-ray-test.true c.ray-item.is c.entries.ensures.entries) c.deref.ensures.value (widths c.args.system.now.columns c.args.system.now.rows c.args.list.now c.args.x.now c.requires.rays c.args.limit (length c.loop-ray.terms.items)
+fraction_inside-requires-clause-lengths c = sym (same_lengths _ _ _ _ (at_place c.args.list.now c.loop-ray.ray-index _ _ c.loop-ray-test.true c.ray-item.is c.entries.ensures.entries) c.deref.ensures.value (widths c.args.system.now.columns c.args.system.now.rows c.args.list.now c.args.x.now c.requires c.args.limit (length c.loop-ray.terms.items)
     (record { times = c.loop-ray.times; terms = c.loop-ray.terms.items; rest = c.loop-ray.rest.items }) c.loop-ray.invariant.led c.loop-ray.ray-index c.loop-ray-test.true))
 
 pub overflow_cast-turn : goal.overflow_cast-turn
 overflow_cast-turn c =
     let t = turn_is c.args.system.now.columns c.args.system.now.rows c.args.list.now c.args.x.now c.args.limit c.loop-ray.times c.loop-ray.terms.items c.loop-ray.rest.items c.loop-ray.ray-index
-    c.in-Some.fraction.numerator c.in-Some.fraction.denominator _ _ _ c.requires.rays c.loop-ray.invariant.led c.loop-ray.invariant.none c.loop-ray-test.true c.ray-item.is
+    c.in-Some.fraction.numerator c.in-Some.fraction.denominator _ _ _ c.requires c.loop-ray.invariant.led c.loop-ray.invariant.none c.loop-ray-test.true c.ray-item.is
     c.entries.ensures.entries c.deref.ensures.value c.in-Some.ensures.inside c.in-Some.ensures.least in
     let few = turns_are_few c.args.system.now.columns c.args.system.now.rows c.args.list.now c.args.x.now c.args.limit c.loop-ray.times c.loop-ray.terms.items c.loop-ray.rest.items c.loop-ray.ray-index
     c.in-Some.fraction.numerator c.in-Some.fraction.denominator t in
@@ -29,38 +29,36 @@ returns-in-Some-first_large-clause-err c =
     large_turn c.args.system.now.columns c.args.system.now.rows c.args.list.now c.args.x.now c.args.limit c.loop-ray.times c.loop-ray.terms.items c.loop-ray.rest.items c.loop-ray.ray-index
     c.in-Some.fraction.numerator c.in-Some.fraction.denominator
     (turn_is c.args.system.now.columns c.args.system.now.rows c.args.list.now c.args.x.now c.args.limit c.loop-ray.times c.loop-ray.terms.items c.loop-ray.rest.items c.loop-ray.ray-index
-    c.in-Some.fraction.numerator c.in-Some.fraction.denominator _ _ _ c.requires.rays c.loop-ray.invariant.led c.loop-ray.invariant.none c.loop-ray-test.true c.ray-item.is
+    c.in-Some.fraction.numerator c.in-Some.fraction.denominator _ _ _ c.requires c.loop-ray.invariant.led c.loop-ray.invariant.none c.loop-ray-test.true c.ray-item.is
     c.entries.ensures.entries c.deref.ensures.value c.in-Some.ensures.inside c.in-Some.ensures.least)
     _ _ (c.len-turn.ensures ∙ c.loop-ray.terms.ok.0) c.in-Some-first_large.ensures.some
 
 pub take_ray-requires-clause-lengths : goal.take_ray-requires-clause-lengths
-take_ray-requires-clause-lengths c = ap length (at_place c.args.list.now c.loop-ray.ray-index _ _ c.loop-ray-test.true c.ray-item.is refl) ∙ (widths c.args.system.now.columns c.args.system.now.rows c.args.list.now c.args.x.now c.requires.rays c.args.limit (length c.loop-ray.terms.items)
+take_ray-requires-clause-lengths c = ap length (at_place c.args.list.now c.loop-ray.ray-index _ _ c.loop-ray-test.true c.ray-item.is refl) ∙ (widths c.args.system.now.columns c.args.system.now.rows c.args.list.now c.args.x.now c.requires c.args.limit (length c.loop-ray.terms.items)
     (record { times = c.loop-ray.times; terms = c.loop-ray.terms.items; rest = c.loop-ray.rest.items }) c.loop-ray.invariant.led c.loop-ray.ray-index c.loop-ray-test.true)
 
 pub take_ray-requires-clause-counts : goal.take_ray-requires-clause-counts
 take_ray-requires-clause-counts c k d l =
     let f = turn_fits c.args.system.now.columns c.args.system.now.rows c.args.list.now c.args.x.now c.args.limit c.loop-ray.times c.loop-ray.terms.items c.loop-ray.rest.items c.loop-ray.ray-index
     c.in-Some.fraction.numerator c.in-Some.fraction.denominator (turn_is c.args.system.now.columns c.args.system.now.rows c.args.list.now c.args.x.now c.args.limit c.loop-ray.times c.loop-ray.terms.items c.loop-ray.rest.items c.loop-ray.ray-index
-    c.in-Some.fraction.numerator c.in-Some.fraction.denominator _ _ _ c.requires.rays c.loop-ray.invariant.led c.loop-ray.invariant.none c.loop-ray-test.true c.ray-item.is
+    c.in-Some.fraction.numerator c.in-Some.fraction.denominator _ _ _ c.requires c.loop-ray.invariant.led c.loop-ray.invariant.none c.loop-ray-test.true c.ray-item.is
     c.entries.ensures.entries c.deref.ensures.value c.in-Some.ensures.inside c.in-Some.ensures.least) c.in_default-first_large.ensures.none in
-    let m = c.requires.most_limit in
     counts_fit c.loop-ray.terms.items _ c.in-Some.fraction.denominator c.args.limit 340282366920938463463374607431768211456 refl f.counts (omega arith) k d l
 
 pub take_ray-requires-clause-fits : goal.take_ray-requires-clause-fits
 take_ray-requires-clause-fits c column =
     let f = turn_fits c.args.system.now.columns c.args.system.now.rows c.args.list.now c.args.x.now c.args.limit c.loop-ray.times c.loop-ray.terms.items c.loop-ray.rest.items c.loop-ray.ray-index
     c.in-Some.fraction.numerator c.in-Some.fraction.denominator (turn_is c.args.system.now.columns c.args.system.now.rows c.args.list.now c.args.x.now c.args.limit c.loop-ray.times c.loop-ray.terms.items c.loop-ray.rest.items c.loop-ray.ray-index
-    c.in-Some.fraction.numerator c.in-Some.fraction.denominator _ _ _ c.requires.rays c.loop-ray.invariant.led c.loop-ray.invariant.none c.loop-ray-test.true c.ray-item.is
+    c.in-Some.fraction.numerator c.in-Some.fraction.denominator _ _ _ c.requires c.loop-ray.invariant.led c.loop-ray.invariant.none c.loop-ray-test.true c.ray-item.is
     c.entries.ensures.entries c.deref.ensures.value c.in-Some.ensures.inside c.in-Some.ensures.least) c.in_default-first_large.ensures.none in
     let l = f.rest column in
-    let m = c.requires.most_limit in
-    omega (arith, l, m)
+    omega (arith, l)
 
 pub take_ray-requires-clause-enough : goal.take_ray-requires-clause-enough
 take_ray-requires-clause-enough c column =
     let f = turn_fits c.args.system.now.columns c.args.system.now.rows c.args.list.now c.args.x.now c.args.limit c.loop-ray.times c.loop-ray.terms.items c.loop-ray.rest.items c.loop-ray.ray-index
     c.in-Some.fraction.numerator c.in-Some.fraction.denominator (turn_is c.args.system.now.columns c.args.system.now.rows c.args.list.now c.args.x.now c.args.limit c.loop-ray.times c.loop-ray.terms.items c.loop-ray.rest.items c.loop-ray.ray-index
-    c.in-Some.fraction.numerator c.in-Some.fraction.denominator _ _ _ c.requires.rays c.loop-ray.invariant.led c.loop-ray.invariant.none c.loop-ray-test.true c.ray-item.is
+    c.in-Some.fraction.numerator c.in-Some.fraction.denominator _ _ _ c.requires c.loop-ray.invariant.led c.loop-ray.invariant.none c.loop-ray-test.true c.ray-item.is
     c.entries.ensures.entries c.deref.ensures.value c.in-Some.ensures.inside c.in-Some.ensures.least) c.in_default-first_large.ensures.none in
     rw (at_place c.args.list.now c.loop-ray.ray-index _ _ c.loop-ray-test.true c.ray-item.is refl) (f.enough column)
 
@@ -68,11 +66,10 @@ pub overflow_mul-times : goal.overflow_mul-times
 overflow_mul-times c =
     let f = turn_fits c.args.system.now.columns c.args.system.now.rows c.args.list.now c.args.x.now c.args.limit c.loop-ray.times c.loop-ray.terms.items c.loop-ray.rest.items c.loop-ray.ray-index
     c.in-Some.fraction.numerator c.in-Some.fraction.denominator (turn_is c.args.system.now.columns c.args.system.now.rows c.args.list.now c.args.x.now c.args.limit c.loop-ray.times c.loop-ray.terms.items c.loop-ray.rest.items c.loop-ray.ray-index
-    c.in-Some.fraction.numerator c.in-Some.fraction.denominator _ _ _ c.requires.rays c.loop-ray.invariant.led c.loop-ray.invariant.none c.loop-ray-test.true c.ray-item.is
+    c.in-Some.fraction.numerator c.in-Some.fraction.denominator _ _ _ c.requires c.loop-ray.invariant.led c.loop-ray.invariant.none c.loop-ray-test.true c.ray-item.is
     c.entries.ensures.entries c.deref.ensures.value c.in-Some.ensures.inside c.in-Some.ensures.least) c.in_default-first_large.ensures.none in
     let l = f.times in
-    let m = c.requires.most_limit in
-    omega (arith, l, m)
+    omega (arith, l)
 
 pub loop-ray-preserved : goal.loop-ray-preserved
 loop-ray-preserved c = elim c.match-fraction_inside.branch [
@@ -81,7 +78,7 @@ loop-ray-preserved c = elim c.match-fraction_inside.branch [
       goes_on c.args.system.now.columns c.args.system.now.rows c.args.list.now c.args.x.now c.args.limit c.loop-ray.times c.loop-ray.terms.items c.loop-ray.rest.items c.loop-ray.ray-index
       w.in-Some.fraction.numerator w.in-Some.fraction.denominator
       (turn_is c.args.system.now.columns c.args.system.now.rows c.args.list.now c.args.x.now c.args.limit c.loop-ray.times c.loop-ray.terms.items c.loop-ray.rest.items c.loop-ray.ray-index
-      w.in-Some.fraction.numerator w.in-Some.fraction.denominator _ _ _ c.requires.rays c.loop-ray.invariant.led c.loop-ray.invariant.none c.loop-ray-test.true c.ray-item.is
+      w.in-Some.fraction.numerator w.in-Some.fraction.denominator _ _ _ c.requires c.loop-ray.invariant.led c.loop-ray.invariant.none c.loop-ray-test.true c.ray-item.is
       c.entries.ensures.entries c.deref.ensures.value w.in-Some.ensures.inside w.in-Some.ensures.least)
       _ _ _ w.in_default-first_large.ensures.none w.times-is
       (rw w.terms-is (w.in_ok-take_ray.ensures.terms ∙ ap (λ v. map (repeated w.in-Some.fraction.denominator) c.loop-ray.terms.items ++ record { count = w.in-Some.fraction.numerator; vector = v } ∷ []) at))
@@ -95,9 +92,9 @@ loop-ray-preserved c = elim c.match-fraction_inside.branch [
 
 pub returns-clause-ok : goal.returns-clause-ok
 returns-clause-ok c = ends c.args.system.now.columns c.args.system.now.rows c.args.list.now c.args.x.now c.args.limit c.loop-ray.times c.loop-ray.terms.items c.loop-ray.rest.items c.loop-ray.ray-index
-    c.requires.rays c.loop-ray.invariant.led c.loop-ray.invariant.none c.loop-ray-test.false
+    c.requires c.loop-ray.invariant.led c.loop-ray.invariant.none c.loop-ray-test.false
 
 pub returns-clause-right : goal.returns-clause-right
-returns-clause-right c = sum_is_right c.args.system.now.columns c.args.system.now.rows c.args.list.now c.args.x.now c.requires.rays c.args.limit c.loop-ray.times c.loop-ray.terms.items
+returns-clause-right c = sum_is_right c.args.system.now.columns c.args.system.now.rows c.args.list.now c.args.x.now c.requires c.args.limit c.loop-ray.times c.loop-ray.terms.items
     (ends c.args.system.now.columns c.args.system.now.rows c.args.list.now c.args.x.now c.args.limit c.loop-ray.times c.loop-ray.terms.items c.loop-ray.rest.items c.loop-ray.ray-index
-    c.requires.rays c.loop-ray.invariant.led c.loop-ray.invariant.none c.loop-ray-test.false)
+    c.requires c.loop-ray.invariant.led c.loop-ray.invariant.none c.loop-ray-test.false)
