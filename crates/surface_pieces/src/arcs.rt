@@ -8,9 +8,7 @@ ghost use Rattle.surface_pieces.specs.Arcs.{IsOnlyArcOf, HasNoArc};
 use crate::columns::{Corner, SurfaceArc, first_nonzero_of};
 use crate::counts::Piece;
 use crate::surface::Surface;
-use normal_discs::{
-    keeping, octagon_arcs, partner, quad_column, tet_of, triangle_column, type_of,
-};
+use normal_discs::{keeping, octagon_arcs, partner, quad_column, tet_of, triangle_column, type_of};
 
 /// The column of the arcs behind the triangles, and whether its pieces keep the vertex on the side of vertex 0.
 #[derive(Clone, Copy)]

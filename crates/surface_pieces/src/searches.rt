@@ -79,11 +79,7 @@ impl<'a> JoinedPieces<'a> {
     }
 
     /// What is joined to each number.
-    fn rows_of(
-        &self,
-        alloc: Global,
-        kind: SearchKind,
-    ) -> Result<Vec<[Option<u32>; 16]>, AllocError>
+    fn rows_of(&self, alloc: Global, kind: SearchKind) -> Result<Vec<[Option<u32>; 16]>, AllocError>
         ensures { IfOk result (λ rows. AreReadRows kind self.now.rows.now rows.items) }
     {
         let numbers = self.numbers(kind);

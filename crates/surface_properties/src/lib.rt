@@ -5,6 +5,7 @@ mod arcs;
 mod points;
 mod properties;
 mod sums;
+mod vectors;
 
 pub use properties::{is_linking, properties_of};
 pub use surface_vector_definitions::{Properties, PropertyFault, SurfaceSum as Sum};

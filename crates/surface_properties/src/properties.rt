@@ -3,15 +3,13 @@
 ghost use Rattle.std.specs.Prelude.{◌≡◌, ◌≢◌, ◌*◌, ◌<◌, ◌≤◌, true, false, length, slice_index, None, IsTrue, pos, ◌-ℤ◌};
 ghost use Rattle.table_definitions.specs.Table as gluings;
 ghost use Rattle.text_definitions.specs.Written.{limit};
-ghost use Rattle.table_definitions.specs.Table.{IsTable};
 ghost use Rattle.surface_definitions.specs.Coordinates.{columns, is_quad_or_octagon};
 ghost use Rattle.surface_definitions.specs.Characteristic as characteristic;
 ghost use Rattle.surface_vector_definitions.specs.Properties.{IsPropertyAnswer};
 
-use crate::arcs::{arcs, arcs_in};
-use crate::points::points;
 use crate::sums::{add, sum_of};
-use gluing_table::{Face, Table};
+use crate::vectors::DiscVector;
+use gluing_table::Face;
 use normal_discs::{DiscCoords, columns_each, triangles_each};
 use skeleton::Skeleton;
 use surface_definitions::Coords;
@@ -40,37 +38,34 @@ pub fn is_linking(coords: Coords, x: &[u128]) -> bool
     true
 }
 
-/// Whether a face is a boundary face with arcs.
-fn has_free_arcs(table: &Table, coords: DiscCoords, x: &[u128], face: Face) -> bool
-    requires table { IsTable table.now }
-    requires width { length x.now ≡ columns coords.system (length table.now) }
-    requires in_range { face.tet < length table.now }
-    requires a_face { face.face < 4 }
-    ensures some { IsTrue result → gluings.glue table.now face ≡ None × (0 < characteristic.arcs_in coords.system x.now face) }
-    ensures none { result ≡ false → gluings.glue table.now face ≡ None → characteristic.arcs_in coords.system x.now face ≡ 0 }
-{
-    match table.glue(face) {
-        None => arcs_in(coords, x, face) > 0,
-        Some(_) => false,
-    }
-}
-
-/// Whether a boundary face has an arc.
-fn meets_boundary(table: &Table, coords: DiscCoords, x: &[u128]) -> bool
-    requires table { IsTable table.now }
-    requires width { length x.now ≡ columns coords.system (length table.now) }
-    ensures { result ≡ characteristic.meets_boundary table.now coords.system x.now }
-{
-    for place in 0..4 * table.len() {
-        let face = Face {
-            tet: place / 4,
-            face: (place % 4) as u8,
-        };
-        if has_free_arcs(table, coords, x, face) {
-            return true;
+impl<'a> DiscVector<'a> {
+    /// Whether a face is a boundary face with arcs.
+    fn has_free_arcs(&self, face: Face) -> bool
+        requires { face.tet < length self.now.table.now }
+        ensures some { IsTrue result → gluings.glue self.now.table.now face ≡ None × (0 < characteristic.arcs_in self.now.coords.system self.now.entries.now face) }
+        ensures none { result ≡ false → gluings.glue self.now.table.now face ≡ None → characteristic.arcs_in self.now.coords.system self.now.entries.now face ≡ 0 }
+    {
+        match self.table.glue(face) {
+            None => self.arcs_in(face) > 0,
+            Some(_) => false,
         }
     }
-    false
+
+    /// Whether a boundary face has an arc.
+    fn meets_boundary(&self) -> bool
+        ensures { result ≡ characteristic.meets_boundary self.now.table.now self.now.coords.system self.now.entries.now }
+    {
+        for place in 0..4 * self.table.len() {
+            let face = Face {
+                tet: place / 4,
+                face: (place % 4) as u8,
+            };
+            if self.has_free_arcs(face) {
+                return true;
+            }
+        }
+        false
+    }
 }
 
 /// The Euler characteristic of so many points and pieces, and arcs.
@@ -94,15 +89,18 @@ pub fn properties_of(
     requires width { length x.now ≡ columns coords (length skeleton.now.rows) }
     ensures { IsPropertyAnswer limit skeleton.now coords x.now result }
 {
-    let coords = DiscCoords { system: coords };
-    let table = skeleton.table();
-    let points = points(skeleton, coords, x);
+    let vector = DiscVector {
+        table: skeleton.table(),
+        coords: DiscCoords { system: coords },
+        entries: x,
+    };
+    let points = vector.points(skeleton);
     if points > LIMIT {
         return Err(PropertyFault::Large {
             sum: SurfaceSum::Points,
         });
     }
-    let arcs = arcs(table, coords, x);
+    let arcs = vector.arcs();
     if arcs > LIMIT {
         return Err(PropertyFault::Large {
             sum: SurfaceSum::Arcs,
@@ -120,7 +118,7 @@ pub fn properties_of(
         arcs,
         pieces,
         euler: euler(both, arcs),
-        linking: is_linking(coords.system, x),
-        boundary: meets_boundary(table, coords, x),
+        linking: is_linking(coords, x),
+        boundary: vector.meets_boundary(),
     })
 }

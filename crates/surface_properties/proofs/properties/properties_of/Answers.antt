@@ -19,12 +19,12 @@ returns-then-points-gt-LIMIT c = large_points limit _ _ _ (large_is _ (subst (λ
 pub returns-then-arcs-gt-LIMIT : goal.returns-then-arcs-gt-LIMIT
 returns-then-arcs-gt-LIMIT c =
     large_arcs limit _ _ _ (small_is _ (subst (λ n. n ≤ limit) c.points-points.ensures c.if-points-gt-LIMIT.false))
-    (large_is _ (subst (λ n. limit < n) (c.arcs-arcs.ensures ∙ ap (λ (rs : List Row). capped (arcs rs c.args.coords c.args.x.now)) c.table-table.ensures.rows) c.if-arcs-gt-LIMIT.true))
+    (large_is _ (subst (λ n. limit < n) (c.arcs-arcs.ensures ∙ ap (λ (rs : List Row). capped (arcs rs c.args.coords c.args.x.now)) c.table.ensures.rows) c.if-arcs-gt-LIMIT.true))
 
 pub returns-then-both-gt-LIMIT : goal.returns-then-both-gt-LIMIT
 returns-then-both-gt-LIMIT c =
     large_both limit _ _ _ (small_is _ (subst (λ n. n ≤ limit) c.points-points.ensures c.if-points-gt-LIMIT.false))
-    (small_is _ (subst (λ n. n ≤ limit) (c.arcs-arcs.ensures ∙ ap (λ (rs : List Row). capped (arcs rs c.args.coords c.args.x.now)) c.table-table.ensures.rows) c.if-arcs-gt-LIMIT.false))
+    (small_is _ (subst (λ n. n ≤ limit) (c.arcs-arcs.ensures ∙ ap (λ (rs : List Row). capped (arcs rs c.args.coords c.args.x.now)) c.table.ensures.rows) c.if-arcs-gt-LIMIT.false))
     (large_is _ (subst (λ n. limit < n) (c.add-both.ensures ∙ capped_two _ _ c.points-points.result c.sum_of-pieces.result c.points-points.ensures c.sum_of-pieces.ensures) c.if-both-gt-LIMIT.true))
 
 pub returns : goal.returns
@@ -36,7 +36,7 @@ returns c = (
     pieces = q;
     euler = to_z-of_z w128 c.euler.result whole ∙ c.euler.ensures ∙ ap (λ n. pos n -ℤ pos c.arcs-arcs.result) both;
     linking = c.is_linking.ensures;
-    boundary = c.meets_boundary.ensures ∙ ap (λ (rs : List Row). meets_boundary rs c.args.coords c.args.x.now) c.table-table.ensures.rows;
+    boundary = c.meets_boundary.ensures ∙ ap (λ (rs : List Row). meets_boundary rs c.args.coords c.args.x.now) c.table.ensures.rows;
   },
 )
   where
@@ -50,7 +50,7 @@ returns c = (
     Q = sum c.args.x.now
 
     arcs_there : c.arcs-arcs.result ≡ capped A
-    arcs_there = c.arcs-arcs.ensures ∙ ap (λ (rs : List Row). capped (arcs rs c.args.coords c.args.x.now)) c.table-table.ensures.rows
+    arcs_there = c.arcs-arcs.ensures ∙ ap (λ (rs : List Row). capped (arcs rs c.args.coords c.args.x.now)) c.table.ensures.rows
 
     both_there : c.add-both.result ≡ capped (P + Q)
     both_there = c.add-both.ensures ∙ capped_two P Q c.points-points.result c.sum_of-pieces.result c.points-points.ensures c.sum_of-pieces.ensures
