@@ -6,7 +6,7 @@ ghost use Rattle.table_definitions.specs.Permutation.{IsPermutationOfFour, image
 ghost use Rattle.certificate_definitions.specs.CarriedMoves as carried;
 
 use gluing_table::Relabelling;
-use pachner_moves::{Core, Move};
+use pachner_moves::{Core, Label, Move};
 use perm_four::Perm4;
 
 /// The bit of the vertex to which a vertex goes, where it is one of the core.
@@ -45,16 +45,17 @@ pub fn move_under(on: &Relabelling, m: Move) -> Move
 }
 
 /// The label, in the move that stands for m, of the vertex to which the one with a label goes; label 4 stays.
-pub fn label_under(on: &Relabelling, m: Move, label: u8) -> u8
-    requires in_range { m.tet < length on.now.images }
-    requires a_label { label < 5 }
-    ensures value { result ≡ carried.label_under on.now m label }
-    ensures a_label { result < 5 }
+pub fn label_under(on: &Relabelling, m: Move, label: Label) -> Label
+    requires { m.tet < length on.now.images }
+    ensures { result.number ≡ carried.label_under on.now m label.number }
 {
-    if label == 4 {
-        return 4;
+    if label.number == 4 {
+        return Label { number: 4 };
     }
     let perm = on.perm(m.tet);
     let labels = core_under(perm, m.core).labels();
-    labels.image(perm.image(m.core.labels().preimage(label)))
+    let vertex = m.core.labels().preimage(label.number);
+    Label {
+        number: labels.image(perm.image(vertex)),
+    }
 }

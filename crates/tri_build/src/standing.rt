@@ -1,14 +1,13 @@
 //! What stands for a tetrahedron of the table before a step, once the move back is played.
 
-ghost use Rattle.std.specs.Prelude.{◌≡◌, ◌<◌, ◌≤◌, ◌==◌, length, not, filter, slice_index, All};
-ghost use Rattle.table_definitions.specs.Table.{max_tets};
+ghost use Rattle.std.specs.Prelude.{◌≡◌, ◌<◌, ◌==◌, length, not, filter, slice_index};
 ghost use Rattle.table_definitions.specs.Lists.{below};
 ghost use Rattle.table_definitions.specs.Permutation.{preimage};
 ghost use Rattle.tri_build.specs.Standing.{CanStand, CanStandAt, number_without, put_in, retained_stands, facet_stands, stands_at};
 
 use crate::steps::PlayedMove;
 use gluing_table::{Glue, Relabelling};
-use pachner_moves::{Facet, Move, Pattern, closed_number, facet_of};
+use pachner_moves::{Facet, Label, Move, Pattern, closed_number, facet_of};
 use perm_four::Perm4;
 use std::marker::Model;
 
@@ -23,19 +22,33 @@ pub struct Back {
 }
 
 impl Model for Back {
+    ghost use Rattle.std.specs.Prelude.{◌<◌, ◌≤◌, All};
+    ghost use Rattle.table_definitions.specs.Table.{max_tets};
     ghost use Rattle.tri_build.specs.Standing as standing;
 
     ghost Value = { standing.Back };
 
     ghost view = { λ b. record { played = b.played; kept = b.kept; facets = b.pattern.facets.items; labels = b.labels } };
+
+    ghost invariant = { λ b. (b.kept ≤ max_tets) × All (λ l. l < 5) b.labels };
+}
+
+impl Back {
+    /// The label to which a label of the step corresponds.
+    fn label_of(&self, label: Label) -> Label
+        ensures { result.number ≡ slice_index self.now.labels label.number }
+    {
+        Label {
+            number: self.labels[label.number as usize],
+        }
+    }
 }
 
 /// The vertex with a label of the facet that lacks one, or 4.
-fn vertex_without(missing: u8, label: u8) -> u8
-    requires missing { missing < 5 }
-    requires a_label { label < 5 }
-    ensures { result ≡ preimage (filter (λ l. not (l == missing)) (below 5)) label }
+fn vertex_without(missing: Label, label: Label) -> u8
+    ensures { result ≡ preimage (filter (λ l. not (l == missing.number)) (below 5)) label.number }
 {
+    let (missing, label) = (missing.number, label.number);
     if label == missing {
         return 4;
     }
@@ -55,31 +68,27 @@ fn retained_stands(step: &PlayedMove, back: &Back, on: &Relabelling, tet: u32) -
 }
 
 /// The vertex, of the facet that is put in for the label that corresponds to `missing`, to which the one with a label goes.
-fn vertex_back(labels: &[u8; 5], missing: u8, label: u8) -> u8
-    requires missing { missing < 5 }
-    requires a_label { label < 5 }
-    requires labels { All (λ l. l < 5) labels.now }
-    ensures { result ≡ preimage (put_in 0 (slice_index labels.now missing)).labels (slice_index labels.now label) }
+fn vertex_back(back: &Back, missing: Label, label: Label) -> u8
+    ensures { result ≡ preimage (put_in 0 (slice_index back.now.labels missing.number)).labels (slice_index back.now.labels label.number) }
 {
-    vertex_without(labels[missing as usize], labels[label as usize])
+    vertex_without(back.label_of(missing), back.label_of(label))
 }
 
 /// What stands for a facet that the step took out.
 fn facet_stands(back: &Back, f: Facet) -> Glue
-    requires can { CanStand back.now f }
-    requires labels { All (λ l. l < 5) back.now.labels }
-    requires few { back.now.kept ≤ max_tets }
+    requires { CanStand back.now f }
     ensures { result ≡ facet_stands back.now f }
 {
+    let missing = Label { number: f.missing };
     let [a, b, c, d] = f.labels;
     match Perm4::new(
-        vertex_back(&back.labels, f.missing, a),
-        vertex_back(&back.labels, f.missing, b),
-        vertex_back(&back.labels, f.missing, c),
-        vertex_back(&back.labels, f.missing, d),
+        vertex_back(back, missing, Label { number: a }),
+        vertex_back(back, missing, Label { number: b }),
+        vertex_back(back, missing, Label { number: c }),
+        vertex_back(back, missing, Label { number: d }),
     ) {
         Some(perm) => Glue {
-            tet: back.kept + u32::from(back.labels[f.missing as usize]),
+            tet: back.kept + u32::from(back.label_of(missing).number),
             perm,
         },
         None => unreachable!(),
@@ -88,9 +97,7 @@ fn facet_stands(back: &Back, f: Facet) -> Glue
 
 /// What stands for a tetrahedron.
 pub fn stands_at(step: &PlayedMove, back: &Back, on: &Relabelling, tet: u32) -> Glue
-    requires can { CanStandAt step.now back.now on.now tet }
-    requires labels { All (λ l. l < 5) back.now.labels }
-    requires few { back.now.kept ≤ max_tets }
+    requires { CanStandAt step.now back.now on.now tet }
     ensures { result ≡ stands_at step.now back.now on.now tet }
 {
     match facet_of(&step.facets, tet) {

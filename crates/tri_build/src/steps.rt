@@ -24,11 +24,15 @@ pub struct PlayedMove {
 }
 
 impl Model for PlayedMove {
+    ghost use Rattle.std.specs.Prelude.{◌≤◌};
+    ghost use Rattle.table_definitions.specs.Table.{max_tets};
     ghost use Rattle.tri_build.specs.Steps as steps;
 
     ghost Value = { steps.PlayedMove };
 
     ghost view = { λ s. record { played = s.played; tets = s.tets; facets = s.facets.items } };
+
+    ghost invariant = { λ s. s.tets ≤ max_tets };
 }
 
 impl PlayedMove {

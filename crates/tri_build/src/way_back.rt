@@ -1,7 +1,7 @@
 //! The way back from a table that was made: for each step its inverse, carried to the table to which the later ones led.
 
-ghost use Rattle.std.specs.Prelude.{◌≡◌, ◌<◌, ◌≤◌, List, [], All, IfOk, OnOk};
-ghost use Rattle.table_definitions.specs.Table.{max_tets, Row};
+ghost use Rattle.std.specs.Prelude.{◌≡◌, List, [], length, IfOk, OnOk};
+ghost use Rattle.table_definitions.specs.Table.{Row};
 ghost use Rattle.table_definitions.specs.Permutation.{identity};
 ghost use Rattle.table_definitions.specs.Relabelling as labels;
 ghost use Rattle.certificate_definitions.specs.CarriedBack as ways;
@@ -26,10 +26,7 @@ fn carry_back(
     back: &Back,
     on: &Relabelling,
 ) -> Result<Relabelling, NoMemory>
-    requires some { (by : labels.Relabelling) × StandsFor step.now back.now on.now by }
-    requires few { step.now.tets ≤ max_tets }
-    requires labels { All (λ l. l < 5) back.now.labels }
-    requires kept { back.now.kept ≤ max_tets }
+    requires { (by : labels.Relabelling) × StandsFor step.now back.now on.now by }
     ensures { IfOk result (λ r. (by : labels.Relabelling) → StandsFor step.now back.now on.now by → r ≡ by) }
 {
     let mut images = Vec::new(alloc);
@@ -45,9 +42,7 @@ fn carry_back(
 /// The move back of a step, with what it takes out.
 fn back_of(step: &PlayedMove, now: &Table, on: &Relabelling) -> Back
     requires { CanGoBack step.now now.now on.now }
-    ensures back { IsBack step.now now.now on.now result }
-    ensures labels { All (λ l. l < 5) result.labels }
-    ensures few { result.kept ≤ max_tets }
+    ensures { IsBack step.now now.now on.now result }
 {
     let played = move_under(on, step.inverse());
     match legal(now, played) {
@@ -89,14 +84,13 @@ impl WayBack {
     }
 }
 
-/// The relabelling by which each of so many tetrahedra stays.
-fn staying(alloc: Global, count: u32) -> Result<Relabelling, NoMemory>
-    requires { count ≤ max_tets }
-    ensures { IfOk result (λ by. by ≡ ways.staying count) }
+/// The relabelling by which each tetrahedron of a table stays.
+fn staying(alloc: Global, table: &Table) -> Result<Relabelling, NoMemory>
+    ensures { IfOk result (λ by. by ≡ ways.staying (length table.now)) }
 {
     let mut images = Vec::new(alloc);
     let mut perms = Vec::new(alloc);
-    for tet in 0..count {
+    for tet in 0..table.len() {
         images.push(tet)?;
         perms.push(Perm4::identity())?;
     }
@@ -114,7 +108,7 @@ pub fn way_back(
 {
     let mut way = WayBack {
         now: table.copy(alloc)?,
-        on: staying(alloc, table.len())?,
+        on: staying(alloc, table)?,
         moves: Vec::new(alloc),
     };
     while let Some(step) = steps.pop() {

@@ -4,10 +4,10 @@ use Rattle.tri_build.specs.Steps.{PlayedMove}
 use Rattle.tri_build.proofs.Found.{as_found}
 use Rattle.tri_build.proofs.standing.stands_at.Goals as goal
 
-pub facet_stands-requires-clause-can : goal.facet_stands-requires-clause-can
-facet_stands-requires-clause-can c =
-    as_found c.args.step.now c.args.back.now c.args.on.now c.args.tet c.deref.result.now (Some c.in-Some.facet) (c.deref.ensures.0 ∙ ap (λ (s : PlayedMove). s.facets) c.step.view_is) c.in-Some.ensures c.requires.can
+pub facet_stands-requires : goal.facet_stands-requires
+facet_stands-requires c =
+    as_found c.args.step.now c.args.back.now c.args.on.now c.args.tet c.deref.result.now (Some c.in-Some.facet) (c.deref.ensures.0 ∙ ap (λ (s : PlayedMove). s.facets) c.step.view_is) c.in-Some.ensures c.requires
 
 pub retained_stands-requires : goal.retained_stands-requires
 retained_stands-requires c =
-    as_found c.args.step.now c.args.back.now c.args.on.now c.args.tet c.deref.result.now None (c.deref.ensures.0 ∙ ap (λ (s : PlayedMove). s.facets) c.step.view_is) c.in-None.ensures c.requires.can
+    as_found c.args.step.now c.args.back.now c.args.on.now c.args.tet c.deref.result.now None (c.deref.ensures.0 ∙ ap (λ (s : PlayedMove). s.facets) c.step.view_is) c.in-None.ensures c.requires

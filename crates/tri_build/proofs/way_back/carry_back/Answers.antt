@@ -16,10 +16,10 @@ loop-tet-preserved c =
 
 pub from_sound-requires : goal.from_sound-requires
 from_sound-requires c =
-    let s = c.requires.some.1 in
+    let s = c.requires.1 in
     let end : c.loop-tet.tet ≡ c.args.step.now.tets = omega (arith, ap (λ (x : PlayedMove). x.tets) c.step.view_is) in
-    is_one c.args.step.now.tets c.requires.some.0 c.loop-tet.images.items c.loop-tet.perms.items s.relabels
-    (filled_in c.args.step.now c.args.back.now c.args.on.now c.requires.some.0 c.loop-tet.tet c.loop-tet.images.items c.loop-tet.perms.items s end c.loop-tet.invariant.0 c.loop-tet.invariant.1)
+    is_one c.args.step.now.tets c.requires.0 c.loop-tet.images.items c.loop-tet.perms.items s.relabels
+    (filled_in c.args.step.now c.args.back.now c.args.on.now c.requires.0 c.loop-tet.tet c.loop-tet.images.items c.loop-tet.perms.items s end c.loop-tet.invariant.0 c.loop-tet.invariant.1)
 
 pub returns : goal.returns
 returns c =

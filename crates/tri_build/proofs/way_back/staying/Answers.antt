@@ -1,5 +1,5 @@
 -- Each tetrahedron stays.
-use Rattle.std.proofs.Common.{◌≡◌, ◌∙◌, arith}
+use Rattle.std.proofs.Common.{◌≡◌, ◌∙◌, length, arith}
 use Rattle.table_definitions.specs.Permutation.{identity}
 use Rattle.certificate_definitions.specs.CarriedBack.{staying}
 use Rattle.certificate_laws.proofs.CarriedWays.{staying_relabels}
@@ -14,12 +14,12 @@ loop-tet-preserved c = (
 
 pub from_sound-requires : goal.from_sound-requires
 from_sound-requires c =
-    let end : c.loop-tet.tet ≡ c.args.count = omega arith in
-    is_one c.args.count (staying c.args.count) c.loop-tet.images.items c.loop-tet.perms.items (staying_relabels c.args.count)
-    (all_stay c.args.count c.loop-tet.tet c.loop-tet.images.items c.loop-tet.perms.items end c.loop-tet.invariant.0 c.loop-tet.invariant.1)
+    let end : c.loop-tet.tet ≡ length c.args.table.now = omega (arith, c.len-tet-end.ensures.value) in
+    is_one (length c.args.table.now) (staying (length c.args.table.now)) c.loop-tet.images.items c.loop-tet.perms.items (staying_relabels (length c.args.table.now))
+    (all_stay (length c.args.table.now) c.loop-tet.tet c.loop-tet.images.items c.loop-tet.perms.items end c.loop-tet.invariant.0 c.loop-tet.invariant.1)
 
 pub returns : goal.returns
 returns c =
-    let end : c.loop-tet.tet ≡ c.args.count = omega arith in
+    let end : c.loop-tet.tet ≡ length c.args.table.now = omega (arith, c.len-tet-end.ensures.value) in
     c.from_sound.ensures
-    ∙ all_stay c.args.count c.loop-tet.tet c.loop-tet.images.items c.loop-tet.perms.items end c.loop-tet.invariant.0 c.loop-tet.invariant.1
+    ∙ all_stay (length c.args.table.now) c.loop-tet.tet c.loop-tet.images.items c.loop-tet.perms.items end c.loop-tet.invariant.0 c.loop-tet.invariant.1

@@ -1,11 +1,11 @@
 -- The way back goes from the last step to the first.
-use Rattle.std.proofs.Common.{◌≡◌, length, arith}
+use Rattle.std.proofs.Common.{◌≡◌, length, refl, arith}
 use Rattle.tri_build.proofs.Ways.{begun_as, next_as, no_items, arrived}
 use Rattle.tri_build.proofs.way_back.way_back.Goals as goal
 
 pub loop-step-init : goal.loop-step-init
 loop-step-init c = λ first steps.
-    begun_as first c.args.steps.items c.args.table.now c.in_ok-copy.field-0 c.len.result c.in_ok-staying.field-0 c.new.result.items c.in_ok-copy.ensures.is_table c.in_ok-copy.ensures.same c.len.ensures.value c.in_ok-staying.ensures c.new.ensures.items steps
+    begun_as first c.args.steps.items c.args.table.now c.in_ok-copy.field-0 (length c.args.table.now) c.in_ok-staying.field-0 c.new.result.items c.in_ok-copy.ensures.is_table c.in_ok-copy.ensures.same refl c.in_ok-staying.ensures c.new.ensures.items steps
 
 pub go_back-requires : goal.go_back-requires
 go_back-requires c =
