@@ -11,7 +11,7 @@ ghost use Rattle.cover_definitions.specs.Cover as definition;
 
 use crate::images::{by_images, exchange_images, split_images};
 use crate::rows::cover_table;
-use crate::sheets;
+use crate::sheets::Sheets;
 use cover_definitions::LargeCover;
 use gluing_table::{MAX_TETS, Relabelling, Table};
 use no_memory::{Failure, NoMemory};
@@ -94,7 +94,10 @@ impl Cover {
         ensures value { result ≡ definition.over (length self.now) tet }
         ensures in_range { result < length self.now }
     {
-        sheets::over(self.base.len(), tet)
+        let sheets = Sheets {
+            tets: self.base.len(),
+        };
+        sheets.over(tet)
     }
 
     /// The sheet, 0 or 1, on which a tetrahedron of the cover lies.
@@ -103,7 +106,10 @@ impl Cover {
         ensures value { result ≡ definition.sheet (length self.now) tet }
         ensures two { result ≤ 1 }
     {
-        sheets::sheet(self.base.len(), tet)
+        let sheets = Sheets {
+            tets: self.base.len(),
+        };
+        sheets.sheet(tet).number
     }
 
     /// The exchange of the sheets, which keeps all vertices and carries the cover to itself.
@@ -112,7 +118,10 @@ impl Cover {
         ensures exchange { IfOk result (λ by. by ≡ definition.exchange (length self.now)) }
         ensures carries { IfOk result (λ by. Carries by (definition.cover self.now) (definition.cover self.now)) }
     {
-        let images = exchange_images(alloc, self.base.len())?;
+        let sheets = Sheets {
+            tets: self.base.len(),
+        };
+        let images = exchange_images(alloc, sheets)?;
         let by = by_images(alloc, images)?;
         Ok(by)
     }
@@ -128,7 +137,10 @@ impl Cover {
         let Some(signs) = &self.signs else {
             return Ok(None);
         };
-        let images = split_images(alloc, self.base.len(), signs)?;
+        let sheets = Sheets {
+            tets: self.base.len(),
+        };
+        let images = split_images(alloc, sheets, signs)?;
         let by = by_images(alloc, images)?;
         Ok(Some(by))
     }

@@ -1,55 +1,51 @@
 //! Relabellings of the cover that keep all vertices.
 
-ghost use Rattle.std.specs.Prelude.{◌≡◌, ◌*◌, ◌<◌, ◌≤◌, length, map, replicate, IfOk};
-ghost use Rattle.table_definitions.specs.Table.{max_tets};
+ghost use Rattle.std.specs.Prelude.{◌≡◌, ◌*◌, ◌<◌, length, map, replicate, IfOk};
 ghost use Rattle.table_definitions.specs.Lists.{below};
 ghost use Rattle.table_definitions.specs.Permutation.{identity};
 ghost use Rattle.table_definitions.specs.Relabelling.{IsRelabelling};
 ghost use Rattle.cover_definitions.specs.Cover as definition;
 
-use crate::sheets::{above, other_sheet, over, sheet};
+use crate::sheets::{Sheet, Sheets};
 use gluing_table::Relabelling;
 use perm_four::Perm4;
 use std::alloc::{AllocError, Global};
 
 /// Where each tetrahedron goes by the exchange.
-pub fn exchange_images(alloc: Global, tets: u32) -> Result<Vec<u32>, AllocError>
-    requires { tets ≤ max_tets }
-    ensures { IfOk result (λ images. images.items ≡ map (λ u. definition.above tets (definition.over tets u) (definition.other_sheet (definition.sheet tets u))) (below (2 * tets))) }
+pub fn exchange_images(alloc: Global, sheets: Sheets) -> Result<Vec<u32>, AllocError>
+    ensures { IfOk result (λ images. images.items ≡ map (λ u. definition.above sheets.tets (definition.over sheets.tets u) (definition.other_sheet (definition.sheet sheets.tets u))) (below (2 * sheets.tets))) }
 {
-    let mut images = Vec::with_capacity(alloc, 2 * tets as usize)?;
-    for tet in 0..2 * tets {
-        let there = other_sheet(sheet(tets, tet));
-        images.push(above(tets, over(tets, tet), there))?;
+    let mut images = Vec::with_capacity(alloc, 2 * sheets.tets as usize)?;
+    for tet in 0..2 * sheets.tets {
+        let there = sheets.sheet(tet).other();
+        images.push(sheets.above(sheets.over(tet), there))?;
     }
     Ok(images)
 }
 
 /// The copy of the table to which a tetrahedron goes by the split.
-fn copy_of(tets: u32, signs: &[bool], tet: u32) -> u8
-    requires one_each { length signs.now ≡ tets }
-    requires in_range { tet < 2 * tets }
-    ensures value { result ≡ definition.copy_of tets signs.now tet }
-    ensures two { result ≤ 1 }
+fn copy_of(sheets: Sheets, signs: &[bool], tet: u32) -> Sheet
+    requires one_each { length signs.now ≡ sheets.tets }
+    requires in_range { tet < 2 * sheets.tets }
+    ensures { result.number ≡ definition.copy_of sheets.tets signs.now tet }
 {
-    let sheet = sheet(tets, tet);
-    if signs[over(tets, tet) as usize] {
+    let sheet = sheets.sheet(tet);
+    if signs[sheets.over(tet) as usize] {
         sheet
     } else {
-        other_sheet(sheet)
+        sheet.other()
     }
 }
 
 /// Where each tetrahedron goes by the split.
-pub fn split_images(alloc: Global, tets: u32, signs: &[bool]) -> Result<Vec<u32>, AllocError>
-    requires few { tets ≤ max_tets }
-    requires one_each { length signs.now ≡ tets }
-    ensures { IfOk result (λ images. images.items ≡ map (λ u. definition.above tets (definition.over tets u) (definition.copy_of tets signs.now u)) (below (2 * tets))) }
+pub fn split_images(alloc: Global, sheets: Sheets, signs: &[bool]) -> Result<Vec<u32>, AllocError>
+    requires { length signs.now ≡ sheets.tets }
+    ensures { IfOk result (λ images. images.items ≡ map (λ u. definition.above sheets.tets (definition.over sheets.tets u) (definition.copy_of sheets.tets signs.now u)) (below (2 * sheets.tets))) }
 {
-    let mut images = Vec::with_capacity(alloc, 2 * tets as usize)?;
-    for tet in 0..2 * tets {
-        let copy = copy_of(tets, signs, tet);
-        images.push(above(tets, over(tets, tet), copy))?;
+    let mut images = Vec::with_capacity(alloc, 2 * sheets.tets as usize)?;
+    for tet in 0..2 * sheets.tets {
+        let copy = copy_of(sheets, signs, tet);
+        images.push(sheets.above(sheets.over(tet), copy))?;
     }
     Ok(images)
 }

@@ -5,59 +5,53 @@ ghost use Rattle.table_definitions.specs.Table as gluings;
 ghost use Rattle.table_definitions.specs.Table.{max_tets, IsTable};
 ghost use Rattle.cover_definitions.specs.Cover as definition;
 
-use crate::sheets::{above, other_sheet, over, sheet};
+use crate::sheets::{Sheet, Sheets};
 use gluing_table::{Face, Glue, Row, Table};
 use no_memory::NoMemory;
 use std::alloc::{AllocError, Global};
 
 /// The sheet behind a gluing: the same one across an odd gluing, and the other across an even one.
-fn sheet_behind(glue: Glue, sheet: u8) -> u8
-    requires { sheet ≤ 1 }
-    ensures value { result ≡ definition.sheet_behind glue sheet }
-    ensures two { result ≤ 1 }
+fn sheet_behind(glue: Glue, sheet: Sheet) -> Sheet
+    ensures { result.number ≡ definition.sheet_behind glue sheet.number }
 {
     if glue.perm.is_odd() {
         sheet
     } else {
-        other_sheet(sheet)
+        sheet.other()
     }
 }
 
 /// The gluing of the cover over a gluing that leaves a tetrahedron on a sheet.
-fn lift_glue(tets: u32, sheet: u8, glue: Glue) -> Glue
-    requires few { tets ≤ max_tets }
-    requires two { sheet ≤ 1 }
-    requires in_range { glue.tet < tets }
-    ensures { result ≡ definition.lifted tets sheet glue }
+fn lift_glue(sheets: Sheets, sheet: Sheet, glue: Glue) -> Glue
+    requires { glue.tet < sheets.tets }
+    ensures { result ≡ definition.lifted sheets.tets sheet.number glue }
 {
     Glue {
-        tet: above(tets, glue.tet, sheet_behind(glue, sheet)),
+        tet: sheets.above(glue.tet, sheet_behind(glue, sheet)),
         perm: glue.perm,
     }
 }
 
 /// What a face of the cover is glued to.
 fn cover_glue(table: &Table, face: Face) -> Option<Glue>
-    requires table { IsTable table.now }
-    requires in_range { face.tet < 2 * length table.now }
-    requires a_face { face.face < 4 }
-    ensures { result ≡ option_map (definition.lifted (length table.now) (definition.sheet (length table.now) face.tet)) (gluings.glue table.now (definition.face_below (length table.now) face)) }
+    requires { face.tet < 2 * length table.now }
+    ensures value { result ≡ option_map (definition.lifted (length table.now) (definition.sheet (length table.now) face.tet)) (gluings.glue table.now (definition.face_below (length table.now) face)) }
+    ensures is_table { IsTable table.now }
 {
-    let tets = table.len();
+    let sheets = Sheets { tets: table.len() };
     let below = Face {
-        tet: over(tets, face.tet),
+        tet: sheets.over(face.tet),
         face: face.face,
     };
     match table.glue(below) {
-        Some(glue) => Some(lift_glue(tets, sheet(tets, face.tet), glue)),
+        Some(glue) => Some(lift_glue(sheets, sheets.sheet(face.tet), glue)),
         None => None,
     }
 }
 
 /// The row of a tetrahedron of the cover.
 fn cover_row(table: &Table, tet: u32) -> Row
-    requires table { IsTable table.now }
-    requires in_range { tet < 2 * length table.now }
+    requires { tet < 2 * length table.now }
     ensures { result ≡ definition.cover_row table.now tet }
 {
     [
@@ -70,8 +64,8 @@ fn cover_row(table: &Table, tet: u32) -> Row
 
 /// The rows of the cover.
 fn cover_rows(alloc: Global, table: &Table) -> Result<Vec<Row>, AllocError>
-    requires { IsTable table.now }
-    ensures { IfOk result (λ rows. rows.items ≡ definition.cover table.now) }
+    ensures rows { IfOk result (λ rows. rows.items ≡ definition.cover table.now) }
+    ensures is_table { IsTable table.now }
 {
     let count = 2 * table.len();
     let mut rows = Vec::with_capacity(alloc, count as usize)?;
@@ -83,8 +77,7 @@ fn cover_rows(alloc: Global, table: &Table) -> Result<Vec<Row>, AllocError>
 
 /// The cover of a table whose cover is small enough.
 pub fn cover_table(alloc: Global, table: &Table) -> Result<Table, NoMemory>
-    requires table { IsTable table.now }
-    requires few { 2 * length table.now ≤ max_tets }
+    requires { 2 * length table.now ≤ max_tets }
     ensures { IfOk result (λ cover. cover ≡ definition.cover table.now) }
 {
     let rows = cover_rows(alloc, table)?;

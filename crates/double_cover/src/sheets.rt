@@ -4,35 +4,63 @@ ghost use Rattle.std.specs.Prelude.{◌≡◌, ◌+◌, ◌<◌, ◌≤◌};
 ghost use Rattle.table_definitions.specs.Table.{max_tets};
 ghost use Rattle.cover_definitions.specs.Cover as definition;
 
-/// The tetrahedron below one of the cover of so many tetrahedra.
-pub fn over(tets: u32, tet: u32) -> u32
-    ensures { result ≡ definition.over tets tet }
-{
-    if tet < tets { tet } else { tet - tets }
+/// A sheet, 0 or 1.
+#[derive(Clone, Copy)]
+pub struct Sheet {
+    pub number: u8,
+    pub ghost two: { number ≤ 1 },
 }
 
-/// The sheet of one of the cover of so many tetrahedra.
-pub fn sheet(tets: u32, tet: u32) -> u8
-    ensures value { result ≡ definition.sheet tets tet }
-    ensures two { result ≤ 1 }
-{
-    if tet < tets { 0 } else { 1 }
+impl Sheet {
+    /// The other sheet.
+    pub fn other(self) -> Sheet
+        ensures { result.number ≡ definition.other_sheet self.number }
+    {
+        Sheet {
+            number: 1 - self.number,
+        }
+    }
 }
 
-/// The tetrahedron of the cover that lies over this one on a sheet.
-pub fn above(tets: u32, tet: u32, sheet: u8) -> u32
-    requires few { tets ≤ max_tets }
-    requires in_range { tet < tets }
-    ensures { result ≡ definition.above tets tet sheet }
-{
-    if sheet == 0 { tet } else { tets + tet }
+/// The cover of a table of so many tetrahedra.
+#[derive(Clone, Copy)]
+pub struct Sheets {
+    pub tets: u32,
+    pub ghost few: { tets ≤ max_tets },
 }
 
-/// The other sheet.
-pub fn other_sheet(sheet: u8) -> u8
-    requires { sheet ≤ 1 }
-    ensures value { result ≡ definition.other_sheet sheet }
-    ensures two { result ≤ 1 }
-{
-    1 - sheet
+impl Sheets {
+    /// The tetrahedron below one of the cover.
+    pub fn over(self, tet: u32) -> u32
+        ensures { result ≡ definition.over self.tets tet }
+    {
+        if tet < self.tets {
+            tet
+        } else {
+            tet - self.tets
+        }
+    }
+
+    /// The sheet of one of the cover.
+    pub fn sheet(self, tet: u32) -> Sheet
+        ensures { result.number ≡ definition.sheet self.tets tet }
+    {
+        if tet < self.tets {
+            Sheet { number: 0 }
+        } else {
+            Sheet { number: 1 }
+        }
+    }
+
+    /// The tetrahedron of the cover that lies over this one on a sheet.
+    pub fn above(self, tet: u32, sheet: Sheet) -> u32
+        requires { tet < self.tets }
+        ensures { result ≡ definition.above self.tets tet sheet.number }
+    {
+        if sheet.number == 0 {
+            tet
+        } else {
+            self.tets + tet
+        }
+    }
 }

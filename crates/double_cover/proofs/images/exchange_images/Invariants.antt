@@ -5,4 +5,4 @@ use Rattle.cover_definitions.specs.Cover.{above, over, other_sheet, sheet}
 use Rattle.double_cover.proofs.images.exchange_images.Given as goal
 
 abbrev pub invariant-loop-tet : goal.invariant-loop-tet
-invariant-loop-tet l = l.images.items ≡ map (λ u. above l.fn.tets (over l.fn.tets u) (other_sheet (sheet l.fn.tets u))) (below l.tet)
+invariant-loop-tet l = l.images.items ≡ map (λ u. above l.fn.sheets.tets (over l.fn.sheets.tets u) (other_sheet (sheet l.fn.sheets.tets u))) (below l.tet)

@@ -5,4 +5,4 @@ use Rattle.cover_laws.proofs.Covered.{cover_is_table}
 use Rattle.double_cover.proofs.rows.cover_table.Goals as goal
 
 pub from_sound_rows-requires : goal.from_sound_rows-requires
-from_sound_rows-requires c = subst IsTable (sym c.in_ok-rows.ensures) (cover_is_table c.args.table.now c.requires.table c.requires.few)
+from_sound_rows-requires c = subst IsTable (sym c.in_ok-rows.ensures.rows) (cover_is_table c.args.table.now c.in_ok-rows.ensures.is_table c.requires)
