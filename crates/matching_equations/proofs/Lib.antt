@@ -1,4 +1,3 @@
 pub mod Terms
 pub mod Matched
-pub mod Images
 pub mod ClassRows

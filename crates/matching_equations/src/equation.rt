@@ -10,6 +10,15 @@ use no_memory::NoMemory;
 use smallvec::SmallVec;
 use std::alloc::Global;
 
+/// The columns whose sums are equal, those of each side few.
+#[derive(Clone, Copy)]
+pub struct Sides<'a> {
+    pub left: &'a [u32],
+    pub right: &'a [u32],
+    pub ghost left_few: { length left.now ≤ 1000000 },
+    pub ghost right_few: { length right.now ≤ 1000000 },
+}
+
 /// How often a column stands in a list.
 fn times_in(columns: &[u32], column: u32) -> u32
     requires { length columns.now ≤ 1000000 }
@@ -44,16 +53,13 @@ fn next_column(columns: &[u32], from: u32, end: u32) -> u32
 /// Appends the term of a column, where its coefficient isn't 0.
 fn push_term(
     terms: &mut SmallVec<(u32, i32), 8>,
-    left: &[u32],
-    right: &[u32],
+    sides: Sides<'_>,
     column: u32,
 ) -> Result<(), NoMemory>
-    requires left { length left.now ≤ 1000000 }
-    requires right { length right.now ≤ 1000000 }
-    ensures { OnOk result (terms.new.items ≡ terms.old.items ++ option_to_list (equations.term_of (record { left = left.now; right = right.now }) column)) }
+    ensures { OnOk result (terms.new.items ≡ terms.old.items ++ option_to_list (equations.term_of (record { left = sides.entry.left.now; right = sides.entry.right.now }) column)) }
 {
-    let plus = times_in(left, column) as i32;
-    let minus = times_in(right, column) as i32;
+    let plus = times_in(sides.left, column) as i32;
+    let minus = times_in(sides.right, column) as i32;
     if plus != minus {
         terms.push((column, plus - minus))?;
     }
@@ -61,21 +67,16 @@ fn push_term(
 }
 
 /// The row of the equation between the sums over two lists of columns.
-pub fn row_of(
-    alloc: Global,
-    columns: u32,
-    left: &[u32],
-    right: &[u32],
-) -> Result<SparseRow, NoMemory>
-    requires left { length left.now ≤ 1000000 }
-    requires right { length right.now ≤ 1000000 }
-    ensures value { IfOk result (λ row. row ≡ equations.row_of columns (record { left = left.now; right = right.now })) }
+pub fn row_of(alloc: Global, columns: u32, sides: Sides<'_>) -> Result<SparseRow, NoMemory>
+    ensures value { IfOk result (λ row. row ≡ equations.row_of columns (record { left = sides.entry.left.now; right = sides.entry.right.now })) }
     ensures in_range { IfOk result (IsInRange columns) }
 {
+    let left = sides.left;
+    let right = sides.right;
     let mut terms = SmallVec::new(alloc);
     let mut column = next_column(right, 0, next_column(left, 0, columns));
     while column < columns {
-        push_term(&mut terms, left, right, column)?;
+        push_term(&mut terms, sides, column)?;
         column = next_column(right, column + 1, next_column(left, column + 1, columns));
     }
     SparseRow::new(alloc, terms.as_slice())

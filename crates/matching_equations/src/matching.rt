@@ -4,42 +4,51 @@ ghost use Rattle.std.specs.Prelude.{◌≡◌, ◌≢◌, ◌+◌, ◌<◌, ◌�
 ghost use Rattle.surface_definitions.specs.Coordinates as coordinates;
 ghost use Rattle.surface_definitions.specs.Equations.{matching, matching_rows};
 ghost use Rattle.surface_definitions.specs.Equations as equations;
-ghost use Rattle.table_definitions.specs.Permutation.{IsPermutationOfFour};
-ghost use Rattle.table_definitions.specs.Table.{max_tets, IsTable};
+ghost use Rattle.table_definitions.specs.Table.{max_tets};
 ghost use Rattle.matching_equations.specs.Matching.{glued_rows, face_rows, tet_rows};
 
-use crate::equation::row_of;
+use crate::equation::{Sides, row_of};
 use cone_arithmetic::System;
 use gluing_table::{Face, Glue, Table};
 use no_memory::NoMemory;
 use normal_discs::{DiscCoords, arc_columns, columns};
 use std::alloc::Global;
 
+/// A face of a table, and what it is glued to.
+#[derive(Drop)]
+struct GluedFace {
+    face: Face,
+    glue: Glue,
+    ghost tet: { face.tet < max_tets },
+    ghost other_tet: { glue.tet < max_tets },
+}
+
 /// Appends the equation of the arcs round a vertex of a glued face.
 fn push_equation(
     alloc: Global,
     coords: DiscCoords,
-    face: Face,
-    glue: Glue,
+    pair: &GluedFace,
     vertex: u8,
     system: &mut System,
 ) -> Result<(), NoMemory>
-    requires tet { face.tet < max_tets }
-    requires other_tet { glue.tet < max_tets }
-    requires a_face { face.face < 4 }
     requires a_vertex { vertex < 4 }
-    requires apart { vertex ≢ face.face }
-    requires permutes { IsPermutationOfFour glue.perm }
+    requires apart { vertex ≢ pair.now.face.face }
     requires room { length system.old.rows + 1 < 2 ^ 32 }
     ensures columns { OnOk result (system.new.columns ≡ system.old.columns) }
-    ensures rows { OnOk result (system.new.rows ≡ system.old.rows ++ equations.row_of system.old.columns (matching coords.system face glue vertex) ∷ []) }
+    ensures rows { OnOk result (system.new.rows ≡ system.old.rows ++ equations.row_of system.old.columns (matching coords.system pair.now.face pair.now.glue vertex) ∷ []) }
     ensures one_more { OnOk result (length system.new.rows ≡ length system.old.rows + 1) }
 {
+    let face = pair.face;
+    let glue = pair.glue;
     let left = arc_columns(coords, face.tet, face.face, vertex);
     let other_face = glue.perm.image(face.face);
     let other_vertex = glue.perm.image(vertex);
     let right = arc_columns(coords, glue.tet, other_face, other_vertex);
-    let row = row_of(alloc, system.columns(), left.as_slice(), right.as_slice())?;
+    let sides = Sides {
+        left: left.as_slice(),
+        right: right.as_slice(),
+    };
+    let row = row_of(alloc, system.columns(), sides)?;
     system.push_row(row)?;
     Ok(())
 }
@@ -48,23 +57,19 @@ fn push_equation(
 fn push_glued(
     alloc: Global,
     coords: DiscCoords,
-    face: Face,
-    glue: Glue,
+    pair: &GluedFace,
     system: &mut System,
 ) -> Result<(), NoMemory>
-    requires tet { face.tet < max_tets }
-    requires other_tet { glue.tet < max_tets }
-    requires a_face { face.face < 4 }
-    requires permutes { IsPermutationOfFour glue.perm }
     requires room { length system.old.rows + 4 < 2 ^ 32 }
     ensures columns { OnOk result (system.new.columns ≡ system.old.columns) }
-    ensures rows { OnOk result (system.new.rows ≡ system.old.rows ++ glued_rows coords.system system.old.columns face glue) }
+    ensures rows { OnOk result (system.new.rows ≡ system.old.rows ++ glued_rows coords.system system.old.columns pair.now.face pair.now.glue) }
     ensures few { OnOk result (length system.new.rows ≤ length system.old.rows + 4) }
 {
+    let face = pair.face;
     let opposite = face.face;
     for vertex in 0..4 {
         if vertex != opposite {
-            push_equation(alloc, coords, face, glue, vertex, system)?;
+            push_equation(alloc, coords, pair, vertex, system)?;
         }
     }
     Ok(())
@@ -78,9 +83,7 @@ fn push_face(
     face: Face,
     system: &mut System,
 ) -> Result<(), NoMemory>
-    requires table { IsTable table.now }
     requires in_range { face.tet < length table.now }
-    requires a_face { face.face < 4 }
     requires room { length system.old.rows + 4 < 2 ^ 32 }
     ensures columns { OnOk result (system.new.columns ≡ system.old.columns) }
     ensures rows { OnOk result (system.new.rows ≡ system.old.rows ++ face_rows coords.system table.now system.old.columns face) }
@@ -88,7 +91,7 @@ fn push_face(
 {
     if let Some(glue) = table.glue(face) {
         if face.is_before(glue.other_side(face)) {
-            push_glued(alloc, coords, face, glue, system)?;
+            push_glued(alloc, coords, &GluedFace { face, glue }, system)?;
         }
     }
     Ok(())
@@ -102,7 +105,6 @@ fn push_tet(
     tet: u32,
     system: &mut System,
 ) -> Result<(), NoMemory>
-    requires table { IsTable table.now }
     requires in_range { tet < length table.now }
     requires room { length system.old.rows + 16 < 2 ^ 32 }
     ensures columns { OnOk result (system.new.columns ≡ system.old.columns) }

@@ -9,7 +9,7 @@ ghost use Rattle.skeleton_definitions.specs.Skeleton.{IsSkeleton};
 ghost use Rattle.skeleton_class_laws.specs.CornersIn.{AreCornersIn};
 ghost use Rattle.matching_equations.specs.Quads.{IsRowAppended};
 
-use crate::equation::row_of;
+use crate::equation::{Sides, row_of};
 use cone_arithmetic::System;
 use no_memory::NoMemory;
 use normal_discs::{columns, keeping, quad_column};
@@ -62,7 +62,11 @@ fn push_round(alloc: Global, corners: &[Corner], system: &mut System) -> Result<
 {
     let left = first_columns(alloc, corners)?;
     let right = second_columns(alloc, corners)?;
-    let row = row_of(alloc, system.columns(), &left, &right)?;
+    let sides = Sides {
+        left: &left,
+        right: &right,
+    };
+    let row = row_of(alloc, system.columns(), sides)?;
     system.push_row(row)?;
     Ok(())
 }

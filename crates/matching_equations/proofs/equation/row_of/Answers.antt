@@ -7,13 +7,13 @@ pub loop-column-init : goal.loop-column-init
 loop-column-init c = record {
   within = omega arith;
   terms = c.new-terms.ensures.items
-      ∙ first_terms c.args.left.now c.args.right.now c.next_column.result c.next_column-column.result c.next_column-column.ensures.within c.next_column.ensures.none_before c.next_column-column.ensures.none_before;
+      ∙ first_terms c.args.sides.left.now c.args.sides.right.now c.next_column.result c.next_column-column.result c.next_column-column.ensures.within c.next_column.ensures.none_before c.next_column-column.ensures.none_before;
 }
 
 pub loop-column-preserved : goal.loop-column-preserved
 loop-column-preserved c = record {
   within = omega arith;
-  terms = terms_on c.args.left.now c.args.right.now c.loop-column.column c.next_column-in-loop-column.result c.next_column-column-in-loop-column.result c.loop-column.terms.items c.push_term.new.terms.items
+  terms = terms_on c.args.sides.left.now c.args.sides.right.now c.loop-column.column c.next_column-in-loop-column.result c.next_column-column-in-loop-column.result c.loop-column.terms.items c.push_term.new.terms.items
       c.loop-column.invariant.terms c.in_ok-push_term.ensures c.next_column-column-in-loop-column.ensures.least c.next_column-column-in-loop-column.ensures.within
       c.next_column-in-loop-column.ensures.none_before c.next_column-column-in-loop-column.ensures.none_before;
 }
@@ -21,10 +21,10 @@ loop-column-preserved c = record {
 pub new-requires : goal.new-requires
 new-requires c =
     let whole : c.loop-column.column ≡ c.args.columns = omega arith in
-    subst IsSparse (sym (made_row c.args.left.now c.args.right.now c.loop-column.column c.args.columns whole (c.as_slice.ensures ∙ c.loop-column.invariant.terms)))
-    (row_is_sparse (equation_of c.args.left.now c.args.right.now) c.args.columns c.requires.left c.requires.right)
+    subst IsSparse (sym (made_row c.args.sides.left.now c.args.sides.right.now c.loop-column.column c.args.columns whole (c.as_slice.ensures ∙ c.loop-column.invariant.terms)))
+    (row_is_sparse (equation_of c.args.sides.left.now c.args.sides.right.now) c.args.columns c.args.sides.left_few c.args.sides.right_few)
 
 pub returns-clause-in_range : goal.returns-clause-in_range
 returns-clause-in_range c =
     let whole : c.loop-column.column ≡ c.args.columns = omega arith in
-    kept_in_range c.args.left.now c.args.right.now c.args.columns c.as_slice.result.now c.new.result c.new.ensures.keeps (made_row c.args.left.now c.args.right.now c.loop-column.column c.args.columns whole (c.as_slice.ensures ∙ c.loop-column.invariant.terms)) c.requires.left c.requires.right
+    kept_in_range c.args.sides.left.now c.args.sides.right.now c.args.columns c.as_slice.result.now c.new.result c.new.ensures.keeps (made_row c.args.sides.left.now c.args.sides.right.now c.loop-column.column c.args.columns whole (c.as_slice.ensures ∙ c.loop-column.invariant.terms)) c.args.sides.left_few c.args.sides.right_few

@@ -8,7 +8,7 @@ use Rattle.matching_equations.proofs.equation.row_of.Given as goal
 abbrev pub invariant-loop-column : goal.invariant-loop-column
 invariant-loop-column l = record {
   within : l.column ≤ l.columns;
-  terms : l.terms.items ≡ filter_map (term_of (equation_of l.left l.right)) (below l.column);
+  terms : l.terms.items ≡ filter_map (term_of (equation_of l.sides.left.now l.sides.right.now)) (below l.column);
 }
 
 abbrev pub decreases-loop-column : goal.decreases-loop-column

@@ -8,7 +8,7 @@ use Rattle.matching_equations.proofs.matching.push_glued.Goals as goal
 
 pub loop-vertex-preserved : goal.loop-vertex-preserved
 loop-vertex-preserved c =
-    let face : c.face.inside.face ≡ c.args.face.face = ap (λ (x : Face). x.face) c.face.view_is in
+    let face : c.face.inside.face ≡ c.args.pair.now.face.face = ap (λ (x : Face). x.face) c.face.view_is in
     elim c.if-vertex-opposite.branch [
       | then-vertex-opposite+in_ok-push_equation w ↦
           let e : length c.if-vertex-opposite.system.rows ≡ length w.push_equation.new.system.rows = ap (λ (s : System). length s.rows) w.system-is in
@@ -16,10 +16,10 @@ loop-vertex-preserved c =
           record {
             columns = ap (λ (s : System). s.columns) w.system-is ∙ w.in_ok-push_equation.ensures.columns ∙ c.loop-vertex.invariant.columns;
             rows = ap (λ (s : System). s.rows) w.system-is
-                ∙ glued_push c.args.coords.system c.args.system.now.columns c.args.face c.args.glue c.loop-vertex.vertex _ c.loop-vertex.system.rows _ (λ same. w.if-vertex-opposite.true (same ∙ sym face))
+                ∙ glued_push c.args.coords.system c.args.system.now.columns c.args.pair.now.face c.args.pair.now.glue c.loop-vertex.vertex _ c.loop-vertex.system.rows _ (λ same. w.if-vertex-opposite.true (same ∙ sym face))
                 c.loop-vertex.invariant.rows
                 (w.in_ok-push_equation.ensures.rows
-                ∙ ap (λ n. c.loop-vertex.system.rows ++ row_of n (matching c.args.coords.system c.args.face c.args.glue c.loop-vertex.vertex) ∷ []) c.loop-vertex.invariant.columns);
+                ∙ ap (λ n. c.loop-vertex.system.rows ++ row_of n (matching c.args.coords.system c.args.pair.now.face c.args.pair.now.glue c.loop-vertex.vertex) ∷ []) c.loop-vertex.invariant.columns);
             few = omega arith;
           }
       | else-vertex-opposite w ↦
@@ -27,7 +27,7 @@ loop-vertex-preserved c =
           record {
             columns = ap (λ (s : System). s.columns) w.system-is ∙ c.loop-vertex.invariant.columns;
             rows = ap (λ (s : System). s.rows) w.system-is
-                ∙ glued_skip c.args.coords.system c.args.system.now.columns c.args.face c.args.glue c.loop-vertex.vertex _ _ (w.if-vertex-opposite.false ∙ face) c.loop-vertex.invariant.rows;
+                ∙ glued_skip c.args.coords.system c.args.system.now.columns c.args.pair.now.face c.args.pair.now.glue c.loop-vertex.vertex _ _ (w.if-vertex-opposite.false ∙ face) c.loop-vertex.invariant.rows;
             few = omega arith;
           }
     ]
@@ -36,5 +36,5 @@ pub returns-clause-rows : goal.returns-clause-rows
 returns-clause-rows c =
     let all : c.loop-vertex.vertex ≡ 4 = omega arith in
     c.loop-vertex.invariant.rows
-    ∙ ap (λ v. c.args.system.now.rows ++ glued_before c.args.coords.system c.args.system.now.columns c.args.face c.args.glue v) all
-    ∙ ap (λ r. c.args.system.now.rows ++ r) (glued_whole c.args.coords.system c.args.system.now.columns c.args.face c.args.glue)
+    ∙ ap (λ v. c.args.system.now.rows ++ glued_before c.args.coords.system c.args.system.now.columns c.args.pair.now.face c.args.pair.now.glue v) all
+    ∙ ap (λ r. c.args.system.now.rows ++ r) (glued_whole c.args.coords.system c.args.system.now.columns c.args.pair.now.face c.args.pair.now.glue)
