@@ -4,5 +4,6 @@
 mod chain;
 mod crushed;
 mod quads;
+mod surface;
 
 pub use crushed::{crush, crush_table};

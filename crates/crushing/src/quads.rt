@@ -1,43 +1,46 @@
 //! The quads of a tetrahedron, and what its faces become where it is taken out.
 
-ghost use Rattle.std.specs.Prelude.{◌≡◌, ◌+◌, ◌*◌, ◌<◌, ◌≤◌, length, true, false, IfNone, IfSome, if◌then◌else◌, ◌==◌};
+ghost use Rattle.std.specs.Prelude.{◌≡◌, ◌<◌, length, true, false, IfNone, IfSome, if◌then◌else◌, ◌==◌};
 ghost use Rattle.table_definitions.specs.Lists.{in_place_of};
 ghost use Rattle.std.specs.List.{position_or_len};
 ghost use Rattle.table_definitions.specs.Permutation.{IsPermutationOfFour};
 ghost use Rattle.surface_definitions.specs.Coordinates.{three};
 ghost use Rattle.surface_definitions.specs.Crushing.{has_quad, is_removed as is_taken, exchange as exchange_of};
 
+use crate::surface::Surface;
 use normal_discs::{columns_each, triangles_each};
 use perm_four::Perm4;
 use surface_definitions::Coords;
 
-/// The type 0, 1 or 2 of the quads of a tetrahedron; nothing exactly where it has none.
-pub fn quad_type(x: &[u128], tet: u32) -> Option<u8>
-    requires { 7 * tet + 7 ≤ length x.now }
-    ensures kept { IfNone result (is_taken x.now tet ≡ false) }
-    ensures removed { IfSome result (λ k. is_taken x.now tet ≡ true) }
-    ensures first { IfSome result (λ k. k ≡ position_or_len (has_quad x.now tet) three) }
-    ensures in_range { IfSome result (λ k. k < 3) }
-{
-    let before = columns_each(Coords::Standard) as usize * tet as usize;
-    let quads = before + triangles_each(Coords::Standard) as usize;
-    if x[quads] > 0 {
-        Some(0)
-    } else if x[quads + 1] > 0 {
-        Some(1)
-    } else if x[quads + 2] > 0 {
-        Some(2)
-    } else {
-        None
+impl Surface<'_> {
+    /// The type 0, 1 or 2 of the quads of a tetrahedron; nothing exactly where it has none.
+    pub fn quad_type(&self, tet: u32) -> Option<u8>
+        requires { tet < length self.now.table.now }
+        ensures kept { IfNone result (is_taken self.now.entries.now tet ≡ false) }
+        ensures removed { IfSome result (λ k. is_taken self.now.entries.now tet ≡ true) }
+        ensures first { IfSome result (λ k. k ≡ position_or_len (has_quad self.now.entries.now tet) three) }
+        ensures in_range { IfSome result (λ k. k < 3) }
+    {
+        let before = columns_each(Coords::Standard) as usize * tet as usize;
+        let quads = before + triangles_each(Coords::Standard) as usize;
+        if self.entries[quads] > 0 {
+            Some(0)
+        } else if self.entries[quads + 1] > 0 {
+            Some(1)
+        } else if self.entries[quads + 2] > 0 {
+            Some(2)
+        } else {
+            None
+        }
     }
-}
 
-/// Whether a tetrahedron has quads, and so is taken out.
-pub fn is_removed(x: &[u128], tet: u32) -> bool
-    requires { 7 * tet + 7 ≤ length x.now }
-    ensures { result ≡ is_taken x.now tet }
-{
-    quad_type(x, tet).is_some()
+    /// Whether a tetrahedron has quads, and so is taken out.
+    pub fn is_removed(&self, tet: u32) -> bool
+        requires { tet < length self.now.table.now }
+        ensures { result ≡ is_taken self.now.entries.now tet }
+    {
+        self.quad_type(tet).is_some()
+    }
 }
 
 /// Where the exchange of v and w takes a vertex.
