@@ -11,7 +11,7 @@ use Rattle.table_definitions.specs.Places.{face_of}
 use Rattle.signature_definitions.specs.Spelling.{seen_gluings}
 use Rattle.signature_text_laws.specs.Walks.{IsWalk}
 use Rattle.signature_laws.specs.Orders.{start_at, face_from, follow, AreMet, Numbers}
-use Rattle.canonical_labelling.specs.declared.comparing.Comparison.{Comparison}
+use Rattle.canonical_labelling.specs.declared.comparison.Comparison.{Comparison}
 
 -- the order and its marks, the place of each tetrahedron in the order, the new faces that were met from their other sides,
 -- the types of the faces that were read, and the new gluings of those of type 2

@@ -12,24 +12,14 @@ ghost use Rattle.canonical_labelling.specs.Comparisons as comparisons;
 ghost use Rattle.canonical_labelling.specs.Comparisons.{IsComparison, FollowsWalks, ReadsFew, IsDecided, IsUndecided, head_text, compare_by, comparison_view};
 
 use crate::Start;
-use crate::order::{Walking, face_from, follow, walking_from};
+use crate::comparison::{Comparison, FoundTypes};
+use crate::order::{face_from, follow, walking_from};
 use gluing_table::{Face, Glue, Probe};
 use no_memory::NoMemory;
 use signature_codec::{
     append_destinations, append_head, append_indices, append_types, type_character, width,
 };
 use std::alloc::{AllocError, Global};
-
-/// A walk with the place of each tetrahedron in the order, the new faces that were met from their other sides, the types
-/// of the faces that were read, and the new gluings of those of type 2.
-#[derive(Drop)]
-struct Comparison {
-    walking: Walking,
-    numbers: Vec<u32>,
-    crossed: Vec<bool>,
-    types: Vec<u8>,
-    gluings: Vec<Glue>,
-}
 
 /// Whether the first text stands before the second.
 pub fn is_before(first: &[u8], second: &[u8]) -> bool
@@ -75,8 +65,7 @@ fn compare_head(text: &[u8], bound: &[u8]) -> Option<bool>
 
 /// Gives the tetrahedron behind a gluing a number, if it has none.
 fn number(comparison: &mut Comparison, from: Start, glue: Glue) -> Result<(), AllocError>
-    requires met { glue.tet < length comparison.old.walking.met.items }
-    requires numbers { glue.tet < length comparison.old.numbers.items }
+    requires in_range { glue.tet < length comparison.old.numbers.items }
     requires few { length comparison.old.walking.order.items < 2 ^ 32 }
     ensures { OnOk result (comparison_view comparison.new ≡ comparisons.numbered (slice_index_or comparison.old.walking.met.items glue.tet false) from glue (comparison_view comparison.old)) }
 {
@@ -102,8 +91,7 @@ fn new_gluing(comparison: &Comparison, from: Start, glue: Glue) -> Glue
 
 /// Crosses the face at a place by a new gluing to a tetrahedron that was met, or was not.
 fn cross(comparison: &mut Comparison, place: u32, glue: Glue, met: bool) -> Result<(), AllocError>
-    requires in_range { 4 * glue.tet + 3 < length comparison.old.crossed.items }
-    requires few { length comparison.old.crossed.items ≤ 4000 }
+    requires { glue.tet < length comparison.old.numbers.items }
     ensures { OnOk result (comparison_view comparison.new ≡ comparisons.crossed met place glue (comparison_view comparison.old)) }
 {
     let other = glue.other_side(Face {
@@ -161,49 +149,46 @@ fn take(comparison: &mut Comparison, probe: &mut Probe<'_>, place: u32) -> Resul
         return Ok(());
     }
     let from = comparison.walking.order[number];
-    let Some(glue) = probe.glue(face_from(from, (place % 4) as u8)) else {
+    let Some(glue) = probe.glue(face_from(from, place)) else {
         comparison.types.push(0)?;
         return Ok(());
     };
     take_glued(comparison, place, from, glue)
 }
 
-/// Whether the character of the types from a place on tells, in a text with so many characters before those of the types.
-fn compare_character(types: &[u8], bound: &[u8], head: usize, i: usize) -> Option<bool>
-    requires small { All (λ t. t < 3) types.now }
-    requires few { length types.now ≤ 4000 }
-    requires in_range { i < length types.now }
-    requires few_before { head ≤ 4000 }
-    ensures { result ≡ compare_by (slice_get bound.now (head + i / 3)) (comparisons.type_character types.now i) }
+/// Whether the character of the types from a place on tells.
+fn compare_character(found: FoundTypes<'_>, i: usize) -> Option<bool>
+    requires { i < length found.types.now }
+    ensures { result ≡ compare_by (slice_get found.entry.bound.now (found.entry.head + i / 3)) (comparisons.type_character found.entry.types.now i) }
 {
-    compare_at(bound, head + i / 3, type_character(types, i))
+    compare_at(
+        found.bound,
+        found.head + i / 3,
+        type_character(found.types, i),
+    )
 }
 
 /// Whether the last character tells, where its three types were found.
-fn compare_full_character(types: &[u8], bound: &[u8], head: usize) -> Option<bool>
-    requires small { All (λ t. t < 3) types.now }
-    requires few { length types.now ≤ 4000 }
-    requires few_before { head ≤ 4000 }
-    ensures { result ≡ comparisons.compare_full_character types.now bound.now head }
+fn compare_full_character(found: FoundTypes<'_>) -> Option<bool>
+    ensures { result ≡ comparisons.compare_full_character found.entry.types.now found.entry.bound.now found.entry.head }
 {
-    if types.is_empty() || types.len() % 3 != 0 {
+    let count = found.types.len();
+    if count == 0 || count % 3 != 0 {
         return None;
     }
-    compare_character(types, bound, head, types.len() - 3)
+    compare_character(found, count - 3)
 }
 
 /// Whether the last character tells, where one or two types were found for it.
-fn compare_last_character(types: &[u8], bound: &[u8], head: usize) -> Option<bool>
-    requires small { All (λ t. t < 3) types.now }
-    requires few { length types.now ≤ 4000 }
-    requires few_before { head ≤ 4000 }
-    ensures { result ≡ comparisons.compare_last_character types.now bound.now head }
+fn compare_last_character(found: FoundTypes<'_>) -> Option<bool>
+    ensures { result ≡ comparisons.compare_last_character found.entry.types.now found.entry.bound.now found.entry.head }
 {
-    let rest = types.len() % 3;
+    let count = found.types.len();
+    let rest = count % 3;
     if rest == 0 {
         return None;
     }
-    compare_character(types, bound, head, types.len() - rest)
+    compare_character(found, count - rest)
 }
 
 /// Whether the types of the walk tell, which are found up to the first character that does.
@@ -228,12 +213,20 @@ fn compare_types(
 {
     for place in 0..4 * probe.len() {
         take(comparison, probe, place)?;
-        let told = compare_full_character(&comparison.types, bound, head);
+        let told = compare_full_character(FoundTypes {
+            types: &comparison.types,
+            bound,
+            head,
+        });
         if told.is_some() {
             return Ok(told);
         }
     }
-    Ok(compare_last_character(&comparison.types, bound, head))
+    Ok(compare_last_character(FoundTypes {
+        types: &comparison.types,
+        bound,
+        head,
+    }))
 }
 
 /// The walk that has met its start alone.
@@ -261,8 +254,7 @@ fn comparison_from(alloc: Global, count: u32, start: Start) -> Result<Comparison
 
 /// Appends the types, the destinations and the places of the permutations, which make the text whole.
 fn append_parts(text: &mut Vec<u8>, count: u32, comparison: &Comparison) -> Result<(), NoMemory>
-    requires small { All (λ t. t < 3) comparison.now.types.items }
-    requires few { length comparison.now.types.items ≤ 4000 }
+    requires { length comparison.now.types.items ≤ 4000 }
     ensures { OnOk result (text.new.items ≡ ((text.old.items ++ map character (packed comparison.now.types.items)) ++ destinations_text (spellings.width count) comparison.now.gluings.items) ++ indices_text comparison.now.gluings.items) }
 {
     append_types(text, &comparison.types)?;

@@ -17,4 +17,4 @@ loop-place-preserved c = record {
 }
 
 pub returns-clause-permutes : goal.returns-clause-permutes
-returns-clause-permutes c = c.loop-place.invariant.permutes (omega (arith, c.len-place-end.ensures.value, c.requires.in_range))
+returns-clause-permutes c = c.loop-place.invariant.permutes (omega (arith, c.len-place-end.ensures.value, c.requires))

@@ -4,17 +4,17 @@ use Rattle.table_definitions.specs.Table.{Face}
 use Rattle.signature_laws.proofs.Marking.{met_below, follow_marks, start_is}
 use Rattle.canonical_labelling.proofs.order.take_face.Goals as goal
 
-pub glue-requires-clause-in_range : goal.glue-requires-clause-in_range
-glue-requires-clause-in_range c =
+pub glue-requires : goal.glue-requires
+glue-requires c =
     let number : c.args.place / 4 < length c.args.walking.now.order.items = omega (arith, c.if-number-len.false, c.len.ensures, c.args.walking.now.order.ok) in
-    subst (λ (t : ℕ). t < length c.args.table.now)
+    record { in_range = subst (λ (t : ℕ). t < length c.args.table.now)
     (sym (ap (λ (x : Face). x.tet) c.face_from-face.ensures.value
     ∙ ap (λ (s : Start). s.tet) (start_is c.args.walking.now.order.items (c.args.place / 4) c.index-from.result.now number c.index-from.ensures)))
-    (met_below c.args.table.now c.args.walking.now.order.items c.args.walking.now.met.items (c.args.place / 4) c.requires.walking number)
+    (met_below c.args.table.now c.args.walking.now.order.items c.args.walking.now.met.items (c.args.place / 4) c.requires number) }
 
 pub returns-clause-walking : goal.returns-clause-walking
 returns-clause-walking c =
     let inside : c.in-Some.glue.tet < length c.args.walking.now.met.items =
-    (let i = c.requires.table.in_range c.face_from-face.result c.in-Some.glue (sym c.glue.ensures ∙ c.in-Some.is) in let s = c.requires.walking.size in omega arith) in
+    (let i = c.glue.ensures.is_table.in_range c.face_from-face.result c.in-Some.glue (sym c.glue.ensures.value ∙ c.in-Some.is) in let s = c.requires.size in omega arith) in
     follow_marks c.args.table.now c.index-from.result.now c.in-Some.glue c.args.walking.now.order.items c.follow.new.walking.order.items c.args.walking.now.met.items c.follow.new.walking.met.items
-    c.requires.walking inside c.in_ok-follow.ensures.order c.in_ok-follow.ensures.met
+    c.requires inside c.in_ok-follow.ensures.order c.in_ok-follow.ensures.met

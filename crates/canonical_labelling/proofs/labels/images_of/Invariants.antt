@@ -1,9 +1,0 @@
-use Rattle.std.proofs.Common.{◌≡◌, ℕ, ◌<◌, length, get_or}
-use Rattle.signature_laws.specs.Orders.{start_at}
-use Rattle.canonical_labelling.proofs.labels.images_of.Given as goal
-
-abbrev pub invariant-loop-i : goal.invariant-loop-i
-invariant-loop-i l = record {
-  size : length l.images.items ≡ l.count;
-  each : (k : ℕ) → k < l.i → get_or l.images.items (start_at l.order k).tet 0 ≡ k;
-}
