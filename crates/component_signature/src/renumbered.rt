@@ -28,7 +28,6 @@ fn renumbered_glue(table: &Table, numbers: &[u32], face: Face) -> Option<Glue>
     requires table { IsTable table.now }
     requires part { IsPart table.now (record { rows = rows_of table.now numbers.now; numbers = numbers.now }) }
     requires there { Contains numbers.now face.tet }
-    requires a_face { face.face < 4 }
     ensures { result ≡ option_map (parts.renumbered numbers.now) (gluings.glue table.now face) }
 {
     match table.glue(face) {

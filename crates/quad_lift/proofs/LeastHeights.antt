@@ -71,7 +71,7 @@ module _ (s : Skeleton) (heights : List ℕ) where
       at_class : slice_index (set lows (class_of n) (slice_index heights n)) (class_of n) ≡ slice_index heights n
       at_class = get_or-set_same lows (class_of n) (slice_index heights n) 0 (omega (arith, b.one_each))
 
-  pub lows_all : (k : IsSkeleton s) (n : ℕ) (lows : List ℕ) → n ≡ 4 * length s.rows → ((i : ℕ) → slice_index heights i ≤ most) → AreLowsBefore s heights n lows → AreLeastHeights s heights lows
+  pub lows_all : (k : IsSkeleton s) (n : ℕ) (lows : List ℕ) → n ≡ 4 * length s.rows → ((i : ℕ) → i < 4 * length s.rows → slice_index heights i ≤ most) → AreLowsBefore s heights n lows → AreLeastHeights s heights lows
   lows_all k n lows e fits b = record { one_each = b.one_each; each = each }
     where
       least : (c i : ℕ) → i < 4 * length s.rows → class_of i ≡ c → slice_index lows c ≤ slice_index heights i
@@ -82,6 +82,6 @@ module _ (s : Skeleton) (heights : List ℕ) where
         | inr r ↦ record { member = r.member; within = (let m = r.within in omega (arith, e)); in_class = r.in_class; reached = r.reached; least = least c }
         | inl none ↦ (let i : (i : ℕ) × (i < 4 * length s.rows) × (class_of i ≡ c) = (k.vertices).none_empty c l in
             let low : slice_index lows c ≤ slice_index heights i.0 = least c i.0 i.1 i.2 in
-            let high : slice_index heights i.0 ≤ most = fits i.0 in
+            let high : slice_index heights i.0 ≤ most = fits i.0 i.1 in
             record { member = i.0; within = i.1; in_class = i.2; reached = omega arith; least = least c })
       ]

@@ -1,30 +1,16 @@
 //! The vertex across a face, and the quads on both sides.
 
-ghost use Rattle.std.specs.Prelude.{◌≡◌, ◌≢◌, ◌+◌, ◌*◌, ◌/◌, ◌%◌, ◌<◌, ◌≤◌, length, slice_index, IfNone, IfSome, None};
-ghost use Rattle.table_definitions.specs.Table.{max_tets};
+ghost use Rattle.std.specs.Prelude.{◌≡◌, ◌≢◌, ◌*◌, ◌/◌, ◌%◌, ◌<◌, length, slice_index, IfNone, IfSome, None};
 ghost use Rattle.surface_definitions.specs.declared.Coords.TheVariants.{Quad as QuadCoords};
 ghost use Rattle.surface_definitions.specs.Coordinates as coordinates;
 ghost use Rattle.table_definitions.specs.Table as gluings;
 ghost use Rattle.skeleton_definitions.specs.Skeleton.{IsSkeleton};
 ghost use Rattle.quad_lift.specs.Crossings.{IsCrossing};
 
+use crate::quad_vector::QuadVector;
 use gluing_table::Face;
 use normal_discs::{keeping, quad_column};
-use skeleton::Skeleton;
 use surface_definitions::Coords;
-
-/// How many quads have an arc round v in the face.
-fn quads_round(x: &[u128], face: Face, v: u8) -> u128
-    requires few { face.tet ≤ max_tets }
-    requires width { 3 * face.tet + 3 ≤ length x.now }
-    requires a_face { face.face < 4 }
-    requires a_vertex { v < 4 }
-    requires off { v ≢ face.face }
-    ensures { result ≡ slice_index x.now (coordinates.quad_column QuadCoords face.tet (coordinates.keeping v face.face)) }
-{
-    let kind = keeping(v, face.face);
-    x[quad_column(Coords::Quad, face.tet, kind) as usize]
-}
 
 /// A vertex and that across a face, and how many quads are met on either side: from the one to the other heights rise
 /// by `up` and fall by `down`.
@@ -35,28 +21,41 @@ pub struct Crossing {
     pub down: u128,
 }
 
-/// What is across a face at a vertex; nothing where the face isn't at the vertex, or is a boundary face.
-pub fn across(skeleton: &Skeleton, x: &[u128], vertex: u32, face: u8) -> Option<Crossing>
-    requires skeleton { IsSkeleton skeleton.now }
-    requires width { length x.now ≡ 3 * length skeleton.now.rows }
-    requires in_range { vertex < 4 * length skeleton.now.rows }
-    requires a_face { face < 4 }
-    ensures some { IfSome result (λ c. IsCrossing skeleton.now x.now vertex face c.other c.up c.down) }
-    ensures none { IfNone result (vertex % 4 ≢ face → gluings.glue skeleton.now.rows (record { tet = vertex / 4; face = face }) ≡ None) }
-{
-    let v = (vertex % 4) as u8;
-    if v == face {
-        return None;
+impl QuadVector<'_> {
+    /// How many quads have an arc round v in the face.
+    fn quads_round(&self, face: Face, v: u8) -> u128
+        requires in_range { face.tet < length self.now.skeleton.now.rows }
+        requires a_vertex { v < 4 }
+        requires off { v ≢ face.face }
+        ensures { result ≡ slice_index self.now.entries.now (coordinates.quad_column QuadCoords face.tet (coordinates.keeping v face.face)) }
+    {
+        let kind = keeping(v, face.face);
+        self.entries[quad_column(Coords::Quad, face.tet, kind) as usize]
     }
-    let here = Face {
-        tet: vertex / 4,
-        face,
-    };
-    let glue = skeleton.table().glue(here)?;
-    let w = glue.perm.image(v);
-    Some(Crossing {
-        other: 4 * glue.tet + w as u32,
-        up: quads_round(x, here, v),
-        down: quads_round(x, glue.other_side(here), w),
-    })
+
+    /// What is across a face at a vertex; nothing where the face isn't at the vertex, or is a boundary face.
+    pub fn across(&self, vertex: u32, face: u8) -> Option<Crossing>
+        requires in_range { vertex < 4 * length self.now.skeleton.now.rows }
+        requires a_face { face < 4 }
+        ensures some { IfSome result (λ c. IsCrossing self.now.skeleton.now self.now.entries.now vertex face c.other c.up c.down) }
+        ensures none { IfNone result (vertex % 4 ≢ face → gluings.glue self.now.skeleton.now.rows (record { tet = vertex / 4; face = face }) ≡ None) }
+        ensures skeleton { IsSkeleton self.now.skeleton.now }
+    {
+        let table = self.skeleton.table();
+        let v = (vertex % 4) as u8;
+        if v == face {
+            return None;
+        }
+        let here = Face {
+            tet: vertex / 4,
+            face,
+        };
+        let glue = table.glue(here)?;
+        let w = glue.perm.image(v);
+        Some(Crossing {
+            other: 4 * glue.tet + w as u32,
+            up: self.quads_round(here, v),
+            down: self.quads_round(glue.other_side(here), w),
+        })
+    }
 }

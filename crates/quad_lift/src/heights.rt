@@ -1,127 +1,105 @@
 //! Heights of vertices: across each gluing the height and the quads there add up to the same. They are spread from one
 //! vertex of each class, where they begin so high that none falls below 0.
 
-ghost use Rattle.std.specs.Prelude.{◌≡◌, ℕ, ◌+◌, ◌*◌, ◌<◌, ◌≤◌, Bool, true, false, List, [], length, sum, slice_index_or, IfOk, OnOk};
-ghost use Rattle.text_definitions.specs.Written.{limit};
+ghost use Rattle.std.specs.Prelude.{◌≡◌, ℕ, ◌+◌, ◌*◌, ◌<◌, Bool, true, false, List, [], length, slice_index_or, IfOk, OnOk};
 ghost use Rattle.table_walk_laws.specs.Search.{IsMarked, IsClosed, IsSearch, IsTurn, work_left};
 ghost use Rattle.skeleton_definitions.specs.Skeleton.{IsSkeleton};
 ghost use Rattle.quad_lift.specs.Spreads.{vertices_round, round_before, AreSpread, AreAllSpread};
 
-use crate::crossing::across;
-use skeleton::Skeleton;
+use crate::quad_vector::QuadVector;
 use std::alloc::{AllocError, Global};
 
-/// Gives the vertex across a face its height, unless it has one.
-fn cross(
-    skeleton: &Skeleton,
-    x: &[u128],
-    marked: &mut [bool],
-    heights: &mut [u128],
-    pending: &mut Vec<u32>,
-    vertex: u32,
-    face: u8,
-) -> Result<(), AllocError>
-    requires skeleton { IsSkeleton skeleton.now }
-    requires width { length x.now ≡ 3 * length skeleton.now.rows }
-    requires fits { 4 * sum x.now ≤ limit }
-    requires spread { AreSpread skeleton.now x.now marked.old heights.old }
-    requires marked { IsMarked marked.old vertex }
-    requires a_face { face < 4 }
-    ensures spread { OnOk result (AreSpread skeleton.now x.now marked.new heights.new) }
-    ensures kept { OnOk result ((i : ℕ) → IsMarked marked.old i → IsMarked marked.new i) }
-    ensures turn { OnOk result ((first : List Bool) → IsTurn (vertices_round skeleton.now.rows) first vertex (round_before skeleton.now.rows vertex face) marked.old pending.old.items → IsTurn (vertices_round skeleton.now.rows) first vertex (round_before skeleton.now.rows vertex (face + 1)) marked.new pending.new.items) }
-    ensures work { OnOk result (work_left marked.new pending.new.items ≡ work_left marked.old pending.old.items) }
-{
-    let Some(step) = across(skeleton, x, vertex, face) else {
-        return Ok(());
-    };
-    let other = step.other as usize;
-    if marked[other] {
-        return Ok(());
-    }
-    pending.push(step.other)?;
-    heights[other] = heights[vertex as usize] + step.up - step.down;
-    marked[other] = true;
-    Ok(())
-}
-
-/// Crosses the faces at a vertex.
-fn cross_all(
-    skeleton: &Skeleton,
-    x: &[u128],
-    marked: &mut [bool],
-    heights: &mut [u128],
-    pending: &mut Vec<u32>,
-    vertex: u32,
-) -> Result<(), AllocError>
-    requires skeleton { IsSkeleton skeleton.now }
-    requires width { length x.now ≡ 3 * length skeleton.now.rows }
-    requires fits { 4 * sum x.now ≤ limit }
-    requires spread { AreSpread skeleton.now x.now marked.old heights.old }
-    requires marked { IsMarked marked.old vertex }
-    ensures spread { OnOk result (AreSpread skeleton.now x.now marked.new heights.new) }
-    ensures turn { OnOk result ((first : List Bool) → IsTurn (vertices_round skeleton.now.rows) first vertex [] marked.old pending.old.items → IsSearch (vertices_round skeleton.now.rows) first marked.new pending.new.items) }
-    ensures work { OnOk result (work_left marked.new pending.new.items ≡ work_left marked.old pending.old.items) }
-{
-    for face in 0..4 {
-        cross(skeleton, x, marked, heights, pending, vertex, face)?;
-    }
-    Ok(())
-}
-
-/// Spreads heights over the class of a vertex that has none.
-fn spread(
-    alloc: Global,
-    skeleton: &Skeleton,
-    x: &[u128],
-    marked: &mut [bool],
-    heights: &mut [u128],
-    root: u32,
-    start: u128,
-) -> Result<(), AllocError>
-    requires skeleton { IsSkeleton skeleton.now }
-    requires width { length x.now ≡ 3 * length skeleton.now.rows }
-    requires fits { 4 * sum x.now ≤ limit }
-    requires spread { AreSpread skeleton.now x.now marked.old heights.old }
-    requires closed { IsClosed (vertices_round skeleton.now.rows) marked.old }
-    requires in_range { root < 4 * length skeleton.now.rows }
-    requires unmarked { slice_index_or marked.old root false ≡ false }
-    requires start { start ≡ 4 * sum x.now }
-    ensures spread { OnOk result (AreSpread skeleton.now x.now marked.new heights.new) }
-    ensures closed { OnOk result (IsClosed (vertices_round skeleton.now.rows) marked.new) }
-    ensures kept { OnOk result ((i : ℕ) → IsMarked marked.old i → IsMarked marked.new i) }
-    ensures root { OnOk result (IsMarked marked.new root) }
-{
-    heights[root as usize] = start;
-    marked[root as usize] = true;
-    let mut pending = Vec::new(alloc);
-    pending.push(root)?;
-    while let Some(vertex) = pending.pop() {
-        cross_all(skeleton, x, marked, heights, &mut pending, vertex)?;
-    }
-    Ok(())
-}
-
-/// Heights of all vertices. They begin at `start`, which is four times the sum of the quads.
-pub fn heights_of(
-    alloc: Global,
-    skeleton: &Skeleton,
-    x: &[u128],
-    start: u128,
-) -> Result<Vec<u128>, AllocError>
-    requires skeleton { IsSkeleton skeleton.now }
-    requires width { length x.now ≡ 3 * length skeleton.now.rows }
-    requires fits { 4 * sum x.now ≤ limit }
-    requires start { start ≡ 4 * sum x.now }
-    ensures { IfOk result (λ heights. AreAllSpread skeleton.now x.now heights.items) }
-{
-    let count = 4 * skeleton.table().len();
-    let mut marked = vec![in alloc; false; count as usize]?;
-    let mut heights = vec![in alloc; start; count as usize]?;
-    for root in 0..count {
-        if !marked[root as usize] {
-            spread(alloc, skeleton, x, &mut marked, &mut heights, root, start)?;
+impl QuadVector<'_> {
+    /// Gives the vertex across a face its height, unless it has one.
+    fn cross(
+        &self,
+        marked: &mut [bool],
+        heights: &mut [u128],
+        pending: &mut Vec<u32>,
+        vertex: u32,
+        face: u8,
+    ) -> Result<(), AllocError>
+        requires spread { AreSpread self.now.skeleton.now self.now.entries.now marked.old heights.old }
+        requires marked { IsMarked marked.old vertex }
+        requires a_face { face < 4 }
+        ensures spread { OnOk result (AreSpread self.now.skeleton.now self.now.entries.now marked.new heights.new) }
+        ensures kept { OnOk result ((i : ℕ) → IsMarked marked.old i → IsMarked marked.new i) }
+        ensures turn { OnOk result ((first : List Bool) → IsTurn (vertices_round self.now.skeleton.now.rows) first vertex (round_before self.now.skeleton.now.rows vertex face) marked.old pending.old.items → IsTurn (vertices_round self.now.skeleton.now.rows) first vertex (round_before self.now.skeleton.now.rows vertex (face + 1)) marked.new pending.new.items) }
+        ensures work { OnOk result (work_left marked.new pending.new.items ≡ work_left marked.old pending.old.items) }
+    {
+        let Some(step) = self.across(vertex, face) else {
+            return Ok(());
+        };
+        let other = step.other as usize;
+        if marked[other] {
+            return Ok(());
         }
+        pending.push(step.other)?;
+        heights[other] = heights[vertex as usize] + step.up - step.down;
+        marked[other] = true;
+        Ok(())
     }
-    Ok(heights)
+
+    /// Crosses the faces at a vertex.
+    fn cross_all(
+        &self,
+        marked: &mut [bool],
+        heights: &mut [u128],
+        pending: &mut Vec<u32>,
+        vertex: u32,
+    ) -> Result<(), AllocError>
+        requires spread { AreSpread self.now.skeleton.now self.now.entries.now marked.old heights.old }
+        requires marked { IsMarked marked.old vertex }
+        ensures spread { OnOk result (AreSpread self.now.skeleton.now self.now.entries.now marked.new heights.new) }
+        ensures turn { OnOk result ((first : List Bool) → IsTurn (vertices_round self.now.skeleton.now.rows) first vertex [] marked.old pending.old.items → IsSearch (vertices_round self.now.skeleton.now.rows) first marked.new pending.new.items) }
+        ensures work { OnOk result (work_left marked.new pending.new.items ≡ work_left marked.old pending.old.items) }
+    {
+        for face in 0..4 {
+            self.cross(marked, heights, pending, vertex, face)?;
+        }
+        Ok(())
+    }
+
+    /// Spreads heights over the class of a vertex that has none.
+    fn spread(
+        &self,
+        alloc: Global,
+        marked: &mut [bool],
+        heights: &mut [u128],
+        root: u32,
+    ) -> Result<(), AllocError>
+        requires skeleton { IsSkeleton self.now.skeleton.now }
+        requires spread { AreSpread self.now.skeleton.now self.now.entries.now marked.old heights.old }
+        requires closed { IsClosed (vertices_round self.now.skeleton.now.rows) marked.old }
+        requires in_range { root < 4 * length self.now.skeleton.now.rows }
+        requires unmarked { slice_index_or marked.old root false ≡ false }
+        ensures spread { OnOk result (AreSpread self.now.skeleton.now self.now.entries.now marked.new heights.new) }
+        ensures closed { OnOk result (IsClosed (vertices_round self.now.skeleton.now.rows) marked.new) }
+        ensures kept { OnOk result ((i : ℕ) → IsMarked marked.old i → IsMarked marked.new i) }
+        ensures root { OnOk result (IsMarked marked.new root) }
+    {
+        heights[root as usize] = self.start;
+        marked[root as usize] = true;
+        let mut pending = Vec::new(alloc);
+        pending.push(root)?;
+        while let Some(vertex) = pending.pop() {
+            self.cross_all(marked, heights, &mut pending, vertex)?;
+        }
+        Ok(())
+    }
+
+    /// Heights of all vertices.
+    pub fn heights(&self, alloc: Global) -> Result<Vec<u128>, AllocError>
+        ensures { IfOk result (λ heights. AreAllSpread self.now.skeleton.now self.now.entries.now heights.items) }
+    {
+        let count = 4 * self.skeleton.table().len();
+        let mut marked = vec![in alloc; false; count as usize]?;
+        let mut heights = vec![in alloc; self.start; count as usize]?;
+        for root in 0..count {
+            if !marked[root as usize] {
+                self.spread(alloc, &mut marked, &mut heights, root)?;
+            }
+        }
+        Ok(heights)
+    }
 }

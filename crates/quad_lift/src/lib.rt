@@ -6,6 +6,7 @@ mod crossing;
 mod heights;
 mod lifting;
 mod lows;
+mod quad_vector;
 mod sums;
 
 pub use lifting::{lift, project};

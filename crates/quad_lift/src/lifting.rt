@@ -3,7 +3,6 @@
 ghost use Rattle.std.specs.Prelude.{◌≡◌, ◌+◌, ◌*◌, ◌<◌, length, slice_index, Result, Ok, Err, ℕ, IfOk, IfErr};
 ghost use Rattle.no_memory.specs.Failures.{IfFault};
 ghost use Rattle.text_definitions.specs.Written.{limit};
-ghost use Rattle.skeleton_definitions.specs.Skeleton.{IsSkeleton};
 ghost use Rattle.surface_definitions.specs.declared.Coords.TheVariants.{Standard, Quad as QuadCoords};
 ghost use Rattle.surface_definitions.specs.Coordinates as coordinates;
 ghost use Rattle.surface_definitions.specs.Lift.{projected};
@@ -11,9 +10,7 @@ ghost use Rattle.surface_vector_definitions.specs.Lifting.{IsLiftAnswer};
 ghost use Rattle.surface_laws.specs.LiftLaws.{IsSurfaceOver};
 ghost use Rattle.quad_lift.specs.Agreements.{AreLeastHeights, lifted_entry};
 
-use crate::checks::least_wrong;
-use crate::heights::heights_of;
-use crate::lows::lows_of;
+use crate::quad_vector::{Heights, QuadVector};
 use crate::sums::four_times;
 use no_memory::{Failure, NoMemory};
 use normal_discs::{
@@ -24,47 +21,37 @@ use std::alloc::{AllocError, Global};
 use surface_definitions::Coords;
 use surface_vector_definitions::LiftFault;
 
-/// An entry of the lift: a height above the least of its class, or quads.
-fn entry(skeleton: &Skeleton, x: &[u128], heights: &[u128], lows: &[u128], column: u32) -> u128
-    requires skeleton { IsSkeleton skeleton.now }
-    requires width { length x.now ≡ 3 * length skeleton.now.rows }
-    requires heights { length heights.now ≡ 4 * length skeleton.now.rows }
-    requires lows { AreLeastHeights skeleton.now heights.now lows.now }
-    requires in_range { column < 7 * length skeleton.now.rows }
-    ensures { result ≡ lifted_entry skeleton.now x.now heights.now lows.now column }
-{
-    let tet = tet_of(Coords::Standard, column);
-    let place = place_of(Coords::Standard, column);
-    if place < triangles_each(Coords::Standard) {
-        let class = skeleton.vertex_class(tet, place as u8);
-        heights[4 * tet as usize + place as usize] - lows[class as usize]
-    } else {
-        let kind = type_of(DiscCoords::STANDARD, column);
-        x[quad_column(Coords::Quad, tet, kind) as usize]
+impl Heights<'_> {
+    /// An entry of the lift: a height above the least of its class, or quads.
+    fn entry(&self, lows: &[u128], column: u32) -> u128
+        requires lows { AreLeastHeights self.now.vector.skeleton.now self.now.values.now lows.now }
+        requires in_range { column < 7 * length self.now.vector.skeleton.now.rows }
+        ensures { result ≡ lifted_entry self.now.vector.skeleton.now self.now.vector.entries.now self.now.values.now lows.now column }
+    {
+        let tet = tet_of(Coords::Standard, column);
+        let place = place_of(Coords::Standard, column);
+        if place < triangles_each(Coords::Standard) {
+            let class = self.vector.skeleton.vertex_class(tet, place as u8);
+            self.values[4 * tet as usize + place as usize] - lows[class as usize]
+        } else {
+            let kind = type_of(DiscCoords::STANDARD, column);
+            self.vector.entries[quad_column(Coords::Quad, tet, kind) as usize]
+        }
     }
-}
 
-/// All entries of the lift.
-fn entries(
-    alloc: Global,
-    skeleton: &Skeleton,
-    x: &[u128],
-    heights: &[u128],
-    lows: &[u128],
-) -> Result<Vec<u128>, AllocError>
-    requires skeleton { IsSkeleton skeleton.now }
-    requires width { length x.now ≡ 3 * length skeleton.now.rows }
-    requires heights { length heights.now ≡ 4 * length skeleton.now.rows }
-    requires lows { AreLeastHeights skeleton.now heights.now lows.now }
-    ensures length { IfOk result (λ ys. length ys.items ≡ 7 * length skeleton.now.rows) }
-    ensures entries { IfOk result (λ ys. (i : ℕ) → i < 7 * length skeleton.now.rows → slice_index ys.items i ≡ lifted_entry skeleton.now x.now heights.now lows.now i) }
-{
-    let columns = columns(Coords::Standard, skeleton.table().len());
-    let mut entries = Vec::with_capacity(alloc, columns as usize)?;
-    for column in 0..columns {
-        entries.push(entry(skeleton, x, heights, lows, column))?;
+    /// All entries of the lift.
+    fn entries(&self, alloc: Global, lows: &[u128]) -> Result<Vec<u128>, AllocError>
+        requires { AreLeastHeights self.now.vector.skeleton.now self.now.values.now lows.now }
+        ensures length { IfOk result (λ ys. length ys.items ≡ 7 * length self.now.vector.skeleton.now.rows) }
+        ensures entries { IfOk result (λ ys. (i : ℕ) → i < 7 * length self.now.vector.skeleton.now.rows → slice_index ys.items i ≡ lifted_entry self.now.vector.skeleton.now self.now.vector.entries.now self.now.values.now lows.now i) }
+    {
+        let columns = columns(Coords::Standard, self.vector.skeleton.table().len());
+        let mut entries = Vec::with_capacity(alloc, columns as usize)?;
+        for column in 0..columns {
+            entries.push(self.entry(lows, column))?;
+        }
+        Ok(entries)
     }
-    Ok(entries)
 }
 
 /// The lift of a vector in quad coordinates: the vector in standard coordinates with the same quads that solves the
@@ -82,13 +69,22 @@ pub fn lift(alloc: Global, skeleton: &Skeleton, x: &[u128]) -> Result<Vec<u128>,
     let Some(start) = four_times(x) else {
         return Err(Failure::Fault(LiftFault::Large));
     };
-    let heights = heights_of(alloc, skeleton, x, start)?;
-    let class = least_wrong(skeleton, x, &heights);
+    let vector = QuadVector {
+        skeleton,
+        entries: x,
+        start,
+    };
+    let values = vector.heights(alloc)?;
+    let heights = Heights {
+        vector,
+        values: &values,
+    };
+    let class = heights.least_wrong();
     if class < classes {
         return Err(Failure::Fault(LiftFault::NoLift { class }));
     }
-    let lows = lows_of(alloc, skeleton, &heights)?;
-    let lifted = entries(alloc, skeleton, x, &heights, &lows)?;
+    let lows = heights.lows(alloc)?;
+    let lifted = heights.entries(alloc, &lows)?;
     Ok(lifted)
 }
 

@@ -1,6 +1,6 @@
 // The signs of a step's row at its rays.
 
-ghost use Rattle.std.specs.Prelude.{◌≡◌, ◌↔◌, IsTrue, ◌<◌, ◌≤◌, length, ◌-◌, IfOk, IfErr, OnOk, OnErr};
+ghost use Rattle.std.specs.Prelude.{◌≡◌, ◌↔◌, IsTrue, ◌<◌, length, ◌-◌, IfOk, IfErr, OnOk, OnErr};
 ghost use Rattle.cone_arithmetic.specs.Sparse.{IsInRange};
 ghost use Rattle.cone_definitions.specs.Elimination.{HasPartsWithin, HasLargePart};
 ghost use Rattle.ray_steps.specs.Signs.{IsNegative, IsSignAt, AreSigns};

@@ -7,10 +7,12 @@ use Rattle.canonical_labelling.proofs.order.take_face.Goals as goal
 pub glue-requires : goal.glue-requires
 glue-requires c =
     let number : c.args.place / 4 < length c.args.walking.now.order.items = omega (arith, c.if-number-len.false, c.len.ensures, c.args.walking.now.order.ok) in
-    record { in_range = subst (λ (t : ℕ). t < length c.args.table.now)
-    (sym (ap (λ (x : Face). x.tet) c.face_from-face.ensures.value
-    ∙ ap (λ (s : Start). s.tet) (start_is c.args.walking.now.order.items (c.args.place / 4) c.index-from.result.now number c.index-from.ensures)))
-    (met_below c.args.table.now c.args.walking.now.order.items c.args.walking.now.met.items (c.args.place / 4) c.requires number) }
+    record {
+      in_range = subst (λ (t : ℕ). t < length c.args.table.now)
+          (sym (ap (λ (x : Face). x.tet) c.face_from-face.ensures.value
+          ∙ ap (λ (s : Start). s.tet) (start_is c.args.walking.now.order.items (c.args.place / 4) c.index-from.result.now number c.index-from.ensures)))
+          (met_below c.args.table.now c.args.walking.now.order.items c.args.walking.now.met.items (c.args.place / 4) c.requires number);
+    }
 
 pub returns-clause-walking : goal.returns-clause-walking
 returns-clause-walking c =

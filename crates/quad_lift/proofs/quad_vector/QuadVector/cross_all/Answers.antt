@@ -1,7 +1,7 @@
 -- Each face goes on with the turn.
 use Rattle.std.proofs.Common.{◌∙◌, arith}
 use Rattle.quad_lift.proofs.RoundTurns.{turn_over}
-use Rattle.quad_lift.proofs.heights.cross_all.Goals as goal
+use Rattle.quad_lift.proofs.quad_vector.QuadVector.cross_all.Goals as goal
 
 pub cross-requires-clause-spread : goal.cross-requires-clause-spread
 cross-requires-clause-spread c = c.loop-face.invariant.spread
@@ -19,4 +19,4 @@ loop-face-preserved c = record {
 
 pub returns-clause-turn : goal.returns-clause-turn
 returns-clause-turn c = λ first t.
-    turn_over c.args.skeleton.now.rows first c.args.vertex c.loop-face.face c.loop-face.marked c.loop-face.pending.items (omega (arith, c.loop-face-test.false)) (c.loop-face.invariant.turn first t)
+    turn_over c.args.self.now.skeleton.now.rows first c.args.vertex c.loop-face.face c.loop-face.marked c.loop-face.pending.items (omega (arith, c.loop-face-test.false)) (c.loop-face.invariant.turn first t)

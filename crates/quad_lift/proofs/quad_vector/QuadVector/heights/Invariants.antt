@@ -2,11 +2,11 @@
 use Rattle.std.proofs.Common.{ℕ, ◌<◌}
 use Rattle.table_walk_laws.specs.Search.{IsMarked, IsClosed}
 use Rattle.quad_lift.specs.Spreads.{vertices_round, AreSpread}
-use Rattle.quad_lift.proofs.heights.heights_of.Given as goal
+use Rattle.quad_lift.proofs.quad_vector.QuadVector.heights.Given as goal
 
 abbrev pub invariant-loop-root : goal.invariant-loop-root
 invariant-loop-root l = record {
-  spread : AreSpread l.skeleton l.x l.marked.items l.heights.items;
-  closed : IsClosed (vertices_round l.skeleton.rows) l.marked.items;
+  spread : AreSpread l.self.skeleton.now l.self.entries.now l.marked.items l.heights.items;
+  closed : IsClosed (vertices_round l.self.skeleton.now.rows) l.marked.items;
   passed : (i : ℕ) → i < l.root → IsMarked l.marked.items i;
 }

@@ -1,0 +1,29 @@
+//! Quad vectors over a skeleton, and heights over them.
+
+ghost use Rattle.std.specs.Prelude.{◌≡◌, ◌*◌, ◌≤◌, length, sum};
+ghost use Rattle.text_definitions.specs.Written.{limit};
+ghost use Rattle.table_definitions.specs.Table.{max_tets};
+ghost use Rattle.quad_lift.specs.Spreads.{AreAllSpread};
+
+use skeleton::Skeleton;
+
+/// A vector in quad coordinates over a skeleton. Heights over it start at four times the sum of its entries, which is
+/// an entry.
+#[derive(Clone, Copy)]
+pub struct QuadVector<'a> {
+    pub skeleton: &'a Skeleton,
+    pub entries: &'a [u128],
+    pub start: u128,
+    pub ghost few: { length skeleton.now.rows ≤ max_tets },
+    pub ghost width: { length entries.now ≡ 3 * length skeleton.now.rows },
+    pub ghost four_times: { start ≡ 4 * sum entries.now },
+    pub ghost fits: { 4 * sum entries.now ≤ limit },
+}
+
+/// Heights of all vertices over a quad vector, spread over it.
+#[derive(Clone, Copy)]
+pub struct Heights<'a> {
+    pub vector: QuadVector<'a>,
+    pub values: &'a [u128],
+    pub ghost spread: { AreAllSpread vector.skeleton.now vector.entries.now values.now },
+}
