@@ -7,7 +7,7 @@ ghost use Rattle.cone_definitions.specs.Elimination.{HasLargePart, HasPartsWithi
 ghost use Rattle.cone_arithmetic.specs.Sparse.{IsInRange, ArePartsAt};
 
 use crate::row::SparseRow;
-use crate::small::{MAX_SMALL, gcd_with_small, product, product_of_small};
+use crate::small::{MAX_SMALL, gcd_with_small, product};
 
 /// The greatest entry of a ray, 2^127 - 1.
 pub const MAX_ENTRY: u128 = 170141183460469231731687303715884105727;
@@ -84,55 +84,6 @@ fn add_term(
     }
 }
 
-/// A sum and one product of an entry of 64 bits more, where that is within the limit.
-fn add_small_product(sum: u128, magnitude: u32, entry: u64, limit: u128) -> Result<u128, Passed>
-    requires within { sum ≤ limit }
-    ensures ok { IfOk result (λ after. after ≡ sum + magnitude * entry) }
-    ensures within { OnOk result (sum + magnitude * entry ≤ limit) }
-    ensures passed { OnErr result (limit < sum + magnitude * entry) }
-{
-    let term = product_of_small(u64::from(magnitude), entry);
-    if term <= limit - sum {
-        Ok(sum + term)
-    } else {
-        Err(Passed)
-    }
-}
-
-/// The parts with one term more, of an entry of 64 bits.
-fn add_small_term(
-    sums: PlusMinus,
-    coefficient: i32,
-    entry: u64,
-    limit: u128,
-) -> Result<PlusMinus, Passed>
-    requires plus { sums.plus ≤ limit }
-    requires minus { sums.minus ≤ limit }
-    ensures plus { IfOk result (λ after. after.plus ≡ sums.plus + positive_coefficient coefficient * entry) }
-    ensures minus { IfOk result (λ after. after.minus ≡ sums.minus + negative_coefficient coefficient * entry) }
-    ensures plus_within { IfOk result (λ after. after.plus ≤ limit) }
-    ensures minus_within { IfOk result (λ after. after.minus ≤ limit) }
-    ensures passed { OnErr result ((limit < sums.plus + positive_coefficient coefficient * entry) ⊎ (limit < sums.minus + negative_coefficient coefficient * entry)) }
-{
-    if entry == 0 {
-        return Ok(sums);
-    }
-    let magnitude = coefficient.unsigned_abs();
-    if coefficient > 0 {
-        let plus = add_small_product(sums.plus, magnitude, entry, limit)?;
-        Ok(PlusMinus {
-            plus,
-            minus: sums.minus,
-        })
-    } else {
-        let minus = add_small_product(sums.minus, magnitude, entry, limit)?;
-        Ok(PlusMinus {
-            plus: sums.plus,
-            minus,
-        })
-    }
-}
-
 /// The parts of a row's entries at a vector of entries of 64 bits, where neither passes the limit.
 pub(crate) fn small_parts(
     entries: &[(u32, i32)],
@@ -146,7 +97,7 @@ pub(crate) fn small_parts(
 {
     let mut sums = PlusMinus { plus: 0, minus: 0 };
     for (column, coefficient) in entries {
-        sums = add_small_term(sums, *coefficient, x[*column as usize], limit)?;
+        sums = add_term(sums, *coefficient, u128::from(x[*column as usize]), limit)?;
     }
     Ok(sums)
 }

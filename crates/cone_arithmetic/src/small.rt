@@ -36,7 +36,7 @@ pub(crate) fn product(a: u128, b: u128) -> Option<u128>
 }
 
 /// The product of two numbers of 64 bits, which always fits.
-pub(crate) fn product_of_small(a: u64, b: u64) -> u128
+fn product_of_small(a: u64, b: u64) -> u128
     ensures { result ≡ a * b }
 {
     u128::from(a) * u128::from(b)

@@ -16,7 +16,7 @@ returns-in_err-sums-clause-passed c =
 pub loop-column-preserved : goal.loop-column-preserved
 loop-column-preserved c =
     let f : FitsSigned w32 (get_or c.args.entries.now c.loop-column.column-index (0, pos 0)).1 = search rules in
-    let sums = simp to_z-of_z at c.in_ok-sums.ensures in
+    let sums = simp (to_z-of_z, c.from.ensures) at c.in_ok-sums.ensures in
     record {
       plus = plus_more c.args.entries.now c.args.x.now c.loop-column.column-index c.loop-column.sums.plus c.in_ok-sums.sums.plus c.loop-column-test.true c.loop-column.invariant.plus sums.plus;
       minus = minus_more c.args.entries.now c.args.x.now c.loop-column.column-index c.loop-column.sums.minus c.in_ok-sums.sums.minus c.loop-column-test.true c.loop-column.invariant.minus sums.minus;
