@@ -17,7 +17,9 @@ use crate::fresh::{Fresh, free_column};
 use crate::raising::raised_rays;
 use cone_arithmetic::{Ray, SparseRow, System};
 use no_memory::NoMemory;
-use ray_steps::{Clashes, Compatible, RayWithSupport, StepFault, StepInput, sort_rays, without_supports};
+use ray_steps::{
+    Clashes, Compatible, RayWithSupport, StepFault, StepInput, sort_rays, without_supports,
+};
 use std::alloc::Global;
 
 /// One row more, all of whose columns enter before.

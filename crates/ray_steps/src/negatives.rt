@@ -34,11 +34,7 @@ fn negative_places(alloc: Global, signs: &[Sign]) -> Result<Vec<usize>, NoMemory
 }
 
 /// The negative rays, with their supports.
-pub fn negatives_of(
-    alloc: Global,
-    rays: RayList,
-    signs: &[Sign],
-) -> Result<Negatives, NoMemory>
+pub fn negatives_of(alloc: Global, rays: RayList, signs: &[Sign]) -> Result<Negatives, NoMemory>
     requires { length signs.now ≡ length rays.items.now }
     ensures { IfOk result (AreNegatives (rays_of rays.entry.items.now) signs.now rays.entry.columns) }
 {

@@ -39,11 +39,7 @@ fn places_apart(
 }
 
 /// The supports of the rays at some places.
-pub fn supports_at(
-    alloc: Global,
-    rays: RayList,
-    places: &[usize],
-) -> Result<SupportTable, NoMemory>
+pub fn supports_at(alloc: Global, rays: RayList, places: &[usize]) -> Result<SupportTable, NoMemory>
     requires { All (λ k. k < length rays.items.now) places.now }
     ensures { IfOk result (HasSupportsOf (rays_of rays.entry.items.now) rays.entry.columns places.now) }
 {
@@ -56,11 +52,7 @@ pub fn supports_at(
 }
 
 /// The rays that have none of some columns.
-pub fn rivals_with(
-    alloc: Global,
-    rays: RayList,
-    joined: Support,
-) -> Result<Rivals, NoMemory>
+pub fn rivals_with(alloc: Global, rays: RayList, joined: Support) -> Result<Rivals, NoMemory>
     requires { length joined ≡ rays.columns }
     ensures joined { IfOk result (λ rivals. rivals.joined ≡ joined) }
     ensures rivals { IfOk result (HaveRivals (rays_of rays.entry.items.now) rays.entry.columns) }
