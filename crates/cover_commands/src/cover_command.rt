@@ -36,7 +36,7 @@ fn too_many(alloc: Global) -> Result<Outcome, NoMemory>
 }
 
 /// The answer to a table, by its skeleton.
-fn answer_by(alloc: Global, skeleton: &Skeleton) -> Result<Outcome, NoMemory>
+fn answer_by_skeleton(alloc: Global, skeleton: &Skeleton) -> Result<Outcome, NoMemory>
     ensures { IfOk result (IsCoverAnswer skeleton.now.rows) }
 {
     match Cover::of(alloc, skeleton) {
@@ -51,7 +51,7 @@ fn answer(alloc: Global, table: &Table) -> Result<Outcome, NoMemory>
     ensures { IfOk result (IsCoverAnswer table.now) }
 {
     let skeleton = Skeleton::of(alloc, table)?;
-    answer_by(alloc, &skeleton)
+    answer_by_skeleton(alloc, &skeleton)
 }
 
 /// The outcome of `cover` on an input that isn't too long.

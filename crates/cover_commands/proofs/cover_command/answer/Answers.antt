@@ -6,4 +6,4 @@ use Rattle.outcome_definitions.specs.Covers.{IsCoverAnswer}
 use Rattle.cover_commands.proofs.cover_command.answer.Goals as goal
 
 pub returns : goal.returns
-returns c = subst (λ (rows : List Row). IfOk c.answer_by.result (IsCoverAnswer rows)) c.in_ok-skeleton.ensures.rows c.answer_by.ensures
+returns c = subst (λ (rows : List Row). IfOk c.answer_by_skeleton.result (IsCoverAnswer rows)) c.in_ok-skeleton.ensures.rows c.answer_by_skeleton.ensures

@@ -1,7 +1,7 @@
 -- The cover, or that it would have too many tetrahedra.
 use Rattle.std.proofs.lemmas.Result.{IfOk-weaker}
 use Rattle.cover_commands.proofs.Telling.{cover_answer, large_answer}
-use Rattle.cover_commands.proofs.cover_command.answer_by.Goals as goal
+use Rattle.cover_commands.proofs.cover_command.answer_by_skeleton.Goals as goal
 
 pub returns-in-Ok : goal.returns-in-Ok
 returns-in-Ok c = IfOk-weaker c.outcome_of.result _ _ (λ o t. cover_answer c.args.skeleton.now.rows _ o c.in-Ok.ensures.cover c.in-Ok.ensures.fits t) c.outcome_of.ensures
