@@ -1,4 +1,5 @@
--- A walk of which the types are found face by face, each face read at most once, and how far its text agrees with a bound.
+-- A canonical traversal whose face types are found one by one, each face read at most once, and how far its text agrees
+-- with a bound.
 use Rattle.std.specs.Prelude.{◌≡◌, ◌≢◌, ℕ, suc, ◌+◌, ◌-◌, ◌*◌, ◌/◌, ◌%◌, ◌<◌, ◌≤◌, Bool, true, false, ◌||◌, not, List, [], ◌∷◌, ◌++◌, length, map, ◌==◌, nat_lt, Option, Some, None, slice_get, slice_index, slice_set, All, if◌then◌else◌}
 use Rattle.std.specs.List.{slice_index_or}
 use Rattle.table_definitions.specs.Permutation.{inverse, compose}
@@ -13,8 +14,8 @@ use Rattle.signature_text_laws.specs.Walks.{IsWalk}
 use Rattle.signature_laws.specs.Orders.{start_at, face_from, follow, AreMet, Numbers}
 use Rattle.canonical_labelling.specs.declared.comparison.Comparison.{Comparison}
 
--- the order and its marks, the place of each tetrahedron in the order, the new faces that were met from their other sides,
--- the types of the faces that were read, and the new gluings of those of type 2
+-- the state of a traversal: the order and its marks, the new number of each tetrahedron, the new faces reached from
+-- their other sides, the types of the faces read, and the new gluings of those of type 2
 pub record ComparisonView : Type 0 where
   pub order : List Start
   pub met : List Bool
@@ -23,7 +24,7 @@ pub record ComparisonView : Type 0 where
   pub types : List ℕ
   pub gluings : List Gluing
 
--- the tetrahedron behind a gluing has a number then
+-- the state once the tetrahedron across the gluing has a number
 abbrev pub numbered : Bool → Start → Gluing → ComparisonView → ComparisonView
 numbered met from g s = record s {
   order = follow met from g s.order;
@@ -31,14 +32,15 @@ numbered met from g s = record s {
   numbers = if met then s.numbers else slice_set s.numbers g.tet (length s.order);
 }
 
--- the new gluing that stands for a gluing
+-- the gluing in the new labels
 abbrev pub new_gluing : Start → Gluing → ComparisonView → Gluing
 new_gluing from g s = record {
   tet = slice_index s.numbers g.tet;
   perm = compose (start_at s.order (slice_index s.numbers g.tet)).perm (compose g.perm (inverse from.perm));
 }
 
--- the face at a place is crossed by a new gluing
+-- the state once the face with new index k is recorded: of type 2 if the tetrahedron across it was visited before, and
+-- else of type 1
 abbrev pub crossed : Bool → ℕ → Gluing → ComparisonView → ComparisonView
 crossed met k g s = record s {
   crossed = slice_set s.crossed (face_number (other_side (face_of k) g)) true;
@@ -46,74 +48,83 @@ crossed met k g s = record s {
   gluings = if met then s.gluings ++ g ∷ [] else s.gluings;
 }
 
+-- the state after the face with new index k, which is glued
 abbrev pub take_glued : ℕ → Start → Gluing → ComparisonView → ComparisonView
 take_glued k from g s =
     let met : Bool = slice_index_or s.met g.tet false in
     let t : ComparisonView = numbered met from g s in
     crossed met k (new_gluing from g t) t
 
+-- the state after the face with new index k, given its gluing; a boundary face has type 0
 abbrev pub take_entry : ℕ → Start → Option Gluing → ComparisonView → ComparisonView
 take_entry k from None s = record s { types = s.types ++ 0 ∷ [] }
 take_entry k from (Some g) s = take_glued k from g s
 
--- the face at a place is taken, unless it was met from its other side
+-- the state after the face with new index k; nothing changes if it was reached from its other side or its tetrahedron
+-- is not visited
 abbrev pub take_place : List Row → ℕ → ComparisonView → ComparisonView
 take_place rows k s =
     if slice_index_or s.crossed k false then s
     else (if nat_lt (k / 4) (length s.order) then take_entry k (start_at s.order (k / 4)) (glue rows (face_from (start_at s.order (k / 4)) (k % 4))) s else s)
 
--- whether a text stands before a bound, where that is told by the first characters of the text
+-- whether a text with this character is less than a bound with the given one at its place, or with none; None if the
+-- characters agree
 abbrev pub compare_by : Option ℕ → ℕ → Option Bool
 compare_by None c = Some false
 compare_by (Some b) c = if c == b then None else Some (nat_lt c b)
 
+-- whether each text that begins with the first list is less than the bound; None if the list is a prefix of the bound
 abbrev pub told : List ℕ → List ℕ → Option Bool
 told [] bound = None
 told (c ∷ cs) [] = Some false
 told (c ∷ cs) (b ∷ bound) = if c == b then told cs bound else Some (nat_lt c b)
 
--- the character of the three types from a place on
+-- the character that packs the three types from index i on
 abbrev pub type_character : List ℕ → ℕ → ℕ
 type_character types i = character (slice_index types i + 4 * slice_index types (i + 1) + 16 * slice_index types (i + 2))
 
--- what the last character of the types tells, where its three types were found, and where one or two were
+-- the comparison at the last type character, if its three types are found
 abbrev pub compare_full_character : List ℕ → List ℕ → ℕ → Option Bool
 compare_full_character types bound head =
     if (length types == 0) || not (length types % 3 == 0) then None
     else compare_by (slice_get bound (head + (length types - 3) / 3)) (type_character types (length types - 3))
 
+-- the comparison at the last type character, if only one or two types are left for it
 abbrev pub compare_last_character : List ℕ → List ℕ → ℕ → Option Bool
 compare_last_character types bound head =
     if length types % 3 == 0 then None
     else compare_by (slice_get bound (head + (length types - length types % 3) / 3)) (type_character types (length types - length types % 3))
 
+-- the head of the text of a table of n tetrahedra
 abbrev pub head_text : ℕ → List ℕ
 head_text n = map character (head_values n)
 
--- the first place at which two texts differ, where a missing character differs from each
+-- the least index at which two texts differ; a text that has ended differs from one that has not
 pub record IsFirstDifference (text bound : List ℕ) (i : ℕ) : Type 0 where
   pub same : (k : ℕ) → k < i → slice_get text k ≡ slice_get bound k
   pub apart : slice_get text i ≢ slice_get bound i
 
--- the place of the destinations in the text of a table
+-- the index at which the destinations begin in the text of the table
 abbrev pub destinations_at : List Row → ℕ
 destinations_at rows = length (head_values (length rows)) + length (packed (face_types rows))
 
--- the number of type characters at places up to and with i
+-- the number of type characters at indices up to and including i
 abbrev pub type_characters : List Row → ℕ → ℕ
 type_characters rows i = suc i - length (head_values (length rows))
 
--- where the text differs from the bound before its destinations, as many faces were read as three for each type character up to there
+-- if the text first differs from the bound at index i, before its destinations, at most three faces were read for each
+-- type character up to i
 abbrev pub ReadsFew : List Row → Start → List ℕ → ℕ → Type 0
 ReadsFew rows start bound reads =
     (by : Relabelling) (new : List Row) (text : List ℕ) (i : ℕ) → IsWalked rows start by new → Spells text new → IsFirstDifference text bound i
     → i < destinations_at new → reads ≤ 3 * type_characters new i
 
--- what the calls keep, as the definitions see it
+-- the state that the code keeps, as the definitions see it
 abbrev pub comparison_view : Comparison → ComparisonView
 comparison_view t = record { order = t.walking.order.items; met = t.walking.met.items; numbers = t.numbers.items; crossed = t.crossed.items; types = t.types.items; gluings = t.gluings.items }
 
--- what holds before the face at a place is taken: each tetrahedron in the order has its place as its number
+-- what holds before the face with new index k is taken; in particular the tetrahedron at index i of the order has the
+-- number i
 pub record IsComparison (k : ℕ) (s : ComparisonView) : Type 0 where
   pub few : length s.numbers ≤ max_tets
   pub marks : length s.met ≡ length s.numbers
@@ -123,27 +134,28 @@ pub record IsComparison (k : ℕ) (s : ComparisonView) : Type 0 where
   pub small : All (λ t. t < 3) s.types
   pub few_types : length s.types ≤ k
 
--- whether a face of a table leads to one before place k
+-- whether the face is glued to one of an index below k
 abbrev pub leads_before : ℕ → Face → Option Gluing → Bool
 leads_before k y None = false
 leads_before k y (Some g) = nat_lt (face_number (other_side y g)) k
 
--- before the face at k is taken, the new table's walk has come as far, and the faces that are crossed lead to earlier ones
+-- before the face at k is taken, the state is that of the new table's walk, and a face from k on is marked as crossed
+-- if and only if it is glued to one before k
 pub record Follows (by : Relabelling) (new : List Row) (k : ℕ) (s : ComparisonView) : Type 0 where
   pub walk : IsWalk new k (record { seen = length s.order; types = s.types; gluings = s.gluings })
   pub stands : Numbers s.order by
   pub crossed : (p : ℕ) → k ≤ p → p < 4 * length new → slice_index_or s.crossed p false ≡ leads_before k (face_of p) (glue new (face_of p))
 
--- the same for each table to which the walk from a start leads
+-- Follows, for each table that a traversal from the start leads to
 abbrev pub FollowsWalks : List Row → Start → ℕ → ComparisonView → Type 0
 FollowsWalks rows start k s = (by : Relabelling) (new : List Row) → IsWalked rows start by new → Follows by new k s
 
--- whether the text of the walk stands before the bound, told after few faces were read
+-- whether the text of the traversal is less than the bound; if it is not, ReadsFew holds of the number of faces read
 pub record IsDecided (rows : List Row) (start : Start) (bound : List ℕ) (reads : ℕ) (before : Bool) : Type 0 where
   pub value : (by : Relabelling) (new : List Row) (text : List ℕ) → IsWalked rows start by new → Spells text new → before ≡ is_list_before text bound
   pub few : before ≡ false → ReadsFew rows start bound reads
 
--- all types and gluings were found, and the characters of the types don't tell
+-- all types and gluings are found, and the text agrees with the bound up to the end of its types
 pub record IsUndecided (rows : List Row) (start : Start) (bound : List ℕ) (s : ComparisonView) : Type 0 where
   pub types : (by : Relabelling) (new : List Row) → IsWalked rows start by new → s.types ≡ face_types new
   pub gluings : (by : Relabelling) (new : List Row) → IsWalked rows start by new → s.gluings ≡ seen_gluings new

@@ -1,4 +1,5 @@
-//! Walks that are compared with a bound while they are made, and left as soon as it is told which stands first.
+//! Compares the text of a canonical traversal with a bound while the traversal is made, and stops at the first
+//! difference.
 
 ghost use Rattle.std.specs.Prelude.{◌≡◌, ◌<◌, ◌≤◌, ◌+◌, ◌-◌, ◌*◌, ◌/◌, ◌^◌, ◌++◌, ◌∷◌, [], ℕ, List, true, false, None, Some, All, length, replicate, map, slice_get, slice_index, IfOk, IfSome, IfNone, OnOk};
 ghost use Rattle.std.specs.List.{slice_index_or};
@@ -21,7 +22,7 @@ use signature_codec::{
 };
 use std::alloc::{AllocError, Global};
 
-/// Whether the first text stands before the second.
+/// Whether `first` comes before `second` in lexicographic order, a prefix first.
 pub fn is_before(first: &[u8], second: &[u8]) -> bool
     ensures { result ≡ is_list_before first.now second.now }
 {
@@ -35,7 +36,8 @@ pub fn is_before(first: &[u8], second: &[u8]) -> bool
     first.len() < second.len()
 }
 
-/// Whether a text with this character at a place stands before the bound, where they agree up to there and differ here.
+/// Compares a text whose byte at index `place` is `character` with `bound`, where the two agree before `place`: whether
+/// the text comes first, or `None` if `bound` has the same byte there.
 fn compare_at(bound: &[u8], place: usize, character: u8) -> Option<bool>
     ensures { result ≡ compare_by (slice_get bound.now place) character }
 {
@@ -48,7 +50,7 @@ fn compare_at(bound: &[u8], place: usize, character: u8) -> Option<bool>
     Some(character < bound[place])
 }
 
-/// Whether a text that begins so stands before the bound, where its first characters tell.
+/// Whether every text that begins with `text` comes before `bound`; `None` if `text` is a prefix of `bound`.
 fn compare_head(text: &[u8], bound: &[u8]) -> Option<bool>
     ensures { result ≡ comparisons.told text.now bound.now }
 {
@@ -63,7 +65,8 @@ fn compare_head(text: &[u8], bound: &[u8]) -> Option<bool>
     None
 }
 
-/// Gives the tetrahedron behind a gluing a number, if it has none.
+/// Gives the tetrahedron across `glue` the next new number and appends it to the traversal, unless it was visited
+/// before.
 fn number(comparison: &mut Comparison, from: Start, glue: Glue) -> Result<(), AllocError>
     requires in_range { glue.tet < length comparison.old.numbers.items }
     requires few { length comparison.old.walking.order.items < 2 ^ 32 }
@@ -75,7 +78,7 @@ fn number(comparison: &mut Comparison, from: Start, glue: Glue) -> Result<(), Al
     follow(&mut comparison.walking, from, glue)
 }
 
-/// The new gluing that stands for a gluing of a tetrahedron with a number to one with a number.
+/// The gluing `glue`, of a face of the tetrahedron of `from`, in the new labels. Its target has a new number.
 fn new_gluing(comparison: &Comparison, from: Start, glue: Glue) -> Glue
     requires numbers { glue.tet < length comparison.now.numbers.items }
     requires order { slice_index comparison.now.numbers.items glue.tet < length comparison.now.walking.order.items }
@@ -89,7 +92,9 @@ fn new_gluing(comparison: &Comparison, from: Start, glue: Glue) -> Glue
     }
 }
 
-/// Crosses the face at a place by a new gluing to a tetrahedron that was met, or was not.
+/// Records the gluing `glue` of the new face with index `place` (4 times tetrahedron plus face). The face on its other
+/// side is marked as crossed; the type is 2 if the target was visited before (`met`), and then `glue` is kept too, and
+/// 1 otherwise.
 fn cross(comparison: &mut Comparison, place: u32, glue: Glue, met: bool) -> Result<(), AllocError>
     requires { glue.tet < length comparison.old.numbers.items }
     ensures { OnOk result (comparison_view comparison.new ≡ comparisons.crossed met place glue (comparison_view comparison.old)) }
@@ -108,7 +113,7 @@ fn cross(comparison: &mut Comparison, place: u32, glue: Glue, met: bool) -> Resu
     Ok(())
 }
 
-/// Takes a face that is glued.
+/// Records the face with new index `place`, glued by `glue` in the old labels, and visits the tetrahedron across it.
 fn take_glued(
     comparison: &mut Comparison,
     place: u32,
@@ -128,7 +133,8 @@ fn take_glued(
     Ok(())
 }
 
-/// Takes the face at a place, and reads it unless it was met from its other side.
+/// Records the face with new index `place`, reading its gluing from `probe` unless the face was reached from its other
+/// side.
 fn take(comparison: &mut Comparison, probe: &mut Probe<'_>, place: u32) -> Result<(), AllocError>
     requires table { IsTable probe.old.rows }
     requires in_range { place < 4 * length probe.old.rows }
@@ -144,7 +150,7 @@ fn take(comparison: &mut Comparison, probe: &mut Probe<'_>, place: u32) -> Resul
         return Ok(());
     }
     let number = (place / 4) as usize;
-    // A table that isn't connected runs out of tetrahedra that are met.
+    // in a disconnected table not every number is given
     if number >= comparison.walking.order.len() {
         return Ok(());
     }
@@ -156,7 +162,7 @@ fn take(comparison: &mut Comparison, probe: &mut Probe<'_>, place: u32) -> Resul
     take_glued(comparison, place, from, glue)
 }
 
-/// Whether the character of the types from a place on tells.
+/// Compares the character that packs the three types from index `i` on with `found.bound`; `None` if they are equal.
 fn compare_character(found: FoundTypes<'_>, i: usize) -> Option<bool>
     requires { i < length found.types.now }
     ensures { result ≡ compare_by (slice_get found.entry.bound.now (found.entry.head + i / 3)) (comparisons.type_character found.entry.types.now i) }
@@ -168,7 +174,7 @@ fn compare_character(found: FoundTypes<'_>, i: usize) -> Option<bool>
     )
 }
 
-/// Whether the last character tells, where its three types were found.
+/// Compares the last type character if all three of its types are known; `None` if not, or if the characters are equal.
 fn compare_full_character(found: FoundTypes<'_>) -> Option<bool>
     ensures { result ≡ comparisons.compare_full_character found.entry.types.now found.entry.bound.now found.entry.head }
 {
@@ -179,7 +185,8 @@ fn compare_full_character(found: FoundTypes<'_>) -> Option<bool>
     compare_character(found, count - 3)
 }
 
-/// Whether the last character tells, where one or two types were found for it.
+/// Compares the last type character if it packs only one or two types; `None` if it does not, or if the characters are
+/// equal.
 fn compare_last_character(found: FoundTypes<'_>) -> Option<bool>
     ensures { result ≡ comparisons.compare_last_character found.entry.types.now found.entry.bound.now found.entry.head }
 {
@@ -191,7 +198,9 @@ fn compare_last_character(found: FoundTypes<'_>) -> Option<bool>
     compare_character(found, count - rest)
 }
 
-/// Whether the types of the walk tell, which are found up to the first character that does.
+/// Finds the types of the traversal from `start` up to the first type character that differs from `bound`, whose first
+/// `head` bytes agree with the text. Returns whether the text comes before `bound`; `None` if all type characters
+/// agree, and then all types and gluings are found.
 fn compare_types(
     comparison: &mut Comparison,
     probe: &mut Probe<'_>,
@@ -229,7 +238,7 @@ fn compare_types(
     }))
 }
 
-/// The walk that has met its start alone.
+/// A traversal of a table with `count` tetrahedra that has visited only that of `start`.
 fn comparison_from(alloc: Global, count: u32, start: Start) -> Result<Comparison, AllocError>
     requires in_range { start.tet < count }
     requires few { count ≤ max_tets }
@@ -252,7 +261,7 @@ fn comparison_from(alloc: Global, count: u32, start: Start) -> Result<Comparison
     })
 }
 
-/// Appends the types, the destinations and the places of the permutations, which make the text whole.
+/// Appends the types, the destinations and the permutation indices, which complete `text`.
 fn append_parts(text: &mut Vec<u8>, count: u32, comparison: &Comparison) -> Result<(), NoMemory>
     requires { length comparison.now.types.items ≤ 4000 }
     ensures { OnOk result (text.new.items ≡ ((text.old.items ++ map character (packed comparison.now.types.items)) ++ destinations_text (spellings.width count) comparison.now.gluings.items) ++ indices_text comparison.now.gluings.items) }
@@ -262,9 +271,9 @@ fn append_parts(text: &mut Vec<u8>, count: u32, comparison: &Comparison) -> Resu
     append_indices(text, &comparison.gluings)
 }
 
-/// Whether the text that spells the walk of a table from a start, if one does, stands before the bound. Where it doesn't,
-/// and the first place at which they differ stands before the destinations of the text, no more faces are read than three
-/// for each type character up to there.
+/// Whether the text of the traversal from `start` comes before `bound`. If it does not, and the two first differ before
+/// the destinations of the text, at most three faces are read for each type character up to there. For a disconnected
+/// table, which has no such text, either result may come.
 pub fn lesser(
     alloc: Global,
     probe: &mut Probe<'_>,

@@ -1,4 +1,4 @@
-//! What is kept of a walk that is compared with a bound.
+//! The state of a canonical traversal whose text is compared with a bound.
 
 ghost use Rattle.std.specs.Prelude.{◌≡◌, ◌<◌, ◌≤◌, ◌*◌, All, length};
 ghost use Rattle.table_definitions.specs.Table.{max_tets};
@@ -6,8 +6,9 @@ ghost use Rattle.table_definitions.specs.Table.{max_tets};
 use crate::order::Walking;
 use gluing_table::Glue;
 
-/// A walk with the place of each tetrahedron in the order, the new faces that were met from their other sides, the types
-/// of the faces that were read, and the new gluings of those of type 2.
+/// The state of a traversal: `numbers[t]` is the new number of a visited tetrahedron `t`; `crossed[k]` says whether the
+/// new face with index `k` was reached from its other side; `types` has the types of the faces read, and `gluings` the
+/// new gluings of those of type 2.
 #[derive(Drop)]
 pub struct Comparison {
     pub walking: Walking,
@@ -21,7 +22,8 @@ pub struct Comparison {
     pub ghost small: { All (λ t. t < 3) types.items },
 }
 
-/// The types that were found of a text, beside a bound; so many characters stand before those of the types.
+/// The types found so far of a text, and the bound that it is compared with; `head` bytes of the text come before the
+/// types.
 #[derive(Clone, Copy)]
 pub struct FoundTypes<'a> {
     pub types: &'a [u8],

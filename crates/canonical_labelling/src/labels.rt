@@ -1,4 +1,4 @@
-//! The relabelling that puts tetrahedra in an order.
+//! The relabelling that numbers tetrahedra in a given order.
 
 ghost use Rattle.std.specs.Prelude.{◌<◌, ◌≤◌, ℕ, length, IfOk};
 ghost use Rattle.table_definitions.specs.Permutation.{IsPermutationOfFour};
@@ -10,7 +10,8 @@ use gluing_table::Relabelling;
 use no_memory::NoMemory;
 use std::alloc::Global;
 
-/// The relabelling by which each tetrahedron goes to its place in the order.
+/// The relabelling that takes the tetrahedron of each start in `order` to its position there, by the permutation of the
+/// start. Each of the `count` tetrahedra occurs once in `order`.
 pub fn relabelling_of(alloc: Global, count: u32, order: &[Start]) -> Result<Relabelling, NoMemory>
     requires whole { IsWholeOrder count order.now }
     requires some { 0 < length order.now }
@@ -20,7 +21,7 @@ pub fn relabelling_of(alloc: Global, count: u32, order: &[Start]) -> Result<Rela
     ensures numbers { IfOk result (λ by. Numbers order.now by) }
 {
     let mut images = vec![in alloc; 0u32; count as usize]?;
-    // Each place is written over, since each tetrahedron stands in the order.
+    // a placeholder: each entry is overwritten, since each tetrahedron occurs in `order`
     let first = order[0];
     let mut perms = vec![in alloc; first.perm; count as usize]?;
     for (i, start) in order.iter().enumerate() {

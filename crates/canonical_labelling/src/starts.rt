@@ -1,4 +1,4 @@
-//! The starts of the walks of a table, by number.
+//! The 24n starts of the traversals of a table of n tetrahedra, by index.
 
 ghost use Rattle.std.specs.Prelude.{◌≡◌};
 ghost use Rattle.signature_laws.specs.Starts as starts;
@@ -6,7 +6,7 @@ ghost use Rattle.signature_laws.specs.Starts as starts;
 use crate::Start;
 use perm_four::perm_at;
 
-/// The start of a number: those of each tetrahedron stand together, in the order of their permutations.
+/// The start with index `number`: there are 24 for each tetrahedron, in the order of their permutations.
 pub fn numbered_start(number: u32) -> Start
     ensures { result ≡ starts.numbered_start number }
 {
@@ -16,7 +16,8 @@ pub fn numbered_start(number: u32) -> Start
     }
 }
 
-/// The start from which a walk leads tetrahedron 0 back to where the start of a number begins.
+/// The start from which the inverse of the traversal's relabelling takes tetrahedron 0 to the tetrahedron of start
+/// `number`, by the permutation of that start.
 pub fn numbered_start_back(number: u32) -> Start
     ensures { result ≡ starts.numbered_start_back number }
 {

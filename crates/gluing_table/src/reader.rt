@@ -1,4 +1,4 @@
-//! Tables from text.
+//! Reads gluing tables from text.
 
 ghost use Rattle.std.specs.Prelude.{◌≡◌, ◌==◌, ◌<◌, ◌≤◌, length, Some};
 ghost use Rattle.std.specs.List.{position_or_len, before_first, after_first};
@@ -11,7 +11,7 @@ use perm_four::Perm4;
 use std::alloc::Global;
 use text_io::{LIMIT, LexFault, LexKind, Lexer, is_decimal_word};
 
-/// The position of the first colon, or the length.
+/// The index of the first colon in `word`, or its length if it has none.
 fn colon_in(word: &[u8]) -> usize
     ensures value { result ≡ position_or_len (λ b. b == 58) word.now }
     ensures in_range { result ≤ length word.now }
@@ -19,14 +19,14 @@ fn colon_in(word: &[u8]) -> usize
     word.iter().take_while(|b| **b != b':').count()
 }
 
-/// What stands before the first colon.
+/// The part of `word` before its first colon, or all of it.
 fn before_colon(word: &[u8]) -> &[u8]
     ensures { result.now ≡ before_first (λ b. b == 58) word.now }
 {
     &word[..colon_in(word)]
 }
 
-/// What stands after the first colon.
+/// The part of `word` after its first colon, or nothing.
 fn after_colon(word: &[u8]) -> &[u8]
     ensures { result.now ≡ after_first (λ b. b == 58) word.now }
 {
@@ -38,7 +38,8 @@ fn after_colon(word: &[u8]) -> &[u8]
     }
 }
 
-/// What a word `t:p` of the lexer names.
+/// Parses `word`, the word `lexer` read last, as a gluing `t:p`. Fails with `BadWord` if it does not have this form,
+/// and with `NumberTooWide` if `t` is 2^32 or more.
 fn glue_of(lexer: &Lexer<'_>, word: &[u8]) -> Result<Glue, LexFault>
     ensures { Gives (λ g. Some g) result lexer.now (gluing_entry (gluing_of word.now) lexer.now) }
 {
@@ -57,7 +58,7 @@ fn glue_of(lexer: &Lexer<'_>, word: &[u8]) -> Result<Glue, LexFault>
     Ok(Glue { tet, perm })
 }
 
-/// What a face is glued to: `-` or `t:p`.
+/// Reads the entry of a face: `-` for a boundary face, or a gluing `t:p`.
 #[tactic(auto, unfolding(table_definitions::specs::TableText::entry_at))]
 fn read_entry(lexer: &mut Lexer<'_>) -> Result<Option<Glue>, LexFault>
     ensures { Gives (λ g. g) result lexer.new (entry_at lexer.old) }
@@ -70,7 +71,7 @@ fn read_entry(lexer: &mut Lexer<'_>) -> Result<Option<Glue>, LexFault>
     Ok(Some(glue))
 }
 
-/// A line of four entries.
+/// Reads the next line as a row of four entries.
 #[tactic(auto, unfolding(table_definitions::specs::TableText::row_at))]
 fn read_row(lexer: &mut Lexer<'_>) -> Result<Row, LexFault>
     ensures { Gives (λ row. row) result lexer.new (row_at lexer.old) }
@@ -84,7 +85,7 @@ fn read_row(lexer: &mut Lexer<'_>) -> Result<Row, LexFault>
     Ok([first, second, third, fourth])
 }
 
-/// The rows of so many lines.
+/// Reads the next `count` lines as rows.
 fn read_lines(alloc: Global, lexer: &mut Lexer<'_>, count: u32) -> Result<Vec<Row>, TextFault>
     ensures { ReadsFrom TextFault.NoMemory (λ rows. rows.items) result lexer.new (lexed (rows_at count lexer.old)) }
 {
@@ -96,7 +97,7 @@ fn read_lines(alloc: Global, lexer: &mut Lexer<'_>, count: u32) -> Result<Vec<Ro
     Ok(rows)
 }
 
-/// The table of so many rows, from the end of this line on.
+/// Reads the rest of the current line, which has to be empty, and then a table of `count` rows.
 #[tactic(auto, unfolding(table_definitions::specs::TableText::counted_rows_at))]
 fn read_counted(alloc: Global, lexer: &mut Lexer<'_>, count: u32) -> Result<Table, TextFault>
     ensures { ReadsFrom TextFault.NoMemory (λ table. table) result lexer.new (counted_rows_at count lexer.old) }
@@ -107,8 +108,9 @@ fn read_counted(alloc: Global, lexer: &mut Lexer<'_>, count: u32) -> Result<Tabl
     Ok(table)
 }
 
-/// The table that follows the word `tri`: its number of rows, and a line for each. The first fault is answered, and
-/// more than 1,000 rows are one before the rest of the line is read.
+/// Reads a table from after the word `tri`: the number of rows on the same line, then one line per row. Fails with the
+/// first fault in reading order. A count above 1,000 is reported before the rest of the line is read; faults of the
+/// gluings (`Table`), once all rows are read.
 #[tactic(auto, unfolding(table_definitions::specs::TableText::table_at))]
 pub fn read_rows(alloc: Global, lexer: &mut Lexer<'_>) -> Result<Table, TextFault>
     ensures { ReadsFrom TextFault.NoMemory (λ table. table) result lexer.new (table_at lexer.old) }

@@ -1,4 +1,4 @@
-//! Rows that are taken out of a table, and fresh rows that are put in.
+//! Replaces rows of a table by fresh ones, renumbering the rows that are kept.
 
 ghost use Rattle.std.specs.Prelude.{◌≡◌, false, ◌==◌, ◌+◌, ◌<◌, ◌≤◌, ◌^◌, [], length, vec_capacity, if◌then◌else◌, Some, None, option_and_then};
 ghost use Rattle.std.specs.List.Sorted.{IsStrictlyIncreasing};
@@ -13,7 +13,8 @@ use crate::table::{copy_row, glue_at};
 use crate::{Face, Glue, Row};
 use std::marker::Model;
 
-/// The rows of a table, the numbers of those that are taken out, and fresh ones that are put in.
+/// A replacement to be made: the rows of a table, the numbers of those to remove, and fresh rows with their numbers in
+/// the new table. Both lists ascend.
 #[derive(Drop)]
 pub struct Exchange<'a> {
     pub rows: &'a [Row],
@@ -31,14 +32,14 @@ impl<'a> Model for Exchange<'a> {
     ghost invariant = { λ e. definition.IsExchange e.rows.now (record { removed = e.removed.now; fresh = e.fresh.now }) };
 }
 
-/// Whether the number is one of them.
+/// Whether `number` occurs in `numbers`.
 fn is_among(numbers: &[u32], number: u32) -> bool
     ensures { result ≡ has numbers.now number }
 {
     numbers.iter().any(|n| *n == number)
 }
 
-/// The number once those that are gone are closed up.
+/// `number` less the count of smaller numbers in `gone`: its position among the numbers that are not in `gone`.
 fn closed_number(gone: &[u32], number: u32) -> u32
     ensures { result ≡ closed_up gone.now number }
 {
@@ -46,7 +47,7 @@ fn closed_number(gone: &[u32], number: u32) -> u32
     (number as usize).saturating_sub(before) as u32
 }
 
-/// The same where rows are gone.
+/// As `closed_number`, for the numbers of the rows in `gone`.
 fn closed_row(gone: &[(u32, Row)], number: u32) -> u32
     ensures { result ≡ closed_up (numbers_of gone.now) number }
 {
@@ -54,7 +55,7 @@ fn closed_row(gone: &[(u32, Row)], number: u32) -> u32
     (number as usize).saturating_sub(before) as u32
 }
 
-/// The number that is none of them and that has so many others before it.
+/// The inverse of `closed_number`: the number at position `place` among those that are not in `gone`, which ascends.
 fn opened_number(gone: &[u32], place: u32) -> u32
     requires ascend { IsStrictlyIncreasing gone.now }
     requires fits { place + length gone.now < 2 ^ 32 }
@@ -70,7 +71,7 @@ fn opened_number(gone: &[u32], place: u32) -> u32
     number
 }
 
-/// The same among the numbers of rows.
+/// As `opened_number`, for the numbers of the rows in `gone`.
 fn opened_row(gone: &[(u32, Row)], place: u32) -> u32
     requires ascend { IsStrictlyIncreasing (numbers_of gone.now) }
     requires fits { place + length gone.now < 2 ^ 32 }
@@ -86,7 +87,7 @@ fn opened_row(gone: &[(u32, Row)], place: u32) -> u32
     number
 }
 
-/// The fresh row of this number.
+/// The row of `fresh` with the number `number`, or `None`.
 fn fresh_row(fresh: &[(u32, Row)], number: u32) -> Option<Row>
     ensures { result ≡ (if has (numbers_of fresh.now) number then Some (exchange.fresh_row (record { removed = []; fresh = fresh.now }) number) else None) }
 {
@@ -98,7 +99,7 @@ fn fresh_row(fresh: &[(u32, Row)], number: u32) -> Option<Row>
     None
 }
 
-/// The gluing back from `target`, where the gluing of `from` leads to it.
+/// The gluing of `target` back to `from`, if `glue`, the gluing of `from`, leads to `target`.
 fn back_to_face(from: Face, glue: Option<Glue>, target: Face) -> Option<Glue>
     ensures { result ≡ option_and_then (exchange.leads_to target from) glue }
 {
@@ -110,7 +111,7 @@ fn back_to_face(from: Face, glue: Option<Glue>, target: Face) -> Option<Glue>
     }
 }
 
-/// The gluing back from `target`, where a gluing of this row leads to it.
+/// The gluing of `target` back to row `number`, if a gluing of that row (`row`) leads to `target`.
 fn back_to_row(number: u32, row: &Row, target: Face) -> Option<Glue>
     ensures { result ≡ row_back target (number, row.now) }
 {
@@ -124,7 +125,7 @@ fn back_to_row(number: u32, row: &Row, target: Face) -> Option<Glue>
     None
 }
 
-/// The gluing back from `target`, where a gluing of a fresh row leads to it.
+/// The gluing of `target` back to a fresh row, if a gluing of one leads to `target`.
 fn back_to_fresh(fresh: &[(u32, Row)], target: Face) -> Option<Glue>
     ensures { result ≡ first_some (row_back target) fresh.now }
 {
@@ -137,7 +138,7 @@ fn back_to_fresh(fresh: &[(u32, Row)], target: Face) -> Option<Glue>
     None
 }
 
-/// What `face` of the new table is glued to, where its row was kept and had the number `tet`.
+/// The gluing of `face` in the new table, in a kept row whose old number is `tet`.
 fn retained_glue(swap: &Exchange<'_>, tet: u32, face: Face) -> Option<Glue>
     requires { tet < length swap.now.rows }
     ensures { result ≡ exchange.kept_gluing swap.now.rows swap.now.by face (gluings.glue swap.now.rows (record { tet = tet; face = face.face })) }
@@ -157,7 +158,7 @@ fn retained_glue(swap: &Exchange<'_>, tet: u32, face: Face) -> Option<Glue>
     Some(Glue { tet, perm })
 }
 
-/// The row `number` of the new table, where it was kept and had the number `tet`.
+/// Row `number` of the new table, a kept row whose old number is `tet`.
 fn retained_row(swap: &Exchange<'_>, tet: u32, number: u32) -> Row
     requires { tet < length swap.now.rows }
     ensures { result ≡ exchange.kept_row swap.now.rows swap.now.by tet number }
@@ -198,7 +199,7 @@ fn retained_row(swap: &Exchange<'_>, tet: u32, number: u32) -> Row
     ]
 }
 
-/// The row `number` of the new table.
+/// Row `number` of the new table.
 fn new_row(swap: &Exchange<'_>, number: u32) -> Row
     requires { number < replaced_length swap.now.rows swap.now.by }
     ensures { result ≡ exchange.replaced_row swap.now.rows swap.now.by number }
@@ -219,7 +220,7 @@ fn new_length(swap: &Exchange<'_>) -> u32
     (swap.rows.len() - swap.removed.len() + swap.fresh.len()) as u32
 }
 
-/// Writes the rows of the new table where none are yet and there is room for all.
+/// Writes the rows of the new table into `new`, which is empty and has room for a table of any size. Allocates nothing.
 pub fn write_replaced(new: &mut Vec<Row>, swap: &Exchange<'_>)
     requires empty { new.old.items ≡ [] }
     requires room { max_tets ≤ vec_capacity new.old }

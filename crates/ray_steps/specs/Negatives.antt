@@ -1,4 +1,4 @@
--- The negative rays of a step, and which of them can't make a pair with a positive ray.
+-- The negative rays of a step, and which of them cannot be adjacent to a positive ray.
 use Rattle.std.specs.Prelude.{ℕ, ◌<◌, ◌≤◌, ◌⊎◌, List, Bool, [], length, slice_index_or}
 use Rattle.support_bits.specs.Columns.{Meets}
 use Rattle.support_table.specs.Counts.{columns_in_either}
@@ -7,16 +7,16 @@ use Rattle.ray_steps.specs.declared.signs.Sign.{Sign}
 use Rattle.ray_steps.specs.Signs.{AreNegativePlaces}
 use Rattle.ray_steps.specs.Rivals.{HasSupportsOf}
 
--- the places of all negative rays, ascending, with their supports
+-- the indices of all negative rays, ascending, with their supports
 pub record AreNegatives (rays : List (List ℕ)) (signs : List Sign) (columns : ℕ) (negatives : Negatives) : Type 0 where
   pub places : AreNegativePlaces signs (length signs) negatives.places.items
   pub table : HasSupportsOf rays columns negatives.places.items negatives.table
 
--- the support has one of the joined columns, or together with a more than so many
+-- the support contains a joined column, or its union with a has more than `most` columns
 abbrev pub IsFar : List Bool → List Bool → ℕ → List Bool → Type 0
 IsFar a joined most support = Meets support joined ⊎ (most < columns_in_either a support)
 
--- the least place from one on whose support isn't far, or else the number of supports
+-- the least index from start on whose support is not far, or else the number of supports
 pub record IsFirstNear (a joined : List Bool) (most : ℕ) (supports : List (List Bool)) (start place : ℕ) : Type 0 where
   pub least : start ≤ place
   pub within : place ≤ length supports

@@ -1,4 +1,4 @@
--- The rays that can lie in the union of one ray and another, and third rays among them.
+-- The rays that are compatible with a given ray, and third rays among them.
 use Rattle.std.specs.Prelude.{◌≡◌, ◌≢◌, ℕ, ◌<◌, List, Bool, [], map, length, slice_index, slice_index_or, Contains}
 use Rattle.std.specs.List.{All}
 use Rattle.cone_definitions.specs.Surfaces.{Clash}
@@ -8,16 +8,16 @@ use Rattle.support_table.specs.Joins.{AreJoinedTo}
 use Rattle.support_table.specs.Tables.{Table}
 use Rattle.ray_steps.specs.declared.rivals.Rivals.{Rivals}
 
--- the ray at k has none of these columns
+-- the support of ray k contains none of the columns
 abbrev pub IsApart : List (List ℕ) → List Bool → ℕ → Type 0
 IsApart rays columns k = ¬ Meets (support_of (ray_at rays k)) columns
 
--- the places below n whose rays have none of these columns
+-- the indices below n of the rays whose supports contain none of the columns
 pub record AreApart (rays : List (List ℕ)) (columns : List Bool) (n : ℕ) (places : List ℕ) : Type 0 where
   pub in_range : All (λ k. k < n) places
   pub complete : (k : ℕ) → k < n → IsApart rays columns k → Contains places k
 
--- the table has the supports of the rays at these places
+-- the table has the supports of the rays with the indices places
 pub record HasSupportsOf (rays : List (List ℕ)) (columns : ℕ) (places : List ℕ) (table : Table) : Type 0 where
   pub width : table.columns ≡ columns
   pub supports : table.supports ≡ map (λ k. support_of (ray_at rays k)) places
@@ -27,17 +27,17 @@ pub record HasAllSupports (rays : List (List ℕ)) (columns : ℕ) (table : Tabl
   pub width : table.columns ≡ columns
   pub supports : table.supports ≡ map support_of rays
 
--- the places of all rays that have none of the columns at hand, with their supports
+-- the indices and supports of all rays that contain none of the columns rivals.joined
 pub record HaveRivals (rays : List (List ℕ)) (columns : ℕ) (rivals : Rivals) : Type 0 where
   pub count : length rivals.joined ≡ columns
   pub places : AreApart rays rivals.joined (length rays) rivals.places.items
   pub table : HasSupportsOf rays columns rivals.places.items rivals.table
 
--- these columns are those that clash with one of the ray at i
+-- rivals.joined is the set of columns that clash with ray i, and the rivals are the rays that contain none of them
 pub record AreRivals (pairs : List Clash) (rays : List (List ℕ)) (i columns : ℕ) (rivals : Rivals) : Type 0 where
   pub joined : AreJoinedTo pairs (support_of (ray_at rays i)) rivals.joined
   pub listed : HaveRivals rays columns rivals
 
--- at m there stands a place other than i and j, with a support inside the union of a and b
+-- the ray listed at m is neither i nor j, and its support lies in the union of a and b
 abbrev pub IsThirdInside : List ℕ → List (List Bool) → ℕ → ℕ → List Bool → List Bool → ℕ → Type 0
 IsThirdInside places supports i j a b m = (slice_index places m ≢ i) × (slice_index places m ≢ j) × IsInsideUnionOf (slice_index_or supports m []) a b

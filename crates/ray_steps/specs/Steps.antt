@@ -1,4 +1,4 @@
--- A step as one value, the facts that hold of its fields, and what its pairs are combined to.
+-- A step as one value, its invariant, and the combinations of its pairs.
 use Rattle.std.specs.Prelude.{◌≡◌, ℕ, ◌<◌, ◌≤◌, ◌⊎◌, List, length, map, IfSome}
 use Rattle.std.specs.List.{All}
 use Rattle.cone_definitions.specs.Surfaces.{Clash, IsAdmissibleUnion}
@@ -20,7 +20,7 @@ use Rattle.ray_steps.specs.declared.combinations.Search.{Search}
 use Rattle.ray_steps.specs.Clashes.{ClashData}
 use Rattle.ray_steps.specs.Unions.{HaveSmallUnions, MakeSinglesPairs}
 
--- what a step is: so many columns, the pairs of them that clash, its rays, a row's sign at each, and the greatest entry
+-- a step: the number of columns, the clashing pairs, the rays, the sign of the row at each, and the limit
 pub record StepData : Type 0 where
   pub columns : ℕ
   pub pairs : List Clash
@@ -28,49 +28,51 @@ pub record StepData : Type 0 where
   pub signs : List Sign
   pub limit : ℕ
 
--- rays that a step can be made of: each of so many columns, no pair's union with more than so many, single columns make pairs
+-- the rays of a step: each has columns entries, the union of an adjacent pair has at most `most` columns, and a ray of
+-- a single column is adjacent to each ray that it is compatible with
 pub record AreStepRays (columns most : ℕ) (pairs : List Clash) (ray_list : List RayWithSupport) : Type 0 where
   pub widths : AreOfWidth columns ray_list
   pub small : HaveSmallUnions columns most pairs (rays_of ray_list)
   pub singles : MakeSinglesPairs pairs (rays_of ray_list)
 
--- the facts that hold of the fields of a step
+-- the invariant of a step
 pub record IsStep (columns : ℕ) (pairs : List Clash) (ray_list : List RayWithSupport) (signs : List Sign) (most limit : ℕ) : Type 0 where
   pub rays : AreStepRays columns most pairs ray_list
   pub count : length signs ≡ length ray_list
   pub bounded : All (IsBoundedSign limit) signs
 
--- what the pairs of the places before i are combined to, and rivals where some are at hand
+-- the list consists of the combinations of the pairs whose first ray has an index below i; rivals, if given, are
+-- compatible rays
 pub record AreMadeBelow (step : StepData) (i : ℕ) (made : CombinationsSoFar) : Type 0 where
   pub so_far : IsMadeUpTo step.limit step.pairs step.rays step.signs i 0 (rays_of made.ray_list.items)
   pub widths : AreOfWidth step.columns made.ray_list.items
   pub rivals : IfSome made.rivals (HaveRivals step.rays step.columns)
 
--- what the pairs before the places i and j are combined to
+-- the list consists of the combinations of the pairs before i, j
 pub record AreMadeTo (step : StepData) (i j : ℕ) (ray_list : List RayWithSupport) : Type 0 where
   pub so_far : IsMadeUpTo step.limit step.pairs step.rays step.signs i j (rays_of ray_list)
   pub widths : AreOfWidth step.columns ray_list
 
--- two places are a face pair where their union holds no clashing pair
+-- rays i and j are adjacent unless the union of their supports contains a clashing pair
 abbrev pub IsFaceIfAdmissible : StepData → ℕ → ℕ → Type 0
 IsFaceIfAdmissible step i j = IsAdmissibleUnion step.pairs (ray_at step.rays i) (ray_at step.rays j) → IsFacePair step.pairs step.rays i j
 
--- a search for third rays beside the ray at i
+-- a search for the third rays of ray i
 pub record IsSearchAt (step : StepData) (i : ℕ) (search : Search) : Type 0 where
   pub in_range : i < length step.rays
   pub joined : AreJoinedTo step.pairs (support_of (ray_at step.rays i)) search.joined
   pub rivals : IfSome search.rivals (HaveRivals step.rays step.columns)
 
--- what all pairs of a step are combined to
+-- the list consists of the combinations of all pairs of the step
 pub record AreMadeOf (step : StepData) (ray_list : List RayWithSupport) : Type 0 where
   pub made : IsMadeUpTo step.limit step.pairs step.rays step.signs (length step.signs) 0 (rays_of ray_list)
   pub widths : AreOfWidth step.columns ray_list
 
--- the pair of a step is named, the first whose combination has an entry past the limit
+-- the error names the first pair of the step of which an entry exceeds the limit
 abbrev pub IsFirstLargeOf : StepData → Named → Type 0
 IsFirstLargeOf step = IsFirstLargeSum step.limit step.pairs step.rays step.signs
 
--- the step of a row at rays, under what clashes
+-- step is the step of the row at the rays, under the clashing pairs
 pub record IsStepOf (limit : ℕ) (clashes : ClashData) (row : Row) (rays : List (List ℕ)) (step : StepData) : Type 0 where
   pub columns : step.columns ≡ clashes.columns
   pub pairs : step.pairs ≡ clashes.pairs
@@ -78,15 +80,15 @@ pub record IsStepOf (limit : ℕ) (clashes : ClashData) (row : Row) (rays : List
   pub limit_is : step.limit ≡ limit
   pub signed : AreSigns limit row rays step.signs
 
--- the step of the row with all signs turned
+-- the step of the negated row
 abbrev pub turned_step : StepData → StepData
 turned_step step = record { columns = step.columns; pairs = step.pairs; rays = step.rays; signs = map turned_sign step.signs; limit = step.limit }
 
--- the pair is named, the first past the limit, of the step or of the step with all signs turned
+-- the error names the first pair of which an entry exceeds the limit, of the step or of the step of the negated row
 abbrev pub IsFirstLargeEitherWay : StepData → Named → Type 0
 IsFirstLargeEitherWay step kind = IsFirstLargeOf step kind ⊎ IsFirstLargeOf (turned_step step) kind
 
--- the rays and the signs of a step, and what all its pairs are combined to
+-- the rays and signs of the step, and the combinations of all its pairs
 pub record AreCombinedOf (step : StepData) (parts : Combinations) : Type 0 where
   pub rays_are : rays_of parts.ray_list.items ≡ step.rays
   pub signs_are : parts.signs.items ≡ step.signs

@@ -1,18 +1,19 @@
-// What the pairs so far were combined to, and the search for third rays.
+//! The combinations found so far in a step, and the state of a search for third rays.
 
 use crate::rays::RayWithSupport;
 use crate::rivals::Rivals;
 use crate::signs::Sign;
 use support_bits::Support;
 
-/// The combinations of the pairs so far, beside the rivals that were gathered last.
+/// The combinations of the pairs so far, and the compatible rays that were gathered last.
 #[derive(Drop)]
 pub struct CombinationsSoFar {
     pub ray_list: Vec<RayWithSupport>,
     pub rivals: Option<Rivals>,
 }
 
-/// The columns that clash with one of a ray, its rivals once they were asked for, and where among them the last third ray stood.
+/// The search for third rays for one positive ray: the columns that clash with its support, its compatible rays once
+/// they are needed, and the index among them of the third ray found last, which is tried first.
 #[derive(Drop)]
 pub struct Search {
     pub joined: Support,
@@ -20,7 +21,7 @@ pub struct Search {
     pub hint: usize,
 }
 
-/// The rays of a step with their signs, and what its pairs are combined to.
+/// The rays of a step, their signs, and the combinations of its pairs.
 #[derive(Drop)]
 pub struct Combinations {
     pub ray_list: Vec<RayWithSupport>,

@@ -1,4 +1,4 @@
-// Which columns go together: a test that a step asks, and for each column those that clash with it.
+//! Which columns may be nonzero together: the test that a step asks, and the columns that clash with each column.
 
 ghost use Rattle.std.specs.Prelude.{◌≡◌, ℕ, ◌↔◌, List, length, IsTrue, IfOk};
 ghost use Rattle.cone_definitions.specs.Surfaces.{Clash};
@@ -11,18 +11,19 @@ use std::alloc::Global;
 use std::marker::Model;
 use support_bits::Support;
 
-/// A test whether the union of two supports is free of clashing pairs, which names these pairs.
+/// A test whether the union of two supports contains a clashing pair of columns. In normal surface theory two columns
+/// clash if they are quad or octagon types of one tetrahedron.
 pub trait Compatible: Drop {
-    /// How many columns there are.
+    /// The number of columns.
     ghost width: { Self → ℕ };
 
     /// The pairs of columns that clash.
     ghost clashing: { Self → List Clash };
 
-    /// What has to hold of a test for it to be asked.
+    /// What must hold of the test before `allows` may be called.
     ghost decides: { Self → Type 0 };
 
-    /// How many columns there are.
+    /// The number of columns.
     fn columns(&self) -> u32
         ensures { result ≡ width self.now };
 
@@ -31,7 +32,7 @@ pub trait Compatible: Drop {
         ensures pairs { result.now ≡ clashing self.now }
         ensures different { AreClashes (width self.now) result.now };
 
-    /// Whether the union of two supports holds no clashing pair.
+    /// Whether the union of `a` and `b` contains no clashing pair.
     fn allows(&self, a: &Support, b: &Support) -> bool
         requires decides { decides self.now }
         requires first { length a.now ≡ width self.now }
@@ -39,7 +40,7 @@ pub trait Compatible: Drop {
         ensures { IsTrue result ↔ IsClashFree (clashing self.now) a.now b.now };
 }
 
-/// A test beside the partners of each column: the columns that clash with it.
+/// A test together with the set of columns that clash with each column.
 #[derive(Drop)]
 pub struct Clashes<C: Compatible> {
     test: C,
@@ -58,7 +59,7 @@ impl<C: Compatible> Model for Clashes<C> {
 }
 
 impl<C: Compatible> Clashes<C> {
-    /// A test beside its partners.
+    /// Computes the clashing columns of each column of `test`.
     pub fn new(alloc: Global, test: C) -> Result<Clashes<C>, NoMemory>
         requires { C.decides test }
         ensures columns { IfOk result (λ clashes. clashes.columns ≡ C.width test) }
@@ -68,7 +69,7 @@ impl<C: Compatible> Clashes<C> {
         Ok(Clashes { test, partners })
     }
 
-    /// How many columns there are.
+    /// The number of columns.
     pub fn columns(&self) -> u32
         ensures { result ≡ self.now.columns }
     {
@@ -83,7 +84,7 @@ impl<C: Compatible> Clashes<C> {
         self.test.pairs()
     }
 
-    /// Whether the union of two supports holds no clashing pair.
+    /// Whether the union of `a` and `b` contains no clashing pair.
     pub fn allows(&self, a: &Support, b: &Support) -> bool
         requires first { length a.now ≡ self.now.columns }
         requires second { length b.now ≡ self.now.columns }
@@ -92,7 +93,7 @@ impl<C: Compatible> Clashes<C> {
         self.test.allows(a, b)
     }
 
-    /// The columns that clash with one of a support.
+    /// The columns that clash with a column of `support`.
     pub fn joined(&self, alloc: Global, support: &Support) -> Result<Support, NoMemory>
         requires { length support.now ≡ self.now.columns }
         ensures { IfOk result (AreJoinedTo self.now.pairs support.now) }

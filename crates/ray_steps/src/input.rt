@@ -1,4 +1,4 @@
-// What a step begins with.
+//! The input of a step.
 
 ghost use Rattle.cone_arithmetic.specs.Sparse.{IsInRange};
 
@@ -6,7 +6,8 @@ use crate::compatible::{Clashes, Compatible};
 use crate::rays::RayWithSupport;
 use cone_arithmetic::SparseRow;
 
-/// What a step begins with: what clashes, a row, and the rays so far, where the union of a pair has at most `most` columns.
+/// The input of a step: the clashing pairs, the row to process, and the rays so far. The union of the supports of an
+/// adjacent pair has at most `most` columns.
 #[derive(Drop)]
 pub struct StepInput<'a, C: Compatible> {
     pub clashes: &'a Clashes<C>,

@@ -1,4 +1,5 @@
-//! One step of the double description method: its rays, their supports and signs as one value, and the search for its pairs.
+//! One step of the double description method: the rays with their supports and signs, and the search for adjacent
+//! pairs.
 #![tactic(auto)]
 
 mod combinations;

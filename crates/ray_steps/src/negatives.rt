@@ -1,4 +1,4 @@
-// The negative rays of a step, and the search among them for one that a positive ray can make a pair with.
+//! The negative rays of a step, and the search among them for one that a given positive ray may be adjacent to.
 
 ghost use Rattle.std.specs.Prelude.{◌≡◌, ◌<◌, ◌≤◌, ◌↔◌, [], length, IsTrue, IfOk, slice_index_or};
 ghost use Rattle.ray_steps.specs.Rays.{rays_of};
@@ -13,14 +13,14 @@ use std::alloc::Global;
 use support_bits::{Support, have_common};
 use support_table::{SupportTable, union_count};
 
-/// The places of the negative rays, ascending, with their supports.
+/// The indices of the negative rays, ascending, and their supports.
 #[derive(Drop)]
 pub struct Negatives {
     pub places: Vec<usize>,
     pub table: SupportTable,
 }
 
-/// The places with a negative sign, ascending.
+/// The indices of the negative signs, ascending.
 fn negative_places(alloc: Global, signs: &[Sign]) -> Result<Vec<usize>, NoMemory>
     ensures { IfOk result (λ places. AreNegativePlaces signs.now (length signs.now) places.items) }
 {
@@ -33,7 +33,7 @@ fn negative_places(alloc: Global, signs: &[Sign]) -> Result<Vec<usize>, NoMemory
     Ok(places)
 }
 
-/// The negative rays, with their supports.
+/// Collects the negative rays and their supports.
 pub fn negatives_of(alloc: Global, rays: RayList, signs: &[Sign]) -> Result<Negatives, NoMemory>
     requires { length signs.now ≡ length rays.items.now }
     ensures { IfOk result (AreNegatives (rays_of rays.entry.items.now) signs.now rays.entry.columns) }
@@ -43,7 +43,8 @@ pub fn negatives_of(alloc: Global, rays: RayList, signs: &[Sign]) -> Result<Nega
     Ok(Negatives { places, table })
 }
 
-/// Whether the support at a place has one of some columns, or together with `a` more than so many.
+/// Whether the support with index `place` rules out adjacency to a ray of support `a`: it contains a column of
+/// `joined`, or its union with `a` has more than `most` columns.
 fn is_far(table: &SupportTable, place: usize, a: &Support, joined: &Support, most: u64) -> bool
     requires in_range { place < length table.now.supports }
     requires first { length a.now ≡ table.now.columns }
@@ -55,7 +56,8 @@ fn is_far(table: &SupportTable, place: usize, a: &Support, joined: &Support, mos
     have_common(words, joined.words()) || union_count(a.words(), words) > most
 }
 
-/// The least place from `start` on whose support isn't far from `a`, or else the number of supports.
+/// The least index from `start` on whose support is not far from `a` (see `is_far`), or the number of supports if all
+/// are.
 pub fn first_near(
     table: &SupportTable,
     a: &Support,

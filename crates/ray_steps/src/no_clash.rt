@@ -1,11 +1,11 @@
-// Nothing clashes.
+//! The test for cones without clashing columns.
 
 ghost use Rattle.std.specs.Prelude.{[]};
 
 use crate::compatible::Compatible;
 use support_bits::Support;
 
-/// So many columns of which no two clash.
+/// A test with `columns` columns, no two of which clash.
 #[derive(Drop)]
 pub struct NoClash {
     pub columns: u32,

@@ -1,4 +1,4 @@
-// What a pair of a step's rays is combined to.
+//! The combination of a pair of rays.
 
 ghost use Rattle.std.specs.Prelude.{◌≡◌, ◌≤◌, length, IfOk, IfErr};
 ghost use Rattle.cone_arithmetic.specs.Combinations.{IsReducedBy};
@@ -8,7 +8,10 @@ use crate::rays::{LargeKind, RayWithSupport, StepFault};
 use cone_arithmetic::{CombineFault, Limit, combine_inside};
 use std::alloc::Global;
 
-/// The combination of two rays at which a row has these values, beside its support, which is the union of theirs.
+/// The combination `(at_u / d) * w + (at_w / d) * u`, where `d` is the greatest common divisor of `at_u` and `at_w`,
+/// divided by the common divisor of its entries; its support is the union of the supports of `u` and `w`. The row is
+/// `at_u` at `u` and `-at_w` at `w`. Fails with `Large` and both rays if an entry exceeds `limit` before that last
+/// division.
 pub fn combine_pair(
     alloc: Global,
     u: &RayWithSupport,

@@ -1,4 +1,4 @@
-// For each column the columns that clash with it, and those that clash with one of a support.
+//! For each column the set of columns that clash with it.
 
 ghost use Rattle.std.specs.Prelude.{◌≡◌, ◌<◌, [], length, slice_index_or, IfOk};
 ghost use Rattle.std.specs.List.{All};
@@ -9,7 +9,7 @@ use no_memory::NoMemory;
 use std::alloc::Global;
 use support_bits::Support;
 
-/// No partner of any column.
+/// One empty set for each of `columns` columns.
 fn no_partners(alloc: Global, columns: u32) -> Result<Vec<Support>, NoMemory>
     ensures { IfOk result (λ partners. ArePartners columns [] partners.items) }
 {
@@ -20,7 +20,7 @@ fn no_partners(alloc: Global, columns: u32) -> Result<Vec<Support>, NoMemory>
     Ok(partners)
 }
 
-/// Notes that one column is a partner of another.
+/// Inserts `other` into the set of column `one`.
 fn note(partners: &mut Vec<Support>, one: u32, other: u32)
     requires one { one < length partners.old.items }
     requires other { other < length (slice_index_or partners.old.items one []) }
@@ -29,7 +29,7 @@ fn note(partners: &mut Vec<Support>, one: u32, other: u32)
     partners[one as usize].insert(other);
 }
 
-/// For each column the columns that clash with it.
+/// For each of `columns` columns the set of columns that clash with it, from the clashing pairs.
 pub fn partners_of(
     alloc: Global,
     clashes: &[(u32, u32)],
@@ -46,7 +46,7 @@ pub fn partners_of(
     Ok(partners)
 }
 
-/// The columns that clash with one of a support.
+/// The columns that clash with a column of `support`: the union of the sets `partners[c]` over its columns `c`.
 pub fn partners_of_support(
     alloc: Global,
     partners: &[Support],

@@ -1,10 +1,10 @@
-// Rays of one width.
+//! Rays of the same length.
 
 ghost use Rattle.ray_steps.specs.Rays.{AreOfWidth};
 
 use crate::rays::RayWithSupport;
 
-/// Rays that have so many columns each.
+/// Rays with `columns` entries each.
 #[derive(Clone, Copy)]
 pub struct RayList<'a> {
     pub columns: u32,

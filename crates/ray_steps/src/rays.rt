@@ -1,4 +1,4 @@
-// The rays of a step, each beside its support, and what a step can be refused for.
+//! The rays of a step with their supports, and the errors of a step.
 
 ghost use Rattle.std.specs.Prelude.{◌≡◌, ◌<◌, IfOk};
 ghost use Rattle.cone_definitions.specs.Vectors.{unit};
@@ -9,7 +9,7 @@ use no_memory::NoMemory;
 use std::alloc::{AllocError, AllocFailed, Global};
 use support_bits::Support;
 
-/// A ray beside its support.
+/// A ray and its support. Invariant: the support is that of the ray.
 #[derive(Drop)]
 pub struct RayWithSupport {
     pub ray: PackedRay,
@@ -18,7 +18,7 @@ pub struct RayWithSupport {
 }
 
 impl RayWithSupport {
-    /// The ray that is 1 at a place and 0 elsewhere, beside its support.
+    /// The unit vector with `columns` entries whose entry `place` is 1, and its support.
     pub fn unit(alloc: Global, columns: u32, place: u32) -> Result<RayWithSupport, NoMemory>
         requires { place < columns }
         ensures { IfOk result (λ kept. kept.ray ≡ unit columns place) }
@@ -30,10 +30,11 @@ impl RayWithSupport {
     }
 }
 
-/// A number past the limit: a part of a row at a ray, or an entry of the combination of two.
+/// What exceeds the limit: the positive or negative part of the row at a ray (`Value`), or an entry of the combination
+/// of two rays (`Pair`).
 pub type LargeKind = cone_definitions::LargeKind<Ray>;
 
-/// Why a step is refused.
+/// Why a step fails: a number exceeds the limit, or memory ran out.
 #[derive(Drop)]
 pub enum StepFault {
     Large(LargeKind),

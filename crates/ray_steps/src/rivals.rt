@@ -1,4 +1,4 @@
-// The rays that can lie in the union of one ray and another.
+//! The rays that are compatible with a given ray: only these can be the third ray of a pair with it.
 
 ghost use Rattle.std.specs.Prelude.{◌≡◌, ◌<◌, length, IfOk};
 ghost use Rattle.std.specs.List.{All};
@@ -12,7 +12,7 @@ use std::alloc::Global;
 use support_bits::Support;
 use support_table::SupportTable;
 
-/// The columns that clash with one of a ray, and the places of all rays that have none of them, with their supports.
+/// The columns that clash with a given ray, and the indices and supports of all rays that contain none of them.
 #[derive(Drop)]
 pub struct Rivals {
     pub joined: Support,
@@ -20,7 +20,7 @@ pub struct Rivals {
     pub table: SupportTable,
 }
 
-/// The places whose rays have none of some columns.
+/// The indices of the rays whose supports contain none of `columns`.
 fn places_apart(
     alloc: Global,
     ray_list: &[RayWithSupport],
@@ -38,7 +38,7 @@ fn places_apart(
     Ok(places)
 }
 
-/// The supports of the rays at some places.
+/// The supports of the rays with the indices `places`.
 pub fn supports_at(alloc: Global, rays: RayList, places: &[usize]) -> Result<SupportTable, NoMemory>
     requires { All (λ k. k < length rays.items.now) places.now }
     ensures { IfOk result (HasSupportsOf (rays_of rays.entry.items.now) rays.entry.columns places.now) }
@@ -51,7 +51,7 @@ pub fn supports_at(alloc: Global, rays: RayList, places: &[usize]) -> Result<Sup
     Ok(table)
 }
 
-/// The rays that have none of some columns.
+/// Gathers the rays whose supports contain none of the columns `joined`.
 pub fn rivals_with(alloc: Global, rays: RayList, joined: Support) -> Result<Rivals, NoMemory>
     requires { length joined ≡ rays.columns }
     ensures joined { IfOk result (λ rivals. rivals.joined ≡ joined) }

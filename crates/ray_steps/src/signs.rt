@@ -1,4 +1,4 @@
-// The signs of a step's row at its rays.
+//! The sign of a step's row at each ray.
 
 ghost use Rattle.std.specs.Prelude.{◌≡◌, ◌↔◌, IsTrue, ◌<◌, length, ◌-◌, IfOk, IfErr, OnOk, OnErr};
 ghost use Rattle.cone_arithmetic.specs.Sparse.{IsInRange};
@@ -12,7 +12,7 @@ use crate::rays::{LargeKind, RayWithSupport, StepFault};
 use cone_arithmetic::{Passed, PlusMinus, SparseRow};
 use std::alloc::Global;
 
-/// Whether a row is zero, positive or negative at a ray, and its value or magnitude there.
+/// The sign of a row at a ray, with the absolute value of the row there.
 #[derive(Clone, Copy)]
 pub enum Sign {
     Zero,
@@ -27,7 +27,7 @@ pub fn is_negative(sign: Sign) -> bool
     matches!(sign, Sign::Negative(_))
 }
 
-/// The sign of a row with these parts.
+/// The sign of a row whose positive and negative parts are `parts`.
 fn sign_of(parts: PlusMinus) -> Sign
     ensures zero { parts.plus ≡ parts.minus → result ≡ Sign.Zero }
     ensures positive { parts.minus < parts.plus → result ≡ Sign.Positive (parts.plus - parts.minus) }
@@ -42,7 +42,7 @@ fn sign_of(parts: PlusMinus) -> Sign
     }
 }
 
-/// The sign of a row at a ray, where no part passes the limit.
+/// The sign of `row` at a ray. Fails if its positive or negative part there exceeds `limit`.
 fn sign_at(row: &SparseRow, kept: &RayWithSupport, limit: u128) -> Result<Sign, Passed>
     requires in_range { IsInRange (length kept.now.ray) row.now }
     ensures sign { IfOk result (IsSignAt row.now kept.now.ray) }
@@ -53,7 +53,7 @@ fn sign_at(row: &SparseRow, kept: &RayWithSupport, limit: u128) -> Result<Sign, 
     Ok(sign_of(parts))
 }
 
-/// The sign of a row at each ray; refused with the first ray at which a part passes the limit.
+/// The sign of `row` at each ray. Fails with `Large` and the first ray at which a part of the row exceeds `limit`.
 pub fn signs_at(
     alloc: Global,
     row: &SparseRow,

@@ -1,4 +1,4 @@
-// A step: the rays so far, a row's signs at them, and what the search for its pairs needs.
+//! One step of the double description method: combines each adjacent pair of a positive and a negative ray.
 
 ghost use Rattle.std.specs.Prelude.{◌≡◌, ◌+◌, ◌<◌, ◌↔◌, length, IsTrue, IfOk, IfErr, IfSome, OnOk};
 ghost use Rattle.ray_steps.specs.Faults.{IfLarge, IsFirstLargeValue};
@@ -27,11 +27,12 @@ use std::alloc::Global;
 use std::marker::Model;
 use support_bits::Support;
 
-/// From so many rays on residuals can pay.
+/// Adjacent pairs are found by residuals only in steps with at least this many rays.
 const MANY_RAYS: usize = 1000;
 
-/// The rays so far with their supports, a row's sign at each, and what clashes. No union of a pair has more than `most`
-/// columns, and no entry may pass the limit.
+/// The rays so far with their supports, the sign of the step's row at each, and the clashing columns. The union of the
+/// supports of an adjacent pair has at most `most` columns, and no number may exceed `limit`. Two rays are adjacent if
+/// the union of their supports contains no clashing pair and the support of no third ray.
 #[derive(Drop)]
 pub struct Step<'a, C: Compatible> {
     clashes: &'a Clashes<C>,
@@ -53,7 +54,7 @@ impl<'a, C: Compatible> Model for Step<'a, C> {
 }
 
 impl<'a, C: Compatible> Step<'a, C> {
-    /// The step of a row, or the first ray at which a part of it passes the limit.
+    /// The step for `input.row`. Fails with `Large` and the first ray at which a part of the row exceeds `limit`.
     pub fn of(
         alloc: Global,
         input: StepInput<'a, C>,
@@ -73,7 +74,7 @@ impl<'a, C: Compatible> Step<'a, C> {
         })
     }
 
-    /// A search for third rays beside the ray at a place.
+    /// A search for the third rays of ray `i`, given compatible rays that an earlier search gathered.
     fn search_at(&self, alloc: Global, i: usize, rivals: Option<Rivals>) -> Result<Search, NoMemory>
         requires in_range { i < length self.now.rays }
         requires rivals { IfSome rivals (HaveRivals self.now.rays self.now.columns) }
@@ -88,7 +89,8 @@ impl<'a, C: Compatible> Step<'a, C> {
         })
     }
 
-    /// The rivals of the ray at a place: those at hand where they have the same columns joined, and else they are gathered.
+    /// The compatible rays of a ray that clashes with the columns `joined`: those in `before` if they are for the same
+    /// columns, or else gathered anew.
     fn gather(
         &self,
         alloc: Global,
@@ -114,8 +116,8 @@ impl<'a, C: Compatible> Step<'a, C> {
         rivals_with(alloc, rays, joined)
     }
 
-    /// Whether the union of the supports at two places holds no clashing pair and contains the support at no third place. The
-    /// rivals of the first are gathered only where one is looked for among them.
+    /// Whether rays `i` and `j` are adjacent. Gathers the compatible rays of ray `i` only if both have more than one
+    /// column.
     fn is_face(
         &self,
         alloc: Global,
@@ -147,7 +149,8 @@ impl<'a, C: Compatible> Step<'a, C> {
         }
     }
 
-    /// Combines the ray at a place, where it is positive, with each negative ray that it makes a pair with.
+    /// Appends the combinations of ray `i`, if it is positive, with each adjacent negative ray, by a search for third
+    /// rays. Fails with the first pair of which an entry exceeds the limit.
     fn combine_with(
         &self,
         alloc: Global,
@@ -183,7 +186,8 @@ impl<'a, C: Compatible> Step<'a, C> {
         Ok(())
     }
 
-    /// Combines the rays at two places, where they are a positive and a negative one whose union holds no clashing pair.
+    /// Appends the combination of rays `i` and `j`, if they are positive and negative and the union of their supports
+    /// contains no clashing pair; then they are known to be adjacent.
     fn combine_found(
         &self,
         alloc: Global,
@@ -214,8 +218,9 @@ impl<'a, C: Compatible> Step<'a, C> {
         Ok(())
     }
 
-    /// Combines the ray at a place, where it is positive, with each negative ray that it makes a pair with. These are looked
-    /// for by residuals among all rays at once, unless no negative ray is near.
+    /// Appends the combinations of ray `i`, if it is positive, with each adjacent negative ray, which are found by
+    /// minimal residuals: one pass over all rays for each positive ray. Skipped if no negative ray passes the test of
+    /// `first_near`.
     fn combine_minimal(
         &self,
         alloc: Global,
@@ -248,8 +253,8 @@ impl<'a, C: Compatible> Step<'a, C> {
         Ok(())
     }
 
-    /// Combines the ray at a place by residuals, where the supports of all rays are at hand and it has more than one column,
-    /// and else by looking for third rays.
+    /// Appends the combinations of ray `i`: by residuals if `supports` is given and the ray has more than one column,
+    /// and else by a search for third rays.
     fn combine_one(
         &self,
         alloc: Global,
@@ -273,7 +278,8 @@ impl<'a, C: Compatible> Step<'a, C> {
         self.combine_with(alloc, i, negatives, made)
     }
 
-    /// What the pairs of all rays with these negative ones are combined to.
+    /// The combinations of all adjacent pairs, each once, given the negative rays and, if they are to be used, the
+    /// supports of all rays.
     fn combine_each(
         &self,
         alloc: Global,
@@ -295,15 +301,15 @@ impl<'a, C: Compatible> Step<'a, C> {
         Ok(made.ray_list)
     }
 
-    /// Whether residuals pay: there are many rays, and more positive ones than columns, for each of which all rays are gone
-    /// through once. Any answer will do, so nothing is said of it.
+    /// Whether to find adjacent pairs by residuals: if there are many rays, and at least as many positive ones as
+    /// columns. Affects speed alone, so the contract says nothing.
     fn is_large(&self) -> bool {
         let clashes = self.clashes;
         self.ray_list.len() >= MANY_RAYS
             && positive_count(&self.signs) >= clashes.columns() as usize
     }
 
-    /// The supports of all rays, where residuals pay. Either way the same pairs are found.
+    /// The supports of all rays if `is_large` holds, and else `None`. Both ways find the same pairs.
     fn supports_if_large(&self, alloc: Global) -> Result<Option<RayTable>, NoMemory>
         ensures { IfOk result (λ supports. IfSome supports (HasAllSupports self.now.rays self.now.columns)) }
     {
@@ -323,13 +329,14 @@ impl<'a, C: Compatible> Step<'a, C> {
         Ok(Some(supports))
     }
 
-    /// What all pairs are combined to, or the first pair of which an entry passes the limit.
+    /// The combinations of all adjacent pairs of a positive and a negative ray, each once. Fails with the first pair of
+    /// which an entry exceeds the limit.
     pub fn combine_all(&self, alloc: Global) -> Result<Vec<RayWithSupport>, StepFault>
         ensures ok { IfOk result (λ made. AreMadeOf self.now made.items) }
         ensures err { IfErr result (IfLarge (IsFirstLargeOf self.now)) }
     {
         if !has_positive(&self.signs) {
-            // there is no pair, and all rays may be kept
+            // there are no pairs, and every ray may be kept: make room for all
             let made = Vec::with_capacity(alloc, self.ray_list.len())?;
             return Ok(made);
         }
@@ -343,7 +350,7 @@ impl<'a, C: Compatible> Step<'a, C> {
         self.combine_each(alloc, &negatives, &supports)
     }
 
-    /// The rays of one row more: what all pairs are combined to, and behind it the rays with the sign zero.
+    /// The rays after this step: the combinations of all adjacent pairs, then the rays of sign zero.
     pub fn next(self, alloc: Global) -> Result<Vec<RayWithSupport>, StepFault>
         ensures ok { IfOk result (λ next. IsNextFrom self.entry.limit self.entry.pairs self.entry.rays self.entry.signs 0 (rays_of next.items)) }
         ensures widths { IfOk result (λ next. AreOfWidth self.entry.columns next.items) }
@@ -354,7 +361,7 @@ impl<'a, C: Compatible> Step<'a, C> {
         Ok(next)
     }
 
-    /// The step with all signs turned, beside the signs before.
+    /// The step for the negated row, and the former signs.
     pub fn turned(self, alloc: Global) -> Result<(Step<'a, C>, Vec<Sign>), NoMemory>
         ensures step { IfOk result (λ both. both.0 ≡ turned_step self.entry) }
         ensures signs { IfOk result (λ both. both.1.items ≡ self.entry.signs) }
@@ -370,8 +377,9 @@ impl<'a, C: Compatible> Step<'a, C> {
         Ok((turned, self.signs))
     }
 
-    /// What all pairs are combined to, in any order, beside the rays and the signs, or a pair of which an entry passes the
-    /// limit. The rays of the sign that fewer have are taken in turn, since for each the rivals are gathered.
+    /// The combinations of all adjacent pairs in any order, with the rays and signs of the step. Iterates over the rays
+    /// of the rarer sign, since compatible rays are gathered once for each. Fails with a pair of which an entry exceeds
+    /// the limit.
     pub fn combinations_by_fewer(self, alloc: Global) -> Result<Combinations, StepFault>
         ensures ok { IfOk result (AreCombinedOf self.entry) }
         ensures err { IfErr result (IfLarge (IsFirstLargeEitherWay self.entry)) }
@@ -393,7 +401,8 @@ impl<'a, C: Compatible> Step<'a, C> {
         })
     }
 
-    /// The rays of one row more, in any order, or a pair of which an entry passes the limit.
+    /// The rays after this step, in any order. Fails with a pair of which an entry exceeds the limit, not always the
+    /// first.
     pub fn next_by_fewer(self, alloc: Global) -> Result<Vec<RayWithSupport>, StepFault>
         ensures ok { IfOk result (λ next. IsNextFrom self.entry.limit self.entry.pairs self.entry.rays self.entry.signs 0 (rays_of next.items)) }
         ensures widths { IfOk result (λ next. AreOfWidth self.entry.columns next.items) }

@@ -1,4 +1,4 @@
-// Third rays among the rivals of a pair.
+//! The search for a third ray, whose support lies in the union of a pair's.
 
 ghost use Rattle.std.specs.Prelude.{◌≡◌, ◌≢◌, ℕ, ◌<◌, ◌≤◌, ◌↔◌, length, IsTrue, IfSome, IfNone};
 ghost use Rattle.ray_steps.specs.Rivals.{IsThirdInside};
@@ -24,15 +24,15 @@ pub fn has_single(a: &Support, b: &Support) -> bool
     is_single(a) || is_single(b)
 }
 
-/// Whether a place is neither of two.
+/// Whether `place` is neither `i` nor `j`.
 fn is_third(place: usize, i: usize, j: usize) -> bool
     ensures { IsTrue result ↔ ((place ≢ i) × (place ≢ j)) }
 {
     place != i && place != j
 }
 
-/// Where among the rivals one other than the rays at `i` and `j` has its support inside the union of `a` and `b`: at the
-/// hint if it does there, or else the first.
+/// The index in `rivals` of a ray other than `i` and `j` whose support lies in the union of `a` and `b`: `hint` if that
+/// is one, or else the first; `None` if there is none.
 pub fn third_inside(
     rivals: &Rivals,
     a: &Support,

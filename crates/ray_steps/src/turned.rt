@@ -1,4 +1,4 @@
-// Signs with positive and negative turned, and which of the two are fewer.
+//! Negates signs, and counts them.
 
 ghost use Rattle.std.specs.Prelude.{◌≡◌, ◌↔◌, map, IsTrue, IfOk};
 ghost use Rattle.ray_steps.specs.Turned.{turned_sign, HasPositive};
@@ -7,7 +7,7 @@ use crate::signs::Sign;
 use no_memory::NoMemory;
 use std::alloc::Global;
 
-/// The sign of the row with all signs turned.
+/// The sign of the negated row.
 fn turned_sign(sign: Sign) -> Sign
     ensures { result ≡ turned_sign sign }
 {
@@ -18,7 +18,7 @@ fn turned_sign(sign: Sign) -> Sign
     }
 }
 
-/// The signs of the row with all signs turned.
+/// The signs of the negated row.
 pub fn turned_signs(alloc: Global, signs: &[Sign]) -> Result<Vec<Sign>, NoMemory>
     ensures { IfOk result (λ turned. turned.items ≡ map turned_sign signs.now) }
 {
@@ -26,7 +26,7 @@ pub fn turned_signs(alloc: Global, signs: &[Sign]) -> Result<Vec<Sign>, NoMemory
     Ok(turned)
 }
 
-/// How many signs are positive. It decides only how pairs are looked for, so nothing is said of it.
+/// The number of positive signs. Affects only how pairs are looked for, so the contract says nothing.
 pub fn positive_count(signs: &[Sign]) -> usize {
     signs
         .iter()
@@ -34,7 +34,7 @@ pub fn positive_count(signs: &[Sign]) -> usize {
         .count()
 }
 
-/// Whether more signs are positive than negative. Any answer will do, so nothing is said of it.
+/// Whether more signs are positive than negative. Affects speed alone, so the contract says nothing.
 pub fn has_more_positives(signs: &[Sign]) -> bool {
     let negatives = signs
         .iter()

@@ -1,4 +1,4 @@
-// The rays that a step keeps: those with the sign zero.
+//! The rays that a step keeps: those of sign zero.
 
 ghost use Rattle.std.specs.Prelude.{◌≡◌, ℕ, List, length, IfErr, OnOk};
 ghost use Rattle.cone_definitions.specs.Surfaces.{Clash};
@@ -9,7 +9,7 @@ ghost use Rattle.ray_steps.specs.Signs.{IsMadeUpTo, IsNextFrom};
 use crate::rays::{RayWithSupport, StepFault};
 use crate::signs::Sign;
 
-/// Appends a ray with the sign zero.
+/// Appends the ray to `next` if `sign` is zero, and else drops it.
 fn keep_if_zero(
     kept: RayWithSupport,
     sign: Sign,
@@ -24,7 +24,7 @@ fn keep_if_zero(
     Ok(())
 }
 
-/// Appends the rays with the sign zero.
+/// Moves the rays of sign zero to the end of `next`, last one first, and drops the others.
 pub fn keep_zeros(
     mut ray_list: Vec<RayWithSupport>,
     signs: &[Sign],

@@ -1,4 +1,4 @@
-// The pivot rows in another order: those that name a further column come last.
+//! Orders the pivot rows: those that name a further column come last.
 
 ghost use Rattle.std.specs.List.Sorted.{IsPermutation};
 
@@ -6,7 +6,7 @@ use cone_arithmetic::SparseRow;
 use no_memory::NoMemory;
 use std::alloc::Global;
 
-/// Notes that a column is named.
+/// Marks `column` as named.
 fn note(named: &mut [bool], column: u32) {
     let place = column as usize;
     if place < named.len() {
@@ -14,21 +14,21 @@ fn note(named: &mut [bool], column: u32) {
     }
 }
 
-/// Notes the columns of a row.
+/// Marks the columns of `row` as named.
 fn note_row(named: &mut [bool], row: &SparseRow) {
     for (column, _) in row.entries() {
         note(named, *column);
     }
 }
 
-/// Notes the columns of rows.
+/// Marks the columns of all `rows` as named.
 fn note_rows(named: &mut [bool], rows: &[SparseRow]) {
     for row in rows {
         note_row(named, row);
     }
 }
 
-/// Of each column, whether it is one of the pivots or named by one of the rows.
+/// For each column, whether it is one of the `pivots` or occurs in one of the `rows`.
 pub(crate) fn named_columns(
     alloc: Global,
     columns: u32,
@@ -43,7 +43,7 @@ pub(crate) fn named_columns(
     Ok(named)
 }
 
-/// Whether a row names a further column.
+/// Whether `row` has a column that is not marked in `named`.
 fn names_further(named: &[bool], row: &SparseRow) -> bool {
     for (column, _) in row.entries() {
         let place = *column as usize;
@@ -54,7 +54,8 @@ fn names_further(named: &[bool], row: &SparseRow) -> bool {
     false
 }
 
-/// Puts the rows that name a further column last: such a column's unit vector meets the fewest rays and rows then.
+/// Moves the rows with a column that is not in `named` to the end; otherwise the order stays. The unit vector of such a
+/// column is then combined with the fewest rays and rows.
 pub(crate) fn put_further_last(named: &[bool], rows: &mut Vec<SparseRow>) -> Result<(), NoMemory>
     ensures { IsPermutation rows.old.items rows.new.items }
 {

@@ -1,4 +1,4 @@
-// The order of rows: each next one has columns in the fewest blocks that no row before it names.
+//! A greedy order of rows: each next row has columns in the fewest blocks that no earlier row names.
 
 ghost use Rattle.std.specs.Prelude.{◌<◌, IfOk, length};
 ghost use Rattle.std.specs.List.Sorted.{IsPermutation};
@@ -7,39 +7,41 @@ use cone_arithmetic::SparseRow;
 use no_memory::NoMemory;
 use std::alloc::Global;
 
-/// How many rows there are at most where each of them is tried as the first.
+/// The greatest number of rows for which each one is tried as the first.
 const MOST_STARTS: usize = 128;
 
-/// The blocks of columns that a row names, as bits, and how many terms it has. Blocks 64 apart share a bit: that may lead
-/// to another order, and each will do.
+/// The blocks of columns that a row names, one bit each, and its number of terms. Blocks whose numbers differ by a
+/// multiple of 64 share a bit, which may change the order found; any order is correct.
 #[derive(Clone, Copy)]
 struct RowBlocks {
     blocks: u64,
     terms: usize,
 }
 
-/// How a row stands among those that are left: by the blocks that it would be the first to name, and then by its terms.
+/// The rank of a row among those left, by which the least comes next: the number of new blocks that it names, then its
+/// number of terms.
 #[derive(Clone, Copy)]
 struct Rank {
     fresh: u32,
     terms: usize,
 }
 
-/// The blocks that are named so far, and the sum over the rows so far of the square of how many there were.
+/// The blocks named so far, and the cost so far: the sum over the rows taken of the squared number of blocks named up
+/// to each.
 #[derive(Clone, Copy)]
 struct Walk {
     seen: u64,
     cost: u64,
 }
 
-/// An order of rows, and what it costs: of each next row its position among those that are left.
+/// An order of rows and its cost. Each row is given by its position among those left when it is taken.
 #[derive(Drop)]
 struct RowOrder {
     positions: Vec<usize>,
     cost: u64,
 }
 
-/// The blocks of columns that a row names.
+/// The blocks of `each` columns that `row` names, and its number of terms.
 fn blocks_of(each: u32, row: &SparseRow) -> RowBlocks {
     let mut blocks: u64 = 0;
     for (column, _) in row.entries() {
@@ -52,7 +54,7 @@ fn blocks_of(each: u32, row: &SparseRow) -> RowBlocks {
     }
 }
 
-/// The blocks that each of the rows names.
+/// `blocks_of` for each of the `rows`.
 fn blocks_of_all(alloc: Global, each: u32, rows: &[SparseRow]) -> Result<Vec<RowBlocks>, NoMemory> {
     let mut all = Vec::with_capacity(alloc, rows.len())?;
     for row in rows {
@@ -61,7 +63,7 @@ fn blocks_of_all(alloc: Global, each: u32, rows: &[SparseRow]) -> Result<Vec<Row
     Ok(all)
 }
 
-/// The rank of the row at a place.
+/// The rank of row `place` when the blocks `seen` are named.
 fn rank_of(seen: u64, rows: &[RowBlocks], place: usize) -> Rank {
     match rows.get(place) {
         Some(row) => Rank {
@@ -75,12 +77,12 @@ fn rank_of(seen: u64, rows: &[RowBlocks], place: usize) -> Rank {
     }
 }
 
-/// Whether one rank comes before another.
+/// Whether `one` is less than `other`.
 fn is_before(one: Rank, other: Rank) -> bool {
     one.fresh < other.fresh || (one.fresh == other.fresh && one.terms < other.terms)
 }
 
-/// The position of the row that comes first among those that are left.
+/// The position in `left` of the row of least rank, the first such.
 fn first_position(seen: u64, rows: &[RowBlocks], left: &[usize]) -> usize
     requires { 0 < length left.now }
     ensures { result < length left.now }
@@ -97,7 +99,8 @@ fn first_position(seen: u64, rows: &[RowBlocks], left: &[usize]) -> usize
     best
 }
 
-/// The position of the next row: while all rows are left that of the start, and then that of the first.
+/// The position in `left` of the row to take next: `start` for the first row of the order, and after that the row of
+/// least rank.
 fn next_position(seen: u64, rows: &[RowBlocks], left: &[usize], start: usize) -> usize
     requires { 0 < length left.now }
     ensures { result < length left.now }
@@ -109,7 +112,7 @@ fn next_position(seen: u64, rows: &[RowBlocks], left: &[usize], start: usize) ->
     }
 }
 
-/// The walk with the row at a place taken; an empty row costs nothing.
+/// The state after row `place` is taken; an empty row costs nothing.
 fn step(walk: Walk, rows: &[RowBlocks], place: usize) -> Walk {
     match rows.get(place) {
         Some(row) if row.terms > 0 => {
@@ -124,7 +127,7 @@ fn step(walk: Walk, rows: &[RowBlocks], place: usize) -> Walk {
     }
 }
 
-/// The order that begins with the row at a place, where it costs less than this.
+/// The greedy order that begins with row `start`, or `None` if it costs at least `cost`.
 fn order_from(
     alloc: Global,
     rows: &[RowBlocks],
@@ -148,12 +151,12 @@ fn order_from(
     }))
 }
 
-/// How many of the rows are tried as the first: all, where they are few.
+/// How many rows are tried as the first one.
 fn start_count(rows: usize) -> usize {
     if rows <= MOST_STARTS { rows } else { 1 }
 }
 
-/// The order of rows as they stand, as if it cost more than any other.
+/// The order that leaves rows where they are, with a cost that any other order beats.
 fn as_they_stand(alloc: Global) -> RowOrder {
     RowOrder {
         positions: Vec::new(alloc),
@@ -161,8 +164,8 @@ fn as_they_stand(alloc: Global) -> RowOrder {
     }
 }
 
-/// The order that costs least among those that begin with the rows that are tried. A walk ends where it costs as much as
-/// the best so far.
+/// The cheapest of the greedy orders, one for each first row that is tried. An order is given up once it costs as much
+/// as the best.
 fn cheapest(alloc: Global, rows: &[RowBlocks]) -> Result<RowOrder, NoMemory> {
     let mut best = as_they_stand(alloc);
     for start in 0..start_count(rows.len()) {
@@ -173,7 +176,8 @@ fn cheapest(alloc: Global, rows: &[RowBlocks]) -> Result<RowOrder, NoMemory> {
     Ok(best)
 }
 
-/// The rows in turn, each next one from its position among those that are left; those without one come last, as they stand.
+/// Takes the rows in the order that `positions` gives, each by its position among those left. Rows without a position
+/// come last.
 fn rows_in_turn(
     alloc: Global,
     mut rows: Vec<SparseRow>,
@@ -192,7 +196,8 @@ fn rows_in_turn(
     Ok(ordered)
 }
 
-/// The rows in the order that costs least: blocks have so many columns each, and few of them are named early.
+/// Reorders `rows` so that few blocks of `each` columns occur early: the cheapest of the greedy orders. Any order is
+/// correct.
 pub(crate) fn in_cheapest_order(
     alloc: Global,
     each: u32,

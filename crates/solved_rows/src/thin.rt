@@ -1,4 +1,4 @@
-// Rows made sparser: a row gives way to itself plus or less another row, where that has fewer terms.
+//! Makes rows sparser: a row is replaced by its sum or difference with another if that has fewer terms.
 
 ghost use Rattle.std.specs.Prelude.{◌≡◌, ◌<◌, ◌≢◌, ◌≤◌, ◌⊎◌, pos, negsuc, length, IfSome, OnOk, IfErr};
 ghost use Rattle.std.specs.List.{All};
@@ -12,10 +12,10 @@ use crate::fault::SolveFault;
 use cone_arithmetic::SparseRow;
 use std::alloc::Global;
 
-/// How often all pairs of rows are looked at, at most.
+/// The greatest number of passes over all pairs of rows.
 const ROUNDS: u32 = 20;
 
-/// At how many columns two rows have the same coefficient, opposite ones, and any.
+/// The numbers of columns at which two rows have equal coefficients, opposite ones, and any.
 #[derive(Clone, Copy)]
 struct SharedColumns {
     same: usize,
@@ -23,7 +23,7 @@ struct SharedColumns {
     any: usize,
 }
 
-/// The place of the first term from here on whose column isn't before this one.
+/// The index of the first term from `from` on whose column is at least `column`.
 fn place_from(terms: &[(u32, i32)], from: usize, column: u32) -> usize
     requires { from ≤ length terms.now }
     ensures { result ≤ length terms.now }
@@ -35,7 +35,7 @@ fn place_from(terms: &[(u32, i32)], from: usize, column: u32) -> usize
     place
 }
 
-/// One column more that both rows have.
+/// `shared` with one more common column, at which the rows have the coefficients `one` and `other`.
 fn with_column(shared: SharedColumns, one: i32, other: i32) -> SharedColumns
     ensures same { 0 < result.same → (0 < shared.same) ⊎ IsCoefficientSum one (negsuc 0) other (pos 0) }
     ensures opposite { 0 < result.opposite → (0 < shared.opposite) ⊎ IsCoefficientSum one (pos 1) other (pos 0) }
@@ -49,7 +49,7 @@ fn with_column(shared: SharedColumns, one: i32, other: i32) -> SharedColumns
     }
 }
 
-/// What two rows share.
+/// Counts the columns that `row` and `other` have in common.
 fn shared_columns(row: &[(u32, i32)], other: &[(u32, i32)]) -> SharedColumns
     ensures same { 0 < result.same → TakesTerm row.now (negsuc 0) other.now }
     ensures opposite { 0 < result.opposite → TakesTerm row.now (pos 1) other.now }
@@ -69,7 +69,7 @@ fn shared_columns(row: &[(u32, i32)], other: &[(u32, i32)]) -> SharedColumns
     shared
 }
 
-/// The factor, 1 or -1, by which another row leaves fewer terms in a row when it is added, if there is one.
+/// The factor, 1 or -1, with which adding `other` leaves `row` with fewer terms; `None` if neither does.
 fn thinning_factor(row: &[(u32, i32)], other: &[(u32, i32)]) -> Option<i32>
     ensures { IfSome result (λ factor. TakesTerm row.now factor other.now) }
 {
@@ -84,7 +84,7 @@ fn thinning_factor(row: &[(u32, i32)], other: &[(u32, i32)]) -> Option<i32>
     }
 }
 
-/// Makes the row at a place sparser by the row at another place, if it can; tells whether it did.
+/// Makes row `i` sparser by row `j` if that leaves fewer terms, and returns whether it did.
 fn thin_by(
     alloc: Global,
     columns: u32,
@@ -112,7 +112,7 @@ fn thin_by(
     }
 }
 
-/// Whether the row at a place became sparser in the round before this one, or in this one.
+/// Whether row `i` became sparser in pass `round` or in the one before.
 fn is_recent(rounds: &[u32], i: usize, round: u32) -> bool {
     match rounds.get(i) {
         Some(last) => round <= last.saturating_add(1),
@@ -120,15 +120,14 @@ fn is_recent(rounds: &[u32], i: usize, round: u32) -> bool {
     }
 }
 
-/// Notes the round in which the row at a place became sparser.
+/// Records that row `i` became sparser in pass `round`.
 fn note(rounds: &mut [u32], i: usize, round: u32) {
     if i < rounds.len() {
         rounds[i] = round;
     }
 }
 
-/// Makes the row at a place sparser by the row at another place, if it can and one of the two changed since that was tried;
-/// tells whether it did.
+/// As `thin_by`, but tries only if row `i` or row `j` changed since this pair was tried last.
 fn thin_pair(
     alloc: Global,
     columns: u32,
@@ -158,7 +157,7 @@ fn thin_pair(
     Ok(thinner)
 }
 
-/// Makes the row at a place sparser by all others; tells whether it did.
+/// Makes row `i` sparser by each other row, and returns whether it changed.
 fn thin_row(
     alloc: Global,
     columns: u32,
@@ -184,7 +183,7 @@ fn thin_row(
     Ok(thinner)
 }
 
-/// Makes each row sparser once by all others; tells whether one became so.
+/// One pass: makes each row sparser by all others, and returns whether a row changed.
 fn thin_once(
     alloc: Global,
     columns: u32,
@@ -205,7 +204,7 @@ fn thin_once(
     Ok(thinner)
 }
 
-/// Makes rows sparser, in rounds, while that goes on.
+/// Makes `rows` sparser, in passes, until a pass changes nothing or `ROUNDS` are done.
 pub(crate) fn thin_rows(
     alloc: Global,
     columns: u32,

@@ -1,4 +1,5 @@
--- The listed vertex surfaces of a table decide by their Euler characteristics whether it is 0-efficient (Jaco and Oertel; Jaco and Rubinstein).
+-- 0-efficiency by the list: the Euler characteristics of the listed vertex surfaces decide it (Jaco and Oertel 1984;
+-- Jaco and Rubinstein 2003).
 use Rattle.std.specs.Prelude.{◌≡◌, ℕ, ◌⊎◌, ◌↔◌, pos, ◌<ℤ◌, List}
 use Rattle.std.specs.List.{Contains}
 use Rattle.cone_definitions.specs.Vectors.{IsInside}
@@ -13,21 +14,22 @@ use Rattle.surface_laws.specs.PieceLaws.{IsSurface}
 use Rattle.surface_quad_laws.specs.LinkLaws.{IsVertexLink, IsCanonical}
 use Rattle.surface_agreement_laws.specs.VertexSurfaces.{IsVertexSurfaceOf, IsSurfaceListOf}
 
--- the Euler characteristic of a vector is the one that is answered
+-- Theorem: the Euler characteristic in the properties of a vector is the one defined for it.
 abbrev pub CharacteristicIsAnswered : Type 0
 CharacteristicIsAnswered = (s : Skeleton) (coords : Coords) (xs : List ℕ) (p : Properties) → AreProperties s coords xs p → p.euler ≡ characteristic s coords xs
 
--- it is positive: where no edge is invalid, a connected surface is then a sphere, a projective plane or a disc
+-- the Euler characteristic is positive: if no edge is invalid, a connected surface is then a sphere, a projective plane
+-- or a disc
 abbrev pub IsPositive : Skeleton → Coords → List ℕ → Type 0
 IsPositive s coords xs = pos 0 <ℤ characteristic s coords xs
 
--- a surface of one component
+-- a surface with exactly one component
 pub record IsConnectedSurface (s : Skeleton) (coords : Coords) (xs : List ℕ) : Type 0 where
   pub surface : IsSurface s.rows coords xs
   pub components : List ℕ
   pub one : AreComponents s.rows coords xs components 1
 
--- a listed vertex surface inside x, canonical and of positive Euler characteristic
+-- a listed canonical surface of positive Euler characteristic whose support lies in that of x
 pub record HasPositiveInside (s : Skeleton) (coords : Coords) (surfaces : List (List ℕ)) (x : List ℕ) : Type 0 where
   pub v : List ℕ
   pub listed : Contains surfaces v
@@ -35,30 +37,33 @@ pub record HasPositiveInside (s : Skeleton) (coords : Coords) (surfaces : List (
   pub canonical : IsCanonical s coords v
   pub positive : IsPositive s coords v
 
--- each canonical surface of positive Euler characteristic has one
+-- Theorem: the support of each canonical surface x of positive Euler characteristic contains that of a listed canonical
+-- surface of positive Euler characteristic.
 abbrev pub PositiveSurfacesHaveListed : Type 0
 PositiveSurfacesHaveListed =
     (s : Skeleton) (coords : Coords) (surfaces : List (List ℕ)) (x : List ℕ) → IsSurfaceListOf s coords surfaces
     → IsSurface s.rows coords x → IsCanonical s coords x → IsPositive s coords x → HasPositiveInside s coords surfaces x
 
--- each component of a surface is a vertex link or canonical
+-- Theorem: each component of a surface is a vertex link or canonical.
 abbrev pub ComponentsAreLinksOrCanonical : Type 0
 ComponentsAreLinksOrCanonical =
     (s : Skeleton) (coords : Coords) (xs components : List ℕ) (count i : ℕ) → IsSkeleton s → IsSurface s.rows coords xs
     → AreComponents s.rows coords xs components count
     → IsVertexLink s coords (component_vector xs components i) ⊎ IsCanonical s coords (component_vector xs components i)
 
--- a vertex surface is connected
+-- Theorem: each vertex surface in standard or octagon coordinates is connected.
 abbrev pub VertexSurfacesAreConnected : Type 0
 VertexSurfacesAreConnected =
     (s : Skeleton) (coords : Coords) (xs : List ℕ) → IsTable s.rows → HasTriangles coords
     → IsVertexSurfaceOf s coords xs → IsConnectedSurface s coords xs
 
--- each connected surface of positive Euler characteristic is a vertex link: in standard coordinates, 0-efficient by its numbers
+-- 0-efficient by its numbers (in standard coordinates): each connected surface of positive Euler characteristic is a
+-- vertex link
 abbrev pub IsZeroEfficient : Skeleton → Coords → Type 0
 IsZeroEfficient s coords = (xs : List ℕ) → IsConnectedSurface s coords xs → IsPositive s coords xs → IsVertexLink s coords xs
 
--- that is so exactly where each listed one is
+-- Theorem: a table is 0-efficient by its numbers if and only if each listed surface of positive Euler characteristic is
+-- a vertex link.
 abbrev pub ListDecidesEfficiency : Type 0
 ListDecidesEfficiency =
     (s : Skeleton) (coords : Coords) (surfaces : List (List ℕ)) → IsSkeleton s → HasTriangles coords → IsSurfaceListOf s coords surfaces
@@ -70,20 +75,23 @@ pub record IsOtherSurface (s : Skeleton) (coords : Coords) (xs : List ℕ) : Typ
   pub positive : IsPositive s coords xs
   pub no_link : ¬ IsVertexLink s coords xs
 
--- there is one exactly where one is listed
+-- Theorem: a connected surface of positive Euler characteristic that is no vertex link exists if and only if one is
+-- listed.
 abbrev pub OtherSurfaceIsListed : Type 0
 OtherSurfaceIsListed =
     (s : Skeleton) (coords : Coords) (surfaces : List (List ℕ)) → IsSkeleton s → HasTriangles coords → IsSurfaceListOf s coords surfaces
     → ((xs : List ℕ) × IsOtherSurface s coords xs) ↔ ((v : List ℕ) × Contains surfaces v × IsOtherSurface s coords v)
 
--- where a component of a surface has positive Euler characteristic and is no vertex link, a listed surface lies inside it
+-- Theorem: if a component of a surface has positive Euler characteristic and is no vertex link, some listed canonical
+-- surface of positive Euler characteristic has its support in that of the component.
 abbrev pub PositiveComponentsHaveListed : Type 0
 PositiveComponentsHaveListed =
     (s : Skeleton) (coords : Coords) (surfaces : List (List ℕ)) (xs components : List ℕ) (count i : ℕ) → IsSkeleton s → IsSurfaceListOf s coords surfaces
     → IsSurface s.rows coords xs → AreComponents s.rows coords xs components count → IsPositive s coords (component_vector xs components i)
     → ¬ IsVertexLink s coords (component_vector xs components i) → HasPositiveInside s coords surfaces (component_vector xs components i)
 
--- so each table is so, or has one
+-- Theorem: each table is 0-efficient by its numbers, or has a connected surface of positive Euler characteristic that
+-- is no vertex link.
 abbrev pub EfficiencyIsDecided : Type 0
 EfficiencyIsDecided =
     (s : Skeleton) (coords : Coords) → IsSkeleton s → HasTriangles coords → IsZeroEfficient s coords ⊎ ((xs : List ℕ) × IsOtherSurface s coords xs)

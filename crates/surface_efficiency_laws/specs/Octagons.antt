@@ -1,4 +1,5 @@
--- The step of Rubinstein and Thompson: where the listed surfaces without octagons leave it open, those with octagons tell whether there is an almost normal sphere.
+-- Almost normal spheres by their numbers (Rubinstein 1995; Thompson 1994): if each listed surface of positive Euler
+-- characteristic and without octagons is a vertex link, the listed surfaces with octagons decide whether there is one.
 use Rattle.std.specs.Prelude.{◌≡◌, ℕ, ◌*◌, ◌≤◌, ◌↔◌, pos, ◌≤ℤ◌, List, length, filter, sum_by, slice_index}
 use Rattle.std.specs.List.{Contains}
 use Rattle.cone_definitions.specs.Vectors.{IsInside}
@@ -12,44 +13,47 @@ use Rattle.surface_agreement_laws.specs.VertexSurfaces.{IsSurfaceListOf}
 use Rattle.surface_quad_laws.specs.LinkLaws.{IsCanonical, IsVertexLink}
 use Rattle.surface_vector_definitions.specs.Properties.{characteristic}
 
--- the number of octagons in a vector of the table
+-- the sum of the octagon entries
 abbrev pub octagons : Skeleton → List ℕ → ℕ
 octagons s xs = sum_by (slice_index xs) (filter (is_octagon Octagon) (below (columns Octagon (length s.rows))))
 
--- each listed surface without octagons that has positive Euler characteristic is a vertex link
+-- each listed surface of positive Euler characteristic and without octagons is a vertex link
 abbrev pub NoneWithoutOctagons : Skeleton → List (List ℕ) → Type 0
 NoneWithoutOctagons s surfaces = (v : List ℕ) → Contains surfaces v → octagons s v ≡ 0 → IsPositive s Octagon v → IsVertexLink s Octagon v
 
--- that is so exactly where the table is 0-efficient by its numbers: those without octagons are the standard ones
+-- Theorem: each listed surface of positive Euler characteristic and without octagons is a vertex link if and only if
+-- the table is 0-efficient by its numbers.
 abbrev pub NoneWhereEfficient : Type 0
 NoneWhereEfficient =
     (s : Skeleton) (surfaces : List (List ℕ)) → IsSkeleton s → IsSurfaceListOf s Octagon surfaces → NoneWithoutOctagons s surfaces ↔ IsZeroEfficient s Standard
 
--- octagons, and an Euler characteristic of at least twice their number: an almost normal sphere has one and 2
+-- k octagons, k at least 1, and Euler characteristic at least 2k; an almost normal sphere has k = 1 and Euler
+-- characteristic 2
 pub record HasTwiceOctagons (s : Skeleton) (xs : List ℕ) : Type 0 where
   pub some : 1 ≤ octagons s xs
   pub twice : pos (2 * octagons s xs) ≤ℤ characteristic s Octagon xs
 
--- a listed surface inside x of this kind
+-- a listed surface v with HasTwiceOctagons whose support lies in that of x
 pub record HasTwiceInside (s : Skeleton) (surfaces : List (List ℕ)) (x : List ℕ) : Type 0 where
   pub v : List ℕ
   pub listed : Contains surfaces v
   pub inside : IsInside v x
   pub octagonal : HasTwiceOctagons s v
 
--- each canonical surface of this kind has one
+-- Theorem: if NoneWithoutOctagons holds, the support of each canonical surface x with HasTwiceOctagons contains that of
+-- a listed surface with HasTwiceOctagons.
 abbrev pub OctagonSurfacesHaveListed : Type 0
 OctagonSurfacesHaveListed =
     (s : Skeleton) (surfaces : List (List ℕ)) (x : List ℕ) → IsSurfaceListOf s Octagon surfaces → NoneWithoutOctagons s surfaces
     → IsSurface s.rows Octagon x → IsCanonical s Octagon x → HasTwiceOctagons s x → HasTwiceInside s surfaces x
 
--- so there is a connected surface of this kind exactly where one is listed
+-- Theorem: if NoneWithoutOctagons holds, a connected surface with HasTwiceOctagons exists if and only if one is listed.
 abbrev pub OctagonSphereIsListed : Type 0
 OctagonSphereIsListed =
     (s : Skeleton) (surfaces : List (List ℕ)) → IsSkeleton s → IsSurfaceListOf s Octagon surfaces → NoneWithoutOctagons s surfaces
     → ((xs : List ℕ) × IsConnectedSurface s Octagon xs × HasTwiceOctagons s xs) ↔ ((v : List ℕ) × Contains surfaces v × IsConnectedSurface s Octagon v × HasTwiceOctagons s v)
 
--- a listed surface inside x with octagons and positive Euler characteristic
+-- a listed surface with octagons and of positive Euler characteristic whose support lies in that of x
 pub record HasOctagonInside (s : Skeleton) (surfaces : List (List ℕ)) (x : List ℕ) : Type 0 where
   pub v : List ℕ
   pub listed : Contains surfaces v
@@ -57,7 +61,8 @@ pub record HasOctagonInside (s : Skeleton) (surfaces : List (List ℕ)) (x : Lis
   pub some : 1 ≤ octagons s v
   pub positive : IsPositive s Octagon v
 
--- each canonical surface of positive Euler characteristic has one
+-- Theorem: if NoneWithoutOctagons holds, the support of each canonical surface x of positive Euler characteristic
+-- contains that of a listed surface with octagons and of positive Euler characteristic.
 abbrev pub PositiveSurfacesHaveOctagons : Type 0
 PositiveSurfacesHaveOctagons =
     (s : Skeleton) (surfaces : List (List ℕ)) (x : List ℕ) → IsSurfaceListOf s Octagon surfaces → NoneWithoutOctagons s surfaces

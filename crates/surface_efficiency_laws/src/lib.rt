@@ -1,41 +1,47 @@
-//! The listed vertex surfaces of a table decide by their Euler characteristics whether it is 0-efficient, and whether it has a surface
-//! with octagons as an almost normal sphere is. The functions here have no code: their contracts are laws over the definitions.
+//! The listed vertex surfaces of a table decide by their Euler characteristics whether it is 0-efficient, and whether
+//! it has a surface with octagons that has the numbers of an almost normal sphere. The functions here have no code:
+//! their contracts are theorems.
 #![tactic(auto)]
 
 ghost use Rattle.surface_efficiency_laws.specs.Laws.{CharacteristicIsAnswered, PositiveSurfacesHaveListed, PositiveComponentsHaveListed, ComponentsAreLinksOrCanonical, VertexSurfacesAreConnected, ListDecidesEfficiency, OtherSurfaceIsListed, EfficiencyIsDecided};
 ghost use Rattle.surface_efficiency_laws.specs.Octagons.{NoneWhereEfficient, OctagonSurfacesHaveListed, OctagonSphereIsListed, PositiveSurfacesHaveOctagons};
 ghost use Rattle.surface_efficiency_laws.specs.Quads.{PositiveSurfacesHaveLifts, QuadListDecidesEfficiency};
 
-/// The Euler characteristic of a vector is the one that is answered.
+/// Theorem: the Euler characteristic in `Properties` of a vector is its `characteristic`, in which the laws are stated.
 pub fn characteristic_is_answered()
     ensures { CharacteristicIsAnswered }
 {}
 
-/// Inside a canonical surface of positive Euler characteristic lies a listed one, and so inside a component that is no vertex link.
+/// Theorem: if x is a canonical surface of positive Euler characteristic, or a component of a surface that has positive
+/// Euler characteristic and is no vertex link, then the support of some listed canonical surface of positive Euler
+/// characteristic lies in that of x.
 pub fn positive_surfaces_have_listed()
     ensures surfaces { PositiveSurfacesHaveListed }
     ensures components { PositiveComponentsHaveListed }
 {}
 
-/// Each component of a surface is a vertex link, or canonical.
+/// Theorem: each component of a normal surface is a vertex link or canonical.
 pub fn components_are_links_or_canonical()
     ensures { ComponentsAreLinksOrCanonical }
 {}
 
-/// A vertex surface is connected.
+/// Theorem: in standard and octagon coordinates each vertex surface is connected.
 pub fn vertex_surfaces_are_connected()
     ensures { VertexSurfacesAreConnected }
 {}
 
-/// Each connected surface of positive Euler characteristic is a vertex link exactly where each listed one is; so it is decided.
+/// Theorem (Jaco and Oertel 1984; Jaco and Rubinstein 2003): a table is 0-efficient by its numbers if and only if each
+/// listed vertex surface of positive Euler characteristic is a vertex link. If it is not, a connected surface of
+/// positive Euler characteristic that is no vertex link is listed.
 pub fn list_decides_efficiency()
     ensures all { ListDecidesEfficiency }
     ensures some { OtherSurfaceIsListed }
     ensures decided { EfficiencyIsDecided }
 {}
 
-/// Where that holds of the listed octagon surfaces without octagons, which is so exactly where the table is 0-efficient, those
-/// with octagons decide whether there is one as an almost normal sphere is.
+/// Theorem (Rubinstein 1995; Thompson 1994): a table is 0-efficient by its numbers if and only if each listed octagon
+/// surface of positive Euler characteristic and without octagons is a vertex link. If it is, a connected surface with k
+/// octagons, k at least 1, and Euler characteristic at least 2k exists if and only if one is listed.
 pub fn octagon_spheres_are_listed()
     ensures efficient { NoneWhereEfficient }
     ensures twice { OctagonSurfacesHaveListed }
@@ -43,7 +49,8 @@ pub fn octagon_spheres_are_listed()
     ensures positive { PositiveSurfacesHaveOctagons }
 {}
 
-/// Where vertex links are spheres or discs, the lifts of the listed quad vertex surfaces decide 0-efficiency too.
+/// Theorem: if all vertex links are spheres or discs, a table is 0-efficient by its numbers if and only if no listed
+/// quad vertex surface has a lift of positive Euler characteristic.
 pub fn quad_list_decides_efficiency()
     ensures surfaces { PositiveSurfacesHaveLifts }
     ensures all { QuadListDecidesEfficiency }

@@ -1,4 +1,4 @@
-//! The arcs in which a surface meets the faces.
+//! Counts the normal arcs in which a surface meets the faces.
 
 ghost use Rattle.std.specs.Prelude.{◌≡◌, ◌≢◌, ◌<◌, length, slice_index};
 ghost use Rattle.table_definitions.specs.Permutation.{others};
@@ -14,10 +14,10 @@ use crate::vectors::DiscVector;
 use gluing_table::{Face, Table};
 use normal_discs::arc_columns;
 
-// The vertices of each face.
+// The vertices of each face, by face.
 const CORNERS: [[u8; 3]; 4] = [[1, 2, 3], [0, 2, 3], [0, 1, 3], [0, 1, 2]];
 
-/// A vertex of a face, by its number among the three.
+/// Vertex `number` (0 to 2) of `face`, as a vertex of its tetrahedron.
 fn corner(face: Face, number: usize) -> u8
     requires { number < 3 }
     ensures value { result ≡ slice_index (others face.face) number }
@@ -27,7 +27,7 @@ fn corner(face: Face, number: usize) -> u8
     CORNERS[face.face as usize][number]
 }
 
-/// Whether a face is a boundary face or the lesser of two that are glued.
+/// Whether `face` is a boundary face, or the lesser of two faces glued to each other: true once for each face class.
 fn is_first_side(table: &Table, face: Face) -> bool
     requires { face.tet < length table.now }
     ensures { result ≡ is_first face (gluings.glue table.now face) }
@@ -39,7 +39,7 @@ fn is_first_side(table: &Table, face: Face) -> bool
 }
 
 impl<'a> DiscVector<'a> {
-    /// The arcs in a face round one of its vertices, by the number of the vertex among the three.
+    /// The number of arcs in `face` around its vertex `number` (0 to 2).
     fn arcs_round(&self, face: Face, number: usize) -> u128
         requires in_range { face.tet < length self.now.table.now }
         requires one_of_three { number < 3 }
@@ -50,7 +50,7 @@ impl<'a> DiscVector<'a> {
         sum_at(self.entries, columns.as_slice())
     }
 
-    /// The arcs in a face.
+    /// The number of arcs in `face`.
     pub fn arcs_in(&self, face: Face) -> u128
         requires { face.tet < length self.now.table.now }
         ensures { result ≡ capped (characteristic.arcs_in self.now.coords.system self.now.entries.now face) }
@@ -60,7 +60,7 @@ impl<'a> DiscVector<'a> {
         add(two, self.arcs_round(face, 2))
     }
 
-    /// The arcs in a face, where it is a boundary face or the lesser of two that are glued.
+    /// The number of arcs in `face` if `is_first_side` holds of it, and 0 otherwise.
     fn arcs_if_first(&self, face: Face) -> u128
         requires { face.tet < length self.now.table.now }
         ensures { result ≡ capped (counted_at self.now.table.now self.now.coords.system self.now.entries.now face) }
@@ -72,7 +72,7 @@ impl<'a> DiscVector<'a> {
         }
     }
 
-    /// The arcs in all faces, two glued ones counted once.
+    /// The number of arcs, counted once for each face class.
     pub fn arcs(&self) -> u128
         ensures { result ≡ capped (characteristic.arcs self.now.table.now self.now.coords.system self.now.entries.now) }
     {

@@ -1,4 +1,4 @@
-//! What is counted of a normal surface: its points, arcs and pieces, and its Euler characteristic.
+//! Counts what a normal surface consists of: points on edges, arcs and normal discs, and so its Euler characteristic.
 #![tactic(auto)]
 
 mod arcs;

@@ -1,4 +1,4 @@
-//! The points in which a surface meets the edges.
+//! Counts the points in which a surface meets the edges.
 
 ghost use Rattle.std.specs.Prelude.{◌≡◌, ◌*◌, ◌<◌, length};
 ghost use Rattle.surface_definitions.specs.Characteristic as characteristic;
@@ -10,7 +10,7 @@ use normal_discs::edge_columns;
 use skeleton::{Skeleton, edge_ends};
 
 impl<'a> DiscVector<'a> {
-    /// How often the surface meets an edge of a tetrahedron, by its number among those of all.
+    /// The edge weight: in how many points the surface meets edge `edge % 6` of tetrahedron `edge / 6`.
     fn weight(&self, edge: u32) -> u128
         requires { edge < 6 * length self.now.table.now }
         ensures { result ≡ capped (characteristic.weight self.now.coords.system self.now.entries.now edge) }
@@ -20,7 +20,8 @@ impl<'a> DiscVector<'a> {
         sum_at(self.entries, columns.as_slice())
     }
 
-    /// The points: the weights of the edge classes, added.
+    /// The number of points: the sum of the edge weights, one for each edge class. `skeleton` is that of the vector's
+    /// table.
     pub fn points(&self, skeleton: &Skeleton) -> u128
         requires { skeleton.now.rows ≡ self.now.table.now }
         ensures { result ≡ capped (characteristic.points self.now.coords.system self.now.entries.now skeleton.now.edges.classes skeleton.now.edges.count) }

@@ -1,4 +1,4 @@
-//! All properties of a surface at once.
+//! The properties of a normal surface.
 
 ghost use Rattle.std.specs.Prelude.{◌≡◌, ◌≢◌, ◌*◌, ◌<◌, ◌≤◌, true, false, length, slice_index, None, IsTrue, pos, ◌-ℤ◌};
 ghost use Rattle.table_definitions.specs.Table as gluings;
@@ -16,7 +16,7 @@ use surface_definitions::Coords;
 use surface_vector_definitions::{Properties, PropertyFault, SurfaceSum};
 use text_io::LIMIT;
 
-/// Whether a column of quads or octagons has pieces.
+/// Whether `column` is that of a quad or an octagon and its entry in `x` is nonzero.
 fn has_others(coords: Coords, x: &[u128], column: usize) -> bool
     requires { column < length x.now }
     ensures some { IsTrue result → is_quad_or_octagon coords column ≡ true × (0 < slice_index x.now column) }
@@ -26,7 +26,7 @@ fn has_others(coords: Coords, x: &[u128], column: usize) -> bool
     place >= triangles_each(coords) as usize && x[column] > 0
 }
 
-/// Whether all quads and octagons are 0.
+/// Whether all quad and octagon entries of `x` are 0, as in a sum of vertex links and in the zero vector.
 pub fn is_linking(coords: Coords, x: &[u128]) -> bool
     ensures { result ≡ characteristic.is_linking coords x.now }
 {
@@ -39,7 +39,7 @@ pub fn is_linking(coords: Coords, x: &[u128]) -> bool
 }
 
 impl<'a> DiscVector<'a> {
-    /// Whether a face is a boundary face with arcs.
+    /// Whether `face` is a boundary face that the surface meets.
     fn has_free_arcs(&self, face: Face) -> bool
         requires { face.tet < length self.now.table.now }
         ensures some { IsTrue result → gluings.glue self.now.table.now face ≡ None × (0 < characteristic.arcs_in self.now.coords.system self.now.entries.now face) }
@@ -51,7 +51,7 @@ impl<'a> DiscVector<'a> {
         }
     }
 
-    /// Whether a boundary face has an arc.
+    /// Whether the surface meets a boundary face.
     fn meets_boundary(&self) -> bool
         ensures { result ≡ characteristic.meets_boundary self.now.table.now self.now.coords.system self.now.entries.now }
     {
@@ -68,7 +68,7 @@ impl<'a> DiscVector<'a> {
     }
 }
 
-/// The Euler characteristic of so many points and pieces, and arcs.
+/// The Euler characteristic of a surface, from its number of points and normal discs together, and of arcs.
 fn euler(points_and_pieces: u128, arcs: u128) -> i128
     requires first { points_and_pieces ≤ limit }
     requires second { arcs ≤ limit }
@@ -77,9 +77,11 @@ fn euler(points_and_pieces: u128, arcs: u128) -> i128
     points_and_pieces as i128 - arcs as i128
 }
 
-/// The properties of a surface, which is a vector in standard or octagon coordinates. (Haken; Jaco and Rubinstein.)
+/// The properties of the normal surface `x`, in standard or octagon coordinates (Haken 1961; Jaco and Rubinstein 2003).
 ///
-/// `Large` with the first of the sums that passes 2^127 - 1: the points, the arcs, the points and pieces.
+///
+/// Fails with `Large` if a sum exceeds 2^127 - 1, and names the first that does: points, arcs, or points and normal
+/// discs together.
 pub fn properties_of(
     skeleton: &Skeleton,
     coords: Coords,

@@ -1,4 +1,4 @@
-//! A vector of discs in a table.
+//! A vector of normal discs in a table.
 
 ghost use Rattle.std.specs.Prelude.{◌≡◌, ◌≤◌, length};
 ghost use Rattle.table_definitions.specs.Table.{max_tets};
@@ -7,7 +7,8 @@ ghost use Rattle.surface_definitions.specs.Coordinates.{columns};
 use gluing_table::Table;
 use normal_discs::DiscCoords;
 
-/// A vector that counts all the discs of a surface in a table.
+/// A vector in coordinates that count every normal disc (standard or octagon), with its table. Invariant: `entries` has
+/// the length that the table and `coords` ask for.
 #[derive(Clone, Copy)]
 pub struct DiscVector<'a> {
     pub table: &'a Table,
