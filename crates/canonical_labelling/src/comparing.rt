@@ -1,6 +1,6 @@
 //! Walks that are compared with a bound while they are made, and left as soon as it is told which stands first.
 
-ghost use Rattle.std.specs.Prelude.{◌≡◌, ◌<◌, ◌≤◌, ◌+◌, ◌-◌, ◌*◌, ◌/◌, ◌^◌, ◌++◌, ◌∷◌, [], ℕ, List, true, false, None, Some, All, length, replicate, map, slice_get, slice_index, IfOk, IfSome, IfNone, OnOk};
+ghost use Rattle.std.specs.Prelude.{◌≡◌, ◌≢◌, ◌<◌, ◌≤◌, ◌+◌, ◌-◌, ◌*◌, ◌/◌, ◌^◌, ◌++◌, ◌∷◌, [], ℕ, List, true, false, None, Some, All, length, replicate, map, slice_get, slice_index, IfOk, IfSome, IfNone, OnOk};
 ghost use Rattle.std.specs.List.{slice_index_or};
 ghost use Rattle.table_definitions.specs.Lists.{is_list_before};
 ghost use Rattle.table_definitions.specs.Table.{max_tets, IsTable};
@@ -262,6 +262,48 @@ fn append_parts(text: &mut Vec<u8>, count: u32, comparison: &Comparison) -> Resu
     append_indices(text, &comparison.gluings)
 }
 
+/// Whether the first text stands before the second, or `None` if they are equal.
+fn order(first: &[u8], second: &[u8]) -> Option<bool>
+    ensures before { IfSome result (λ before. before ≡ is_list_before first.now second.now) }
+    ensures equal { IfNone result (first.now ≡ second.now) }
+{
+    if is_before(first, second) {
+        Some(true)
+    } else if is_before(second, first) {
+        Some(false)
+    } else {
+        None
+    }
+}
+
+/// Whether the text that spells the walk of a table from `start`, if one does, stands before `bound`, or `None` if it is
+/// `bound`. Unless it stands before, no more faces are read than `lesser` says.
+pub fn compare(
+    alloc: Global,
+    probe: &mut Probe<'_>,
+    start: Start,
+    bound: &[u8],
+) -> Result<Option<bool>, NoMemory>
+    requires table { IsTable probe.old.rows }
+    requires in_range { start.tet < length probe.old.rows }
+    ensures value { IfOk result (λ r. IfSome r (λ before. (text : List ℕ) → IsTextFrom probe.old.rows start text → before ≡ is_list_before text bound.now)) }
+    ensures equal { IfOk result (λ r. IfNone r ((text : List ℕ) → IsTextFrom probe.old.rows start text → text ≡ bound.now)) }
+    ensures few { IfOk result (λ r. r ≢ Some true → ReadsFew probe.old.rows start bound.now (probe.new.taken - probe.old.taken)) }
+    ensures rows { probe.new.rows ≡ probe.old.rows }
+{
+    let mut text = Vec::new(alloc);
+    append_head(&mut text, probe.len())?;
+    if let Some(before) = compare_head(&text, bound) {
+        return Ok(Some(before));
+    }
+    let mut comparison = comparison_from(alloc, probe.len(), start)?;
+    if let Some(before) = compare_types(&mut comparison, probe, start, bound, text.len())? {
+        return Ok(Some(before));
+    }
+    append_parts(&mut text, probe.len(), &comparison)?;
+    Ok(order(&text, bound))
+}
+
 /// Whether the text that spells the walk of a table from a start, if one does, stands before the bound. Where it doesn't,
 /// and the first place at which they differ stands before the destinations of the text, no more faces are read than three
 /// for each type character up to there.
@@ -277,15 +319,8 @@ pub fn lesser(
     ensures few { IfOk result (λ before. before ≡ false → ReadsFew probe.old.rows start bound.now (probe.new.taken - probe.old.taken)) }
     ensures rows { probe.new.rows ≡ probe.old.rows }
 {
-    let mut text = Vec::new(alloc);
-    append_head(&mut text, probe.len())?;
-    if let Some(before) = compare_head(&text, bound) {
+    if let Some(before) = compare(alloc, probe, start, bound)? {
         return Ok(before);
     }
-    let mut comparison = comparison_from(alloc, probe.len(), start)?;
-    if let Some(before) = compare_types(&mut comparison, probe, start, bound, text.len())? {
-        return Ok(before);
-    }
-    append_parts(&mut text, probe.len(), &comparison)?;
-    Ok(is_before(&text, bound))
+    Ok(false)
 }
