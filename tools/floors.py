@@ -26,7 +26,7 @@ SUBJECTS = {
     " memory_streams bench_io",
     "table": "table_definitions table_permutation_laws table_walk_laws perm_four finite_walks gluing_table table_commands",
     "skeleton": "skeleton_definitions skeleton_class_laws skeleton_laws skeleton vertex_links",
-    "signature": "signature_definitions signature_text_laws signature_laws signature_codec"
+    "signature": "signature_definitions signature_text_laws signature_laws signature_automorphism_laws signature_codec"
     " canonical_labelling signature_census",
     "move": "move_definitions move_laws move_kept_laws move_link_laws pachner_moves move_undo move_commands",
     "certificate": "certificate_definitions certificate_laws sphere_certificate"
@@ -34,7 +34,7 @@ SUBJECTS = {
     "cover": "cover_definitions cover_laws double_cover cover_commands",
     "presentation": "presentation_definitions presentation_laws edge_group",
     "component": "component_definitions component_laws component_signature",
-    "cone": "cone_definitions cone_text_definitions cone_laws cone_bound_laws cone_ray_laws cone_row_laws"
+    "cone": "cone_definitions cone_text_definitions cone_laws cone_bound_laws cone_square_laws cone_ray_laws cone_row_laws"
     " support_bits support_table residual_pairs cone_arithmetic cone_core ray_steps double_description late_columns number_bounds"
     " solved_rows bounded_list ray_answers vector_text enumeration_commands",
     "surface": "surface_definitions surface_vector_definitions surface_coordinate_laws surface_laws surface_equation_laws"

@@ -1,7 +1,7 @@
 //! Compares the text of a canonical traversal with a bound while the traversal is made, and stops at the first
 //! difference.
 
-ghost use Rattle.std.specs.Prelude.{◌≡◌, ◌<◌, ◌≤◌, ◌+◌, ◌-◌, ◌*◌, ◌/◌, ◌^◌, ◌++◌, ◌∷◌, [], ℕ, List, true, false, None, Some, All, length, replicate, map, slice_get, slice_index, IfOk, IfSome, IfNone, OnOk};
+ghost use Rattle.std.specs.Prelude.{◌≡◌, ◌≢◌, ◌<◌, ◌≤◌, ◌+◌, ◌-◌, ◌*◌, ◌/◌, ◌^◌, ◌++◌, ◌∷◌, [], ℕ, List, true, false, None, Some, All, length, replicate, map, slice_get, slice_index, IfOk, IfSome, IfNone, OnOk};
 ghost use Rattle.std.specs.List.{slice_index_or};
 ghost use Rattle.table_definitions.specs.Lists.{is_list_before};
 ghost use Rattle.table_definitions.specs.Table.{max_tets, IsTable};
@@ -271,6 +271,49 @@ fn append_parts(text: &mut Vec<u8>, count: u32, comparison: &Comparison) -> Resu
     append_indices(text, &comparison.gluings)
 }
 
+/// Whether `first` comes before `second` in lexicographic order, or `None` if the two are equal.
+fn order(first: &[u8], second: &[u8]) -> Option<bool>
+    ensures before { IfSome result (λ before. before ≡ is_list_before first.now second.now) }
+    ensures equal { IfNone result (first.now ≡ second.now) }
+{
+    if is_before(first, second) {
+        Some(true)
+    } else if is_before(second, first) {
+        Some(false)
+    } else {
+        None
+    }
+}
+
+/// Whether the text of the traversal from `start` comes before `bound`, or `None` if the two are equal. If it does not
+/// come before `bound`, the number of faces read is bounded as for `lesser`. For a disconnected table, which has no such
+/// text, any result may come.
+pub fn compare(
+    alloc: Global,
+    probe: &mut Probe<'_>,
+    start: Start,
+    bound: &[u8],
+) -> Result<Option<bool>, NoMemory>
+    requires table { IsTable probe.old.rows }
+    requires in_range { start.tet < length probe.old.rows }
+    ensures value { IfOk result (λ r. IfSome r (λ before. (text : List ℕ) → IsTextFrom probe.old.rows start text → before ≡ is_list_before text bound.now)) }
+    ensures equal { IfOk result (λ r. IfNone r ((text : List ℕ) → IsTextFrom probe.old.rows start text → text ≡ bound.now)) }
+    ensures few { IfOk result (λ r. r ≢ Some true → ReadsFew probe.old.rows start bound.now (probe.new.taken - probe.old.taken)) }
+    ensures rows { probe.new.rows ≡ probe.old.rows }
+{
+    let mut text = Vec::new(alloc);
+    append_head(&mut text, probe.len())?;
+    if let Some(before) = compare_head(&text, bound) {
+        return Ok(Some(before));
+    }
+    let mut comparison = comparison_from(alloc, probe.len(), start)?;
+    if let Some(before) = compare_types(&mut comparison, probe, start, bound, text.len())? {
+        return Ok(Some(before));
+    }
+    append_parts(&mut text, probe.len(), &comparison)?;
+    Ok(order(&text, bound))
+}
+
 /// Whether the text of the traversal from `start` comes before `bound`. If it does not, and the two first differ before
 /// the destinations of the text, at most three faces are read for each type character up to there. For a disconnected
 /// table, which has no such text, either result may come.
@@ -286,15 +329,8 @@ pub fn lesser(
     ensures few { IfOk result (λ before. before ≡ false → ReadsFew probe.old.rows start bound.now (probe.new.taken - probe.old.taken)) }
     ensures rows { probe.new.rows ≡ probe.old.rows }
 {
-    let mut text = Vec::new(alloc);
-    append_head(&mut text, probe.len())?;
-    if let Some(before) = compare_head(&text, bound) {
+    if let Some(before) = compare(alloc, probe, start, bound)? {
         return Ok(before);
     }
-    let mut comparison = comparison_from(alloc, probe.len(), start)?;
-    if let Some(before) = compare_types(&mut comparison, probe, start, bound, text.len())? {
-        return Ok(before);
-    }
-    append_parts(&mut text, probe.len(), &comparison)?;
-    Ok(is_before(&text, bound))
+    Ok(false)
 }

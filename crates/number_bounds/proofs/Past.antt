@@ -1,18 +1,20 @@
--- What passes a bound: a row, a column, the product of the weights, or the numbers that they lead to.
-use Rattle.std.proofs.Common.{◌≡◌, ℕ, zero, suc, ◌+◌, ◌*◌, ◌<◌, ◌≤◌, ℤ, pos, Bool, true, false, Option, None, Some, IfNone, ◌⊎◌, inl, inr, List, [], take, length, get_or, max, refl, ap, ap₂, sym, subst, ◌∙◌, arith}
+-- What passes a bound: a row, a column, the product of the sums of squares, or the numbers that they lead to.
+use Rattle.std.proofs.Common.{◌≡◌, ℕ, zero, suc, ◌+◌, ◌*◌, ◌<◌, ◌≤◌, ℤ, pos, Bool, true, false, Option, None, Some, IfNone, ◌⊎◌, inl, inr, List, [], ◌∷◌, take, length, get_or, max, refl, ap, ap₂, sym, subst, ◌∙◌, arith}
 use Rattle.std.specs.Prelude.{◌==◌, ◌↔◌, nat_le, unsigned_abs, if◌then◌else◌, IsTrue, IsFalse}
-use Rattle.std.specs.List.{All, Any, sum_by}
+use Rattle.std.specs.List.{All, AllPairs, Any}
 use Rattle.std.proofs.lemmas.Bool.{cases_lt, iff_false, false≢true}
 use Rattle.std.proofs.lemmas.Bool.Decides.{nat_tests}
 use Rattle.std.proofs.lemmas.List.{get_or_default}
-use Rattle.std.proofs.lemmas.List.Sums.{sum_by_more_le, sum_by-le-sum_by, sum_by-le}
+use Rattle.std.proofs.lemmas.List.Sums.{sum_by_more_le, sum_by-le-sum_by, sum_by-cons}
+use Rattle.std.proofs.lemmas.List.Elements.{All-head, All-tail}
 use Rattle.std.proofs.lemmas.Nat.{mul-le}
 use Rattle.cone_definitions.specs.Rows.{Row}
 use Rattle.cone_definitions.specs.Systems.{System}
-use Rattle.cone_bound_laws.specs.Caps.{magnitude, row_weight, column_weight, row_size, caps_product}
-use Rattle.number_bounds.specs.Columns.{cap_by, weights_product, ArePastBounds}
-use Rattle.number_bounds.specs.Weights.{AreWeights}
-use Rattle.number_bounds.proofs.Tallies.{magnitude_is, own}
+use Rattle.cone_bound_laws.specs.Caps.{magnitude, row_weight, row_size, caps_product}
+use Rattle.cone_square_laws.specs.Squares.{sum_of_squares}
+use Rattle.number_bounds.specs.Columns.{cap_by, squares_product, ArePastBounds}
+use Rattle.number_bounds.specs.Squares.{AreSquares}
+use Rattle.number_bounds.proofs.Tallies.{magnitude_is, own, row_square, row_square_is}
 use Rattle.number_bounds.proofs.ColumnCaps.{product_more, some_cap}
 
 -- what holds anyway holds where there is nothing
@@ -40,23 +42,23 @@ size_past row i old n most l so_far one past =
     let m : n ≡ magnitude (get_or row i (0, pos 0)).1 = one ∙ magnitude_is (get_or row i (0, pos 0)).1 in
     omega (arith, whole, m, so_far, past)
 
-pub weight_past : (old start : List ℕ) (row : Row) (i n most : ℕ) → i < length row → ((j : ℕ) → get_or old j 0 ≡ get_or start j 0 + row_weight j (take i row)) →
-    n ≡ unsigned_abs (get_or row i (0, pos 0)).1 → most ≤ get_or old (get_or row i (0, pos 0)).0 0 + n →
-    most ≤ get_or start (get_or row i (0, pos 0)).0 0 + row_weight (get_or row i (0, pos 0)).0 row
-weight_past old start row i n most l so_far one past =
+pub square_past : (old start : List ℕ) (row : Row) (i n most : ℕ) → AllPairs (λ (one other : ℕ × ℤ). one.0 < other.0) row → i < length row →
+    ((j : ℕ) → get_or old j 0 ≡ get_or start j 0 + row_square j (take i row)) → n ≡ magnitude (get_or row i (0, pos 0)).1 * magnitude (get_or row i (0, pos 0)).1 →
+    most ≤ get_or old (get_or row i (0, pos 0)).0 0 + n →
+    most ≤ get_or start (get_or row i (0, pos 0)).0 0 + row_weight (get_or row i (0, pos 0)).0 row * row_weight (get_or row i (0, pos 0)).0 row
+square_past old start row i n most ascending l so_far one past =
     let column : ℕ = (get_or row i (0, pos 0)).0 in
     let z : ℤ = (get_or row i (0, pos 0)).1 in
-    let whole : row_weight column (take i row) + (if column == column then magnitude z else 0) ≤ row_weight column row =
-    sum_by_more_le (λ (term : ℕ × ℤ). if term.0 == column then magnitude term.1 else 0) row i (0, pos 0) l in
-    let m : n ≡ magnitude z = one ∙ magnitude_is z in
-    omega (arith, whole, own column column z refl, m, so_far column, past)
+    let whole : row_square column (take i row) + (if column == column then magnitude z * magnitude z else 0) ≤ row_square column row =
+    sum_by_more_le (λ (term : ℕ × ℤ). if term.0 == column then magnitude term.1 * magnitude term.1 else 0) row i (0, pos 0) l in
+    omega (arith, whole, one, own column column (magnitude z * magnitude z) refl, so_far column, past, row_square_is column row ascending)
 
-pub column_past : (rows : List Row) (i j most : ℕ) (row : Row) (old lent : List ℕ) → i < length rows → row ≡ get_or rows i [] → get_or old j 0 ≡ column_weight (take i rows) j → lent ≡ old →
-    most ≤ get_or lent j 0 + row_weight j row → most ≤ column_weight rows j
+pub column_past : (rows : List Row) (i j most : ℕ) (row : Row) (old lent : List ℕ) → i < length rows → row ≡ get_or rows i [] → get_or old j 0 ≡ sum_of_squares (take i rows) j → lent ≡ old →
+    most ≤ get_or lent j 0 + row_weight j row * row_weight j row → most ≤ sum_of_squares rows j
 column_past rows i j most row old lent l same so_far is past =
-    let whole = sum_by_more_le (λ r. row_weight j r) rows i [] l in
-    let a : get_or lent j 0 ≡ column_weight (take i rows) j = ap (λ xs. get_or xs j 0) is ∙ so_far in
-    let b : row_weight j row ≡ row_weight j (get_or rows i []) = ap (λ r. row_weight j r) same in
+    let whole = sum_by_more_le (λ r. row_weight j r * row_weight j r) rows i [] l in
+    let a : get_or lent j 0 ≡ sum_of_squares (take i rows) j = ap (λ xs. get_or xs j 0) is ∙ so_far in
+    let b : row_weight j row * row_weight j row ≡ row_weight j (get_or rows i []) * row_weight j (get_or rows i []) = ap (λ r. row_weight j r * row_weight j r) same in
     omega (arith, whole, a, b, past)
 
 -- what holds at a place of the rows holds of some row
@@ -86,7 +88,7 @@ attained_all rows i greatest before within = elim before [
 ]
 
 -- the product of more caps is greater
-caps_up : (cap : ℕ → ℕ) (some : (g : ℕ) → 1 ≤ cap g) (n m : ℕ) → n ≤ m → caps_product cap n ≤ caps_product cap m
+pub caps_up : (cap : ℕ → ℕ) (some : (g : ℕ) → 1 ≤ cap g) (n m : ℕ) → n ≤ m → caps_product cap n ≤ caps_product cap m
 unfolding caps_product
 caps_up cap some n zero l = let e : n ≡ 0 = omega arith in rw e (omega arith)
 caps_up cap some n (suc m) l = elim (cases_lt m n) [
@@ -97,20 +99,20 @@ caps_up cap some n (suc m) l = elim (cases_lt m n) [
       omega (arith, before, step)
 ]
 
--- what the weights so far and the next one reach, all weights do
-pub product_past : (weights : List ℕ) (i old factor most : ℕ) → i < length weights → old ≡ caps_product (cap_by weights) i → factor ≡ cap_by weights i → most ≤ old * factor →
-    most ≤ caps_product (cap_by weights) (length weights)
-product_past weights i old factor most l so_far one past =
-    let here = product_more (cap_by weights) i old (old * factor) factor so_far one refl in
-    let up = caps_up (cap_by weights) (some_cap weights) (i + 1) (length weights) (omega arith) in
+-- what the sums so far and the next one reach, all do
+pub product_past : (squares : List ℕ) (i old factor most : ℕ) → i < length squares → old ≡ caps_product (cap_by squares) i → factor ≡ cap_by squares i → most ≤ old * factor →
+    most ≤ caps_product (cap_by squares) (length squares)
+product_past squares i old factor most l so_far one past =
+    let here = product_more (cap_by squares) i old (old * factor) factor so_far one refl in
+    let up = caps_up (cap_by squares) (some_cap squares) (i + 1) (length squares) (omega arith) in
     omega (arith, here, up, past)
 
 -- the product that is made is that of the columns
-weights_are : (system : System) (weights : List ℕ) → AreWeights system weights → caps_product (cap_by weights) (length weights) ≡ weights_product system
-weights_are system weights weighed = λ i. caps_product (λ column. max (weighed.each column i) 1) (weighed.count i)
+squares_are : (system : System) (squares : List ℕ) → AreSquares system squares → caps_product (cap_by squares) (length squares) ≡ squares_product system
+squares_are system squares summed = λ i. caps_product (λ column. max (summed.each column i) 1) (summed.count i)
 
 -- where no row has a size no column has a weight, and the product is 1
-ones : (cap : ℕ → ℕ) (n : ℕ) → ((g : ℕ) → cap g ≡ 1) → caps_product cap n ≡ 1
+pub ones : (cap : ℕ → ℕ) (n : ℕ) → ((g : ℕ) → cap g ≡ 1) → caps_product cap n ≡ 1
 unfolding caps_product
 ones cap zero one = refl
 ones cap (suc n) one = ap₂ (λ a b. a * b) (one n) (ones cap n one)
@@ -122,40 +124,40 @@ part false n = omega arith
 weight_within : (row : Row) (j : ℕ) → row_weight j row ≤ row_size row
 weight_within row j = sum_by-le-sum_by (λ (term : ℕ × ℤ). if term.0 == j then magnitude term.1 else 0) (λ (term : ℕ × ℤ). magnitude term.1) row (λ term. part (term.0 == j) (magnitude term.1))
 
-no_weight : (rows : List Row) (j : ℕ) → All (λ row. row_size row ≤ 0) rows → column_weight rows j ≡ 0
-no_weight rows j none =
-    let within : column_weight rows j ≤ sum_by (λ r. row_size r) rows = sum_by-le-sum_by (λ r. row_weight j r) (λ r. row_size r) rows (λ r. weight_within r j) in
-    let all = sum_by-le (λ (r : Row). row_size r) 0 rows none in
-    omega (arith, within, all)
+pub no_square : (rows : List Row) (j : ℕ) → All (λ row. row_size row ≤ 0) rows → sum_of_squares rows j ≡ 0
+no_square [] j none = refl
+no_square (row ∷ rows) j none =
+    let size : row_size row ≤ 0 = All-head (λ r. row_size r ≤ 0) row rows none in
+    let z : row_weight j row ≡ 0 = omega (arith, weight_within row j, size) in
+    let square : row_weight j row * row_weight j row ≡ 0 = ap (λ n. n * n) z in
+    let rest = no_square rows j (All-tail (λ r. row_size r ≤ 0) row rows none) in
+    omega (arith, sum_by-cons (λ r. row_weight j r * row_weight j r) row rows, square, rest)
 
-no_product : (system : System) → All (λ row. row_size row ≤ 0) system.rows → weights_product system ≡ 1
-no_product system none = ones (λ column. max (column_weight system.rows column) 1) system.columns (λ j. ap (λ w. max w 1) (no_weight system.rows j none))
+no_product : (system : System) → All (λ row. row_size row ≤ 0) system.rows → squares_product system ≡ 1
+no_product system none = ones (λ column. max (sum_of_squares system.rows column) 1) system.columns (λ j. ap (λ w. max w 1) (no_square system.rows j none))
 
--- the square of a large product, taken once at least, is large
-pub square_past : (size product limit : ℕ) → 1 ≤ size → limit < product → limit < size * (product * product)
-square_past size product limit some past =
-    let once : 1 * product ≤ product * product = mul-le 1 product product product (omega arith) (omega arith) in
-    let more : 1 * (product * product) ≤ size * (product * product) = mul-le 1 (product * product) size (product * product) some (omega arith) in
-    omega (arith, once, more, past)
+-- a large product, taken once at least, is large
+pub large_past : (size product limit : ℕ) → 1 ≤ size → limit < product → limit < size * product
+large_past size product limit some past = let more : 1 * product ≤ size * product = mul-le 1 product size product some (omega arith) in omega (arith, more, past)
 
 -- the numbers of some row pass the limit
-pub past_limit : (system : System) (limit : ℕ) (weights : List ℕ) (size product : ℕ) → AreWeights system weights → (size ≡ 0) ⊎ Any (λ row. row_size row ≡ size) system.rows →
-    product ≡ caps_product (cap_by weights) (length weights) → limit < size * (product * product) → ArePastBounds system limit
-past_limit system limit weights size product weighed attained is past = elim attained [
-  | inl none ↦ absurd (let l : limit < 0 * (product * product) = subst (λ s. limit < s * (product * product)) none past in omega (arith, l))
+pub past_limit : (system : System) (limit : ℕ) (squares : List ℕ) (size product : ℕ) → AreSquares system squares → (size ≡ 0) ⊎ Any (λ row. row_size row ≡ size) system.rows →
+    product ≡ caps_product (cap_by squares) (length squares) → limit < size * product → ArePastBounds system limit
+past_limit system limit squares size product summed attained is past = elim attained [
+  | inl none ↦ absurd (let l : limit < 0 * product = subst (λ s. limit < s * product) none past in omega (arith, l))
   | inr some ↦
-      let one : limit < size * (weights_product system * weights_product system) = subst (λ p. limit < size * (p * p)) (is ∙ weights_are system weights weighed) past in
-      inr (inr (some.0, some.1, some.2, some.3, subst (λ s. limit < s * (weights_product system * weights_product system)) (sym some.4) one))
+      let one : limit < size * squares_product system = subst (λ p. limit < size * p) (is ∙ squares_are system squares summed) past in
+      inr (inr (some.0, some.1, some.2, some.3, subst (λ s. limit < s * squares_product system) (sym some.4) one))
 ]
 
 -- the same where the product has no room, so that some row has a size
-pub past_product : (system : System) (limit : ℕ) (weights : List ℕ) (size most : ℕ) → AreWeights system weights → All (λ row. row_size row ≤ size) system.rows →
-    (size ≡ 0) ⊎ Any (λ row. row_size row ≡ size) system.rows → most ≤ caps_product (cap_by weights) (length weights) → limit < most → 1 < most → ArePastBounds system limit
-past_product system limit weights size most weighed small attained large within two = elim (cases_lt 0 size) [
-  | inl some ↦ past_limit system limit weights size (caps_product (cap_by weights) (length weights)) weighed attained refl (square_past size (caps_product (cap_by weights) (length weights)) limit some (omega arith))
+pub past_product : (system : System) (limit : ℕ) (squares : List ℕ) (size most : ℕ) → AreSquares system squares → All (λ row. row_size row ≤ size) system.rows →
+    (size ≡ 0) ⊎ Any (λ row. row_size row ≡ size) system.rows → most ≤ caps_product (cap_by squares) (length squares) → limit < most → 1 < most → ArePastBounds system limit
+past_product system limit squares size most summed small attained large within two = elim (cases_lt 0 size) [
+  | inl some ↦ past_limit system limit squares size (caps_product (cap_by squares) (length squares)) summed attained refl (large_past size (caps_product (cap_by squares) (length squares)) limit some (omega arith))
   | inr none ↦ absurd (
       let nothing : All (λ row. row_size row ≤ 0) system.rows = subst (λ s. All (λ row. row_size row ≤ s) system.rows) (let e : size ≡ 0 = omega arith in e) small in
       let one = no_product system nothing in
-      let same = weights_are system weights weighed in
+      let same = squares_are system squares summed in
       omega (arith, one, same, large, two))
 ]

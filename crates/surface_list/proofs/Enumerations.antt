@@ -16,7 +16,29 @@ use Rattle.double_description.specs.declared.engine.LargeStep.{LargeStep}
 use Rattle.bounded_list.specs.Lists.{enumeration_of, AreAlwaysWithin, IsOnlyListing, AreRefused}
 use Rattle.surface_equation_laws.specs.Bounds.{number_bound}
 use Rattle.surface_equation_laws.proofs.Bounds.{within}
+use Rattle.std.specs.Prelude.{Contains}
+use Rattle.std.proofs.Common.{◌/◌, ◌<◌, inl, inr, false, arith, sym}
+use Rattle.std.proofs.lemmas.Bool.Decides.{nat_tests}
+use Rattle.surface_definitions.specs.declared.Coords.TheVariants.{Quad}
+use Rattle.surface_equation_laws.specs.Caps.{is_free}
+use Rattle.surface_equation_laws.proofs.Caps.{has_caps}
+use Rattle.number_bounds.specs.Triples.{triple_cap, DoTriplesClash, AreTriplesBounded}
+use Rattle.cone_square_laws.proofs.Numbers.{are_within}
+use Rattle.surface_list.specs.Bounded.{AreNumbersBounded}
 use Rattle.surface_list.specs.Surfaces.{AreTableSurfaces, IsTableRefused}
+
+no_triangles : (column : ℕ) → is_free Quad column ≡ false
+no_triangles column = grind (arith, nat_tests)
+
+-- the quads of a tetrahedron clash, so that their equations bound all numbers where they have small sums of squares
+module _ (limit : ℕ) (rows : List Row) (system : System) (pairs : List Clash) (width : system.columns ≡ columns Quad (length rows)) (clashing : pairs ≡ clash_list Quad (length rows))
+    (equations : AreEquations Quad rows system.rows) (table : IsTable rows) where
+  quads_clash : DoTriplesClash system pairs
+  quads_clash i j less l same = subst (λ (all : List Clash). Contains all (i, j)) (sym clashing)
+      ((has_caps Quad rows system.rows table equations).clash i j less (subst (λ n. j < n) width l) (no_triangles i) (no_triangles j) same)
+
+  quads_within : AreTriplesBounded system limit → AreAlwaysWithin limit system pairs
+  quads_within h = are_within limit system pairs (λ column. column / 3) (triple_cap h.squares) (system.columns / 3) h.size (h.caps pairs quads_clash) h.most
 
 -- the equations of a table are its system
 module _ (limit : ℕ) (coords : Coords) (rows : List Row) (system : System) (pairs : List Clash) (order : Order) (width : system.columns ≡ columns coords (length rows))
@@ -39,3 +61,10 @@ module _ (limit : ℕ) (coords : Coords) (rows : List Row) (system : System) (pa
   numbers_within n count table room =
       within coords rows (enumeration_of system pairs order limit) (record { table = table; equations = equations; columns = width; pairs = clashing })
       (subst (λ m. number_bound coords m ≤ limit) count room)
+
+  -- and so are they where the sums of squares in quad coordinates are small
+  pub bounded_within : (n : ℕ) → n ≡ length rows → IsTable rows → AreNumbersBounded coords n system limit → AreAlwaysWithin limit system pairs
+  bounded_within n count table (inl room) = numbers_within n count table room
+  bounded_within n count table (inr h) =
+      quads_within limit rows system pairs (subst (λ c. system.columns ≡ columns c (length rows)) h.0 width) (subst (λ c. pairs ≡ clash_list c (length rows)) h.0 clashing)
+      (subst (λ c. AreEquations c rows system.rows) h.0 equations) table h.1

@@ -1,1 +1,2 @@
 pub mod Surfaces
+pub mod Bounded

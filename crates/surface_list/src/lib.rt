@@ -1,6 +1,7 @@
 //! The vertex surfaces of a gluing table.
 #![tactic(auto)]
 
+mod bounded;
 mod bounds;
 mod listed;
 mod of_skeleton;

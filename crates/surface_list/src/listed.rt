@@ -6,7 +6,7 @@ ghost use Rattle.surface_definitions.specs.QuadEquations.{AreEquations};
 ghost use Rattle.surface_equation_laws.specs.OneForm.{is_triangle};
 ghost use Rattle.surface_list.specs.Surfaces.{AreTableSurfaces, IsTableRefused};
 
-use crate::bounds::numbers_fit;
+use crate::bounded::are_numbers_bounded;
 use bounded_list::{Terms, vertex_list};
 use cone_arithmetic::{MAX_ENTRY, Ray, System};
 use double_description::{EnumFault, NamedOrder};
@@ -58,7 +58,7 @@ pub fn surfaces_by(
     let terms = Terms {
         order,
         limit,
-        is_bounded: numbers_fit(coords, tets, limit),
+        is_bounded: are_numbers_bounded(alloc, system, coords, tets, limit)?,
     };
     vertex_list(alloc, system, test, columns_each(coords), &pivots, terms)
 }

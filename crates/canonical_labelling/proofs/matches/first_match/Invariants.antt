@@ -1,6 +1,9 @@
-use Rattle.std.proofs.Common.{ℕ, ◌<◌}
+use Rattle.std.proofs.Common.{◌≡◌, ℕ, ◌<◌, length}
 use Rattle.signature_laws.specs.Starts.{IsNoMatch}
 use Rattle.canonical_labelling.proofs.matches.first_match.Given as goal
 
 abbrev pub invariant-loop-number : goal.invariant-loop-number
-invariant-loop-number l = (i : ℕ) → i < l.number → IsNoMatch l.table l.target i
+invariant-loop-number l = record {
+  size : length l.trace.numbers.items ≡ length l.table;
+  before : (i : ℕ) → i < l.number → IsNoMatch l.table l.target i;
+}

@@ -1,5 +1,5 @@
-use Rattle.signature_laws.specs.Starts.{IsLeastText}
+use Rattle.canonical_labelling.specs.Orbits.{IsSearch}
 use Rattle.canonical_labelling.proofs.signatures.least_text.Given as goal
 
 abbrev pub invariant-loop-number : goal.invariant-loop-number
-invariant-loop-number l = IsLeastText l.table l.number l.best.items
+invariant-loop-number l = IsSearch l.table l.number l.best.by l.best.text.items l.orbits

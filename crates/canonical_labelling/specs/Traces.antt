@@ -1,0 +1,32 @@
+-- Walks that are compared with the table to which they might lead.
+use Rattle.std.specs.Prelude.{◌≡◌, ℕ, ◌<◌, List, length, Bool, true}
+use Rattle.table_definitions.specs.Permutation.{IsPermutationOfFour}
+use Rattle.table_definitions.specs.Table.{Gluing, Row}
+use Rattle.table_definitions.specs.Relabelling.{Relabelling, IsRelabelling, stand_in, gluing_under}
+use Rattle.signature_definitions.specs.Labellings.{Start, Relabels}
+use Rattle.signature_laws.specs.Orders.{start_at, Numbers}
+
+-- each start of the order begins at one of n tetrahedra
+abbrev pub AreBelow : ℕ → List Start → Type 0
+AreBelow n order = (i : ℕ) → i < length order → (start_at order i).tet < n
+
+-- the order has a start at tetrahedron t
+abbrev pub IsVisited : List Start → ℕ → Type 0
+IsVisited order t = (i : ℕ) × (i < length order) × ((start_at order i).tet ≡ t)
+
+-- a relabelling of n tetrahedra maps each start of the order to its index, and a gluing of the tetrahedron of from to wanted
+pub record Becomes (n : ℕ) (order : List Start) (from : Start) (g wanted : Gluing) (by : Relabelling) : Type 0 where
+  pub in_range : g.tet < n
+  pub from_permutes : IsPermutationOfFour from.perm
+  pub permutes : IsPermutationOfFour g.perm
+  pub bijection : IsRelabelling n by
+  pub numbers : Numbers order by
+  pub becomes : gluing_under (record { tet = 0; perm = from.perm }) (stand_in by g.tet) g ≡ wanted
+
+-- each relabelling that maps the gluing to wanted agrees, and maps the new order so too
+abbrev pub AgreesGlued : ℕ → List Start → List Start → Start → Gluing → Gluing → Bool → Type 0
+AgreesGlued n order after from g wanted agrees = (by : Relabelling) → Becomes n order from g wanted by → (agrees ≡ true) × Numbers after by
+
+-- each relabelling that carries the rows to the target, and maps each start of the order to its index, agrees, and maps the new order so too
+abbrev pub Agrees : List Row → List Row → List Start → List Start → Bool → Type 0
+Agrees rows target order after agrees = (by : Relabelling) → Relabels rows target by → Numbers order by → (agrees ≡ true) × Numbers after by

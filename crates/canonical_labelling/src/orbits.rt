@@ -1,0 +1,138 @@
+//! Starts of a table that need no walk, since automorphisms carry walked starts to them.
+
+ghost use Rattle.std.specs.Prelude.{◌≡◌, ◌<◌, ◌≤◌, ◌*◌, ◌++◌, ◌∷◌, [], true, false, replicate, length, slice_set, IfOk, OnOk};
+ghost use Rattle.std.specs.List.{slice_index_or};
+ghost use Rattle.table_definitions.specs.Table.{max_tets};
+ghost use Rattle.signature_automorphism_laws.specs.Automorphisms as automorphisms;
+ghost use Rattle.canonical_labelling.specs.Orbits.{AreOrbits, MarksFollow};
+
+use crate::starts::numbered_start;
+use gluing_table::Relabelling;
+use std::alloc::{AllocError, Global};
+
+/// Marks of the starts of a table, by number, the list of the marked starts, and automorphisms of the table.
+#[derive(Drop)]
+pub struct Orbits {
+    pub marked: Vec<bool>,
+    pub numbers: Vec<u32>,
+    pub automorphisms: Vec<Relabelling>,
+}
+
+/// The orbits of a table of `count` tetrahedra without a mark or an automorphism.
+pub fn no_orbits(alloc: Global, count: u32) -> Result<Orbits, AllocError>
+    requires { count ≤ max_tets }
+    ensures orbits { IfOk result AreOrbits }
+    ensures marked { IfOk result (λ o. o.marked.items ≡ replicate (24 * count) false) }
+    ensures automorphisms { IfOk result (λ o. o.automorphisms.items ≡ []) }
+{
+    let marked = vec![in alloc; false; 24 * count as usize]?;
+    Ok(Orbits {
+        marked,
+        numbers: Vec::new(alloc),
+        automorphisms: Vec::new(alloc),
+    })
+}
+
+/// The number of the start to which `by` carries the start of `number`.
+fn carried_number(by: &Relabelling, number: u32) -> u32
+    requires in_range { number < 24 * length by.now.images }
+    requires few { length by.now.images ≤ max_tets }
+    ensures value { result ≡ automorphisms.carried_number by.now number }
+    ensures in_range { result < 24 * length by.now.images }
+{
+    let start = numbered_start(number);
+    let perm = start.perm.compose(by.perm(start.tet).inverse());
+    24 * by.image(start.tet) + u32::from(perm.index())
+}
+
+/// Marks the start of `number`.
+fn mark(orbits: &mut Orbits, number: u32) -> Result<(), AllocError>
+    requires orbits { AreOrbits orbits.old }
+    requires in_range { number < length orbits.old.marked.items }
+    ensures orbits { OnOk result (AreOrbits orbits.new) }
+    ensures marked { OnOk result (orbits.new.marked.items ≡ slice_set orbits.old.marked.items number true) }
+    ensures automorphisms { OnOk result (orbits.new.automorphisms.items ≡ orbits.old.automorphisms.items) }
+    ensures grows { OnOk result (length orbits.old.numbers.items ≤ length orbits.new.numbers.items) }
+{
+    if !orbits.marked[number as usize] {
+        orbits.marked[number as usize] = true;
+        orbits.numbers.push(number)?;
+    }
+    Ok(())
+}
+
+/// Marks the start to which the automorphism of index `j` carries the marked start of index `i`.
+fn mark_image(orbits: &mut Orbits, i: usize, j: usize) -> Result<(), AllocError>
+    requires orbits { AreOrbits orbits.old }
+    requires start { i < length orbits.old.numbers.items }
+    requires automorphism { j < length orbits.old.automorphisms.items }
+    ensures orbits { OnOk result (AreOrbits orbits.new) }
+    ensures marked { OnOk result (MarksFollow orbits.old.automorphisms.items orbits.old.marked.items orbits.new.marked.items) }
+    ensures size { OnOk result (length orbits.new.marked.items ≡ length orbits.old.marked.items) }
+    ensures automorphisms { OnOk result (orbits.new.automorphisms.items ≡ orbits.old.automorphisms.items) }
+    ensures grows { OnOk result (length orbits.old.numbers.items ≤ length orbits.new.numbers.items) }
+{
+    let by = &orbits.automorphisms[j];
+    let number = carried_number(by, orbits.numbers[i]);
+    mark(orbits, number)
+}
+
+/// Marks the starts to which the automorphisms carry the marked start of index `i`.
+fn mark_images(orbits: &mut Orbits, i: usize) -> Result<(), AllocError>
+    requires orbits { AreOrbits orbits.old }
+    requires start { i < length orbits.old.numbers.items }
+    ensures orbits { OnOk result (AreOrbits orbits.new) }
+    ensures marked { OnOk result (MarksFollow orbits.old.automorphisms.items orbits.old.marked.items orbits.new.marked.items) }
+    ensures size { OnOk result (length orbits.new.marked.items ≡ length orbits.old.marked.items) }
+    ensures automorphisms { OnOk result (orbits.new.automorphisms.items ≡ orbits.old.automorphisms.items) }
+{
+    for j in 0..orbits.automorphisms.len() {
+        mark_image(orbits, i, j)?;
+    }
+    Ok(())
+}
+
+/// Marks the starts to which products of the automorphisms carry the marked starts of index `first` and above.
+fn close(orbits: &mut Orbits, first: usize) -> Result<(), AllocError>
+    requires { AreOrbits orbits.old }
+    ensures orbits { OnOk result (AreOrbits orbits.new) }
+    ensures marked { OnOk result (MarksFollow orbits.old.automorphisms.items orbits.old.marked.items orbits.new.marked.items) }
+    ensures size { OnOk result (length orbits.new.marked.items ≡ length orbits.old.marked.items) }
+    ensures automorphisms { OnOk result (orbits.new.automorphisms.items ≡ orbits.old.automorphisms.items) }
+{
+    // each start is listed once, so there are at least as many marks as starts in the list
+    for i in first..orbits.marked.len() {
+        if i >= orbits.numbers.len() {
+            return Ok(());
+        }
+        mark_images(orbits, i)?;
+    }
+    Ok(())
+}
+
+/// Marks the start of `number` and the starts to which products of the automorphisms carry it.
+pub fn mark_orbit(orbits: &mut Orbits, number: u32) -> Result<(), AllocError>
+    requires orbits { AreOrbits orbits.old }
+    requires in_range { number < length orbits.old.marked.items }
+    ensures orbits { OnOk result (AreOrbits orbits.new) }
+    ensures marked { OnOk result (MarksFollow orbits.old.automorphisms.items (slice_set orbits.old.marked.items number true) orbits.new.marked.items) }
+    ensures size { OnOk result (length orbits.new.marked.items ≡ length orbits.old.marked.items) }
+    ensures automorphisms { OnOk result (orbits.new.automorphisms.items ≡ orbits.old.automorphisms.items) }
+{
+    let first = orbits.numbers.len();
+    mark(orbits, number)?;
+    close(orbits, first)
+}
+
+/// Adds an automorphism, and marks the starts to which products of the automorphisms carry the marked ones.
+pub fn add_automorphism(orbits: &mut Orbits, by: Relabelling) -> Result<(), AllocError>
+    requires orbits { AreOrbits orbits.old }
+    requires size { 24 * length by.images ≡ length orbits.old.marked.items }
+    ensures orbits { OnOk result (AreOrbits orbits.new) }
+    ensures marked { OnOk result (MarksFollow orbits.new.automorphisms.items orbits.old.marked.items orbits.new.marked.items) }
+    ensures size { OnOk result (length orbits.new.marked.items ≡ length orbits.old.marked.items) }
+    ensures automorphisms { OnOk result (orbits.new.automorphisms.items ≡ orbits.old.automorphisms.items ++ by ∷ []) }
+{
+    orbits.automorphisms.push(by)?;
+    close(orbits, 0)
+}

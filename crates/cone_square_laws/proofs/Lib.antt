@@ -1,0 +1,10 @@
+pub mod Algebra
+pub mod Products
+pub mod Linear
+pub mod Determinants
+pub mod Minors
+pub mod Columns
+pub mod Weights
+pub mod Entries
+pub mod Steps
+pub mod Numbers

@@ -1,0 +1,4 @@
+pub mod Squares
+pub mod Determinants
+pub mod WorkedDeterminant
+pub mod Laws

@@ -1,0 +1,2 @@
+pub mod Automorphisms
+pub mod Laws

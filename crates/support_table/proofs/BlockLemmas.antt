@@ -1,0 +1,126 @@
+-- The columns that all supports of a block have.
+use Rattle.std.proofs.Common.{◌≡◌, ℕ, ◌+◌, ◌*◌, ◌/◌, ◌%◌, ◌<◌, ◌≤◌, min, ⊎_elim, List, [], ◌++◌, true, Bool, length, length-append, length-drop, length-take, take, drop, get_or, get_or-take, ap, sym, subst, ◌∙◌, arith, bit_and}
+use Rattle.std.specs.Int.{bit_at}
+use Rattle.std.proofs.lemmas.Bool.{cases_lt, eq-eqb}
+use Rattle.std.proofs.lemmas.List.{get_or_append_left, get_or-append-add, get_or-drop}
+use Rattle.std.proofs.lemmas.Nat.Bits.{bit_at_and, bit_at-lt}
+use Rattle.support_bits.specs.Words.{bit_of, AreWordsOf, AreCovered}
+use Rattle.support_bits.proofs.WordLemmas.{is_one, within_words}
+use Rattle.support_table.specs.Blocks.{block_size, AreWithin, AreBlocks, KeepsCommon, AreCommonOf, IsBlockPushed}
+use Rattle.support_table.specs.Tables.{Table, listed, IsTable, CanPass}
+use Rattle.support_table.proofs.TableLemmas.{part_within, covered_iff, table_of, count_of, words_of_place}
+
+-- ---- the bits that two words have
+
+common_of : (m n i : ℕ) → m < 2 → n < 2 → min m n ≡ 1 → (m ≡ 1) × (n ≡ 1)
+common_of m n i p q e = (omega arith, omega arith)
+
+common_bits : (m n k i : ℕ) → k ≡ bit_and m n → bit_at k i ≡ 1 → (bit_at m i ≡ 1) × (bit_at n i ≡ 1)
+common_bits m n k i is one = common_of (bit_at m i) (bit_at n i) i (bit_at-lt m i) (bit_at-lt n i) (sym (bit_at_and m n i) ∙ ap (λ w. bit_at w i) (sym is) ∙ one)
+
+-- ---- a block is appended
+
+word_of_part : (width start j : ℕ) (words : List ℕ) → j < width → get_or (take width (drop start words)) j 0 ≡ get_or words (start + j) 0
+word_of_part width start j words less = get_or-take width (drop start words) j 0 less ∙ get_or-drop start words j 0
+
+length_of_part : (width start : ℕ) (words : List ℕ) → start + width ≤ length words → length (take width (drop start words)) ≡ width
+length_of_part width start words within = omega (arith, length-take width (drop start words), length-drop start words)
+
+pub common_first : (width first : ℕ) (words old new : List ℕ) → new ≡ old ++ take width (drop (first * width) words) → first * width + width ≤ length words → AreCommonOf width first 1 words old new
+common_first width first words old new is within = record {
+  count = ap length is ∙ omega (arith, length-append old part, length_of_part width (first * width) words within);
+  before = λ j less. ap (λ ws. get_or ws j 0) is ∙ get_or_append_left old part 0 j less;
+  common = λ k less j few i one. let e : first ≡ first + k = omega arith in
+      let same : get_or new (length old + j) 0 ≡ get_or words (first * width + j) 0 = ap (λ ws. get_or ws (length old + j) 0) is ∙ get_or-append-add old part j 0 ∙ word_of_part width (first * width) j words few in
+      sym (ap (λ n. bit_at (get_or words (n * width + j) 0) i) e) ∙ sym (ap (λ n. bit_at n i) same) ∙ one;
+}
+  where
+    part : List ℕ
+    part = take width (drop (first * width) words)
+
+pub common_more : (width first k start : ℕ) (words old mid new : List ℕ) (added : List ℕ) → AreCommonOf width first k words old mid → start ≡ length old → KeepsCommon start (length added) added mid new →
+    added ≡ take width (drop ((first + k) * width) words) → (first + k) * width + width ≤ length words → AreCommonOf width first (k + 1) words old new
+common_more width first k start words old mid new added h starts keeps is within = record {
+  count = keeps.count ∙ h.count;
+  before = λ j less. keeps.before j (omega arith) ∙ h.before j less;
+  common = λ p less j few i one.
+      let all : length added ≡ width = ap length is ∙ length_of_part width ((first + k) * width) words within in
+      let both = common_bits _ _ _ i (ap (λ n. get_or new (n + j) 0) (sym starts) ∙ keeps.kept j (omega (arith, all)) ∙ ap (λ n. bit_and (get_or mid (n + j) 0) (get_or added j 0)) starts) one in
+      ⊎_elim (λ earlier. h.common p earlier j few i both.0)
+      (λ last. let e : k ≡ p = omega arith in
+      subst (λ n. bit_at (get_or words ((first + n) * width + j) 0) i ≡ 1) e
+      (sym (ap (λ n. bit_at n i) (ap (λ ws. get_or ws j 0) is ∙ word_of_part width ((first + k) * width) j words few)) ∙ both.1))
+      (cases_lt p k);
+}
+
+-- ---- the blocks of a table
+
+pub blocks_of_none : (width : ℕ) → AreBlocks width 0 0 [] []
+blocks_of_none width = record { most = omega arith; total = omega arith; common = λ place less. absurd (omega arith) }
+
+pub blocks_push : (width count closed : ℕ) (words blocks more : List ℕ) → AreBlocks width count closed words blocks → length words ≡ count * width → AreBlocks width (count + 1) closed (words ++ more) blocks
+blocks_push width count closed words blocks more h total = record {
+  most = omega (arith, h.most);
+  total = h.total;
+  common = λ place less j few i one.
+      let within = part_within place count width (omega (arith, h.most)) in
+      ap (λ n. bit_at n i) (get_or_append_left words more 0 (place * width + j) (omega arith)) ∙ h.common place less j few i one;
+}
+
+pub blocks_close : (width count closed first : ℕ) (words blocks new : List ℕ) → AreBlocks width count closed words blocks → first ≡ block_size * closed → first + block_size ≤ count → IsBlockPushed width first words blocks new →
+    AreBlocks width count (closed + 1) words new
+blocks_close width count closed first words blocks new h is within pushed = record {
+  most = omega arith;
+  total = pushed.count ∙ sym (one_more ∙ ap (λ n. n + width) (sym h.total));
+  common = λ place less. ⊎_elim (before place) (last place less) (cases_lt place (block_size * closed));
+}
+  where
+    one_more : (closed + 1) * width ≡ closed * width + width
+    one_more = omega arith
+
+    before : (place : ℕ) → place < block_size * closed → AreWithin width new (place / block_size * width) words (place * width)
+    before place less j few i one =
+        let inside = part_within (place / block_size) closed width (omega arith) in
+        h.common place less j few i (sym (ap (λ n. bit_at n i) (pushed.before (place / block_size * width + j) (omega (arith, h.total)))) ∙ one)
+
+    last : (place : ℕ) → place < block_size * (closed + 1) → block_size * closed ≤ place → AreWithin width new (place / block_size * width) words (place * width)
+    last place less more j few i one =
+        let e : place / block_size ≡ closed = omega arith in
+        let f : first + (place % block_size) ≡ place = omega arith in
+        let start : length blocks ≡ place / block_size * width = h.total ∙ ap (λ n. n * width) (sym e) in
+        subst (λ n. bit_at (get_or words (n * width + j) 0) i ≡ 1) f
+        (pushed.common (place % block_size) (omega arith) j few i (ap (λ n. bit_at (get_or new (n + j) 0) i) start ∙ one))
+
+-- ---- a block is passed over
+
+set_within : (width start first : ℕ) (blocks words : List ℕ) (column : ℕ) → AreWithin width blocks start words first →
+    bit_of (take width (drop start blocks)) column ≡ true → bit_of (take width (drop first words)) column ≡ true
+set_within width start first blocks words column h is_set =
+    let less : column / 64 < width = omega (arith, within_words (take width (drop start blocks)) column is_set, length-take width (drop start blocks)) in
+    let one : bit_at (get_or blocks (start + column / 64) 0) (column % 64) ≡ 1 =
+    sym (ap (λ n. bit_at n (column % 64)) (word_of_part width start (column / 64) blocks less)) ∙ is_one _ _ is_set in
+    eq-eqb _ 1 (ap (λ n. bit_at n (column % 64)) (word_of_part width first (column / 64) words less) ∙ h (column / 64) less (column % 64) one)
+
+-- if the columns that some supports have in common aren't all in the union, none of the supports lies inside it
+pub passes : (columns width count closed : ℕ) (words blocks : List ℕ) (table : Table) (a b : List Bool) (aw bw : List ℕ) (place : ℕ) →
+    IsTable columns width count closed words blocks → table_of columns (listed columns width count words) ≡ table → AreWordsOf a aw → AreWordsOf b bw →
+    place % block_size ≡ 0 → place / block_size < closed → ¬ AreCovered (take width (drop (place / block_size * width) blocks)) aw bw → CanPass table.supports a b place
+passes columns width count closed words blocks table a b aw bw place h is of_a of_b whole less outside = record {
+  within = omega (arith, count_of columns width count words table is, h.common.most);
+  none = λ k from to inside.
+      let e : k / block_size ≡ place / block_size = omega arith in
+      let of_k = words_of_place columns width count words table k h.spelled is (omega (arith, h.common.most)) in
+      let covered = (covered_iff _ a b _ aw bw of_k of_a of_b).1 inside in
+      let common = h.common.common k (omega arith) in
+      outside (λ column is_set. covered column (set_within width (place / block_size * width) (k * width) blocks words column
+      (subst (λ n. AreWithin width blocks (n * width) words (k * width)) e common) is_set));
+}
+
+-- a block has as many words as a support of the table
+pub block_width : (columns width count closed : ℕ) (words blocks : List ℕ) (table : Table) (a : List Bool) (aw : List ℕ) (block : ℕ) →
+    IsTable columns width count closed words blocks → table_of columns (listed columns width count words) ≡ table → AreWordsOf a aw → length a ≡ table.columns → block < closed →
+    length aw ≡ length (take width (drop (block * width) blocks))
+block_width columns width count closed words blocks table a aw block h is of_a same less =
+    let wide : length aw ≡ width = of_a.count ∙ ap (λ n. (n + 63) / 64) (same ∙ sym (ap (λ (t : Table). t.columns) is)) ∙ sym h.spelled.needed in
+    let within = part_within block closed width less in
+    wide ∙ sym (length_of_part width (block * width) blocks (omega (arith, h.common.total)))

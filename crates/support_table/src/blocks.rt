@@ -1,0 +1,48 @@
+// Blocks of supports that stand one after another by their words: the columns that all supports of a block have.
+
+ghost use Rattle.std.specs.Prelude.{◌≡◌, ◌+◌, ◌*◌, ◌<◌, ◌≤◌, ◌^◌, length, take, drop, OnOk, OnErr};
+ghost use Rattle.support_table.specs.Blocks.{block_size, KeepsCommon, IsBlockPushed};
+
+use no_memory::NoMemory;
+
+/// How many supports a block has.
+pub const BLOCK: usize = 32;
+
+/// The `width` words of `words` from the index `start` on.
+pub fn part(words: &[u64], start: usize, width: usize) -> &[u64]
+    requires { start + width ≤ length words.now }
+    ensures { result.now ≡ take width (drop start words.now) }
+{
+    &words[start..start + width]
+}
+
+/// Clears each bit of `blocks` that isn't set in `words`, from the word with index `start` on.
+fn keep_common(blocks: &mut Vec<u64>, start: usize, words: &[u64])
+    requires { start + length words.now ≤ length blocks.old.items }
+    ensures { KeepsCommon start (length words.now) words.now blocks.old.items blocks.new.items }
+{
+    for (k, word) in words.iter().enumerate() {
+        blocks[start + k] &= *word;
+    }
+}
+
+/// Appends to `blocks` the bits that are set for each support of the block whose first support has the index `first`, by
+/// `words`, `width` words a support. If memory runs out, `blocks` stays as it was.
+pub fn push_block(
+    words: &[u64],
+    width: usize,
+    first: usize,
+    blocks: &mut Vec<u64>,
+) -> Result<(), NoMemory>
+    requires within { (first + block_size) * width ≤ length words.now }
+    requires room { first + block_size < 2 ^ 64 }
+    ensures pushed { OnOk result (IsBlockPushed width first words.now blocks.old.items blocks.new.items) }
+    ensures stays { OnErr result (blocks.new.items ≡ blocks.old.items) }
+{
+    let start = blocks.len();
+    blocks.extend_from_slice(part(words, first * width, width))?;
+    for k in 1..BLOCK {
+        keep_common(blocks, start, part(words, (first + k) * width, width));
+    }
+    Ok(())
+}

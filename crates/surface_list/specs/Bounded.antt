@@ -1,0 +1,15 @@
+-- Whether all numbers of an enumeration of a table's surfaces are within a limit, as far as it is read off beforehand.
+use Rattle.std.specs.Prelude.{◌≡◌, ℕ, ◌<◌, ◌≤◌, ◌⊎◌}
+use Rattle.cone_definitions.specs.Systems.{System}
+use Rattle.surface_definitions.specs.declared.Coords.{Coords}
+use Rattle.surface_definitions.specs.declared.Coords.TheVariants.{Quad}
+use Rattle.surface_equation_laws.specs.Bounds.{number_bound}
+use Rattle.number_bounds.specs.Triples.{AreTriplesBounded, ArePastTriples}
+
+-- by the number of tetrahedra, or in quad coordinates by the sums of squares of the equations
+abbrev pub AreNumbersBounded : Coords → ℕ → System → ℕ → Type 0
+AreNumbersBounded coords tets system limit = (number_bound coords tets ≤ limit) ⊎ ((coords ≡ Quad) × AreTriplesBounded system limit)
+
+-- by neither
+abbrev pub AreBothPast : Coords → ℕ → System → ℕ → Type 0
+AreBothPast coords tets system limit = (limit < number_bound coords tets) × (coords ≡ Quad → ArePastTriples system limit)
