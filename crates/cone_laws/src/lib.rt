@@ -1,6 +1,5 @@
-//! What follows from the definitions of a cone alone, whatever the code: the union of a pair has at most two columns more than
-//! there are rows before, all rows can be taken in the order that is asked for, and each enumeration ends with a list, or with
-//! a number that passes the limit.
+//! Theorems on the double description method that follow from the definitions of a cone alone: bounds on the union of
+//! an adjacent pair, adjacency by residuals, and that each enumeration ends.
 #![tactic(auto)]
 
 ghost use Rattle.cone_laws.specs.Laws.{FacesAreSmall, PairsAreSmall, PairsOfStepsAreSmall, LargeUnionsAreNoPairs, LargeUnionsHaveThird, UnionsWithNoThirdAreSmall};
@@ -10,21 +9,27 @@ ghost use Rattle.cone_laws.specs.WorkedUnion.{WorkedPair, WorkedNoPair, WorkedCu
 ghost use Rattle.cone_laws.specs.Enumerations.{RowsAreTaken, EnumerationsEnd};
 ghost use Rattle.cone_laws.specs.Residuals.{ResidualsDecide, MinimalResidualsHaveNoThird, InsideAreRivals, RivalsDecide, SmallerResidualsAlone, EqualResidualsSpoil};
 
-/// The union of two rays that contains no third has at most two columns more than there are rows.
+/// Theorem: if the union of the supports of two primitive extreme solutions contains the support of no third one, it
+/// has at most two columns more than there are rows. So the union of a pair of a step has at most two columns more than
+/// there are rows before the step.
 pub fn unions_are_small()
     ensures faces { FacesAreSmall }
     ensures pairs { PairsAreSmall }
     ensures steps { PairsOfStepsAreSmall }
 {}
 
-/// Rays whose union has more columns are no pair, and a surface list has a third ray inside.
+/// Theorem: two rays whose union has more than k + 2 columns are no pair of step k. If the union of two rays of a
+/// surface list contains no clashing pair and has more than two columns more than there are rows, it contains the
+/// support of a third ray of the list; if it contains no third, it has no more.
 pub fn large_unions_are_no_pairs()
     ensures none { LargeUnionsAreNoPairs }
     ensures third { LargeUnionsHaveThird }
     ensures small { UnionsWithNoThirdAreSmall }
 {}
 
-/// A step whose row is 0 at all rays changes nothing, so the steps that cut give a bound too.
+/// Theorem: a step whose row is 0 at all rays leaves the list as it is, and each other step needs one row more. So in
+/// an enumeration the union of a pair has at most two columns more than the number of earlier steps whose row is not 0
+/// at all rays.
 pub fn cuts_bound_unions()
     ensures first { UnitVectorsAreOfNoRow }
     ensures flat { FlatStepsKeepTheList }
@@ -34,7 +39,8 @@ pub fn cuts_bound_unions()
     ensures lists { PairsAreSmallByCuts }
 {}
 
-/// Rows with no term at a column of the union don't count.
+/// Theorem: only rows with a term at a column of the union count: if the union of two primitive extreme solutions
+/// contains the support of no third one, it has at most two columns more than there are such rows.
 pub fn meeting_rows_bound_unions()
     ensures enough { EnoughRowsBoundUnions }
     ensures faces { MeetingRowsBoundUnions }
@@ -43,7 +49,8 @@ pub fn meeting_rows_bound_unions()
     ensures steps { StepsAddTheirRow }
 {}
 
-/// A pair with as many columns as it can have, two rays with more, and rows that cut.
+/// Examples: a pair whose union is as large as the bound, two rays whose union is larger, and rows of which not all
+/// cut.
 pub fn small_unions()
     ensures pair { WorkedPair }
     ensures none { WorkedNoPair }
@@ -51,18 +58,21 @@ pub fn small_unions()
     ensures meeting { WorkedMeeting }
 {}
 
-/// All rows can be taken, each as the order names it.
+/// Theorem: for each order, all rows of a system can be taken, each as the order names it.
 pub fn rows_are_taken()
     ensures { RowsAreTaken }
 {}
 
-/// An enumeration has a list, or a number passes the limit.
+/// Theorem: if each clashing pair consists of two different columns, an enumeration has a list, or one of its numbers
+/// exceeds the limit.
 pub fn enumerations_end()
     ensures { EnumerationsEnd }
 {}
 
-/// A third ray lies inside the union of two exactly where its residual beside the first lies inside that of the second. So the
-/// two make a pair exactly where that residual is minimal among the rivals', and each is tested against smaller ones alone.
+/// Theorem: the support of t lies in the union of those of u and w if and only if the residual of t beside u (t where u
+/// is 0, and 0 elsewhere) has its support in that of w. So two rays have no third ray in their union if and only if the
+/// residual of the second is minimal. If the union contains no clashing pair, only rays compatible with the first
+/// count, and of these only such with smaller residuals, or an equal one.
 pub fn residuals_decide()
     ensures inside { ResidualsDecide }
     ensures minimal { MinimalResidualsHaveNoThird }

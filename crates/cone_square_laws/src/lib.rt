@@ -1,29 +1,35 @@
-//! What follows from the equations alone by the sums of squares in their columns: all rays and all numbers of an elimination are
-//! bounded, whatever the order of its rows.
+//! Bounds on all rays and all numbers of an elimination by sums of squares in the columns (Hadamard 1893), whatever the
+//! order of the rows.
 #![tactic(auto)]
 
 ghost use Rattle.cone_square_laws.specs.Determinants.{DeterminantsAreBounded};
 ghost use Rattle.cone_square_laws.specs.WorkedDeterminant.{WorkedIs, WorkedMost};
 ghost use Rattle.cone_square_laws.specs.Laws.{SquaresAreLess, WeightsSuffice, EntriesAreBoundedBySquares, NumbersAreBoundedBySquares};
 
-/// The square of a determinant is at most the product of its columns' sums of squares.
+/// Theorem (Hadamard 1893): the square of a determinant of integers is at most the product of the sums of squares of
+/// its columns.
 pub fn determinants_are_bounded()
     ensures { DeterminantsAreBounded }
 {}
 
-/// The determinant of the rows 1 1 and 1 -1 is -2, and its square the product of the columns' sums of squares.
+/// Example: the determinant of the rows 1 1 and 1 -1 is -2; its square is the product of the sums of squares of its
+/// columns.
 pub fn worked_determinant()
     ensures is { WorkedIs }
     ensures most { WorkedMost }
 {}
 
-/// Where the columns of the equations have small sums of squares, the rays have small entries, and no number passes the limit.
+/// Theorem: let the columns fall into groups of pairwise clashing columns, each group with a cap that is at least 1 and
+/// at least the sum of squares of all rows in each of its columns, and let no row have magnitudes of sum above `size`.
+/// Then the square of no entry of a vertex surface exceeds the product P of the caps, and if `size` times P is within
+/// the limit, no number of any step exceeds the limit, in any order of the rows.
 pub fn squares_bound_numbers()
     ensures entries { EntriesAreBoundedBySquares }
     ensures numbers { NumbersAreBoundedBySquares }
 {}
 
-/// No bound by squares is worse than that by weights.
+/// Theorem: the sum of squares in a column is at most the square of its sum of magnitudes. So equations that are
+/// bounded by magnitudes, without free columns, are bounded by squares.
 pub fn squares_are_less()
     ensures columns { SquaresAreLess }
     ensures suffice { WeightsSuffice }

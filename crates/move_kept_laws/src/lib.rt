@@ -1,11 +1,11 @@
-//! What a legal move keeps: whether a table is closed, and whether it is orientable.
+//! Theorems on what a legal move keeps: whether a table is closed, and whether it is orientable.
 #![tactic(auto)]
 
 ghost use Rattle.move_kept_laws.specs.Closed.{MovesKeepClosed, MovesKeepBoundary, PlaysKeepClosed, PlaysKeepBoundary};
 ghost use Rattle.move_kept_laws.specs.Orientable.{MovesKeepOrientable, MovesComeFromOrientable, PlaysKeepOrientable, PlaysComeFromOrientable, RelabelledFromOrientable};
 ghost use Rattle.move_kept_laws.specs.Certified.{StandardSphere, RelabelledFromClosed, CertifiedAreClosed, CertifiedAreOrientable};
 
-/// A move leads to a closed table exactly from closed tables.
+/// Theorem: if a legal move leads from one table to another, one is closed if and only if the other is.
 pub fn moves_keep_closed()
     ensures forth { MovesKeepClosed }
     ensures back { MovesKeepBoundary }
@@ -13,7 +13,8 @@ pub fn moves_keep_closed()
     ensures plays_back { PlaysKeepBoundary }
 {}
 
-/// A move leads to an orientable table exactly from orientable tables.
+/// Theorem: if a legal move leads from one table to another, one is orientable if and only if the other is; a table
+/// isomorphic to an orientable one is orientable.
 pub fn moves_keep_orientable()
     ensures forth { MovesKeepOrientable }
     ensures back { MovesComeFromOrientable }
@@ -22,7 +23,7 @@ pub fn moves_keep_orientable()
     ensures relabelled { RelabelledFromOrientable }
 {}
 
-/// So a table with a certificate is closed and orientable.
+/// Theorem: a table with a certificate is closed and orientable, as the standard sphere is.
 pub fn certified_tables()
     ensures sphere { StandardSphere }
     ensures relabelled { RelabelledFromClosed }

@@ -1,53 +1,54 @@
-//! What follows from the definitions of moves alone, whatever the code: a move is legal exactly if the star of its core
-//! is a part of the boundary of a 4-simplex, it leads to one table, its inverse leads back up to labels, and taking it back
-//! leads back row for row. Scripts of moves, descents and the generator end at one table.
+//! Theorems on Pachner moves that follow from their definitions alone: a move is legal if and only if the star of its
+//! core is part of the boundary of a 4-simplex, its result is determined, and its inverse reverses it up to
+//! isomorphism.
 #![tactic(auto)]
 
 ghost use Rattle.move_laws.specs.Stars.{LegalExactlyByStars, StarsAreTakenOut};
 ghost use Rattle.move_definitions.specs.Laws.{LegalMovesLeadOn, MovesAgree, MovesMakeTables, InversesHaveCores, InversesLeadBackUpToLabels, InversesLeadOnlyBack, MoveLinesHaveCores, PlaysAgree, DescentsAgree, MakingsAgree};
 ghost use Rattle.move_definitions.specs.Undos.{TakesBack};
 
-/// A move is legal exactly if the star of its core is a part of the boundary of a 4-simplex: as many facets as the core
-/// leaves, in different tetrahedra, of which any two meet label by label. These are the facets that it takes out.
+/// Theorem (Pachner 1991): a move on a core is legal if and only if the star of the core is part of the boundary of a
+/// 4-simplex: it has one facet for each label outside the core, in different tetrahedra, and any two of them meet label
+/// by label. The move removes exactly these facets.
 pub fn legal_moves_have_stars()
     ensures exactly { LegalExactlyByStars }
     ensures taken_out { StarsAreTakenOut }
 {}
 
-/// A legal move leads on, the limit of tetrahedra left aside.
+/// Theorem: a legal move has a result, apart from the limit of tetrahedra.
 pub fn legal_moves_lead_on()
     ensures { LegalMovesLeadOn }
 {}
 
-/// A move leads to at most one table.
+/// Theorem: a move has at most one resulting table.
 pub fn moves_agree()
     ensures { MovesAgree }
 {}
 
-/// Within the limit of tetrahedra, the rows to which a move leads are a table.
+/// Theorem: within the limit of tetrahedra, the rows that result from a move are a table.
 pub fn moves_make_tables()
     ensures { MovesMakeTables }
 {}
 
-/// The inverse of a move leads from the new table to a relabelling of the old one.
+/// Theorem: the inverse of a move leads from the resulting table to a table isomorphic to the first, and to no other.
 pub fn inverses_lead_back()
     ensures cores { InversesHaveCores }
     ensures tables { InversesLeadBackUpToLabels }
     ensures alone { InversesLeadOnlyBack }
 {}
 
-/// Taking back leads to the table on which the move was played.
+/// Theorem: undoing a move restores the table before it, row for row.
 pub fn moves_are_taken_back()
     ensures { TakesBack }
 {}
 
-/// Moves that are played one after another lead to one table, and moves that lines spell have the cores for it.
+/// Theorem: a sequence of moves leads to at most one table, and moves that lines of text spell have cores for it.
 pub fn plays_agree()
     ensures tables { PlaysAgree }
     ensures lines { MoveLinesHaveCores }
 {}
 
-/// A table has one descent, and a state of the generator one making.
+/// Theorem: a table has at most one descent, and a state of the generator at most one making.
 pub fn descents_and_makings_agree()
     ensures descents { DescentsAgree }
     ensures makings { MakingsAgree }

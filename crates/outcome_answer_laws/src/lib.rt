@@ -1,7 +1,5 @@
-//! What the answers of commands mean, whatever the code: with few tetrahedra `surfaces` gives its list, where vertex links
-//! are spheres or discs `lift` has a lift, `make` makes as many moves as asked for, `check` accepts certificates and nothing
-//! else, equal signatures tell relabelled tables, and so do `same`, `csame` and `group`; `decompose` tells sums of vertex
-//! surfaces, `addup` accepts true sums, `cover` gives the orientation cover, and `play` the table to which moves lead.
+//! Theorems on what the answers of single commands mean: lists of vertex surfaces, lifts, certificates, isomorphism,
+//! sums, covers and scripts of moves, each over the one outcome of words and bytes.
 #![tactic(auto)]
 
 ghost use Rattle.outcome_answer_laws.specs.Surfaces.{BoundedTablesAreListed, FewTablesAreListed};
@@ -14,63 +12,71 @@ ghost use Rattle.outcome_answer_laws.specs.Sums.{VectorsAreDecomposed, TrueSumsA
 ghost use Rattle.outcome_answer_laws.specs.Covers.{CoversAreAnswered};
 ghost use Rattle.outcome_answer_laws.specs.Scripts.{ScriptsArePlayed};
 
-/// Where the limit is at least the bound of a table's numbers, the outcome of `surfaces` is the list of its vertex surfaces; so
-/// it is at the default limit for up to 31 tetrahedra in standard coordinates and up to 29 in quad and octagon coordinates.
+/// Theorem: if the limit is at least the bound on the numbers of a triangulation, the outcome of `surfaces` is the list
+/// of all its vertex surfaces, in any order of the rows. This holds at the default limit for up to 31 tetrahedra in
+/// standard coordinates, and up to 29 in quad and octagon coordinates.
 pub fn few_tables_are_listed()
     ensures bounded { BoundedTablesAreListed }
     ensures few { FewTablesAreListed }
 {}
 
-/// Where the link of each vertex class is a sphere or a disc, `lift` refuses no vector for want of a lift, and lifts all
-/// vectors that are admissible solutions of which no sum is too large.
+/// Theorem (Tollefson 1998): if each vertex link is a sphere or a disc, `lift` refuses no vector with `no-lift`. It
+/// prints the lifts of all vectors if each is an admissible solution of which no part of an equation, and not four
+/// times the sum of its entries, exceeds 2^127 - 1.
 pub fn solutions_are_lifted()
     ensures none { NoneWithoutLift }
     ensures lifted { SolutionsAreLifted }
 {}
 
-/// The certificate that `make` writes, and that `bulk` checks, has exactly as many moves as are asked for, up to 333.
+/// Theorem: for up to 333 moves, the certificate that `make` prints, and that `bulk` checks, has exactly as many moves
+/// as requested.
 pub fn all_moves_are_made()
     ensures make { AllMovesAreMade }
     ensures bulk { AllMovesAreSummedUp }
 {}
 
-/// `check` accepts the moves that are a certificate, and no others.
+/// Theorem: `check` prints `accepted`, and ends with status 0, if and only if the moves are a certificate of the
+/// triangulation.
 pub fn certificates_are_accepted()
     ensures accepted { CertificatesAreAccepted }
     ensures done { CertificatesAreDone }
 {}
 
-/// Two answers of `sig` to connected tables, or of `csig` to any, are equal exactly where a relabelling carries the one table to
-/// the other.
+/// Theorem: two answers of `sig` to connected triangulations are equal if and only if the triangulations are
+/// isomorphic, and so are two answers of `csig` to any triangulations.
 pub fn signatures_tell_tables()
     ensures sig { SignaturesTell }
     ensures csig { ComponentSignaturesTell }
 {}
 
-/// `same` says of connected tables, and `csame` of any, that they are the same exactly where a relabelling carries the one to
-/// the other, and tells one; for `csame` that is exactly where the components match up. `group` puts two tables into one
-/// class exactly there.
+/// Theorem: `same` compares two triangulations if and only if both are connected, `csame` compares any two. They print
+/// `same` and an isomorphism if the triangulations are isomorphic, and `different` otherwise; for `csame` this is so if
+/// and only if the components can be matched one to one with an isomorphic one each. `group` puts two connected
+/// triangulations into one class if and only if they are isomorphic.
 pub fn tables_are_compared()
     ensures same { ConnectedAreCompared }
     ensures csame { ComponentsAreCompared }
     ensures group { TablesAreGrouped }
 {}
 
-/// `decompose` tells vectors that are admissible solutions as sums of vertex surfaces, or the first number past the limit,
-/// and else the first vector that is none; `addup` accepts sums exactly where they are true.
+/// Theorem: if all vectors are admissible solutions within 2^127 - 1, `decompose` prints a multiple of each as a sum of
+/// vertex surfaces, or the first number above the limit; otherwise it names the first vector that is not, and why.
+/// `addup` prints `accepted` if and only if all vectors are such solutions and each sum is correct.
 pub fn sums_are_answered()
     ensures decompose { VectorsAreDecomposed }
     ensures addup { TrueSumsAreAccepted }
 {}
 
-/// `cover` gives an orientable table that lies twice over the other, and says that it is connected, over a connected table,
-/// exactly where that isn't orientable; it refuses exactly where there would be too many tetrahedra.
+/// Theorem: `cover` prints an orientable triangulation with two tetrahedra over each one, and whether it is connected.
+/// If the triangulation is connected and has a tetrahedron, its cover is connected if and only if the triangulation is
+/// not orientable. `cover` fails if and only if 2n tetrahedra exceed the limit.
 pub fn covers_are_answered()
     ensures { CoversAreAnswered }
 {}
 
-/// `play` prints the table to which the moves lead that are played at the end: that of all moves, where they can be played;
-/// the one before moves that are all taken back; and the table of the input behind as many undos as steps.
+/// Theorem: `play` prints the table that results from the moves in effect at the end. These are all moves if all of
+/// them can be played; after moves that are all undone, the table is the one before them; and after at least as many
+/// undos as earlier steps it is the table of the input.
 pub fn scripts_are_played()
     ensures { ScriptsArePlayed }
 {}

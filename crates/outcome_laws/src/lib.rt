@@ -1,9 +1,9 @@
-//! What follows from the definitions of outcomes alone, whatever the code: words and an input are due one outcome.
+//! Uniqueness of outcomes: words and an input have at most one.
 #![tactic(auto)]
 
 ghost use Rattle.outcome_laws.specs.Laws.{OutcomesAgree};
 
-/// At most one outcome is due to words and an input.
+/// Theorem: words and an input have at most one outcome.
 pub fn outcomes_agree()
     ensures { OutcomesAgree }
 {}

@@ -1,32 +1,35 @@
-//! Laws of trees of faces, generators and relators. The statements stand in `specs/`; the functions here have no code:
-//! their contracts are the laws.
+//! Theorems on the tree of faces, the generators and the relators of a table. The functions have empty bodies: their
+//! contracts are the theorems.
 #![tactic(auto)]
 
 ghost use Rattle.presentation_laws.specs.Laws.{TreeFacesLead, OneTreePath, TreeFacesAreCounted, RelatorsTurnEvenly, NoneTurnsExactly, OnePresentation, PresentationExists};
 
-/// In a connected table tree faces lead to each tetrahedron in one way, and there is one for each but tetrahedron 0.
+/// Theorem: in a connected table of n tetrahedra, n at least 1, there are n - 1 tree faces, and exactly one path of
+/// tree faces leads from tetrahedron 0 to each tetrahedron.
 pub fn tree_faces_lead()
     ensures lead { TreeFacesLead }
     ensures one { OneTreePath }
     ensures counted { TreeFacesAreCounted }
 {}
 
-/// Each relator has an even number of letters that turn.
+/// Theorem: in a presentation of a connected table, each relator has an even number of letters whose generators reverse
+/// orientation.
 pub fn relators_turn_evenly()
     ensures { RelatorsTurnEvenly }
 {}
 
-/// No generator turns exactly where the table is orientable.
+/// Theorem: in a presentation of a connected table, no generator reverses orientation if and only if the table is
+/// orientable.
 pub fn turning_tells_orientation()
     ensures { NoneTurnsExactly }
 {}
 
-/// There is one presentation.
+/// Theorem: a table has at most one presentation.
 pub fn presentations_are_unique()
     ensures { OnePresentation }
 {}
 
-/// Each connected table has a presentation.
+/// Theorem: each connected table has a presentation.
 pub fn presentations_exist()
     ensures { PresentationExists }
 {}

@@ -1,10 +1,10 @@
-//! Laws of signatures in text: what a text spells, and what is read of it. The statements stand in `specs/`; the functions
-//! here have no code: their contracts are the laws.
+//! Theorems on signatures as text: what a text spells, and what is read from it. The functions have empty bodies: their
+//! contracts are the theorems.
 #![tactic(auto)]
 
 ghost use Rattle.signature_text_laws.specs.Laws.{ReadExactlyWhereSpelled, SpellsOneTable};
 
-/// A table is read of a text exactly where the text spells it, and so a text spells one table at most.
+/// Theorem: a table is read from a text if and only if the text spells it. So a text spells at most one table.
 pub fn signatures_are_spellings()
     ensures exact { ReadExactlyWhereSpelled }
     ensures one_table { SpellsOneTable }

@@ -1,10 +1,10 @@
-//! Laws of the classes of a table's vertices, edges, faces and signs: what lies across the faces of a tetrahedron, by numbers,
-//! and what it joins. The statements stand in `specs/`; the functions here have no code: their contracts are the laws.
+//! Theorems on the classes of vertices, edges, directed edges, faces and signs of a table, each of which is what
+//! gluings across faces join. The functions have empty bodies: their contracts are the theorems.
 #![tactic(auto)]
 
 ghost use Rattle.skeleton_class_laws.specs.Laws.{JoinedIsSame, ClassesExist, WalksExist};
 
-/// Things of which each tetrahedron has as many. They are counted through from one tetrahedron to the next.
+/// Things of which each tetrahedron has the same number, counted from one tetrahedron to the next.
 #[derive(Clone, Copy)]
 pub enum Kind {
     Vertices,
@@ -18,12 +18,14 @@ pub enum Kind {
     VertexSigns,
 }
 
-/// Numbers are joined by what lies across faces exactly where they are the same thing.
+/// Theorem: gluings across faces join two numbers if and only if these are the same vertex, edge, directed edge, face
+/// or sign of the table.
 pub fn neighbours_join_the_same()
     ensures { JoinedIsSame }
 {}
 
-/// Each table has the classes of each kind, and a walk round each edge class.
+/// Theorem: each table has the classes of each kind. Each edge class has a cycle of corners around it, or a path
+/// between boundary faces.
 pub fn classes_exist()
     ensures classes { ClassesExist }
     ensures walks { WalksExist }

@@ -1,38 +1,40 @@
-//! What there is of the skeleton of a table, whatever the code: each table has its classes, signs or none, the links of its
-//! vertices, and its equations in each coordinates; sides, directions and faces are counted by classes.
+//! Existence of the skeleton, orientation signs, vertex links and equations of a table, and counts of sides, directions
+//! and faces by classes.
 #![tactic(auto)]
 
 ghost use Rattle.skeleton_laws.specs.Laws.{SomeSkeleton, InvalidOrNot, SomeFirstInvalid, SomeOrientation, SomeLinks, SomeEquations};
 ghost use Rattle.skeleton_laws.specs.Counts.{LinkEdgesAreSides, EdgesHaveTwoDirections, FacesHaveTwoSides};
 
-/// Each table has a skeleton.
+/// Theorem: each table has a skeleton.
 pub fn skeletons_exist()
     ensures { SomeSkeleton }
 {}
 
-/// An edge is joined to its own reverse or not, and so a least edge class is invalid, or none is.
+/// Theorem: whether an edge is identified with its own reverse is decidable, so there is a least invalid edge class, or
+/// no edge class is invalid.
 pub fn invalid_edges_are_decided()
     ensures decided { InvalidOrNot }
     ensures first { SomeFirstInvalid }
 {}
 
-/// A table has signs, or it is not orientable.
+/// Theorem: a table has orientation signs, or it is not orientable.
 pub fn orientations_exist()
     ensures { SomeOrientation }
 {}
 
-/// Each vertex class has a link.
+/// Theorem: each vertex class has a link.
 pub fn links_exist()
     ensures { SomeLinks }
 {}
 
-/// Each table has equations, in any coordinates.
+/// Theorem: each table has matching equations in each coordinate system.
 pub fn equations_exist()
     ensures { SomeEquations }
 {}
 
-/// Twice the edges of a link are the sides of its triangles, and once more those in boundary faces; an edge class has two classes of
-/// directions where no edge is invalid, and a face class of a closed table has two faces.
+/// Theorem: the sides of the triangles of a link are twice its edges, less those in boundary faces. If no edge is
+/// invalid, each edge class consists of two classes of directed edges; in a closed table each face class consists of
+/// two faces.
 pub fn classes_are_counted()
     ensures sides { LinkEdgesAreSides }
     ensures directions { EdgesHaveTwoDirections }

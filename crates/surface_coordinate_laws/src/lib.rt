@@ -1,16 +1,16 @@
-//! What follows from the definitions of normal coordinates alone, whatever the code: listed pairs are of two different columns,
-//! and the verdict on a vector tells the first equation that isn't met.
+//! Theorems on coordinates of normal surfaces: clashing pairs consist of different columns, and a vector is judged by
+//! the first equation that fails.
 #![tactic(auto)]
 
 ghost use Rattle.surface_coordinate_laws.specs.Laws.{ClashesAreApart, FirstLargeIsAnswered, FirstFailureIsAnswered};
 
-/// Each listed pair is of two different columns.
+/// Theorem: each clashing pair consists of two different columns.
 pub fn clashes_are_apart()
     ensures { ClashesAreApart }
 {}
 
-/// The verdict on a vector of the right width is that of the first equation which isn't met: a part of it passes the limit,
-/// or it isn't 0 there.
+/// Theorem: the verdict on a vector of the right length names the first equation that a part of exceeds the limit at
+/// the vector, or that is not 0 there.
 pub fn first_faults_are_answered()
     ensures large { FirstLargeIsAnswered }
     ensures fails { FirstFailureIsAnswered }

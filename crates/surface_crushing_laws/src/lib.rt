@@ -1,25 +1,24 @@
-//! Crushing along a vector without quads: the table stays as it is; and what crushing keeps: whether a table is closed, and whether it
-//! is orientable. The functions here have no code: their contracts are laws over the definitions.
+//! Theorems on what crushing along a vector keeps: whether a table is closed or orientable, and the table itself if the
+//! vector has no quads. The functions have empty bodies: their contracts are theorems.
 #![tactic(auto)]
 
 ghost use Rattle.surface_crushing_laws.specs.Laws.{CrushedToItself, NothingElseIsCrushed, LinkingCrushesNothing, FitAreCrushedToItself};
 ghost use Rattle.surface_crushing_laws.specs.Invariants.{CrushingKeepsClosed, CrushingKeepsOrientable};
 
-/// A table is crushed to itself exactly along a vector without quads.
+/// Theorem: a table is crushed to itself along a vector if and only if the vector has no quads.
 pub fn crushed_to_itself()
     ensures { CrushedToItself }
 {}
 
-/// Along a vector without quads, as a vertex linking one, a table is crushed to itself and to nothing else, and no other answer
-/// is due to such an admissible solution.
+/// Theorem: along a vector without quads, such as a vertex link, a table is crushed to itself and to nothing else, and
+/// `crush` has no other answer to such an admissible solution.
 pub fn nothing_is_crushed()
     ensures without_quads { NothingElseIsCrushed }
     ensures linking { LinkingCrushesNothing }
     ensures answer { FitAreCrushedToItself }
 {}
 
-/// Along any vector, as along an admissible solution, a closed table is crushed to a closed one, and an orientable table to an
-/// orientable one.
+/// Theorem: along any vector a closed table is crushed to a closed table, and an orientable table to an orientable one.
 pub fn crushing_keeps()
     ensures closed { CrushingKeepsClosed }
     ensures orientable { CrushingKeepsOrientable }

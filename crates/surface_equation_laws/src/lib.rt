@@ -1,5 +1,5 @@
-//! What follows from the definitions of the equations of a table alone: how large their entries are, row by
-//! row and column by column, and that with few tetrahedra no number of an enumeration is large.
+//! Bounds on the coefficients of the matching equations of a table by row and by column, and the bounds on all numbers
+//! of an enumeration that follow from them.
 #![tactic(auto)]
 
 ghost use Rattle.surface_equation_laws.specs.EquationSums.{EquationTrianglesAreAtMostOne, EquationRowsAreAtMostBounds, EquationTermsAreAtMostBounds, EquationColumnsAreAtMostWeights};
@@ -13,40 +13,44 @@ ghost use Rattle.surface_equation_laws.specs.Caps.{TablesHaveCaps};
 ghost use Rattle.surface_equation_laws.specs.Few.{MostTetrahedra, OwnEnumerations, FewAreListed, FewAreNotPast};
 ghost use Rattle.surface_equation_laws.specs.OneForm.{TablesHaveOneForm, TablesAreBoundedInOneForm};
 
-/// In a matching row triangles have entries of sum at most 1 either way, and all columns as many as a side has.
+/// Theorem: in a matching equation the triangle coefficients of each sign have sum at most 1, and all coefficients of
+/// each sign have at most the sum that one side of the equation has.
 pub fn matching_rows_are_small()
     ensures triangles { TrianglesAreAtMostOne }
     ensures sides { RowsAreAtMostSides }
 {}
 
-/// In the column of a quad the matching rows have entries of sum at most 4, in that of an octagon 8.
+/// Theorem: in the column of a quad the matching equations have coefficients of magnitudes of sum at most 4, in the
+/// column of an octagon at most 8.
 pub fn matching_columns_are_small()
     ensures { ColumnsAreAtMostWeights }
 {}
 
-/// In each column the quad equations have entries of sum at most 4.
+/// Theorem: in each column the quad equations have coefficients of magnitudes of sum at most 4.
 pub fn quad_columns_are_small()
     ensures { QuadColumnsAreAtMostFour }
 {}
 
-/// A quad equation has entries of sum at most 6 for each tetrahedron either way, and at most the length of its walk.
+/// Theorem: a quad equation of a table with n tetrahedra has coefficients of sum at most 6n of each sign, and at most
+/// the number of corners around its edge.
 pub fn quad_rows_are_small()
     ensures edges { QuadRowsAreAtMostEdges }
     ensures walks { QuadRowsAreAtMostWalks }
 {}
 
-/// Columns of which no two clash have weights of product at most 4 for each tetrahedron, and in octagon coordinates twice that.
+/// Theorem: if no two of some columns clash, the product of their weights is at most 4^n for n tetrahedra, in octagon
+/// coordinates at most twice that.
 pub fn weight_products_are_small()
     ensures products { ProductsAreSmall }
     ensures supports { SupportsHaveNoClash }
 {}
 
-/// What all rows have in a column bounds what some of them have.
+/// Theorem: the sum of magnitudes that some of the rows have in a column is at most the sum that all rows have there.
 pub fn selected_rows_are_fewer()
     ensures { SelectedRowsAreFewer }
 {}
 
-/// The same of the equations of a table in any coordinates.
+/// Theorem: the bounds of matching and quad equations, stated for the equations of a table in any coordinates.
 pub fn equations_are_small()
     ensures triangles { EquationTrianglesAreAtMostOne }
     ensures rows { EquationRowsAreAtMostBounds }
@@ -54,19 +58,21 @@ pub fn equations_are_small()
     ensures columns { EquationColumnsAreAtMostWeights }
 {}
 
-/// What a row gives at a vector is what its entries give, and the equations of a table have entries in its columns alone.
+/// Theorem: the parts of a row at a vector are the sums over its terms, and the equations of a table have terms only in
+/// the columns of the table.
 pub fn rows_are_their_entries()
     ensures parts { PartsAreByEntries }
     ensures terms { TermsAreInColumns }
 {}
 
-/// The equations of each table have the certificate, which can be written in one form for all coordinates.
+/// Theorem: the equations of each table have the certificate of `HasCaps`, in one form for all coordinates.
 pub fn tables_have_caps()
     ensures caps { TablesHaveCaps }
     ensures one_form { TablesHaveOneForm }
 {}
 
-/// So no entry of a vertex surface and no number of a step is above its bound, the surface list is the answer, and nothing passes the limit.
+/// Theorem: no entry of a vertex surface of a table and no number of a step exceeds the bound of its coordinates. So
+/// within that bound the surface list is the answer, and no number exceeds the limit.
 pub fn tables_are_bounded()
     ensures bounds { CapsAreBounds }
     ensures entries { EntriesAreSmall }
@@ -78,7 +84,8 @@ pub fn tables_are_bounded()
     ensures none { TablesAreNotPast }
 {}
 
-/// The bound is below 2 ^ 127 up to 31 tetrahedra in standard coordinates and up to 29 in quad and octagon coordinates, and for no more.
+/// Theorem: the bound is below 2^127 for up to 31 tetrahedra in standard coordinates and up to 29 in quad and octagon
+/// coordinates, and for no more.
 pub fn few_tetrahedra_are_bounded()
     ensures most { MostTetrahedra }
     ensures own { OwnEnumerations }

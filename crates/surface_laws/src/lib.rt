@@ -1,5 +1,5 @@
-//! What follows from the definitions of vectors and surfaces alone, whatever the code: crushing along a surface, lifts of quad
-//! vectors, pieces and Euler characteristics. The functions here have no code: their contracts are laws over the definitions.
+//! Theorems on normal vectors and surfaces: crushing, lifts of quad vectors, normal discs, components and Euler
+//! characteristics. The functions have empty bodies: their contracts are theorems.
 #![tactic(auto)]
 
 ghost use Rattle.surface_laws.specs.CharacteristicLaws.{SumsAddUp, CharacteristicsAddUp, ComponentSumsAddUp, LinkingHasNoQuads, BoundaryHasArcs};
@@ -8,132 +8,135 @@ ghost use Rattle.surface_laws.specs.AnswerLaws.{OneLiftEach, OneCrushing};
 ghost use Rattle.surface_laws.specs.LiftLaws.{AtMostOneLift, LiftsAreSurfaces, OneLiftAnswer, LiftsAreHeights, LiftsJoin, LiftsAreDecided, LiftAnswersExist};
 ghost use Rattle.surface_laws.specs.PieceLaws.{ArcsMeetBack, ComponentsAddUp, ComponentsAreSurfaces, PiecesAreNumbered, ArcsArePieces, ChainsOfArcsJoin, MeetingPiecesJoin, ComponentsExist, PiecesAnswersExist};
 
-/// From each kept face exactly one chain leads, to exactly one end.
+/// Theorem: from each retained face exactly one crush chain leads, to exactly one end.
 pub fn chains_have_one_end()
     ensures { ChainsHaveOneEnd }
 {}
 
-/// A chain that ends at a kept face leads back, and it ends at another face than its first.
+/// Theorem: a crush chain that ends at a retained face has an inverse, and ends at another face than its first.
 pub fn chains_lead_back()
     ensures { ChainsLeadBack }
 {}
 
-/// The crushed rows of a table exist, are determined and are a table.
+/// Theorem: the crushed rows of a table exist, are unique and are a table.
 pub fn crushing_makes_tables()
     ensures { CrushingMakesTables }
 {}
 
-/// A quad vector has at most one lift.
+/// Theorem (Tollefson 1998): a quad vector has at most one lift.
 pub fn lifts_are_determined()
     ensures { AtMostOneLift }
 {}
 
-/// A lift solves the standard equations, is admissible where its quad vector is, and projects to it.
+/// Theorem: a lift solves the standard equations, projects to its quad vector, and is admissible if that is.
 pub fn lifts_are_surfaces()
     ensures { LiftsAreSurfaces }
 {}
 
-/// A quad vector has one answer: large, the least class with no lift, or the lift.
+/// Theorem: a quad vector has at most one answer: that the lift is too large, the least vertex class at which there is
+/// none, or the lift.
 pub fn lift_answers_are_determined()
     ensures { OneLiftAnswer }
 {}
 
-/// The points, arcs and pieces of two vectors add up to those of their sum.
+/// Theorem: the points, arcs and discs of the sum of two vectors are the sums of theirs.
 pub fn sums_add_up()
     ensures { SumsAddUp }
 {}
 
-/// The Euler characteristics of two vectors add up to that of their sum.
+/// Theorem: the Euler characteristic of the sum of two vectors is the sum of theirs.
 pub fn characteristics_add_up()
     ensures { CharacteristicsAddUp }
 {}
 
-/// The arc across a gluing meets the first one across the gluing that leads back.
+/// Theorem: if the arc across a gluing meets another, that one meets the first across the inverse gluing.
 pub fn arcs_meet_back()
     ensures { ArcsMeetBack }
 {}
 
-/// The vectors of the components add up to the vector.
+/// Theorem: the vectors of the components of a surface add up to its vector.
 pub fn components_add_up()
     ensures { ComponentsAddUp }
 {}
 
-/// The vector of each component is an admissible solution.
+/// Theorem: the vector of each component of a surface is an admissible solution.
 pub fn components_are_surfaces()
     ensures { ComponentsAreSurfaces }
 {}
 
-/// Pieces are numbered column by column.
+/// Theorem: the discs of a vector are numbered column by column.
 pub fn pieces_are_numbered()
     ensures { PiecesAreNumbered }
 {}
 
-/// The piece of an arc is one of the vector's pieces.
+/// Theorem: the disc of an arc is one of the discs of the vector.
 pub fn arcs_are_pieces()
     ensures { ArcsArePieces }
 {}
 
-/// To be joined by meeting arcs is an equivalence.
+/// Theorem: to be joined by a chain of discs that meet in arcs is an equivalence relation.
 pub fn chains_of_arcs_join()
     ensures { ChainsOfArcsJoin }
 {}
 
-/// The points, arcs and pieces of the components add up to those of the vector.
+/// Theorem: the points, arcs and discs of the components of a surface add up to those of the surface.
 pub fn component_sums_add_up()
     ensures { ComponentSumsAddUp }
 {}
 
-/// A vector is linking exactly where each quad and each octagon is 0.
+/// Theorem: a vector is vertex linking if and only if each quad and each octagon is 0.
 pub fn linking_has_no_quads()
     ensures { LinkingHasNoQuads }
 {}
 
-/// A surface meets the boundary exactly where a boundary face has an arc.
+/// Theorem: a surface meets the boundary if and only if some boundary face contains an arc.
 pub fn boundary_has_arcs()
     ensures { BoundaryHasArcs }
 {}
 
-/// Quad vectors are lifted in one way, or one of them is the first that is refused, for one reason.
+/// Theorem: a list of quad vectors has at most one answer of `lift`: all lifts, or the first vector that is refused,
+/// with its reason.
 pub fn lifts_of_vectors_are_determined()
     ensures { OneLiftEach }
 {}
 
-/// A table is crushed along a vector in one way, or the vector is refused for one reason.
+/// Theorem: a table and a vector have at most one answer of `crush`: the crushed table, or the reason why the vector is
+/// refused.
 pub fn crushing_is_determined()
     ensures { OneCrushing }
 {}
 
-/// A vertex class has a lift exactly where heights exist that the equations allow.
+/// Theorem: a quad vector has a lift at a vertex class if and only if heights exist that satisfy its equations there.
 pub fn lifts_are_heights()
     ensures { LiftsAreHeights }
 {}
 
-/// Where each vertex class has a lift, the quad vector has one.
+/// Theorem: if a quad vector has a lift at each vertex class, it has a lift.
 pub fn lifts_join()
     ensures { LiftsJoin }
 {}
 
-/// At each vertex class there is a lift or there is none.
+/// Theorem: whether a quad vector has a lift at a vertex class is decidable.
 pub fn lifts_are_decided()
     ensures { LiftsAreDecided }
 {}
 
-/// Something is answered of each quad vector.
+/// Theorem: each quad vector has an answer.
 pub fn lift_answers_exist()
     ensures { LiftAnswersExist }
 {}
 
-/// Neighbours that are the meeting pieces join what is one component.
+/// Theorem: if the neighbours of a disc are the discs that meet it, what they join is a component.
 pub fn meeting_pieces_join()
     ensures { MeetingPiecesJoin }
 {}
 
-/// The pieces of a surface have components.
+/// Theorem: the discs of a surface have components.
 pub fn components_exist()
     ensures { ComponentsExist }
 {}
 
-/// Something is answered of the pieces of each surface: its components, or that they are too many.
+/// Theorem: the discs of each surface have an answer: their components, or that they exceed the limit of discs.
 pub fn pieces_answers_exist()
     ensures { PiecesAnswersExist }
 {}

@@ -1,40 +1,45 @@
-//! Octagon coordinates by quads and octagons, as standard coordinates by quads: what Tollefson's theorem says of octagons. The functions
-//! here have no code: their contracts are laws over the definitions.
+//! Octagon coordinates by their quads and octagons: Tollefson's theorem for surfaces with octagons (Tollefson 1998;
+//! Burton 2010). The functions have empty bodies: their contracts are theorems.
 #![tactic(auto)]
 
 ghost use Rattle.surface_octagon_laws.specs.Laws.{OctagonsMatchAsQuads, QuadsAndOctagonsSolve, QuadsAndOctagonsDecideAdmissibility, OctagonSolutionsAreCanonicalAndLinks, LiftedAreOfOctagonSolutions, OctagonSolutionsCorrespond, QuadOctagonSurfacesLift};
 
-/// An octagon counts in the matching equations as two quads do, one of each other type.
+/// Theorem: a vector solves the octagon equations if and only if the vector in which each octagon is replaced by two
+/// quads, one of each other type, solves the standard equations.
 pub fn octagons_match_as_quads()
     ensures { OctagonsMatchAsQuads }
 {}
 
-/// The quads and octagons of an octagon solution solve the quad equations.
+/// Theorem: the quads and octagons of an octagon solution, each octagon as two quads, solve the quad equations.
 pub fn quads_and_octagons_solve()
     ensures { QuadsAndOctagonsSolve }
 {}
 
-/// The quads and octagons of a vector are admissible exactly where it is.
+/// Theorem: the quad-octagon part of a vector is admissible if and only if the vector is.
 pub fn quads_and_octagons_decide_admissibility()
     ensures { QuadsAndOctagonsDecideAdmissibility }
 {}
 
-/// An octagon solution is a canonical one and so many of each vertex link, in one way.
+/// Theorem: an octagon solution is the sum of a canonical solution and a combination of vertex links with nonnegative
+/// integer coefficients, in exactly one way.
 pub fn octagon_solutions_are_canonical_and_links()
     ensures { OctagonSolutionsAreCanonicalAndLinks }
 {}
 
-/// The quad-octagon vectors of octagon solutions are those that have a lift, each octagon as two quads.
+/// Theorem: a quad-octagon vector is that of an octagon solution if and only if, each octagon as two quads, it has a
+/// lift.
 pub fn lifted_are_of_octagon_solutions()
     ensures { LiftedAreOfOctagonSolutions }
 {}
 
-/// Where all links are spheres or discs, the quad-octagon vectors of octagon solutions are those that solve the quad equations.
+/// Theorem: if all vertex links are spheres or discs, a quad-octagon vector is that of an octagon solution if and only
+/// if, each octagon as two quads, it solves the quad equations.
 pub fn octagon_solutions_correspond()
     ensures { OctagonSolutionsCorrespond }
 {}
 
-/// Where all links are spheres or discs, an admissible one of these is that of one surface with no vertex link.
+/// Theorem: if all vertex links are spheres or discs, each admissible quad-octagon vector that solves the quad
+/// equations is that of exactly one canonical surface.
 pub fn quad_octagon_surfaces_lift()
     ensures { QuadOctagonSurfacesLift }
 {}

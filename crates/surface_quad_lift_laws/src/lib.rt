@@ -1,25 +1,29 @@
-//! Where vertex links are spheres or discs, the solutions of the quad equations are the quads of the standard solutions (Tollefson). The
-//! functions here have no code: their contracts are laws over the definitions.
+//! Tollefson's theorem: if all vertex links are spheres or discs, the solutions of the quad equations are the quad
+//! parts of standard solutions (Tollefson 1998). The functions have empty bodies: their contracts are theorems.
 #![tactic(auto)]
 
 ghost use Rattle.surface_quad_lift_laws.specs.Laws.{QuadSolutionsLift, SolutionsCorrespond, QuadSurfacesLift, NoneWithoutLift};
 
-/// A solution of the quad equations has a lift at each vertex class whose link is a sphere or a disc.
+/// Theorem (Tollefson 1998): a solution of the quad equations has a lift at each vertex class whose link is a sphere or
+/// a disc.
 pub fn quad_solutions_lift()
     ensures { QuadSolutionsLift }
 {}
 
-/// Where all links are spheres or discs, the solutions of the quad equations are the quads of the standard solutions.
+/// Theorem (Tollefson 1998): if all vertex links are spheres or discs, the solutions of the quad equations are exactly
+/// the quad parts of standard solutions.
 pub fn solutions_correspond()
     ensures { SolutionsCorrespond }
 {}
 
-/// Where all links are spheres or discs, an admissible solution of the quad equations is the quads of one surface with no vertex link.
+/// Theorem (Tollefson 1998): if all vertex links are spheres or discs, each admissible solution of the quad equations
+/// is the quad part of exactly one canonical surface.
 pub fn quad_surfaces_lift()
     ensures { QuadSurfacesLift }
 {}
 
-/// Where all links are spheres or discs, no solution of the quad equations is refused for want of a lift.
+/// Theorem: if all vertex links are spheres or discs, the answer `no-lift` is correct for no solution of the quad
+/// equations.
 pub fn none_without_lift()
     ensures { NoneWithoutLift }
 {}

@@ -1,11 +1,12 @@
-//! Laws of permutations of four: they compose as a group, and each has one place among the 24 words. The statements stand in
-//! `specs/`; the functions here have no code: their contracts are the laws.
+//! Theorems on permutations of four: they form a group, and each has one index among the 24 words. The functions have
+//! empty bodies: their contracts are the theorems.
 #![tactic(auto)]
 
 ghost use Rattle.table_definitions.specs.Laws.{InversesLeadBack};
 ghost use Rattle.table_permutation_laws.specs.Laws.{IsAssociative, HasIdentity, ComposesImages, Undoes, AddsParities, AreAllWords, IndexTellsApart};
 
-/// Permutations are a group, by the lists that contracts see.
+/// Theorem: permutations of four, as lists of images, form a group; composition composes images, and the parity of a
+/// composition is the sum of the parities.
 pub fn permutations_compose()
     ensures associative { IsAssociative }
     ensures identity { HasIdentity }
@@ -15,7 +16,7 @@ pub fn permutations_compose()
     ensures parities { AddsParities }
 {}
 
-/// Each permutation has one place among the 24.
+/// Theorem: the 24 words are all permutations of four, and different permutations have different indices.
 pub fn words_are_permutations()
     ensures all { AreAllWords }
     ensures apart { IndexTellsApart }

@@ -1,23 +1,25 @@
-//! Laws of walks by a step through finitely many numbers, and of searches for all that a start is joined to. The statements
-//! stand in `specs/`; the functions here have no code: their contracts are the laws.
+//! Theorems on orbits of a step through finitely many numbers, and on searches for all numbers that a start is joined
+//! to. The functions have empty bodies: their contracts are the theorems.
 #![tactic(auto)]
 
 ghost use Rattle.table_walk_laws.specs.Laws.{Pigeonhole, OrbitExists, OneOrbit, OrbitHoldsReached, ChainEnds, SourceHasChain, NeverTwice, OneEnd, SourcesApart, WalkBack, UndoneIsInjective, ComesBack, GoingOnHasCycle, FirstReturnIsOrbit, ReachesBack};
 ghost use Rattle.table_walk_laws.specs.Laws.{ReachedIsJoined, JoinedIsEquivalence, LinkedIsEquivalence, ClosedHoldsJoined, SearchBegins, NoneIsClosed, TurnStarts, TurnStartsInFront, TurnMarks, TurnPasses, TurnEnds, SearchEnds, NewStartIsApart, MembersStart, MembersGrow, MembersAreComponent, ClassesStart, ClassesPass, ClassesGrow, ClassesEnd, HasFewTurns};
 
-/// More than n numbers below n repeat one.
+/// Theorem: a list of more than n numbers below n contains a number twice.
 pub fn pigeonhole()
     ensures { Pigeonhole }
 {}
 
-/// An injective step has one orbit from each start. It has at most n numbers, exactly those that the start reaches.
+/// Theorem: an injective step on the numbers below n has exactly one orbit from each start. It has at most n numbers,
+/// and these are exactly the numbers that the start reaches.
 pub fn orbits()
     ensures exists { OrbitExists }
     ensures only_one { OneOrbit }
     ensures holds { OrbitHoldsReached }
 {}
 
-/// From a source an injective step leads to an end, over different numbers, and no other source leads there.
+/// Theorem: from a number that no step leads to, an injective step leads through different numbers to a number with no
+/// step, and no other such start leads there.
 pub fn chains()
     ensures ends { ChainEnds }
     ensures chain { SourceHasChain }
@@ -26,13 +28,14 @@ pub fn chains()
     ensures apart { SourcesApart }
 {}
 
-/// A step that can be undone is injective, and its walks lead back.
+/// Theorem: a step with an inverse is injective, and its orbits are traversed backwards by the inverse.
 pub fn undone_steps()
     ensures injective { UndoneIsInjective }
     ensures back { WalkBack }
 {}
 
-/// Where an injective step always leads on, it comes back to its start.
+/// Theorem: if an injective step leads on from each number, it returns to its start, and the start is reached from each
+/// number of the orbit.
 pub fn cycles()
     ensures comes_back { ComesBack }
     ensures cycle { GoingOnHasCycle }
@@ -40,14 +43,15 @@ pub fn cycles()
     ensures reaches_back { ReachesBack }
 {}
 
-/// What neighbours join, and what they join if each is passed either way.
+/// Theorem: to be joined by neighbours is reflexive and transitive, and symmetric if the neighbours are; to be joined
+/// by neighbours in either direction is an equivalence relation.
 pub fn joined_numbers()
     ensures reached { ReachedIsJoined }
     ensures joined { JoinedIsEquivalence }
     ensures linked { LinkedIsEquivalence }
 {}
 
-/// A search marks exactly what its first marks are joined to, in n turns at most.
+/// Theorem: a search marks exactly the numbers that its first marks are joined to, in at most n passes.
 pub fn searches()
     ensures closed { ClosedHoldsJoined }
     ensures begins { SearchBegins }
@@ -61,7 +65,7 @@ pub fn searches()
     ensures few_turns { HasFewTurns }
 {}
 
-/// A search in one component after the other, each with the list of its members.
+/// Theorem: a search in one component after another has the list of the members of each.
 pub fn components()
     ensures new_start { NewStartIsApart }
     ensures members_start { MembersStart }
@@ -69,7 +73,7 @@ pub fn components()
     ensures members { MembersAreComponent }
 {}
 
-/// Classes, component by component.
+/// Theorem: classes are numbered component by component, by their least members.
 pub fn class_lists()
     ensures start { ClassesStart }
     ensures pass { ClassesPass }

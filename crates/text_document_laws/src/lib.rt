@@ -1,6 +1,5 @@
-//! What follows from the definitions of documents alone, whatever the code: inputs are read exactly where their lines
-//! are in the grammar, and where they are refused, the fault stands at a symbol with which no input is in it.
-//! The functions here have no code: their contracts are laws over the definitions.
+//! Theorems on reading inputs: an input is read if and only if its lines are in the grammar, and an error is reported
+//! at a symbol that no input of the kind has there. The functions have empty bodies: their contracts are theorems.
 #![tactic(auto)]
 
 ghost use Rattle.text_document_laws.specs.ConeLaws.{ConesAreRead, ConeDocumentsAreRead};
@@ -9,25 +8,27 @@ ghost use Rattle.text_document_laws.specs.FaultLaws.{VectorsFaultsLeaveFirst, Ve
 ghost use Rattle.text_document_laws.specs.FormLaws.{TableLaws, TwoTablesLaws, TablesLaws, VectorsLaws, VectorLaws, StepsLaws, MovesLaws, BlocksLaws};
 ghost use Rattle.text_document_laws.specs.TableLaws.{AnyTablesAreRead, AnyTableFaultsStandFirst};
 
-/// Lines are read as a cone exactly where they are one, and so are the bytes of an input; where a cone is refused, the
-/// fault stands at the first symbol with which no cone goes on.
+/// Theorem: lines, and the bytes of an input, are read as a cone if and only if they spell one. If a cone is refused,
+/// the error is at the first symbol after which no continuation is a cone.
 pub fn cones_are_read()
     ensures lines { ConesAreRead }
     ensures documents { ConeDocumentsAreRead }
     ensures faults { ConeFaultsLeave }
 {}
 
-/// The next lines are read as a table in either form exactly where they begin with one, and the rest is left; where the
-/// text of one is refused, the fault stands at the first symbol with which nothing goes on to such a text.
+/// Theorem: the next lines are read as a table, in either form, if and only if they begin with one, and the rest
+/// remains. If the text of a table is refused, the error is at the first symbol after which no continuation has the
+/// form of a table.
 pub fn next_tables_are_read()
     ensures lines { AnyTablesAreRead }
     ensures faults { AnyTableFaultsStandFirst }
 {}
 
-/// Inputs of one table, of two, and of any number are read exactly where their lines are these; their lines have the form
-/// of their text; where the text is refused, the fault stands at a symbol with which no input of the kind goes on, the first
-/// with which nothing goes on to the form of such a text. Where tables were read and what stands behind them is refused, it is
-/// the first symbol with which nothing goes on to as many tables and no more, or the form of a further one.
+/// Theorem: inputs of one table, of two tables, and of any number of tables are read if and only if their lines spell
+/// these, and such lines have the form of their text. If an input is refused, no input of the kind continues the text
+/// up to and including the symbol of the error, and it is the first symbol after which no continuation has the form of
+/// such a text. If tables were read and what follows is refused, it is the first symbol after which no continuation is
+/// as many tables and no more, or has the form of a further table.
 pub fn tables_are_read()
     ensures one { TableLaws }
     ensures one_first { TableFaultsLeaveFirst }
@@ -38,8 +39,8 @@ pub fn tables_are_read()
     ensures any_first { TablesFaultsLeaveFirst }
 {}
 
-/// The same of a table and vectors, or one vector. Where the table was read and what stands behind it is refused, the fault
-/// stands at the first symbol with which no such input goes on.
+/// Theorem: as `tables_are_read`, for inputs of a table with vectors, or with one vector. If the table was read and
+/// what follows is refused, the error is at the first symbol after which no continuation is such an input.
 pub fn tables_with_vectors_are_read()
     ensures vectors { VectorsLaws }
     ensures vectors_first { VectorsFaultsLeaveFirst }
@@ -47,7 +48,7 @@ pub fn tables_with_vectors_are_read()
     ensures vector_first { VectorFaultsLeaveFirst }
 {}
 
-/// The same of a table and steps, or moves.
+/// Theorem: as `tables_with_vectors_are_read`, for inputs of a table with steps, or with moves.
 pub fn tables_with_moves_are_read()
     ensures steps { StepsLaws }
     ensures steps_first { StepsFaultsLeaveFirst }
@@ -55,7 +56,7 @@ pub fn tables_with_moves_are_read()
     ensures moves_first { MovesFaultsLeaveFirst }
 {}
 
-/// The same of a table and blocks of sums.
+/// Theorem: as `tables_with_vectors_are_read`, for inputs of a table with blocks of sums.
 pub fn tables_with_blocks_are_read()
     ensures blocks { BlocksLaws }
     ensures blocks_first { BlocksFaultsLeaveFirst }

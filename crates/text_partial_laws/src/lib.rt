@@ -1,16 +1,17 @@
-//! Which first entries of rows begin a table, whatever the code, and what that says of the first fault of a table's text.
-//! The functions here have no code: their contracts are laws over the definitions.
+//! Which first entries of rows begin a table, and what that implies for the first error in the text of a table. The
+//! functions have empty bodies: their contracts are theorems.
 #![tactic(auto)]
 
 ghost use Rattle.text_partial_laws.specs.Laws.{PartialTablesAreCompleted, SoundSymbolsGoOn, SoundFaultsLeaveFirst};
 
-/// The first entries of rows begin a table exactly where they glue soundly so far.
+/// Theorem: the first entries of rows can be completed to a table if and only if their gluings are sound so far.
 pub fn partial_tables_are_completed()
     ensures { PartialTablesAreCompleted }
 {}
 
-/// What is shown has the form of a table's text, and glues or spells soundly so far, exactly where some table's lines show it
-/// first. So where what stands before a fault is sound, the fault stands at the first symbol with which no such input goes on.
+/// Theorem: symbols begin the text of some table if and only if they have the form of such a text, and their gluings or
+/// their signature are sound so far. So if the text before an error is sound, the error is at the first symbol after
+/// which no continuation is such an input.
 pub fn sound_faults_leave_first()
     ensures symbols { SoundSymbolsGoOn }
     ensures faults { SoundFaultsLeaveFirst }
