@@ -36,7 +36,7 @@ IsChecked rows moves (Err (NotConnected t)) = (last : List Row) × PlaysAll rows
 IsChecked rows moves (Err (NotStandard text)) =
     (last : List Row) × PlaysAll rows moves last × IsConnected last × IsSignature last text × (text ≢ sphere_text)
 
--- what a descent tells: whether it reached the standard sphere, its moves, and the table at which it ended
+-- the answer of a descent: whether it reached the standard sphere, its moves, and the table at which it ended
 pub record Descended : Type 0 where
   pub reached : Bool
   pub moves : List Move

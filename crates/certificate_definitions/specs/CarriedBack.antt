@@ -12,7 +12,7 @@ use Rattle.certificate_definitions.specs.CarriedMoves.{move_under, by_labels, is
 abbrev pub facet_at : List Row → Move → ℕ → Option Facet
 facet_at rows m t = find (λ (f : Facet). f.tet == t) (old_facets rows m)
 
--- whether each of the labels 0 to 4 stands in a list, so once
+-- whether the list contains each of the labels 0 to 4
 abbrev pub is_renaming : List ℕ → Bool
 is_renaming labels = (length labels == 5) && list_all (has labels) (below 5)
 
@@ -41,7 +41,7 @@ pub record IsCarriedBack (old : List Row) (m : Move) (now : List Row) (back : Mo
 abbrev pub staying : ℕ → Relabelling
 staying n = record { images = below n; perms = map (λ t. identity) (below n) }
 
--- the inverse of step m on a table, where `on` carries the table to which the step led
+-- the inverse of step m, on a table to which `on` carries the result of the step
 abbrev pub move_back : List Row → Move → Relabelling → Move
 move_back old m on = move_under on (inverse_move (length old) m)
 

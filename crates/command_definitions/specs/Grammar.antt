@@ -1,6 +1,6 @@
 -- The grammar of the command line, as a relation between words and the request that they spell: the name of a command, and
 -- then options that this command has, in any order, none of them twice. What the request holds are the values of these
--- options, and defaults where an option that has one isn't given.
+-- options, and defaults of options that are not given.
 use Rattle.std.specs.Prelude.{◌≡◌, ◌≢◌, ◌⊎◌, ℕ, false, List, [], ◌∷◌, ◌++◌, map, Option, Some, codes}
 use Rattle.std.specs.List.{All, AllPairs, AllZip, Contains, flat_map}
 use Rattle.text_definitions.specs.Written.{limit}

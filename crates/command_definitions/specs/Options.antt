@@ -11,7 +11,7 @@ Given = List ℕ × List ℕ
 abbrev pub is_equals_sign : ℕ → Bool
 is_equals_sign b = b == 61
 
--- what stands behind the two hyphens: a name, or a name and a value parted by the first `=`
+-- the text after the two hyphens: a name, or a name and a value separated by the first `=`
 abbrev pub name_and_value : List ℕ → List ℕ × Option (List ℕ)
 name_and_value rest = (before_first is_equals_sign rest, if list_any is_equals_sign rest then Some (after_first is_equals_sign rest) else None)
 
@@ -20,7 +20,7 @@ abbrev pub option_word : List ℕ → Option (List ℕ × Option (List ℕ))
 option_word (a ∷ b ∷ c ∷ rest) = if a == 45 && b == 45 then Some (name_and_value (c ∷ rest)) else None
 option_word _ = None
 
--- A word that begins with a hyphen and goes on. It is no value in a word of its own: no option takes such a value.
+-- A word that begins with a hyphen and has more characters. It is never read as the value of an option.
 abbrev pub is_hyphened : List ℕ → Bool
 is_hyphened (a ∷ b ∷ rest) = a == 45
 is_hyphened _ = false
@@ -70,6 +70,6 @@ options_from names (w ∷ ws) seen waiting = word_read names w seen waiting (opt
 abbrev pub options_of : List (List ℕ) → List (List ℕ) → Option (List Given)
 options_of names words = options_from names words [] None
 
--- the value of an option, where it is named
+-- the value of an option, if the option is given
 abbrev pub value_of : List ℕ → List Given → Option (List ℕ)
 value_of name given = option_map (λ g. g.1) (find (λ g. same_word g.0 name) given)

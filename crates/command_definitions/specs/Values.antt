@@ -12,7 +12,7 @@ use Rattle.cone_definitions.specs.declared.Order.TheVariants as orders
 use Rattle.command_definitions.specs.declared.Request.{Request}
 use Rattle.command_definitions.specs.Commands.{Kind, Coordinates, PieceCoordinates, RowOrder, Limit, Seed, Moves, Takes, RequestBy, ValueOf}
 
--- what stands for each option, where it is named
+-- the value of each option, if it is given
 pub record Values : Type 0 where
   pub coords : Option (List ℕ)
   pub order : Option (List ℕ)
@@ -29,7 +29,7 @@ values_of options = record {
   moves = value_of (codes "moves") options;
 }
 
--- what an option means, by a default where it isn't named
+-- the meaning of an option, by a default if it is not given
 abbrev pub or_default : {A : Type 0} → A → (List ℕ → Option A) → Option (List ℕ) → Option A
 or_default x read None = Some x
 or_default x read (Some w) = read w
@@ -100,7 +100,7 @@ abbrev pub moves_in : ℕ → Values → Option ℕ
 moves_in most v = needed (decimal_up_to most) v.moves
 
 infixl 10 ◌>>=◌
--- what comes of a value, where there is one
+-- the result for a value, if there is one
 abbrev pub ◌>>=◌ : {A B : Type 0} → Option A → (A → Option B) → Option B
 None >>= f = None
 (Some x) >>= f = f x

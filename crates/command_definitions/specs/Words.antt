@@ -16,7 +16,7 @@ command_named w = find (λ c. same_word c.0 w) commands
 abbrev pub request_given : Command → List Given → Option Request
 request_given c options = request_with c.1 (values_of options)
 
--- what the words ask for, where they are accepted: they are in the grammar
+-- the request of the words, if they are accepted, that is, in the grammar
 abbrev pub accepted_request : List (List ℕ) → Option Request
 accepted_request [] = None
 accepted_request (w ∷ ws) = do

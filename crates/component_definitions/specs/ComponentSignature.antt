@@ -6,13 +6,13 @@ use Rattle.table_definitions.specs.Table.{Row}
 use Rattle.signature_definitions.specs.Spelling.{IsSignature}
 use Rattle.component_definitions.specs.Parts.{Part, AreParts}
 
--- texts with a full stop between each two; the signature of the empty table stands for no text
+-- the texts with a full stop between each two; the signature of the empty table if there is none
 abbrev pub component_text : List (List ℕ) → List ℕ
 component_text [] = codes "a"
 component_text (text ∷ []) = text
 component_text (text ∷ next ∷ texts) = text ++ (codes "." ++ component_text (next ∷ texts))
 
--- no text stands before an earlier one
+-- the texts are in ascending order
 abbrev pub IsInOrder : List (List ℕ) → Type 0
 IsInOrder texts = AllPairs (λ text later. is_list_before later text ≡ false) texts
 

@@ -12,7 +12,7 @@ use Rattle.component_definitions.specs.Parts.{Part, first_of, AreParts}
 abbrev pub part_at : List Part → ℕ → Part
 part_at parts i = slice_index_or parts i (record { rows = []; numbers = [] })
 
--- part i stands before part j: by the signature, and then by the least tetrahedron
+-- component i comes before component j: by signature, then by least tetrahedron
 abbrev pub StandsBefore : List Part → List (List ℕ) → ℕ → ℕ → Type 0
 StandsBefore parts signatures i j =
     (is_list_before (slice_index_or signatures i []) (slice_index_or signatures j []) ≡ true)
@@ -26,13 +26,14 @@ pub record ArePartsInOrder (rows : List Row) (parts : List Part) (order : List �
   pub permutes : IsPermutation order (below (length parts))
   pub in_order : (i j : ℕ) → i < j → j < length order → StandsBefore parts signatures (slice_index order i) (slice_index order j)
 
--- the part goes to the other part by a relabelling of their rows
+-- the component is carried to the other one by a relabelling of their rows
 abbrev pub GoesBy : Relabelling → Part → Part → Relabelling → Type 0
 GoesBy by part other r =
     (k : ℕ) → k < length part.numbers
     → stand_in by (slice_index part.numbers k) ≡ record { tet = slice_index other.numbers (slice_index r.images k); perm = slice_index_or r.perms k [] }
 
--- of parts in order, each goes to the other table's part at its place, by the relabelling that is answered of the two
+-- with the components in order, each is carried to the component of the other table with the same index, by the
+-- relabelling defined for the two
 pub record IsSameParts (first second : List Row) (by : Relabelling) : Type 0 where
   pub relabelling : IsRelabelling (length first) by
   pub parts : List Part

@@ -12,12 +12,12 @@ abbrev pub OneNamedOrder : Type 0
 OneNamedOrder = (order : Order) (system : System) (xs ys : List ℕ) → order ≢ Free → AreNamed order system xs → AreNamed order system ys →
     length xs ≤ length ys → xs ≡ take (length xs) ys
 
--- at most one ray or pair is named where a number passes the limit, in one step
+-- at most one ray or pair, of one step, is named as the first whose number exceeds the limit
 abbrev pub OneIsLarge : Type 0
 OneIsLarge = (e : Enumeration) (taken others : List ℕ) (one other : Named) → e.order ≢ Free →
     IsPastLimit e taken one → IsPastLimit e others other → (taken ≡ others) × (one ≡ other)
 
--- and none where there is a list
+-- and none is named if there is a list
 abbrev pub NoneIsLargeBeside : Type 0
 NoneIsLargeBeside = (e : Enumeration) (all taken : List ℕ) (list : List (List ℕ)) (kind : Named) → e.order ≢ Free →
     IsListed e all list → ¬ IsPastLimit e taken kind

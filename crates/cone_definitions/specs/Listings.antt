@@ -23,7 +23,7 @@ pub record Enumeration : Type 0 where
 abbrev pub without_pairs : System → Order → ℕ → Enumeration
 without_pairs system order limit = record { system = system; pairs = []; order = order; limit = limit }
 
--- the surface list, where in the order's own order of the rows no number of a step passes the limit
+-- the surface list, if no number of a step exceeds the limit when the rows are taken in the named order
 pub record IsListed (e : Enumeration) (taken : List ℕ) (list : List (List ℕ)) : Type 0 where
   pub surfaces : IsSurfaceList e.system.columns e.system.rows e.pairs list
   pub all : IsPermutation (range_with_len 0 (length e.system.rows)) taken

@@ -1,4 +1,4 @@
--- Rows that are met at a vector, in numbers up to a limit.
+-- Rows that are 0 at a vector, with parts up to a limit.
 use Rattle.std.specs.Prelude.{ℕ, ◌<◌, List, [], slice_index_or}
 use Rattle.cone_definitions.specs.Rows.{Row, IsZeroAt}
 use Rattle.cone_definitions.specs.Elimination.{HasPartsWithin}

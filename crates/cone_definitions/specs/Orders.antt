@@ -1,4 +1,5 @@
--- The orders of rows, the position that each names in a list of row numbers, and the rows that it takes in turn.
+-- The orders of rows, the position that each names in a list of row numbers, and the rows that it takes one after
+-- another.
 use Rattle.std.specs.Prelude.{◌≡◌, ℕ, ◌<◌, ◌↔◌, ◌&&◌, ◌||◌, ◌==◌, nat_lt, List, [], ◌∷◌, Bool, false, length, take, slice_index, slice_index_or, Contains}
 use Rattle.std.specs.List.{AllPairs, IsFirstBest}
 use Rattle.cone_definitions.specs.Rows.{Row}
@@ -6,7 +7,7 @@ use Rattle.cone_definitions.specs.Systems.{System}
 use Rattle.cone_definitions.specs.declared.Order.{Order}
 use Rattle.cone_definitions.specs.declared.Order.TheVariants.{Given, Short, Zeros, Free}
 
--- the columns before the first nonzero coefficient; all of them where there is none
+-- the columns before the first nonzero coefficient; all columns if there is none
 abbrev pub leading_zeros : ℕ → Row → ℕ
 leading_zeros columns [] = columns
 leading_zeros columns (term ∷ _) = term.0
@@ -44,6 +45,6 @@ pub record IsNamedTurn (order : Order) (system : System) (taken : List ℕ) (num
   pub is : slice_index left position ≡ number
   pub named : IsNamed order system left position
 
--- each row in turn is the one that the order names
+-- each row is the one that the order names next
 abbrev pub AreNamed : Order → System → List ℕ → Type 0
 AreNamed order system taken = (k : ℕ) → k < length taken → IsNamedTurn order system (take k taken) (slice_index taken k)

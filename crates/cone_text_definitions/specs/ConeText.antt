@@ -1,4 +1,4 @@
--- A cone in text: `cone C R` and R lines of C coefficients, or no line where C is 0.
+-- A cone in text: `cone C R` and R lines of C coefficients, or no line if C is 0.
 use Rattle.std.specs.Prelude.{ℕ, zero, suc, ◌==◌, ℤ, pos, negsuc, List, [], ◌∷◌, replicate, map, filter, Result, Ok, codes, Bool, false, not}
 use Rattle.std.specs.List.{enumerate_from}
 use Rattle.text_definitions.specs.declared.LexFault.{LexFault}
@@ -6,12 +6,12 @@ use Rattle.text_definitions.specs.Reading.{Reading, ◌>>=◌, need_line_at, end
 use Rattle.cone_definitions.specs.Rows.{Row}
 use Rattle.cone_definitions.specs.Systems.{System}
 
--- the number of columns, and the rows, each with a coefficient for every column or, where there are no columns, with none
+-- the number of columns, and the rows, each with one coefficient for each column
 pub record Cone : Type 0 where
   pub columns : ℕ
   pub rows : List (List ℤ)
 
--- so many signed decimals
+-- a reader of the given number of signed decimals
 unfoldable pub coefficients_at : ℕ → Reading → Result (List ℤ × Reading) LexFault
 coefficients_at zero c = Ok ([], c)
 coefficients_at (suc n) c = do
@@ -19,7 +19,7 @@ coefficients_at (suc n) c = do
   others ← coefficients_at n first.1
   Ok (first.0 ∷ others.0, others.1)
 
--- a line of so many coefficients
+-- a line of `columns` coefficients
 unfoldable pub cone_row_at : ℕ → Reading → Result (List ℤ × Reading) LexFault
 cone_row_at columns c = do
   line ← need_line_at c
@@ -34,7 +34,7 @@ cone_rows_at (suc n) columns c = do
   others ← cone_rows_at n columns first.1
   Ok (first.0 ∷ others.0, others.1)
 
--- the rows of a cone, of which no line stands in the text where there are no columns
+-- the rows of a cone, which have no lines in the text if there are no columns
 abbrev pub rows_of_cone_at : ℕ → ℕ → Reading → Result (List (List ℤ) × Reading) LexFault
 rows_of_cone_at zero n c = Ok (replicate n [], c)
 rows_of_cone_at (suc columns) n c = cone_rows_at n (suc columns) c

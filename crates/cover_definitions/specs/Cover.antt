@@ -1,4 +1,4 @@
--- The double cover of a table: each tetrahedron stands on sheet 0 and on sheet 1.
+-- The double cover of a table: each tetrahedron has a copy on sheet 0 and a copy on sheet 1.
 use Rattle.std.specs.Prelude.{◌≡◌, ℕ, ◌+◌, ◌-◌, ◌*◌, Bool, List, [], ◌++◌, length, map, replicate, nat_lt, ◌==◌, Option, Some, None, option_map, if◌then◌else◌}
 use Rattle.std.specs.List.{slice_index_or}
 use Rattle.table_definitions.specs.Lists.{below}
@@ -24,7 +24,7 @@ above n t s = if s == 0 then t else n + t
 abbrev pub other_sheet : ℕ → ℕ
 other_sheet s = 1 - s
 
--- the sheet behind a gluing: the same one across an odd gluing, and the other across an even one
+-- the sheet across a gluing: the same sheet if the gluing is odd, the other one if it is even
 abbrev pub sheet_behind : Gluing → ℕ → ℕ
 sheet_behind g s = if is_odd g.perm then s else other_sheet s
 
@@ -39,7 +39,7 @@ cover_row rows u = map (option_map (lifted (length rows) (sheet (length rows) u)
 unfoldable pub cover : List Row → List Row
 cover rows = map (cover_row rows) (below (2 * length rows))
 
--- no cover is made where it would have too many tetrahedra
+-- no cover is made if it has more tetrahedra than the limit
 abbrev pub too_large : LargeCover
 too_large = record {}
 
@@ -54,18 +54,19 @@ face_below n x = record { tet = over n x.tet; face = x.face }
 unfoldable pub sheet_signs : ℕ → List Bool
 sheet_signs n = map (λ u. sheet n u == 0) (below (2 * n))
 
--- each tetrahedron of the cover goes to the one over the same tetrahedron on the other sheet
+-- each tetrahedron of the cover is mapped to the one over the same tetrahedron on the other sheet
 unfoldable pub exchange : ℕ → Relabelling
 exchange n = record { images = map (λ u. above n (over n u) (other_sheet (sheet n u))) (below (2 * n)); perms = replicate (2 * n) identity }
 
--- the sheet s of a tetrahedron goes to copy s where the tetrahedron's sign is true, and to the other copy where it is false
+-- sheet s of a tetrahedron is mapped to copy s if the sign of the tetrahedron is true, and to the other copy if it is
+-- false
 abbrev pub copy_of : ℕ → List Bool → ℕ → ℕ
 copy_of n signs u = if sign_of signs (over n u) then sheet n u else other_sheet (sheet n u)
 
 unfoldable pub split : ℕ → List Bool → Relabelling
 split n signs = record { images = map (λ u. above n (over n u) (copy_of n signs u)) (below (2 * n)); perms = replicate (2 * n) identity }
 
--- the split by the orientation of the table, and nothing where the table isn't orientable
+-- the split by the orientation of the table, or `None` if the table is not orientable
 abbrev pub IsSplit : List Row → Option Relabelling → Type 0
 IsSplit rows None = IsOrientable rows → ⊥
 IsSplit rows (Some by) = (signs : List Bool) × IsOrientation rows (Some signs) × (by ≡ split (length rows) signs)

@@ -19,7 +19,7 @@ standard_sphere = (to_itself (1 ∷ 0 ∷ 2 ∷ 3 ∷ []) ∷ to_itself (1 ∷ 0
 abbrev pub IsStandard : List Row → Type 0
 IsStandard rows = IsRelabelled rows standard_sphere
 
--- the moves lead to a relabelling of the standard sphere
+-- the moves lead to a table isomorphic to the standard sphere
 abbrev pub IsCertificate : List Row → List Move → Type 0
 IsCertificate rows moves = (last : List Row) × PlaysAll rows moves last × IsStandard last
 
@@ -67,7 +67,7 @@ abbrev pub or_these : List Move → List Move → List Move
 or_these [] rest = rest
 or_these (m ∷ ms) rest = m ∷ ms
 
--- the moves from which one is drawn: the accepted 2-3 and 3-2, and where there are none the accepted 1-4
+-- the moves from which one is drawn: the accepted 2-3 and 3-2 moves, or the accepted 1-4 moves if there are none
 unfoldable pub candidates : List Row → List Move
 candidates rows =
     or_these (filter (is_accepted rows) (two_three_moves (length rows) ++ three_two_moves (length rows))) (filter (is_accepted rows) (one_four_moves (length rows)))
@@ -77,7 +77,7 @@ abbrev pub drawn : ℕ → List Move → Option Move
 drawn x [] = None
 drawn x (m ∷ ms) = Some (slice_index_or (m ∷ ms) (draw x % length (m ∷ ms)) m)
 
--- up to most moves are made, from a state before its first: the tables are those to which they lead
+-- at most `most` moves are made, from a state before the first one, and lead from the first table to the last
 abbrev pub IsMaking : ℕ → ℕ → List Row → List Move → List Row → Type 0
 IsMaking most x rows [] last = (rows ≡ last) × ((most ≡ 0) ⊎ (candidates rows ≡ []))
 IsMaking most x rows (m ∷ ms) last =

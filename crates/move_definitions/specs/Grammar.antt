@@ -6,7 +6,7 @@ use Rattle.move_definitions.specs.Moves.{Move}
 use Rattle.move_definitions.specs.MoveText.{Step, play, undo, redo}
 use Rattle.table_definitions.specs.Grammar.{AreWords, IsNumber}
 
--- the words behind the number of a move's tetrahedron, for each kind
+-- the words after the tetrahedron number of a move, for each kind
 pub data IsCoreText : List ℕ → List (List ℕ) → List ℕ → Type 0 where
   one_four : IsCoreText (codes "14") [] four
   two_three : (f : ℕ) → f < 4 → IsCoreText (codes "23") (digits_of (f ∷ []) ∷ []) (others f)

@@ -7,19 +7,19 @@ use Rattle.move_definitions.specs.Moves.{Move, IsCore, move_fault, IsMoved, inve
 use Rattle.move_definitions.specs.Grammar.{IsMoveLine}
 use Rattle.move_definitions.specs.Certificates.{IsDescent, IsMaking}
 
--- a move with which nothing is wrong leads on, the limit of tetrahedra left aside
+-- Theorem: a move without an error has a result, apart from the limit of tetrahedra
 abbrev pub LegalMovesLeadOn : Type 0
 LegalMovesLeadOn = (old : List Row) (m : Move) → IsTable old → IsCore m.core → move_fault old m ≡ None → (new : List Row) × IsMoved old m new
 
--- a move leads to at most one table
+-- Theorem: a move has at most one resulting table
 abbrev pub MovesAgree : Type 0
 MovesAgree = (old : List Row) (m : Move) (new new' : List Row) → IsTable old → IsMoved old m new → IsMoved old m new' → new ≡ new'
 
--- within the limit, the rows to which it leads are a table
+-- Theorem: within the limit, the resulting rows are a table
 abbrev pub MovesMakeTables : Type 0
 MovesMakeTables = (old : List Row) (m : Move) (new : List Row) → IsTable old → length new ≤ max_tets → IsMoved old m new → IsTable new
 
--- the inverse of a move has a core, and leads back up to labels, and to nothing else
+-- Theorem: the inverse of a move has a core, and leads to a table isomorphic to the first, and to no other
 abbrev pub InversesHaveCores : Type 0
 InversesHaveCores = (n : ℕ) (m : Move) → IsCore m.core → IsCore (inverse_move n m).core
 
@@ -37,7 +37,7 @@ InversesLeadOnlyBack =
 abbrev pub MoveLinesHaveCores : Type 0
 MoveLinesHaveCores = (line : Line) (m : Move) → IsMoveLine line m → IsCore m.core
 
--- moves that are played one after another lead to one table
+-- Theorem: a sequence of moves leads to at most one table
 abbrev pub PlaysAgree : Type 0
 PlaysAgree =
     (old : List Row) (moves : List Move) (last last' : List Row) → IsTable old → PlaysAll old moves last → PlaysAll old moves last'

@@ -19,7 +19,7 @@ pub record Move : Type 0 where
 abbrev pub IsCore : List ℕ → Type 0
 IsCore core = IsTrue (nat_lt 0 (length core) && same_list (filter (has core) four) core)
 
--- a tetrahedron that stands for facet `missing`, with the label of each of its vertices
+-- a tetrahedron that is facet `missing`, with the label of each of its vertices
 pub record Facet : Type 0 where
   pub tet : ℕ
   pub missing : ℕ
@@ -41,7 +41,7 @@ vertex_of f l = preimage f.labels l
 abbrev pub opposite : Facet → ℕ → Face
 opposite f l = record { tet = f.tet; face = vertex_of f l }
 
--- the facet behind the face opposite label i: labels go along, and what is left has label 4
+-- the facet across the face opposite label i: labels are carried by the gluing, and the remaining vertex has label 4
 abbrev pub facet_behind : Facet → ℕ → Gluing → Facet
 facet_behind f i g = record { tet = g.tet; missing = i; labels = map (λ v. in_place_of i 4 (image f.labels (preimage g.perm v))) four }
 
@@ -49,7 +49,8 @@ facet_behind f i g = record { tet = g.tet; missing = i; labels = map (λ v. in_p
 abbrev pub facet : List Row → Move → ℕ → Option Facet
 facet rows m i = if i == 4 then Some (own_facet m) else option_map (facet_behind (own_facet m) i) (glue rows (opposite (own_facet m) i))
 
--- the labels of the facets that are taken out, and those of them that are found behind faces; the others are put in
+-- the labels of the facets that are removed, and of those that are found across faces; the other labels are those of
+-- new facets
 abbrev pub old_labels : Move → List ℕ
 old_labels m = drop (length m.core) (below 5)
 
@@ -101,19 +102,20 @@ new_length rows m = kept rows m + length m.core
 abbrev pub play_fault : List Row → Move → Option MoveFault
 play_fault rows m = option_or (move_fault rows m) (if nat_lt max_tets (new_length rows m) then Some TooMany else None)
 
--- the facet that is put in for label j: it stands behind the kept tetrahedra, and its labels ascend
+-- the new facet for label j: its number is after those of the retained tetrahedra, and its labels ascend
 abbrev pub new_facet : List Row → Move → ℕ → Facet
 new_facet rows m j = record { tet = kept rows m + j; missing = j; labels = filter (λ l. not (l == j)) (below 5) }
 
--- where the vertices of f go in g, the missing label of g going to that of f
+-- the map of the vertices of f to those of g by labels, with the missing label of g mapped to that of f
 abbrev pub label_by_label : Facet → Facet → List ℕ
 label_by_label f g = map (λ l. vertex_of g (in_place_of g.missing f.missing l)) f.labels
 
--- how the old facet f goes to the new facet j
+-- the map of the vertices of the old facet f to those of the new facet j
 abbrev pub facet_gluing : List Row → Move → Facet → ℕ → Gluing
 facet_gluing rows m f j = record { tet = (new_facet rows m j).tet; perm = label_by_label f (new_facet rows m j) }
 
--- what stands in the new table for the old facet f at the face opposite label j: nothing between old facets, else the new facet j
+-- the replacement of the old facet f at its face opposite label j: none if the face is between old facets, otherwise
+-- the new facet j
 abbrev pub facet_stand_in : List Row → Move → Facet → ℕ → Option Gluing
 facet_stand_in rows m f j =
     if nat_lt j (length m.core) then Some (facet_gluing rows m f j) else None
@@ -125,15 +127,15 @@ abbrev pub stand_in_of : List Row → Move → Face → Option Facet → Option 
 stand_in_of rows m x None = Some (kept_stand_in rows m x.tet)
 stand_in_of rows m x (Some f) = facet_stand_in rows m f (image f.labels x.face)
 
--- what stands in the new table for the tetrahedron of x at this face
+-- the replacement of the tetrahedron of x at this face, in the new table
 abbrev pub stand_in_at : List Row → Move → Face → Option Gluing
 stand_in_at rows m x = stand_in_of rows m x (find (λ (f : Facet). f.tet == x.tet) (old_facets rows m))
 
--- the gluing that stands for the gluing g of x, where s stands for the tetrahedron of x
+-- the gluing that corresponds to the gluing g of x, if s replaces the tetrahedron of x
 abbrev pub moved_gluing : List Row → Move → Face → Gluing → Gluing → Option Gluing
 moved_gluing rows m x s g = option_map (λ r. gluing_under s r g) (stand_in_at rows m (other_side x g))
 
--- the move leads from the old table to the new one
+-- the move, played on `old`, results in `new`
 pub record IsMoved (old : List Row) (m : Move) (new : List Row) : Type 0 where
   pub core : IsCore m.core
   pub legal : move_fault old m ≡ None
@@ -142,7 +144,7 @@ pub record IsMoved (old : List Row) (m : Move) (new : List Row) : Type 0 where
   -- the facets that are put in are glued among themselves label by label
   pub inner : (j l : ℕ) → j < length m.core → l < length m.core → j ≢ l
       → glue new (opposite (new_facet old m j) l) ≡ Some (record { tet = (new_facet old m l).tet; perm = label_by_label (new_facet old m j) (new_facet old m l) })
-  -- each other face is glued as the face was for which it stands
+  -- each other face is glued as the face that it replaces was
   pub outer : (x : Face) (s : Gluing) → x.tet < length old → x.face < 4 → stand_in_at old m x ≡ Some s
       → glue new (face_under s x) ≡ option_and_then (moved_gluing old m x s) (glue old x)
 
@@ -156,6 +158,6 @@ pub record Plays (old : List Row) (m : Move) (new : List Row) : Type 0 where
   pub moved : IsMoved old m new
   pub accepted : play_fault old m ≡ None
 
--- the moves lead from the one table to the other, each played on the table to which the one before led
+-- the moves, each played on the result of the one before, lead from the first table to the last
 abbrev pub PlaysAll : List Row → List Move → List Row → Type 0
 PlaysAll old moves new = FoldsTo Plays old moves new

@@ -12,7 +12,7 @@ pub record Session : Type 0 where
   pub moves : List Move
   pub played : ℕ
 
--- the moves that are played lead from the first table to this one
+-- the moves in effect lead from the first table to this one
 pub record IsTableOf (s : Session) (table : List Row) : Type 0 where
   pub in_range : s.played ≤ length s.moves
   pub reached : PlaysAll s.first (take s.played s.moves) table
@@ -23,7 +23,7 @@ pub record IsTableOf (s : Session) (table : List Row) : Type 0 where
 abbrev pub begun : List Row → Session
 begun first = record { first = first; moves = []; played = 0 }
 
--- the move is played behind the played ones, and those that were taken back are dropped
+-- the move is played after those in effect, and the undone moves are dropped
 abbrev pub with_move : Session → Move → Session
 with_move s m = record { first = s.first; moves = take s.played s.moves ++ m ∷ []; played = s.played + 1 }
 

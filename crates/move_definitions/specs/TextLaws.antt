@@ -20,11 +20,11 @@ pub record ReadsStep (c : Reading) (step : Step) : Type 0 where
   pub later : left.later ≡ c.later
   pub at_end : left.current.tokens ≡ []
 
--- a line is read as a move exactly where it is one
+-- Theorem: a line is read as a move if and only if it spells one
 abbrev pub MovesAreRead : Type 0
 MovesAreRead = (c : Reading) (m : Move) → ReadsMove c m ↔ IsMoveLine c.current m
 
--- a line is read as a step exactly where it is one
+-- Theorem: a line is read as a step if and only if it spells one
 abbrev pub StepsAreRead : Type 0
 StepsAreRead = (c : Reading) (step : Step) → ReadsStep c step ↔ IsStepLine c.current step
 

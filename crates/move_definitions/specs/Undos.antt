@@ -1,4 +1,4 @@
--- Taking a move back: what is kept of it, and the table to which that leads.
+-- Undoing a move: what is recorded of it, and the table that results.
 use Rattle.std.specs.Prelude.{◌≡◌, ℕ, ◌-◌, List, [], length, map, filter}
 use Rattle.std.specs.List.{range_with_len, slice_index_or}
 use Rattle.table_definitions.specs.Lists.{below, has}
@@ -31,7 +31,7 @@ former rows u = replaced rows (back_exchange u)
 abbrev pub CanTakeBack : List Row → Undo → Type 0
 CanTakeBack rows u = (old : List Row) × Plays old u.played rows × (u ≡ undo_of old u.played)
 
--- taking a move back leads to the table on which it was played, row for row
+-- Theorem: undoing a move restores the table on which it was played, row for row
 abbrev pub TakesBack : Type 0
 TakesBack = (old : List Row) (m : Move) (new : List Row) → Plays old m new → former new (undo_of old m) ≡ old
 

@@ -12,7 +12,7 @@ pub enum MoveFault {
     NoSuchTet,
     /// The face of the tetrahedron opposite this label is a boundary face.
     Boundary { label: u8 },
-    /// The facet that lacks this label is a tetrahedron that stands for another facet already.
+    /// The facet that lacks this label is a tetrahedron that is another facet already.
     Repeated { label: u8 },
     /// The facets that lack these labels aren't glued to each other label by label.
     NotMatched { first: u8, second: u8 },
@@ -20,12 +20,12 @@ pub enum MoveFault {
     TooMany,
 }
 
-/// A line is read as a move exactly where it is one.
+/// Theorem: a line is read as a move if and only if it spells one.
 pub fn moves_are_read()
     ensures { MovesAreRead }
 {}
 
-/// A line is read as a step exactly where it is one.
+/// Theorem: a line is read as a step if and only if it spells one.
 pub fn steps_are_read()
     ensures { StepsAreRead }
 {}

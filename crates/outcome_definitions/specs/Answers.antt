@@ -26,7 +26,7 @@ use Rattle.outcome_definitions.specs.Certificates.{IsCheckAnswer, IsDescendAnswe
 use Rattle.outcome_definitions.specs.Makings.{IsMakeAnswer, IsBulkAnswer}
 use Rattle.outcome_definitions.specs.Canonical.{IsSignatureAnswer, IsSameAnswer, IsGroupAnswer}
 
--- an input has at most so many bytes
+-- the greatest number of bytes of an input
 abbrev pub most_bytes : ℕ
 most_bytes = 1048576
 

@@ -22,11 +22,11 @@ not_connected_line k tet = line (codes "refused: not-connected " ++ decimal k ++
 abbrev pub not_connected_outcome : ℕ → ℕ → Outcome
 not_connected_outcome k tet = record { status = Refused; text = not_connected_line k tet }
 
--- table k isn't connected, and that is told
+-- table k is disconnected, and the answer says so
 abbrev pub IsNotConnected : ℕ → List Row → Outcome → Type 0
 IsNotConnected k rows o = (tet : ℕ) × IsLeastUnreached rows tet × (o ≡ not_connected_outcome k tet)
 
--- the signature of a connected table is told
+-- the answer is the signature of a connected table
 pub record IsSigned (rows : List Row) (o : Outcome) : Type 0 where
   pub connected : IsConnected rows
   pub text : List ℕ
@@ -37,7 +37,7 @@ pub record IsSigned (rows : List Row) (o : Outcome) : Type 0 where
 abbrev pub IsSignatureAnswer : List Row → Outcome → Type 0
 IsSignatureAnswer rows o = IsSigned rows o ⊎ IsNotConnected 0 rows o
 
--- a tetrahedron of the first table, its number in the second, and where its vertices go
+-- a tetrahedron of the first table, its number in the second, and the images of its vertices
 abbrev pub image_line : ℕ → Gluing → List ℕ
 image_line tet s = line (decimal tet ++ codes " " ++ decimal s.tet ++ codes " " ++ digits_of s.perm)
 
@@ -50,7 +50,7 @@ different_text = line (codes "different")
 abbrev pub different_outcome : Outcome
 different_outcome = done different_text
 
--- the least relabelling that carries the first table to the second is told, or that there is none
+-- the answer is the least relabelling that carries the first table to the second, or that there is none
 abbrev pub IsCompared : List Row → List Row → Outcome → Type 0
 IsCompared first second o = ((by : Relabelling) × IsLeastRelabelling first second by × (o ≡ done (relabelling_text by)))
     ⊎ ((IsRelabelled first second → ⊥) × (o ≡ different_outcome))
@@ -73,7 +73,7 @@ census_text classes signatures =
     classes_text (λ k. class_line k (slice_index classes k)) (length classes)
     ++ classes_text (λ c. class_signature_line c (signature_in signatures c)) (length signatures)
 
--- the classes of connected tables are told
+-- the answer is the classes of connected tables
 pub record IsGrouped (tables : List (List Row)) (o : Outcome) : Type 0 where
   pub connected : (k : ℕ) → k < length tables → IsConnected (table_in tables k)
   pub classes : List ℕ
@@ -81,7 +81,7 @@ pub record IsGrouped (tables : List (List Row)) (o : Outcome) : Type 0 where
   pub census : IsCensus tables classes signatures
   pub told : o ≡ done (census_text classes signatures)
 
--- the first table that isn't connected is told
+-- the answer names the first table that is disconnected
 pub record IsFirstNotConnected (tables : List (List Row)) (o : Outcome) : Type 0 where
   pub table : ℕ
   pub in_range : table < length tables

@@ -36,7 +36,7 @@ pub record IsCheckAnswer (d : List Row × List Move) (o : Outcome) : Type 0 wher
 unfoldable pub moves_text : List Move → List ℕ
 moves_text moves = flat_map move_text moves
 
--- a table, with a line for each of some moves behind it
+-- a table, followed by a line for each move
 abbrev pub moves_behind : List Row → List Move → List ℕ
 moves_behind rows moves = table_text rows ++ moves_text moves
 

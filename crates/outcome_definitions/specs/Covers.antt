@@ -24,7 +24,7 @@ large_cover_line = line (codes "refused: cover too-many")
 abbrev pub large_cover_outcome : Outcome
 large_cover_outcome = record { status = Refused; text = large_cover_line }
 
--- the cover is told
+-- the answer is the cover
 abbrev pub IsCoverAnswered : List Row → Outcome → Type 0
 IsCoverAnswered rows o = (connected : Bool) × (IsTrue connected ↔ IsConnected (cover rows)) × (o ≡ done (cover_text rows connected))
 

@@ -38,7 +38,7 @@ large_outcome taken kind = record {
   text = line (codes "refused: large step " ++ decimal (length taken - 1) ++ codes " row " ++ decimal (slice_index taken (length taken - 1)) ++ kind_text kind);
 }
 
--- the first step of an enumeration of which a number passes the limit is told
+-- the answer names the first step of an enumeration of which a number exceeds the limit
 abbrev pub IsPastAnswered : Enumeration → Outcome → Type 0
 IsPastAnswered e o = (taken : List ℕ) × (kind : Named) × IsPastLimit e taken kind × (o ≡ large_outcome taken kind)
 

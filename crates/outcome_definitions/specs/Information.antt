@@ -23,7 +23,7 @@ pub record Information : Type 0 where
   pub connected : Bool
   pub orientable : Bool
 
--- no link, where a class is out of range
+-- no link, if the class is out of range
 abbrev pub no_link : Link
 no_link = record { triangles = 0; edges = 0; vertices = 0; euler = pos 0; closed = false; orientable = false; kind = Sphere }
 
@@ -31,7 +31,7 @@ no_link = record { triangles = 0; edges = 0; vertices = 0; euler = pos 0; closed
 abbrev pub AreValid : Skeleton → ℕ → List Bool → Type 0
 AreValid s count valid = (c : ℕ) → c < count → IsTrue (slice_index_or valid c false) ↔ IsValidClass s c
 
--- what is told is so of the table
+-- the answer is true of the table
 pub record IsInformation (rows : List Row) (i : Information) : Type 0 where
   pub of_table : i.skeleton.rows ≡ rows
   pub skeleton : IsSkeleton i.skeleton

@@ -36,7 +36,7 @@ lex_line f = line (codes "refused: input " ++ decimal f.place.line ++ codes " " 
 abbrev pub face_line : List ℕ → Face → List ℕ
 face_line kind x = line (codes "refused: table " ++ kind ++ codes " " ++ decimal x.tet ++ codes " " ++ decimal x.face)
 
--- why rows are no table; want of memory has no line of its own
+-- why rows are no table; running out of memory has no line of its own
 unfoldable pub table_line : TableFault → List ℕ
 table_line table_faults.NoMemory = []
 table_line table_faults.TooMany = line (codes "refused: table too-many")

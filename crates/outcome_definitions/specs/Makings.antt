@@ -19,7 +19,7 @@ use Rattle.outcome_definitions.specs.Outcomes.{Outcome}
 use Rattle.outcome_definitions.specs.Enumerations.{AreUpTo, IsPastAnswered}
 use Rattle.outcome_definitions.specs.Certificates.{moves_behind}
 
--- the table, with the moves of its certificate behind it
+-- the table, followed by the moves of its certificate
 abbrev pub make_outcome : List Row → List Move → Outcome
 make_outcome table certificate = record { status = Done; text = moves_behind table certificate }
 
@@ -30,7 +30,7 @@ pub record IsMakeAnswer (seed moves : ℕ) (o : Outcome) : Type 0 where
   pub made : IsMade seed moves table certificate
   pub outcome : o ≡ make_outcome table certificate
 
--- the greatest entry of vectors, which is 0 where there are none
+-- the greatest entry of the vectors, 0 if there are none
 pub record IsGreatestEntry (list : List (List ℕ)) (greatest : ℕ) : Type 0 where
   pub up_to : AreUpTo greatest list
   pub least : (most : ℕ) → AreUpTo most list → greatest ≤ most

@@ -18,11 +18,11 @@ read_outcome = record { status = ReadFault; text = read_line }
 abbrev pub too_long_outcome : Outcome
 too_long_outcome = record { status = Input; text = too_long_line }
 
--- the outcome where the input is no document
+-- the outcome if the input is no document
 abbrev pub fault_outcome : InputFault → Outcome
 fault_outcome f = record { status = Input; text = input_line f }
 
--- the outcome of a command that reads a document, where its answer to the document's value is told
+-- the outcome of a command that reads a document, given its answer to the value of the document
 abbrev pub IsReadOutcome : {A : Type 0} → Result A InputFault → (A → Outcome → Type 0) → Outcome → Type 0
 IsReadOutcome (Ok value) IsAnswer o = IsAnswer value o
 IsReadOutcome (Err fault) IsAnswer o = o ≡ fault_outcome fault

@@ -14,7 +14,7 @@ pub record IsComponentSignatureAnswer (rows : List Row) (o : Outcome) : Type 0 w
   pub signature : IsComponentSignature rows text
   pub told : o ≡ done (line text)
 
--- the relabelling that carries the parts of the first table to those of the second is told
+-- the answer is the relabelling that carries the components of the first table to those of the second
 pub record AreSameParts (first second : List Row) (o : Outcome) : Type 0 where
   pub by : Relabelling
   pub same : IsSameParts first second by

@@ -22,7 +22,7 @@ sign_text false = codes " "
 abbrev pub letter_text : Letter → List ℕ
 letter_text letter = sign_text letter.inverse ++ decimal letter.generator
 
--- the generator of number k + 1: its face class, and whether it turns
+-- the generator of number k + 1: its face class, and whether it reverses orientation
 abbrev pub generator_line : ℕ → ℕ → Bool → List ℕ
 generator_line k class turns = line (codes "generator " ++ decimal (k + 1) ++ codes " face " ++ decimal class ++ codes " turns " ++ yes_or_no turns)
 
@@ -41,7 +41,7 @@ presentation_text p =
     number_line (codes "generators ") (length p.generators) ++ classes_text (generator_text p) (length p.generators)
     ++ number_line (codes "relators ") (length p.relators) ++ classes_text (relator_text p) (length p.relators)
 
--- the presentation of a table is told
+-- the answer is the presentation of a table
 abbrev pub IsPresented : Skeleton → Outcome → Type 0
 IsPresented s o = (p : Presentation) × IsPresentation s p × (o ≡ done (presentation_text p))
 

@@ -81,12 +81,12 @@ sum_refusal_outcome v refusal = record { status = sum_refusal_status refusal; te
 abbrev pub IsVerdict : Coords → List Row → List EquationRow → List ℕ → Verdict → Type 0
 IsVerdict coords rows equations x checked = verdict_in coords rows equations x ≡ checked
 
--- the sum of a vector, or the first turn at which an entry, taken so many times, passes the limit, and the first such column
+-- the sum of a vector, or the first step at which a multiple of an entry exceeds the limit, and the first such column
 abbrev pub IsSummed : ℕ → List (List ℕ) → List ℕ → Result Block LargeTurn → Type 0
 IsSummed most list x (Ok block) = (block.vector ≡ x) × IsSum most list x block.times block.terms
 IsSummed most list x (Err large) = IsLargeTurn most list x large.turn large.column
 
--- a table, with blocks behind it
+-- a table, followed by blocks
 abbrev pub sums_text : List Row → List Block → List ℕ
 sums_text rows blocks = table_text rows ++ blocks_text blocks
 
@@ -95,7 +95,7 @@ abbrev pub sums_outcome : List Row → Result (List Block) (ℕ × LargeTurn) �
 sums_outcome rows (Ok blocks) = record { status = statuses.Done; text = sums_text rows blocks }
 sums_outcome rows (Err large) = sum_refusal_outcome large.0 (LargeTimes large.1.turn large.1.column)
 
--- the vertex surfaces are listed, and vectors are told as sums of them
+-- the vertex surfaces are listed, and the answer is the vectors as sums of them
 pub record AreSums (most : ℕ) (e : Enumeration) (rows : List Row) (vectors : List (List ℕ)) (o : Outcome) : Type 0 where
   pub taken : List ℕ
   pub list : List (List ℕ)
@@ -104,7 +104,8 @@ pub record AreSums (most : ℕ) (e : Enumeration) (rows : List Row) (vectors : L
   pub sums : AreAnswered (IsSummed most list) vectors told
   pub outcome : o ≡ sums_outcome rows told
 
--- vectors that pass the check are told as sums of the vertex surfaces, unless a number of the enumeration passes the limit
+-- vectors that pass the check are answered as sums of the vertex surfaces, unless a number of the enumeration exceeds
+-- the limit
 abbrev pub IsDecomposed : ℕ → Enumeration → List Row → List (List ℕ) → Result (List (Unit {0})) (ℕ × VectorFault) → Outcome → Type 0
 IsDecomposed most e rows vectors (Ok passed) o = AreSums most e rows vectors o ⊎ IsPastAnswered e o
 IsDecomposed most e rows vectors (Err unfit) o = o ≡ sum_refusal_outcome unfit.0 (Unfit unfit.1)
@@ -126,7 +127,8 @@ pub record AreFit (coords : Coords) (rows : List Row) (equations : List Equation
   pub vector : IsFit coords rows equations block.vector
   pub terms : All (λ (term : Term). IsFit coords rows equations term.vector) block.terms
 
--- a block is accepted where its vector and its terms are admissible solutions and the terms add up; or this is wrong first
+-- a block is accepted if its vector and its terms are admissible solutions and the terms add up; otherwise this is its
+-- first error
 abbrev pub IsAddedUp : Coords → List Row → List EquationRow → Block → Result (Unit {0}) SumRefusal → Type 0
 IsAddedUp coords rows equations block (Ok accepted) = AreFit coords rows equations block × (add_fault limit block.vector block.times block.terms ≡ None)
 IsAddedUp coords rows equations block (Err (Unfit fault)) = IsUnfit coords rows equations block.vector fault
@@ -137,7 +139,7 @@ IsAddedUp coords rows equations block (Err (LargeTimes turn column)) = ⊥
 abbrev pub accepted_outcome : Outcome
 accepted_outcome = record { status = statuses.Done; text = accepted_text }
 
--- all blocks are accepted, or the first that isn't is told
+-- all blocks are accepted, or the answer names the first that is not
 abbrev pub addup_outcome : Result (List (Unit {0})) (ℕ × SumRefusal) → Outcome
 addup_outcome (Ok accepted) = accepted_outcome
 addup_outcome (Err refusal) = sum_refusal_outcome refusal.0 refusal.1

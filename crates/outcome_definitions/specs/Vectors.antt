@@ -74,7 +74,7 @@ pub record AreDescribed (s : Skeleton) (coords : Coords) (vectors : List (List �
   pub described : AreAnswered (IsDescription s coords equations) vectors told
   pub outcome : o ≡ describe_outcome s coords told
 
--- an edge class is invalid: the least such is told
+-- an edge class is invalid: the answer names the least such class
 abbrev pub IsInvalidAnswered : Skeleton → Outcome → Type 0
 IsInvalidAnswered s o = (c : ℕ) × IsFirstInvalid s (Some c) × (o ≡ record { status = Refused; text = invalid_edge_line c })
 

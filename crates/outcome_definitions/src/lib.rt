@@ -35,7 +35,8 @@ pub enum SumRefusal {
     Unfit { fault: VectorFault },
     /// The term of this number, which counts from 0, is no admissible solution.
     UnfitTerm { term: usize, fault: VectorFault },
-    /// At this turn, counted from 0, an entry of the vector, taken so many times, passes the limit; the first such column.
+    /// At this step, counted from 0, an entry of the vector, times its factor, exceeds the limit; the first such
+    /// column.
     LargeTimes { turn: u32, column: u32 },
     /// The terms don't add up to the vector.
     NoSum { fault: AddFault },

@@ -28,7 +28,7 @@ pub record IsGroup (s : Skeleton) (g : Group) : Type 0 where
   pub tree : IsTree s.rows g.tree
   pub presentation : IsPresentation s g.presentation
 
--- there is a group where the table is connected and each edge class is valid
+-- there is a group if the table is connected and each edge class is valid
 pub record HasGroup (s : Skeleton) : Type 0 where
   pub connected : IsConnected s.rows
   pub valid : IsFirstInvalid s None

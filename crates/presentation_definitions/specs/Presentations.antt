@@ -1,4 +1,4 @@
--- Generators, which are faces off the tree, and relators, which are read round the inner edges.
+-- Generators, which are the internal faces outside the tree, and relators, which are read around the internal edges.
 use Rattle.std.specs.Prelude.{◌≡◌, ℕ, ◌+◌, ◌<◌, Bool, not, List, ◌∷◌, [], ◌==◌, Option, Some, None, filter_map, slice_index, if◌then◌else◌, ◌↔◌}
 use Rattle.std.specs.List.{AllPairs, AllZip, Contains, position_or_len}
 use Rattle.table_definitions.specs.Lists.{has}
@@ -25,13 +25,14 @@ letter_of s generators i =
     if has generators (slice_index s.faces.classes i)
     then Some (record { generator = position_or_len (λ c. c == slice_index s.faces.classes i) generators + 1; inverse = not (is_least s.faces.classes i) }) else None
 
--- the letters of the faces through which the walk round an edge class goes
+-- the letters of the faces that a tour around an edge class crosses
 pub record IsRelator (s : Skeleton) (generators : List ℕ) (c : ℕ) (letters : List Letter) : Type 0 where
   pub corners : List Corner
   pub around : IsAround s c corners
   pub read : letters ≡ filter_map (λ k. letter_of s generators (face_number (left_through k))) corners
 
--- a face turns where there is an odd number of even gluings from tetrahedron 0 through tree faces to the face, across it, and back through tree faces
+-- a face reverses orientation if the loop from tetrahedron 0 through tree faces to the face, across it, and back
+-- through tree faces has an odd number of even gluings
 pub record IsTurningFace (rows : List Row) (x : Face) (turns : Bool) : Type 0 where
   pub gluing : Gluing
   pub glued : glue rows x ≡ Some gluing
@@ -41,11 +42,11 @@ pub record IsTurningFace (rows : List Row) (x : Face) (turns : Bool) : Type 0 wh
   pub back_path : IsTreePath rows gluing.tet back
   pub odd : turns ≡ is_odd_number (evens rows forth + evens rows (x ∷ []) + evens rows back)
 
--- a face class turns where its lesser face does
+-- a face class reverses orientation if its lesser face does
 abbrev pub IsTurning : Skeleton → ℕ → Bool → Type 0
 IsTurning s c turns = IsTurningFace s.rows (face_of (least s.faces.classes c)) turns
 
--- generators with whether they turn, and the inner edge classes with their relators
+-- the generators, with whether they reverse orientation, and the internal edge classes with their relators
 pub record Presentation : Type 0 where
   pub generators : List ℕ
   pub turning : List Bool

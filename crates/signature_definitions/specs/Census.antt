@@ -1,4 +1,4 @@
--- Tables in classes: two are in one class exactly where a relabelling carries the one to the other.
+-- Tables in classes: two are in one class if and only if they are isomorphic.
 use Rattle.std.specs.Prelude.{◌≡◌, ◌≢◌, ℕ, ◌<◌, ◌⊎◌, List, [], ◌∷◌, ◌++◌, length, slice_index}
 use Rattle.std.specs.List.{slice_index_or}
 use Rattle.table_definitions.specs.Table.{Row, IsTable}
@@ -18,7 +18,7 @@ signature_in signatures c = slice_index_or signatures c []
 abbrev pub AreRelabelled : List (List Row) → ℕ → ℕ → Type 0
 AreRelabelled tables i j = IsRelabelled (table_in tables i) (table_in tables j)
 
--- The class of each table, by the order in which the classes are first met, and the signature of each class.
+-- The class of each table, in the order in which the classes first occur, and the signature of each class.
 pub record IsCensus (tables : List (List Row)) (classes : List ℕ) (signatures : List (List ℕ)) : Type 0 where
   pub numbering : IsNumbering (length tables) (AreRelabelled tables) classes (length signatures)
   pub signed : (k : ℕ) → k < length tables → IsSignature (table_in tables k) (signature_in signatures (slice_index classes k))
@@ -29,7 +29,7 @@ pub record IsKnown (before : List (List ℕ)) (text : List ℕ) (class : ℕ) (n
   pub found : signature_in before class ≡ text
   pub kept : now ≡ before
 
--- the text has no place among the signatures, and is put behind them
+-- the text is not among the signatures, and is appended to them
 pub record IsFresh (before : List (List ℕ)) (text : List ℕ) (class : ℕ) (now : List (List ℕ)) : Type 0 where
   pub last : class ≡ length before
   pub nowhere : (c : ℕ) → c < length before → signature_in before c ≢ text
@@ -39,7 +39,7 @@ pub record IsFresh (before : List (List ℕ)) (text : List ℕ) (class : ℕ) (n
 abbrev pub IsPlaced : List (List ℕ) → List ℕ → ℕ → List (List ℕ) → Type 0
 IsPlaced before text class now = IsKnown before text class now ⊎ IsFresh before text class now
 
--- a census of tables goes on to these and one more table
+-- a census of tables, extended by one more table
 abbrev pub CensusGoesOn : Type 0
 CensusGoesOn =
     (tables : List (List Row)) (a : List Row) (classes : List ℕ) (before : List (List ℕ)) (text : List ℕ) (class : ℕ) (now : List (List ℕ))

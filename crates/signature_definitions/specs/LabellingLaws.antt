@@ -12,7 +12,7 @@ WalksAgree =
     (rows : List Row) (start : Start) (by others : Relabelling) (new other : List Row) → IsTable rows → start.tet < length rows
     → IsWalked rows start by new → IsWalked rows start others other → (by ≡ others) × (new ≡ other)
 
--- a relabelling carries a table to a table, which leads back to it; relabellings go on, and keep what is connected
+-- Theorem: a relabelling carries a table to a table and has an inverse; relabellings compose, and keep tables connected
 abbrev pub RelabelsTables : Type 0
 RelabelsTables = (rows new : List Row) → IsTable rows → IsRelabelled rows new → IsTable new
 
@@ -29,7 +29,7 @@ RelabelsConnected = (rows new : List Row) → IsTable rows → IsRelabelled rows
 abbrev pub OneSignature : Type 0
 OneSignature = (rows : List Row) (text other : List ℕ) → IsSignature rows text → IsSignature rows other → text ≡ other
 
--- two tables have one signature exactly where the one can be relabelled to the other
+-- Theorem: two tables have the same signature if and only if they are isomorphic
 abbrev pub SignaturesTellTables : Type 0
 SignaturesTellTables =
     (first second : List Row) (text other : List ℕ) → IsTable first → IsTable second → IsSignature first text → IsSignature second other

@@ -5,7 +5,7 @@ use Rattle.table_definitions.specs.Table.{Gluing, Row}
 use Rattle.table_definitions.specs.Relabelling.{Relabelling, IsRelabelling, Carries, stand_in}
 use Rattle.signature_definitions.specs.WalkOrder.{IsWalkOrdered}
 
--- a tetrahedron, and where its vertices go
+-- a tetrahedron, and the new vertex of each of its vertices
 pub record Start : Type 0 where
   pub tet : ℕ
   pub perm : List ℕ

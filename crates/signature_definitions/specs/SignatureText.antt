@@ -15,7 +15,7 @@ use Rattle.signature_definitions.specs.declared.SigFault.TheVariants.{BadChar, S
 use Rattle.signature_definitions.specs.declared.InputFault.{InputFault}
 use Rattle.signature_definitions.specs.declared.InputFault.TheVariants.{Text, Signature}
 
--- go on where the test passes
+-- continue if the test passes
 abbrev pub unless : {A : Type 0} → Bool → SigFault → Result A SigFault → Result A SigFault
 unless wrong fault next = if wrong then Err fault else next
 
@@ -73,7 +73,7 @@ faces_of_type type = if type == 0 then 1 else 2
 abbrev pub counted : ℕ → Types → Types
 counted type s = record { read = s.read ++ type ∷ []; left = s.left - faces_of_type type; ones = s.ones + (if type == 1 then 1 else 0) }
 
--- whether a type can't stand where faces are left, in a text of n tetrahedra
+-- whether a type is impossible with this number of remaining faces, in a text of n tetrahedra
 abbrev pub is_wrong_type : ℕ → ℕ → Types → Bool
 is_wrong_type n type s = (type == 3) || nat_lt s.left (faces_of_type type) || ((type == 1) && nat_le (n - 1) s.ones)
 
@@ -100,7 +100,7 @@ types_from (suc most) text n at s = more_types (s.left == 0) s at (do
     more_types : Bool → Types → ℕ → Result (Types × ℕ) SigFault → Result (Types × ℕ) SigFault
     more_types done s at next = if done then Ok (s, at) else next
 
--- so many numbers of w characters below bound, each with its place
+-- `count` numbers of w characters, each below `bound`, with their positions
 unfoldable pub numbers_in : ℕ → List ℕ → ℕ → ℕ → (ℕ → SigFault) → ℕ → Result (List (ℕ × ℕ)) SigFault
 numbers_in zero text w bound fault at = Ok []
 numbers_in (suc k) text w bound fault at = do
@@ -114,7 +114,7 @@ pub record Parts : Type 0 where
   pub destinations : List (ℕ × ℕ)
   pub gluings : List (ℕ × ℕ)
 
--- the faces met so far with what they are glued by, the number of tetrahedra seen, and the parts that were not used
+-- the faces read so far with their gluings, the number of tetrahedra seen, and the unused sections
 pub record Joining : Type 0 where
   pub met : List (Face × Option Gluing)
   pub seen : ℕ
@@ -123,7 +123,7 @@ pub record Joining : Type 0 where
 abbrev pub is_met : Joining → Face → Bool
 is_met s x = list_any (λ (m : Face × Option Gluing). same_face m.0 x) s.met
 
--- both sides of a face are met
+-- both sides of a face are read
 abbrev pub meet : Face → Gluing → Joining → Joining
 meet x g s = record s { met = (x, Some g) ∷ (other_side x g, Some (way_back x g)) ∷ s.met }
 
@@ -150,7 +150,7 @@ join_type x type rest s =
     else join_seen x (first_pair rest.destinations) (first_pair rest.gluings)
     (record s { parts = record rest { destinations = drop 1 rest.destinations; gluings = drop 1 rest.gluings } }))
 
--- the next face, if it isn't met
+-- the next face, if it is not read yet
 abbrev pub join_next : Face → List ℕ → Joining → Result Joining SigFault
 join_next x [] s = Ok s
 join_next x (type ∷ types) s = if is_met s x then Ok s else join_type x type (record s.parts { types = types }) s
@@ -167,7 +167,7 @@ join_faces (x ∷ xs) s = do
 abbrev pub glued_in : List (Face × Option Gluing) → Face → Option Gluing
 glued_in met x = option_and_then (λ (m : Face × Option Gluing). m.1) (find (λ (m : Face × Option Gluing). same_face m.0 x) met)
 
--- the table of the faces that are met
+-- the table of the faces that were read
 abbrev pub rows_of : ℕ → List (Face × Option Gluing) → List Row
 rows_of n met = map (λ t. map (λ f. glued_in met (record { tet = t; face = f })) four) (below n)
 
@@ -177,7 +177,7 @@ table_of n parts = do
   s ← join_faces (faces n) (record { met = []; seen = 1; parts = parts })
   Ok (rows_of n s.met)
 
--- the phases behind the types
+-- the phases after the types
 abbrev pub after_types : List ℕ → Head → Types → ℕ → Result (List Row) SigFault
 after_types text h s at =
     let twos : ℕ = times_in s.read 2 in

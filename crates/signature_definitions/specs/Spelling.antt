@@ -27,12 +27,12 @@ abbrev pub in_values : ℕ → ℕ → List ℕ
 in_values zero v = []
 in_values (suc w) v = v % 64 ∷ in_values w (v / 64)
 
--- the count of the tetrahedra; from 63 on behind the greatest value and the width
+-- the number of tetrahedra; from 63 on after the greatest value and the width
 abbrev pub head_values : ℕ → List ℕ
 head_values n = if nat_lt n 63 then n ∷ [] else 63 ∷ width n ∷ in_values (width n) n
 
--- the type of a face: 0 for a boundary face, 1 for one that leads to a tetrahedron not yet seen, 2 for one that leads to one
--- already seen, and none for a face already met from its other side
+-- the type of a face: 0 for a boundary face, 1 if it is glued to a tetrahedron not yet seen, 2 if it is glued to one
+-- already seen, and none for a face already read from its other side
 abbrev pub type_of : List Row → Face → Option Gluing → Option ℕ
 type_of rows x None = Some 0
 type_of rows x (Some g) = if is_face_before (other_side x g) x then None else Some (if is_seen rows x g.tet then 2 else 1)

@@ -5,16 +5,16 @@ use Rattle.table_definitions.specs.Lists.{below, same_list}
 use Rattle.table_definitions.specs.Permutation.{identity}
 use Rattle.table_definitions.specs.Table.{Gluing, Row, Face, glue, faces, is_face_before}
 
--- whether a face leads to tetrahedron u
+-- whether a face is glued to tetrahedron u
 abbrev pub is_glued_to : ℕ → Option Gluing → Bool
 is_glued_to u None = false
 is_glued_to u (Some g) = g.tet == u
 
--- whether tetrahedron u is seen before the face x is taken: it is 0, or an earlier face leads to it
+-- whether tetrahedron u is seen before the face x is read: it is 0, or an earlier face is glued to it
 abbrev pub is_seen : List Row → Face → ℕ → Bool
 is_seen rows x u = (u == 0) || list_any (λ y. is_face_before y x && is_glued_to u (glue rows y)) (faces (length rows))
 
--- whether a gluing leads to a tetrahedron that is seen, or to the least that isn't, by the identity
+-- whether a gluing reaches a tetrahedron that is seen, or the least one that is not, by the identity
 abbrev pub is_ordered_gluing : List Row → Face → Option Gluing → Bool
 is_ordered_gluing rows x None = true
 is_ordered_gluing rows x (Some g) = is_seen rows x g.tet || (list_all (is_seen rows x) (below g.tet) && same_list g.perm identity)

@@ -19,19 +19,19 @@ pub enum SigFault {
     NoMemory,
     /// A character that is not of the alphabet.
     BadChar { at: usize },
-    /// The text ends where a character is wanted.
+    /// The text ends before a required character.
     Short { at: usize },
-    /// A face type that can't stand there.
+    /// A face type that is not possible here.
     BadType { at: usize },
-    /// A face type behind the last face.
+    /// A face type after the last face.
     Leftover { at: usize },
     /// A tetrahedron that is out of range or not yet seen.
     Destination { at: usize },
     /// No index of a permutation.
     Gluing { at: usize },
-    /// A gluing to the face itself or to one that was met before.
+    /// A gluing to the face itself or to one that was read before.
     FaceTaken { at: usize },
-    /// Characters behind the signature.
+    /// Characters after the signature.
     Trailing { at: usize },
     /// More tetrahedra than a table may have.
     TooMany,
@@ -61,9 +61,9 @@ impl<T: Drop> From<AllocFailed<T>> for SigFault {
 #[derive(Clone, Copy)]
 pub enum InputFault {
     NoMemory,
-    /// A line hasn't the form that is wanted, or its rows are no table. It is never want of memory.
+    /// A line does not have the required form, or the rows are no table. Never `NoMemory`.
     Text(TextFault),
-    /// The word behind `sig` is no signature. It is never want of memory.
+    /// The word after `sig` is no signature. Never `NoMemory`.
     Signature(SigFault),
 }
 

@@ -1,4 +1,4 @@
--- Walks round an edge.
+-- Tours around an edge.
 use Rattle.std.specs.Prelude.{◌≡◌, ℕ, ◌/◌, ◌%◌, ◌<◌, ◌≢◌, zero, suc, not, ◌↔◌, List, [], ◌∷◌, length, filter, Option, Some, option_map, option_and_then, slice_index, Contains}
 use Rattle.std.specs.List.{slice_index_or}
 use Rattle.table_definitions.specs.Lists.{below, has}
@@ -21,11 +21,11 @@ left_through k = record { tet = k.tet; face = k.c }
 abbrev pub came_through : Corner → Face
 came_through k = record { tet = k.tet; face = k.d }
 
--- the corner behind face c
+-- the corner across face c
 abbrev pub corner_behind : Corner → Gluing → Corner
 corner_behind k g = record { tet = g.tet; a = image g.perm k.a; b = image g.perm k.b; c = image g.perm k.d; d = image g.perm k.c }
 
--- the next corner, where face c is glued
+-- the next corner, if face c is glued
 abbrev pub step : List Row → Corner → Option Corner
 step rows k = option_map (corner_behind k) (glue rows (left_through k))
 
@@ -44,7 +44,7 @@ corner_of t edge rest = record { tet = t; a = slice_index edge 0; b = slice_inde
 abbrev pub first_corner : ℕ → Corner
 first_corner i = corner_of (i / 6) (ends (i % 6)) (filter (λ v. not (has (ends (i % 6)) v)) four)
 
--- from corner k on, a step leads to each next corner of the list and from the last to first, which stands in the list no more
+-- the steps from corner k visit each corner of the list in order and then `first`, which is not in the list
 abbrev pub GoesRound : List Row → Corner → Corner → List Corner → Type 0
 GoesRound rows first k [] = step rows k ≡ Some first
 GoesRound rows first k (l ∷ ls) = (step rows k ≡ Some l) × (l ≢ first) × GoesRound rows first l ls

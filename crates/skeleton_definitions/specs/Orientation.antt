@@ -9,7 +9,7 @@ use Rattle.table_definitions.specs.Places.{SameComponent}
 abbrev pub sign_of : List Bool → ℕ → Bool
 sign_of signs t = slice_index_or signs t false
 
--- the sign behind a gluing: the same across an odd one, and the other across an even one
+-- the sign across a gluing: the same if the gluing is odd, the other one if it is even
 abbrev pub sign_across : Gluing → Bool → Bool
 sign_across g s = if is_odd g.perm then s else not s
 

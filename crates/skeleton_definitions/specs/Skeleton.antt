@@ -10,7 +10,7 @@ use Rattle.skeleton_definitions.specs.Corners.{Corner, first_corner, IsWalk}
 use Rattle.skeleton_definitions.specs.Links.{SameDirected, IsLink}
 use Rattle.skeleton_definitions.specs.declared.Link.{Link}
 
--- classes of things, and how many there are
+-- the class of each thing, and the number of classes
 pub record Numbering : Type 0 where
   pub classes : List ℕ
   pub count : ℕ
@@ -32,22 +32,22 @@ pub record IsSkeleton (s : Skeleton) : Type 0 where
 abbrev pub IsValidClass : Skeleton → ℕ → Type 0
 IsValidClass s c = IsInvalidEdge s.rows (least s.edges.classes c) → ⊥
 
--- whether edge i runs against the least member of its class, told for a valid class, and false for an invalid one
+-- whether edge i is directed against the least member of its class, and false for an invalid class
 pub record IsDirection (s : Skeleton) (i : ℕ) (reversed : Bool) : Type 0 where
   pub valid : IsValidClass s (slice_index s.edges.classes i) → IsTrue reversed ↔ RunsAgainst s.rows (least s.edges.classes (slice_index s.edges.classes i)) i
   pub invalid : IsInvalidEdge s.rows (least s.edges.classes (slice_index s.edges.classes i)) → reversed ≡ false
 
--- the least invalid edge class, where there is one
+-- the least invalid edge class, if there is one
 abbrev pub IsFirstInvalid : Skeleton → Option ℕ → Type 0
 IsFirstInvalid s None = (c : ℕ) → c < s.edges.count → IsValidClass s c
 IsFirstInvalid s (Some c) = (c < s.edges.count) × IsInvalidEdge s.rows (least s.edges.classes c) × ((d : ℕ) → d < c → IsValidClass s d)
 
--- signs that are true at the least tetrahedron of each component, or nothing where there are none
+-- signs that are true at the least tetrahedron of each component, or `None` if there are none
 abbrev pub IsOrientation : List Row → Option (List Bool) → Type 0
 IsOrientation rows None = IsOrientable rows → ⊥
 IsOrientation rows (Some signs) = AreSigns rows signs × StartTrue rows signs
 
--- the walk round an inner edge class from its least member, and no corner for a boundary class
+-- the tour around an internal edge class from its least member, and no corner for a boundary class
 abbrev pub IsAround : Skeleton → ℕ → List Corner → Type 0
 IsAround s c corners =
     MatchBool (is_boundary_edge s.rows s.edges.classes c) (corners ≡ []) (IsWalk s.rows (first_corner (least s.edges.classes c)) corners)

@@ -1,4 +1,4 @@
--- Whether given terms add up to a vector, and the first fault where they don't.
+-- Whether given terms add up to a vector, and the first error if they do not.
 use Rattle.std.specs.Prelude.{◌≡◌, ℕ, ◌*◌, ◌≤◌, List, length, ◌==◌, nat_lt, Option, Some, None, slice_index, if◌then◌else◌}
 use Rattle.std.specs.List.{sum_by}
 use Rattle.table_definitions.specs.Lists.{below, first_some}

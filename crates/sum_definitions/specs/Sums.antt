@@ -1,4 +1,5 @@
--- A solution as a sum of listed rays: turn by turn, the least ray inside what is left is taken out of it.
+-- A solution as a sum of listed rays: step by step, the first listed ray whose support lies in that of the remainder is
+-- subtracted from it.
 use Rattle.std.specs.Prelude.{◌≡◌, ◌≢◌, ℕ, zero, suc, ◌*◌, ◌-◌, ◌<◌, ◌≤◌, List, [], ◌∷◌, ◌++◌, map, ◌⊎◌, slice_index}
 use Rattle.std.specs.List.{All, AllPairs, Contains}
 use Rattle.std.specs.Int.{IsGcd}
@@ -6,11 +7,11 @@ use Rattle.cone_definitions.specs.Vectors.{IsNonzero, IsInside, IsBefore, multip
 use Rattle.cone_definitions.specs.Rows.{Row, IsSolution, IsPrimitiveExtreme}
 use Rattle.sum_definitions.specs.declared.Term.{Term as Taken}
 
--- a vector, taken so many times
+-- a vector times a factor
 abbrev pub Term : Type 0
 Term = Taken (List ℕ)
 
--- so many times the solution is the sum of the terms and of what is left
+-- the solution times a factor is the sum of the terms and the remainder
 pub record State : Type 0 where
   pub times : ℕ
   pub terms : List Term
@@ -26,7 +27,8 @@ pub record IsLeastInside (list : List (List ℕ)) (r v : List ℕ) : Type 0 wher
   pub inside : IsInside v r
   pub least : (other : List ℕ) → Contains list other → IsInside other r → (v ≡ other) ⊎ IsBefore v other
 
--- p / q, in lowest terms, is the least of the fractions of an entry of r by the entry of v, where that isn't 0
+-- p / q, in lowest terms, is the least quotient of an entry of r by the entry of v, over the columns with a nonzero
+-- entry of v
 pub record IsLeastFraction (r v : List ℕ) (p q : ℕ) : Type 0 where
   pub lowest : IsGcd p q 1
   pub column : ℕ
@@ -52,7 +54,8 @@ taken_out s p q v = record {
   rest = difference (multiple q s.rest) (multiple p v);
 }
 
--- while something is left, a turn takes out the least listed vector inside it, as often as leaves nothing negative
+-- while the remainder is nonzero, a step subtracts the first listed vector inside it, with the greatest factor that
+-- leaves no entry negative
 pub record IsTurn (list : List (List ℕ)) (s next : State) : Type 0 where
   pub left : IsNonzero s.rest
   pub vector : List ℕ
@@ -62,23 +65,24 @@ pub record IsTurn (list : List (List ℕ)) (s next : State) : Type 0 where
   pub fraction : IsLeastFraction s.rest vector p q
   pub after : next ≡ taken_out s p q vector
 
--- no entry of the vector, taken so many times, passes the limit
+-- no entry of the vector, times the factor, exceeds the limit
 abbrev pub IsWithinTimes : ℕ → List ℕ → ℕ → Type 0
 IsWithinTimes limit x times = (column : ℕ) → times * slice_index x column ≤ limit
 
--- so many turns lead from x to the state, and at none of them an entry of x, taken so many times, passes the limit
+-- the given number of steps leads from x to the state, and at none of them an entry of x, times its factor, exceeds the limit
 abbrev pub LeadsTo : ℕ → List (List ℕ) → List ℕ → ℕ → State → Type 0
 LeadsTo limit list x zero s = s ≡ first_state x
 LeadsTo limit list x (suc turns) s = (before : State) × LeadsTo limit list x turns before × IsTurn list before s × IsWithinTimes limit x s.times
 
--- the turns lead to a state in which nothing is left
+-- the steps lead to a state with the remainder 0
 pub record IsSum (limit : ℕ) (list : List (List ℕ)) (x : List ℕ) (times : ℕ) (terms : List Term) : Type 0 where
   pub turns : ℕ
   pub rest : List ℕ
   pub led : LeadsTo limit list x turns (record { times = times; terms = terms; rest = rest })
   pub nothing_left : (column : ℕ) → slice_index rest column ≡ 0
 
--- the turn of this number, counted from 0, is the first at which an entry passes the limit, and this is the first such column
+-- the step with this number, counted from 0, is the first at which an entry exceeds the limit, and this is the first
+-- such column
 pub record IsLargeTurn (limit : ℕ) (list : List (List ℕ)) (x : List ℕ) (turn column : ℕ) : Type 0 where
   pub before : State
   pub next : State

@@ -1,7 +1,7 @@
 //! A solution as a sum of listed rays, and the test of such a sum. The definitions stand in `specs/`.
 #![tactic(auto)]
 
-/// A vector, taken so many times.
+/// A vector with its factor.
 #[derive(Drop)]
 pub struct Term<V> {
     pub count: u128,
@@ -21,7 +21,7 @@ pub struct LargeTurn {
 pub enum AddFault {
     /// The vector is taken no times.
     ZeroTimes,
-    /// The entry at this column, taken so many times, passes the limit.
+    /// The entry at this column, times the factor, exceeds the limit.
     Large { column: u32 },
     /// The terms don't add up to it at this column.
     NotEqual { column: u32 },

@@ -18,7 +18,7 @@ columns_each Octagon = 10
 abbrev pub columns : Coords → ℕ → ℕ
 columns coords n = columns_each coords * n
 
--- how many columns of a tetrahedron stand before its quads
+-- the number of columns of a tetrahedron before its quads
 abbrev pub triangles_each : Coords → ℕ
 triangles_each Standard = 4
 triangles_each Quad = 0
@@ -36,7 +36,7 @@ HasPiece Octagon (pieces.Tri v) = v < 4
 HasPiece Octagon (pieces.Quad k) = k < 3
 HasPiece Octagon (pieces.Oct k) = k < 3
 
--- the place of a piece among the columns of its tetrahedron, where it has one
+-- the index of a disc type among the columns of its tetrahedron, if it has one
 abbrev pub local_column : Coords → Piece → Option ℕ
 local_column Standard (pieces.Tri v) = if nat_lt v 4 then Some v else None
 local_column Standard (pieces.Quad k) = if nat_lt k 3 then Some (4 + k) else None
@@ -48,7 +48,7 @@ local_column Octagon (pieces.Tri v) = if nat_lt v 4 then Some v else None
 local_column Octagon (pieces.Quad k) = if nat_lt k 3 then Some (4 + k) else None
 local_column Octagon (pieces.Oct k) = if nat_lt k 3 then Some (7 + k) else None
 
--- the column of a piece of tetrahedron t, where the coordinates have such a piece
+-- the column of a disc type of tetrahedron t, if the coordinates have it
 abbrev pub column_of : Coords → ℕ → Piece → Option ℕ
 column_of coords t piece = option_map (λ place. columns_each coords * t + place) (local_column coords piece)
 
@@ -77,13 +77,13 @@ keeping x y = position_or_len (λ p. image p x == y) partners
 abbrev pub three : List ℕ
 three = 0 ∷ 1 ∷ 2 ∷ []
 
--- the columns of the octagons with an arc round v in face f
+-- the columns of the octagons with an arc around v in face f
 abbrev pub octagon_arcs : Coords → ℕ → ℕ → ℕ → List ℕ
 octagon_arcs Standard t f v = []
 octagon_arcs Quad t f v = []
 octagon_arcs Octagon t f v = map (oct_column Octagon t) (filter (λ k. not (k == keeping v f)) three)
 
--- the columns of the pieces with an arc round v in face f of tetrahedron t
+-- the columns of the discs with an arc around v in face f of tetrahedron t
 abbrev pub arc_columns : Coords → ℕ → ℕ → ℕ → List ℕ
 arc_columns coords t f v = tri_column coords t v ∷ quad_column coords t (keeping v f) ∷ octagon_arcs coords t f v
 

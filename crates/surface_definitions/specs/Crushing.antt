@@ -23,7 +23,8 @@ partner_in xs t v = partner (position_or_len (has_quad xs t) three) v
 abbrev pub exchange : ℕ → ℕ → List ℕ
 exchange v w = map (λ u. if u == v then w else in_place_of w v u) four
 
--- g leads from a face to face v of a tetrahedron that is taken out: face v leads to the face of its partner by their exchange, and on by the gluing of that
+-- g reaches face v of a flattened tetrahedron, which the transposition of v and its partner identifies with the
+-- partner's face; the chain continues by the gluing of that face
 abbrev pub passed_to : List Row → Gluing → ℕ → ℕ → Option Gluing
 passed_to rows g v w = option_map (λ (h : Gluing). record { tet = h.tet; perm = compose h.perm (compose (exchange v w) g.perm) }) (glue rows (record { tet = g.tet; face = w }))
 
@@ -37,7 +38,7 @@ ChainEnds rows xs x zero (Some g) end = IsTrue (not (is_removed xs g.tet)) × (e
 ChainEnds rows xs x (suc n) None end = ⊥
 ChainEnds rows xs x (suc n) (Some g) end = IsTrue (is_removed xs g.tet) × ChainEnds rows xs x n (passed rows xs x g) end
 
--- a crush chain leads from a kept face to this end
+-- a crush chain leads from a retained face to this end
 abbrev pub CrushesTo : List Row → List ℕ → Face → Option Gluing → Type 0
 CrushesTo rows xs x end = (n : ℕ) × ChainEnds rows xs x n (glue rows x) end
 

@@ -8,7 +8,8 @@ use Rattle.surface_definitions.specs.Coordinates.{columns, arc_columns}
 use Rattle.surface_definitions.specs.declared.Coords.{Coords}
 use Rattle.cone_definitions.specs.Rows.{Row as EquationRow}
 
--- an equation: the entries in the columns of the one list add up to those of the other, a column as often as it stands there
+-- an equation: the entries in the columns of one list have the same sum as those of the other, each column counted as
+-- often as it occurs
 pub record Equation : Type 0 where
   pub left : List ℕ
   pub right : List ℕ
@@ -36,7 +37,7 @@ lesser_side x (Some g) = if is_face_before x (other_side x g) then Some (x, g) e
 unfoldable pub glued_pairs : List Row → List (Face × Gluing)
 glued_pairs rows = filter_map (λ x. lesser_side x (glue rows x)) (faces (length rows))
 
--- as many arcs round v on the one side of a glued face as round its image on the other
+-- as many arcs around v on one side of a glued face as around its image on the other side
 abbrev pub matching : Coords → Face → Gluing → ℕ → Equation
 matching coords x g v = record {
   left = arc_columns coords x.tet x.face v;

@@ -17,7 +17,7 @@ pub record ReadsVector (c : Reading) (xs : List ℕ) : Type 0 where
   pub later : left.later ≡ c.later
   pub at_end : left.current.tokens ≡ []
 
--- a line is read as a vector exactly where it is one
+-- Theorem: a line is read as a vector if and only if it spells one
 abbrev pub VectorLinesAreRead : Type 0
 VectorLinesAreRead = (c : Reading) (xs : List ℕ) → ReadsVector c xs ↔ IsVectorLine c.current xs
 
@@ -31,7 +31,7 @@ abbrev pub VerdictsAreRight : Type 0
 VerdictsAreRight =
     (max n : ℕ) (rows : List EquationRow) (pairs : List (ℕ × ℕ)) (xs : List ℕ) → (verdict max n rows pairs xs ≡ solution) ↔ IsAccepted max n rows pairs xs
 
--- the row of an equation is 0 at a vector exactly where both sides add up to the same
+-- Theorem: the row of an equation is 0 at a vector if and only if both sides have the same sum
 abbrev pub RowsMeanEquations : Type 0
 RowsMeanEquations =
     (e : Equation) (xs : List ℕ) (n : ℕ) → AllByRecursion (λ c. c < n) e.left → AllByRecursion (λ c. c < n) e.right → IsZeroAt (row_of n e) xs ↔ Holds e xs

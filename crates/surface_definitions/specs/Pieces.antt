@@ -17,18 +17,18 @@ pub record SurfacePiece : Type 0 where
 abbrev pub pieces_of : List ℕ → List SurfacePiece
 pieces_of xs = flat_map (λ c. map (λ i. record { column = c; number = i }) (below (slice_index xs c))) (below (length xs))
 
--- the arc round vertex v of face f of tetrahedron t at a place, counted from the side of v
+-- the arc around vertex v of face f of tetrahedron t with the given index, counted from v
 pub record Arc : Type 0 where
   pub tet : ℕ
   pub face : ℕ
   pub vertex : ℕ
   pub place : ℕ
 
--- how many arcs stand round a vertex of a face
+-- the number of arcs around a vertex of a face
 abbrev pub arcs_round : Coords → List ℕ → ℕ → ℕ → ℕ → ℕ
 arcs_round coords xs t f v = sum_by (slice_index xs) (arc_columns coords t f v)
 
--- the column of the further arcs behind the triangles: the quad, or an octagon where one is nonzero
+-- the column of the arcs after those of triangles: the quad, or an octagon if one is nonzero
 abbrev pub further_column : Coords → List ℕ → Arc → ℕ
 further_column coords xs a =
     slice_index_or (octagon_arcs coords a.tet a.face a.vertex)
@@ -43,7 +43,7 @@ type_in coords c = if nat_lt (c % columns_each coords) 7 then c % columns_each c
 abbrev pub keeps_by_zero : ℕ → ℕ → Bool
 keeps_by_zero k v = (v == 0) || (partner k v == 0)
 
--- how many triangles stand round the vertex of an arc
+-- the number of triangles around the vertex of an arc
 abbrev pub triangles_round : Coords → List ℕ → Arc → ℕ
 triangles_round coords xs a = slice_index xs (tri_column coords a.tet a.vertex)
 
@@ -77,7 +77,7 @@ pub record Meets (rows : List Row) (coords : Coords) (xs : List ℕ) (a : Arc) (
   pub there : a.place < arcs_round coords xs a.tet a.face a.vertex
   pub glued : glue rows (record { tet = a.tet; face = a.face }) ≡ Some g
 
--- meeting arcs, one after another, lead from piece p to piece q
+-- a chain of meeting arcs joins disc p to disc q
 abbrev pub ArcsLead : List Row → Coords → List ℕ → SurfacePiece → List Arc → SurfacePiece → Type 0
 ArcsLead rows coords xs p [] q = p ≡ q
 ArcsLead rows coords xs p (a ∷ more) q =
@@ -97,7 +97,7 @@ AreComponents rows coords xs components count = IsNumbering (length (pieces_of x
 abbrev pub piece_number : List ℕ → SurfacePiece → ℕ
 piece_number xs p = position_or_len (λ (q : SurfacePiece). (q.column == p.column) && (q.number == p.number)) (pieces_of xs)
 
--- whether piece i stands in column c and in this component
+-- whether disc i is of column c and of this component
 abbrev pub is_counted : List ℕ → List ℕ → ℕ → ℕ → ℕ → Bool
 is_counted xs components component c i =
     ((slice_index_or (pieces_of xs) i (record { column = 0; number = 0 })).column == c) && (slice_index components i == component)
@@ -110,7 +110,7 @@ component_vector xs components component =
 abbrev pub keeps_sides : Coords → List ℕ → Arc → Gluing → Bool
 keeps_sides coords xs a g = if looks_positive coords xs a then looks_positive coords xs (arc_across g a) else not (looks_positive coords xs (arc_across g a))
 
--- signs of the pieces that stay at an arc of the component exactly where the test passes
+-- signs of the discs that are equal on both sides of an arc of the component if and only if the test passes there
 abbrev pub HasSigns : List Row → Coords → List ℕ → List ℕ → ℕ → (Arc → Gluing → Bool) → Type 0
 HasSigns rows coords xs components component stays =
     (sign : ℕ → Bool) × ((a : Arc) (g : Gluing) → Meets rows coords xs a g → slice_index components (piece_number xs (piece_of coords xs a)) ≡ component
@@ -120,7 +120,7 @@ HasSigns rows coords xs components component stays =
 abbrev pub IsTwoSided : List Row → Coords → List ℕ → List ℕ → ℕ → Type 0
 IsTwoSided rows coords xs components component = HasSigns rows coords xs components component (keeps_sides coords xs)
 
--- signs stay exactly where sides are kept and the gluing is odd, or sides are not kept and it is even
+-- signs are equal if and only if sides are kept and the gluing is odd, or sides are not kept and it is even
 abbrev pub IsOrientableComponent : List Row → Coords → List ℕ → List ℕ → ℕ → Type 0
 IsOrientableComponent rows coords xs components component =
     HasSigns rows coords xs components component (λ a g. if is_odd g.perm then keeps_sides coords xs a g else not (keeps_sides coords xs a g))

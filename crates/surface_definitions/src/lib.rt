@@ -26,9 +26,9 @@ pub enum Piece {
 /// Why a vector is no admissible solution.
 #[derive(Clone, Copy)]
 pub enum VectorFault {
-    /// The vector has so many entries, and the coordinates have another number of columns.
+    /// The vector has `got` entries, and the coordinates have another number of columns.
     Length { got: usize },
-    /// A part of this row at the vector passes the greatest entry.
+    /// A part of the equation `row` at the vector exceeds the greatest entry.
     Large { row: u32 },
     /// This row isn't 0 at the vector.
     NotSolution { row: u32 },
@@ -36,17 +36,18 @@ pub enum VectorFault {
     Clash { first: u32, second: u32 },
 }
 
-/// A line is read as a vector exactly where it is one.
+/// Theorem: a line is read as a vector if and only if it spells one.
 pub fn vector_lines_are_read()
     ensures { VectorLinesAreRead }
 {}
 
-/// A vector is accepted exactly where it is an admissible solution of which no part is large.
+/// Theorem: a vector is accepted if and only if it is an admissible solution and no part of an equation exceeds the
+/// limit.
 pub fn verdicts_are_right()
     ensures { VerdictsAreRight }
 {}
 
-/// The row of an equation is 0 exactly where both of its sides add up to the same.
+/// Theorem: the row of an equation is 0 at a vector if and only if both of its sides have the same sum.
 pub fn rows_mean_equations()
     ensures { RowsMeanEquations }
 {}

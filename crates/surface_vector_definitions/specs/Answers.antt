@@ -32,13 +32,14 @@ IsUnfit coords rows equations xs fault = verdict_in coords rows equations xs ≡
 abbrev pub IsFit : Coords → List Row → List EquationRow → List ℕ → Type 0
 IsFit coords rows equations xs = verdict_in coords rows equations xs ≡ solution
 
--- all that is told of a vector
+-- the whole answer for a vector
 pub record Description : Type 0 where
   pub vector : List ℕ
   pub properties : Properties
   pub components : List Component
 
--- a vector is described where it is fit, no sum is large and the pieces are not too many
+-- a vector is described if it is an admissible solution within the limit, no sum exceeds the limit, and its discs are
+-- not too many
 abbrev pub IsDescription : Skeleton → Coords → List EquationRow → List ℕ → Result Description Refusal → Type 0
 IsDescription s coords equations xs (Ok d) =
     IsFit coords s.rows equations xs × (d.vector ≡ xs) × IsPropertyAnswer limit s coords xs (Ok d.properties) × IsPiecesAnswer s.rows coords xs (Ok d.components)
@@ -49,7 +50,7 @@ IsDescription s coords equations xs (Err (TooManyPieces n)) =
 IsDescription s coords equations xs (Err LargeLift) = ⊥
 IsDescription s coords equations xs (Err (NoLift c)) = ⊥
 
--- a quad vector is lifted where it is fit and has a lift that is told
+-- a quad vector is lifted if it is an admissible solution within the limit and has a lift within it
 abbrev pub IsLifted : Skeleton → List EquationRow → List ℕ → Result (List ℕ) Refusal → Type 0
 IsLifted s equations xs (Ok ys) = IsFit Quad s.rows equations xs × IsLiftAnswer limit s xs (Ok ys)
 IsLifted s equations xs (Err (Unfit f)) = IsUnfit Quad s.rows equations xs f
@@ -58,7 +59,7 @@ IsLifted s equations xs (Err (NoLift c)) = IsFit Quad s.rows equations xs × IsL
 IsLifted s equations xs (Err (LargeSum sum)) = ⊥
 IsLifted s equations xs (Err (TooManyPieces n)) = ⊥
 
--- a table is crushed along a vector that is fit
+-- a table is crushed along an admissible solution within the limit
 abbrev pub IsCrushedAlong : List Row → List EquationRow → List ℕ → Result (List Row) Refusal → Type 0
 IsCrushedAlong rows equations xs (Ok new) = IsFit Standard rows equations xs × IsCrushed rows xs new
 IsCrushedAlong rows equations xs (Err (Unfit f)) = IsUnfit Standard rows equations xs f

@@ -1,4 +1,5 @@
--- The components of a surface with what is answered of each, or the number of pieces where these are too many. Coordinates are standard or octagons.
+-- The components of a surface with the answer for each, or the number of discs if there are too many. Coordinates are
+-- standard or octagon.
 use Rattle.std.specs.Prelude.{◌≡◌, ℕ, ◌<◌, ◌≤◌, ◌↔◌, Bool, List, Result, Ok, Err, IsTrue, sum}
 use Rattle.std.specs.List.{AllZip}
 use Rattle.table_definitions.specs.Lists.{below}
@@ -7,7 +8,7 @@ use Rattle.surface_definitions.specs.declared.Coords.{Coords}
 use Rattle.surface_vector_definitions.specs.declared.ManyPieces.{ManyPieces}
 use Rattle.surface_definitions.specs.Pieces.{AreComponents, component_vector, IsTwoSided, IsOrientableComponent}
 
--- so many pieces are looked at
+-- the greatest number of discs for which components are computed
 abbrev pub most_pieces : ℕ
 most_pieces = 100000
 

@@ -1,4 +1,4 @@
--- The lift of a quad vector, or why there is none that is told.
+-- The lift of a quad vector, or why none is printed.
 use Rattle.std.specs.Prelude.{ℕ, ◌*◌, ◌<◌, ◌≤◌, List, Result, Ok, Err, sum}
 use Rattle.surface_definitions.specs.Lift.{IsLiftAt, IsLift}
 use Rattle.skeleton_definitions.specs.Skeleton.{Skeleton}
@@ -15,7 +15,8 @@ pub record IsLeastWithoutLift (s : Skeleton) (xs : List ℕ) (c : ℕ) : Type 0 
   pub none : HasLiftAt s xs c → ⊥
   pub before : (d : ℕ) → d < c → HasLiftAt s xs d
 
--- what is answered of a quad vector: large where four times the sum of its entries passes max, else the least class with no lift, else the lift
+-- the answer for a quad vector: large if four times the sum of its entries exceeds max, otherwise the least class with
+-- no lift, otherwise the lift
 abbrev pub IsLiftAnswer : ℕ → Skeleton → List ℕ → Result (List ℕ) LiftFault → Type 0
 IsLiftAnswer max s xs (Ok ys) = (4 * sum xs ≤ max) × IsLift s.rows s.vertices.classes s.vertices.count xs ys
 IsLiftAnswer max s xs (Err Large) = max < 4 * sum xs

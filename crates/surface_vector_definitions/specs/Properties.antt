@@ -31,7 +31,7 @@ large_sum max points arcs pieces =
 abbrev pub first_large : ℕ → Skeleton → Coords → List ℕ → Option SurfaceSum
 first_large max s coords xs = large_sum max (points_of coords xs s.edges.classes s.edges.count) (arcs_of s.rows coords xs) (sum xs)
 
--- what is answered of a vector: its properties where no sum passes max, and else the first sum that does
+-- the answer for a vector: its properties if no sum exceeds max, and otherwise the first sum that does
 abbrev pub IsPropertyAnswer : ℕ → Skeleton → Coords → List ℕ → Result Properties PropertyFault → Type 0
 IsPropertyAnswer max s coords xs (Ok p) = (first_large max s coords xs ≡ None) × AreProperties s coords xs p
 IsPropertyAnswer max s coords xs (Err (Large sum)) = first_large max s coords xs ≡ Some sum

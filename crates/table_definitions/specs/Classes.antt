@@ -1,9 +1,11 @@
--- Classes of things that are numbered from 0: a list names the class of each, and classes are numbered by their least member.
+-- Classes of things that are numbered from 0: a list gives the class of each, and classes are numbered by their least
+-- members.
 use Rattle.std.specs.Prelude.{◌≡◌, ℕ, ◌<◌, Bool, ◌==◌, ◌↔◌, List, length, filter, slice_index}
 use Rattle.std.specs.List.{position_or_len}
 use Rattle.table_definitions.specs.Lists.{times_in, below}
 
--- classes names the class of each of n things; Same says that two are in one class; there are count classes
+-- `classes` gives the class of each of n things; two are in one class if and only if `Same` relates them; there are
+-- `count` classes
 pub record IsNumbering (n : ℕ) (Same : ℕ → ℕ → Type 0) (classes : List ℕ) (count : ℕ) : Type 0 where
   pub one_each : length classes ≡ n
   pub in_range : (i : ℕ) → i < n → slice_index classes i < count

@@ -10,7 +10,7 @@ use Rattle.table_definitions.specs.Places.{Place, IsPlace, IsJoined, turned}
 use Rattle.table_definitions.specs.Replacing.{Replacement, replaced}
 use Rattle.table_definitions.specs.Replaceable.{CanReplace}
 
--- permutations are closed under inverse and compose, and the inverse leads back on both sides
+-- Theorem: permutations are closed under inverse and composition, and the inverse is one on both sides
 abbrev pub InversesPermute : Type 0
 InversesPermute = (p : List ℕ) → IsPermutationOfFour p → IsPermutationOfFour (inverse p)
 
@@ -20,11 +20,11 @@ CompositesPermute = (p q : List ℕ) → IsPermutationOfFour p → IsPermutation
 abbrev pub InversesLeadBack : Type 0
 InversesLeadBack = (p : List ℕ) → IsPermutationOfFour p → (compose p (inverse p) ≡ identity) × (compose (inverse p) p ≡ identity)
 
--- images are below 4, and the vertex that goes to an image is found again
+-- Theorem: images are below 4, and the vertex with a given image is found
 abbrev pub ImagesAreFound : Type 0
 ImagesAreFound = (p : List ℕ) (v : ℕ) → IsPermutationOfFour p → v < 4 → (image p v < 4) × (preimage p (image p v) ≡ v) × (image p (preimage p v) ≡ v)
 
--- rows of four permutations are a table exactly where no fault is found
+-- Theorem: rows of four permutations are a table if and only if no error is found
 abbrev pub FaultsDecideTables : Type 0
 FaultsDecideTables =
     (rows : List Row) → All (λ (row : Row). length row ≡ 4) rows → ((x : Face) (g : Gluing) → glue rows x ≡ Some g → IsPermutationOfFour g.perm)
@@ -41,12 +41,12 @@ pub record ReadsTriTable (c : Reading) (rows : List Row) (rest : List Line) : Ty
   pub later : left.later ≡ rest
   pub at_end : left.current.tokens ≡ []
 
--- lines are read as a table exactly where they are one
+-- Theorem: lines are read as a table if and only if they spell one
 abbrev pub TriTablesAreRead : Type 0
 TriTablesAreRead =
     (c : Reading) (rows : List Row) (rest : List Line) → ReadsTriTable c rows rest ↔ ((lines : List Line) × (c.later ≡ lines ++ rest) × AreTriLines lines rows)
 
--- a place is joined to itself; chains can be joined, followed back in a table, and turned
+-- Theorem: each place is joined to itself; chains can be concatenated and, in a table, reversed
 pub record ChainsMakeClasses : Type 0 where
   pub itself : (rows : List Row) (p : Place) → IsJoined rows p p
   pub further : (rows : List Row) (p q r : Place) → IsJoined rows p q → IsJoined rows q r → IsJoined rows p r

@@ -7,11 +7,11 @@ use Rattle.std.specs.List.{range_with_len, list_any, flat_map}
 abbrev pub below : ℕ → List ℕ
 below n = range_with_len 0 n
 
--- whether n stands in the list
+-- whether the list contains n
 abbrev pub has : List ℕ → ℕ → Bool
 has ns n = list_any (λ m. m == n) ns
 
--- how often n stands in the list
+-- the number of occurrences of n in the list
 abbrev pub times_in : List ℕ → ℕ → ℕ
 times_in ns n = count_by (λ m. m == n) ns
 
@@ -22,7 +22,7 @@ same_list [] (y ∷ ys) = false
 same_list (x ∷ xs) [] = false
 same_list (x ∷ xs) (y ∷ ys) = (x == y) && same_list xs ys
 
--- whether the first list stands before the second in lexicographic order, a prefix first
+-- whether the first list comes before the second in lexicographic order, a prefix first
 abbrev pub is_list_before : List ℕ → List ℕ → Bool
 is_list_before [] [] = false
 is_list_before [] (y ∷ ys) = true
@@ -38,10 +38,10 @@ first_some f (x ∷ xs) = option_or (f x) (first_some f xs)
 abbrev pub pairs_of : {A B : Type 0} → List A → List B → List (A × B)
 pairs_of {A} {B} xs ys = flat_map (λ (x : A). map (λ (y : B). (x, y)) ys) xs
 
--- b where a stands, and else the number itself
+-- b if the number is a, and otherwise the number itself
 abbrev pub in_place_of : ℕ → ℕ → ℕ → ℕ
 in_place_of a b l = if l == a then b else l
 
--- the number of a kept thing once those with these numbers are taken out
+-- the new number of a retained thing after those with these numbers are removed
 abbrev pub closed_up : List ℕ → ℕ → ℕ
 closed_up gone t = t - count_by (λ u. nat_lt u t) gone

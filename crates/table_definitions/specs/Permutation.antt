@@ -7,22 +7,22 @@ use Rattle.table_definitions.specs.Lists.{has, is_list_before}
 abbrev pub four : List ℕ
 four = 0 ∷ 1 ∷ 2 ∷ 3 ∷ []
 
--- whether a list has four places and each of 0 to 3 stands in it, so once
+-- whether a list has four entries and contains each of 0 to 3
 unfoldable pub is_permutation : List ℕ → Bool
 is_permutation p = (length p == 4) && list_all (has p) four
 
 abbrev pub IsPermutationOfFour : List ℕ → Type 0
 IsPermutationOfFour p = IsTrue (is_permutation p)
 
--- where v goes
+-- the image of v
 abbrev pub image : List ℕ → ℕ → ℕ
 image p v = slice_index p v
 
--- what goes to w
+-- the preimage of w
 unfoldable pub preimage : List ℕ → ℕ → ℕ
 preimage p w = position_or_len (λ v. v == w) p
 
--- the permutation that leaves each vertex where it is
+-- the identity permutation
 abbrev pub identity : List ℕ
 identity = four
 
@@ -51,7 +51,7 @@ words =
     (2 ∷ 0 ∷ 1 ∷ 3 ∷ []) ∷ (2 ∷ 0 ∷ 3 ∷ 1 ∷ []) ∷ (2 ∷ 1 ∷ 0 ∷ 3 ∷ []) ∷ (2 ∷ 1 ∷ 3 ∷ 0 ∷ []) ∷ (2 ∷ 3 ∷ 0 ∷ 1 ∷ []) ∷ (2 ∷ 3 ∷ 1 ∷ 0 ∷ []) ∷
     (3 ∷ 0 ∷ 1 ∷ 2 ∷ []) ∷ (3 ∷ 0 ∷ 2 ∷ 1 ∷ []) ∷ (3 ∷ 1 ∷ 0 ∷ 2 ∷ []) ∷ (3 ∷ 1 ∷ 2 ∷ 0 ∷ []) ∷ (3 ∷ 2 ∷ 0 ∷ 1 ∷ []) ∷ (3 ∷ 2 ∷ 1 ∷ 0 ∷ []) ∷ []
 
--- the number of permutations that stand before p
+-- the number of permutations before p in lexicographic order
 unfoldable pub index : List ℕ → ℕ
 index p = count_by (λ q. is_list_before q p) words
 

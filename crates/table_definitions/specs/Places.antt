@@ -14,11 +14,11 @@ pub record Place : Type 0 where
 abbrev pub IsPlace : Place → Type 0
 IsPlace p = AllByRecursion (λ v. v < 4) p.vertices
 
--- where a gluing carries a place of the face
+-- the image of a place of the face under a gluing
 abbrev pub carried : Gluing → Place → Place
 carried g p = record { tet = g.tet; vertices = map (image g.perm) p.vertices }
 
--- the place across face f, which has all the vertices of this place, where the face is glued
+-- the place across face f, if the face is glued and has all vertices of this place
 abbrev pub across : List Row → Place → ℕ → Option Place
 across rows p f = if has p.vertices f then None else option_map (λ g. carried g p) (glue rows (record { tet = p.tet; face = f }))
 
@@ -27,7 +27,7 @@ abbrev pub along : List Row → Place → List ℕ → Option Place
 along rows p [] = Some p
 along rows p (f ∷ fs) = option_and_then (λ q. along rows q fs) (across rows p f)
 
--- a chain leads from one place to the other
+-- a chain joins one place to the other
 abbrev pub IsJoined : List Row → Place → Place → Type 0
 IsJoined rows p q = (crossed : List ℕ) × (along rows p crossed ≡ Some q)
 

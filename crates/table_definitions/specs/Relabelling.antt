@@ -5,26 +5,26 @@ use Rattle.table_definitions.specs.Lists.{below}
 use Rattle.table_definitions.specs.Permutation.{image, inverse, compose, IsPermutationOfFour}
 use Rattle.table_definitions.specs.Table.{Gluing, Row, Face, glue}
 
--- the number of each tetrahedron in the new table, and where each of its vertices goes
+-- the number of each tetrahedron in the new table, and the image of each of its vertices
 pub record Relabelling : Type 0 where
   pub images : List ℕ
   pub perms : List (List ℕ)
 
--- each of the n numbers stands among the images once, and there are as many permutations
+-- the images are each of the n numbers once, and there are n permutations
 pub record IsRelabelling (n : ℕ) (by : Relabelling) : Type 0 where
   pub images : IsPermutation by.images (below n)
   pub perms : length by.perms ≡ n
   pub permutes : All IsPermutationOfFour by.perms
 
--- what stands in the new table for tetrahedron t
+-- the image of tetrahedron t in the new table
 abbrev pub stand_in : Relabelling → ℕ → Gluing
 stand_in by t = record { tet = slice_index by.images t; perm = slice_index_or by.perms t [] }
 
--- the face that stands for x, where s stands for its tetrahedron
+-- the image of the face x, if s is the image of its tetrahedron
 abbrev pub face_under : Gluing → Face → Face
 face_under s x = record { tet = s.tet; face = image s.perm x.face }
 
--- the gluing that stands for g, where s stands for the tetrahedron that it leaves and r for the one that it reaches
+-- the image of the gluing g, if s is the image of the tetrahedron that it leaves and r of the one that it reaches
 abbrev pub gluing_under : Gluing → Gluing → Gluing → Gluing
 gluing_under s r g = record { tet = r.tet; perm = compose r.perm (compose g.perm (inverse s.perm)) }
 

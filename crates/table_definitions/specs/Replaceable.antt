@@ -1,4 +1,4 @@
--- When rows of a table can be taken out and fresh rows put in.
+-- When rows of a table can be removed and new rows inserted.
 use Rattle.std.specs.Prelude.{count_by, nat_lt, option_and_then, ◌≡◌, ℕ, ◌<◌, ◌≤◌, true, false, not, List, length, map, Option, Some, None, All, IsTrue}
 use Rattle.std.specs.List.{slice_index_or}
 use Rattle.std.specs.List.Sorted.{IsStrictlyIncreasing}
@@ -15,15 +15,15 @@ numbers_of rows = map (λ (x : ℕ × Row). x.0) rows
 abbrev pub gone_before : List ℕ → ℕ → ℕ
 gone_before gone t = count_by (λ u. nat_lt u t) gone
 
--- the gluing back from face y that the first gluing of a numbered row gives that leads to y
+-- the inverse, at face y, of the first gluing of a numbered row that reaches y
 abbrev pub row_back : Face → ℕ × Row → Option Gluing
 row_back y x = first_some (λ f. option_and_then (leads_to y (record { tet = x.0; face = f })) (slice_index_or x.1 f None)) four
 
--- the numbers of the fresh rows
+-- the numbers of the new rows
 abbrev pub fresh_numbers : Replacement → List ℕ
 fresh_numbers r = map (λ (x : ℕ × Row). x.0) r.fresh
 
--- what a face of a fresh row is glued by
+-- the gluing of a face of a new row
 abbrev pub fresh_glue : Replacement → Face → Option Gluing
 fresh_glue r x = slice_index_or (fresh_row r x.tet) x.face None
 
@@ -44,13 +44,13 @@ pub record CanReplace (rows : List Row) (r : Replacement) : Type 0 where
   pub fresh_ascend : IsStrictlyIncreasing (fresh_numbers r)
   pub fresh_in_range : All (λ u. u < replaced_length rows r) (fresh_numbers r)
   pub few : replaced_length rows r ≤ max_tets
-  -- a fresh gluing is by a permutation, in range, and leads to another face
+  -- a new gluing is by a permutation, in range, and reaches another face
   pub four_faces : All (λ (x : ℕ × Row). length x.1 ≡ 4) r.fresh
   pub permutes : (x : Face) (g : Gluing) → fresh_glue r x ≡ Some g → IsPermutationOfFour g.perm
   pub in_range : (x : Face) (g : Gluing) → fresh_glue r x ≡ Some g → g.tet < replaced_length rows r
   pub apart : (x : Face) (g : Gluing) → fresh_glue r x ≡ Some g → IsTrue (not (same_face (other_side x g) x))
-  -- between fresh rows it leads back, and to a kept row it leads to a face that led to a row that is taken out
+  -- between new rows it has an inverse, and in a retained row it reaches a face that was glued to a removed row
   pub leads_back : (x : Face) (g : Gluing) → fresh_glue r x ≡ Some g → has (fresh_numbers r) g.tet ≡ true → fresh_glue r (other_side x g) ≡ Some (way_back x g)
   pub freed : (x : Face) (g : Gluing) → fresh_glue r x ≡ Some g → has (fresh_numbers r) g.tet ≡ false → IsFreed rows r (other_side x g)
-  -- and no two lead to one face of a kept row
+  -- and no two reach one face of a retained row
   pub one_each : (x z : Face) (g h : Gluing) → fresh_glue r x ≡ Some g → fresh_glue r z ≡ Some h → has (fresh_numbers r) g.tet ≡ false → other_side x g ≡ other_side z h → x ≡ z

@@ -1,11 +1,11 @@
--- Some rows of a table taken out, and fresh rows put in at given numbers.
+-- Rows of a table removed, and new rows inserted at given numbers.
 use Rattle.std.specs.Prelude.{ℕ, ◌+◌, ◌-◌, not, List, [], length, map, filter, ◌==◌, Option, Some, None, option_and_then, slice_index, if◌then◌else◌}
 use Rattle.std.specs.List.{flat_map, position_or_len, slice_index_or}
 use Rattle.table_definitions.specs.Lists.{below, has, first_some, closed_up}
 use Rattle.table_definitions.specs.Permutation.{four}
 use Rattle.table_definitions.specs.Table.{Gluing, Row, Face, glue, other_side, way_back, same_face}
 
--- the numbers that are taken out, and the fresh rows with their numbers in the new table; both ascend
+-- the numbers of the removed rows, and the new rows with their numbers in the new table; both ascend
 pub record Replacement : Type 0 where
   pub removed : List ℕ
   pub fresh : List (ℕ × Row)
@@ -24,7 +24,7 @@ free_numbers rows r = filter (λ u. not (has (map (λ (x : ℕ × Row). x.0) r.f
 abbrev pub number_of_kept : List Row → Replacement → ℕ → ℕ
 number_of_kept rows r t = slice_index (free_numbers rows r) (closed_up r.removed t)
 
--- the gluing back from face y, where the fresh gluing g of face x leads to y
+-- the inverse at face y of the new gluing g of face x, if that reaches y
 abbrev pub leads_to : Face → Face → Gluing → Option Gluing
 leads_to y x g = if same_face (other_side x g) y then Some (way_back x g) else None
 
@@ -34,11 +34,12 @@ fresh_faces r = flat_map (λ (x : ℕ × Row). map (λ f. record { tet = x.0; fa
 abbrev pub fresh_row : Replacement → ℕ → Row
 fresh_row r u = slice_index_or (map (λ (x : ℕ × Row). x.1) r.fresh) (position_or_len (λ (x : ℕ × Row). x.0 == u) r.fresh) []
 
--- what leads back from face y of a kept row to a fresh row, if a fresh gluing leads to it
+-- the gluing of face y of a retained row to a new row, if a new gluing reaches it
 abbrev pub back_to_fresh : Replacement → Face → Option Gluing
 back_to_fresh r y = first_some (λ x. option_and_then (leads_to y x) (slice_index_or (fresh_row r x.tet) x.face None)) (fresh_faces r)
 
--- a kept face, now y, is glued as before to a kept row, and else as a fresh gluing leads to it
+-- a retained face, now y, is glued as before to a retained row, and otherwise by the inverse of the new gluing that
+-- reaches it
 abbrev pub kept_gluing : List Row → Replacement → Face → Option Gluing → Option Gluing
 kept_gluing rows r y None = None
 kept_gluing rows r y (Some g) = if has r.removed g.tet then back_to_fresh r y else Some (record { tet = number_of_kept rows r g.tet; perm = g.perm })

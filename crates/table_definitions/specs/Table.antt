@@ -6,11 +6,11 @@ use Rattle.table_definitions.specs.declared.TableFault.TheVariants.{TooMany, NoS
 use Rattle.table_definitions.specs.Lists.{below, same_list, first_some, pairs_of}
 use Rattle.table_definitions.specs.Permutation.{four, IsPermutationOfFour, image, inverse}
 
--- a table has at most so many tetrahedra
+-- the greatest number of tetrahedra of a table
 abbrev pub max_tets : ℕ
 max_tets = 1000
 
--- the tetrahedron behind a face, and where each vertex goes: the vertex opposite the face goes to the vertex
+-- the tetrahedron across a face, and the image of each vertex: the image of the vertex opposite the face is the vertex
 -- opposite the face that is reached
 pub record Gluing : Type 0 where
   pub tet : ℕ
@@ -33,11 +33,11 @@ glue rows x = slice_index_or (slice_index_or rows x.tet []) x.face None
 abbrev pub face_number : Face → ℕ
 face_number x = 4 * x.tet + x.face
 
--- the face to which the gluing g of the face x leads
+-- the face that the gluing g of the face x reaches
 abbrev pub other_side : Face → Gluing → Face
 other_side x g = record { tet = g.tet; face = image g.perm x.face }
 
--- the gluing that leads back to x
+-- the inverse gluing, to x
 abbrev pub way_back : Face → Gluing → Gluing
 way_back x g = record { tet = x.tet; perm = inverse g.perm }
 
@@ -51,7 +51,7 @@ same_face x y = (x.tet == y.tet) && (x.face == y.face)
 abbrev pub is_face_before : Face → Face → Bool
 is_face_before x y = nat_lt x.tet y.tet || ((x.tet == y.tet) && nat_lt x.face y.face)
 
--- each face that is glued leads to a face in range other than itself, which leads back
+-- each glued face reaches a face in range other than itself, which is glued back by the inverse
 pub record IsTable (rows : List Row) : Type 0 where
   pub few : length rows ≤ max_tets
   pub four_faces : All (λ (row : Row). length row ≡ 4) rows

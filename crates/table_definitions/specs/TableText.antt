@@ -62,7 +62,7 @@ rows_at (suc n) c = do
   others ← rows_at n first.1
   Ok (first.0 ∷ others.0, others.1)
 
--- the rows, where nothing is wrong with them
+-- the rows, if there is no error in them
 abbrev pub checked : Option TableFault → List Row × Reading → Result (List Row × Reading) TextFault
 checked None x = Ok x
 checked (Some fault) x = Err (Table fault)

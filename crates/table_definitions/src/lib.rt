@@ -19,11 +19,11 @@ pub enum TableFault {
     NoMemory,
     /// More rows than a table may have.
     TooMany,
-    /// A face leads to a tetrahedron that isn't there.
+    /// A face is glued to a tetrahedron that does not exist.
     NoSuchTet { tet: u32, face: u8 },
-    /// A face leads to itself.
+    /// A face is glued to itself.
     SelfGlued { tet: u32, face: u8 },
-    /// The face that is reached doesn't lead back.
+    /// The face across is not glued back by the inverse gluing.
     NotMutual { tet: u32, face: u8 },
 }
 
@@ -39,9 +39,9 @@ impl From<AllocError> for TableFault {
 #[derive(Clone, Copy)]
 pub enum TextFault {
     NoMemory,
-    /// A line or a word hasn't the form that is wanted.
+    /// A line or a word does not have the required form.
     Lex(LexFault),
-    /// The rows are no table. It is never want of memory.
+    /// The rows are no table. Never `NoMemory`.
     Table(TableFault),
 }
 
@@ -88,17 +88,17 @@ pub fn permutations_are_a_group()
     ensures images { ImagesAreFound }
 {}
 
-/// Rows are a table exactly where no fault is found.
+/// Theorem: rows of four permutations are a table if and only if no error is found in them.
 pub fn faults_decide_tables()
     ensures { FaultsDecideTables }
 {}
 
-/// Where rows of a table can be taken out and fresh ones put in, what comes is a table.
+/// Theorem: if rows of a table can be removed and new ones inserted, the result is a table.
 pub fn replacing_keeps_tables()
     ensures { ReplacingKeepsTables }
 {}
 
-/// Lines are read as a table exactly where they are one.
+/// Theorem: lines are read as a table if and only if they spell one.
 pub fn tri_tables_are_read()
     ensures { TriTablesAreRead }
 {}

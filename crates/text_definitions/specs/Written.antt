@@ -1,4 +1,4 @@
--- A line as it is written from words, truth values, and the greatest number that may stand in one.
+-- A line written from words, truth values, and the greatest number in an input.
 use Rattle.std.specs.Prelude.{ℕ, Bool, true, false, List, [], ◌∷◌, ◌++◌, codes}
 
 -- the greatest number that a document may name, 2 ^ 127 - 1

@@ -34,7 +34,7 @@ term_at c = do
   entries ← numbers_at limit count.1
   Ok (record { count = count.0; vector = entries.0 }, entries.1)
 
--- so many terms
+-- a reader of the given number of terms
 unfoldable pub terms_at : ℕ → Reading → Result (List Term × Reading) LexFault
 terms_at zero c = Ok ([], c)
 terms_at (suc n) c = do
@@ -60,7 +60,7 @@ block_at c = do
   sum ← times_at vector.1
   Ok (record { vector = vector.0; times = sum.0.0; terms = sum.0.1 }, sum.1)
 
--- no block where no line is left, and else a block and what more reads behind it
+-- no block if no line is left, and otherwise a block and the blocks after it
 abbrev pub blocks_on : List Line → Reading → (Reading → Result (List Block × Reading) LexFault) → Result (List Block × Reading) LexFault
 blocks_on [] c more = Ok ([], c)
 blocks_on (l ∷ ls) c more = do

@@ -5,14 +5,14 @@ use Rattle.text_definitions.specs.Text.{Line}
 use Rattle.cone_text_definitions.specs.ConeText.{Cone}
 use Rattle.table_definitions.specs.Grammar.{AreWords, IsNumber, IsSigned}
 
--- a line of so many signed decimals
+-- a line of `columns` signed decimals
 pub record IsCoefficientLine (columns : ℕ) (line : Line) (row : List ℤ) : Type 0 where
   pub ws : List (List ℕ)
   pub are_words : AreWords line.tokens ws
   pub coefficients : AllZip (IsSigned 1000000) ws row
   pub many : length row ≡ columns
 
--- a line for each row; where there are no columns, no line, and rows without coefficients
+-- a line for each row; if there are no columns, no line, and rows without coefficients
 abbrev pub AreConeRows : ℕ → List Line → List (List ℤ) → Type 0
 AreConeRows zero lines rows = (lines ≡ []) × (rows ≡ replicate (length rows) [])
 AreConeRows (suc columns) lines rows = AllZip (IsCoefficientLine (suc columns)) lines rows

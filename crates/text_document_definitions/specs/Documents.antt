@@ -1,4 +1,4 @@
--- The documents of the commands: what the bytes of an input stand for, or its first fault.
+-- The documents of the commands: the value of the bytes of an input, or its first error.
 use Rattle.std.specs.Prelude.{ℕ, List, [], ◌∷◌, Result, Ok}
 use Rattle.std.specs.List.{flat_map}
 use Rattle.table_definitions.specs.Table.{Row}
@@ -18,7 +18,7 @@ use Rattle.surface_definitions.specs.Verdict.{Verdict, verdict_text}
 abbrev pub worded : {A : Type 0} → Result A LexFault → Result A InputFault
 worded r = texted (lexed r)
 
--- no further line may stand: its first word is one too many
+-- no further line may follow: its first word is an extra word
 abbrev pub no_line_from : List Line → Reading → Result Reading LexFault
 no_line_from [] c = Ok c
 no_line_from (l ∷ ls) c = end_line_at (begun l ls c)
@@ -40,7 +40,7 @@ next_table_at c = do
   line ← worded (need_line_at c)
   any_table_at line
 
--- no table where no line is left, and else a table and what more reads behind it
+-- no table if no line is left, and otherwise a table and the tables after it
 abbrev pub tables_on : List Line → Reading → (Reading → Result (List (List Row) × Reading) InputFault) → Result (List (List Row) × Reading) InputFault
 tables_on [] c more = Ok ([], c)
 tables_on (l ∷ ls) c more = do

@@ -1,4 +1,4 @@
--- What an input shows, symbol after symbol, each with its place; and the place where an input leaves a grammar.
+-- The symbols of an input, each with its place, and the place at which an input leaves a grammar.
 use Rattle.std.specs.Prelude.{◌≡◌, ℕ, List, [], ◌∷◌, ◌++◌, map}
 use Rattle.text_definitions.specs.declared.Place.{Place}
 use Rattle.text_definitions.specs.Text.{Token, word, stray, Line}
@@ -10,7 +10,7 @@ pub data Symbol : Type 0 where
   line_end : Symbol
   input_end : Symbol
 
--- a place and the symbol that stands there
+-- a place and the symbol at it
 abbrev pub Placed : Type 0
 Placed = Place × Symbol
 

@@ -59,7 +59,7 @@ AreTableAndVectorText lines = (table : List Line) × (line : Line) × (lines ≡
 abbrev pub AreTwoTablesText : List Line → Type 0
 AreTwoTablesText lines = (front : List Line) × (back : List Line) × (lines ≡ front ++ back) × AreTableText front × AreTableText back
 
--- the text of so many tables, one after the other
+-- the text of the given number of tables, one after another
 abbrev pub AreManyTablesText : ℕ → List Line → Type 0
 AreManyTablesText zero lines = lines ≡ []
 AreManyTablesText (suc n) lines = (front : List Line) × (back : List Line) × (lines ≡ front ++ back) × AreTableText front × AreManyTablesText n back
