@@ -1,16 +1,16 @@
-//! Certificates: moves that lead from a table to a relabelling of the standard sphere, those of a table that was made, and
-//! what is answered where they are checked. The definitions stand in `specs/`; `proofs/` has worked examples.
+//! Certificates: moves that lead from a table to one isomorphic to the standard 3-sphere, those of a table that was
+//! made, and the answers of checking them. The definitions are in `specs/`; `proofs/` has worked examples.
 #![tactic(auto)]
 
 use move_definitions::MoveFault;
 
-/// Why moves certify no table. The signature is a text, as the list `S` of its characters.
+/// Why moves certify no table. `S` is the type of the signature, a list of characters.
 #[derive(Drop)]
 pub enum CheckFault<S> {
-    /// This move, counted from 1, is the first that is refused.
+    /// The move with this number, counted from 1, is the first that is not legal.
     Illegal { step: u32, fault: MoveFault },
-    /// The last table is not connected: this tetrahedron is the first that isn't reached.
+    /// The last table is disconnected: `tet` is the first tetrahedron that no path from tetrahedron 0 reaches.
     NotConnected { tet: u32 },
-    /// The last table has this signature, and the standard sphere another.
+    /// The last table has this signature, which is not that of the standard sphere.
     NotStandard { signature: S },
 }

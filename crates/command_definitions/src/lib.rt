@@ -1,5 +1,4 @@
-//! The grammar of the command line: which words are accepted, and what they ask for.
-//! The definitions stand in `specs/`.
+//! The grammar of the command line: the accepted words and their requests. The definitions are in `specs/`.
 #![tactic(auto)]
 
 ghost use Rattle.command_definitions.specs.Laws.{AcceptedAreInRange};
@@ -34,7 +33,7 @@ pub enum Request {
     Csame,
 }
 
-/// What an accepted request holds is in range.
+/// Theorem: the values of an accepted request are within their ranges.
 pub fn accepted_requests()
     ensures { AcceptedAreInRange }
 {}

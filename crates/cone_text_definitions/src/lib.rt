@@ -1,2 +1,2 @@
-//! A cone and a vector in text: what a reader of them gives, and what is written. The definitions stand in `specs/`.
+//! Cones and vectors in text: how they are read, and how they are written. The definitions are in `specs/`.
 #![tactic(auto)]

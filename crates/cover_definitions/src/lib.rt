@@ -1,7 +1,7 @@
-//! The orientable double cover of a table, its exchange of sheets, and its split. The definitions stand in `specs/`;
-//! `proofs/` has worked examples.
+//! The orientable double cover of a table, its deck transformation, and its split into two copies. The definitions are
+//! in `specs/`; `proofs/` has worked examples.
 #![tactic(auto)]
 
-/// Why no cover of a table is made: it would have more tetrahedra than a table may have.
+/// Why a table has no cover: the cover exceeds the limit of tetrahedra.
 #[derive(Clone, Copy)]
 pub struct LargeCover;

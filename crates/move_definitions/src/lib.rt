@@ -1,11 +1,11 @@
-//! Bistellar moves: what is legal, the table to which a move leads, moves in text, certificates and the generator. The
-//! definitions stand in `specs/`; `proofs/` has worked examples. The faults of moves stand here, for definitions and code.
-//! The functions have no code: their contracts are laws over the definitions.
+//! Pachner moves: which are legal, the resulting table, moves in text, certificates and the generator. The definitions,
+//! and the errors that definitions and code share, are here and in `specs/`; `proofs/` has worked examples. The
+//! functions have empty bodies: their contracts are theorems.
 #![tactic(auto)]
 
 ghost use Rattle.move_definitions.specs.TextLaws.{MovesAreRead, StepsAreRead, WrittenMovesAreRead};
 
-/// Why a move can't be made.
+/// Why a move is not legal.
 #[derive(Clone, Copy)]
 pub enum MoveFault {
     /// The table has no such tetrahedron.
@@ -30,7 +30,7 @@ pub fn steps_are_read()
     ensures { StepsAreRead }
 {}
 
-/// What is written for a move is one line, which is that move.
+/// Theorem: the text of a move is one line, which is read as that move.
 pub fn written_moves_are_read()
     ensures { WrittenMovesAreRead }
 {}

@@ -1,5 +1,5 @@
-//! What a run of the program is to answer: the exit status and the text, for every list of words and every input.
-//! The definitions stand in `specs/`, for the contract of the run.
+//! The outcome of a run of the program: its exit status and its text, for each list of words and each input. The
+//! definitions are in `specs/`.
 #![tactic(auto)]
 
 ghost use Rattle.outcome_definitions.specs.Laws.{StatusesAreOwn};
@@ -18,31 +18,31 @@ pub enum Status {
     Input,
     /// 4: a check of the command refused the document.
     Refused,
-    /// 5: a number passed the limit.
+    /// 5: a number exceeds the limit.
     Large,
     /// 6: the source failed.
     ReadFault,
-    /// 7: the sink failed, after a prefix of what was to be written.
+    /// 7: the sink failed, after a proper prefix of the text.
     WriteFault,
     /// 8: memory ran out, and nothing was written.
     NoMemory,
 }
 
-/// Why a vector isn't answered as a sum, or a given sum isn't accepted.
+/// Why a vector is not answered as a sum, or a sum is not accepted.
 #[derive(Clone, Copy)]
 pub enum SumRefusal {
     /// The vector is no admissible solution.
     Unfit { fault: VectorFault },
-    /// The term of this number, which counts from 0, is no admissible solution.
+    /// The term with this number, counted from 0, is no admissible solution.
     UnfitTerm { term: usize, fault: VectorFault },
     /// At this step, counted from 0, an entry of the vector, times its factor, exceeds the limit; the first such
     /// column.
     LargeTimes { turn: u32, column: u32 },
-    /// The terms don't add up to the vector.
+    /// The terms do not add up to the multiple of the vector.
     NoSum { fault: AddFault },
 }
 
-/// The answer to a request has one of the statuses of accepted words.
+/// Theorem: the answer to a request has one of the statuses of accepted words.
 pub fn statuses_are_own()
     ensures { StatusesAreOwn }
 {}

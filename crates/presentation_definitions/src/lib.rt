@@ -1,4 +1,4 @@
-//! Tree faces, generators and relators of a table. The definitions stand in `specs/`; `proofs/` has worked examples.
+//! Tree faces, generators and relators of a table. The definitions are in `specs/`; `proofs/` has worked examples.
 #![tactic(auto)]
 
 /// A generator, by its number from 1, or its inverse.
@@ -11,7 +11,7 @@ pub struct Letter {
 /// Why a table has no presentation.
 #[derive(Clone, Copy)]
 pub enum GroupFault {
-    /// The table isn't connected, and this is the least tetrahedron that no chain of gluings joins to the first.
+    /// The table is disconnected; this is the least tetrahedron that no path from tetrahedron 0 reaches.
     NotConnected { tet: u32 },
     /// An edge class is invalid, and this is the least such class.
     InvalidEdge { class: u32 },

@@ -1,6 +1,6 @@
-//! The walk order of a table, its spelling, signatures in text, walks from a start, the relabelling that is answered of two
-//! tables, and the classes of a census. The definitions stand in `specs/`; the faults of
-//! signatures and of inputs stand here, for definitions and code. `proofs/` has worked examples.
+//! Canonical traversals, the isomorphism signature and its text, the relabelling that is defined for two tables, and
+//! the classes of a census (Burton 2011). The definitions, and the errors that definitions and code share, are here and
+//! in `specs/`; `proofs/` has worked examples.
 #![tactic(auto)]
 
 ghost use Rattle.std.specs.Prelude.{◌≡◌};
@@ -13,7 +13,7 @@ use std::alloc::{AllocError, AllocFailed};
 use table_definitions::TextFault;
 use text_definitions::LexFault;
 
-/// Why a text is no signature. Places count characters from 0.
+/// Why a text is no signature. Positions count characters from 0.
 #[derive(Clone, Copy)]
 pub enum SigFault {
     NoMemory,
@@ -27,7 +27,7 @@ pub enum SigFault {
     Leftover { at: usize },
     /// A tetrahedron that is out of range or not yet seen.
     Destination { at: usize },
-    /// No index of a permutation.
+    /// A number that is no index of a permutation.
     Gluing { at: usize },
     /// A gluing to the face itself or to one that was read before.
     FaceTaken { at: usize },
@@ -35,9 +35,9 @@ pub enum SigFault {
     Trailing { at: usize },
     /// More tetrahedra than a table may have.
     TooMany,
-    /// A tetrahedron that no gluing reaches before its faces are taken.
+    /// A tetrahedron that no gluing reaches before its faces are read.
     Unreached,
-    /// A number of characters per number other than the least.
+    /// A number of characters per number that is not the least possible.
     Width { at: usize },
 }
 

@@ -1,8 +1,8 @@
-//! Orientation, links of vertices, walks round edges and the skeleton of a table. The definitions stand in `specs/`;
+//! Orientation, vertex links, tours around edges, and the skeleton of a table. The definitions are in `specs/`;
 //! `proofs/` has worked examples.
 #![tactic(auto)]
 
-/// What a link is.
+/// The type of a vertex link.
 #[derive(Clone, Copy)]
 pub enum LinkKind {
     /// Closed, of Euler characteristic 2.
@@ -16,7 +16,7 @@ pub enum LinkKind {
     Other,
 }
 
-/// The link of a vertex class: a triangle for each member.
+/// The link of a vertex class: one triangle for each member of the class.
 #[derive(Clone, Copy)]
 pub struct Link {
     pub triangles: u32,

@@ -69,7 +69,8 @@ pub record IsTurn (list : List (List ℕ)) (s next : State) : Type 0 where
 abbrev pub IsWithinTimes : ℕ → List ℕ → ℕ → Type 0
 IsWithinTimes limit x times = (column : ℕ) → times * slice_index x column ≤ limit
 
--- the given number of steps leads from x to the state, and at none of them an entry of x, times its factor, exceeds the limit
+-- the given number of steps leads from x to the state, and at none of them an entry of x, times its factor, exceeds
+-- the limit
 abbrev pub LeadsTo : ℕ → List (List ℕ) → List ℕ → ℕ → State → Type 0
 LeadsTo limit list x zero s = s ≡ first_state x
 LeadsTo limit list x (suc turns) s = (before : State) × LeadsTo limit list x turns before × IsTurn list before s × IsWithinTimes limit x s.times

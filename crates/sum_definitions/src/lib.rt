@@ -1,4 +1,4 @@
-//! A solution as a sum of listed rays, and the test of such a sum. The definitions stand in `specs/`.
+//! A solution as a sum of listed rays, and the check of such a sum. The definitions are in `specs/`.
 #![tactic(auto)]
 
 /// A vector with its factor.
@@ -8,8 +8,8 @@ pub struct Term<V> {
     pub vector: V,
 }
 
-/// Why a solution isn't answered as a sum: at this turn, counted from 0, an entry of it, taken so many times, passes the limit, and
-/// first at this column.
+/// Why a solution is not answered as a sum: at step `turn`, counted from 0, a multiple of an entry exceeds the limit,
+/// first at column `column`.
 #[derive(Clone, Copy)]
 pub struct LargeTurn {
     pub turn: u32,
@@ -19,10 +19,10 @@ pub struct LargeTurn {
 /// Why given terms don't add up to a vector.
 #[derive(Clone, Copy)]
 pub enum AddFault {
-    /// The vector is taken no times.
+    /// The factor of the vector is 0.
     ZeroTimes,
     /// The entry at this column, times the factor, exceeds the limit.
     Large { column: u32 },
-    /// The terms don't add up to it at this column.
+    /// The terms do not add up to the multiple of the vector at this column.
     NotEqual { column: u32 },
 }

@@ -1,12 +1,12 @@
-//! Normal surfaces: coordinates, equations, the verdict on a vector, pieces, Euler characteristic, crushing and lifts.
-//! The definitions stand in `specs/`. The functions here have no code: their contracts are laws over the definitions.
-//! `proofs/` has worked examples of the definitions too.
+//! Normal surfaces: coordinates, matching equations, the verdict on a vector, discs, Euler characteristic, crushing and
+//! lifts. The definitions are in `specs/`; `proofs/` has worked examples. The functions have empty bodies: their
+//! contracts are theorems.
 #![tactic(auto)]
 
 ghost use Rattle.surface_definitions.specs.Laws.{VectorLinesAreRead, VerdictsAreRight, RowsMeanEquations};
 
-/// Standard coordinates count triangles and quads, quad coordinates quads alone, octagon coordinates octagons
-/// too (Haken; Tollefson; Rubinstein and Thompson).
+/// Coordinate systems. Standard coordinates count triangles and quads (Haken 1961), quad coordinates only quads
+/// (Tollefson 1998), octagon coordinates triangles, quads and octagons (Rubinstein 1995; Thompson 1994).
 #[derive(Clone, Copy, PartialEq, Eq)]
 pub enum Coords {
     Standard,
@@ -14,8 +14,8 @@ pub enum Coords {
     Octagon,
 }
 
-/// The normal discs that a column counts: the triangles round a vertex, or the quads or octagons of a type, 0 for 01/23,
-/// 1 for 02/13 and 2 for 03/12.
+/// A normal disc type: the triangles around a vertex, or the quads or octagons of a type, 0 for 01/23, 1 for 02/13 and
+/// 2 for 03/12.
 #[derive(Clone, Copy)]
 pub enum Piece {
     Tri(u8),
@@ -30,9 +30,9 @@ pub enum VectorFault {
     Length { got: usize },
     /// A part of the equation `row` at the vector exceeds the greatest entry.
     Large { row: u32 },
-    /// This row isn't 0 at the vector.
+    /// The equation `row` is not 0 at the vector.
     NotSolution { row: u32 },
-    /// These two columns clash, and neither is 0.
+    /// The columns `first` and `second` clash, and neither entry is 0.
     Clash { first: u32, second: u32 },
 }
 

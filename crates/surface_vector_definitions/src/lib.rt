@@ -1,30 +1,30 @@
-//! What one vector gives: its properties, its pieces and their components, and its lift, each with the refusals that may come
-//! in its place. The definitions stand in `specs/`. The functions here have no code: their contracts are laws over the
-//! definitions. `proofs/` has worked examples of the definitions too.
+//! Answers for one vector: its properties, its components and its lift, each with the reasons why it may be refused.
+//! The definitions are in `specs/`; `proofs/` has worked examples. The functions have empty bodies: their contracts are
+//! theorems.
 #![tactic(auto)]
 
 ghost use Rattle.surface_vector_definitions.specs.Laws.{OnePropertyAnswer, OnePiecesAnswer, OneDescriptionEach};
 
 use surface_definitions::VectorFault;
 
-/// What is counted of a surface.
+/// The numbers of a normal surface.
 #[derive(Clone, Copy)]
 pub struct Properties {
-    /// The points in which the surface meets edges.
+    /// The number of points in which the surface meets the edges.
     pub points: u128,
-    /// The arcs in which it meets faces.
+    /// The number of arcs in which it meets the faces.
     pub arcs: u128,
-    /// Its triangles, quadrilaterals and octagons.
+    /// The number of its triangles, quads and octagons.
     pub pieces: u128,
-    /// Its Euler characteristic: points minus arcs plus pieces.
+    /// Its Euler characteristic: points minus arcs plus discs.
     pub euler: i128,
-    /// Whether it has triangles alone.
+    /// Whether it consists of triangles only.
     pub linking: bool,
-    /// Whether a boundary face has an arc.
+    /// Whether a boundary face contains an arc.
     pub boundary: bool,
 }
 
-/// A sum of a surface.
+/// A sum over the columns of a vector.
 #[derive(Clone, Copy)]
 pub enum SurfaceSum {
     Points,
@@ -32,54 +32,55 @@ pub enum SurfaceSum {
     PointsAndPieces,
 }
 
-/// Why no properties of a vector are answered.
+/// Why a vector has no properties that are printed.
 #[derive(Clone, Copy)]
 pub enum PropertyFault {
     /// This sum is the first that passes the maximum.
     Large { sum: SurfaceSum },
 }
 
-/// Why no lift of a quad vector is answered.
+/// Why a quad vector has no lift that is printed.
 #[derive(Clone, Copy)]
 pub enum LiftFault {
-    /// Four times the sum of the entries passes the maximum.
+    /// Four times the sum of the entries exceeds the maximum.
     Large,
     /// There is no lift at this vertex class, and one at each class before it.
     NoLift { class: u32 },
 }
 
-/// Why the pieces of a vector are not built: there are more than 100,000, this many.
+/// Why the discs of a vector are not built: there are more than 100,000, namely `count`.
 #[derive(Clone, Copy)]
 pub struct ManyPieces {
     pub count: u128,
 }
 
-/// Why a vector of a document is refused.
+/// Why a vector of an input is refused.
 #[derive(Clone, Copy)]
 pub enum Refusal {
     /// It is no admissible solution.
     Unfit { fault: VectorFault },
     /// This sum is the first that passes the maximum.
     LargeSum { sum: SurfaceSum },
-    /// It has more than 100,000 pieces: this many.
+    /// It has more than 100,000 discs: this number.
     TooManyPieces { count: u128 },
-    /// Four times the sum of the entries passes the maximum, so a lift could have larger numbers.
+    /// Four times the sum of the entries exceeds the maximum, so the lift may have larger numbers.
     LargeLift,
     /// It has no lift at this vertex class, and one at each class before it.
     NoLift { class: u32 },
 }
 
-/// A vector has one record of properties, or one first sum that is large.
+/// Theorem: a vector has exactly one answer: its properties, or the first sum that exceeds the maximum.
 pub fn properties_are_determined()
     ensures { OnePropertyAnswer }
 {}
 
-/// A vector has one list of components, or is refused for its pieces, and not both.
+/// Theorem: a vector has at most one list of components, and has none if it is refused for its number of discs.
 pub fn components_are_determined()
     ensures { OnePiecesAnswer }
 {}
 
-/// Vectors are described in one way, or one of them is the first that is refused, for one reason.
+/// Theorem: a list of vectors has at most one answer of `describe`: all descriptions, or the first vector that is
+/// refused, with its reason.
 pub fn descriptions_are_determined()
     ensures { OneDescriptionEach }
 {}

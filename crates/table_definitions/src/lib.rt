@@ -1,7 +1,6 @@
-//! Permutations of four, gluing tables, their text, chains and classes. The definitions stand in `specs/`, for the
-//! contracts of the crates above. The faults of tables and of their text stand here, for definitions and code. The
-//! functions have no code: their contracts are laws over the definitions.
-//! `proofs/` has worked examples of the definitions too.
+//! Permutations of four, gluing tables and their text, chains of gluings and classes. The definitions, and the errors
+//! that definitions and code share, are here and in `specs/`; `proofs/` has worked examples. The functions have empty
+//! bodies: their contracts are theorems.
 #![tactic(auto)]
 
 ghost use Rattle.std.specs.Prelude.{◌≡◌};
@@ -17,7 +16,7 @@ use text_definitions::LexFault;
 #[derive(Clone, Copy)]
 pub enum TableFault {
     NoMemory,
-    /// More rows than a table may have.
+    /// There are more rows than a table may have.
     TooMany,
     /// A face is glued to a tetrahedron that does not exist.
     NoSuchTet { tet: u32, face: u8 },
@@ -80,7 +79,7 @@ impl<T: Drop> From<AllocFailed<T>> for TextFault {
     }
 }
 
-/// Permutations of four are a group.
+/// Theorem: permutations of four form a group.
 pub fn permutations_are_a_group()
     ensures inverses { InversesPermute }
     ensures composites { CompositesPermute }
@@ -103,7 +102,7 @@ pub fn tri_tables_are_read()
     ensures { TriTablesAreRead }
 {}
 
-/// In a table, being joined by a chain makes classes of places.
+/// Theorem: in a table, to be joined by a chain of gluings is an equivalence relation on places.
 pub fn chains_make_classes()
     ensures { ChainsMakeClasses }
 {}

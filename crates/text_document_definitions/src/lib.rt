@@ -1,3 +1,3 @@
-//! The documents of the commands: what the bytes of an input stand for, or its first fault. The definitions stand in
-//! `specs/`, and their laws in a crate of their own; `proofs/` has worked examples, and facts of lines of one form.
+//! The inputs of the commands: the value of the bytes of an input, or its first error. The definitions are in `specs/`;
+//! `proofs/` has worked examples, and facts on lines of one form.
 #![tactic(auto)]
