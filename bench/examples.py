@@ -90,7 +90,7 @@ def main(pages: List[str]) -> int:
     pages = pages or [os.path.join(TOP, "README.md"), *sorted(glob.glob(os.path.join(TOP, "docs", "*.md")))]
     os.chdir(TOP)
     sys.path.insert(0, PYTHON)
-    around = dict(os.environ, PYTHONPATH=PYTHON, PATH=os.path.dirname(sys.executable) + os.pathsep + os.environ["PATH"])
+    around = dict(os.environ, PYTHONPATH=PYTHON, PATH=os.pathsep.join([os.path.dirname(sys.executable), TOP, os.environ["PATH"]]))
     counts = {True: 0, False: 0, None: 0}
     for page in pages:
         for right in runs(page, around):
