@@ -1,4 +1,4 @@
-//! The words of the command line, read into a request.
+//! Reads the words of the command line as a request.
 #![tactic(auto)]
 
 mod program;
@@ -11,12 +11,12 @@ pub use reader::read_words;
 use std::alloc::AllocError;
 pub use surface_definitions::Coords;
 
-/// Why words give no request.
+/// Why `read_words` fails.
 #[derive(Clone, Copy)]
 pub enum WordsFault {
     /// Memory ran out.
     NoMemory,
-    /// The words are no command with its options.
+    /// The words are not a command with its options.
     Usage,
 }
 

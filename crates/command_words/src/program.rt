@@ -1,4 +1,4 @@
-// The command line as the parser is told it.
+//! The grammar of the command line, as given to the parser.
 ghost use Rattle.std.specs.Prelude.{◌≡◌, false, IfOk};
 ghost use Rattle.std.specs.Option.{option_map};
 ghost use Rattle.clap.specs.Walk.{rule_of, texts};
@@ -14,7 +14,7 @@ use std::alloc::{AllocError, Global};
 use surface_definitions::Coords;
 use text_io::LIMIT;
 
-// Each command, with what it asks for where no option is given. Of one whose options have to be given that is any request.
+// Each command with its request if no option is given. If its options are required, any request of it.
 static COMMANDS: [(&str, Request); 21] = [
     ("verify", Request::Verify(Coords::Standard)),
     ("info", Request::Info),
@@ -42,7 +42,7 @@ static COMMANDS: [(&str, Request); 21] = [
     ("csame", Request::Csame),
 ];
 
-// Names of options that commands take together.
+/// the option names of the commands
 const NONE: &[&str] = &[];
 
 const COORDS: &[&str] = &["coords"];
@@ -55,7 +55,7 @@ const COORDS_LIMIT: &[&str] = &["coords", "max-entry"];
 
 const SEED_MOVES: &[&str] = &["seed", "moves"];
 
-// The names of the options that a command takes.
+/// The names of the options of `command`.
 fn option_names(command: Request) -> &'static [&'static str]
     ensures { texts result.now ≡ option_names (takes_of command) }
 {
@@ -69,7 +69,7 @@ fn option_names(command: Request) -> &'static [&'static str]
     }
 }
 
-// The argument of an option.
+/// The argument of option `name`.
 fn option_argument<'a>(alloc: Global, name: &'a str) -> Arg<'a>
     ensures rule { rule_of result ≡ option_argument name.now }
     ensures local { result.global ≡ false }
@@ -77,7 +77,7 @@ fn option_argument<'a>(alloc: Global, name: &'a str) -> Arg<'a>
     Arg::new(alloc, name).long(name).action(ArgAction::Set)
 }
 
-// A command with its options.
+/// The command `name` with its options.
 fn command<'a>(
     alloc: Global,
     name: &'static str,
@@ -93,7 +93,7 @@ fn command<'a>(
     Ok(command)
 }
 
-// Adds a command with its options.
+/// Adds the command `name` with its options to `program`.
 fn add<'a>(
     alloc: Global,
     program: Command<'a>,
@@ -105,7 +105,7 @@ fn add<'a>(
     program.subcommand(command(alloc, name, options)?)
 }
 
-// The program's name and settings: no help, no version, and the words without the program's name.
+/// The program's name and settings: no help, no version, and words without the program's name.
 fn bare_program<'a>(alloc: Global) -> Command<'a>
     ensures { app_of result ≡ bare_program }
 {
@@ -116,7 +116,7 @@ fn bare_program<'a>(alloc: Global) -> Command<'a>
         .disable_version_flag(true)
 }
 
-// The command of this name among others.
+/// The command `name` among `rows`.
 fn command_among(name: &str, rows: &[(&'static str, Request)]) -> Option<(&'static str, Request)>
     ensures { option_map listed_command result ≡ command_among name.now rows.now }
 {
@@ -128,7 +128,7 @@ fn command_among(name: &str, rows: &[(&'static str, Request)]) -> Option<(&'stat
     None
 }
 
-/// The command that words begin with: its name, and a request of it.
+/// The command that `words` begin with, by its name and a request of it, or `None` if the first word is no command.
 pub fn command_before(words: &[&str]) -> Option<(&'static str, Request)>
     ensures { option_map listed_command result ≡ command_before (texts words.now) }
 {
@@ -136,7 +136,7 @@ pub fn command_before(words: &[&str]) -> Option<(&'static str, Request)>
     command_among(name, &COMMANDS)
 }
 
-/// The program with one command alone.
+/// The grammar of the program with the one command `name`.
 pub fn program_with<'a>(
     alloc: Global,
     name: &'static str,

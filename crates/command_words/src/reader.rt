@@ -1,4 +1,4 @@
-// Reads the words.
+//! Reads the words of the command line.
 ghost use Rattle.std.specs.Prelude.{◌≡◌, false, count_by, codes, IfOk, OnOk};
 ghost use Rattle.std.specs.List.{list_any};
 ghost use Rattle.std.specs.Str.{bytes_eq};
@@ -21,7 +21,7 @@ use command_definitions::Request;
 use std::alloc::{AllocError, Global};
 use text_io::Words;
 
-// What was found for each option.
+/// The values of the options.
 fn values_in<'a>(matches: &ArgMatches<'a>) -> Values<'a>
     ensures { texts_of result ≡ values_in (rows_of (found_of matches.now)) }
 {
@@ -34,7 +34,7 @@ fn values_in<'a>(matches: &ArgMatches<'a>) -> Values<'a>
     }
 }
 
-// The request of the command, where it was met.
+/// The request of `command`, if it occurs and its values are valid.
 fn request_in(command: Request, matches: &ArgMatches<'_>) -> Option<Request>
     ensures { result ≡ request_in (takes_of command) (subcommand_rows_of matches.now) }
 {
@@ -44,7 +44,7 @@ fn request_in(command: Request, matches: &ArgMatches<'_>) -> Option<Request>
     }
 }
 
-// The same, where no request is a fault.
+/// As `request_in`, but fails with `Usage` if there is no request.
 fn request_or_usage(command: Request, matches: &ArgMatches<'_>) -> Result<Request, WordsFault>
     ensures { AnswersWords result (request_in (takes_of command) (subcommand_rows_of matches.now)) }
 {
@@ -54,7 +54,7 @@ fn request_or_usage(command: Request, matches: &ArgMatches<'_>) -> Result<Reques
     }
 }
 
-// The words as texts.
+/// The words as texts.
 fn texts_of(alloc: Global, words: &Words) -> Result<Vec<&str>, AllocError>
     ensures texts { IfOk result (λ v. texts v.items ≡ words.now) }
     ensures utf8 { OnOk result (AreTexts words.now) }
@@ -66,14 +66,14 @@ fn texts_of(alloc: Global, words: &Words) -> Result<Vec<&str>, AllocError>
     Ok(texts)
 }
 
-// Whether a word is two hyphens alone.
+/// Whether one of the words is `--`.
 fn has_dashes(words: &[&str]) -> bool
     ensures { result ≡ list_any (λ w. bytes_eq w.now (codes "--")) words.now }
 {
     words.iter().any(|word| *word == "--")
 }
 
-// Whether nothing follows an option in its word, or a value.
+/// Whether nothing, or a value after `=`, follows an option in its word.
 fn ends_option(rest: &[u8]) -> bool
     ensures { result ≡ ends_option rest.now }
 {
@@ -83,7 +83,7 @@ fn ends_option(rest: &[u8]) -> bool
     }
 }
 
-// Whether a word names the option, with its value or without.
+/// Whether `word` names `option`, with or without its value.
 fn is_naming(option: &str, word: &str) -> bool
     ensures { result ≡ is_naming option.now word.now }
 {
@@ -93,21 +93,21 @@ fn is_naming(option: &str, word: &str) -> bool
     }
 }
 
-// How many words name the option.
+/// The number of words that name `option`.
 fn times_named(option: &str, words: &[&str]) -> usize
     ensures { result ≡ count_by (λ w. is_naming option.now w) (texts words.now) }
 {
     words.iter().filter(|word| is_naming(option, word)).count()
 }
 
-// Whether more than one word names the option.
+/// Whether more than one word names `option`.
 fn is_repeated(words: &[&str], option: &str) -> bool
     ensures { result ≡ is_repeated (texts words.now) option.now }
 {
     times_named(option, words) > 1
 }
 
-// Whether some option is named by more than one word. The parser is to have no say in it.
+/// Whether an option is named by more than one word. Decided here, so that it does not depend on the parser.
 fn has_repeats(words: &[&str]) -> bool
     ensures { result ≡ has_repeats (texts words.now) }
 {
@@ -118,7 +118,7 @@ fn has_repeats(words: &[&str]) -> bool
         || is_repeated(words, "--moves")
 }
 
-// The fault of a parse: want of memory, or words that are not in the grammar.
+/// `NoMemory` if the parser ran out of memory, otherwise `Usage`.
 fn fault_of(error: &Error) -> WordsFault
     ensures { result ≡ parse_fault (kind_of error.now) }
 {
@@ -128,7 +128,7 @@ fn fault_of(error: &Error) -> WordsFault
     WordsFault::Usage
 }
 
-// Parses the words, none of which is two hyphens alone. The parser is told the command alone that they begin with.
+/// Parses `words`, none of which is `--`, by the grammar of the one command that they begin with.
 fn parse(alloc: Global, words: &[&str]) -> Result<Request, WordsFault>
     requires utf8 { AreTexts (texts words.now) }
     requires no_dashes { has_dashes (texts words.now) ≡ false }
@@ -144,7 +144,7 @@ fn parse(alloc: Global, words: &[&str]) -> Result<Request, WordsFault>
     }
 }
 
-// What the words ask for.
+/// Reads `words` as a request.
 fn read_request(alloc: Global, words: &Words) -> Result<Request, WordsFault>
     ensures { AnswersWords result (accepted_request words.now) }
 {
@@ -159,8 +159,8 @@ fn read_request(alloc: Global, words: &Words) -> Result<Request, WordsFault>
     parse(alloc, texts)
 }
 
-/// What the words ask for: `Ok` exactly where they are accepted, and `Usage` exactly where they are not. What the request
-/// holds is in range.
+/// Reads `words` as a request, whose values are then in range. Fails with `Usage` if and only if the words are not a
+/// command with valid options, unless memory runs out (`NoMemory`).
 pub fn read_words(alloc: Global, words: &Words) -> Result<Request, WordsFault>
     ensures answers { AnswersWords result (accepted_request words.now) }
     ensures in_range { IfOk result HoldsRange }

@@ -1,4 +1,4 @@
-// The values of options, and the request of a command with such values.
+//! Reads the values of options, and makes the request of a command with them.
 ghost use Rattle.std.specs.Prelude.{◌≡◌, ◌<◌, [], ◌∷◌};
 ghost use Rattle.command_definitions.specs.Commands.{Coordinates, PieceCoordinates, RowOrder, Limit, Seed, Moves};
 ghost use Rattle.command_definitions.specs.Requests.{most_moves, most_bulk_moves};
@@ -11,7 +11,7 @@ use cone_definitions::Order;
 use surface_definitions::Coords;
 use text_io::{LIMIT, is_decimal_word, value_up_to};
 
-/// What stands for each option, where it is named.
+/// The value of each option, if it occurs.
 #[derive(Clone, Copy)]
 pub struct Values<'a> {
     pub coords: Option<&'a str>,
@@ -62,7 +62,7 @@ fn order_named(word: &str) -> Option<Order>
     None
 }
 
-// A decimal of one to 45 digits, up to max.
+/// The value of `word` if it is a decimal of one to 45 digits and at most `max`.
 fn decimal_up_to(word: &str, max: u128) -> Option<u128>
     ensures { result ≡ spec.decimal_up_to max word.now }
 {
@@ -207,7 +207,8 @@ fn addup_with(values: &Values<'_>) -> Option<Request>
     Some(Request::Addup(coords))
 }
 
-/// The request of a command, of which one is given, with these values, where each value is one that its option takes.
+/// The request of the kind of `command` with the option values `values`, or `None` if a value is not one that its
+/// option takes or a required option is missing.
 pub fn request_with(command: Request, values: &Values<'_>) -> Option<Request>
     ensures { result ≡ spec.request_with (takes_of command) (texts_of values.now) }
 {

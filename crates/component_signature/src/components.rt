@@ -1,4 +1,4 @@
-//! The components of a table: which tetrahedra gluings join.
+//! The connected components of a table.
 
 ghost use Rattle.std.specs.Prelude.{IfOk, length};
 ghost use Rattle.table_definitions.specs.Table.{IsTable};
@@ -10,7 +10,8 @@ use gluing_table::{Row, rows_behind};
 use no_memory::NoMemory;
 use std::alloc::Global;
 
-/// The component of each tetrahedron, and how many there are. Components are numbered by their least tetrahedra.
+/// The component of each tetrahedron of `rows`, and the number of components, which are numbered by their least
+/// tetrahedra.
 pub fn components(alloc: Global, rows: &[Row]) -> Result<Numbering, NoMemory>
     requires { IsTable rows.now }
     ensures { IfOk result (λ r. IsNumbering (length rows.now) (SameComponent rows.now) r.classes.items r.count) }

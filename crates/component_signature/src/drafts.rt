@@ -1,4 +1,4 @@
-//! Relabellings that are written part by part.
+//! Writes a relabelling one component at a time.
 
 ghost use Rattle.std.specs.Prelude.{◌≡◌, ◌<◌, ◌^◌, ℕ, length, slice_index, slice_set, All, AllPairs, Contains, IfOk};
 ghost use Rattle.table_definitions.specs.Permutation.{identity};
@@ -12,7 +12,7 @@ use perm_four::Perm4;
 use std::alloc::Global;
 use std::marker::Model;
 
-/// A relabelling that is being written: the new number of each tetrahedron, and where its vertices go.
+/// A relabelling in the making: the new number of each tetrahedron, and the images of its vertices.
 #[derive(Drop)]
 pub struct Draft {
     images: Vec<u32>,
@@ -27,7 +27,7 @@ impl Model for Draft {
     ghost view = { λ d. record { images = d.images.items; perms = d.perms.items } };
 }
 
-/// Room for so many tetrahedra.
+/// A draft for `tets` tetrahedra.
 pub fn blank_draft(alloc: Global, tets: u32) -> Result<Draft, NoMemory>
     ensures images { IfOk result (λ draft. length draft.images ≡ tets) }
     ensures perms { IfOk result (λ draft. length draft.perms ≡ tets) }
@@ -37,7 +37,7 @@ pub fn blank_draft(alloc: Global, tets: u32) -> Result<Draft, NoMemory>
     Ok(Draft { images, perms })
 }
 
-/// Writes where the tetrahedra of a part go, by a relabelling to another part.
+/// Writes the images of the tetrahedra of `part` under `by`, a relabelling that carries `part` to `other`.
 pub fn write_part(draft: &mut Draft, part: &Part, other: &Part, by: &Relabelling)
     requires tets { All (λ t. t < length draft.old.images) part.now.numbers }
     requires perms { length draft.old.perms ≡ length draft.old.images }
@@ -57,7 +57,7 @@ pub fn write_part(draft: &mut Draft, part: &Part, other: &Part, by: &Relabelling
 }
 
 impl Draft {
-    /// Writes where a tetrahedron goes.
+    /// Writes the image and the permutation of tetrahedron `tet`.
     fn write(&mut self, tet: u32, image: u32, perm: Perm4)
         requires images { tet < length self.old.images }
         requires perms { tet < length self.old.perms }
@@ -67,7 +67,7 @@ impl Draft {
         self.perms[tet as usize] = perm;
     }
 
-    /// The relabelling as it is written, which is one.
+    /// The relabelling that was written, which is known to be valid.
     pub fn relabelling(self) -> Relabelling
         requires { IsRelabelling (length self.images) self }
         ensures { result ≡ self }

@@ -1,4 +1,5 @@
-//! The parts of a table, its component signature, and the relabelling that is answered of two tables part by part.
+//! The connected components of a table, its component signature, and the least isomorphism of two tables component by
+//! component.
 #![tactic(auto)]
 
 mod components;

@@ -1,4 +1,4 @@
-//! The relabelling that is answered of two tables, part by part.
+//! The least isomorphism of two tables, component by component.
 
 ghost use Rattle.std.specs.Prelude.{◌≡◌, ◌<◌, ◌+◌, ◌↔◌, length, IsTrue, IfOk, OnOk, IfSome, IfNone};
 ghost use Rattle.table_definitions.specs.Places.{IsConnected};
@@ -16,7 +16,7 @@ use gluing_table::{Relabelling, Table};
 use no_memory::NoMemory;
 use std::alloc::Global;
 
-/// Whether the signatures are the same, place by place.
+/// Whether `first` and `second` have equal signatures, index by index.
 fn agree(first: &[PartSignature], second: &[PartSignature]) -> bool
     ensures { IsTrue result ↔ (texts_of (entries_of first.now) ≡ texts_of (entries_of second.now)) }
 {
@@ -31,7 +31,7 @@ fn agree(first: &[PartSignature], second: &[PartSignature]) -> bool
     true
 }
 
-/// The relabelling that is answered of two connected tables of which one can be relabelled to the other.
+/// The least isomorphism from `first` to `second`, which are connected and isomorphic.
 fn relabelling_of_connected(
     alloc: Global,
     first: &Table,
@@ -48,7 +48,7 @@ fn relabelling_of_connected(
     }
 }
 
-/// Writes where the tetrahedra of the part at a place go.
+/// Writes the images of the tetrahedra of the component with index `place`.
 fn write_place(
     alloc: Global,
     draft: &mut Draft,
@@ -71,7 +71,7 @@ fn write_place(
     Ok(())
 }
 
-/// Where the tetrahedra of all parts go.
+/// The images of the tetrahedra of all components.
 fn draft_of_parts(
     alloc: Global,
     tets: u32,
@@ -90,9 +90,9 @@ fn draft_of_parts(
     Ok(draft)
 }
 
-/// The relabelling that is answered of two tables: the parts of both stand in the order of their signatures and then of their
-/// least tetrahedra, and each part goes to the other table's part at its place, as [`same`] tells of the two. Nothing exactly
-/// where no relabelling carries the first table to the second.
+/// An isomorphism from `first` to `second`, or `None` if and only if there is none. Both lists of components are
+/// ordered by signature and then by least tetrahedron, and each component is carried to the one with its index by the
+/// isomorphism that [`same`] returns.
 pub fn same_parts(
     alloc: Global,
     first: &Table,

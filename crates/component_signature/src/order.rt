@@ -1,4 +1,4 @@
-//! The parts of a table in the order of their signatures.
+//! The components of a table in the order of their signatures.
 
 ghost use Rattle.std.specs.Prelude.{All, IfOk, OnOk};
 ghost use Rattle.table_definitions.specs.Table.{IsTable};
@@ -14,21 +14,21 @@ use gluing_table::Table;
 use no_memory::NoMemory;
 use std::alloc::Global;
 
-/// The signature of a part, and the number of the part. The order is by the signature and then by the number.
+/// The signature of a component, and the index of the component. Ordered by signature, then by index.
 #[derive(PartialEq, Eq, PartialOrd, Ord, Drop)]
 pub struct PartSignature {
     pub signature: Vec<u8>,
     pub part: usize,
 }
 
-/// The parts of a table, and the signatures of all of them in order.
+/// The components of a table, and their signatures in order.
 #[derive(Drop)]
 pub struct OrderedParts {
     pub parts: Vec<Part>,
     pub signed: Vec<PartSignature>,
 }
 
-/// The signature of each part.
+/// The signature of each of `parts`.
 fn sign_parts(alloc: Global, parts: &[Part]) -> Result<Vec<PartSignature>, NoMemory>
     requires { All (λ (part : definition.Part). IsConnected part.rows) parts.now }
     ensures { IfOk result (λ signed. AreSigned parts.now (entries_of signed.items)) }
@@ -45,8 +45,7 @@ fn sign_parts(alloc: Global, parts: &[Part]) -> Result<Vec<PartSignature>, NoMem
     Ok(signed)
 }
 
-/// The parts of a table in the order of their signatures, and those of one signature in the order of their least
-/// tetrahedra.
+/// The components of `table`, and their signatures in lexicographic order, equal ones by least tetrahedron.
 pub fn in_order(alloc: Global, table: &Table) -> Result<OrderedParts, NoMemory>
     ensures parts { IfOk result (λ ordered. AreParts table.now ordered.parts.items) }
     ensures order { IfOk result (λ ordered. AreInOrder ordered.parts.items (entries_of ordered.signed.items)) }

@@ -1,4 +1,4 @@
-//! The rows of some tetrahedra, with the numbers of their places among these.
+//! The rows of a component, renumbered by their indices in it.
 
 ghost use Rattle.std.specs.Prelude.{◌≡◌, ◌<◌, ◌^◌, length, option_map, Contains, AllPairs, IfOk};
 ghost use Rattle.table_definitions.specs.Table as gluings;
@@ -10,7 +10,7 @@ ghost use Rattle.component_signature.specs.Components.{row_of};
 use gluing_table::{Face, Glue, Row, Table};
 use std::alloc::{AllocError, Global};
 
-/// The place of a tetrahedron among these.
+/// The index of `tet` in the ascending list `numbers`.
 fn place_in(numbers: &[u32], tet: u32) -> u32
     requires ascending { AllPairs (λ t u. t < u) numbers.now }
     requires few { length numbers.now < 2 ^ 32 }
@@ -23,7 +23,7 @@ fn place_in(numbers: &[u32], tet: u32) -> u32
     }
 }
 
-/// What a face of a part is glued to, renumbered.
+/// The gluing of `face`, renumbered by `numbers`.
 fn renumbered_glue(table: &Table, numbers: &[u32], face: Face) -> Option<Glue>
     requires table { IsTable table.now }
     requires part { IsPart table.now (record { rows = rows_of table.now numbers.now; numbers = numbers.now }) }
@@ -39,7 +39,7 @@ fn renumbered_glue(table: &Table, numbers: &[u32], face: Face) -> Option<Glue>
     }
 }
 
-/// The row of a tetrahedron of a part, renumbered.
+/// The row of `tet`, renumbered by `numbers`.
 fn renumbered_row(table: &Table, numbers: &[u32], tet: u32) -> Row
     requires table { IsTable table.now }
     requires part { IsPart table.now (record { rows = rows_of table.now numbers.now; numbers = numbers.now }) }
@@ -54,7 +54,7 @@ fn renumbered_row(table: &Table, numbers: &[u32], tet: u32) -> Row
     ]
 }
 
-/// The rows of the tetrahedra of a part, renumbered.
+/// The rows of the tetrahedra `numbers`, which are a component of `table`, renumbered by their indices in `numbers`.
 pub fn renumbered_rows(
     alloc: Global,
     table: &Table,

@@ -11,7 +11,7 @@ use no_memory::NoMemory;
 use std::alloc::Global;
 use text_io::append;
 
-/// The signatures with a full stop between each two; `a` where there is none.
+/// The signatures with a full stop between each two; `a` if there are none.
 fn join_signatures(alloc: Global, signed: &[PartSignature]) -> Result<Vec<u8>, NoMemory>
     ensures { IfOk result (λ text. text.items ≡ component_text (texts_of (entries_of signed.now))) }
 {
@@ -28,9 +28,9 @@ fn join_signatures(alloc: Global, signed: &[PartSignature]) -> Result<Vec<u8>, N
     Ok(text)
 }
 
-/// The component signature of a table: the signatures of its parts in ascending order, each as often as it occurs, with a
-/// full stop between each two; `a` where the table has no tetrahedra. Two tables have the same one exactly where a
-/// relabelling carries one to the other.
+/// The component signature of `table`: the signatures of its components in lexicographic order, each as often as it
+/// occurs, with a full stop between each two; `a` if there is no tetrahedron. Two tables have equal component
+/// signatures if and only if they are isomorphic.
 pub fn component_signature(alloc: Global, table: &Table) -> Result<Vec<u8>, NoMemory>
     ensures { IfOk result (λ text. IsComponentSignature table.now text.items) }
 {

@@ -1,4 +1,4 @@
-//! The parts of a table.
+//! Splits a table into its connected components.
 
 ghost use Rattle.std.specs.Prelude.{◌≡◌, ◌<◌, ◌^◌, length, IfOk, OnOk};
 ghost use Rattle.table_definitions.specs.Table.{IsTable};
@@ -13,7 +13,7 @@ use no_memory::NoMemory;
 use std::alloc::{AllocError, Global};
 use std::marker::Model;
 
-/// A component of a table as a table of its own, and the numbers of its tetrahedra in the whole table, ascending.
+/// A connected component as a table of its own, and the numbers of its tetrahedra in the whole table, ascending.
 #[derive(Drop)]
 pub struct Part {
     pub table: Table,
@@ -28,7 +28,7 @@ impl Model for Part {
     ghost view = { λ p. record { rows = p.table; numbers = p.numbers.items } };
 }
 
-/// The tetrahedra of a component.
+/// The tetrahedra of component `class`, ascending.
 fn members_of(alloc: Global, classes: &[u32], class: u32) -> Result<Vec<u32>, AllocError>
     requires { length classes.now < 2 ^ 32 }
     ensures { IfOk result (λ numbers. numbers.items ≡ members classes.now class) }
@@ -43,7 +43,7 @@ fn members_of(alloc: Global, classes: &[u32], class: u32) -> Result<Vec<u32>, Al
     Ok(members)
 }
 
-/// A component as a part.
+/// Component `class` as a table of its own.
 fn part_of(alloc: Global, table: &Table, classes: &[u32], class: u32) -> Result<Part, NoMemory>
     requires table { IsTable table.now }
     requires part { IsPart table.now (components.part_of table.now classes.now class) }
@@ -56,7 +56,7 @@ fn part_of(alloc: Global, table: &Table, classes: &[u32], class: u32) -> Result<
     Ok(Part { table, numbers })
 }
 
-/// The parts of a table: its components, ascending by their least tetrahedra.
+/// The connected components of `table`, ascending by their least tetrahedra.
 pub fn parts(alloc: Global, table: &Table) -> Result<Vec<Part>, NoMemory>
     ensures parts { IfOk result (λ parts. AreParts table.now parts.items) }
     ensures is_table { OnOk result (IsTable table.now) }

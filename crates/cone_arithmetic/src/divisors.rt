@@ -1,4 +1,4 @@
-// The common divisor of entries, and the entries divided by it.
+//! The common divisor of entries, and the entries divided by it.
 
 ghost use Rattle.std.specs.Prelude.{◌≡◌, ◌<◌, ◌/◌, map};
 ghost use Rattle.cone_arithmetic.specs.Combinations.{IsEntriesGcd};
@@ -6,7 +6,7 @@ ghost use Rattle.cone_arithmetic.specs.Combinations.{IsEntriesGcd};
 use crate::numbers::gcd;
 use crate::small::{gcd_of_small, quotient};
 
-/// The greatest common divisor of all entries. Once it is 1, no further entry is read.
+/// The greatest common divisor of `entries`. Once it is 1, no further entry is read.
 pub(crate) fn common_divisor(entries: &[u128]) -> u128
     ensures { IsEntriesGcd entries.now result }
 {
@@ -20,7 +20,7 @@ pub(crate) fn common_divisor(entries: &[u128]) -> u128
     divisor
 }
 
-/// The same of entries of 64 bits.
+/// As `common_divisor`, for entries of 64 bits.
 pub(crate) fn common_small_divisor(entries: &[u64]) -> u64
     ensures { IsEntriesGcd entries.now result }
 {
@@ -34,7 +34,7 @@ pub(crate) fn common_small_divisor(entries: &[u64]) -> u64
     divisor
 }
 
-/// Divides each entry. By 1 nothing is divided.
+/// Divides each of `entries` by `divisor`, unless that is 1.
 pub(crate) fn divide(entries: &mut [u128], divisor: u128)
     requires { 0 < divisor }
     ensures { entries.new ≡ map (λ entry. entry / divisor) entries.old }
@@ -44,7 +44,7 @@ pub(crate) fn divide(entries: &mut [u128], divisor: u128)
     }
 }
 
-/// Divides each entry, one by one.
+/// Divides each of `entries` by `divisor`.
 fn divide_each(entries: &mut [u128], divisor: u128)
     requires { 0 < divisor }
     ensures { entries.new ≡ map (λ entry. entry / divisor) entries.old }
@@ -54,7 +54,7 @@ fn divide_each(entries: &mut [u128], divisor: u128)
     }
 }
 
-/// Divides each entry of 64 bits. By 1 nothing is divided.
+/// Divides each of `entries`, of 64 bits, by `divisor`, unless that is 1.
 pub(crate) fn divide_small(entries: &mut [u64], divisor: u64)
     requires { 0 < divisor }
     ensures { entries.new ≡ map (λ entry. entry / divisor) entries.old }
@@ -64,7 +64,7 @@ pub(crate) fn divide_small(entries: &mut [u64], divisor: u64)
     }
 }
 
-/// Divides each entry of 64 bits, one by one.
+/// Divides each of `entries`, of 64 bits, by `divisor`.
 fn divide_each_small(entries: &mut [u64], divisor: u64)
     requires { 0 < divisor }
     ensures { entries.new ≡ map (λ entry. entry / divisor) entries.old }

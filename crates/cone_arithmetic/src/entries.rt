@@ -1,4 +1,4 @@
-// Where a packed ray keeps its entries.
+//! The entries of packed rays.
 
 ghost use Rattle.std.specs.Prelude.{◌≡◌, ◌<◌, length, slice_index, slice_set, IfOk, IfSome};
 ghost use Rattle.cone_arithmetic.specs.RayEntries.{numbers_of};
@@ -7,14 +7,14 @@ use crate::small::MAX_SMALL;
 use no_memory::NoMemory;
 use std::alloc::Global;
 
-/// Entries, in 64 bits each, or in 128 bits where one may need them.
+/// Entries in 64 bits each, or in 128 bits each.
 #[derive(Drop)]
 pub(crate) enum Entries {
     Small(Vec<u64>),
     Large(Vec<u128>),
 }
 
-/// Numbers of 64 bits, in 128 bits each.
+/// The numbers `small`, in 128 bits each.
 fn widen(alloc: Global, small: &[u64]) -> Result<Vec<u128>, NoMemory>
     ensures { IfOk result (λ wide. wide.items ≡ small.now) }
 {
@@ -25,7 +25,7 @@ fn widen(alloc: Global, small: &[u64]) -> Result<Vec<u128>, NoMemory>
     Ok(wide)
 }
 
-/// How many entries there are.
+/// The number of entries.
 pub(crate) fn count(entries: &Entries) -> usize
     ensures { result ≡ length (numbers_of entries.now) }
 {
@@ -35,7 +35,7 @@ pub(crate) fn count(entries: &Entries) -> usize
     }
 }
 
-/// One entry.
+/// The entry in `column`.
 pub(crate) fn entry(entries: &Entries, column: usize) -> u128
     requires { column < length (numbers_of entries.now) }
     ensures { result ≡ slice_index (numbers_of entries.now) column }
@@ -46,7 +46,7 @@ pub(crate) fn entry(entries: &Entries, column: usize) -> u128
     }
 }
 
-/// The entries, where they are kept in 64 bits each.
+/// The entries as they are, if they have 64 bits each.
 pub(crate) fn small_entries(entries: &Entries) -> Option<&[u64]>
     ensures { IfSome result (λ small. small.now ≡ numbers_of entries.now) }
 {
@@ -56,7 +56,7 @@ pub(crate) fn small_entries(entries: &Entries) -> Option<&[u64]>
     }
 }
 
-/// The entries, in 128 bits each.
+/// A copy of the entries, in 128 bits each.
 pub(crate) fn wide_entries(alloc: Global, entries: &Entries) -> Result<Vec<u128>, NoMemory>
     ensures { IfOk result (λ wide. wide.items ≡ numbers_of entries.now) }
 {
@@ -70,7 +70,7 @@ pub(crate) fn wide_entries(alloc: Global, entries: &Entries) -> Result<Vec<u128>
     }
 }
 
-/// The same, of entries that are given away.
+/// As `wide_entries`, but takes ownership of `entries`.
 pub(crate) fn into_wide(alloc: Global, entries: Entries) -> Result<Vec<u128>, NoMemory>
     ensures { IfOk result (λ wide. wide.items ≡ numbers_of entries) }
 {
@@ -80,7 +80,7 @@ pub(crate) fn into_wide(alloc: Global, entries: Entries) -> Result<Vec<u128>, No
     }
 }
 
-/// The entries with another one in a column.
+/// `entries` with `value` in `column`.
 pub(crate) fn with_entry(
     alloc: Global,
     entries: Entries,

@@ -1,4 +1,4 @@
-// The sums of two vectors at the columns of a support.
+//! Combinations of two vectors, computed at the columns of a support.
 
 ghost use Rattle.std.specs.Prelude.{◌≡◌, ◌+◌, ◌*◌, ◌<◌, ◌≤◌, ◌^◌, ℕ, length, slice_index, IsTrue, IfOk, IfSome};
 ghost use Rattle.cone_definitions.specs.Vectors.{multiple, sum_of};
@@ -8,7 +8,8 @@ use crate::small::small_sum;
 use no_memory::NoMemory;
 use std::alloc::Global;
 
-/// Fills in the sums at 64 columns from one on, those whose bits are set. False where one passes the limit or 64 bits.
+/// Writes the entries of `a * w + b * u` at those of the 64 columns from `first` on whose bits are set. False if one
+/// exceeds `limit` or does not fit in 64 bits.
 fn fill_word(
     sums: &mut Vec<u64>,
     first: usize,
@@ -40,7 +41,8 @@ fn fill_word(
     true
 }
 
-/// The entries of a times w plus b times u, at the columns that words name; nothing where one passes the limit or 64 bits.
+/// The entries of `a * w + b * u`, computed at the columns that `words` names; `None` if one exceeds `limit` or does
+/// not fit in 64 bits.
 pub(crate) fn sums_at(
     alloc: Global,
     words: &[u64],

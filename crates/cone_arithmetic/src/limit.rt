@@ -1,11 +1,12 @@
-// What entries may not pass.
+//! The limit on numbers.
 
 ghost use Rattle.std.specs.Prelude.{◌≤◌};
 ghost use Rattle.cone_arithmetic.specs.declared.numbers.TheConstants.{MAX_ENTRY};
 
 use crate::numbers::MAX_ENTRY;
 
-/// What no entry of a ray may pass, and no part of a row at one: a number up to the greatest entry.
+/// The greatest number allowed for an entry of a ray, and for the positive and the negative part of a row at a ray.
+/// Invariant: at most `MAX_ENTRY`.
 #[derive(Clone, Copy)]
 pub struct Limit {
     pub number: u128,

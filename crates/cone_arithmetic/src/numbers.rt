@@ -1,4 +1,4 @@
-// Greatest common divisors, and a row's parts at a vector.
+//! Greatest common divisors, and the positive and negative parts of a row at a vector.
 
 ghost use Rattle.std.specs.Prelude.{◌≡◌, ◌+◌, ◌*◌, ◌<◌, ◌≤◌, ◌⊎◌, ◌↔◌, length, IfOk, OnOk, OnErr, IsErr};
 ghost use Rattle.std.specs.Int.{IsGcd};
@@ -9,21 +9,23 @@ ghost use Rattle.cone_arithmetic.specs.Sparse.{IsInRange, ArePartsAt};
 use crate::row::SparseRow;
 use crate::small::{MAX_SMALL, gcd_with_small, product};
 
-/// The greatest entry of a ray, 2^127 - 1.
+/// The greatest entry of a ray: 2^127 - 1.
 pub const MAX_ENTRY: u128 = 170141183460469231731687303715884105727;
 
-/// A number passes the limit.
+/// A number exceeds the limit.
 #[derive(Clone, Copy)]
 pub struct Passed;
 
-/// The two parts of a row at a vector: the sum of its positive terms, and that of its negative ones without their sign.
+/// The positive and the negative part of a row at a vector: the sum of its positive terms, and the sum of the
+/// magnitudes of its negative terms.
 #[derive(Clone, Copy)]
 pub struct PlusMinus {
     pub plus: u128,
     pub minus: u128,
 }
 
-/// The greatest common divisor; that of 0 and 0 is 0. Once the lesser number has 64 bits, so has all but one remainder.
+/// The greatest common divisor of `a` and `b`; that of 0 and 0 is 0. Once the lesser number fits in 64 bits, so do all
+/// but one of the remainders.
 pub fn gcd(a: u128, b: u128) -> u128
     ensures { IsGcd a b result }
 {
@@ -37,7 +39,7 @@ pub fn gcd(a: u128, b: u128) -> u128
     gcd_with_small(greater, lesser as u64)
 }
 
-/// A sum and one product more, where that is within the limit.
+/// `sum + magnitude * entry`. Fails if that exceeds `limit`.
 fn add_product(sum: u128, magnitude: u32, entry: u128, limit: u128) -> Result<u128, Passed>
     requires within { sum ≤ limit }
     ensures ok { IfOk result (λ after. after ≡ sum + magnitude * entry) }
@@ -50,7 +52,8 @@ fn add_product(sum: u128, magnitude: u32, entry: u128, limit: u128) -> Result<u1
     }
 }
 
-/// The parts with one term more. Most entries of rays are 0, so that is asked first.
+/// The parts `sums` with one more term. Fails if a part exceeds `limit`. Most entries of rays are 0, so that case comes
+/// first.
 fn add_term(
     sums: PlusMinus,
     coefficient: i32,
@@ -84,7 +87,7 @@ fn add_term(
     }
 }
 
-/// The parts of a row's entries at a vector of entries of 64 bits, where neither passes the limit.
+/// The parts of a row at `x`, with entries of 64 bits. Fails if a part exceeds `limit`.
 pub(crate) fn small_parts(
     entries: &[(u32, i32)],
     x: &[u64],
@@ -102,7 +105,7 @@ pub(crate) fn small_parts(
     Ok(sums)
 }
 
-/// The same at a vector of entries of 128 bits.
+/// The parts of a row at `x`, with entries of 128 bits. Fails if a part exceeds `limit`.
 pub(crate) fn parts_of(entries: &[(u32, i32)], x: &[u128], limit: u128) -> Result<PlusMinus, Passed>
     requires in_range { IsInRange (length x.now) entries.now }
     ensures ok { IfOk result (ArePartsAt entries.now x.now) }
@@ -116,7 +119,7 @@ pub(crate) fn parts_of(entries: &[(u32, i32)], x: &[u128], limit: u128) -> Resul
     Ok(sums)
 }
 
-/// The parts of a row at a vector, where neither passes the limit.
+/// The positive and the negative part of `row` at `x`. Fails with `Passed` if and only if one of them exceeds `limit`.
 pub fn parts(row: &SparseRow, x: &[u128], limit: u128) -> Result<PlusMinus, Passed>
     requires in_range { IsInRange (length x.now) row.now }
     ensures ok { IfOk result (ArePartsAt row.now x.now) }

@@ -1,5 +1,5 @@
-// Rays as the steps keep them. A large step reads most of its rays' entries and writes as many again, so it takes the time that
-// memory takes. Nearly all entries fit in 64 bits, and so they take half of the room.
+//! Rays as the steps store them. A large step reads most entries of its rays and writes as many, so memory bounds its
+//! speed. Nearly all entries fit in 64 bits, which halves the memory.
 
 ghost use Rattle.std.specs.Prelude.{◌≡◌, ℕ, ◌<◌, ◌≤◌, ◌↔◌, length, IfOk, OnOk, IfErr, IfSome, IsErr, slice_index, slice_set};
 ghost use Rattle.std.specs.Ordering.{nat_cmp};
@@ -26,7 +26,8 @@ use std::cmp::Ordering;
 use std::marker::Model;
 use support_bits::Support;
 
-/// A ray whose entries are kept in 64 bits each, or in 128 where one may need them.
+/// A ray whose entries are stored in 64 bits each, or in 128 bits each. Invariant: at most `MAX_ENTRY`, not all 0, with
+/// greatest common divisor 1.
 #[derive(Drop)]
 pub struct PackedRay {
     entries: Entries,
@@ -46,7 +47,7 @@ impl Model for PackedRay {
 }
 
 impl PackedRay {
-    /// The ray that is 1 at a place and 0 elsewhere.
+    /// The unit vector that is 1 in column `place`, of `columns` columns.
     pub fn unit(alloc: Global, columns: u32, place: u32) -> Result<PackedRay, NoMemory>
         requires { place < columns }
         ensures { IfOk result (λ ray. ray ≡ unit columns place) }
@@ -58,7 +59,7 @@ impl PackedRay {
         })
     }
 
-    /// How many entries it has.
+    /// The number of entries.
     pub fn columns(&self) -> usize
         ensures columns { result ≡ length self.now }
         ensures reduced { IsReduced MAX_ENTRY self.now }
@@ -66,7 +67,7 @@ impl PackedRay {
         count(&self.entries)
     }
 
-    /// The entry in a column.
+    /// The entry in `column`.
     fn entry(&self, column: usize) -> u128
         requires { column < length self.now }
         ensures entry { result ≡ slice_index self.now column }
@@ -75,7 +76,8 @@ impl PackedRay {
         entry(&self.entries, column)
     }
 
-    /// The parts of a row at the ray, where neither passes the limit.
+    /// The positive and the negative part of `row` at the ray. Fails with `Passed` if and only if one of them exceeds
+    /// `limit`.
     pub fn parts(&self, row: &SparseRow, limit: u128) -> Result<PlusMinus, Passed>
         requires in_range { IsInRange (length self.now) row.now }
         ensures ok { IfOk result (ArePartsAt row.now self.now) }
@@ -88,7 +90,7 @@ impl PackedRay {
         }
     }
 
-    /// The lexicographic order of two rays, a prefix first.
+    /// The lexicographic order of the ray and `other`; a prefix is less.
     pub fn compare(&self, other: &PackedRay) -> Ordering
         ensures { result ≡ slice_cmp nat_cmp self.now other.now }
     {
@@ -99,7 +101,7 @@ impl PackedRay {
         }
     }
 
-    /// The ray with another entry in a column where its entry is 0.
+    /// The ray with entry `value` in `column`, in which its entry is 0.
     pub fn with_new_entry(
         self,
         alloc: Global,
@@ -116,7 +118,7 @@ impl PackedRay {
         Ok(PackedRay { entries })
     }
 
-    /// The ray, in 128 bits an entry.
+    /// A copy of the ray, with 128 bits for each entry.
     pub fn to_ray(&self, alloc: Global) -> Result<Ray, NoMemory>
         ensures { IfOk result (λ ray. ray ≡ self.now) }
     {
@@ -124,7 +126,7 @@ impl PackedRay {
         Ok(Ray { entries })
     }
 
-    /// The same, and where entries have 128 bits already, without memory.
+    /// As `to_ray`, but takes ownership; allocates nothing if the entries have 128 bits already.
     pub fn into_ray(self, alloc: Global) -> Result<Ray, NoMemory>
         ensures { IfOk result (λ ray. ray ≡ self) }
     {
@@ -133,7 +135,7 @@ impl PackedRay {
         Ok(Ray { entries })
     }
 
-    /// A ray as it is.
+    /// `ray` as a packed ray.
     fn of(ray: Ray) -> PackedRay
         ensures { result ≡ ray }
     {
@@ -158,7 +160,8 @@ fn compare_each(a: &PackedRay, b: &PackedRay) -> Ordering
     a.columns().cmp(&b.columns())
 }
 
-/// The entries of a times w plus b times u at the columns of a support, where all of these numbers are of 64 bits.
+/// The entries of `a * w + b * u` at the columns of `support`; `None` if a number does not fit in 64 bits or exceeds
+/// `limit`.
 fn small_sums(
     alloc: Global,
     support: &Support,
@@ -195,7 +198,7 @@ fn small_sums(
     )
 }
 
-/// The combination of two rays at which a row has these values, by arithmetic of 128 bits.
+/// As `combine`, for packed rays.
 fn combine_wide(
     alloc: Global,
     u: &PackedRay,
@@ -217,7 +220,8 @@ fn combine_wide(
     Ok(PackedRay::of(ray))
 }
 
-/// The same combination of two rays inside a support, whose columns alone are looked at.
+/// As `combine`, for packed rays whose supports lie in `support`, the only columns that are computed. Fails with
+/// `Passed`, which names the first column whose entry exceeds `limit`.
 pub fn combine_inside(
     alloc: Global,
     u: &PackedRay,

@@ -1,4 +1,4 @@
-// Rays, and the combination of two.
+//! Rays, and combinations of two rays.
 
 ghost use Rattle.std.specs.Prelude.{◌≡◌, ◌≢◌, ℕ, List, [], ◌++◌, ◌+◌, ◌*◌, ◌<◌, ◌≤◌, ◌^◌, ◌↔◌, length, IfOk, OnOk, IfErr, IfSome, IfNone, IsErr, slice_index};
 ghost use Rattle.std.specs.Ordering.{nat_cmp};
@@ -19,7 +19,7 @@ use std::alloc::{AllocError, AllocFailed, Global};
 use std::cmp::Ordering;
 use std::marker::Model;
 
-/// A vector of entries up to the greatest one, not all 0, of greatest common divisor 1.
+/// A primitive integer vector. Invariant: entries at most `MAX_ENTRY`, not all 0, with greatest common divisor 1.
 #[derive(Drop)]
 pub struct Ray {
     pub(crate) entries: Vec<u128>,
@@ -38,7 +38,7 @@ impl Model for Ray {
     ghost invariant = { λ ray. IsReduced MAX_ENTRY ray.entries.items };
 }
 
-/// Why two rays aren't combined: the first column whose entry passes the limit, or want of memory.
+/// Why two rays are not combined: `column` is the first whose entry exceeds the limit, or memory runs out.
 #[derive(Clone, Copy)]
 pub enum CombineFault {
     Passed { column: u32 },
@@ -79,7 +79,7 @@ impl<T: Drop> From<AllocFailed<T>> for CombineFault {
 }
 
 impl Ray {
-    /// The ray that is 1 at a place and 0 elsewhere.
+    /// The unit vector that is 1 in column `place`, of `columns` columns.
     pub fn unit(alloc: Global, columns: u32, place: u32) -> Result<Ray, NoMemory>
         requires { place < columns }
         ensures { IfOk result (λ ray. ray ≡ unit columns place) }
@@ -97,7 +97,7 @@ impl Ray {
         self.entries.as_slice()
     }
 
-    /// How many entries it has.
+    /// The number of entries.
     pub fn columns(&self) -> usize
         ensures columns { result ≡ length self.now }
         ensures reduced { IsReduced MAX_ENTRY self.now }
@@ -105,7 +105,7 @@ impl Ray {
         self.entries.len()
     }
 
-    /// The entry in a column.
+    /// The entry in `column`.
     pub fn entry(&self, column: usize) -> u128
         requires { column < length self.now }
         ensures entry { result ≡ slice_index self.now column }
@@ -114,7 +114,7 @@ impl Ray {
         self.entries[column]
     }
 
-    /// A ray with the same entries.
+    /// A copy of the ray.
     pub fn copy(&self, alloc: Global) -> Result<Ray, NoMemory>
         ensures { IfOk result (λ ray. ray ≡ self.now) }
     {
@@ -122,7 +122,8 @@ impl Ray {
         Ok(Ray { entries })
     }
 
-    /// The parts of a row at the ray, where neither passes the limit.
+    /// The positive and the negative part of `row` at the ray. Fails with `Passed` if and only if one of them exceeds
+    /// `limit`.
     pub fn parts(&self, row: &SparseRow, limit: u128) -> Result<PlusMinus, Passed>
         requires in_range { IsInRange (length self.now) row.now }
         ensures ok { IfOk result (ArePartsAt row.now self.now) }
@@ -132,7 +133,7 @@ impl Ray {
         parts(row, &self.entries, limit)
     }
 
-    /// The lexicographic order of two rays, a prefix first.
+    /// The lexicographic order of the ray and `other`; a prefix is less.
     pub fn compare(&self, other: &Ray) -> Ordering
         ensures { result ≡ slice_cmp nat_cmp self.now other.now }
     {
@@ -140,7 +141,7 @@ impl Ray {
     }
 }
 
-/// The lexicographic order of two vectors, a prefix first.
+/// The lexicographic order of `a` and `b`; a prefix is less.
 pub fn compare(a: &[u128], b: &[u128]) -> Ordering
     ensures order { result ≡ slice_cmp nat_cmp a.now b.now }
     ensures before { length a.now ≡ length b.now → (result ≡ Ordering.Less) ↔ IsBefore a.now b.now }
@@ -149,7 +150,7 @@ pub fn compare(a: &[u128], b: &[u128]) -> Ordering
     a.cmp(b)
 }
 
-/// The sum of two products, where it is within the limit.
+/// `a * x + b * y`, or `None` if it exceeds `limit`.
 fn sum_within(a: u128, x: u128, b: u128, y: u128, limit: u128) -> Option<u128>
     ensures some { IfSome result (λ sum. sum ≡ a * x + b * y) }
     ensures within { IfSome result (λ sum. sum ≤ limit) }
@@ -164,7 +165,7 @@ fn sum_within(a: u128, x: u128, b: u128, y: u128, limit: u128) -> Option<u128>
     }
 }
 
-/// The entries of a times w plus b times u, up to the limit.
+/// The entries of `a * w + b * u`. Fails with `Passed` at the first column whose entry exceeds `limit`.
 fn sums_within(
     alloc: Global,
     a: u128,
@@ -193,7 +194,9 @@ fn sums_within(
     Ok(sums)
 }
 
-/// The combination of two rays at which a row has these values, with the common divisor of its entries taken out.
+/// `at_u * w + at_w * u`, divided by the greatest common divisor of `at_u` and `at_w`, and then by that of its entries.
+/// A row with the values `at_u` at `u` and `-at_w` at `w` is 0 there. Fails with `Passed` at the first column whose
+/// entry exceeds `limit` before the second division.
 pub fn combine(
     alloc: Global,
     u: &Ray,

@@ -1,4 +1,4 @@
-// One row of a system, by its nonzero coefficients.
+//! Rows of a system, by their nonzero coefficients.
 
 ghost use Rattle.std.specs.Prelude.{◌≡◌, ◌≤◌, length, IsOk, IfOk};
 ghost use Rattle.cone_arithmetic.specs.Sparse.{IsSparse};
@@ -11,7 +11,7 @@ use std::marker::Model;
 /// The greatest magnitude of a coefficient.
 pub const MAX_COEFFICIENT: u32 = 1000000;
 
-/// A row: its nonzero coefficients with their columns, in ascending order.
+/// A row: its nonzero coefficients with their columns, ascending.
 #[derive(Drop)]
 pub struct SparseRow {
     entries: SmallVec<(u32, i32), 8>,
@@ -30,7 +30,7 @@ impl Model for SparseRow {
 }
 
 impl SparseRow {
-    /// A row of these entries. Up to eight take no memory.
+    /// A row that copies `entries`. Up to eight entries need no allocation.
     pub fn new(alloc: Global, entries: &[(u32, i32)]) -> Result<SparseRow, NoMemory>
         requires { IsSparse entries.now }
         ensures keeps { IfOk result (λ row. row ≡ entries.now) }
@@ -40,7 +40,7 @@ impl SparseRow {
         Ok(SparseRow { entries })
     }
 
-    /// The row of these entries, which are moved in.
+    /// A row that takes ownership of `entries`.
     pub fn of(entries: SmallVec<(u32, i32), 8>) -> SparseRow
         requires { IsSparse entries.items }
         ensures { result ≡ entries.items }
@@ -48,7 +48,7 @@ impl SparseRow {
         SparseRow { entries }
     }
 
-    /// The columns, ascending, each with its coefficient.
+    /// The columns of the row, ascending, each with its coefficient.
     pub fn entries(&self) -> &[(u32, i32)]
         ensures entries { result.now ≡ self.now }
         ensures sparse { IsSparse self.now }

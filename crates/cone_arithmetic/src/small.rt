@@ -1,12 +1,12 @@
-// Products, quotients and common divisors, by arithmetic of 64 bits where the numbers fit in it.
+//! Products, quotients and common divisors, in 64 bits if the numbers fit.
 
 ghost use Rattle.std.specs.Prelude.{◌≡◌, ◌+◌, ◌*◌, ◌/◌, ◌<◌, ◌≤◌, ◌^◌, IfSome, IfNone};
 ghost use Rattle.std.specs.Int.{IsGcd};
 
-/// The greatest number of 64 bits, 2^64 - 1.
+/// The greatest number of 64 bits: 2^64 - 1.
 pub(crate) const MAX_SMALL: u128 = 18446744073709551615;
 
-/// The sum of two products, where it is within the limit and each of the three fits in 64 bits. Most factors are 1.
+/// `a * x + b * y` if it is at most `limit` and the products and the sum fit in 64 bits. Most factors are 1.
 pub(crate) fn small_sum(a: u64, x: u64, b: u64, y: u64, limit: u128) -> Option<u64>
     ensures some { IfSome result (λ sum. sum ≡ a * x + b * y) }
     ensures within { IfSome result (λ sum. sum ≤ limit) }
@@ -23,7 +23,7 @@ pub(crate) fn small_sum(a: u64, x: u64, b: u64, y: u64, limit: u128) -> Option<u
     }
 }
 
-/// The product, where it fits in 128 bits.
+/// `a * b`, or `None` if it does not fit in 128 bits.
 pub(crate) fn product(a: u128, b: u128) -> Option<u128>
     ensures some { IfSome result (λ product. product ≡ a * b) }
     ensures none { IfNone result (2 ^ 128 ≤ a * b) }
@@ -35,14 +35,14 @@ pub(crate) fn product(a: u128, b: u128) -> Option<u128>
     }
 }
 
-/// The product of two numbers of 64 bits, which always fits.
+/// `a * b`, which fits in 128 bits.
 fn product_of_small(a: u64, b: u64) -> u128
     ensures { result ≡ a * b }
 {
     u128::from(a) * u128::from(b)
 }
 
-/// The quotient, rounded down.
+/// `a / b`, rounded down.
 pub(crate) fn quotient(a: u128, b: u128) -> u128
     requires { 0 < b }
     ensures { result ≡ a / b }
@@ -54,7 +54,7 @@ pub(crate) fn quotient(a: u128, b: u128) -> u128
     }
 }
 
-/// The greatest common divisor of two numbers of 64 bits; that of 0 and 0 is 0.
+/// The greatest common divisor of `a` and `b`; that of 0 and 0 is 0.
 pub(crate) fn gcd_of_small(a: u64, b: u64) -> u64
     ensures { IsGcd a b result }
 {
@@ -68,7 +68,7 @@ pub(crate) fn gcd_of_small(a: u64, b: u64) -> u64
     greater
 }
 
-/// The greatest common divisor of a number and one of 64 bits. At most one remainder is of 128 bits.
+/// The greatest common divisor of `a` and `b`. At most one remainder needs 128 bits.
 pub(crate) fn gcd_with_small(a: u128, b: u64) -> u128
     ensures { IsGcd a b result }
 {

@@ -1,4 +1,4 @@
-// Systems of rows, and their solutions.
+//! Systems of rows, and their solutions.
 
 ghost use Rattle.std.specs.Prelude.{◌≡◌, ◌+◌, ◌<◌, ◌^◌, ◌↔◌, [], ◌∷◌, ◌++◌, length, IsOk, OnOk, OnErr, IfErr, slice_index_or};
 ghost use Rattle.std.specs.List.{All};
@@ -13,7 +13,8 @@ use no_memory::NoMemory;
 use std::alloc::Global;
 use std::marker::Model;
 
-/// A system of rows over a number of columns.
+/// A system of linear equations: rows over `columns` columns. Invariant: fewer than 2^32 rows, each with columns below
+/// `columns` and coefficients up to `MAX_COEFFICIENT`.
 #[derive(Drop)]
 pub struct System {
     columns: u32,
@@ -35,7 +36,8 @@ impl Model for System {
     ghost invariant = { λ s. (length s.rows.items < 2 ^ 32) × All (IsInRange s.columns) s.rows.items };
 }
 
-/// Why a vector is no solution: the first row at which a part passes the greatest entry, or which isn't 0.
+/// Why a vector is no solution: `row` is the first row at which a part exceeds `MAX_ENTRY` (`Passed`), or which is not
+/// 0 (`NotZero`).
 #[derive(Clone, Copy)]
 pub enum SolutionFault {
     Passed { row: u32 },
@@ -43,7 +45,7 @@ pub enum SolutionFault {
 }
 
 impl System {
-    /// A system of no rows.
+    /// A system of `columns` columns without rows.
     pub fn new(alloc: Global, columns: u32) -> System
         ensures columns { result.columns ≡ columns }
         ensures rows { result.rows ≡ [] }
@@ -54,7 +56,7 @@ impl System {
         }
     }
 
-    /// Appends a row.
+    /// Appends `row`. If memory runs out the system is unchanged.
     pub fn push_row(&mut self, row: SparseRow) -> Result<(), NoMemory>
         requires in_range { IsInRange self.old.columns row }
         requires room { length self.old.rows + 1 < 2 ^ 32 }
@@ -65,21 +67,21 @@ impl System {
         Ok(())
     }
 
-    /// How many columns it has.
+    /// The number of columns.
     pub fn columns(&self) -> u32
         ensures { result ≡ self.now.columns }
     {
         self.columns
     }
 
-    /// How many rows it has.
+    /// The number of rows.
     pub fn len(&self) -> u32
         ensures { result ≡ length self.now.rows }
     {
         self.rows.len() as u32
     }
 
-    /// One row.
+    /// The row with index `i`.
     pub fn row(&self, i: u32) -> &SparseRow
         requires { i < length self.now.rows }
         ensures row { result.now ≡ slice_index_or self.now.rows i [] }
@@ -89,7 +91,8 @@ impl System {
     }
 }
 
-/// Whether a vector without negative entries is a solution, with parts up to the greatest entry.
+/// Checks that `x`, with one nonnegative entry for each column, solves `system`. Fails at the first row of which a part
+/// exceeds `MAX_ENTRY` (`Passed`), or which is not 0 at `x` (`NotZero`).
 pub fn is_solution(system: &System, x: &[u128]) -> Result<(), SolutionFault>
     requires { length x.now ≡ system.now.columns }
     ensures ok { IsOk result ↔ All (IsMet MAX_ENTRY x.now) system.now.rows }

@@ -1,4 +1,4 @@
-// Cones in text: `cone C R`, and R lines of C coefficients, or no line where C is 0.
+//! Reads cones in text: `cone C R`, and R lines of C coefficients, or no line if C is 0.
 
 ghost use Rattle.std.specs.Prelude.{◌≡◌, ◌<◌, IfOk, OnOk, ◌++◌, replicate, []};
 ghost use Rattle.cone_arithmetic.specs.Sparse.{IsInRange};
@@ -11,10 +11,10 @@ use smallvec::SmallVec;
 use std::alloc::{AllocFailed, Global};
 use text_io::{LexFault, Lexer};
 
-/// The most columns and the most rows of a cone in text.
+/// The greatest number of columns and of rows of a cone in text.
 const MAX_COUNT: u128 = 10000;
 
-/// Why no cone is read: the lexer's first fault, or want of memory.
+/// Why `read_cone` fails: the first error in the text, or memory runs out.
 #[derive(Clone, Copy)]
 pub enum ConeFault {
     Lex(LexFault),
@@ -54,7 +54,7 @@ impl<T: Drop> From<AllocFailed<T>> for ConeFault {
     }
 }
 
-/// Appends a coefficient, if it isn't 0.
+/// Appends a coefficient, unless it is 0.
 fn push_coefficient(
     entries: &mut SmallVec<(u32, i32), 8>,
     column: u32,
@@ -68,7 +68,7 @@ fn push_coefficient(
     Ok(())
 }
 
-/// So many coefficients of the current line, as a row.
+/// Reads the next `columns` coefficients of the line as a row.
 fn read_entries(alloc: Global, lexer: &mut Lexer<'_>, columns: u32) -> Result<SparseRow, ConeFault>
     ensures gives { GivesHere (λ row. row) result lexer.new (sparse_entries_at columns lexer.old) }
     ensures in_range { IfOk result (IsInRange columns) }
@@ -81,7 +81,7 @@ fn read_entries(alloc: Global, lexer: &mut Lexer<'_>, columns: u32) -> Result<Sp
     Ok(SparseRow::of(entries))
 }
 
-/// A line of so many coefficients.
+/// Reads a line of `columns` coefficients.
 #[tactic(auto, unfolding(cone_text_definitions::specs::ConeText::cone_row_at))]
 fn read_row(alloc: Global, lexer: &mut Lexer<'_>, columns: u32) -> Result<SparseRow, ConeFault>
     ensures gives { GivesHere (λ row. row) result lexer.new (sparse_row_at columns lexer.old) }
@@ -93,7 +93,7 @@ fn read_row(alloc: Global, lexer: &mut Lexer<'_>, columns: u32) -> Result<Sparse
     Ok(row)
 }
 
-/// So many lines of a row each.
+/// Reads the next `count` lines as rows of `columns` coefficients.
 fn read_rows(
     alloc: Global,
     lexer: &mut Lexer<'_>,
@@ -111,7 +111,7 @@ fn read_rows(
     Ok(system)
 }
 
-/// So many rows without columns, of which no line stands in the text.
+/// A system of `count` rows without columns, for which the text has no lines.
 fn rows_of_no_columns(alloc: Global, count: u32) -> Result<System, NoMemory>
     ensures rows { IfOk result (λ system. system.rows ≡ replicate count []) }
     ensures columns { IfOk result (λ system. system.columns ≡ 0) }
@@ -123,7 +123,9 @@ fn rows_of_no_columns(alloc: Global, count: u32) -> Result<System, NoMemory>
     Ok(system)
 }
 
-/// A cone, from the current line on, of which no word was taken yet.
+/// Reads a cone from the current line on, of which no word is read yet. Fails with the first error in the text:
+/// `BadWord` also if the first word is not `cone`, and `NumberTooWide` for a count above 10,000 or a coefficient of
+/// magnitude above 1,000,000.
 #[tactic(auto, unfolding(cone_text_definitions::specs::ConeText::cone_at, text_definitions::specs::Reading::exactly_at))]
 pub fn read_cone(alloc: Global, lexer: &mut Lexer<'_>) -> Result<System, ConeFault>
     ensures { GivesCone result lexer.new (cone_at lexer.old) }

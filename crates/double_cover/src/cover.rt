@@ -1,4 +1,4 @@
-//! Double covers.
+//! Orientable double covers.
 
 ghost use Rattle.std.specs.Prelude.{◌≡◌, ◌*◌, ◌<◌, ◌≤◌, length, Some, None, IfOk, IfErr, OnOk, IfSome};
 ghost use Rattle.std.specs.Option.{option_copied, option_map};
@@ -19,7 +19,7 @@ use skeleton::Skeleton;
 use std::alloc::{AllocError, Global};
 use std::marker::Model;
 
-/// The orientable double cover of a table. Contracts see the rows of the table that it covers.
+/// The orientable double cover of a table. Contracts see the rows of the covered table.
 #[derive(Drop)]
 pub struct Cover {
     base: Table,
@@ -42,10 +42,10 @@ impl Model for Cover {
     ghost invariant = { λ c. (2 * length c.base ≤ max_tets) × IsTable c.base × (c.table ≡ definition.cover c.base) × IsOrientation c.base (option_map items_of c.signs) };
 }
 
-/// That the cover would have more tetrahedra than a table may have, or want of memory.
+/// Why `of` fails: the cover would have more than `MAX_TETS` tetrahedra, or memory runs out.
 pub type CoverFault = Failure<LargeCover>;
 
-/// The same signs once more.
+/// Copies `signs`.
 fn copy_signs(alloc: Global, signs: Option<&[bool]>) -> Result<Option<Vec<bool>>, AllocError>
     ensures { IfOk result (λ copy. option_map items_of copy ≡ option_copied signs.entry) }
 {
@@ -59,9 +59,9 @@ fn copy_signs(alloc: Global, signs: Option<&[bool]>) -> Result<Option<Vec<bool>>
 }
 
 impl Cover {
-    /// The orientable double cover of a table: a tetrahedron on each of two sheets over each of the table's. Over an odd
-    /// gluing the sheet stays, and over an even one it changes (the orientation cover of a triangulation, as in Regina's
-    /// `makeDoubleCover`). Refused exactly where the cover would have more than [`MAX_TETS`] tetrahedra.
+    /// The orientable double cover of the table of `skeleton`, with one tetrahedron on each of two sheets over every
+    /// tetrahedron. Across an odd gluing the sheet is the same, and across an even one it changes, as in Regina's
+    /// `makeDoubleCover`. Fails with [`TooMany`] if the cover would have more than [`MAX_TETS`] tetrahedra.
     pub fn of(alloc: Global, skeleton: &Skeleton) -> Result<Cover, CoverFault>
         ensures cover { IfOk result (λ c. c ≡ skeleton.now.rows) }
         ensures fits { OnOk result (definition.cover_fault skeleton.now.rows ≡ None) }
@@ -77,7 +77,7 @@ impl Cover {
         Ok(Cover { base, table, signs })
     }
 
-    /// The cover as a table. Its sheets are signs of it, so it is orientable.
+    /// The cover as a table. Its sheets are an orientation of it.
     pub fn table(&self) -> &Table
         ensures rows { result.now ≡ definition.cover self.now }
         ensures size { length result.now ≡ 2 * length self.now }
@@ -88,7 +88,7 @@ impl Cover {
         &self.table
     }
 
-    /// The tetrahedron over which one of the cover lies.
+    /// The tetrahedron of the base below tetrahedron `tet` of the cover.
     pub fn over(&self, tet: u32) -> u32
         requires { tet < 2 * length self.now }
         ensures value { result ≡ definition.over (length self.now) tet }
@@ -100,7 +100,7 @@ impl Cover {
         sheets.over(tet)
     }
 
-    /// The sheet, 0 or 1, on which a tetrahedron of the cover lies.
+    /// The sheet, 0 or 1, of tetrahedron `tet` of the cover.
     pub fn sheet(&self, tet: u32) -> u8
         requires { tet < 2 * length self.now }
         ensures value { result ≡ definition.sheet (length self.now) tet }
@@ -112,7 +112,8 @@ impl Cover {
         sheets.sheet(tet).number
     }
 
-    /// The exchange of the sheets, which keeps all vertices and carries the cover to itself.
+    /// The deck transformation that exchanges the sheets and fixes all vertex numbers, as a relabelling that carries
+    /// the cover to itself.
     pub fn exchange(&self, alloc: Global) -> Result<Relabelling, NoMemory>
         ensures size { IfOk result (λ by. length by.images ≡ 2 * length self.now) }
         ensures exchange { IfOk result (λ by. by ≡ definition.exchange (length self.now)) }
@@ -126,9 +127,9 @@ impl Cover {
         Ok(by)
     }
 
-    /// The relabelling that keeps all vertices and carries the cover to two copies of the table, the second with its
-    /// numbers behind those of the first; nothing exactly where the table isn't orientable. A sheet over a tetrahedron
-    /// goes to the copy of its number where the orientation's sign is true, and to the other where it is false.
+    /// The relabelling that carries the cover to two copies of the base, the second numbered after the first, and fixes
+    /// all vertex numbers; `None` if and only if the base is non-orientable. A tetrahedron goes to the copy with the
+    /// number of its sheet if the orientation's sign below it is true, and to the other copy if it is false.
     pub fn split(&self, alloc: Global) -> Result<Option<Relabelling>, NoMemory>
         ensures size { IfOk result (λ by. IfSome by (λ r. length r.images ≡ 2 * length self.now)) }
         ensures split { IfOk result (λ by. definition.IsSplit self.now by) }

@@ -1,4 +1,4 @@
-//! Relabellings of the cover that keep all vertices.
+//! Relabellings of the cover that fix all vertex numbers.
 
 ghost use Rattle.std.specs.Prelude.{◌≡◌, ◌*◌, ◌<◌, length, map, replicate, IfOk};
 ghost use Rattle.table_definitions.specs.Lists.{below};
@@ -11,7 +11,7 @@ use gluing_table::Relabelling;
 use perm_four::Perm4;
 use std::alloc::{AllocError, Global};
 
-/// Where each tetrahedron goes by the exchange.
+/// The image of each tetrahedron of the cover under the deck transformation.
 pub fn exchange_images(alloc: Global, sheets: Sheets) -> Result<Vec<u32>, AllocError>
     ensures { IfOk result (λ images. images.items ≡ map (λ u. definition.above sheets.tets (definition.over sheets.tets u) (definition.other_sheet (definition.sheet sheets.tets u))) (below (2 * sheets.tets))) }
 {
@@ -23,7 +23,7 @@ pub fn exchange_images(alloc: Global, sheets: Sheets) -> Result<Vec<u32>, AllocE
     Ok(images)
 }
 
-/// The copy of the table to which a tetrahedron goes by the split.
+/// The copy of the base to which tetrahedron `tet` of the cover goes.
 fn copy_of(sheets: Sheets, signs: &[bool], tet: u32) -> Sheet
     requires one_each { length signs.now ≡ sheets.tets }
     requires in_range { tet < 2 * sheets.tets }
@@ -37,7 +37,7 @@ fn copy_of(sheets: Sheets, signs: &[bool], tet: u32) -> Sheet
     }
 }
 
-/// Where each tetrahedron goes by the split.
+/// The image of each tetrahedron of the cover in two copies of a base with orientation `signs`.
 pub fn split_images(alloc: Global, sheets: Sheets, signs: &[bool]) -> Result<Vec<u32>, AllocError>
     requires { length signs.now ≡ sheets.tets }
     ensures { IfOk result (λ images. images.items ≡ map (λ u. definition.above sheets.tets (definition.over sheets.tets u) (definition.copy_of sheets.tets signs.now u)) (below (2 * sheets.tets))) }
@@ -50,7 +50,7 @@ pub fn split_images(alloc: Global, sheets: Sheets, signs: &[bool]) -> Result<Vec
     Ok(images)
 }
 
-/// The relabelling by these images that keeps all vertices.
+/// The relabelling with these images that fixes all vertex numbers.
 pub fn by_images(alloc: Global, images: Vec<u32>) -> Result<Relabelling, AllocError>
     requires { IsRelabelling (length images.items) (record { images = images.items; perms = replicate (length images.items) identity }) }
     ensures { IfOk result (λ by. by ≡ record { images = images.items; perms = replicate (length images.items) identity }) }

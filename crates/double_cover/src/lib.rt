@@ -1,4 +1,5 @@
-//! The orientable double cover of a table, with its projection, the exchange of its sheets, and its split.
+//! The orientable double cover of a table, with its projection, its deck transformation, and its splitting over an
+//! orientable table.
 #![tactic(auto)]
 
 mod cover;

@@ -10,7 +10,7 @@ use gluing_table::{Face, Glue, Row, Table};
 use no_memory::NoMemory;
 use std::alloc::{AllocError, Global};
 
-/// The sheet behind a gluing: the same one across an odd gluing, and the other across an even one.
+/// The sheet across `glue` from `sheet`: the same one if the gluing is odd, otherwise the other one.
 fn sheet_behind(glue: Glue, sheet: Sheet) -> Sheet
     ensures { result.number ≡ definition.sheet_behind glue sheet.number }
 {
@@ -21,7 +21,7 @@ fn sheet_behind(glue: Glue, sheet: Sheet) -> Sheet
     }
 }
 
-/// The gluing of the cover over a gluing that leaves a tetrahedron on a sheet.
+/// The gluing of the cover over `glue` that starts on `sheet`.
 fn lift_glue(sheets: Sheets, sheet: Sheet, glue: Glue) -> Glue
     requires { glue.tet < sheets.tets }
     ensures { result ≡ definition.lifted sheets.tets sheet.number glue }
@@ -32,7 +32,7 @@ fn lift_glue(sheets: Sheets, sheet: Sheet, glue: Glue) -> Glue
     }
 }
 
-/// What a face of the cover is glued to.
+/// The gluing of `face` of the cover.
 fn cover_glue(table: &Table, face: Face) -> Option<Glue>
     requires { face.tet < 2 * length table.now }
     ensures value { result ≡ option_map (definition.lifted (length table.now) (definition.sheet (length table.now) face.tet)) (gluings.glue table.now (definition.face_below (length table.now) face)) }
@@ -49,7 +49,7 @@ fn cover_glue(table: &Table, face: Face) -> Option<Glue>
     }
 }
 
-/// The row of a tetrahedron of the cover.
+/// The row of tetrahedron `tet` of the cover.
 fn cover_row(table: &Table, tet: u32) -> Row
     requires { tet < 2 * length table.now }
     ensures { result ≡ definition.cover_row table.now tet }
@@ -62,7 +62,7 @@ fn cover_row(table: &Table, tet: u32) -> Row
     ]
 }
 
-/// The rows of the cover.
+/// The rows of the cover of `table`.
 fn cover_rows(alloc: Global, table: &Table) -> Result<Vec<Row>, AllocError>
     ensures rows { IfOk result (λ rows. rows.items ≡ definition.cover table.now) }
     ensures is_table { IsTable table.now }
@@ -75,7 +75,7 @@ fn cover_rows(alloc: Global, table: &Table) -> Result<Vec<Row>, AllocError>
     Ok(rows)
 }
 
-/// The cover of a table whose cover is small enough.
+/// The cover of `table`, which has at most `MAX_TETS` tetrahedra.
 pub fn cover_table(alloc: Global, table: &Table) -> Result<Table, NoMemory>
     requires { 2 * length table.now ≤ max_tets }
     ensures { IfOk result (λ cover. cover ≡ definition.cover table.now) }

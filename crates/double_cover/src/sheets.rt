@@ -1,10 +1,10 @@
-//! Sheets of the cover.
+//! The two sheets of the cover.
 
 ghost use Rattle.std.specs.Prelude.{◌≡◌, ◌+◌, ◌<◌, ◌≤◌};
 ghost use Rattle.table_definitions.specs.Table.{max_tets};
 ghost use Rattle.cover_definitions.specs.Cover as definition;
 
-/// A sheet, 0 or 1.
+/// A sheet of the cover. Invariant: `number` is 0 or 1.
 #[derive(Clone, Copy)]
 pub struct Sheet {
     pub number: u8,
@@ -22,7 +22,7 @@ impl Sheet {
     }
 }
 
-/// The cover of a table of so many tetrahedra.
+/// The numbering of the cover of a table of `tets` tetrahedra: t on sheet 0, `tets` + t on sheet 1.
 #[derive(Clone, Copy)]
 pub struct Sheets {
     pub tets: u32,
@@ -30,7 +30,7 @@ pub struct Sheets {
 }
 
 impl Sheets {
-    /// The tetrahedron below one of the cover.
+    /// The tetrahedron below tetrahedron `tet` of the cover.
     pub fn over(self, tet: u32) -> u32
         ensures { result ≡ definition.over self.tets tet }
     {
@@ -41,7 +41,7 @@ impl Sheets {
         }
     }
 
-    /// The sheet of one of the cover.
+    /// The sheet of tetrahedron `tet` of the cover.
     pub fn sheet(self, tet: u32) -> Sheet
         ensures { result.number ≡ definition.sheet self.tets tet }
     {
@@ -52,7 +52,7 @@ impl Sheets {
         }
     }
 
-    /// The tetrahedron of the cover that lies over this one on a sheet.
+    /// The tetrahedron of the cover over `tet` on `sheet`.
     pub fn above(self, tet: u32, sheet: Sheet) -> u32
         requires { tet < self.tets }
         ensures { result ≡ definition.above self.tets tet sheet.number }

@@ -1,4 +1,4 @@
-//! Distances from tetrahedron 0: a search level by level.
+//! Distances from tetrahedron 0 in the dual graph, by breadth-first search.
 
 ghost use Rattle.std.specs.Prelude.{◌≡◌, ◌<◌, length, replicate, set, All, None, Some, IfOk, OnOk};
 ghost use Rattle.table_definitions.specs.Table.{IsTable};
@@ -7,7 +7,8 @@ ghost use Rattle.edge_group.specs.Searches.{HasGrown, IsGrown, IsFace, IsFaceOf,
 use gluing_table::{Face, Table};
 use std::alloc::{AllocError, Global};
 
-/// Marks the tetrahedron behind a face with a distance, if it has no mark yet, and appends it to the next level.
+/// Marks the tetrahedron across `face` with `distance` and appends it to `next`, unless it is marked or `face` is a
+/// boundary face.
 fn cross_face(
     table: &Table,
     face: Face,
@@ -31,7 +32,7 @@ fn cross_face(
     Ok(())
 }
 
-/// The same for the four faces of a tetrahedron.
+/// As `cross_face`, for the four faces of tetrahedron `tet`.
 fn cross_faces(
     table: &Table,
     tet: u32,
@@ -49,7 +50,7 @@ fn cross_faces(
     Ok(())
 }
 
-/// The tetrahedra behind the faces of those of a level that had no mark yet. They are marked with a distance.
+/// Marks with `distance` the unmarked neighbours of the tetrahedra in `level`, and returns them.
 fn next_level(
     alloc: Global,
     table: &Table,
@@ -68,7 +69,7 @@ fn next_level(
     Ok(next)
 }
 
-/// The marks of a table with a tetrahedron, where tetrahedron 0 alone is marked, with 0.
+/// Marks for `count` tetrahedra: 0 at tetrahedron 0, and no mark at the others.
 fn first_marks(alloc: Global, count: usize) -> Result<Vec<Option<u32>>, AllocError>
     requires { 0 < count }
     ensures { IfOk result (λ marks. marks.items ≡ set (replicate count None) 0 (Some 0)) }
@@ -78,7 +79,7 @@ fn first_marks(alloc: Global, count: usize) -> Result<Vec<Option<u32>>, AllocErr
     Ok(marks)
 }
 
-/// The distances of a table with a tetrahedron.
+/// As `distances`, for a table that is not empty.
 fn search(alloc: Global, table: &Table) -> Result<Vec<Option<u32>>, AllocError>
     requires { 0 < length table.now }
     ensures { IfOk result (λ marks. AreDistances table.now marks.items) }
@@ -93,7 +94,8 @@ fn search(alloc: Global, table: &Table) -> Result<Vec<Option<u32>>, AllocError>
     Ok(marks)
 }
 
-/// The least number of gluings that lead from tetrahedron 0 to each tetrahedron to which any lead.
+/// The distance of each tetrahedron of `table` from tetrahedron 0 in the dual graph; `None` if it is in another
+/// component.
 pub fn distances(alloc: Global, table: &Table) -> Result<Vec<Option<u32>>, AllocError>
     ensures distances { IfOk result (λ marks. AreDistances table.now marks.items) }
     ensures is_table { IsTable table.now }

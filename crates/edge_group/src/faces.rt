@@ -10,7 +10,7 @@ use no_memory::NoMemory;
 use skeleton::Skeleton;
 use std::alloc::{AllocError, Global};
 
-/// The face of this number.
+/// The face with index `number`, 4t + f.
 pub fn face_of(number: u32) -> Face
     ensures value { result ≡ places.face_of number }
     ensures a_face { result.face < 4 }
@@ -21,7 +21,7 @@ pub fn face_of(number: u32) -> Face
     }
 }
 
-/// The number of the least face of each class.
+/// The index of the least face of each face class.
 pub fn first_faces(alloc: Global, skeleton: &Skeleton) -> Result<Vec<u32>, AllocError>
     ensures { IfOk result (λ firsts. AreLeastFaces skeleton.now firsts.items) }
 {
@@ -35,7 +35,7 @@ pub fn first_faces(alloc: Global, skeleton: &Skeleton) -> Result<Vec<u32>, Alloc
     Ok(firsts)
 }
 
-/// Which face classes hold a tree face.
+/// For each face class, whether it contains a face of the maximal tree `tree`.
 pub fn tree_classes(
     alloc: Global,
     skeleton: &Skeleton,
@@ -53,7 +53,7 @@ pub fn tree_classes(
     Ok(marks)
 }
 
-/// Whether a face class has two faces and holds no tree face.
+/// Whether face class `class` is a generator: it has two faces and none of them is in the tree.
 pub fn is_generator(skeleton: &Skeleton, in_tree: &[bool], firsts: &[u32], class: u32) -> bool
     requires in_tree { AreTreeClasses skeleton.now in_tree.now }
     requires firsts { AreLeastFaces skeleton.now firsts.now }

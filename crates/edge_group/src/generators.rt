@@ -1,4 +1,4 @@
-//! Generators, with what is asked of them.
+//! The generators of the group.
 
 ghost use Rattle.std.specs.Prelude.{◌≡◌, IfOk};
 ghost use Rattle.presentation_definitions.specs.Groups.{IsTree};
@@ -12,8 +12,8 @@ use skeleton::Skeleton;
 use std::alloc::Global;
 use std::marker::Model;
 
-/// The generators over a skeleton: the face classes of two faces off a tree of faces, ascending, with the least face
-/// of each class. Contracts see the skeleton and the face classes.
+/// The generators over `skeleton`: the classes of two faces that are not in the maximal tree, ascending in `classes`;
+/// `firsts` has the least face of each face class. Contracts see the skeleton and `classes`.
 #[derive(Drop)]
 pub struct Generators<'a> {
     pub skeleton: &'a Skeleton,
@@ -32,7 +32,7 @@ impl<'a> Model for Generators<'a> {
 }
 
 impl<'a> Generators<'a> {
-    /// The generators off a tree of faces.
+    /// The generators over `skeleton` with the maximal tree `tree`.
     pub fn of(
         alloc: Global,
         skeleton: &'a Skeleton,
@@ -57,7 +57,7 @@ impl<'a> Generators<'a> {
         })
     }
 
-    /// The number, from 1, of a face class among the generators.
+    /// The number of face class `class` among the generators, from 1, or `None` if it is no generator.
     pub fn number_of(&self, class: u32) -> Option<u32>
         ensures { result ≡ generator_number self.now.classes class }
     {

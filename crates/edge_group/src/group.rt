@@ -1,4 +1,4 @@
-//! Groups of tables.
+//! Presentations of the group of a table.
 
 ghost use Rattle.std.specs.Prelude.{◌≡◌, ◌-◌, ◌<◌, ◌≤◌, ◌↔◌, length, slice_index, false, [], None, IsNone, IfOk, IfErr, OnOk};
 ghost use Rattle.std.specs.List.{slice_index_or};
@@ -16,7 +16,7 @@ use skeleton::Skeleton;
 use std::alloc::Global;
 use std::marker::Model;
 
-/// A presentation of the group of a table, with the tree of faces by which it is made. Contracts see both.
+/// A presentation of the group of a table, with the maximal tree by which it is made. Contracts see both.
 #[derive(Drop)]
 pub struct Group {
     tree: Vec<Option<Face>>,
@@ -47,7 +47,7 @@ impl Model for Group {
     ghost invariant = { λ g. IsKept g.tree.items g.generators.items g.turning.items g.edges.items (map letters_of g.relators.items) };
 }
 
-/// The tree faces and the presentation of a connected table.
+/// The maximal tree and the presentation of a connected table.
 fn presentation_of(alloc: Global, skeleton: &Skeleton) -> Result<Group, NoMemory>
     requires { IsConnected skeleton.now.rows }
     ensures { IfOk result (IsGroup skeleton.now) }
@@ -67,10 +67,10 @@ fn presentation_of(alloc: Global, skeleton: &Skeleton) -> Result<Group, NoMemory
 }
 
 impl Group {
-    /// The group of a table: generators are the face classes of two faces off the tree of faces that lead from
-    /// tetrahedron 0 by the shortest ways, and there is a relator round each inner edge class. Refused as
-    /// `NotConnected` exactly where a tetrahedron isn't reached, with the least, and else as `InvalidEdge` exactly
-    /// where an edge class is invalid, with the least.
+    /// The presentation of the group of the table of `skeleton` by its dual 2-complex: the generators are the face
+    /// classes off a maximal tree of shortest paths from tetrahedron 0, and there is one relator around each internal
+    /// edge class. Fails with `NotConnected`, which names the least tetrahedron not reached from tetrahedron 0; then
+    /// with `InvalidEdge`, which names the least invalid edge class.
     pub fn of(alloc: Global, skeleton: &Skeleton) -> Result<Group, Failure<GroupFault>>
         ensures group { IfOk result (IsGroup skeleton.now) }
         ensures size { IfOk result (λ g. length g.tree ≡ length skeleton.now.rows) }
@@ -94,7 +94,7 @@ impl Group {
         self.generators.len() as u32
     }
 
-    /// The face class of a generator, by its number from 1.
+    /// The face class of generator `generator`, counted from 1.
     pub fn face_of(&self, generator: u32) -> u32
         requires from_one { 1 ≤ generator }
         requires in_range { generator ≤ length self.now.presentation.generators }
@@ -103,8 +103,8 @@ impl Group {
         self.generators[generator as usize - 1]
     }
 
-    /// Whether a generator turns, by its number from 1: the closed list of gluings through tree faces to its lesser
-    /// face, across it, and back through tree faces has an odd number of even gluings.
+    /// Whether generator `generator`, counted from 1, reverses orientation: the loop through the tree to its least
+    /// face, across it, and back through the tree has an odd number of even gluings.
     pub fn turns(&self, generator: u32) -> bool
         requires from_one { 1 ≤ generator }
         requires in_range { generator ≤ length self.now.presentation.generators }
@@ -121,7 +121,7 @@ impl Group {
         self.relators.len() as u32
     }
 
-    /// The inner edge class of a relator.
+    /// The internal edge class of relator `relator`, counted from 0.
     pub fn edge_of(&self, relator: u32) -> u32
         requires { relator < length self.now.presentation.relators }
         ensures { result ≡ slice_index self.now.presentation.edges relator }
@@ -129,7 +129,7 @@ impl Group {
         self.edges[relator as usize]
     }
 
-    /// The letters of a relator, as they are read on the walk round its edge.
+    /// The letters of relator `relator`, counted from 0, in the order around its edge.
     pub fn relator(&self, relator: u32) -> &[Letter]
         requires { relator < length self.now.presentation.relators }
         ensures { result.now ≡ slice_index_or self.now.presentation.relators relator [] }
@@ -137,8 +137,8 @@ impl Group {
         &self.relators[relator as usize]
     }
 
-    /// The tree face of a tetrahedron: the least face that leads to it from one that lies closer to tetrahedron 0.
-    /// Nothing exactly for tetrahedron 0.
+    /// The tree face of tetrahedron `tet`: the least face glued to it of a tetrahedron closer to tetrahedron 0. `None`
+    /// if and only if `tet` is 0.
     pub fn tree_face(&self, tet: u32) -> Option<Face>
         requires { tet < length self.now.tree }
         ensures value { result ≡ slice_index_or self.now.tree tet None }

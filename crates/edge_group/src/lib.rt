@@ -1,5 +1,5 @@
-//! The group of a table: generators, which are faces off a tree of faces, and relators, which are read round its inner
-//! edges.
+//! A presentation of the group of a gluing table, with generators from faces off a maximal tree and relators around its
+//! internal edges.
 #![tactic(auto)]
 
 mod distances;

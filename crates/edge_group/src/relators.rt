@@ -1,4 +1,4 @@
-//! Relators, which are read from the walks round inner edges.
+//! Reads relators from the corners around internal edges.
 
 ghost use Rattle.std.specs.Prelude.{◌≡◌, ◌<◌, ◌^◌, length, map, filter_map, All, IfOk};
 ghost use Rattle.std.specs.List.{AllZip};
@@ -16,7 +16,7 @@ use presentation_definitions::Letter;
 use skeleton::{Corner, Skeleton};
 use std::alloc::{AllocError, Global};
 
-/// The inner edge classes, ascending.
+/// The internal edge classes, ascending.
 pub fn inner_edges(alloc: Global, skeleton: &Skeleton) -> Result<Vec<u32>, AllocError>
     ensures edges { IfOk result (λ edges. edges.items ≡ definition.inner_edges skeleton.now.rows skeleton.now.edges.classes skeleton.now.edges.count) }
     ensures in_range { IfOk result (λ edges. All (λ c. c < skeleton.now.edges.count) edges.items) }
@@ -32,8 +32,8 @@ pub fn inner_edges(alloc: Global, skeleton: &Skeleton) -> Result<Vec<u32>, Alloc
 }
 
 impl Generators<'_> {
-    /// The letter of a face: none where its class is no generator, the generator at the lesser face of the class, and
-    /// its inverse at the greater one.
+    /// The letter of `face`: the generator if it is the lesser face of its class, its inverse if it is the greater one,
+    /// `None` if the class is no generator.
     fn letter(&self, face: Face) -> Option<Letter>
         requires { face.tet < length self.now.skeleton.rows }
         ensures { result ≡ letter_of self.now.skeleton self.now.classes (face_number face) }
@@ -47,7 +47,7 @@ impl Generators<'_> {
         Some(Letter { generator, inverse })
     }
 
-    /// The letters of the faces through which a walk leaves its corners.
+    /// The letters of the faces through which a tour of `corners` leaves them.
     fn relator(&self, alloc: Global, corners: &[Corner]) -> Result<Vec<Letter>, AllocError>
         requires { All (LeavesInRange self.now.skeleton.rows) corners.now }
         ensures { IfOk result (λ letters. letters.items ≡ filter_map (λ k. letter_of self.now.skeleton self.now.classes (face_number (left_through k))) corners.now) }
@@ -65,7 +65,7 @@ impl Generators<'_> {
         Ok(letters)
     }
 
-    /// The relator of each of these edge classes.
+    /// The relator around each of the edge classes `edges`.
     pub fn relators(&self, alloc: Global, edges: &[u32]) -> Result<Vec<Vec<Letter>>, NoMemory>
         requires { All (λ c. c < self.now.skeleton.edges.count) edges.now }
         ensures { IfOk result (λ relators. AllZip (IsRelator self.now.skeleton self.now.classes) edges.now (map letters_of relators.items)) }

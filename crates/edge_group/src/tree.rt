@@ -1,4 +1,4 @@
-//! The tree of faces that lead from tetrahedron 0 to each other tetrahedron.
+//! The maximal tree of shortest paths from tetrahedron 0.
 
 ghost use Rattle.std.specs.Prelude.{◌<◌, ◌↔◌, length, IsTrue, IfOk};
 ghost use Rattle.table_definitions.specs.Places.{IsConnected};
@@ -11,14 +11,14 @@ use gluing_table::{Face, Table};
 use no_memory::NoMemory;
 use std::alloc::{AllocError, Global};
 
-/// The tree face of each tetrahedron, and the least number of gluings that lead to it from tetrahedron 0.
+/// The tree face of each tetrahedron, and the distance of each tetrahedron from tetrahedron 0.
 #[derive(Drop)]
 pub struct FaceTree {
     pub faces: Vec<Option<Face>>,
     pub distances: Vec<Option<u32>>,
 }
 
-/// Whether the one distance is one less than the other.
+/// Whether `far` is `near` plus 1.
 fn is_one_less(near: Option<u32>, far: Option<u32>) -> bool
     ensures { IsTrue result ↔ IsOneLess near far }
 {
@@ -31,7 +31,7 @@ fn is_one_less(near: Option<u32>, far: Option<u32>) -> bool
     near < far && far - near == 1
 }
 
-/// The face to which this one is glued, where that lies closer to tetrahedron 0.
+/// The face glued to `face`, if its tetrahedron is closer to tetrahedron 0.
 fn closer_face(table: &Table, distances: &[Option<u32>], face: Face) -> Option<Face>
     requires distances { AreDistances table.now distances.now }
     requires in_range { face.tet < length table.now }
@@ -47,7 +47,7 @@ fn closer_face(table: &Table, distances: &[Option<u32>], face: Face) -> Option<F
     }
 }
 
-/// The lesser of two faces, where there are any.
+/// The lesser of two faces, or the one that there is.
 fn lesser(first: Option<Face>, second: Option<Face>) -> Option<Face>
     ensures { IsLeastOf first second result }
 {
@@ -64,7 +64,7 @@ fn lesser(first: Option<Face>, second: Option<Face>) -> Option<Face>
     }
 }
 
-/// The least face that leads to a tetrahedron from one that lies closer to tetrahedron 0.
+/// The least face glued to tetrahedron `tet` of a tetrahedron closer to tetrahedron 0.
 fn tree_face(table: &Table, distances: &[Option<u32>], tet: u32) -> Option<Face>
     requires distances { AreDistances table.now distances.now }
     requires in_range { tet < length table.now }
@@ -77,7 +77,7 @@ fn tree_face(table: &Table, distances: &[Option<u32>], tet: u32) -> Option<Face>
     least
 }
 
-/// The least such face of each tetrahedron.
+/// The tree face of each tetrahedron.
 fn tree_faces(
     alloc: Global,
     table: &Table,
@@ -93,7 +93,7 @@ fn tree_faces(
     Ok(faces)
 }
 
-/// The tree faces of a connected table.
+/// The tree faces of `table`, which is connected, and the distances from tetrahedron 0.
 pub fn shortest_tree(alloc: Global, table: &Table) -> Result<FaceTree, NoMemory>
     requires { IsConnected table.now }
     ensures { IfOk result (λ tree. IsTreeWith table.now tree.faces.items tree.distances.items) }

@@ -1,4 +1,4 @@
-//! Which generators turn.
+//! Determines which generators reverse orientation.
 
 ghost use Rattle.std.specs.Prelude.{◌≡◌, ◌<◌, length, IsSome, IfOk};
 ghost use Rattle.std.specs.List.{AllZip};
@@ -15,7 +15,7 @@ use gluing_table::{Face, Table};
 use no_memory::NoMemory;
 use std::alloc::Global;
 
-/// Whether a face is glued by an even gluing.
+/// Whether `face` has an even gluing.
 fn is_even(table: &Table, face: Face) -> bool
     requires { face.tet < length table.now }
     ensures value { result ≡ is_even_gluing (gluings.glue table.now face) }
@@ -27,7 +27,7 @@ fn is_even(table: &Table, face: Face) -> bool
     }
 }
 
-/// Whether the path of tree faces to a tetrahedron has an odd number of even gluings.
+/// Whether the path in the tree to tetrahedron `tet` has an odd number of even gluings.
 fn is_path_odd(table: &Table, tree: &FaceTree, tet: u32) -> bool
     requires tree { IsTreeWith table.now tree.now.faces.items tree.now.distances.items }
     requires in_range { tet < length table.now }
@@ -42,8 +42,7 @@ fn is_path_odd(table: &Table, tree: &FaceTree, tet: u32) -> bool
     odd
 }
 
-/// Whether the closed list of gluings through tree faces to a face, across it, and back through tree faces has an odd
-/// number of even gluings.
+/// Whether the loop through the tree to `face`, across it, and back through the tree has an odd number of even gluings.
 fn turns(table: &Table, tree: &FaceTree, face: Face) -> bool
     requires tree { IsTreeWith table.now tree.now.faces.items tree.now.distances.items }
     requires in_range { face.tet < length table.now }
@@ -59,7 +58,7 @@ fn turns(table: &Table, tree: &FaceTree, face: Face) -> bool
 }
 
 impl Generators<'_> {
-    /// Which generators turn.
+    /// For each generator whether it reverses orientation. `tree` is the maximal tree by which the generators are made.
     pub fn turning(&self, alloc: Global, tree: &FaceTree) -> Result<Vec<bool>, NoMemory>
         requires { IsTreeWith self.now.skeleton.rows tree.now.faces.items tree.now.distances.items }
         ensures { IfOk result (λ turning. AllZip (IsTurning self.now.skeleton) self.now.classes turning.items) }

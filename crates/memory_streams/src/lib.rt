@@ -1,4 +1,4 @@
-//! A source and a sink over memory, which fail where they are told to: for tests.
+//! A source and a sink in memory that fail at listed calls, for tests.
 #![tactic(auto)]
 
 ghost use Rattle.std.specs.Prelude.{◌≡◌, ◌↔◌, ◌⊎◌, ◌-◌, ◌<◌, ◌≤◌, [], ◌++◌, length, take, drop, min, Some, Contains, IfOk, OnErr, IsErr};
@@ -9,7 +9,8 @@ use std::alloc::Global;
 use std::marker::Model;
 use text_io::{Failed, Sink, Source, copy_front};
 
-/// A source over memory. It fails at the calls whose numbers are listed, from 1, and gives at most `most` bytes a call.
+/// A source over bytes in memory. It fails at the calls listed in `failing`, counted from 1, and returns at most `most`
+/// bytes in each other call. Contracts see the bytes left, `failing`, `most`, and the numbers of calls and of failures.
 #[derive(Drop)]
 pub struct MemorySource {
     bytes: Vec<u8>,
@@ -32,8 +33,8 @@ impl Model for MemorySource {
 }
 
 impl MemorySource {
-    /// The source of these bytes. It fails at the calls of these numbers, counted from 1, and gives at most `most` bytes a
-    /// call.
+    /// A source of `bytes` that fails at the calls listed in `failing`, counted from 1, and returns at most `most`
+    /// bytes in each other call; `most` is positive.
     pub fn new(bytes: Vec<u8>, failing: Vec<u64>, most: usize) -> MemorySource
         requires { 0 < most }
         ensures { result ≡ record { left = bytes.items; failing = failing.items; most = most; calls = 0; faults = 0 } }
@@ -75,8 +76,8 @@ impl Source for MemorySource {
     }
 }
 
-/// A sink over memory. It fails at the calls whose numbers are listed, from 1, and where no room is left, and takes at
-/// most `most` bytes a call. Its room is taken when it is made.
+/// A sink in memory. It fails at the calls listed in `failing`, counted from 1, and at every call once `room` bytes are
+/// held; any other call takes at most `most` bytes. Invariant: memory for all `room` bytes is allocated.
 #[derive(Drop)]
 pub struct MemorySink {
     held: Vec<u8>,
@@ -99,8 +100,8 @@ impl Model for MemorySink {
 }
 
 impl MemorySink {
-    /// An empty sink with room for so many bytes. It fails at the calls of these numbers, counted from 1, and takes at most
-    /// `most` bytes a call.
+    /// An empty sink for `room` bytes, whose memory is allocated here. It fails at the calls listed in `failing`,
+    /// counted from 1, and once it is full; any other call takes at most `most` bytes, and `most` is positive.
     pub fn new(
         alloc: Global,
         room: usize,
@@ -120,7 +121,7 @@ impl MemorySink {
         })
     }
 
-    /// The bytes that it took.
+    /// The bytes that were written.
     pub fn bytes(&self) -> &[u8]
         ensures { result.now ≡ self.now.held }
     {

@@ -1,4 +1,4 @@
-//! Why a move can't be made, in text.
+//! Writes why a move is illegal.
 
 ghost use Rattle.std.specs.Prelude.{◌≡◌, ◌++◌, codes, decimal, OnOk};
 ghost use Rattle.move_definitions.specs.Sessions.{move_fault_text};
@@ -8,7 +8,7 @@ use pachner_moves::MoveFault;
 use std::alloc::Global;
 use text_io::{append, append_decimal};
 
-// Two labels.
+/// Appends `not-matched` and two labels.
 fn append_labels(alloc: Global, out: &mut Vec<u8>, first: u8, second: u8) -> Result<(), NoMemory>
     ensures { OnOk result (out.new.items ≡ out.old.items ++ codes "not-matched " ++ decimal first ++ codes " " ++ decimal second) }
 {
@@ -19,7 +19,7 @@ fn append_labels(alloc: Global, out: &mut Vec<u8>, first: u8, second: u8) -> Res
     Ok(())
 }
 
-// A word and a label.
+/// Appends `word` and a label.
 fn append_label(alloc: Global, out: &mut Vec<u8>, word: &[u8], label: u8) -> Result<(), NoMemory>
     ensures { OnOk result (out.new.items ≡ out.old.items ++ word.now ++ decimal label) }
 {
@@ -35,7 +35,7 @@ fn append_word(out: &mut Vec<u8>, word: &[u8]) -> Result<(), NoMemory>
     Ok(())
 }
 
-/// Why a move can't be made.
+/// Appends why a move is illegal, as one word and the labels that `fault` names.
 pub fn append_move_fault(alloc: Global, out: &mut Vec<u8>, fault: MoveFault) -> Result<(), NoMemory>
     ensures { OnOk result (out.new.items ≡ out.old.items ++ move_fault_text fault) }
 {

@@ -1,4 +1,4 @@
-//! Scripts of moves: steps in text, and sessions that play, undo and redo moves.
+//! Scripts of moves, as steps in text, and sessions that play, undo and redo moves.
 #![tactic(auto)]
 
 mod faults;

@@ -1,4 +1,4 @@
-//! Moves and steps from text.
+//! Reads moves and steps from text.
 
 ghost use Rattle.std.specs.Prelude.{◌≡◌, ◌<◌, [], ◌∷◌, Some, None, option_map, IfSome, IfOk};
 ghost use Rattle.table_definitions.specs.Places.{edge_ends};
@@ -16,15 +16,15 @@ use text_io::{LexFault, Lexer};
 /// A line of a script.
 #[derive(Clone, Copy)]
 pub enum Step {
-    /// A move is played.
+    /// Play this move.
     Play(Move),
-    /// The last move that is played is taken back.
+    /// Take back the last played move.
     Undo,
-    /// The last move that was taken back is played once more.
+    /// Play again the last move taken back.
     Redo,
 }
 
-// The kinds of move, named by how many tetrahedra they take out and put in.
+/// The kinds of moves, by the numbers of tetrahedra that they remove and add.
 #[derive(Clone, Copy)]
 enum MoveKind {
     OneFour,
@@ -33,7 +33,7 @@ enum MoveKind {
     FourOne,
 }
 
-// The kind that a word names.
+/// The kind that `word` names.
 fn kind_of(word: &[u8]) -> Option<MoveKind>
     ensures { option_map kind_value result ≡ text.move_kind word.now }
 {
@@ -52,7 +52,7 @@ fn kind_of(word: &[u8]) -> Option<MoveKind>
     None
 }
 
-// The vertex that a word names.
+/// The vertex that `word` names.
 fn vertex_named(word: &[u8]) -> Option<u8>
     ensures vertex { option_map (λ v. v ∷ []) result ≡ text.spelled text.single word.now }
     ensures in_range { IfSome result (λ v. v < 4) }
@@ -72,7 +72,7 @@ fn vertex_named(word: &[u8]) -> Option<u8>
     None
 }
 
-// The core of the two vertices that a word names.
+/// The edge, as a core, whose ends `word` names.
 fn edge_named(word: &[u8]) -> Option<Core>
     ensures { result ≡ text.spelled edge_ends word.now }
 {
@@ -97,7 +97,7 @@ fn edge_named(word: &[u8]) -> Option<Core>
     None
 }
 
-// The vertex that the next word names.
+/// Reads the next word as a vertex. Fails with `BadWord` if it is none.
 #[tactic(auto, unfolding(move_definitions::specs::MoveText::vertices_at))]
 fn read_vertex(lexer: &mut Lexer<'_>) -> Result<u8, LexFault>
     ensures vertex { Gives (λ v. v ∷ []) result lexer.new (text.vertices_at text.single lexer.old) }
@@ -107,7 +107,7 @@ fn read_vertex(lexer: &mut Lexer<'_>) -> Result<u8, LexFault>
     vertex_named(word).ok_or(lexer.bad_word())
 }
 
-// The ends of the edge that the next word names, as a core.
+/// Reads the next word as an edge. Fails with `BadWord` if it is none.
 #[tactic(auto, unfolding(move_definitions::specs::MoveText::vertices_at))]
 fn read_edge(lexer: &mut Lexer<'_>) -> Result<Core, LexFault>
     ensures { Gives (λ core. core) result lexer.new (text.vertices_at edge_ends lexer.old) }
@@ -116,7 +116,7 @@ fn read_edge(lexer: &mut Lexer<'_>) -> Result<Core, LexFault>
     edge_named(word).ok_or(lexer.bad_word())
 }
 
-// The core of a move of this kind.
+/// Reads the core of a move of kind `kind`.
 #[tactic(auto, unfolding(move_definitions::specs::MoveText::core_at))]
 fn read_core(lexer: &mut Lexer<'_>, kind: MoveKind) -> Result<Core, LexFault>
     ensures { Gives (λ core. core) result lexer.new (text.core_at (kind_value kind) lexer.old) }
@@ -129,7 +129,7 @@ fn read_core(lexer: &mut Lexer<'_>, kind: MoveKind) -> Result<Core, LexFault>
     }
 }
 
-// The move of this kind, to the end of the line.
+/// Reads a move of kind `kind`, to the end of the line.
 #[tactic(auto, unfolding(move_definitions::specs::MoveText::kind_at))]
 fn read_kind(lexer: &mut Lexer<'_>, kind: MoveKind) -> Result<Move, LexFault>
     ensures { Gives (λ m. m) result lexer.new (text.kind_at (Some (kind_value kind)) lexer.old) }
@@ -140,7 +140,7 @@ fn read_kind(lexer: &mut Lexer<'_>, kind: MoveKind) -> Result<Move, LexFault>
     Ok(Move { tet, core })
 }
 
-// The move whose first word was taken, to the end of the line.
+/// Reads the move whose kind is `word`, to the end of the line.
 #[tactic(auto, unfolding(move_definitions::specs::MoveText::kind_at))]
 fn read_named(lexer: &mut Lexer<'_>, word: &[u8]) -> Result<Move, LexFault>
     ensures { Gives (λ m. m) result lexer.new (text.kind_at (text.move_kind word.now) lexer.old) }
@@ -151,7 +151,9 @@ fn read_named(lexer: &mut Lexer<'_>, word: &[u8]) -> Result<Move, LexFault>
     }
 }
 
-/// The move of the current line, of which no word was taken yet.
+/// Reads the current line, of which no word is read yet, as a move: its kind, its tetrahedron and its core. Fails at
+/// the first missing word (`MissingWord`), byte of no word (`BadByte`), word of another form (`BadWord`), number above
+/// 2^32 - 1 (`NumberTooWide`) or superfluous word (`ExtraWord`).
 #[tactic(auto, unfolding(move_definitions::specs::MoveText::move_at))]
 pub fn read_move(lexer: &mut Lexer<'_>) -> Result<Move, LexFault>
     ensures { Gives (λ m. m) result lexer.new (text.move_at lexer.old) }
@@ -160,7 +162,7 @@ pub fn read_move(lexer: &mut Lexer<'_>) -> Result<Move, LexFault>
     read_named(lexer, word)
 }
 
-/// The moves of all lines that are left.
+/// Reads a move from each line that is left. Fails at the first line on which `read_move` does.
 pub fn read_moves(alloc: Global, lexer: &mut Lexer<'_>) -> Result<Vec<Move>, TextFault>
     ensures { ReadsFrom TextFault.NoMemory (λ moves. moves.items) result lexer.new (lexed (each_line_from text.move_at lexer.old.later lexer.old)) }
 {
@@ -172,7 +174,7 @@ pub fn read_moves(alloc: Global, lexer: &mut Lexer<'_>) -> Result<Vec<Move>, Tex
     Ok(moves)
 }
 
-// The step that is no move and that a word names.
+/// The step `undo` or `redo`, if `word` is one of them.
 fn step_named(word: &[u8]) -> Option<Step>
     ensures { option_map step_value result ≡ text.step_word word.now }
 {
@@ -185,7 +187,7 @@ fn step_named(word: &[u8]) -> Option<Step>
     None
 }
 
-// The move whose first word was taken, as a step.
+/// Reads the move whose kind is `word`, as a step.
 #[tactic(auto, unfolding(move_definitions::specs::MoveText::named_step_at))]
 fn read_played(lexer: &mut Lexer<'_>, word: &[u8]) -> Result<Step, LexFault>
     ensures { Gives step_value result lexer.new (text.named_step_at None word.now lexer.old) }
@@ -194,7 +196,7 @@ fn read_played(lexer: &mut Lexer<'_>, word: &[u8]) -> Result<Step, LexFault>
     Ok(Step::Play(m))
 }
 
-// The end of the line of a step.
+/// Reads the end of the line after `undo` or `redo`.
 #[tactic(auto, unfolding(move_definitions::specs::MoveText::named_step_at))]
 fn end_step(lexer: &mut Lexer<'_>, word: &[u8], step: Step) -> Result<Step, LexFault>
     ensures { Gives step_value result lexer.new (text.named_step_at (Some (step_value step)) word.now lexer.old) }
@@ -203,7 +205,7 @@ fn end_step(lexer: &mut Lexer<'_>, word: &[u8], step: Step) -> Result<Step, LexF
     Ok(step)
 }
 
-/// The step of the current line, of which no word was taken yet.
+/// Reads the current line, of which no word is read yet, as a step: `undo`, `redo` or a move. Fails as `read_move`.
 #[tactic(auto, unfolding(move_definitions::specs::MoveText::step_at))]
 pub fn read_step(lexer: &mut Lexer<'_>) -> Result<Step, LexFault>
     ensures { Gives step_value result lexer.new (text.step_at lexer.old) }

@@ -15,11 +15,11 @@ use pachner_moves::{Move, MoveFault, Undo, apply, take_back};
 use std::alloc::{AllocError, Global};
 use std::marker::Model;
 
-/// Why a move is not played.
+/// Why `play` fails.
 #[derive(Clone, Copy)]
 pub enum PlayFault {
     NoMemory,
-    /// The move can't be made on the session's table.
+    /// The move is illegal on the session's table, or exceeds the number of tetrahedra.
     Illegal(MoveFault),
 }
 
@@ -45,14 +45,14 @@ impl From<MoveFault> for PlayFault {
     }
 }
 
-/// A table on which moves are played, taken back and played once more. Contracts see the first table, the moves that
-/// are kept, and how many of them are played.
+/// A table on which moves are played, taken back and played again. Contracts see the first table, the recorded moves,
+/// and how many of them are played.
 #[derive(Drop)]
 pub struct Session {
     table: Table,
-    // the moves that are kept, the played ones first
+    // the recorded moves, the played ones first
     moves: Vec<Move>,
-    // for each played move, what takes it back
+    // for each played move the record that takes it back
     undos: Vec<Undo>,
 }
 
@@ -68,7 +68,7 @@ impl Model for Session {
     ghost invariant = { IsKept };
 }
 
-// Plays a move, and keeps what takes it back.
+/// Plays `m`, and returns the record that takes it back.
 fn play_on(table: &mut Table, m: Move) -> Result<Undo, MoveFault>
     ensures played { IfOk result (λ u. IsPlayed table.old m u table.new) }
     ensures fault { IfErr result (λ e. play_fault table.old m ≡ Some e) }
@@ -77,7 +77,7 @@ fn play_on(table: &mut Table, m: Move) -> Result<Undo, MoveFault>
     apply(table, m)
 }
 
-// Plays a move that can be played, and keeps what takes it back.
+/// Plays the legal move `m`, and returns the record that takes it back.
 fn replay(table: &mut Table, m: Move) -> Undo
     requires { play_fault table.old m ≡ None }
     ensures { IsPlayed table.old m result table.new }
@@ -88,7 +88,7 @@ fn replay(table: &mut Table, m: Move) -> Undo
     }
 }
 
-// Keeps a move that was played behind those of which something is kept, and drops the others.
+/// Records the played move `m` after the others, and drops the moves that were taken back.
 fn keep(moves: &mut Vec<Move>, undos: &mut Vec<Undo>, m: Move, undo: Undo)
     requires moves { length moves.old.items < vec_capacity moves.old }
     requires undos { length moves.old.items < vec_capacity undos.old }
@@ -103,7 +103,7 @@ fn keep(moves: &mut Vec<Move>, undos: &mut Vec<Undo>, m: Move, undo: Undo)
 }
 
 impl Session {
-    /// A session in which no move is played yet.
+    /// A session on `table` with no move played.
     pub fn new(alloc: Global, table: Table) -> Session
         ensures { result ≡ sessions.begun table }
     {
@@ -114,8 +114,8 @@ impl Session {
         }
     }
 
-    /// Plays a move, and drops those that were taken back. Where it is refused, the session is as it was. There is room
-    /// for fewer than 2^32 moves.
+    /// Plays `m`, and drops the moves that were taken back. Fails with `NoMemory`, also once 2^32 - 1 moves are played,
+    /// or with `Illegal` as `apply`; the session is then unchanged.
     pub fn play(&mut self, m: Move) -> Result<(), PlayFault>
         ensures accepted { OnOk result (sessions.IsAccepted self.old m) }
         ensures played { OnOk result (self.new ≡ sessions.with_move self.old m) }
@@ -132,7 +132,8 @@ impl Session {
         Ok(())
     }
 
-    /// Takes the last played move back, if there is one. The table is the one before it, row for row.
+    /// Takes the last played move back, and returns whether there is one. The table is then what it was before that
+    /// move, row for row.
     pub fn undo(&mut self) -> bool
         ensures undone { OnTrue result ((0 < self.old.played) × (self.new ≡ sessions.one_less self.old)) }
         ensures nothing { OnFalse result ((self.old.played ≡ 0) × (self.new ≡ self.old)) }
@@ -144,7 +145,7 @@ impl Session {
         true
     }
 
-    /// Plays the first move that was taken back once more, if there is one.
+    /// Plays again the last move taken back, and returns whether there is one.
     pub fn redo(&mut self) -> bool
         ensures redone { OnTrue result ((self.old.played < length self.old.moves) × (self.new ≡ sessions.one_more self.old)) }
         ensures nothing { OnFalse result ((self.old.played ≡ length self.old.moves) × (self.new ≡ self.old)) }
@@ -158,7 +159,7 @@ impl Session {
         true
     }
 
-    /// The table to which the played moves lead.
+    /// The table after the played moves.
     pub fn table(&self) -> &Table
         ensures { sessions.IsTableOf self.now result.now }
     {
@@ -172,7 +173,7 @@ impl Session {
         self.undos.len() as u32
     }
 
-    /// A played move.
+    /// The played move with index `i`, from 0.
     pub fn played_at(&self, i: u32) -> Move
         requires { i < self.now.played }
         ensures { slice_get self.now.moves i ≡ Some result }

@@ -1,4 +1,4 @@
-//! Moves in text.
+//! Writes moves as text.
 
 ghost use Rattle.std.specs.Prelude.{◌≡◌, ◌<◌, ◌++◌, [], ◌∷◌, filter, IfOk, OnOk, OnErr};
 ghost use Rattle.std.specs.List.{flat_map};
@@ -11,7 +11,7 @@ use pachner_moves::{Core, Move};
 use std::alloc::Global;
 use text_io::{append, append_decimal};
 
-// Appends the digit of a vertex, if it is one of the core or is none as is asked.
+/// Appends the digit of vertex `v` if whether it is in `core` equals `inside`.
 fn append_vertex(out: &mut Vec<u8>, core: Core, inside: bool, v: u8) -> Result<(), NoMemory>
     requires { v < 4 }
     ensures { OnOk result (out.new.items ≡ out.old.items ++ digits_of (filter (is_chosen core inside) (v ∷ []))) }
@@ -22,7 +22,7 @@ fn append_vertex(out: &mut Vec<u8>, core: Core, inside: bool, v: u8) -> Result<(
     Ok(())
 }
 
-// Appends the digits of the core's vertices, or of the others.
+/// Appends the digits of the vertices in `core`, or of the others if `inside` is false.
 fn append_vertices(out: &mut Vec<u8>, core: Core, inside: bool) -> Result<(), NoMemory>
     ensures { OnOk result (out.new.items ≡ out.old.items ++ digits_of (filter (is_chosen core inside) four)) }
 {
@@ -33,7 +33,7 @@ fn append_vertices(out: &mut Vec<u8>, core: Core, inside: bool) -> Result<(), No
     Ok(())
 }
 
-// Appends what follows the number of the tetrahedron.
+/// Appends what follows the number of the tetrahedron.
 #[tactic(auto, unfolding(crate::specs::Written::core_tail))]
 fn append_core(out: &mut Vec<u8>, core: Core) -> Result<(), NoMemory>
     ensures { OnOk result (out.new.items ≡ out.old.items ++ core_tail core) }
@@ -47,7 +47,7 @@ fn append_core(out: &mut Vec<u8>, core: Core) -> Result<(), NoMemory>
     Ok(())
 }
 
-// The word of the moves whose core has so many vertices.
+/// The word of the moves whose core has `size` vertices.
 fn kind_word(size: u8) -> &'static [u8]
     ensures { result.now ≡ (core_words size []).0 }
 {
@@ -59,7 +59,7 @@ fn kind_word(size: u8) -> &'static [u8]
     }
 }
 
-// Appends the kind of a move and the number of its tetrahedron.
+/// Appends the kind of a move and its tetrahedron.
 #[tactic(auto, unfolding(crate::specs::Written::head_text))]
 fn append_head(alloc: Global, out: &mut Vec<u8>, size: u8, tet: u32) -> Result<(), NoMemory>
     ensures { OnOk result (out.new.items ≡ out.old.items ++ head_text size tet) }
@@ -70,7 +70,7 @@ fn append_head(alloc: Global, out: &mut Vec<u8>, size: u8, tet: u32) -> Result<(
     Ok(())
 }
 
-// The line of a move.
+/// The line of move `m`.
 fn text_of(alloc: Global, m: Move) -> Result<Vec<u8>, NoMemory>
     ensures { IfOk result (λ text. text.items ≡ move_text m) }
 {
@@ -81,7 +81,7 @@ fn text_of(alloc: Global, m: Move) -> Result<Vec<u8>, NoMemory>
     Ok(text)
 }
 
-/// Appends the line of a move. Without memory nothing is appended.
+/// Appends the line of move `m` to `out`. If memory runs out `out` is unchanged.
 pub fn write_move(alloc: Global, m: Move, out: &mut Vec<u8>) -> Result<(), NoMemory>
     ensures ok { OnOk result (out.new.items ≡ out.old.items ++ move_text m) }
     ensures err { OnErr result (out.new.items ≡ out.old.items) }
@@ -90,7 +90,7 @@ pub fn write_move(alloc: Global, m: Move, out: &mut Vec<u8>) -> Result<(), NoMem
     append(out, &text)
 }
 
-/// Appends a line for each move.
+/// Appends a line for each of `moves` to `out`.
 pub fn write_moves(alloc: Global, moves: &[Move], out: &mut Vec<u8>) -> Result<(), NoMemory>
     ensures { OnOk result (out.new.items ≡ out.old.items ++ flat_map move_text moves.now) }
 {

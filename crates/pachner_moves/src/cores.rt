@@ -1,4 +1,4 @@
-//! Cores: the vertices of a tetrahedron that a move keeps together.
+//! Cores of moves: the vertices of a tetrahedron that determine a move.
 
 ghost use Rattle.std.specs.Prelude.{◌≡◌, ◌<◌, ◌≤◌, ◌-◌, ◌↔◌, [], ◌∷◌, length, drop, IsSome, IfSome};
 ghost use Rattle.std.specs.List.{slice_index_or};
@@ -12,22 +12,22 @@ ghost use Rattle.pachner_moves.specs.Cores.{core_of};
 use perm_four::Perm4;
 use std::marker::Model;
 
-/// For each mask the index of the permutation that takes each vertex to its label.
+/// For each mask the index of the permutation that maps each vertex to its label.
 const LABELS: [u8; 16] = [0, 0, 6, 0, 8, 2, 12, 0, 9, 3, 13, 1, 16, 4, 18, 0];
 
 /// For each mask the number of vertices of the core.
 const SIZES: [u8; 16] = [0, 1, 1, 2, 1, 2, 2, 3, 1, 2, 2, 3, 2, 3, 3, 4];
 
-/// By their number, the masks of the last vertices.
+/// The masks of the last vertices, by their number.
 const LAST: [u8; 5] = [15, 15, 14, 12, 8];
 
-/// By its number, the mask of the ends of an edge.
+/// The mask of the ends of each edge, by its number.
 const ENDS: [u8; 6] = [3, 5, 9, 6, 10, 12];
 
-/// Some of the vertices of a tetrahedron, at least one. Contracts see it as the list of its vertices, ascending.
+/// A nonempty set of vertices of a tetrahedron. Contracts see it as the ascending list of its vertices.
 #[derive(Clone, Copy)]
 pub struct Core {
-    // bit v stands for vertex v
+    // bit v is set if vertex v is in the core
     mask: u8,
 }
 
@@ -49,7 +49,7 @@ impl Model for Core {
 }
 
 impl Core {
-    /// The core whose vertices are the bits of the mask; nothing where the mask is 0 or above 15.
+    /// The core of the vertices whose bits are set in `mask`, or `None` if `mask` is 0 or above 15.
     pub fn new(mask: u8) -> Option<Core>
         ensures found { IsSome result ↔ ((0 < mask) × (mask < 16)) }
         ensures core { IfSome result (λ c. c ≡ core_of mask) }
@@ -60,7 +60,7 @@ impl Core {
         Some(Core { mask })
     }
 
-    /// The core whose vertices are the bits of a mask.
+    /// The core of the vertices whose bits are set in `mask`, which is 1 to 15.
     pub fn of_mask(mask: u8) -> Core
         requires some { 0 < mask }
         requires four_bits { mask < 16 }
@@ -72,14 +72,14 @@ impl Core {
         }
     }
 
-    /// All four vertices.
+    /// The core of all four vertices, of the move 1-4.
     pub fn all() -> Core
         ensures { result ≡ four }
     {
         Core::of_mask(15)
     }
 
-    /// One vertex.
+    /// The core of vertex `v`, of a 4-1 move.
     pub fn vertex(v: u8) -> Core
         requires { v < 4 }
         ensures { result ≡ v ∷ [] }
@@ -87,7 +87,7 @@ impl Core {
         Core::of_mask(1 << v)
     }
 
-    /// The vertices of the face opposite a vertex.
+    /// The core of the three vertices of the face opposite `v`, of a 2-3 move.
     pub fn opposite_face(v: u8) -> Core
         requires { v < 4 }
         ensures { result ≡ others v }
@@ -95,7 +95,7 @@ impl Core {
         Core::of_mask(15 - (1 << v))
     }
 
-    /// The ends of an edge, by its number.
+    /// The core of the two ends of edge `e`, of a 3-2 move.
     pub fn edge(e: u8) -> Core
         requires { e < 6 }
         ensures { result ≡ slice_index_or edge_ends e [] }
@@ -103,7 +103,7 @@ impl Core {
         Core::of_mask(ENDS[e as usize])
     }
 
-    /// The ends of each edge, by its number.
+    /// The cores of the six edges, by edge number.
     pub fn edges() -> [Core; 6]
         ensures { result ≡ edge_ends }
     {
@@ -117,7 +117,7 @@ impl Core {
         ]
     }
 
-    /// Whether a number is that of a vertex of the core; from 4 on none is.
+    /// Whether vertex `v` is in the core; false if `v` is 4 or more.
     pub fn has(self, v: u8) -> bool
         ensures { result ≡ has self v }
     {
@@ -127,7 +127,7 @@ impl Core {
         self.mask >> v & 1 == 1
     }
 
-    /// The number of its vertices.
+    /// The number of vertices of the core, 1 to 4.
     pub fn size(self) -> u8
         ensures value { result ≡ length self }
         ensures core { IsCore self }
@@ -137,7 +137,7 @@ impl Core {
         SIZES[self.mask as usize]
     }
 
-    /// The core of the move that leads back: the last vertices, as many as five less those of this core.
+    /// The core of the inverse move: the last 5 - `size` vertices.
     pub fn opposite(self) -> Core
         ensures { result ≡ drop (length self - 1) four }
     {
@@ -146,7 +146,8 @@ impl Core {
         }
     }
 
-    /// The label of each vertex: those of the core come first, and then the others.
+    /// The permutation that maps each vertex to its label: first the vertices of the core, and then the others, both
+    /// ascending.
     pub fn labels(self) -> Perm4
         ensures value { result ≡ inverse (vertices_by_label self) }
         ensures permutes { IsPermutationOfFour result }
@@ -158,7 +159,8 @@ impl Core {
     }
 }
 
-/// A move, by a tetrahedron and a core of it.
+/// A Pachner move, by a tetrahedron and a core in it: the size of the core is 4 for 1-4, 3 for 2-3, 2 for 3-2 and 1 for
+/// 4-1.
 #[derive(Clone, Copy)]
 pub struct Move {
     pub tet: u32,
@@ -176,7 +178,7 @@ impl Model for Move {
 }
 
 impl Move {
-    /// The number of vertices of its core.
+    /// The number of vertices of the core, 1 to 4.
     pub fn core_size(&self) -> u8
         ensures value { result ≡ length self.now.core }
         ensures some { 0 < result }
@@ -186,14 +188,15 @@ impl Move {
     }
 }
 
-/// The number of tetrahedra, of so many, that a move with this core keeps.
+/// The number of tetrahedra, out of `tets`, that a move with core `core` retains.
 pub fn retained(tets: u32, core: Core) -> u32
     ensures { result ≡ tets - (5 - length core) }
 {
     tets.saturating_sub(5 - u32::from(core.size()))
 }
 
-/// The move that leads back, up to relabelling, from where a move on so many tetrahedra leads.
+/// The inverse, up to relabelling, of the move `m` on a table of `tets` tetrahedra, to be played on the table that
+/// results.
 pub fn inverse_on(tets: u32, m: Move) -> Move
     ensures { result ≡ moves.inverse_move tets m }
 {

@@ -12,7 +12,8 @@ use gluing_table::{Glue, Row, Table};
 use perm_four::Perm4;
 use std::marker::Model;
 
-/// A tetrahedron that stands for the facet of a 4-simplex that lacks one label, with the label of each vertex.
+/// A tetrahedron as the facet of a 4-simplex that lacks the label `missing`; `labels` has the label of each of its
+/// vertices.
 #[derive(Clone, Copy, Default)]
 pub struct Facet {
     pub tet: u32,
@@ -30,14 +31,14 @@ impl Model for Facet {
     ghost inverse = { λ f. record { tet = f.tet; missing = f.missing; labels = f.labels } };
 }
 
-/// The images of a permutation.
+/// The images of `perm`.
 fn images_of(perm: Perm4) -> [u8; 4]
     ensures { result ≡ perm }
 {
     [perm.image(0), perm.image(1), perm.image(2), perm.image(3)]
 }
 
-/// The tetrahedron of a move, which lacks label 4.
+/// The tetrahedron of move `m` as a facet, which lacks label 4.
 pub fn own_facet(m: Move) -> Facet
     ensures { result ≡ moves.own_facet m }
 {
@@ -48,7 +49,7 @@ pub fn own_facet(m: Move) -> Facet
     }
 }
 
-/// The vertex with a label, or 4.
+/// The vertex with label `label`, or 4 if there is none.
 #[tactic(auto, unfolding(table_definitions::specs::Permutation::preimage))]
 pub fn vertex_of(labels: &[u8; 4], label: u8) -> u8
     ensures value { result ≡ preimage labels.now label }
@@ -57,7 +58,8 @@ pub fn vertex_of(labels: &[u8; 4], label: u8) -> u8
     labels.iter().take_while(|l| **l != label).count() as u8
 }
 
-/// What the face opposite a label is glued to; nothing where no vertex has the label, or past the table.
+/// The gluing of the face opposite the vertex with label `label`. `None` if it is a boundary face, no vertex has the
+/// label, or the table has no such tetrahedron.
 pub fn glue_opposite(table: &Table, facet: Facet, label: u8) -> Option<Glue>
     ensures value { result ≡ gluings.glue table.now (moves.opposite facet label) }
     ensures is_table { IsTable table.now }
@@ -70,14 +72,14 @@ pub fn glue_opposite(table: &Table, facet: Facet, label: u8) -> Option<Glue>
     glue_in(&rows[tet], vertex_of(&facet.labels, label))
 }
 
-/// What a face of a row is glued to; nothing past its four faces.
+/// The gluing of face `face` of `row`, or `None` if there is no such face.
 fn glue_in(row: &Row, face: u8) -> Option<Glue>
     ensures { result ≡ slice_index_or row.now face None }
 {
     if face < 4 { row[face as usize] } else { None }
 }
 
-/// The label of a vertex behind the face opposite `label`.
+/// The label of vertex `v` of the tetrahedron across the face opposite `label`.
 fn label_behind(labels: &[u8; 4], label: u8, perm: Perm4, v: u8) -> u8
     requires { v < 4 }
     ensures { result ≡ in_place_of label 4 (image labels.now (preimage perm v)) }
@@ -86,7 +88,7 @@ fn label_behind(labels: &[u8; 4], label: u8, perm: Perm4, v: u8) -> u8
     if before == label { 4 } else { before }
 }
 
-/// The facet behind the face opposite `label`, glued so.
+/// The facet across the face of `own` opposite label `label`, whose gluing is `glue`.
 pub fn facet_behind(own: Facet, label: u8, glue: Glue) -> Facet
     ensures { result ≡ moves.facet_behind own label glue }
 {
@@ -102,7 +104,8 @@ pub fn facet_behind(own: Facet, label: u8, glue: Glue) -> Facet
     }
 }
 
-/// The facet that lacks a label: 4 is missing in the move's own, and the others are found behind its faces.
+/// The facet of move `m` that lacks label `label`: the move's own tetrahedron for 4, otherwise the one across its face
+/// opposite the label, or `None` if that is a boundary face.
 pub fn facet_at(table: &Table, m: Move, label: u8) -> Option<Facet>
     ensures { result ≡ moves.facet table.now m label }
 {
@@ -116,7 +119,7 @@ pub fn facet_at(table: &Table, m: Move, label: u8) -> Option<Facet>
     }
 }
 
-/// The labels of the vertices to which a gluing leads.
+/// The labels of the vertices that `perm` maps to.
 #[tactic(auto, unfolding(table_definitions::specs::Permutation::compose))]
 fn labels_reached(labels: &[u8; 4], perm: Perm4) -> [u8; 4]
     ensures { result ≡ compose labels.now perm }
@@ -129,14 +132,14 @@ fn labels_reached(labels: &[u8; 4], perm: Perm4) -> [u8; 4]
     ]
 }
 
-/// The same label, or another in its place.
+/// `label`, or `new` if it equals `old`.
 pub fn replace_label(label: u8, old: u8, new: u8) -> u8
     ensures { result ≡ in_place_of old new label }
 {
     if label == old { new } else { label }
 }
 
-/// The labels that the gluing between two facets should reach.
+/// The labels to which the gluing of `f` to `g` has to map.
 fn labels_wanted(f: Facet, g: Facet) -> [u8; 4]
     ensures { result ≡ map (in_place_of g.missing f.missing) f.labels }
 {
@@ -149,7 +152,7 @@ fn labels_wanted(f: Facet, g: Facet) -> [u8; 4]
     ]
 }
 
-/// Whether two facets are glued to each other label by label.
+/// Whether facets `f` and `g` are glued to each other label by label.
 pub fn is_matched(table: &Table, f: Facet, g: Facet) -> bool
     ensures { result ≡ moves.is_matched f g (gluings.glue table.now (moves.opposite f g.missing)) }
 {

@@ -1,4 +1,4 @@
-//! The facets that a move puts in, and what stands for the old faces.
+//! The new facets of a move, and the images of old faces in them.
 
 ghost use Rattle.std.specs.Prelude.{◌≡◌, ◌≢◌, ◌<◌, ◌≤◌, filter, find, not, ◌==◌, map, All};
 ghost use Rattle.table_definitions.specs.Lists.{below, closed_up, in_place_of};
@@ -14,7 +14,7 @@ use crate::{Facet, Move};
 use gluing_table::{Face, Glue, Table};
 use perm_four::Perm4;
 
-/// For each label the others, ascending.
+/// For each label the other ones, ascending.
 const OTHERS: [[u8; 4]; 5] = [
     [1, 2, 3, 4],
     [0, 2, 3, 4],
@@ -23,14 +23,14 @@ const OTHERS: [[u8; 4]; 5] = [
     [0, 1, 2, 3],
 ];
 
-/// A label of a vertex of a 4-simplex: one of five.
+/// A label of a vertex of a 4-simplex. Invariant: `number` is below 5.
 #[derive(Clone, Copy)]
 pub struct Label {
     pub number: u8,
     ghost one_of_five: { number < 5 },
 }
 
-/// A table, a move on it, and the facets that the move takes out.
+/// A table, a move on it, and the facets that the move removes.
 #[derive(Clone, Copy)]
 pub struct TakenOut<'a> {
     pub table: &'a Table,
@@ -39,7 +39,7 @@ pub struct TakenOut<'a> {
     ghost old: { AreOldFacets table.now m.now facets.now },
 }
 
-/// The labels but one, ascending.
+/// The labels other than `label`, ascending.
 pub fn other_labels(label: Label) -> [u8; 4]
     ensures value { result ≡ filter (λ l. not (l == label.number)) (below 5) }
     ensures other { All (λ l. (l < 5) × (l ≢ label.number)) result }
@@ -47,7 +47,7 @@ pub fn other_labels(label: Label) -> [u8; 4]
     OTHERS[label.number as usize]
 }
 
-/// The number of tetrahedra of a table that a move keeps.
+/// The number of tetrahedra of `table` that move `m` retains.
 pub fn retained_in(table: &Table, m: &Move) -> u32
     ensures value { result ≡ moves.kept table.now m.now }
     ensures few { result ≤ max_tets }
@@ -56,7 +56,7 @@ pub fn retained_in(table: &Table, m: &Move) -> u32
     retained(table.len(), m.core)
 }
 
-/// The facet that is put in for a label.
+/// The new facet of move `m` that lacks `label`.
 pub fn new_facet(table: &Table, m: &Move, label: Label) -> Facet
     ensures { result ≡ moves.new_facet table.now m.now label.number }
 {
@@ -67,14 +67,14 @@ pub fn new_facet(table: &Table, m: &Move, label: Label) -> Facet
     }
 }
 
-/// The vertex of a facet with a label, or with another one in place of the label that it lacks.
+/// The vertex of `facet` with label `label`, or with `missing` if `label` is the one that `facet` lacks.
 fn vertex_beside(facet: Facet, missing: u8, label: u8) -> u8
     ensures value { result ≡ moves.vertex_of facet (in_place_of facet.missing missing label) }
 {
     vertex_of(&facet.labels, replace_label(label, facet.missing, missing))
 }
 
-/// Where the vertices of a facet go in another, label by label.
+/// The permutation that maps the vertices of `f` to those of `g`, label by label.
 fn label_by_label(f: Facet, g: Facet) -> Perm4
     requires { IsPermutationOfFour (moves.label_by_label f g) }
     ensures { result ≡ moves.label_by_label f g }
@@ -91,7 +91,7 @@ fn label_by_label(f: Facet, g: Facet) -> Perm4
     }
 }
 
-/// How a facet goes to the one that is put in for a label.
+/// The map of facet `f` to the new facet of move `m` that lacks `label`, label by label, as a gluing.
 pub fn glue_to_new(table: &Table, m: &Move, f: Facet, label: Label) -> Glue
     requires { IsFacet f }
     ensures { result ≡ moves.facet_gluing table.now m.now f label.number }
@@ -103,7 +103,8 @@ pub fn glue_to_new(table: &Table, m: &Move, f: Facet, label: Label) -> Glue
     }
 }
 
-/// What stands for an old facet at its face opposite a label.
+/// The image of the old facet `f` at its face opposite `label`, or `None` if that face is not on the boundary of the
+/// moved region.
 fn facet_stand_in(table: &Table, m: &Move, f: Facet, label: u8) -> Option<Glue>
     requires { IsFacet f }
     ensures { result ≡ moves.facet_stand_in table.now m.now f label }
@@ -115,7 +116,7 @@ fn facet_stand_in(table: &Table, m: &Move, f: Facet, label: u8) -> Option<Glue>
     Some(glue_to_new(table, m, f, label))
 }
 
-/// The number of a tetrahedron once the facets are taken out.
+/// The number of tetrahedron `tet` after the tetrahedra of `facets` are removed.
 pub fn closed_number(facets: &[Facet], tet: u32) -> u32
     ensures { result ≡ closed_up (map (λ f. f.tet) facets.now) tet }
 {
@@ -123,7 +124,7 @@ pub fn closed_number(facets: &[Facet], tet: u32) -> u32
     (tet as usize).saturating_sub(before) as u32
 }
 
-/// What stands for a tetrahedron that is kept.
+/// The image of `tet`, a tetrahedron that the move retains.
 fn retained_stand_in(taken: TakenOut<'_>, tet: u32) -> Glue
     ensures { result ≡ moves.kept_stand_in taken.entry.table.now taken.entry.m.now tet }
 {
@@ -133,7 +134,7 @@ fn retained_stand_in(taken: TakenOut<'_>, tet: u32) -> Glue
     }
 }
 
-/// The facet of a tetrahedron.
+/// The facet of `facets` that is tetrahedron `tet`, or `None`.
 pub fn facet_of(facets: &[Facet], tet: u32) -> Option<Facet>
     ensures { result ≡ find (λ f. f.tet == tet) facets.now }
 {
@@ -145,7 +146,7 @@ pub fn facet_of(facets: &[Facet], tet: u32) -> Option<Facet>
     None
 }
 
-/// What stands for the tetrahedron of a face there.
+/// The image, at face `x`, of its tetrahedron.
 fn stand_in(taken: TakenOut<'_>, x: Face) -> Option<Glue>
     ensures { result ≡ moves.stand_in_at taken.entry.table.now taken.entry.m.now x }
 {
@@ -155,7 +156,7 @@ fn stand_in(taken: TakenOut<'_>, x: Face) -> Option<Glue>
     }
 }
 
-/// The gluing that stands for another, by what stands for both tetrahedra.
+/// The gluing `glue` carried by the images `s` and `r` of its two tetrahedra.
 fn glue_under(s: Glue, r: Glue, glue: Glue) -> Glue
     ensures { result ≡ gluing_under s r glue }
 {
@@ -165,7 +166,7 @@ fn glue_under(s: Glue, r: Glue, glue: Glue) -> Glue
     }
 }
 
-/// The gluing that stands for that of a face, whose tetrahedron `s` stands for.
+/// The gluing `glue` of face `x` after the move, where `s` is the image of the tetrahedron of `x`.
 pub fn moved_glue(taken: TakenOut<'_>, x: Face, s: Glue, glue: Glue) -> Option<Glue>
     ensures { result ≡ moves.moved_gluing taken.entry.table.now taken.entry.m.now x s glue }
 {

@@ -1,4 +1,4 @@
-//! Which moves are legal.
+//! Decides which moves are legal.
 
 ghost use Rattle.std.specs.Prelude.{◌≡◌, ◌<◌, ◌≤◌, ◌∷◌, length, map, Some, None, IfOk, IfErr, OnOk};
 ghost use Rattle.table_definitions.specs.Lists.{has};
@@ -11,13 +11,13 @@ use arrayvec::ArrayVec;
 use gluing_table::Table;
 use move_definitions::MoveFault;
 
-/// The facets that a move takes out, by ascending missing label.
+/// The facets that a legal move removes, ascending by missing label.
 #[derive(Drop)]
 pub struct Pattern {
     pub facets: ArrayVec<Facet, 4>,
 }
 
-/// Whether a tetrahedron is that of a facet.
+/// Whether tetrahedron `tet` is one of `facets`.
 pub fn is_of_facet(facets: &[Facet], tet: u32) -> bool
     ensures { result ≡ has (map (λ f. f.tet) facets.now) tet }
 {
@@ -29,14 +29,15 @@ pub fn is_of_facet(facets: &[Facet], tet: u32) -> bool
     false
 }
 
-/// Whether a tetrahedron is that of the move or of a facet.
+/// Whether tetrahedron `tet` is the move's own or one of `facets`.
 fn is_taken(own: u32, facets: &[Facet], tet: u32) -> bool
     ensures { result ≡ has (own ∷ map (λ f. f.tet) facets.now) tet }
 {
     own == tet || is_of_facet(facets, tet)
 }
 
-/// The facet behind the face of the move's tetrahedron opposite a label, where that is a tetrahedron of its own.
+/// The facet across the face of the move's tetrahedron opposite `label`. Fails with `Boundary` at a boundary face, or
+/// with `Repeated` if its tetrahedron is already one of the facets.
 fn find_facet(table: &Table, m: &Move, label: u8, found: &[Facet]) -> Result<Facet, MoveFault>
     requires a_label { label < 4 }
     requires from_core { length m.now.core ≤ label }
@@ -54,7 +55,7 @@ fn find_facet(table: &Table, m: &Move, label: u8, found: &[Facet]) -> Result<Fac
     Ok(facet)
 }
 
-/// The facets behind the faces of the move's tetrahedron.
+/// The facets across the faces of the move's tetrahedron, from the first label outside the core on.
 fn find_facets(table: &Table, m: &Move) -> Result<ArrayVec<Facet, 4>, MoveFault>
     ensures some { 0 < length m.now.core }
     ensures most { length m.now.core ≤ 4 }
@@ -70,7 +71,7 @@ fn find_facets(table: &Table, m: &Move) -> Result<ArrayVec<Facet, 4>, MoveFault>
     Ok(facets)
 }
 
-/// Whether two facets are glued to each other.
+/// Fails with `NotMatched` if `f` and `g` are not glued to each other label by label.
 fn check_pair(table: &Table, f: Facet, g: Facet) -> Result<(), MoveFault>
     ensures { result ≡ verdict (moves.pair_fault table.now (Some f) (Some g)) }
 {
@@ -84,7 +85,7 @@ fn check_pair(table: &Table, f: Facet, g: Facet) -> Result<(), MoveFault>
     }
 }
 
-/// Whether each two of the facets are glued to each other.
+/// Fails with `NotMatched` at the first pair of `facets` that are not glued to each other.
 fn check_pairs(table: &Table, facets: &[Facet]) -> Result<(), MoveFault>
     ensures { result ≡ verdict (pairs_fault table.now facets.now) }
 {
@@ -99,8 +100,9 @@ fn check_pairs(table: &Table, facets: &[Facet]) -> Result<(), MoveFault>
     Ok(())
 }
 
-/// The facets that a move takes out, where it is legal. The refusals, in their order, are `NoSuchTet`, then for the
-/// first label `Boundary` or `Repeated`, then for the first pair `NotMatched`.
+/// The facets that move `m` removes from `table`. Fails with `NoSuchTet` if there is no such tetrahedron; then at the
+/// first label outside the core whose face is a boundary face (`Boundary`) or leads to a tetrahedron that already is a
+/// facet (`Repeated`); then at the first pair of facets that are not glued label by label (`NotMatched`).
 pub fn legal(table: &Table, m: Move) -> Result<Pattern, MoveFault>
     ensures pattern { IfOk result (λ p. IsPattern table.now m p.facets.items) }
     ensures fault { IfErr result (λ e. moves.move_fault table.now m ≡ Some e) }

@@ -1,4 +1,4 @@
-//! Bistellar moves of gluing tables: which are legal, and the facets that they take out.
+//! Pachner moves of gluing tables, with their legality, their inverses, and the record that takes a move back.
 #![tactic(auto)]
 
 mod cores;

@@ -1,4 +1,4 @@
-//! Moves are played, and taken back.
+//! Plays moves, and takes them back.
 
 ghost use Rattle.std.specs.Prelude.{◌≡◌, ◌<◌, ◌≤◌, ◌+◌, ◌-◌, [], length, map, not, nat_lt, All, IfOk, IfErr, OnOk, OnErr};
 ghost use Rattle.std.specs.List.{slice_index_or};
@@ -21,8 +21,8 @@ use arrayvec::ArrayVec;
 use gluing_table::{Face, Glue, MAX_TETS, Row, Table};
 use std::marker::Model;
 
-/// What is kept of a move so that it can be taken back: the move, the number of tetrahedra before it, and the rows
-/// that it took out, with their numbers, ascending.
+/// The record that takes a move back: the move, the number of tetrahedra before it, and the removed rows with their
+/// numbers, ascending.
 #[derive(Drop)]
 pub struct Undo {
     played: Move,
@@ -42,7 +42,7 @@ impl Model for Undo {
     ghost invariant = { λ u. u.tets ≤ max_tets };
 }
 
-/// What the face of a new facet is glued to that stands for the one of an old facet.
+/// The gluing of the face of a new facet that is the image of the face of `old` opposite `label`.
 fn outer_glue(taken: TakenOut<'_>, old: Facet, label: Label) -> Option<Glue>
     requires { IsFacet old }
     ensures { result ≡ outer_gluing taken.entry.table.now taken.entry.m.now old label.number }
@@ -60,14 +60,14 @@ fn outer_glue(taken: TakenOut<'_>, old: Facet, label: Label) -> Option<Glue>
     )
 }
 
-/// What the face of a new facet is glued to that leads to another new one.
+/// The gluing of a face between two new facets.
 fn inner_glue(table: &Table, m: &Move, own: Label, label: Label) -> Glue
     ensures { result ≡ moves.facet_gluing table.now m.now (moves.new_facet table.now m.now own.number) label.number }
 {
     glue_to_new(table, m, new_facet(table, m, own), label)
 }
 
-/// What the face of a new facet opposite a label is glued to.
+/// The gluing of the face opposite `label` of the new facet that lacks `own`.
 fn fresh_glue(taken: TakenOut<'_>, own: Label, label: Label) -> Option<Glue>
     ensures { result ≡ fresh_gluing taken.entry.table.now taken.entry.m.now own.number label.number }
 {
@@ -79,7 +79,7 @@ fn fresh_glue(taken: TakenOut<'_>, own: Label, label: Label) -> Option<Glue>
     outer_glue(taken, taken.facets[(label.number - size) as usize], own)
 }
 
-/// The row of a new facet.
+/// The row of the new facet that lacks `own`.
 fn fresh_row(taken: TakenOut<'_>, own: Label) -> Row
     ensures { result ≡ put_row taken.entry.table.now taken.entry.m.now own.number }
 {
@@ -108,7 +108,7 @@ fn fresh_rows(taken: TakenOut<'_>) -> ArrayVec<(u32, Row), 4>
     rows
 }
 
-/// The numbers of the tetrahedra of the facets, ascending.
+/// The numbers of the removed tetrahedra, ascending.
 fn taken_numbers(taken: TakenOut<'_>) -> ArrayVec<u32, 4>
     ensures { result.items ≡ undos.taken_numbers taken.entry.table.now taken.entry.m.now }
 {
@@ -121,7 +121,7 @@ fn taken_numbers(taken: TakenOut<'_>) -> ArrayVec<u32, 4>
     numbers
 }
 
-/// The row of a tetrahedron.
+/// The row of tetrahedron `tet`.
 fn row_of(table: &Table, tet: u32) -> Row
     requires { tet < length table.now }
     ensures { result ≡ slice_index_or table.now tet [] }
@@ -130,7 +130,7 @@ fn row_of(table: &Table, tet: u32) -> Row
     [row[0], row[1], row[2], row[3]]
 }
 
-/// The rows with these numbers.
+/// The rows of the tetrahedra `numbers`, with their numbers.
 fn saved_rows(table: &Table, numbers: &[u32]) -> ArrayVec<(u32, Row), 4>
     requires few { length numbers.now ≤ 4 }
     requires in_range { All (λ t. t < length table.now) numbers.now }
@@ -143,7 +143,7 @@ fn saved_rows(table: &Table, numbers: &[u32]) -> ArrayVec<(u32, Row), 4>
     rows
 }
 
-/// The numbers of the tetrahedra that a move takes out, the rows that it puts in, and what takes it back.
+/// The tetrahedra that a move removes, the rows that it adds, and the record that takes it back.
 #[derive(Drop)]
 struct Exchange {
     removed: ArrayVec<u32, 4>,
@@ -151,7 +151,7 @@ struct Exchange {
     undo: Undo,
 }
 
-/// What a move takes out and puts in.
+/// What a move removes and adds.
 fn exchange_of(taken: TakenOut<'_>) -> Exchange
     ensures removed { result.removed.items ≡ undos.taken_numbers taken.entry.table.now taken.entry.m.now }
     ensures fresh { result.fresh.items ≡ put_rows taken.entry.table.now taken.entry.m.now }
@@ -170,7 +170,7 @@ fn exchange_of(taken: TakenOut<'_>) -> Exchange
     }
 }
 
-/// Whether the table to which a move leads has no more tetrahedra than a table may have.
+/// Whether `table` has at most `MAX_TETS` tetrahedra after move `m`.
 pub fn keeps_limit(table: &Table, m: Move) -> bool
     ensures value { result ≡ not (nat_lt max_tets (moves.new_length table.now m)) }
     ensures core { IsCore m.core }
@@ -179,8 +179,8 @@ pub fn keeps_limit(table: &Table, m: Move) -> bool
     retained_in(table, &m) + m.core.size() as u32 <= MAX_TETS
 }
 
-/// Plays a legal move by the facets that it takes out, and keeps what takes it back. It is refused where it doesn't keep
-/// the limit.
+/// Plays the legal move `m`, whose facets are `pattern`, and returns the record that takes it back. Fails with
+/// `TooMany` if more than `MAX_TETS` tetrahedra would result, and then leaves `table` unchanged.
 pub fn apply_legal(table: &mut Table, m: Move, pattern: &Pattern) -> Result<Undo, MoveFault>
     requires { IsPattern table.old m pattern.now.facets.items }
     ensures moved { OnOk result (Plays table.old m table.new) }
@@ -205,7 +205,8 @@ pub fn apply_legal(table: &mut Table, m: Move, pattern: &Pattern) -> Result<Undo
     Ok(undo)
 }
 
-/// Plays a move, and keeps what takes it back. The refusals are those of `legal`, and then `TooMany`.
+/// Plays move `m`, and returns the record that takes it back. Fails as `legal`, then with `TooMany` if more than
+/// `MAX_TETS` tetrahedra would result; `table` is then unchanged.
 pub fn apply(table: &mut Table, m: Move) -> Result<Undo, MoveFault>
     ensures moved { OnOk result (Plays table.old m table.new) }
     ensures undo { IfOk result (λ u. u ≡ undos.undo_of table.old m) }
@@ -217,15 +218,14 @@ pub fn apply(table: &mut Table, m: Move) -> Result<Undo, MoveFault>
     apply_legal(table, m, &pattern)
 }
 
-/// The move that leads back, up to relabelling, from where a move led: that of the number of tetrahedra before it, which
-/// its record keeps.
+/// The inverse of the recorded move up to relabelling, to be played on the table that resulted from it.
 pub fn inverse_move(undo: &Undo) -> Move
     ensures { result ≡ moves.inverse_move undo.now.tets undo.now.played }
 {
     inverse_on(undo.tets, undo.played)
 }
 
-/// The numbers of the tetrahedra that a move put in.
+/// The numbers of the tetrahedra that the recorded move added.
 fn put_numbers(undo: &Undo) -> ArrayVec<u32, 4>
     ensures { result.items ≡ (undos.back_exchange undo.now).removed }
 {
@@ -238,7 +238,7 @@ fn put_numbers(undo: &Undo) -> ArrayVec<u32, 4>
 }
 
 impl Undo {
-    /// The number of tetrahedra that the move kept.
+    /// The number of tetrahedra that the move retained.
     fn retained_by_move(&self) -> u32
         ensures value { result ≡ self.now.tets - (5 - length self.now.played.core) }
         ensures few { result ≤ max_tets }
@@ -247,7 +247,7 @@ impl Undo {
     }
 }
 
-/// Takes a move back, so that the table is the former one, row for row.
+/// Takes the recorded move back, so that `table` is what it was before the move, row for row.
 pub fn take_back(table: &mut Table, undo: &Undo)
     requires { CanTakeBack table.old undo.now }
     ensures former { table.new ≡ undos.former table.old undo.now }

@@ -1,4 +1,4 @@
-// Of rivals in the order of their sizes those of least residual, and which of these are met twice.
+//! The candidates of minimal residual, and which of these residuals occur twice.
 
 ghost use Rattle.std.specs.Prelude.{◌≡◌, ℕ, ◌<◌, length, IfOk, IfSome, IfNone, OnOk};
 ghost use Rattle.residual_pairs.specs.Rivals.{AreFound, AreInOrder, AreLeast, IsNoted, IsInsideAt};
@@ -9,8 +9,9 @@ use std::alloc::Global;
 use support_bits::Support;
 use support_table::SupportTable;
 
-/// Rivals of which none has a residual inside that of another, for each whether a further one has the same, and as a hint the
-/// place of the one whose residual was last found inside a further one's.
+/// Candidates none of which has a residual inside that of another; `doubled` says for each whether another candidate
+/// has an equal residual. `hint` is the index of the one whose residual was last inside that of a new candidate, and
+/// affects speed alone.
 #[derive(Drop)]
 pub struct Least {
     pub rivals: Vec<Rival>,
@@ -18,7 +19,8 @@ pub struct Least {
     pub hint: usize,
 }
 
-/// One of some rivals whose residual lies inside that of the ray at a place: the one at the hint, or else the first.
+/// The index of one of `rivals` whose residual lies inside that of the ray with index `place`: `hint` if possible,
+/// otherwise the first; `None` if there is none.
 fn one_inside(
     table: &SupportTable,
     outer: &Support,
@@ -43,7 +45,7 @@ fn one_inside(
     None
 }
 
-/// Adds a rival that isn't smaller than those before, unless the residual of one lies inside its own.
+/// Adds `rival`, which is not smaller than those before, unless a residual in `least` lies inside its own.
 fn note(
     table: &SupportTable,
     outer: &Support,
@@ -71,7 +73,7 @@ fn note(
     Ok(())
 }
 
-/// The rivals of least residual.
+/// The candidates in `order` whose residual is minimal under inclusion; `order` is by size.
 pub fn least_of(
     alloc: Global,
     table: &SupportTable,

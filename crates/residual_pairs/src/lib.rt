@@ -1,5 +1,4 @@
-//! Which rays make a face with an outer one, told at once for all of its rivals: those whose residual, their columns beside
-//! those of the outer ray, contains that of no other rival.
+//! All rays adjacent to a given ray at once, by their residuals, the columns that they have outside its support.
 #![tactic(auto)]
 
 mod least;

@@ -1,4 +1,4 @@
-// The columns that are alone in a residual: a larger residual that has one of them isn't minimal.
+//! Columns that alone are a residual: a larger residual that contains one is not minimal.
 
 ghost use Rattle.std.specs.Prelude.{◌≡◌, ◌+◌, ◌/◌, ◌<◌, ◌↔◌, length, IsTrue, IfOk};
 ghost use Rattle.residual_pairs.specs.Rivals.{AreFound, AddsBeside, AreMarks, IsHit, AreUnhit};
@@ -9,7 +9,7 @@ use std::alloc::Global;
 use support_bits::{Support, have_common};
 use support_table::SupportTable;
 
-/// Sets each bit that is set in the words but not in `outer`.
+/// Sets in `marks` each bit that is set in `words` but not in `outer`.
 fn add_beside(marks: &mut Vec<u64>, words: &[u64], outer: &[u64])
     requires words { length words.now ≡ length marks.old.items }
     requires outer { length outer.now ≡ length marks.old.items }
@@ -20,7 +20,7 @@ fn add_beside(marks: &mut Vec<u64>, words: &[u64], outer: &[u64])
     }
 }
 
-/// The columns of residuals that have a single one.
+/// The columns of the residuals of one column. `single` is the size of the union for such a residual.
 pub fn marks_of(
     alloc: Global,
     table: &SupportTable,
@@ -42,7 +42,7 @@ pub fn marks_of(
     Ok(marks)
 }
 
-/// Whether a residual has more than one column, and one of those that are marked.
+/// Whether the residual of `rival` has more than one column, and a marked one.
 fn is_hit(table: &SupportTable, marks: &[u64], single: u64, rival: Rival) -> bool
     requires place { rival.place < length table.now.supports }
     requires words { length marks.now ≡ (table.now.columns + 63) / 64 }
@@ -51,7 +51,7 @@ fn is_hit(table: &SupportTable, marks: &[u64], single: u64, rival: Rival) -> boo
     rival.size > single && have_common(table.words_at(rival.place), marks)
 }
 
-/// The rivals that aren't hit.
+/// The candidates of `rivals` that are not ruled out by a marked column.
 pub fn unhit(
     alloc: Global,
     table: &SupportTable,

@@ -1,4 +1,4 @@
-// The rivals of minimal residual.
+//! The candidates whose residual contains that of no other candidate.
 
 ghost use Rattle.std.specs.Prelude.{◌≡◌, ◌+◌, ◌<◌, length, IfOk};
 ghost use Rattle.std.specs.List.Sorted.{IsPermutation, IsNonDecreasingBy};
@@ -15,7 +15,7 @@ use std::alloc::Global;
 use support_bits::Support;
 use support_table::union_count;
 
-/// How many columns a ray has together with the outer one, where its residual has a single one.
+/// The number of columns of `outer`, plus 1.
 fn single_size(outer: &Support) -> u64
     ensures { result ≡ columns_in_either outer.now outer.now + 1 }
 {
@@ -23,7 +23,7 @@ fn single_size(outer: &Support) -> u64
     union_count(outer.words(), outer.words()) + 1
 }
 
-/// Rivals among which all of minimal residual are, and each whose residual lies inside that of one.
+/// Candidates among which are all that have a minimal residual.
 fn candidates(
     alloc: Global,
     rays: &RayTable,
@@ -43,7 +43,7 @@ fn candidates(
     unhit(alloc, table, &marks, single, &rivals)
 }
 
-/// Puts rivals in the order of their sizes.
+/// Sorts `rivals` by size.
 fn sort_by_size(rivals: &mut Vec<Rival>)
     ensures permutation { IsPermutation rivals.old.items rivals.new.items }
     ensures sorted { IsNonDecreasingBy (λ r. r.size) rivals.new.items }
@@ -51,7 +51,7 @@ fn sort_by_size(rivals: &mut Vec<Rival>)
     rivals.sort_unstable_by_key(|rival| rival.size);
 }
 
-/// The places of rivals of least residual that no other has.
+/// The indices of the rays of minimal residual that no other candidate has.
 fn alone(alloc: Global, least: &Least) -> Result<Vec<usize>, NoMemory>
     requires { length least.now.doubled.items ≡ length least.now.rivals.items }
     ensures { IfOk result (λ places. AreAlone least.now (length least.now.rivals.items) places.items) }
@@ -65,10 +65,9 @@ fn alone(alloc: Global, least: &Least) -> Result<Vec<usize>, NoMemory>
     Ok(places)
 }
 
-/// Of the rays of a table the places, ascending, of those whose residual, their columns beside those of an outer ray, contains
-/// that of no other rival: no third ray lies inside the union of the outer ray and such a one. The outer ray stands at `own`,
-/// and rivals are the other rays with none of the `joined` columns, which clash with one of it, and with at most `most` columns
-/// together with it. Without memory there are none.
+/// The indices, ascending, of the candidates whose residual, their columns outside `outer`, contains that of no other
+/// candidate. Candidates are the rays other than the one with index `own` that contain none of the columns `joined`,
+/// which clash with a column of `outer`, and whose union with `outer` has at most `most` columns.
 pub fn minimal_places(
     alloc: Global,
     rays: &RayTable,

@@ -1,5 +1,4 @@
-// The supports of rays, and for each column the places of the rays that have it: which rays have one of many columns is told
-// word by word.
+//! Supports of rays with an index by column, so that the rays that have one of several columns are found word by word.
 
 ghost use Rattle.std.specs.Prelude.{◌≡◌, ◌<◌, length, IfOk};
 ghost use Rattle.residual_pairs.specs.Holders.{IsHolder, AreHolders, AreAsLong, IsMeetingBelow, IsMeeting};
@@ -10,7 +9,7 @@ use std::marker::Model;
 use support_bits::Support;
 use support_table::SupportTable;
 
-/// The supports of so many rays, and for each column the places of the rays that have it.
+/// The supports of `count` rays, and for each column the set of the rays that contain it. Contracts see the supports.
 #[derive(Drop)]
 pub struct RayTable {
     table: SupportTable,
@@ -30,7 +29,7 @@ impl Model for RayTable {
     ghost invariant = { λ r. AreHolders r.table r.count r.holders.items };
 }
 
-/// The places of the rays that have a column.
+/// The indices of the rays that contain `column`.
 fn holder_of(
     alloc: Global,
     table: &SupportTable,
@@ -50,7 +49,7 @@ fn holder_of(
     Ok(places)
 }
 
-/// For each column the places of the rays that have it.
+/// For each column the indices of the rays that contain it.
 fn holders_of(alloc: Global, table: &SupportTable, count: u32) -> Result<Vec<Support>, NoMemory>
     requires { count ≡ length table.now.supports }
     ensures { IfOk result (λ holders. AreHolders table.now count holders.items) }
@@ -62,7 +61,7 @@ fn holders_of(alloc: Global, table: &SupportTable, count: u32) -> Result<Vec<Sup
     Ok(holders)
 }
 
-/// The places in one of the listed rows of bits whose numbers are among some columns.
+/// The union of the sets in `holders` of the columns in `columns`.
 fn union_of_rows(
     alloc: Global,
     holders: &[Support],
@@ -83,7 +82,7 @@ fn union_of_rows(
 }
 
 impl RayTable {
-    /// The rays of a table, of which there are so many.
+    /// Takes ownership of `table`, which has `count` supports.
     pub fn of(alloc: Global, table: SupportTable, count: u32) -> Result<RayTable, NoMemory>
         requires { count ≡ length table.supports }
         ensures { IfOk result (λ rays. rays ≡ table) }
@@ -103,7 +102,7 @@ impl RayTable {
         &self.table
     }
 
-    /// The places of the rays that have one of some columns.
+    /// The indices of the rays that contain one of `columns`.
     pub fn meeting(&self, alloc: Global, columns: &Support) -> Result<Support, NoMemory>
         requires { length columns.now ≡ self.now.columns }
         ensures { IfOk result (IsMeeting self.now.supports columns.now) }

@@ -1,5 +1,4 @@
-// The rivals of an outer ray: the other rays that have none of the columns that clash with one of it, and few columns together
-// with it.
+//! The candidates for adjacency to a given ray.
 
 ghost use Rattle.std.specs.Prelude.{◌≡◌, ◌+◌, ◌<◌, ◌^◌, length, IfOk, OnOk};
 ghost use Rattle.residual_pairs.specs.Rivals.{AreRivals, IsRivalPushed, AreRivalsPushed};
@@ -10,14 +9,15 @@ use std::alloc::Global;
 use support_bits::Support;
 use support_table::SupportTable;
 
-/// The place of a rival, and how many columns it and the outer ray have together.
+/// The index of a candidate, and the number of columns in its union with the outer ray.
 #[derive(Clone, Copy)]
 pub struct Rival {
     pub place: usize,
     pub size: u64,
 }
 
-/// Appends the ray at a place, where there is one other than the outer one, and both have at most so many columns.
+/// Appends the ray with index `place`, if there is one, it is not `own`, and its union with `outer` has at most `most`
+/// columns.
 fn push_rival(
     table: &SupportTable,
     outer: &Support,
@@ -38,7 +38,7 @@ fn push_rival(
     Ok(())
 }
 
-/// Appends the rivals at 64 places from one on, those whose bits aren't set.
+/// Appends the candidates among the 64 rays from `first` on whose bits in `word` are not set.
 fn push_rivals(
     table: &SupportTable,
     outer: &Support,
@@ -64,7 +64,8 @@ fn push_rivals(
     Ok(())
 }
 
-/// The rivals of the ray at a place, in the order of their places.
+/// The candidates for adjacency to the ray with index `own` and support `outer`, by index: the other rays that contain
+/// none of `joined` and whose union with `outer` has at most `most` columns.
 pub fn rivals_of(
     alloc: Global,
     rays: &RayTable,

@@ -1,4 +1,4 @@
-//! A census of tables.
+//! Groups tables into isomorphism classes by their signatures.
 
 ghost use Rattle.std.specs.Prelude.{◌≡◌, ◌<◌, ◌+◌, ◌^◌, ℕ, List, [], length, IfOk, IfErr, OnOk, OnErr};
 ghost use Rattle.no_memory.specs.Failures.{IfFault};
@@ -14,7 +14,8 @@ use no_memory::NoMemory;
 use std::alloc::Global;
 use std::marker::Model;
 
-/// The signatures of the tables that were added, each once, in the order in which they were first met.
+/// The signatures of the tables added so far, each once, in the order of their first occurrence. Contracts see this
+/// list.
 #[derive(Drop)]
 pub struct Census {
     alloc: Global,
@@ -32,7 +33,7 @@ impl Model for Census {
     ghost invariant = { λ c. length c.signatures.keys < 2 ^ 32 };
 }
 
-// The place of a text among texts, behind which it is put where it has none.
+/// The index of `text` in `texts`, to which it is appended if it does not occur there.
 fn place(texts: &mut IndexSet<Vec<u8>>, text: Vec<u8>) -> Result<usize, NoMemory>
     ensures placed { IfOk result (λ class. IsPlaced (texts_of texts.old.keys) text.items class (texts_of texts.new.keys)) }
     ensures kept { OnErr result (texts.new.keys ≡ texts.old.keys) }
@@ -42,7 +43,7 @@ fn place(texts: &mut IndexSet<Vec<u8>>, text: Vec<u8>) -> Result<usize, NoMemory
 }
 
 impl Census {
-    /// No tables.
+    /// An empty census.
     pub fn new(alloc: Global) -> Census
         ensures { result ≡ [] }
     {
@@ -59,7 +60,7 @@ impl Census {
         self.signatures.len() as u32
     }
 
-    /// The signature of a class.
+    /// The signature of class `class`.
     pub fn signature_of(&self, class: u32) -> &[u8]
         requires { class < length self.now }
         ensures { result.now ≡ signature_in self.now class }
@@ -68,8 +69,9 @@ impl Census {
         text.as_slice()
     }
 
-    /// The class of a table: the place of its signature, which is put last where it has none. What isn't connected is
-    /// refused, and then the census stays.
+    /// Adds `table` and returns its class: the index of its signature, which is appended if it is new. Fails with
+    /// `NotConnected`, which names the least tetrahedron not reached from tetrahedron 0, if `table` is disconnected;
+    /// after any error the census is unchanged.
     pub fn add(&mut self, table: &Table) -> Result<u32, WalkFault>
         requires { length self.old + 1 < 2 ^ 32 }
         ensures class { IfOk result (λ class. (text : List ℕ) × IsSignature table.now text × IsPlaced self.old text class self.new) }

@@ -1,5 +1,5 @@
-//! A census of tables: the signatures of what was added, each once, in the order in which they were first met. A table's
-//! class is its signature's place.
+//! A census of tables up to isomorphism, by their signatures in the order of first occurrence. The class of a table is
+//! the index of its signature.
 #![tactic(auto)]
 
 mod census;

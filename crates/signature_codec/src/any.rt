@@ -1,4 +1,4 @@
-//! A table in either form.
+//! Reads a table in either form.
 
 ghost use Rattle.text_definitions.specs.Reading.{ReadsFrom};
 ghost use Rattle.signature_definitions.specs.SignatureText.{signature_at, any_table_at};
@@ -8,7 +8,7 @@ use gluing_table::{Table, TextFault, read_rows};
 use std::alloc::Global;
 use text_io::Lexer;
 
-/// The table that follows the word `sig`: a signature, alone on the rest of the line.
+/// Reads the signature after the word `sig`, alone on the rest of the line, as a table.
 #[tactic(auto, unfolding(signature_definitions::specs::SignatureText::signature_at))]
 fn read_signature_line(alloc: Global, lexer: &mut Lexer<'_>) -> Result<Table, InputFault>
     ensures { ReadsFrom InputFault.NoMemory (λ table. table) result lexer.new (signature_at lexer.old) }
@@ -19,8 +19,9 @@ fn read_signature_line(alloc: Global, lexer: &mut Lexer<'_>) -> Result<Table, In
     Ok(table)
 }
 
-/// The table in the lines from the current one on, of which no word was taken yet: behind `tri` the number of its rows
-/// and a line for each, or behind `sig` its signature. After a fault nothing is said of what is left to read.
+/// Reads a table from the current line on, of which no word is read yet: after `tri` the number of rows and a line for
+/// each, or after `sig` a signature. Fails with the first error of the text, `BadWord` if the first word is neither;
+/// after an error nothing is stated about the position.
 #[tactic(auto, unfolding(signature_definitions::specs::SignatureText::any_table_at))]
 pub fn read_any(alloc: Global, lexer: &mut Lexer<'_>) -> Result<Table, InputFault>
     ensures { ReadsFrom InputFault.NoMemory (λ table. table) result lexer.new (any_table_at lexer.old) }

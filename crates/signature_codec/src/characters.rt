@@ -11,7 +11,7 @@ const ALPHABET: [u8; 64] = [
     b'W', b'X', b'Y', b'Z', b'0', b'1', b'2', b'3', b'4', b'5', b'6', b'7', b'8', b'9', b'+', b'-',
 ];
 
-/// The character of a value.
+/// The character of `value`, which is below 64.
 pub fn character(value: u8) -> u8
     requires { value < 64 }
     ensures { result ≡ spellings.character value }
@@ -19,7 +19,7 @@ pub fn character(value: u8) -> u8
     ALPHABET[value as usize]
 }
 
-/// The value of a character, if it is one.
+/// The value of the character `byte`, or `None` if it is none of the 64.
 pub fn value_of(byte: u8) -> Option<usize>
     ensures value { result ≡ spellings.value_of byte }
     ensures in_range { IfSome result (λ v. v < 64) }

@@ -1,4 +1,4 @@
-//! The count of tetrahedra, with which a text begins.
+//! The number of tetrahedra, with which a signature begins.
 
 ghost use Rattle.std.specs.Prelude.{◌≡◌, ◌≤◌, length, IfOk};
 ghost use Rattle.signature_definitions.specs.SignatureText as signatures;
@@ -11,10 +11,10 @@ use crate::numbers::{number_in, value_at};
 use crate::read::Head;
 use gluing_table::MAX_TETS;
 
-/// The count of so many tetrahedra takes one character.
+/// The least number of tetrahedra that takes more than one character.
 const FIRST_LONG: u32 = 63;
 
-/// The number of characters for a number in a text of so many tetrahedra.
+/// The number of characters for each number in the signature of a table of `count` tetrahedra.
 pub fn width(count: u32) -> u32
     ensures value { result ≡ spellings.width count }
     ensures in_range { result ≤ 3 }
@@ -28,7 +28,8 @@ pub fn width(count: u32) -> u32
     }
 }
 
-/// The head of a text that begins with `-`.
+/// Reads the head of a text that begins with `-`. Fails with `Width` if the width is 0 or not the least, and with
+/// `TooMany` if the width is 3 or more or the count exceeds `MAX_TETS`.
 fn long_head(text: &[u8]) -> Result<Head, SigFault>
     ensures reads { Reads head_view result (signatures.long_head text.now) }
     ensures in_text { IfOk result (λ h. h.next ≤ length text.now) }
@@ -54,7 +55,9 @@ fn long_head(text: &[u8]) -> Result<Head, SigFault>
     })
 }
 
-/// The head of a text.
+/// Reads the head of `text`: the number of tetrahedra and the width of its numbers. Fails with `Short` or `BadChar` at
+/// the first missing or foreign character, with `TooMany` above `MAX_TETS` tetrahedra, or with `Width` if the width is
+/// 0 or not the least for the count.
 #[tactic(auto, unfolding(signature_definitions::specs::SignatureText::head_of))]
 pub fn head_of(text: &[u8]) -> Result<Head, SigFault>
     ensures reads { Reads head_view result (signatures.head_of text.now) }

@@ -1,4 +1,4 @@
-//! The rows of the table whose faces are joined by the parts of a text.
+//! The rows of the table that the sections of a signature describe.
 
 ghost use Rattle.std.specs.Prelude.{◌<◌};
 ghost use Rattle.signature_definitions.specs.SignatureText as signatures;
@@ -13,7 +13,9 @@ use crate::slots::{none_met, rows_of};
 use gluing_table::Row;
 use std::alloc::Global;
 
-/// The rows of the table whose faces are joined so.
+/// Glues the faces as `parts` describes, and returns the rows. Fails at the first face, in order, that is in a
+/// tetrahedron not yet seen (`Unreached`), has a destination not yet seen (`Destination`), or is glued to itself or to
+/// a face already read (`FaceTaken`).
 pub fn join(alloc: Global, parts: &Parts) -> Result<Vec<Row>, SigFault>
     requires { 0 < parts.now.count → IsSlots parts.now.count (slots_begun parts.now.count (parts_view parts.now)) }
     ensures { Reads (λ rows. rows.items) result (signatures.table_of parts.now.count (parts_view parts.now)) }

@@ -1,4 +1,4 @@
-//! The faces of a table, joined in order.
+//! Glues the faces of a table in order, as a signature describes.
 
 ghost use Rattle.std.specs.Prelude.{◌≡◌, ◌*◌, drop};
 ghost use Rattle.signature_definitions.specs.SignatureText as signatures;
@@ -10,8 +10,8 @@ use crate::slots::{meet, same_face, set_slot, slot};
 use gluing_table::{Face, Glue};
 use perm_four::perm_at;
 
-/// The parts that are joined; what each face is glued to, where it was met; the number of tetrahedra that are seen; and how
-/// many types, and how many destinations and gluings, were used.
+/// A table in the making: the sections of the signature; for each face that was read its gluing; the number of
+/// tetrahedra seen; and how many types, and how many destinations and gluings, were used.
 #[derive(Drop)]
 pub struct Joining<'a> {
     pub parts: &'a Parts,
@@ -22,7 +22,7 @@ pub struct Joining<'a> {
     ghost slots: { IsSlots parts.now.count (record { met = met.items; seen = seen; parts = record { types = drop types_used parts.now.types.items; destinations = drop seen_used parts.now.destinations.items; gluings = drop seen_used parts.now.gluings.items } }) },
 }
 
-/// A number with its place; zeros where there is none.
+/// The number with index `i` and its position in the text; zeros if there is none.
 fn pair_at(pairs: &[(u32, usize)], i: usize) -> (u32, usize)
     ensures { result ≡ signatures.first_pair (drop i pairs.now) }
 {
@@ -35,7 +35,7 @@ impl<'a> Joining<'a> {
     ghost use Rattle.signature_text_laws.specs.Slots as slots;
     ghost use Rattle.signature_codec.specs.Views.{slots_view, glued_at};
 
-    /// The gluing of a face to a tetrahedron that is seen.
+    /// The gluing of `face` to a tetrahedron already seen. Fails with `Destination` or `FaceTaken`.
     fn seen_glue(&self, face: Face) -> Result<Glue, SigFault>
         ensures { Reads (glued_at (slots_view self.now) face) result (slots.slot_seen face (slots_view self.now)) }
     {
@@ -55,7 +55,7 @@ impl<'a> Joining<'a> {
         Ok(glue)
     }
 
-    /// Joins the next face, if it isn't met.
+    /// Glues `face`, unless it is already read.
     fn join_face(&mut self, face: Face) -> Result<(), SigFault>
         ensures { Leaves (slots_view self.new) result (slots.slot_face face (slots_view self.old)) }
     {
@@ -88,7 +88,8 @@ impl<'a> Joining<'a> {
         Ok(())
     }
 
-    /// Joins all faces.
+    /// Glues all faces in order. Fails at the first face in a tetrahedron not yet seen (`Unreached`), with a
+    /// destination not yet seen (`Destination`), or glued to itself or to a face already read (`FaceTaken`).
     pub fn join_faces(&mut self) -> Result<(), SigFault>
         ensures { Leaves (slots_view self.new) result (slots.slot_faces (4 * self.old.parts.now.count) 0 (slots_view self.old)) }
     {

@@ -1,4 +1,4 @@
-//! Values and numbers in a text.
+//! Reads values and numbers from a signature.
 
 ghost use Rattle.std.specs.Prelude.{◌≡◌, ◌<◌, ◌≤◌, ◌+◌, ◌*◌, ◌^◌, length, IfOk, OnOk};
 ghost use Rattle.signature_definitions.specs.SignatureText as signatures;
@@ -9,14 +9,14 @@ use crate::SigFault;
 use crate::characters::value_of;
 use std::alloc::Global;
 
-/// The two segments of a text that are numbers one after the other.
+/// The two sections of a signature that consist of numbers.
 #[derive(Clone, Copy)]
 pub enum Segment {
     Destinations,
     Gluings,
 }
 
-/// So many numbers of a segment, each in so many characters and below a bound.
+/// The form of a section: `many` numbers, each in `width` characters and below `bound`.
 #[derive(Clone, Copy)]
 pub struct Numbers {
     pub segment: Segment,
@@ -30,7 +30,7 @@ pub struct Numbers {
 impl Segment {
     ghost use Rattle.signature_codec.specs.Views.{fault_of_segment};
 
-    /// The fault of a number that is out of range.
+    /// The error for a number at position `at` that is not below its bound.
     fn fault(self, at: usize) -> SigFault
         ensures { result ≡ fault_of_segment self at }
     {
@@ -41,7 +41,8 @@ impl Segment {
     }
 }
 
-/// The value of the character at a place.
+/// The value of the character at position `at`. Fails with `Short` if the text ends before it, or with `BadChar` if it
+/// is none of the 64 characters.
 pub fn value_at(text: &[u8], at: usize) -> Result<u32, SigFault>
     ensures reads { Reads (λ v. v) result (signatures.value_at text.now at) }
     ensures in_range { IfOk result (λ v. v < 64) }
@@ -56,7 +57,8 @@ pub fn value_at(text: &[u8], at: usize) -> Result<u32, SigFault>
     }
 }
 
-/// The number in `width` characters, the lowest six bits first.
+/// Reads the number in `width` characters from position `at`, lowest six bits first. Fails with `Short` or `BadChar` at
+/// the first missing or foreign character.
 pub fn number_in(text: &[u8], width: u32, at: usize) -> Result<u32, SigFault>
     requires in_text { at ≤ length text.now }
     requires narrow { width ≤ 3 }
@@ -72,7 +74,9 @@ pub fn number_in(text: &[u8], width: u32, at: usize) -> Result<u32, SigFault>
     Ok(low + 64 * high)
 }
 
-/// The numbers of a segment from a place on, each with its place.
+/// Reads the section described by `numbers` from position `at`: its numbers, each with its position. Fails at the first
+/// missing (`Short`) or foreign (`BadChar`) character, or number not below the bound (`Destination` or `Gluing`, by the
+/// section).
 pub fn numbers_in(
     alloc: Global,
     text: &[u8],

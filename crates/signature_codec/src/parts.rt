@@ -1,4 +1,4 @@
-//! The parts of a text behind its types.
+//! Reads the sections of a signature after its types.
 
 ghost use Rattle.std.specs.Prelude.{◌≡◌, ◌<◌, ◌≤◌, length, IfOk};
 ghost use Rattle.table_definitions.specs.Lists.{times_in};
@@ -11,7 +11,7 @@ use crate::numbers::{Numbers, Segment, numbers_in};
 use crate::read::{Head, Parts, TypesRead};
 use std::alloc::Global;
 
-/// How many types are 2.
+/// The number of types that are 2.
 fn twos_of(types: &[u8]) -> usize
     ensures value { result ≡ times_in types.now 2 }
     ensures in_range { result ≤ length types.now }
@@ -19,7 +19,9 @@ fn twos_of(types: &[u8]) -> usize
     types.iter().filter(|kind| **kind == 2).count()
 }
 
-/// The parts behind the types.
+/// Reads the sections after the types. Fails with `Unreached` if too few types are 1 for `head.count` tetrahedra; then
+/// with the first error among the destinations and the gluings (`Short`, `BadChar`, `Destination`, `Gluing`); then with
+/// `Trailing` if characters are left.
 pub fn read_parts(
     alloc: Global,
     text: &[u8],

@@ -1,9 +1,9 @@
-//! What is read of a text before its faces are joined.
+//! What is read of a signature before its faces are glued.
 
 ghost use Rattle.std.specs.Prelude.{◌≤◌, ◌+◌, length};
 ghost use Rattle.table_definitions.specs.Table.{max_tets};
 
-/// The count of tetrahedra, the number of characters for a number, and the place of the types.
+/// The number of tetrahedra, the number of characters for each number, and the position of the types.
 #[derive(Clone, Copy)]
 pub struct Head {
     pub count: u32,
@@ -13,7 +13,7 @@ pub struct Head {
     pub ghost narrow: { width ≤ 2 },
 }
 
-/// The types read so far, the faces that are left to be counted, and the number of types 1.
+/// The types read so far, the number of faces not yet accounted for, and the number of types that are 1.
 #[derive(Drop)]
 pub struct Types {
     pub read: Vec<u8>,
@@ -23,14 +23,14 @@ pub struct Types {
     pub ghost few_ones: { ones ≤ max_tets },
 }
 
-/// The types of a text, and the place behind them.
+/// The types of a signature, and the position after them.
 #[derive(Drop)]
 pub struct TypesRead {
     pub types: Types,
     pub next: usize,
 }
 
-/// The count of tetrahedra, the types, and the destination and the gluing of each type 2, with their places.
+/// The number of tetrahedra, the types, and for each type 2 its destination and its gluing, with their positions.
 #[derive(Drop)]
 pub struct Parts {
     pub count: u32,

@@ -1,4 +1,4 @@
-//! The table of a text.
+//! Reads the table of a signature.
 
 ghost use Rattle.std.specs.Prelude.{IfOk, IfErr};
 ghost use Rattle.signature_definitions.specs.Spelling.{Spells};
@@ -14,7 +14,7 @@ use crate::types::read_types;
 use gluing_table::{Row, Table};
 use std::alloc::Global;
 
-/// The table of rows that are one.
+/// A table of `rows`, which are known to be valid.
 fn table_of(alloc: Global, rows: Vec<Row>) -> Result<Table, SigFault>
     requires { IsTable rows.items }
     ensures { Reads (λ t. t) result (Ok rows.items) }
@@ -23,9 +23,9 @@ fn table_of(alloc: Global, rows: Vec<Row>) -> Result<Table, SigFault>
     Ok(table)
 }
 
-/// The walk-ordered table that a text spells, or the first fault of the text: its phases are the head, the types of the
-/// faces, the destinations, the gluings and the joining of the faces, and a later one is looked at where the earlier
-/// ones have no fault. (The profile of Burton's isomorphism signatures that this project writes.)
+/// Reads `text` as a walk-ordered table. Fails with the first error of the first phase that has one; the phases are the
+/// head, the types of the faces, the destinations, the gluings, and the gluing of the faces. The format is this
+/// project's profile of Burton's isomorphism signatures.
 pub fn read_signature(alloc: Global, text: &[u8]) -> Result<Table, SigFault>
     ensures reads { Reads (λ t. t) result (signature_table text.now) }
     ensures spelled { IfOk result (Spells text.now) }

@@ -1,4 +1,4 @@
-//! What is known of each face while the faces of a table are joined, at its place.
+//! The gluings known so far while the faces of a table are glued in order, by face.
 
 ghost use Rattle.std.specs.Prelude.{◌≡◌, length, replicate, slice_set, Some, None, unwrap_or, IfOk};
 ghost use Rattle.table_definitions.specs.Table as gluings;
@@ -9,21 +9,21 @@ ghost use Rattle.signature_text_laws.specs.Slots.{meet_at};
 use gluing_table::{Face, Glue, Row};
 use std::alloc::{AllocError, Global};
 
-/// The place of a face among those of all tetrahedra.
+/// The index of `face` among the faces of all tetrahedra: 4t + f.
 fn place(face: Face) -> usize
     ensures { result ≡ face_number face }
 {
     4 * face.tet as usize + face.face as usize
 }
 
-/// Whether two faces are the same.
+/// Whether `first` and `second` are one face.
 pub fn same_face(first: Face, second: Face) -> bool
     ensures { result ≡ gluings.same_face first second }
 {
     first.tet == second.tet && first.face == second.face
 }
 
-/// Places for so many faces, of which none is met.
+/// An entry for each of `faces` faces, none of them read.
 pub fn none_met(alloc: Global, faces: u32) -> Result<Vec<Option<Option<Glue>>>, AllocError>
     ensures unmet { IfOk result (λ met. met.items ≡ replicate faces None) }
     ensures size { IfOk result (λ met. length met.items ≡ faces) }
@@ -32,7 +32,7 @@ pub fn none_met(alloc: Global, faces: u32) -> Result<Vec<Option<Option<Glue>>>, 
     Ok(met)
 }
 
-/// What is known of a face: nothing where it isn't met, or has no place.
+/// What is known of `face`: its gluing (`None` at a boundary face), or `None` if it is not yet read or out of range.
 pub fn slot(met: &[Option<Option<Glue>>], face: Face) -> Option<Option<Glue>>
     ensures { result ≡ slots.slot met.now face }
 {
@@ -40,7 +40,7 @@ pub fn slot(met: &[Option<Option<Glue>>], face: Face) -> Option<Option<Glue>>
     if place < met.len() { met[place] } else { None }
 }
 
-/// Meets a face, if it has a place.
+/// Records that `face` is read and has gluing `glue`; does nothing if `face` is out of range.
 pub fn set_slot(met: &mut [Option<Option<Glue>>], face: Face, glue: Option<Glue>)
     ensures { met.new ≡ slice_set met.old (face_number face) (Some glue) }
 {
@@ -50,7 +50,7 @@ pub fn set_slot(met: &mut [Option<Option<Glue>>], face: Face, glue: Option<Glue>
     }
 }
 
-/// Meets both sides of a face.
+/// Records both sides of the gluing `glue` of `face`.
 pub fn meet(met: &mut [Option<Option<Glue>>], face: Face, glue: Glue)
     ensures { met.new ≡ meet_at met.old face glue }
 {
@@ -58,7 +58,7 @@ pub fn meet(met: &mut [Option<Option<Glue>>], face: Face, glue: Glue)
     set_slot(met, face, Some(glue));
 }
 
-/// What a face is glued to.
+/// The gluing of `face`, or `None` if it is a boundary face or not read.
 fn gluing_in(met: &[Option<Option<Glue>>], face: Face) -> Option<Glue>
     ensures { result ≡ unwrap_or (slots.slot met.now face) None }
 {
@@ -76,7 +76,7 @@ fn row_of(met: &[Option<Option<Glue>>], tet: u32) -> Row
     ]
 }
 
-/// The rows of so many tetrahedra.
+/// The rows of `count` tetrahedra, from the gluings in `met`.
 pub fn rows_of(
     alloc: Global,
     count: u32,

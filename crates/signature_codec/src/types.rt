@@ -1,4 +1,4 @@
-//! The types of faces: boundary, glued to a tetrahedron not yet seen, glued to one already seen.
+//! Reads the types of faces: 0 boundary, 1 glued to a tetrahedron not yet seen, 2 glued to one already seen.
 
 ghost use Rattle.std.specs.Prelude.{◌≡◌, ◌<◌, ◌≤◌, ◌*◌, ◌-◌, ◌+◌, [], length, IfOk, OnOk};
 ghost use Rattle.signature_definitions.specs.SignatureText as signatures;
@@ -11,21 +11,22 @@ use crate::numbers::value_at;
 use crate::read::{Head, Types, TypesRead};
 use std::alloc::Global;
 
-/// How many faces a type counts.
+/// The number of faces that a type accounts for: 1 for boundary, otherwise 2.
 fn faces_of_type(kind: u8) -> u32
     ensures { result ≡ signatures.faces_of_type kind }
 {
     if kind == 0 { 1 } else { 2 }
 }
 
-/// Whether a type can't stand where faces are left.
+/// Whether type `kind` is impossible with `left` faces left and `ones` types 1 so far.
 fn is_wrong_type(count: u32, kind: u8, left: u32, ones: u32) -> bool
     ensures { result ≡ signatures.is_wrong_type count kind (record { read = []; left = left; ones = ones }) }
 {
     kind == 3 || left < faces_of_type(kind) || (kind == 1 && count.saturating_sub(1) <= ones)
 }
 
-/// Takes one of the three types of a character.
+/// Reads one of the three types of the character at position `at`. Fails with `Leftover` if no face is left and `kind`
+/// is not 0, or with `BadType` if the type is impossible.
 fn take_type(types: &mut Types, head: Head, at: usize, kind: u8) -> Result<(), SigFault>
     ensures reads { Leaves (types_view types.new) result (signatures.type_at head.count at kind (types_view types.old)) }
     ensures less { OnOk result (types.new.left ≤ types.old.left - 1) }
@@ -47,7 +48,7 @@ fn take_type(types: &mut Types, head: Head, at: usize, kind: u8) -> Result<(), S
     Ok(())
 }
 
-/// Takes the types of a character.
+/// Reads the three types of the character with value `value`.
 fn take_character(types: &mut Types, head: Head, at: usize, value: u8) -> Result<(), SigFault>
     ensures reads { Leaves (types_view types.new) result (signatures.character_types head.count at value (types_view types.old)) }
     ensures less { OnOk result (types.new.left ≤ types.old.left - 1) }
@@ -58,7 +59,8 @@ fn take_character(types: &mut Types, head: Head, at: usize, value: u8) -> Result
     Ok(())
 }
 
-/// The types of a text.
+/// Reads the types of `text` from position `head.next` on. Fails at the first missing (`Short`) or foreign (`BadChar`)
+/// character, impossible type (`BadType`), or type after the last face that is not 0 (`Leftover`).
 pub fn read_types(alloc: Global, text: &[u8], head: Head) -> Result<TypesRead, SigFault>
     requires { head.next ≤ length text.now }
     ensures reads { Reads read_behind result (signatures.types_from (4 * head.count) text.now head.count head.next (types_begun head.count)) }

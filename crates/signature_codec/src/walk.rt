@@ -1,4 +1,4 @@
-//! The walk through the faces of a table in order.
+//! Visits the faces of a walk-ordered table in order.
 
 ghost use Rattle.std.specs.Prelude.{◌≡◌, ◌<◌, length, IfOk, IfErr};
 ghost use Rattle.table_definitions.specs.Lists.{same_list};
@@ -12,7 +12,7 @@ use no_memory::Failure;
 use perm_four::{Perm4, perm_at};
 use std::alloc::Global;
 
-/// The number of tetrahedra that are seen, the types of the faces, and the gluings of those of type 2.
+/// The number of tetrahedra seen, the types of the faces, and the gluings of those of type 2.
 #[derive(Drop)]
 pub struct Walk {
     pub seen: u32,
@@ -20,17 +20,17 @@ pub struct Walk {
     pub gluings: Vec<Glue>,
 }
 
-/// The first face at which a table isn't walk-ordered.
+/// The table is not walk-ordered: `tet` and `face` are the first face, in order, at which it fails.
 #[derive(Clone, Copy)]
 pub struct NotOrdered {
     pub tet: u32,
     pub face: u8,
 }
 
-/// Why a table isn't spelled, or want of memory.
+/// Why `spell` fails: the table is not walk-ordered, or memory runs out.
 pub type SpellFault = Failure<NotOrdered>;
 
-/// That a face isn't in order.
+/// The error that `face` is not in order.
 fn not_ordered(face: Face) -> NotOrdered
     ensures { named_face result ≡ face }
 {
@@ -46,7 +46,7 @@ fn is_identity(perm: Perm4) -> bool
     perm == perm_at(0)
 }
 
-/// Takes a face, if it is in order.
+/// Visits `face`, and fails with `NotOrdered` if it is not in order.
 fn take_face(walk: &mut Walk, table: &Table, face: Face) -> Result<(), SpellFault>
     requires { face.tet < length table.now }
     ensures takes { Takes (walk_view walk.new) face result (walks.take_face table.now face (walk_view walk.old)) }
@@ -74,7 +74,8 @@ fn take_face(walk: &mut Walk, table: &Table, face: Face) -> Result<(), SpellFaul
     Err(Failure::Fault(not_ordered(face)))
 }
 
-/// The walk through all faces.
+/// Visits all faces of `table` in order. Fails with `NotOrdered` at the first face at which `table` is not
+/// walk-ordered.
 pub fn walk_of(alloc: Global, table: &Table) -> Result<Walk, SpellFault>
     ensures whole { IfOk result (IsWholeWalk table.now) }
     ensures stops { IfErr result (StopsAt table.now) }

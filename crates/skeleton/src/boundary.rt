@@ -1,4 +1,4 @@
-//! Which edges lie in the boundary.
+//! Determines which edge classes lie in the boundary.
 
 ghost use Rattle.std.specs.Prelude.{◌≡◌, ◌*◌, ◌/◌, ◌%◌, ◌<◌, ◌&&◌, ◌||◌, not, length, IfOk};
 ghost use Rattle.table_definitions.specs.Lists.{has};
@@ -12,7 +12,7 @@ use gluing_table::{Face, Table};
 use no_memory::NoMemory;
 use std::alloc::Global;
 
-/// Whether this face is a boundary face in which the edge lies.
+/// Whether the face `exit.face` of the tetrahedron of `edge` is a boundary face that contains `edge`.
 fn is_bounded_by(exit: Exit<'_>, edge: u32) -> bool
     requires { edge < 6 * length exit.table.now }
     ensures { result ≡ (not (has (places.ends (edge % 6)) exit.entry.face) && places.is_boundary exit.entry.table.now (record { tet = edge / 6; face = exit.entry.face })) }
@@ -27,7 +27,7 @@ fn is_bounded_by(exit: Exit<'_>, edge: u32) -> bool
     exit.of(edge / 6).is_none()
 }
 
-/// Whether an edge lies in a boundary face.
+/// Whether `edge`, which has index 6t + e, lies in a boundary face of its tetrahedron.
 fn lies_in_boundary(table: &Table, edge: u32) -> bool
     requires { edge < 6 * length table.now }
     ensures { result ≡ places.lies_in_boundary table.now edge }
@@ -38,7 +38,7 @@ fn lies_in_boundary(table: &Table, edge: u32) -> bool
         || is_bounded_by(Exit { table, face: 3 }, edge)
 }
 
-/// Of which edge classes a member lies in a boundary face.
+/// For each class of `edges`, whether one of its members lies in a boundary face of `table`.
 pub fn boundary_marks(
     alloc: Global,
     table: &Table,
@@ -57,7 +57,7 @@ pub fn boundary_marks(
     Ok(marks)
 }
 
-/// Whether no face is a boundary face.
+/// Whether `table` has no boundary face.
 pub fn is_closed(table: &Table) -> bool
     ensures { result ≡ places.is_closed table.now }
 {
@@ -69,7 +69,7 @@ pub fn is_closed(table: &Table) -> bool
     true
 }
 
-/// Whether a tetrahedron has a boundary face.
+/// Whether tetrahedron `tet` has a boundary face.
 fn is_open(table: &Table, tet: u32) -> bool
     requires { tet < length table.now }
     ensures { result ≡ (is_open_at table.now tet 0 || is_open_at table.now tet 1 || is_open_at table.now tet 2 || is_open_at table.now tet 3) }

@@ -1,4 +1,4 @@
-//! Corners, and walks round edges.
+//! Corners of tetrahedra at edges, and the tours of internal edges.
 
 ghost use Rattle.std.specs.Prelude.{◌≡◌, ◌*◌, ◌<◌, ◌≤◌, ℕ, length, slice_index, IfOk, map, []};
 ghost use Rattle.table_definitions.specs.Permutation.{IsPermutationOfFour};
@@ -15,8 +15,8 @@ use perm_four::Perm4;
 use std::alloc::Global;
 use std::marker::Model;
 
-/// The edge ab of a tetrahedron, and the faces c and d that meet in it: the walk comes through face d and leaves
-/// through face c.
+/// A corner of tetrahedron `tet` at its edge with ends `a` and `b`, between its faces `c` and `d`: a tour of the edge
+/// enters through face `d` and leaves through face `c`.
 #[derive(Clone, Copy)]
 pub struct Corner {
     pub tet: u32,
@@ -36,7 +36,8 @@ impl Model for Corner {
     ghost inverse = { λ k. record { tet = k.tet; a = k.a; b = k.b; c = k.c; d = k.d } };
 }
 
-/// The number of the next corner at each corner of so many tetrahedra, where there is one.
+/// For each corner of `tets` tetrahedra, by its index, the index of the next corner around its edge, if there is one.
+/// Invariant: no two corners have one next corner.
 #[derive(Drop)]
 struct NextCorners {
     tets: u32,
@@ -46,13 +47,14 @@ struct NextCorners {
     ghost injective: { IsInjectiveBelow (length next.items) (step_of next.items) },
 }
 
-/// The orders of the vertices of a tetrahedron.
+/// The number of orders of the vertices of a tetrahedron.
 const ORDERS: u32 = 24;
 
-/// Of each edge, the order in which the walk round it starts: its ends, and then the others, both ascending.
+/// For each edge the index of the order in which its tour starts: first its ends, and then the other vertices, both
+/// ascending.
 const STARTS: [u8; 6] = [0, 2, 4, 8, 10, 16];
 
-/// The order of the vertices at a corner.
+/// The order of the vertices at the corner with index `place`.
 fn order(place: u32) -> Perm4
     ensures value { result ≡ word_at place }
     ensures permutes { IsPermutationOfFour result }
@@ -63,7 +65,7 @@ fn order(place: u32) -> Perm4
     }
 }
 
-/// The exchange of the last two.
+/// The transposition of 2 and 3.
 fn swap() -> Perm4
     ensures { result ≡ swap }
 {
@@ -73,7 +75,7 @@ fn swap() -> Perm4
     }
 }
 
-/// The corner of this number.
+/// The corner with index `place`.
 fn corner_of(place: u32) -> Corner
     ensures { result ≡ corner_at place }
 {
@@ -87,7 +89,7 @@ fn corner_of(place: u32) -> Corner
     }
 }
 
-/// The number of the next corner, where there is one.
+/// The index of the corner after `place`, or `None` if its face `c` is a boundary face.
 fn next_place(table: &Table, place: u32) -> Option<u32>
     requires { place < 24 * length table.now }
     ensures { result ≡ next_corner table.now place }
@@ -104,7 +106,7 @@ fn next_place(table: &Table, place: u32) -> Option<u32>
     Some(ORDERS * glue.tet + behind.index() as u32)
 }
 
-/// The numbers of the next corners.
+/// The index of the next corner for each corner of `table`.
 fn next_corners(alloc: Global, table: &Table) -> Result<NextCorners, NoMemory>
     ensures tets { IfOk result (λ corners. corners.tets ≡ length table.now) }
     ensures steps { IfOk result (λ corners. (k : ℕ) → step_of corners.next.items k ≡ next_corner table.now k) }
@@ -118,7 +120,7 @@ fn next_corners(alloc: Global, table: &Table) -> Result<NextCorners, NoMemory>
     Ok(NextCorners { tets, next })
 }
 
-/// The corners of these numbers.
+/// The corners with the indices `places`.
 fn corners_of(alloc: Global, places: &[u32]) -> Result<Vec<Corner>, NoMemory>
     ensures { IfOk result (λ corners. corners.items ≡ map corner_at places.now) }
 {
@@ -129,7 +131,7 @@ fn corners_of(alloc: Global, places: &[u32]) -> Result<Vec<Corner>, NoMemory>
     Ok(corners)
 }
 
-/// The corners that the walk from an edge comes to.
+/// The tour of `edge`, from its first corner.
 fn walk(alloc: Global, corners: &NextCorners, edge: u32) -> Result<Vec<Corner>, NoMemory>
     requires { edge < 6 * corners.now.tets }
     ensures { IfOk result (λ walk. IsRound (step_of corners.now.next.items) (start_of edge) walk.items) }
@@ -139,7 +141,7 @@ fn walk(alloc: Global, corners: &NextCorners, edge: u32) -> Result<Vec<Corner>, 
     corners_of(alloc, &places)
 }
 
-/// The walk from an edge, or no corner where the edge's class is on the boundary.
+/// The tour of `edge`, or no corner if `on_boundary`.
 fn walk_unless(
     alloc: Global,
     corners: &NextCorners,
@@ -155,7 +157,7 @@ fn walk_unless(
     walk(alloc, corners, edge)
 }
 
-/// The walk round each inner edge class from its first member, and no corner for a boundary class.
+/// The tour of each edge class from its first member in `firsts`, or no corner if `boundary` marks the class.
 pub fn walks(
     alloc: Global,
     table: &Table,

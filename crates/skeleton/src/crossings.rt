@@ -7,7 +7,7 @@ ghost use Rattle.skeleton_class_laws.specs.Crossings.{crossed_vertex, crossed_fa
 
 use gluing_table::{Face, Glue, Table};
 
-/// A table, and the number of the face through which its tetrahedra are left.
+/// A table, and the number of the face through which tetrahedra are left. Invariant: `face` is below 4.
 #[derive(Clone, Copy)]
 pub struct Exit<'a> {
     pub table: &'a Table,
@@ -15,7 +15,7 @@ pub struct Exit<'a> {
     pub ghost a_face: { face < 4 },
 }
 
-/// What a face is glued to.
+/// The gluing of `face`, or `None` if it is a boundary face.
 pub fn behind(table: &Table, face: Face) -> Option<Glue>
     requires { face.tet < length table.now }
     ensures value { result ≡ gluings.glue table.now face }
@@ -27,7 +27,7 @@ pub fn behind(table: &Table, face: Face) -> Option<Glue>
 }
 
 impl Exit<'_> {
-    /// What this face of a tetrahedron is glued to.
+    /// The gluing of this face of tetrahedron `tet`, or `None` if it is a boundary face.
     pub fn of(self, tet: u32) -> Option<Glue>
         requires { tet < length self.table.now }
         ensures value { result ≡ gluings.glue self.entry.table.now (record { tet = tet; face = self.entry.face }) }
@@ -44,7 +44,8 @@ impl Exit<'_> {
     }
 }
 
-/// The vertex behind a face that this vertex meets there.
+/// The vertex, with index 4t + v, to which `vertex` is glued across `exit.face`; `None` if it is the opposite vertex or
+/// the face is a boundary face.
 pub fn vertex_across(exit: Exit<'_>, vertex: u32) -> Option<u32>
     requires { vertex < 4 * length exit.table.now }
     ensures { result ≡ crossed_vertex exit.entry.table.now vertex exit.entry.face }
@@ -59,7 +60,8 @@ pub fn vertex_across(exit: Exit<'_>, vertex: u32) -> Option<u32>
     Some(4 * glue.tet + glue.perm.image(v) as u32)
 }
 
-/// The face to which this face is glued, as the first of its neighbours.
+/// The face, with index 4t + f, to which face `place` is glued. `None` if it is a boundary face, or if `choice` is not
+/// 0, since a face has only one neighbour.
 pub fn face_across(table: &Table, place: u32, choice: u8) -> Option<u32>
     requires { place < 4 * length table.now }
     ensures { result ≡ crossed_face table.now place choice }

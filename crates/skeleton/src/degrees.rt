@@ -7,7 +7,7 @@ use crate::numbering::Numbering;
 use no_memory::NoMemory;
 use std::alloc::Global;
 
-/// How many members each class has.
+/// The number of members of each class of `numbering`.
 pub fn degrees_of(alloc: Global, numbering: &Numbering) -> Result<Vec<u32>, NoMemory>
     ensures { IfOk result (λ degrees. AreDegrees numbering.now.classes.items (length numbering.now.firsts.items) degrees.items) }
 {

@@ -1,4 +1,4 @@
-//! Edges across the faces of a tetrahedron, with and without a direction.
+//! Edges of a tetrahedron, directed and undirected, and what they are glued to across its faces.
 
 ghost use Rattle.std.specs.Prelude.{◌≡◌, ◌+◌, ◌*◌, ◌/◌, ◌%◌, ◌<◌, ◌≤◌, length, slice_index, [], ◌∷◌};
 ghost use Rattle.table_definitions.specs.Places as places;
@@ -12,10 +12,10 @@ const LOWER_ENDS: [u8; 6] = [0, 0, 0, 1, 1, 2];
 
 const HIGHER_ENDS: [u8; 6] = [1, 2, 3, 2, 3, 3];
 
-/// The number of the edge with the ends a and b, at 4 a + b.
+/// The number of the edge with the ends a and b, at index 4a + b; 6 if a = b.
 const NUMBERS: [u8; 16] = [6, 0, 1, 2, 0, 6, 3, 4, 1, 3, 6, 5, 2, 4, 5, 6];
 
-/// The ends of an edge of a tetrahedron, ascending.
+/// The ends of `edge` of a tetrahedron, ascending; `edge` is below 6.
 pub fn edge_ends(edge: u8) -> (u8, u8)
     requires { edge < 6 }
     ensures ends { places.ends edge ≡ result.0 ∷ result.1 ∷ [] }
@@ -33,7 +33,7 @@ fn number_of_edge(a: u8, b: u8) -> u8
     NUMBERS[(4 * a + b) as usize]
 }
 
-/// Where the i-th of the twelve directed edges of a tetrahedron begins, and where it leads.
+/// The first and the last vertex of directed edge `direction` of a tetrahedron; `direction` is below 12.
 pub fn direction_ends(direction: u8) -> (u8, u8)
     requires { direction < 12 }
     ensures from { result.0 ≡ direction / 3 }
@@ -50,7 +50,7 @@ pub fn direction_ends(direction: u8) -> (u8, u8)
     }
 }
 
-/// The place of a directed edge among the twelve of its tetrahedron.
+/// The number, among the twelve directed edges of a tetrahedron, of the one from vertex `from` to vertex `to`.
 pub fn direction_number(from: u8, to: u8) -> u32
     ensures value { result ≡ pair_number from to }
     ensures small { result ≤ 3 * from + to }
@@ -63,7 +63,8 @@ pub fn direction_number(from: u8, to: u8) -> u32
     }
 }
 
-/// The edge behind a face that this edge meets there.
+/// The edge, with index 6t + e, to which `edge` is glued across `exit.face`; `None` if it does not lie in that face, or
+/// the face is a boundary face.
 pub fn edge_across(exit: Exit<'_>, edge: u32) -> Option<u32>
     requires { edge < 6 * length exit.table.now }
     ensures { result ≡ crossed_edge exit.entry.table.now edge exit.entry.face }
@@ -82,7 +83,8 @@ pub fn edge_across(exit: Exit<'_>, edge: u32) -> Option<u32>
     Some(6 * glue.tet + number as u32)
 }
 
-/// The directed edge behind a face that this directed edge meets there.
+/// The directed edge, with index 12t + d, to which `place` is glued across `exit.face`; `None` if it does not lie in
+/// that face, or the face is a boundary face.
 pub fn direction_across(exit: Exit<'_>, place: u32) -> Option<u32>
     requires { place < 12 * length exit.table.now }
     ensures { result ≡ crossed_direction exit.entry.table.now place exit.entry.face }
@@ -101,7 +103,7 @@ pub fn direction_across(exit: Exit<'_>, place: u32) -> Option<u32>
     Some(12 * glue.tet + number)
 }
 
-/// The edge as a directed edge, from its lesser end.
+/// The index of `edge` as a directed edge from its lesser end.
 fn forward(edge: u32) -> usize
     ensures { result ≡ forward edge }
 {
@@ -109,7 +111,7 @@ fn forward(edge: u32) -> usize
     12 * (edge / 6) as usize + direction_number(lower, higher) as usize
 }
 
-/// The edge as a directed edge, from its greater end.
+/// The index of `edge` as a directed edge from its greater end.
 fn backward(edge: u32) -> usize
     ensures { result ≡ backward edge }
 {
@@ -117,7 +119,8 @@ fn backward(edge: u32) -> usize
     12 * (edge / 6) as usize + direction_number(higher, lower) as usize
 }
 
-/// Whether one edge is joined to another with its direction turned round.
+/// Whether edge `one`, from its lesser end, is identified with edge `other` from its greater end. `directions` has the
+/// class of each directed edge.
 pub fn runs_against(directions: &[u32], one: u32, other: u32) -> bool
     requires one_in_range { forward one < length directions.now }
     requires other_in_range { backward other < length directions.now }

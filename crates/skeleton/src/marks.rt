@@ -1,4 +1,4 @@
-//! What is kept of a table beside its classes.
+//! What a skeleton holds of a table besides its classes.
 
 ghost use Rattle.std.specs.Prelude.{length, IfOk};
 ghost use Rattle.std.specs.Option.{option_map};
@@ -16,8 +16,8 @@ use gluing_table::Table;
 use no_memory::NoMemory;
 use std::alloc::Global;
 
-/// The degrees of classes, which edge classes are on the boundary, the signs of the tetrahedra, and the walks round
-/// the edge classes.
+/// The degrees of the vertex and edge classes, which edge classes are on the boundary, the orientation by signs of the
+/// tetrahedra, if there is one, and the tours of the edge classes.
 #[derive(Drop)]
 pub struct Marks {
     pub vertex_degrees: Vec<u32>,
@@ -27,7 +27,8 @@ pub struct Marks {
     pub walks: Vec<Vec<Corner>>,
 }
 
-/// What is kept of a table with these vertex and edge classes.
+/// Computes degrees, boundary marks, orientation and tours for `table`, whose vertex and edge classes are `vertices`
+/// and `edges`.
 pub fn marks_of(
     alloc: Global,
     table: &Table,

@@ -1,4 +1,4 @@
-//! Tables of neighbours.
+//! Lists of neighbours across the four faces.
 
 ghost use Rattle.std.specs.Prelude.{◌≡◌, ◌*◌, ◌<◌, ◌≤◌, length, IfOk};
 ghost use Rattle.table_definitions.specs.Table.{IsTable};
@@ -26,7 +26,7 @@ fn per_tet(kind: Kind) -> u32
     }
 }
 
-/// What lies across one face.
+/// What `place`, of kind `kind`, is glued to across `exit.face`, or `None`.
 fn across(exit: Exit<'_>, kind: Kind, place: u32) -> Option<u32>
     requires { place < per_tet kind * length exit.table.now }
     ensures { result ≡ crossing kind exit.entry.table.now place exit.entry.face }
@@ -53,7 +53,7 @@ fn row_of(table: &Table, kind: Kind, place: u32) -> [Option<u32>; 4]
     ]
 }
 
-/// What lies across the faces of each of these things.
+/// For each vertex, edge, or other thing of kind `kind` of `table`, what it is glued to across each of the four faces.
 pub fn neighbours(
     alloc: Global,
     table: &Table,
@@ -70,7 +70,7 @@ pub fn neighbours(
     Ok(rows)
 }
 
-/// How many of these things there are.
+/// The number of things of kind `kind` in `table`.
 fn count_of(table: &Table, kind: Kind) -> u32
     ensures value { result ≡ per_tet kind * length table.now }
     ensures few { result ≤ 24000 }

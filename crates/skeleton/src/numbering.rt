@@ -1,4 +1,4 @@
-//! Classes of things under gluing.
+//! Classes of vertices, edges, faces and signs under gluing.
 
 ghost use Rattle.std.specs.Prelude.{◌<◌, ◌^◌, ℕ, length, slice_index, IfOk};
 ghost use Rattle.skeleton_class_laws.specs.Numberings.{AreClassesOf, AreFirsts, IsOrdered};
@@ -11,7 +11,8 @@ use no_memory::NoMemory;
 use skeleton_class_laws::Kind;
 use std::alloc::Global;
 
-/// The class of each thing, and the least member of each class.
+/// Things in classes: `classes[i]` is the class of thing `i`, and `firsts[c]` is the least member of class `c`.
+/// Invariant: each class is below the length of `firsts`.
 #[derive(Drop)]
 pub struct Numbering {
     pub classes: Vec<u32>,
@@ -20,7 +21,7 @@ pub struct Numbering {
     pub ghost in_range: { (i : ℕ) → i < length classes.items → slice_index classes.items i < length firsts.items },
 }
 
-/// The classes of all that is numbered in a table.
+/// The classes of the vertices, edges, faces and directed edges of a table.
 #[derive(Drop)]
 pub struct Classes {
     pub vertices: Numbering,
@@ -29,7 +30,7 @@ pub struct Classes {
     pub directions: Numbering,
 }
 
-/// The least member of each class.
+/// The least member of each class of `classes`, in which classes are numbered by their least members.
 fn firsts(alloc: Global, classes: &[u32]) -> Result<Vec<u32>, NoMemory>
     requires ordered { IsOrdered classes.now }
     requires few { length classes.now < 2 ^ 32 }
@@ -44,7 +45,7 @@ fn firsts(alloc: Global, classes: &[u32]) -> Result<Vec<u32>, NoMemory>
     Ok(firsts)
 }
 
-/// The classes of one kind of things.
+/// The classes of kind `kind` of `table` under gluing, numbered from 0 by their least members.
 pub fn classes_of(alloc: Global, table: &Table, kind: Kind) -> Result<Numbering, NoMemory>
     ensures { IfOk result (λ r. AreClassesOf kind table.now r.classes.items r.firsts.items) }
 {
@@ -57,7 +58,7 @@ pub fn classes_of(alloc: Global, table: &Table, kind: Kind) -> Result<Numbering,
     })
 }
 
-/// The classes of each kind.
+/// The vertex, edge, face and directed edge classes of `table`, each numbered by their least members.
 pub fn all_classes(alloc: Global, table: &Table) -> Result<Classes, NoMemory>
     ensures vertices { IfOk result (λ c. AreClassesOf Vertices table.now c.vertices.classes.items c.vertices.firsts.items) }
     ensures edges { IfOk result (λ c. AreClassesOf Edges table.now c.edges.classes.items c.edges.firsts.items) }

@@ -1,4 +1,4 @@
-//! Signs of tetrahedra, and the orientation that they are.
+//! Signs of tetrahedra, and orientations.
 
 ghost use Rattle.std.specs.Prelude.{◌≡◌, ◌*◌, ◌+◌, ◌<◌, ◌≤◌, ℕ, length, slice_index, IfOk, IsTrue, ◌≢◌, false};
 ghost use Rattle.std.specs.Option.{option_map};
@@ -13,7 +13,8 @@ use no_memory::NoMemory;
 use skeleton_class_laws::Kind;
 use std::alloc::Global;
 
-/// The signed tetrahedron behind a face.
+/// The signed tetrahedron, with index 2t + sign, to which `place` is glued across `exit.face`, or `None` at a boundary
+/// face. An odd gluing keeps the sign, and an even one changes it.
 pub fn sign_across(exit: Exit<'_>, place: u32) -> Option<u32>
     requires { place < 2 * length exit.table.now }
     ensures { result ≡ crossed_sign exit.entry.table.now place exit.entry.face }
@@ -29,7 +30,8 @@ pub fn sign_across(exit: Exit<'_>, place: u32) -> Option<u32>
     }
 }
 
-/// The signed vertex behind a face.
+/// The signed vertex, with index 2(4t + v) + sign, to which `place` is glued across `exit.face`; `None` if the vertex
+/// is opposite the face or the face is a boundary face.
 pub fn vertex_sign_across(exit: Exit<'_>, place: u32) -> Option<u32>
     requires { place < 8 * length exit.table.now }
     ensures { result ≡ crossed_vertex_sign exit.entry.table.now place exit.entry.face }
@@ -50,7 +52,7 @@ pub fn vertex_sign_across(exit: Exit<'_>, place: u32) -> Option<u32>
     }
 }
 
-/// Whether no tetrahedron with one sign is joined to itself with the other.
+/// Whether each of the first `count` tetrahedra has different classes for its two signs.
 fn tells_apart(classes: &[u32], count: u32) -> bool
     requires { 2 * count ≤ length classes.now }
     ensures apart { IsTrue result → (t : ℕ) → t < count → slice_index classes.now (2 * t) ≢ slice_index classes.now (2 * t + 1) }
@@ -75,8 +77,8 @@ fn signs_by(alloc: Global, classes: &[u32], count: u32) -> Result<Vec<bool>, NoM
     Ok(signs)
 }
 
-/// Signs that stay across odd gluings and change across even ones, true at the least tetrahedron of each
-/// component; nothing where there are none.
+/// An orientation of `table`: signs that are equal across odd gluings and differ across even ones, true at the least
+/// tetrahedron of each component. `None` if `table` is non-orientable.
 pub fn orientation_of(alloc: Global, table: &Table) -> Result<Option<Vec<bool>>, NoMemory>
     ensures { IfOk result (λ r. IsOrientation table.now (option_map items_of r)) }
 {

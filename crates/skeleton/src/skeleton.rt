@@ -17,8 +17,8 @@ use no_memory::NoMemory;
 use std::alloc::Global;
 use std::marker::Model;
 
-/// A table with its vertex, edge and face classes, which are numbered by their least members. Contracts see the
-/// rows and the three numberings.
+/// A table with its vertex, edge and face classes, numbered by their least members, its orientation, and the tours of
+/// its edges. Contracts see the rows and the three numberings.
 #[derive(Drop)]
 pub struct Skeleton {
     table: Table,
@@ -70,7 +70,7 @@ impl Model for Skeleton {
 }
 
 impl Skeleton {
-    /// The skeleton of a table, which is copied.
+    /// The skeleton of `table`, which is copied.
     pub fn of(alloc: Global, table: &Table) -> Result<Skeleton, NoMemory>
         ensures rows { IfOk result (λ s. s.rows ≡ table.now) }
         ensures skeleton { IfOk result IsSkeleton }
@@ -137,7 +137,7 @@ impl Skeleton {
         self.faces.firsts.len() as u32
     }
 
-    /// The class of a vertex of a tetrahedron.
+    /// The class of vertex `vertex` of tetrahedron `tet`.
     pub fn vertex_class(&self, tet: u32, vertex: u8) -> u32
         requires in_range { tet < length self.now.rows }
         requires a_vertex { vertex < 4 }
@@ -147,7 +147,7 @@ impl Skeleton {
         self.vertices.classes[4 * tet as usize + vertex as usize]
     }
 
-    /// The class of a face of a tetrahedron.
+    /// The class of face `face` of tetrahedron `tet`.
     pub fn face_class(&self, tet: u32, face: u8) -> u32
         requires in_range { tet < length self.now.rows }
         requires a_face { face < 4 }
@@ -157,7 +157,8 @@ impl Skeleton {
         self.faces.classes[4 * tet as usize + face as usize]
     }
 
-    /// The class of an edge of a tetrahedron, and for a valid class whether the edge runs against its least member.
+    /// The class of edge `edge` of tetrahedron `tet`, and whether this edge, from its lesser end, is identified with
+    /// the least member of the class from its greater end (false in an invalid class).
     pub fn edge_class(&self, tet: u32, edge: u8) -> (u32, bool)
         requires in_range { tet < length self.now.rows }
         requires an_edge { edge < 6 }
@@ -184,7 +185,7 @@ impl Skeleton {
         self.edges.classes[6 * tet as usize + edge as usize]
     }
 
-    /// The least member of an edge class.
+    /// The least member of edge class `class`, with index 6t + e.
     pub fn first_edge(&self, class: u32) -> u32
         requires { class < self.now.edges.count }
         ensures value { result ≡ numbers.least self.now.edges.classes class }
@@ -193,7 +194,7 @@ impl Skeleton {
         self.edges.firsts[class as usize]
     }
 
-    /// Whether a chain joins the one edge to the other, turned round.
+    /// Whether edge `one`, from its lesser end, is identified with edge `other` from its greater end.
     fn joins_reverse(&self, one: u32, other: u32) -> bool
         requires one_in_range { one < 6 * length self.now.rows }
         requires other_in_range { other < 6 * length self.now.rows }
@@ -202,7 +203,7 @@ impl Skeleton {
         runs_against(&self.directions.classes, one, other)
     }
 
-    /// How many vertices a vertex class has.
+    /// The number of members of vertex class `class`.
     pub fn vertex_degree(&self, class: u32) -> u32
         requires { class < self.now.vertices.count }
         ensures { result ≡ numbers.degree self.now.vertices.classes class }
@@ -210,7 +211,7 @@ impl Skeleton {
         self.vertex_degrees[class as usize]
     }
 
-    /// How many edges an edge class has.
+    /// The number of members of edge class `class`.
     pub fn edge_degree(&self, class: u32) -> u32
         requires { class < self.now.edges.count }
         ensures { result ≡ numbers.degree self.now.edges.classes class }
@@ -218,7 +219,7 @@ impl Skeleton {
         self.edge_degrees[class as usize]
     }
 
-    /// Whether a member of an edge class lies in a boundary face.
+    /// Whether a member of edge class `class` lies in a boundary face.
     pub fn is_boundary_edge(&self, class: u32) -> bool
         requires { class < self.now.edges.count }
         ensures { result ≡ places.is_boundary_edge self.now.rows self.now.edges.classes class }
@@ -226,7 +227,7 @@ impl Skeleton {
         self.boundary[class as usize]
     }
 
-    /// Whether no chain joins an edge of the class to its own reverse.
+    /// Whether no edge of class `class` is identified with its own reverse.
     pub fn is_valid_edge(&self, class: u32) -> bool
         requires { class < self.now.edges.count }
         ensures valid { IsTrue result ↔ IsValidClass self.now class }
@@ -236,7 +237,7 @@ impl Skeleton {
         !self.joins_reverse(first, first)
     }
 
-    /// The least edge class that isn't valid; nothing where all are.
+    /// The least invalid edge class, or `None` if all are valid.
     pub fn first_invalid(&self) -> Option<u32>
         ensures { IsFirstInvalid self.now result }
     {
@@ -248,15 +249,15 @@ impl Skeleton {
         None
     }
 
-    /// Whether no face is a boundary face.
+    /// Whether the table has no boundary face.
     pub fn is_closed(&self) -> bool
         ensures { result ≡ places.is_closed self.now.rows }
     {
         self.closed
     }
 
-    /// A sign for each tetrahedron that stays across odd gluings and changes across even ones, true at the least
-    /// tetrahedron of each component; nothing exactly where there are no such signs.
+    /// An orientation: a sign for each tetrahedron, equal across odd gluings and different across even ones, true at
+    /// the least tetrahedron of each component. `None` if and only if the table is non-orientable.
     pub fn orientation(&self) -> Option<&[bool]>
         ensures { IsOrientation self.now.rows (option_copied result) }
     {
@@ -266,8 +267,8 @@ impl Skeleton {
         }
     }
 
-    /// The corners of the walk round an inner edge class, in the order of its steps, from the first corner of its
-    /// least member; no corner for a boundary class.
+    /// The corners around internal edge class `class`, in order, from the first corner of its least member; no corner
+    /// if the class is on the boundary.
     pub fn around(&self, class: u32) -> &[Corner]
         requires { class < self.now.edges.count }
         ensures { IsAround self.now class result.now }

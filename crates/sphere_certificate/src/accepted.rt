@@ -1,4 +1,4 @@
-//! Moves that are accepted, and the first one of those with given cores.
+//! Accepted moves, and the first one with one of given cores.
 
 ghost use Rattle.std.specs.Prelude.{◌≡◌, ◌<◌, ◌∷◌, [], None, length, map, find, is_some, option_map, IfSome};
 ghost use Rattle.table_definitions.specs.Permutation.{four};
@@ -10,7 +10,7 @@ ghost use Rattle.move_laws.specs.Faults.{IsPattern};
 use gluing_table::Table;
 use pachner_moves::{Core, Move, Pattern, apply_legal, keeps_limit, legal};
 
-/// The cores of the moves 4-1: each vertex.
+/// The cores of the 4-1 moves: each vertex.
 pub fn vertices() -> [Core; 4]
     ensures { result ≡ map (λ v. v ∷ []) four }
 {
@@ -22,7 +22,7 @@ pub fn vertices() -> [Core; 4]
     ]
 }
 
-/// A move that is accepted on a table, with the facets that it takes out there.
+/// A move that is accepted on a table, with the facets that it removes there.
 #[derive(Drop)]
 pub struct AcceptedMove {
     pub played: Move,
@@ -30,7 +30,7 @@ pub struct AcceptedMove {
 }
 
 impl AcceptedMove {
-    /// Plays the move on the table on which it is accepted.
+    /// Plays the move on `table`, on which it is accepted.
     pub fn play(&self, table: &mut Table)
         requires pattern { IsPattern table.old self.now.played self.now.pattern.facets.items }
         requires accepted { play_fault table.old self.now.played ≡ None }
@@ -43,7 +43,7 @@ impl AcceptedMove {
     }
 }
 
-/// A move with the facets that it takes out, where it is accepted.
+/// The move `m` with the facets that it removes, or `None` if it is not accepted on `table`.
 pub fn accept(table: &Table, m: Move) -> Option<AcceptedMove>
     ensures accepted { is_some result ≡ certificates.is_accepted table.now m }
     ensures same { IfSome result (λ a. a.played ≡ m) }
@@ -55,14 +55,14 @@ pub fn accept(table: &Table, m: Move) -> Option<AcceptedMove>
     }
 }
 
-/// Whether a move is legal and leads to a table of no more than 1,000 tetrahedra, so that `apply` takes it.
+/// Whether `m` is accepted on `table`: it is legal, and at most 1,000 tetrahedra result, so that `apply` succeeds.
 pub fn is_accepted(table: &Table, m: Move) -> bool
     ensures { result ≡ certificates.is_accepted table.now m }
 {
     accept(table, m).is_some()
 }
 
-/// The first accepted move of a tetrahedron with one of these cores.
+/// The first accepted move at tetrahedron `tet` with one of `cores`.
 fn first_at(table: &Table, tet: u32, cores: &[Core]) -> Option<AcceptedMove>
     ensures first { option_map (λ a. a.played) result ≡ find (certificates.is_accepted table.now) (moves_at tet cores.now) }
     ensures pattern { IfSome result (λ a. IsPattern table.now a.played a.pattern.facets.items) }
@@ -76,7 +76,7 @@ fn first_at(table: &Table, tet: u32, cores: &[Core]) -> Option<AcceptedMove>
     None
 }
 
-/// The first accepted move with one of these cores, by tetrahedron and then by core.
+/// The first accepted move of `table` with one of `cores`, by tetrahedron and then by core.
 pub fn first_accepted(table: &Table, cores: &[Core]) -> Option<AcceptedMove>
     ensures first { option_map (λ a. a.played) result ≡ find (certificates.is_accepted table.now) (moves_with cores.now (length table.now)) }
     ensures pattern { IfSome result (λ a. IsPattern table.now a.played a.pattern.facets.items) }

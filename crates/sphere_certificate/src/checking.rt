@@ -1,4 +1,4 @@
-//! Whether moves certify a table.
+//! Checks whether moves certify that a table is a 3-sphere.
 
 ghost use Rattle.std.specs.Prelude.{◌≡◌, ◌<◌, ◌-◌, ◌^◌, ◌↔◌, [], length, Ok, Err, IsTrue, IfErr, OnOk};
 ghost use Rattle.no_memory.specs.Failures.{IfFault};
@@ -14,13 +14,13 @@ use no_memory::Failure;
 use pachner_moves::{Move, apply};
 use std::alloc::Global;
 
-/// Why moves certify no table.
+/// Why moves are no certificate of a table; `NotStandard` has the signature of the last table.
 pub type CheckFault = certificate_definitions::CheckFault<Vec<u8>>;
 
 /// The signature of the standard sphere.
 const SPHERE: [u8; 6] = *b"bkaagj";
 
-/// Plays the moves one after another, up to the first that is refused.
+/// Plays `moves` in order. Fails at the first one that is illegal or exceeds the number of tetrahedra, counted from 1.
 fn play_all(table: &mut Table, moves: &[Move]) -> Result<(), CheckFault>
     requires few { length moves.now < 2 ^ 32 - 1 }
     ensures led { OnOk result (PlaysAll table.old moves.now table.new) }
@@ -35,14 +35,14 @@ fn play_all(table: &mut Table, moves: &[Move]) -> Result<(), CheckFault>
     Ok(())
 }
 
-/// Whether a text is the signature of the standard sphere.
+/// Whether `text` is the signature of the standard sphere.
 pub fn is_sphere(text: &[u8]) -> bool
     ensures { IsTrue result ↔ (text.now ≡ sphere_text) }
 {
     text == SPHERE.as_slice()
 }
 
-/// Whether a table is a relabelling of the standard sphere, which its signature tells.
+/// Whether `last` is isomorphic to the standard sphere, by its signature.
 fn judge(alloc: Global, last: &Table) -> Result<(), Failure<CheckFault>>
     requires { IsTable last.now }
     ensures standard { OnOk result (IsStandard last.now) }
@@ -58,7 +58,7 @@ fn judge(alloc: Global, last: &Table) -> Result<(), Failure<CheckFault>>
     }
 }
 
-/// What `check` answers, of a table that isn't needed any more: the moves are played on it, and on no copy.
+/// As `check`, but takes ownership of `table` and plays the moves on it instead of a copy.
 pub fn check_owned(
     alloc: Global,
     mut table: Table,
@@ -69,7 +69,7 @@ pub fn check_owned(
     ensures fault { IfErr result (λ e. IfFault e (λ fault. IsChecked table moves.now (Err (told fault)))) }
     ensures no_certificate { IfErr result (λ e. IfFault e (λ _. IsCertificate table moves.now → ⊥)) }
 {
-    // so its rows are known to be those of a table
+    // brings the fact that the rows are those of a table
     let _ = table.len();
     if let Err(fault) = play_all(&mut table, moves) {
         return Err(Failure::Fault(fault));
@@ -77,9 +77,10 @@ pub fn check_owned(
     judge(alloc, &table)
 }
 
-/// Whether moves are a certificate of a table: they lead from it, one after another, to a relabelling of the standard
-/// sphere (Pachner). `Illegal` names the first move that is refused, counted from 1; else `NotConnected` the least
-/// tetrahedron of the last table that isn't reached; else `NotStandard` has its signature.
+/// Checks that `moves` are a certificate of `table`: played in order, they lead to a table that is isomorphic to the
+/// standard sphere (Pachner 1991). Fails with `Illegal` at the first move that `apply` rejects, counted from 1; then
+/// with `NotConnected`, which names the least tetrahedron of the last table not reached from tetrahedron 0; then with
+/// `NotStandard`, which has the last table's signature.
 pub fn check(alloc: Global, table: &Table, moves: &[Move]) -> Result<(), Failure<CheckFault>>
     requires few { length moves.now < 2 ^ 32 - 1 }
     ensures certificate { OnOk result (IsCertificate table.now moves.now) }

@@ -1,4 +1,4 @@
-//! Descents: moves that lessen a table, up to the standard sphere or to a table that has none.
+//! Simplifies a table by 4-1 and 3-2 moves, until it is the standard sphere or none is accepted.
 
 ghost use Rattle.std.specs.Prelude.{◌≡◌, ◌≤◌, ◌+◌, ◌⊎◌, ◌↔◌, true, length, Some, None, option_map, MatchOption, IsTrue, IfSome, IfOk, IfErr, OnOk};
 ghost use Rattle.no_memory.specs.Failures.{IfFault};
@@ -16,7 +16,7 @@ use no_memory::{Failure, NoMemory};
 use pachner_moves::{Core, Move};
 use std::alloc::Global;
 
-/// A descent: whether it reached the standard sphere, its moves, and the table at which it ended.
+/// The result of `descend`: whether it reached the standard sphere, its moves, and the table at which it ended.
 #[derive(Drop)]
 pub struct Descent {
     pub reached: bool,
@@ -24,7 +24,7 @@ pub struct Descent {
     pub table: Table,
 }
 
-/// Whether a table is a relabelling of the standard sphere, which has one tetrahedron.
+/// Whether `table` is isomorphic to the standard sphere, which has one tetrahedron.
 fn is_standard(alloc: Global, table: &Table) -> Result<bool, NoMemory>
     ensures { IfOk result (λ standard. IsTrue standard ↔ IsStandard table.now) }
 {
@@ -38,7 +38,7 @@ fn is_standard(alloc: Global, table: &Table) -> Result<bool, NoMemory>
     }
 }
 
-/// The first accepted move 4-1, else the first accepted 3-2.
+/// The first accepted 4-1 move, otherwise the first accepted 3-2 move.
 fn descent_move(table: &Table) -> Option<AcceptedMove>
     ensures first { option_map (λ a. a.played) result ≡ certificates.descent_move table.now }
     ensures pattern { IfSome result (λ a. IsPattern table.now a.played a.pattern.facets.items) }
@@ -49,7 +49,7 @@ fn descent_move(table: &Table) -> Option<AcceptedMove>
     }
 }
 
-/// The move by which a descent goes on: none where the table is standard.
+/// The next move of a descent, or `None` if the table is standard or has none.
 fn next_move(table: &Table, standard: bool) -> Option<AcceptedMove>
     requires { IsTrue standard ↔ IsStandard table.now }
     ensures next { MatchOption result (IsStandard table.now ⊎ (certificates.descent_move table.now ≡ None)) (λ a. (IsStandard table.now → ⊥) × (certificates.descent_move table.now ≡ Some a.played)) }
@@ -61,7 +61,7 @@ fn next_move(table: &Table, standard: bool) -> Option<AcceptedMove>
     descent_move(table)
 }
 
-/// The descent of a table.
+/// Simplifies a copy of `table`.
 fn descent_of(alloc: Global, table: &Table) -> Result<Descent, NoMemory>
     ensures descent { IfOk result (λ d. IsDescended table.now (record { reached = d.reached; moves = d.moves.items; table = d.table })) }
     ensures certificate { IfOk result (λ d. d.reached ≡ true → IsCertificate table.now d.moves.items) }
@@ -82,9 +82,9 @@ fn descent_of(alloc: Global, table: &Table) -> Result<Descent, NoMemory>
     })
 }
 
-/// The descent of a connected table: while it isn't a relabelling of the standard sphere, the first accepted move 4-1 is
-/// played, by tetrahedron and vertex, else the first accepted 3-2, by tetrahedron and edge. It ends where the table is standard,
-/// or has neither move. `NotConnected` names the least tetrahedron of the table that isn't reached.
+/// Simplifies a copy of `table`: as long as it is not isomorphic to the standard sphere, plays the first accepted 4-1
+/// move, by tetrahedron and vertex, otherwise the first accepted 3-2 move, by tetrahedron and edge, and ends if there
+/// is neither. Fails with `NotConnected`, which names the least tetrahedron of `table` not reached from tetrahedron 0.
 pub fn descend(alloc: Global, table: &Table) -> Result<Descent, WalkFault>
     ensures descent { IfOk result (λ d. IsDescended table.now (record { reached = d.reached; moves = d.moves.items; table = d.table })) }
     ensures certificate { IfOk result (λ d. d.reached ≡ true → IsCertificate table.now d.moves.items) }

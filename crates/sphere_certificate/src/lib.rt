@@ -1,4 +1,5 @@
-//! Certificates: moves that lead from a table to a relabelling of the standard sphere (Pachner).
+//! Certificates that a table is a 3-sphere, as moves that lead to a table isomorphic to the standard sphere (Pachner
+//! 1991).
 #![tactic(auto)]
 
 mod accepted;

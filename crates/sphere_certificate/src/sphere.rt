@@ -10,7 +10,7 @@ use no_memory::NoMemory;
 use perm_four::Perm4;
 use std::alloc::{AllocError, Global};
 
-/// A face of tetrahedron 0 that is glued to another one of it.
+/// The gluing to tetrahedron 0 by the permutation with images `a`, `b`, `c`, `d`.
 fn to_itself(a: u8, b: u8, c: u8, d: u8) -> Option<Glue>
     ensures { IsPermutationOfFour (a ∷ b ∷ c ∷ d ∷ []) → result ≡ certificates.to_itself (a ∷ b ∷ c ∷ d ∷ []) }
 {
@@ -32,7 +32,7 @@ fn sphere_rows(alloc: Global) -> Result<Vec<Row>, AllocError>
     Ok(rows)
 }
 
-/// The standard sphere, which has one tetrahedron.
+/// The standard sphere, a table of one tetrahedron.
 pub fn standard(alloc: Global) -> Result<Table, NoMemory>
     ensures { IfOk result (λ table. table ≡ standard_sphere) }
 {

@@ -1,14 +1,14 @@
-// Blocks of supports that stand one after another by their words: the columns that all supports of a block have.
+//! Blocks of consecutive supports, with the columns that all supports of a block have.
 
 ghost use Rattle.std.specs.Prelude.{◌≡◌, ◌+◌, ◌*◌, ◌<◌, ◌≤◌, ◌^◌, length, take, drop, OnOk, OnErr};
 ghost use Rattle.support_table.specs.Blocks.{block_size, KeepsCommon, IsBlockPushed};
 
 use no_memory::NoMemory;
 
-/// How many supports a block has.
+/// The number of supports of a block.
 pub const BLOCK: usize = 32;
 
-/// The `width` words of `words` from the index `start` on.
+/// The `width` words of `words` from index `start` on.
 pub fn part(words: &[u64], start: usize, width: usize) -> &[u64]
     requires { start + width ≤ length words.now }
     ensures { result.now ≡ take width (drop start words.now) }
@@ -16,7 +16,7 @@ pub fn part(words: &[u64], start: usize, width: usize) -> &[u64]
     &words[start..start + width]
 }
 
-/// Clears each bit of `blocks` that isn't set in `words`, from the word with index `start` on.
+/// Clears each bit of `blocks` that is not set in `words`, from the word with index `start` on.
 fn keep_common(blocks: &mut Vec<u64>, start: usize, words: &[u64])
     requires { start + length words.now ≤ length blocks.old.items }
     ensures { KeepsCommon start (length words.now) words.now blocks.old.items blocks.new.items }
@@ -26,8 +26,8 @@ fn keep_common(blocks: &mut Vec<u64>, start: usize, words: &[u64])
     }
 }
 
-/// Appends to `blocks` the bits that are set for each support of the block whose first support has the index `first`, by
-/// `words`, `width` words a support. If memory runs out, `blocks` stays as it was.
+/// Appends to `blocks` the bits that are set in each support of the block whose first support has index `first`.
+/// `words` has `width` words for each support. If memory runs out `blocks` is unchanged.
 pub fn push_block(
     words: &[u64],
     width: usize,

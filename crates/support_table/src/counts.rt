@@ -1,10 +1,10 @@
-//! How many columns two supports have together.
+//! Counts the columns of unions of two supports.
 
 ghost use Rattle.std.specs.Prelude.{◌≡◌, ◌*◌, ◌<◌, ◌^◌, List, Bool, length};
 ghost use Rattle.support_bits.specs.Words.{AreWordsOf};
 ghost use Rattle.support_table.specs.Counts.{bits_in_either, columns_in_either};
 
-/// How many bits are set in one of two slices of words or in the other.
+/// The number of bits that are set in `a` or in `b`.
 fn count_bits(a: &[u64], b: &[u64]) -> u64
     requires lengths { length b.now ≡ length a.now }
     requires short { length a.now < 2 ^ 32 }
@@ -17,7 +17,7 @@ fn count_bits(a: &[u64], b: &[u64]) -> u64
     count
 }
 
-/// How many columns are in one support or in the other, by their words.
+/// The number of columns in the union of two supports of equal width, whose words are `a` and `b`.
 pub fn union_count(a: &[u64], b: &[u64]) -> u64
     requires lengths { length b.now ≡ length a.now }
     requires short { length a.now < 2 ^ 32 }

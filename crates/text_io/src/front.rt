@@ -1,10 +1,11 @@
-// What stands first on the rest of a line.
+//! The next word on the rest of a line.
 ghost use Rattle.std.specs.Prelude.{◌≡◌, ◌+◌, ◌<◌, ◌≤◌, ◌^◌, length};
 ghost use Rattle.std.specs.List.{prefix_len};
 ghost use Rattle.text_definitions.specs.Text.{is_word_byte};
 ghost use Rattle.text_io.specs.Front.{drop_blanks, IsFront};
 
-/// What stands first, past spaces and tabs: nothing, a byte that is none of words, or a word with what follows it.
+/// What follows the spaces and tabs at the beginning of the rest of a line: `End` if nothing does, `Stray` for a byte
+/// that no word contains, or `Word` with the word and the bytes after it.
 #[derive(Clone, Copy)]
 pub enum Front<'a> {
     End,
@@ -12,7 +13,8 @@ pub enum Front<'a> {
     Word(&'a [u8], &'a [u8]),
 }
 
-/// What stands first on the rest of a line, and the column where it stands.
+/// The column of the first byte of `rest` that is neither a space nor a tab, and what begins there. `column` is the
+/// column of the first byte of `rest`.
 pub fn front_of(rest: &[u8], column: u32) -> (u32, Front<'_>)
     requires { column + length rest.now < 2 ^ 32 }
     ensures { IsFront column rest.now result.0 result.1 }
@@ -30,7 +32,7 @@ pub fn front_of(rest: &[u8], column: u32) -> (u32, Front<'_>)
     }
 }
 
-/// The bytes from the first that is neither a space nor a tab.
+/// The bytes of `bytes` from the first that is neither a space nor a tab.
 pub fn without_blanks(bytes: &[u8]) -> &[u8]
     ensures rest { result.now ≡ drop_blanks bytes.now }
     ensures shorter { length result.now ≤ length bytes.now }
@@ -42,7 +44,7 @@ pub fn without_blanks(bytes: &[u8]) -> &[u8]
     rest
 }
 
-// How many bytes of words stand in front.
+/// The number of word bytes at the beginning of `bytes`.
 fn word_len(bytes: &[u8]) -> usize
     ensures { result ≡ prefix_len is_word_byte bytes.now }
 {

@@ -1,4 +1,4 @@
-// One cursor over the bytes of an input.
+//! A cursor over the words and lines of an input.
 ghost use Rattle.std.specs.Prelude.{◌≡◌, ◌↔◌, ◌<◌, ◌≤◌, [], length, IsTrue, Ok};
 ghost use Rattle.std.specs.Bool.{OnTrue, OnFalse};
 ghost use Rattle.text_definitions.specs.declared.LexKind.TheVariants.{BadWord};
@@ -12,20 +12,20 @@ use crate::lines::{FoundLine, end_place, first_line};
 use std::marker::Model;
 use text_definitions::{LexFault, LexKind, Place};
 
-/// One cursor over the bytes of an input. Contracts see what is left to read: the current line with the words that
-/// were not taken, the lines after it, the place past the last byte, and where the word begins that was taken last.
-/// After a fault nothing is said of its place.
+/// A cursor over the bytes of an input. Contracts see what is left to read: the words left on the current line, the
+/// lines after it, the place after the last byte, and the place of the word read last. After an error nothing is stated
+/// about its position.
 #[derive(Drop)]
 pub struct Lexer<'a> {
-    // the current line: its number, and what is left of it, without its end, with the column where that begins
+    // the current line: its number, and what is left of it without its end, with the column at which that begins
     number: u32,
     line: &'a [u8],
     column: u32,
-    // what follows the current line's end
+    // what follows the end of the current line
     later: &'a [u8],
-    // the place past the last byte of the input
+    // the place after the last byte of the input
     end: Place,
-    // where the word begins that was taken last
+    // the place of the word read last
     taken: Place,
 }
 
@@ -42,7 +42,7 @@ impl<'a> Model for Lexer<'a> {
 }
 
 impl<'a> Lexer<'a> {
-    /// All of the input is left, and no line is begun.
+    /// A cursor before the first line of `bytes`.
     pub fn new(bytes: &'a [u8]) -> Lexer<'a>
         requires { length bytes.now ≤ max_text }
         ensures { result ≡ start_of bytes.now }
@@ -57,7 +57,8 @@ impl<'a> Lexer<'a> {
         }
     }
 
-    /// Moves to the next line that is neither blank nor a comment. Where there is none, nothing moves.
+    /// Moves to the next line that is neither blank nor a comment, and returns whether there is one. If not, the cursor
+    /// stays.
     #[tactic(auto, unfolding(text_definitions::specs::Reading::need_line_at))]
     pub fn next_line(&mut self) -> bool
         ensures found { OnTrue result (need_line_at self.old ≡ Ok self.new) }
@@ -78,7 +79,8 @@ impl<'a> Lexer<'a> {
         true
     }
 
-    /// Moves to the next line that is neither blank nor a comment.
+    /// Moves to the next line that is neither blank nor a comment. Fails with `MissingWord`, at the end of the input,
+    /// if there is none.
     #[tactic(auto, unfolding(text_definitions::specs::Reading::need_line_at))]
     pub fn need_line(&mut self) -> Result<(), LexFault>
         ensures { Moves result self.new (need_line_at self.old) }
@@ -92,7 +94,8 @@ impl<'a> Lexer<'a> {
         })
     }
 
-    /// The next word of the line, as a part of the input.
+    /// Reads the next word of the line, as a slice of the input. Fails with `MissingWord` at the end of the line, or
+    /// with `BadByte` at a byte that no word contains.
     pub fn word(&mut self) -> Result<&'a [u8], LexFault>
         ensures { Gives (λ w. w.now) result self.new (word_at self.old) }
     {
@@ -112,7 +115,8 @@ impl<'a> Lexer<'a> {
         }
     }
 
-    /// The next word of the line, as a decimal up to `max`.
+    /// Reads the next word of the line as a decimal. Fails as `word`; then with `BadWord` if the word is no decimal, or
+    /// with `NumberTooWide` if its value exceeds `max`.
     #[tactic(auto, unfolding(text_definitions::specs::Reading::number_at))]
     pub fn number(&mut self, max: u128) -> Result<u128, LexFault>
         ensures { Gives (λ n. n) result self.new (number_at max self.old) }
@@ -121,7 +125,8 @@ impl<'a> Lexer<'a> {
         self.value_of(word, max)
     }
 
-    /// The next word of the line, as a decimal up to `max` in magnitude, with one `-` in front or none.
+    /// Reads the next word of the line as a decimal with or without one `-` before it. Fails as `word`; then with
+    /// `BadWord` if the word has another form, or with `NumberTooWide` if its magnitude exceeds `max`.
     #[tactic(auto, unfolding(text_definitions::specs::Reading::signed_at))]
     pub fn signed(&mut self, max: u32) -> Result<i32, LexFault>
         requires { max < signed_bound }
@@ -136,7 +141,8 @@ impl<'a> Lexer<'a> {
         Ok(value as i32)
     }
 
-    /// The end of the line.
+    /// Checks that no word is left on the line. Fails with `BadByte` at a byte that no word contains, or with
+    /// `ExtraWord` at a word.
     pub fn end_line(&mut self) -> Result<(), LexFault>
         ensures { Moves result self.new (end_line_at self.old) }
     {
@@ -148,7 +154,7 @@ impl<'a> Lexer<'a> {
         }
     }
 
-    /// Whether only spaces and tabs remain on the line.
+    /// Whether only spaces and tabs are left on the line.
     pub fn at_end(&self) -> bool
         ensures { IsTrue result ↔ (self.now.current.tokens ≡ []) }
     {
@@ -156,7 +162,7 @@ impl<'a> Lexer<'a> {
         matches!(&front, Front::End)
     }
 
-    /// The word that was taken last hasn't the form that is wanted.
+    /// The error `BadWord` at the word read last: it does not have the expected form.
     pub fn bad_word(&self) -> LexFault
         ensures { result ≡ word_fault self.now BadWord }
     {
@@ -166,7 +172,7 @@ impl<'a> Lexer<'a> {
         }
     }
 
-    // A fault in a column of the current line.
+    /// An error of kind `kind` in column `column` of the current line.
     fn fault(&self, column: u32, kind: LexKind) -> LexFault
         ensures { result ≡ fault_at self.now column kind }
     {
@@ -175,7 +181,8 @@ impl<'a> Lexer<'a> {
         LexFault { place, kind }
     }
 
-    // The number up to max that digits of the word taken last stand for.
+    /// The value of `digits`, a part of the word read last. Fails with `BadWord` if it is no decimal, or with
+    /// `NumberTooWide` if the value exceeds `max`.
     fn value_of(&self, digits: &[u8], max: u128) -> Result<u128, LexFault>
         ensures { Gives (λ n. n) result self.now (number_up_to max (decimal_value digits.now) self.now) }
     {
@@ -189,7 +196,7 @@ impl<'a> Lexer<'a> {
     }
 }
 
-// Whether a `-` stands in front of a word, and what stands behind it, or else the word.
+/// Whether `word` begins with `-`, and the bytes after it, or all of `word` if it does not.
 fn split_sign(word: &[u8]) -> (bool, &[u8])
     ensures negative { result.0 ≡ is_negative word.now }
     ensures digits { result.1.now ≡ magnitude word.now }

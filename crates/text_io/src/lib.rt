@@ -1,4 +1,4 @@
-//! Where bytes come from and go to, the lexer of the text formats, and text that is built piece by piece.
+//! Sources and sinks of bytes, the lexer of the text formats, and functions that append bytes and decimals to a text.
 #![tactic(auto)]
 
 mod decimals;

@@ -1,4 +1,4 @@
-// The lines of an input, found one at a time, and its end.
+//! Finds the lines of an input one at a time, and its end.
 ghost use Rattle.std.specs.Prelude.{◌≡◌, ◌+◌, ◌<◌, ◌≤◌, [], length, not, count_by, MatchOption};
 ghost use Rattle.std.specs.List.{before_first, after_first, position_or_len, suffix_len};
 ghost use Rattle.text_definitions.specs.Text.{max_text, is_skipped, without_cr, is_line_feed, end_of, pieces, lines_from};
@@ -7,7 +7,8 @@ ghost use Rattle.text_io.specs.Lines.{IsFirstLine};
 use crate::front::without_blanks;
 use text_definitions::Place;
 
-/// A line that is neither blank nor a comment, and the bytes that follow its end.
+/// A line that is neither blank nor a comment: its number, its bytes without the line end, and the bytes after that
+/// end.
 #[derive(Clone, Copy)]
 pub struct FoundLine<'a> {
     pub number: u32,
@@ -15,7 +16,8 @@ pub struct FoundLine<'a> {
     pub later: &'a [u8],
 }
 
-/// The first line in the bytes that is neither blank nor a comment, where a line of this number stands before them.
+/// The first line of `bytes` that is neither blank nor a comment, or `None` if there is none. `number` is the number of
+/// the line before `bytes`.
 pub fn first_line(bytes: &[u8], number: u32) -> Option<FoundLine<'_>>
     requires { number + length bytes.now ≤ max_text }
     ensures { MatchOption result (lines_from (number + 1) (pieces bytes.now) ≡ []) (IsFirstLine number bytes.now) }
@@ -38,7 +40,7 @@ pub fn first_line(bytes: &[u8], number: u32) -> Option<FoundLine<'_>>
     None
 }
 
-// What stands before the first LF, and what stands behind it.
+/// The bytes before the first LF, and the bytes after it.
 fn split_line(bytes: &[u8]) -> (&[u8], &[u8])
     ensures line { result.0.now ≡ before_first is_line_feed bytes.now }
     ensures behind { result.1.now ≡ after_first is_line_feed bytes.now }
@@ -52,14 +54,14 @@ fn split_line(bytes: &[u8]) -> (&[u8], &[u8])
     }
 }
 
-// How many bytes stand before the first LF.
+/// The number of bytes before the first LF.
 fn line_len(bytes: &[u8]) -> usize
     ensures { result ≡ position_or_len is_line_feed bytes.now }
 {
     bytes.iter().take_while(|b| **b != b'\n').count()
 }
 
-// A line without the CR at its end.
+/// `piece` without a CR at its end.
 fn line_content(piece: &[u8]) -> &[u8]
     ensures content { result.now ≡ without_cr piece.now }
     ensures shorter { length result.now ≤ length piece.now }
@@ -70,7 +72,7 @@ fn line_content(piece: &[u8]) -> &[u8]
     if *last == b'\r' { content } else { piece }
 }
 
-// Whether a line is blank or a comment.
+/// Whether `line` is blank or a comment.
 fn skips(line: &[u8]) -> bool
     ensures { result ≡ is_skipped line.now }
 {
@@ -80,7 +82,7 @@ fn skips(line: &[u8]) -> bool
     }
 }
 
-/// The place past the last byte.
+/// The place after the last byte of `bytes`: its line and its column.
 pub fn end_place(bytes: &[u8]) -> Place
     requires { length bytes.now ≤ max_text }
     ensures { result ≡ end_of bytes.now }
@@ -91,7 +93,7 @@ pub fn end_place(bytes: &[u8]) -> Place
     }
 }
 
-// How many LF bytes there are.
+/// The number of LF bytes.
 fn line_feeds(bytes: &[u8]) -> usize
     ensures number { result ≡ count_by is_line_feed bytes.now }
     ensures within { result ≤ length bytes.now }
@@ -99,7 +101,7 @@ fn line_feeds(bytes: &[u8]) -> usize
     bytes.iter().filter(|b| **b == b'\n').count()
 }
 
-// How many bytes stand behind the last LF.
+/// The number of bytes after the last LF.
 fn last_line_len(bytes: &[u8]) -> usize
     ensures number { result ≡ suffix_len (λ b. not (is_line_feed b)) bytes.now }
     ensures within { result ≤ length bytes.now }

@@ -1,4 +1,4 @@
-// Where bytes come from.
+//! The trait of sources of bytes.
 ghost use Rattle.std.specs.Prelude.{◌≡◌, ◌↔◌, ◌<◌, ◌≤◌, ℕ, List, [], Option, length, take, IfOk, OnOk, OnErr, IfSome};
 ghost use Rattle.text_io.specs.Causes.{Takes, Rose};
 
@@ -6,13 +6,14 @@ use crate::Failed;
 
 /// A source of bytes.
 pub trait Source {
-    /// The bytes that are left, where it tells them.
+    /// The bytes that are left, if they are visible to contracts.
     ghost left: { Self → Option (List ℕ) };
 
-    /// How often it has failed, up to 2 ^ 64 - 1.
+    /// The number of its failures, up to 2^64 - 1.
     ghost faults: { Self → ℕ };
 
-    /// Takes the next bytes into the front of the buffer, and answers how many. 0 is the end of the input.
+    /// Moves the next bytes to the front of `buf`, and returns how many; 0 is the end of the input. Fails with
+    /// `Failed`, and then reads nothing; `buf` is not empty.
     fn read(&mut self, buf: &mut [u8]) -> Result<usize, Failed>
         requires { 0 < length buf.old }
 
@@ -20,7 +21,7 @@ pub trait Source {
         ensures taken { IfOk result (λ n. Takes (left self.old) (left self.new) (take n buf.new)) }
         ensures end { IfOk result (λ n. IfSome (left self.old) (λ bytes. (n ≡ 0) ↔ (bytes ≡ []))) }
 
-        // It fails only where the count rose.
+        // Fails only if `faults` grew.
         ensures failed { OnErr result (Rose (faults self.old) (faults self.new)) }
         ensures untouched { OnErr result (left self.new ≡ left self.old) }
         ensures ok { OnOk result (faults self.new ≡ faults self.old) }

@@ -1,4 +1,4 @@
-// The edge to the readers and writers of std. They tell no content.
+//! Sources and sinks over the readers and writers of the standard library, whose contents contracts do not see.
 ghost use Rattle.std.specs.Prelude.{◌≡◌, ◌<◌, ◌≤◌, length, None, IfOk, OnOk, OnErr};
 ghost use Rattle.text_io.specs.Causes.{next_count};
 
@@ -6,7 +6,7 @@ use crate::{Failed, Sink, Source};
 use std::io::{Read, Write};
 use std::marker::Model;
 
-/// A source over a reader. Contracts see the number of the reader's errors.
+/// A source over a reader. Contracts see the number of the reader's errors, up to 2^64 - 1.
 #[derive(Drop)]
 pub struct StdSource<R> {
     input: R,
@@ -22,7 +22,7 @@ impl<R> Model for StdSource<R> {
 }
 
 impl<R: Read + Drop> StdSource<R> {
-    /// The source over this reader, of which no error is counted yet.
+    /// A source over `input`, with no error counted.
     pub fn new(input: R) -> StdSource<R>
         ensures { result ≡ 0 }
     {
@@ -52,8 +52,8 @@ impl<R: Read + Drop> Source for StdSource<R> {
     }
 }
 
-/// A sink over a writer, which it flushes after each write. Contracts see the number of the writer's errors, of writes
-/// that took nothing and of failed flushes.
+/// A sink over a writer, which it flushes after each write. Contracts see the number of failures: errors of the writer,
+/// writes of no byte, and failed flushes.
 #[derive(Drop)]
 pub struct StdSink<W> {
     output: W,
@@ -69,7 +69,7 @@ impl<W> Model for StdSink<W> {
 }
 
 impl<W: Write + Drop> StdSink<W> {
-    /// The sink over this writer, of which no error is counted yet.
+    /// A sink over `output`, with no failure counted.
     pub fn new(output: W) -> StdSink<W>
         ensures { result ≡ 0 }
     {
@@ -97,7 +97,8 @@ impl<W: Write + Drop> Sink for StdSink<W> {
     }
 }
 
-// How many bytes of the piece, at least one, the writer took and flushed.
+/// Writes the first bytes of `piece`, at least one, flushes `output`, and returns how many. Fails if the write or the
+/// flush fails, or if no byte was written.
 fn write_and_flush<W: Write>(output: &mut W, piece: &[u8]) -> Result<usize, Failed>
     ensures { IfOk result (λ n. (0 < n) × (n ≤ length piece.now)) }
 {

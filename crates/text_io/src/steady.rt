@@ -1,10 +1,10 @@
-// A source over memory that never fails.
+//! A source over bytes in memory that never fails.
 ghost use Rattle.std.specs.Prelude.{◌≡◌, ◌↔◌, ◌<◌, [], length, take, drop, min, Some, IfOk, IsOk};
 
 use crate::{Failed, Source};
 use std::marker::Model;
 
-/// A source over memory that never fails.
+/// A source over bytes in memory that never fails. Contracts see the bytes that are left.
 #[derive(Drop)]
 pub struct SteadySource {
     bytes: Vec<u8>,
@@ -22,7 +22,7 @@ impl Model for SteadySource {
 }
 
 impl SteadySource {
-    /// The source of these bytes.
+    /// A source of `bytes`, of which it takes ownership.
     pub fn new(bytes: Vec<u8>) -> SteadySource
         ensures { result ≡ bytes.items }
     {
@@ -49,7 +49,8 @@ impl Source for SteadySource {
     }
 }
 
-/// Copies the first bytes, at most `most`, into the front of the buffer.
+/// Copies the first bytes of `bytes` into the front of `buf`, as many as both have but at most `most`, and returns how
+/// many.
 pub fn copy_front(bytes: &[u8], buf: &mut [u8], most: usize) -> usize
     ensures count { result ≡ min (min (length buf.old) most) (length bytes.now) }
     ensures copied { take result buf.new ≡ take result bytes.now }

@@ -1,22 +1,22 @@
-// Reading all of a source, and writing all of a list of bytes.
+//! Reads all bytes of a source, and writes all bytes of a list.
 ghost use Rattle.std.specs.Prelude.{◌≡◌, ◌↔◌, ◌+◌, ◌-◌, ◌^◌, ◌<◌, ◌≤◌, ℕ, List, [], length, take, IfOk, IfSome, OnOk, OnErr, IsOk, IsErr, IsErrOf, Err};
 ghost use Rattle.text_io.specs.Causes.{Takes, Grows, IsEnded};
 
 use crate::{Failed, Sink, Source};
 use std::alloc::{AllocError, Global};
 
-/// The fewest bytes that are asked for at once, where there is room for so many.
+/// The least number of bytes that one read asks for, if there is room for them.
 const FEWEST_ASKED: usize = 4096;
 
-/// The most bytes that are asked for at once.
+/// The greatest number of bytes that one read asks for.
 const MOST_ASKED: usize = 65536;
 
-/// Why not all bytes of a source were read.
+/// Why `read_all` fails.
 #[derive(Clone, Copy)]
 pub enum ReadEnd {
     /// The source failed.
     Failed,
-    /// It gave more bytes than the limit.
+    /// The source has more bytes than the limit.
     TooLong,
     /// Memory ran out, before the first read.
     NoMemory,
@@ -42,8 +42,8 @@ impl From<AllocError> for ReadEnd {
     }
 }
 
-/// How many bytes to ask for at once behind so many, where there is room for so many more. Most inputs are short, and each
-/// byte that is asked for is made before the read, so it is few at first.
+/// The number of bytes that the next read asks for, if `len` bytes were read and `room` more fit. It grows with `len`:
+/// most inputs are short, and each requested byte is written before the read.
 fn read_length(len: usize, room: usize) -> usize
     requires { 0 < room }
     ensures some { 0 < result }
@@ -52,7 +52,9 @@ fn read_length(len: usize, room: usize) -> usize
     room.min(len.max(FEWEST_ASKED).min(MOST_ASKED))
 }
 
-/// All bytes that are left in a source, where they are at most `limit`. Its memory is taken before the first read.
+/// Reads all bytes that are left in `source`. Allocates before the first read, and fails with `NoMemory` if that is
+/// impossible; then with `Failed` if the source fails, or with `TooLong` if more than `limit` bytes are left. Reads at
+/// most `limit` + 1 bytes.
 pub fn read_all<S: Source>(alloc: Global, source: &mut S, limit: u64) -> Result<Vec<u8>, ReadEnd>
     requires { limit < 2 ^ 63 }
 
@@ -60,18 +62,18 @@ pub fn read_all<S: Source>(alloc: Global, source: &mut S, limit: u64) -> Result<
     ensures end { OnOk result (IsEnded (S.left source.new)) }
     ensures within { IfOk result (λ bytes. length bytes.items ≤ limit) }
 
-    // At most limit + 1 bytes are taken, and more than limit exactly where it answers so.
+    // At most `limit` + 1 bytes are read; they are more than `limit` if and only if the error is `TooLong`.
     ensures too_long { IsErrOf result ReadEnd.TooLong → IfSome (S.left source.old) (λ bytes. limit < length bytes) }
     ensures taken { (taken : List ℕ) × Takes (S.left source.old) (S.left source.new) taken
         × (length taken ≤ limit + 1) × (IsErrOf result ReadEnd.TooLong ↔ (limit < length taken)) }
 
-    // It fails exactly where the source's count rose.
+    // Fails with `Failed` if and only if the count of `source` grew.
     ensures failed { S.faults source.old < 2 ^ 64 - 1 → (IsErrOf result ReadEnd.Failed ↔ (S.faults source.old < S.faults source.new)) }
     ensures later { S.faults source.old ≤ S.faults source.new }
     ensures no_memory { IsErrOf result ReadEnd.NoMemory → source.new ≡ source.old }
 {
     let most = limit as usize + 1;
-    // room alone, so that a short input touches little of it
+    // reserves only, so that a short input touches little of it
     let mut bytes = Vec::with_capacity(alloc, most)?;
     while bytes.len() < most {
         let len = bytes.len();
@@ -85,12 +87,13 @@ pub fn read_all<S: Source>(alloc: Global, source: &mut S, limit: u64) -> Result<
     Err(ReadEnd::TooLong)
 }
 
-/// Appends all of the bytes to a sink. Without any it calls nothing.
+/// Writes all of `bytes` to `sink`; calls nothing if there are none. Fails with `Failed` if the sink does, and then a
+/// proper prefix of `bytes` is written.
 pub fn write_all<K: Sink>(sink: &mut K, bytes: &[u8]) -> Result<(), Failed>
     ensures all { OnOk result (Grows (K.held sink.old) (K.held sink.new) bytes.now) }
     ensures prefix { OnErr result ((n : ℕ) × (n < length bytes.now) × Grows (K.held sink.old) (K.held sink.new) (take n bytes.now)) }
 
-    // It fails exactly where the sink's count rose.
+    // Fails if and only if the count of `sink` grew.
     ensures failed { K.faults sink.old < 2 ^ 64 - 1 → (IsErr result ↔ (K.faults sink.old < K.faults sink.new)) }
     ensures later { K.faults sink.old ≤ K.faults sink.new }
     ensures none { bytes.now ≡ [] → IsOk result × (sink.new ≡ sink.old) }

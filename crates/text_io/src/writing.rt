@@ -1,4 +1,4 @@
-//! Text that is built piece by piece: bytes and decimals at the end of a list.
+//! Appends bytes and decimals to a text.
 
 ghost use Rattle.std.specs.Prelude.{◌≡◌, ◌++◌, decimal, OnOk, OnErr};
 ghost use Rattle.std.specs.Fmt.{signed_decimal};
@@ -6,7 +6,7 @@ ghost use Rattle.std.specs.Fmt.{signed_decimal};
 use no_memory::NoMemory;
 use std::alloc::Global;
 
-/// Appends a text. Without memory nothing is appended.
+/// Appends `text` to `out`. If memory runs out `out` is unchanged.
 pub fn append(out: &mut Vec<u8>, text: &[u8]) -> Result<(), NoMemory>
     ensures ok { OnOk result (out.new.items ≡ out.old.items ++ text.now) }
     ensures err { OnErr result (out.new.items ≡ out.old.items) }
@@ -15,7 +15,7 @@ pub fn append(out: &mut Vec<u8>, text: &[u8]) -> Result<(), NoMemory>
     Ok(())
 }
 
-/// Appends the decimal digits of a number, without leading zeros. Without memory nothing is appended.
+/// Appends the decimal digits of `number` to `out`, without leading zeros. If memory runs out `out` is unchanged.
 pub fn append_decimal(alloc: Global, out: &mut Vec<u8>, number: u128) -> Result<(), NoMemory>
     ensures ok { OnOk result (out.new.items ≡ out.old.items ++ decimal number) }
     ensures err { OnErr result (out.new.items ≡ out.old.items) }
@@ -24,8 +24,8 @@ pub fn append_decimal(alloc: Global, out: &mut Vec<u8>, number: u128) -> Result<
     append(out, digits.as_bytes())
 }
 
-/// Appends the decimal digits of a number, with one `-` in front where it is negative. Without memory nothing is
-/// appended.
+/// Appends the decimal digits of `number` to `out`, with one `-` before them if it is negative. If memory runs out
+/// `out` is unchanged.
 pub fn append_signed(alloc: Global, out: &mut Vec<u8>, number: i64) -> Result<(), NoMemory>
     ensures ok { OnOk result (out.new.items ≡ out.old.items ++ signed_decimal number) }
     ensures err { OnErr result (out.new.items ≡ out.old.items) }

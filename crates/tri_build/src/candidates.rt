@@ -1,4 +1,4 @@
-//! The moves from which one is drawn.
+//! The moves among which one is drawn.
 
 ghost use Rattle.std.specs.Prelude.{◌≡◌, ◌++◌, ◌<◌, [], length, map, filter, IfOk, OnOk};
 ghost use Rattle.table_definitions.specs.Permutation.{four, others};
@@ -11,7 +11,7 @@ use pachner_moves::{Core, Move};
 use sphere_certificate::is_accepted;
 use std::alloc::Global;
 
-/// The vertices of each face, by the vertex opposite it.
+/// The cores of the four faces, by the vertex opposite.
 fn faces() -> [Core; 4]
     ensures { result ≡ map others four }
 {
@@ -23,7 +23,7 @@ fn faces() -> [Core; 4]
     ]
 }
 
-/// Appends the moves of a tetrahedron with these cores that are accepted.
+/// Appends the accepted moves at tetrahedron `tet` with one of `cores`.
 fn append_at(moves: &mut Vec<Move>, table: &Table, tet: u32, cores: &[Core]) -> Result<(), NoMemory>
     ensures { OnOk result (moves.new.items ≡ moves.old.items ++ filter (certificates.is_accepted table.now) (moves_at tet cores.now)) }
 {
@@ -36,7 +36,7 @@ fn append_at(moves: &mut Vec<Move>, table: &Table, tet: u32, cores: &[Core]) -> 
     Ok(())
 }
 
-/// Appends the moves with these cores that are accepted, by tetrahedron and then by core.
+/// Appends the accepted moves with one of `cores`, by tetrahedron and then by core.
 fn append_accepted(moves: &mut Vec<Move>, table: &Table, cores: &[Core]) -> Result<(), NoMemory>
     ensures { OnOk result (moves.new.items ≡ moves.old.items ++ filter (certificates.is_accepted table.now) (moves_with cores.now (length table.now))) }
 {
@@ -46,7 +46,8 @@ fn append_accepted(moves: &mut Vec<Move>, table: &Table, cores: &[Core]) -> Resu
     Ok(())
 }
 
-/// The moves from which one is drawn: the accepted 2-3 and 3-2, and where there are none the accepted 1-4.
+/// The moves among which one is drawn: the accepted 2-3 and 3-2 moves of `table`, or the accepted 1-4 moves if there
+/// are none.
 pub fn candidates(alloc: Global, table: &Table) -> Result<Vec<Move>, NoMemory>
     ensures { IfOk result (λ moves. moves.items ≡ certificates.candidates table.now) }
 {

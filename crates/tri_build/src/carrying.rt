@@ -1,4 +1,4 @@
-//! Moves where a relabelling carries the table.
+//! Carries moves along a relabelling.
 
 ghost use Rattle.std.specs.Prelude.{◌≡◌, ◌<◌, ◌≤◌, ◌^◌, length, if◌then◌else◌};
 ghost use Rattle.table_definitions.specs.Lists.{has};
@@ -9,7 +9,7 @@ use gluing_table::Relabelling;
 use pachner_moves::{Core, Label, Move};
 use perm_four::Perm4;
 
-/// The bit of the vertex to which a vertex goes, where it is one of the core.
+/// The bit of the image of vertex `v`, or 0 if `v` is not in the core.
 fn bit_under(perm: Perm4, core: Core, v: u8) -> u8
     requires { v < 4 }
     ensures value { result ≡ (if has core v then 2 ^ image perm v else 0) }
@@ -20,11 +20,11 @@ fn bit_under(perm: Perm4, core: Core, v: u8) -> u8
     if core.has(v) { bit } else { 0 }
 }
 
-/// The vertices to which those of a core go.
+/// The image of `core` under `perm`.
 fn core_under(perm: Perm4, core: Core) -> Core
     ensures { result ≡ carried.core_under perm core }
 {
-    // so some vertex is known to be one of the core
+    // brings the fact that the core is not empty
     let _ = core.size();
     let mask = bit_under(perm, core, 0)
         + bit_under(perm, core, 1)
@@ -33,7 +33,7 @@ fn core_under(perm: Perm4, core: Core) -> Core
     Core::of_mask(mask)
 }
 
-/// The move that stands for another.
+/// The image of move `m` under the relabelling `on`.
 pub fn move_under(on: &Relabelling, m: Move) -> Move
     requires { m.tet < length on.now.images }
     ensures { result ≡ carried.move_under on.now m }
@@ -44,7 +44,7 @@ pub fn move_under(on: &Relabelling, m: Move) -> Move
     }
 }
 
-/// The label, in the move that stands for m, of the vertex to which the one with a label goes; label 4 stays.
+/// The label, in the image of move `m` under `on`, of the image of the vertex with label `label`; label 4 stays 4.
 pub fn label_under(on: &Relabelling, m: Move, label: Label) -> Label
     requires { m.tet < length on.now.images }
     ensures { result.number ≡ carried.label_under on.now m label.number }

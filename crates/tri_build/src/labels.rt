@@ -1,4 +1,4 @@
-//! How the labels of a step correspond to those of the move back.
+//! The labels of a step, and the corresponding labels of its inverse move.
 
 ghost use Rattle.std.specs.Prelude.{◌≡◌, ◌<◌, length, map, All};
 ghost use Rattle.table_definitions.specs.Lists.{below};
@@ -10,7 +10,7 @@ use crate::steps::PlayedMove;
 use gluing_table::Relabelling;
 use pachner_moves::{Core, Label};
 
-/// The label, in the inverse of a move with this core, of the vertices with a label.
+/// The label, in the inverse of a move with core `core`, of the vertices with label `label`.
 fn inverse_label(core: Core, label: Label) -> Label
     ensures { result.number ≡ inverse_label (length core) label.number }
 {
@@ -28,7 +28,7 @@ fn inverse_label(core: Core, label: Label) -> Label
     }
 }
 
-/// The label of the move back to which a label of the step corresponds.
+/// The label of the carried inverse move that corresponds to `label` of the step.
 fn label_back(step: &PlayedMove, on: &Relabelling, label: Label) -> u8
     requires { (inverse_move step.now.tets step.now.played).tet < length on.now.images }
     ensures value { result ≡ label_back step.now on.now label.number }
@@ -38,7 +38,7 @@ fn label_back(step: &PlayedMove, on: &Relabelling, label: Label) -> u8
     label_under(on, step.inverse(), label).number
 }
 
-/// The label of the move back to which each label of the step corresponds.
+/// The label of the inverse move, carried by `on`, that corresponds to each label of `step`.
 pub fn labels_back(step: &PlayedMove, on: &Relabelling) -> [u8; 5]
     requires { (inverse_move step.now.tets step.now.played).tet < length on.now.images }
     ensures value { result ≡ map (label_back step.now on.now) (below 5) }

@@ -1,5 +1,4 @@
-//! Tables that are made from a seed: moves from the standard sphere, drawn by a generator, and the moves back, which
-//! certify what was made.
+//! Tables made from a seed by random moves on the standard sphere, with the moves back as their certificates.
 #![tactic(auto)]
 
 mod candidates;

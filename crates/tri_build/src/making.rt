@@ -1,4 +1,4 @@
-//! Tables that are made, each with its certificate.
+//! Makes tables with their certificates.
 
 ghost use Rattle.std.specs.Prelude.{◌≤◌, length, IfOk};
 ghost use Rattle.move_definitions.specs.Certificates.{IsCertificate, IsMaking};
@@ -14,14 +14,14 @@ use pachner_moves::Move;
 use sphere_certificate::standard;
 use std::alloc::Global;
 
-/// A table that was made, with moves that certify it.
+/// A table that was made, with moves that certify it as a 3-sphere.
 #[derive(Drop)]
 pub struct Made {
     pub table: Table,
     pub certificate: Vec<Move>,
 }
 
-/// Plays up to so many moves, each drawn in the next state.
+/// Plays up to `most` moves on `table`, each drawn in the next state from `seed` on.
 fn play(alloc: Global, table: &mut Table, seed: u64, most: u32) -> Result<Vec<PlayedMove>, NoMemory>
     ensures making { IfOk result (λ steps. IsMaking most seed table.old (moves_of steps.items) table.new) }
     ensures steps { IfOk result (λ steps. AreSteps table.old steps.items table.new) }
@@ -39,9 +39,9 @@ fn play(alloc: Global, table: &mut Table, seed: u64, most: u32) -> Result<Vec<Pl
     Ok(steps)
 }
 
-/// Makes a table from a seed: up to so many moves are played from the standard sphere, each drawn from the accepted 2-3
-/// and 3-2, and where there are none from the accepted 1-4. The certificate has as many moves, from the last step back to
-/// the first.
+/// Makes a table by up to `moves` moves from the standard sphere, each drawn by a generator with seed `seed` among the
+/// accepted 2-3 and 3-2 moves, or among the accepted 1-4 moves if there are none. The certificate has at most `moves`
+/// moves, the inverse of the last step first.
 pub fn make(alloc: Global, seed: u64, moves: u32) -> Result<Made, NoMemory>
     ensures made { IfOk result (λ made. IsMade seed moves made.table made.certificate.items) }
     ensures certified { IfOk result (λ made. IsCertificate made.table made.certificate.items) }

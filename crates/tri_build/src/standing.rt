@@ -1,4 +1,4 @@
-//! What stands for a tetrahedron of the table before a step, once the move back is played.
+//! The images of the tetrahedra before a step in the table after its inverse move.
 
 ghost use Rattle.std.specs.Prelude.{◌≡◌, ◌<◌, ◌==◌, length, not, filter, slice_index};
 ghost use Rattle.table_definitions.specs.Lists.{below};
@@ -11,8 +11,8 @@ use pachner_moves::{Facet, Label, Move, Pattern, closed_number, facet_of};
 use perm_four::Perm4;
 use std::marker::Model;
 
-/// The move back of a step, the number of tetrahedra that it keeps, the facets that it takes out, and the label of it to
-/// which each label of the step corresponds.
+/// The inverse move of a step, the number of tetrahedra that it retains, the facets that it removes, and its label that
+/// corresponds to each label of the step.
 #[derive(Drop)]
 pub struct Back {
     pub played: Move,
@@ -34,7 +34,7 @@ impl Model for Back {
 }
 
 impl Back {
-    /// The label to which a label of the step corresponds.
+    /// The label of the inverse move that corresponds to `label` of the step.
     fn label_of(&self, label: Label) -> Label
         ensures { result.number ≡ slice_index self.now.labels label.number }
     {
@@ -44,7 +44,7 @@ impl Back {
     }
 }
 
-/// The vertex with a label of the facet that lacks one, or 4.
+/// The vertex with label `label` of the facet that lacks `missing`, or 4.
 fn vertex_without(missing: Label, label: Label) -> u8
     ensures { result ≡ preimage (filter (λ l. not (l == missing.number)) (below 5)) label.number }
 {
@@ -55,7 +55,7 @@ fn vertex_without(missing: Label, label: Label) -> u8
     if label < missing { label } else { label - 1 }
 }
 
-/// What stands for a tetrahedron that the step kept.
+/// The image of tetrahedron `tet`, which the step retained.
 fn retained_stands(step: &PlayedMove, back: &Back, on: &Relabelling, tet: u32) -> Glue
     requires { number_without step.now.facets tet < length on.now.images }
     ensures { result ≡ retained_stands step.now back.now on.now tet }
@@ -67,14 +67,14 @@ fn retained_stands(step: &PlayedMove, back: &Back, on: &Relabelling, tet: u32) -
     }
 }
 
-/// The vertex, of the facet that is put in for the label that corresponds to `missing`, to which the one with a label goes.
+/// The image of the vertex with label `label` in the facet that the inverse move adds for `missing`.
 fn vertex_back(back: &Back, missing: Label, label: Label) -> u8
     ensures { result ≡ preimage (put_in 0 (slice_index back.now.labels missing.number)).labels (slice_index back.now.labels label.number) }
 {
     vertex_without(back.label_of(missing), back.label_of(label))
 }
 
-/// What stands for a facet that the step took out.
+/// The image of the facet `f`, which the step removed.
 fn facet_stands(back: &Back, f: Facet) -> Glue
     requires { CanStand back.now f }
     ensures { result ≡ facet_stands back.now f }
@@ -95,7 +95,8 @@ fn facet_stands(back: &Back, f: Facet) -> Glue
     }
 }
 
-/// What stands for a tetrahedron.
+/// The image of tetrahedron `tet`, from before `step`, in the table after the inverse move `back`. `on` carries the
+/// table after the step to the one on which `back` is played.
 pub fn stands_at(step: &PlayedMove, back: &Back, on: &Relabelling, tet: u32) -> Glue
     requires { CanStandAt step.now back.now on.now tet }
     ensures { result ≡ stands_at step.now back.now on.now tet }

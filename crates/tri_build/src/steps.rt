@@ -1,4 +1,4 @@
-//! The steps of a making.
+//! The steps by which a table is made.
 
 ghost use Rattle.std.specs.Prelude.{◌≡◌, [], None, IfOk, IfSome, IfNone};
 ghost use Rattle.move_definitions.specs.Moves as moves;
@@ -15,7 +15,7 @@ use pachner_moves::{Facet, Move, apply_legal, inverse_on, legal};
 use std::alloc::Global;
 use std::marker::Model;
 
-/// A move that was played, the number of tetrahedra before it, and the facets that it took out.
+/// A played move, the number of tetrahedra before it, and the facets that it removed.
 #[derive(Drop)]
 pub struct PlayedMove {
     pub played: Move,
@@ -36,7 +36,7 @@ impl Model for PlayedMove {
 }
 
 impl PlayedMove {
-    /// The move that leads back, up to relabelling.
+    /// The inverse move, up to relabelling.
     pub fn inverse(&self) -> Move
         ensures { result ≡ moves.inverse_move self.now.tets self.now.played }
     {
@@ -44,8 +44,8 @@ impl PlayedMove {
     }
 }
 
-/// Plays a move that can be played. Its facets are looked for once more: of the candidates, which are many, the moves alone
-/// are kept.
+/// Plays the move `m`, which is legal. It looks for the facets again, since the candidates are many and only their
+/// moves are stored.
 fn play_step(table: &mut Table, m: Move) -> PlayedMove
     requires { play_fault table.old m ≡ None }
     ensures played { result.played ≡ m }
@@ -65,7 +65,8 @@ fn play_step(table: &mut Table, m: Move) -> PlayedMove
     }
 }
 
-/// Plays the move that is drawn in a state, where there is one.
+/// Plays the move that is drawn in `state`, and returns it; `None` if there is no candidate, and then `table` is
+/// unchanged.
 pub fn draw_step(
     alloc: Global,
     table: &mut Table,

@@ -1,4 +1,4 @@
-//! The way back from a table that was made: for each step its inverse, carried to the table to which the later ones led.
+//! The inverse moves of the steps, each carried to the table to which the later ones led.
 
 ghost use Rattle.std.specs.Prelude.{◌≡◌, List, [], length, IfOk, OnOk};
 ghost use Rattle.table_definitions.specs.Table.{Row};
@@ -19,7 +19,7 @@ use pachner_moves::{Move, apply_legal, legal, retained};
 use perm_four::Perm4;
 use std::alloc::Global;
 
-/// The relabelling by which each tetrahedron goes to what stands for it.
+/// The relabelling that maps each tetrahedron before the step to its image after the inverse move.
 fn carry_back(
     alloc: Global,
     step: &PlayedMove,
@@ -39,7 +39,7 @@ fn carry_back(
     Ok(Relabelling::from_sound(images, perms))
 }
 
-/// The move back of a step, with what it takes out.
+/// The inverse move of a step, carried by `on`, with what it removes.
 fn back_of(step: &PlayedMove, now: &Table, on: &Relabelling) -> Back
     requires { CanGoBack step.now now.now on.now }
     ensures { IsBack step.now now.now on.now result }
@@ -56,8 +56,8 @@ fn back_of(step: &PlayedMove, now: &Table, on: &Relabelling) -> Back
     }
 }
 
-/// How far the way back has come: the table to which its moves led, and the relabelling that carries to it the table
-/// from which the steps that are left led on.
+/// The inverse moves so far, the table to which they led, and the relabelling that carries to it the table after the
+/// steps that are left.
 #[derive(Drop)]
 struct WayBack {
     now: Table,
@@ -66,7 +66,7 @@ struct WayBack {
 }
 
 impl WayBack {
-    /// Plays the move back of a step.
+    /// Plays the inverse move of `step`.
     fn go_back(&mut self, alloc: Global, step: &PlayedMove) -> Result<(), NoMemory>
         requires { CanGoBack step.now self.old.now self.old.on }
         ensures { OnOk result ((old : List Row) → IsBefore old step.now self.old.now self.old.on → GoesBack old step.now self.old.now self.old.on self.old.moves.items self.new.moves.items self.new.now self.new.on) }
@@ -84,7 +84,7 @@ impl WayBack {
     }
 }
 
-/// The relabelling by which each tetrahedron of a table stays.
+/// The identity relabelling of `table`.
 fn staying(alloc: Global, table: &Table) -> Result<Relabelling, NoMemory>
     ensures { IfOk result (λ by. by ≡ ways.staying (length table.now)) }
 {
@@ -97,7 +97,8 @@ fn staying(alloc: Global, table: &Table) -> Result<Relabelling, NoMemory>
     Ok(Relabelling::from_sound(images, perms))
 }
 
-/// The moves back of steps that led to a table, from the last step to the first.
+/// The inverse moves of `steps`, last step first, each carried to the table that the inverse moves before it leave.
+/// `table` is the table to which the steps led.
 pub fn way_back(
     alloc: Global,
     table: &Table,

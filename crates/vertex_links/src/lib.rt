@@ -1,4 +1,4 @@
-//! The links of the vertex classes of a table.
+//! The links of the vertex classes of a gluing table.
 #![tactic(auto)]
 
 mod link;

@@ -1,4 +1,4 @@
-//! Links, and their kinds.
+//! Links and their kinds.
 
 ghost use Rattle.std.specs.Prelude.{◌≡◌, ◌==◌, ◌↔◌, IsTrue, ◌*◌, ◌/◌, ◌<◌, ℕ, length, slice_index, IfOk};
 ghost use Rattle.skeleton_definitions.specs.Links as definition;
@@ -13,7 +13,7 @@ use skeleton::{Kind, Numbering, Skeleton, classes_of};
 use skeleton_definitions::{Link, LinkKind};
 use std::alloc::Global;
 
-/// The kind of a link.
+/// The kind of a link, from whether it is closed, its Euler characteristic and whether it is orientable.
 fn kind_of(closed: bool, euler: i64, orientable: bool) -> LinkKind
     ensures { result ≡ definition.kind_of closed euler orientable }
 {
@@ -48,8 +48,8 @@ fn link_of(triangles: u32, edges: u32, vertices: u32, closed: bool, orientable: 
     }
 }
 
-/// How many members of each class are joined to themselves with the other sign: none exactly where the link is
-/// orientable.
+/// For each vertex class the number of members that are identified with themselves with the other sign: 0 if and only
+/// if the link is orientable.
 fn turned_tally(alloc: Global, skeleton: &Skeleton) -> Result<Vec<u32>, NoMemory>
     ensures size { IfOk result (λ t. length t.items ≡ skeleton.now.vertices.count) }
     ensures orientable { IfOk result (λ t. (c : ℕ) → c < skeleton.now.vertices.count → IsTrue (slice_index t.items c == 0) ↔ definition.IsOrientableLink skeleton.now.rows skeleton.now.vertices.classes c) }
@@ -62,21 +62,21 @@ fn turned_tally(alloc: Global, skeleton: &Skeleton) -> Result<Vec<u32>, NoMemory
     Ok(tallies)
 }
 
-/// What is counted for each vertex class.
+/// Counts for each vertex class.
 #[derive(Drop)]
 struct Tallies {
-    /// The sides of its triangles, two glued ones counted once.
+    /// the sides of its link's triangles, two glued ones counted once
     sides: Vec<u32>,
-    /// The classes of the corners of its triangles.
+    /// the classes of the corners of its link's triangles
     corners: Vec<u32>,
-    /// The sides in boundary faces.
+    /// the sides in boundary faces
     unglued: Vec<u32>,
-    /// The members that are joined to themselves with the other sign.
+    /// the members that are identified with themselves with the other sign
     turned: Vec<u32>,
     directions: Numbering,
 }
 
-/// A skeleton, and the vertex class of the triangle of each corner in its links.
+/// A skeleton, and for each corner of a link triangle the vertex class of that triangle, by index 3(4t + v) + i.
 #[derive(Clone, Copy)]
 struct Corners<'a> {
     skeleton: &'a Skeleton,
@@ -85,7 +85,7 @@ struct Corners<'a> {
     ghost owned: { (j : ℕ) → j < 12 * length skeleton.now.rows → slice_index owners.now j ≡ slice_index skeleton.now.vertices.classes (j / 3) },
 }
 
-/// How many edges the link of each class has.
+/// The number of edges of the link of each vertex class.
 fn edge_tally(alloc: Global, corners: Corners<'_>) -> Result<Vec<u32>, NoMemory>
     ensures size { IfOk result (λ t. length t.items ≡ corners.entry.skeleton.now.vertices.count) }
     ensures edges { IfOk result (λ t. (c : ℕ) → c < corners.entry.skeleton.now.vertices.count → slice_index t.items c ≡ definition.link_edges corners.entry.skeleton.now.rows corners.entry.skeleton.now.vertices.classes c) }
@@ -96,7 +96,7 @@ fn edge_tally(alloc: Global, corners: Corners<'_>) -> Result<Vec<u32>, NoMemory>
     Ok(tallies)
 }
 
-/// How many sides of triangles of each class lie in boundary faces.
+/// The number of sides of link triangles in boundary faces, for each vertex class.
 fn open_tally(alloc: Global, corners: Corners<'_>) -> Result<Vec<u32>, NoMemory>
     ensures size { IfOk result (λ t. length t.items ≡ corners.entry.skeleton.now.vertices.count) }
     ensures closed { IfOk result (λ t. (c : ℕ) → c < corners.entry.skeleton.now.vertices.count → (slice_index t.items c == 0) ≡ definition.is_closed_link corners.entry.skeleton.now.rows corners.entry.skeleton.now.vertices.classes c) }
@@ -107,7 +107,7 @@ fn open_tally(alloc: Global, corners: Corners<'_>) -> Result<Vec<u32>, NoMemory>
     Ok(tallies)
 }
 
-/// How many vertices the link of each class has.
+/// The number of vertices of the link of each vertex class; `directions` are the classes of directed edges.
 fn corner_tally(
     alloc: Global,
     corners: Corners<'_>,
@@ -154,7 +154,7 @@ fn tallies_of(alloc: Global, skeleton: &Skeleton) -> Result<Tallies, NoMemory>
     })
 }
 
-/// The links of the vertex classes, ascending.
+/// The links of the vertex classes of `skeleton`, by class.
 pub fn links(alloc: Global, skeleton: &Skeleton) -> Result<Vec<Link>, NoMemory>
     ensures one_each { IfOk result (λ links. length links.items ≡ skeleton.now.vertices.count) }
     ensures links { IfOk result (λ links. AreLinks skeleton.now (length links.items) links.items) }

@@ -1,5 +1,5 @@
-//! The sides and the corners of the triangles of links. Each triangle has three of each, one for each directed edge
-//! that begins at its vertex.
+//! Sides and corners of the triangles of links. A triangle has three of each, one for each directed edge from its
+//! vertex.
 
 ghost use Rattle.std.specs.Prelude.{◌≡◌, ◌+◌, ◌*◌, ◌/◌, ◌%◌, ◌<◌, ◌≤◌, ◌==◌, ℕ, length, slice_index, IfOk, false};
 ghost use Rattle.std.specs.List.{slice_index_or};
@@ -14,7 +14,8 @@ use no_memory::NoMemory;
 use skeleton::{Numbering, Skeleton};
 use std::alloc::Global;
 
-/// The vertex class of each of so many things a vertex.
+/// The vertex class of each of `each` things at every vertex of every tetrahedron, so that thing j belongs to vertex j
+/// / `each`.
 pub fn owners(alloc: Global, skeleton: &Skeleton, each: u32) -> Result<Vec<u32>, NoMemory>
     requires some { 0 < each }
     requires few { each ≤ 3 }
@@ -30,7 +31,7 @@ pub fn owners(alloc: Global, skeleton: &Skeleton, each: u32) -> Result<Vec<u32>,
     Ok(owners)
 }
 
-/// Of the vertices other than this one, ascending, the one of this rank.
+/// The vertex of rank `rank` among those other than `vertex`, ascending.
 fn other(vertex: u8, rank: u8) -> u8
     requires a_vertex { vertex < 4 }
     requires a_rank { rank < 3 }
@@ -40,7 +41,7 @@ fn other(vertex: u8, rank: u8) -> u8
     if rank < vertex { rank } else { rank + 1 }
 }
 
-/// The face in which a side lies: the side of the triangle at v that is opposite its corner towards w lies in face w.
+/// The face that contains side `place`: the side of the triangle at v opposite its corner towards w lies in face w.
 fn side(place: u32) -> Face
     requires { place < 12000 }
     ensures value { result ≡ side_at place }
@@ -54,7 +55,7 @@ fn side(place: u32) -> Face
     }
 }
 
-/// Whether a face is a boundary face, or the lesser of two that are glued.
+/// Whether `face` is a boundary face, or the lesser of two faces that are glued.
 fn is_first(table: &Table, face: Face) -> bool
     requires { face.tet < length table.now }
     ensures { result ≡ is_first_side face (gluings.glue table.now face) }
@@ -66,7 +67,8 @@ fn is_first(table: &Table, face: Face) -> bool
     face.tet < other.tet || (face.tet == other.tet && face.face < other.face)
 }
 
-/// Of which sides the face is a boundary face or the lesser of two that are glued.
+/// For each of the 12n sides of link triangles, whether it lies in a boundary face or in the lesser of two faces that
+/// are glued.
 pub fn first_sides(alloc: Global, table: &Table) -> Result<Vec<bool>, NoMemory>
     ensures size { IfOk result (λ passes. length passes.items ≡ 12 * length table.now) }
     ensures passes { IfOk result (λ passes. (j : ℕ) → j < 12 * length table.now → slice_index_or passes.items j false ≡ is_first_side (side_at j) (gluings.glue table.now (side_at j))) }
@@ -79,7 +81,7 @@ pub fn first_sides(alloc: Global, table: &Table) -> Result<Vec<bool>, NoMemory>
     Ok(passes)
 }
 
-/// Of which sides the face is a boundary face.
+/// For each of the 12n sides of link triangles, whether it lies in a boundary face of `table`.
 pub fn open_sides(alloc: Global, table: &Table) -> Result<Vec<bool>, NoMemory>
     ensures size { IfOk result (λ passes. length passes.items ≡ 12 * length table.now) }
     ensures passes { IfOk result (λ passes. (j : ℕ) → j < 12 * length table.now → slice_index_or passes.items j false ≡ is_boundary table.now (side_at j)) }
@@ -92,7 +94,7 @@ pub fn open_sides(alloc: Global, table: &Table) -> Result<Vec<bool>, NoMemory>
     Ok(passes)
 }
 
-/// Of which corners the directed edge is the least of its class.
+/// For each corner of a link triangle, whether its directed edge is the least of its class in `directions`.
 pub fn least_corners(alloc: Global, directions: &Numbering) -> Result<Vec<bool>, NoMemory>
     ensures size { IfOk result (λ passes. length passes.items ≡ length directions.now.classes.items) }
     ensures passes { IfOk result (λ passes. (j : ℕ) → j < length directions.now.classes.items → slice_index_or passes.items j false ≡ (slice_index directions.now.firsts.items (slice_index directions.now.classes.items j) == j)) }
@@ -105,7 +107,7 @@ pub fn least_corners(alloc: Global, directions: &Numbering) -> Result<Vec<bool>,
     Ok(passes)
 }
 
-/// Which vertices are joined to themselves with the other sign.
+/// For each of `count` vertices, whether its two signs have one class. `classes` has the class of each signed vertex.
 pub fn turned_vertices(alloc: Global, classes: &[u32], count: u32) -> Result<Vec<bool>, NoMemory>
     requires { 2 * count ≤ length classes.now }
     ensures size { IfOk result (λ passes. length passes.items ≡ count) }

@@ -1,4 +1,4 @@
-//! Tallies of the things that classes own.
+//! Counts selected things by their owners.
 
 ghost use Rattle.std.specs.Prelude.{◌≡◌, ◌<◌, ◌^◌, ℕ, length, slice_index, IfOk};
 ghost use Rattle.skeleton_class_laws.specs.Tallies.{AreTallies};
@@ -6,7 +6,7 @@ ghost use Rattle.skeleton_class_laws.specs.Tallies.{AreTallies};
 use no_memory::NoMemory;
 use std::alloc::Global;
 
-/// How many of the things that pass each class owns.
+/// For each of `count` owners, the number of things that `passes` selects and that `owners` assigns to it.
 pub fn tally(
     alloc: Global,
     passes: &[bool],
