@@ -1,4 +1,5 @@
-//! The list of all vertex surfaces of a system: found in the quickest way where no number can pass the limit in any.
+//! The list of all vertex surfaces of a system, found by the fastest method if no order of the rows can exceed the
+//! limit.
 #![tactic(auto)]
 
 mod list;

@@ -1,4 +1,4 @@
-// The two ways to a list: from solved rows where all numbers are bounded, or row by row in a named order.
+//! The two ways to a list: from solved rows if all numbers are bounded, otherwise row by row in a named order.
 
 ghost use Rattle.std.specs.Prelude.{◌≡◌, ◌≤◌, IsTrue, IfOk, IfErr, IfSome};
 ghost use Rattle.cone_definitions.specs.Listings.{IsListed};
@@ -13,7 +13,7 @@ use ray_steps::{Clashes, Compatible};
 use solved_rows::{SolveFault, solve};
 use std::alloc::Global;
 
-/// In which order the rows are taken, the greatest number, and whether no number passes it in any order.
+/// The order of the rows, the limit on numbers, and whether no number exceeds it in any order of the rows.
 #[derive(Clone, Copy)]
 pub struct Terms {
     pub order: NamedOrder,
@@ -21,8 +21,8 @@ pub struct Terms {
     pub is_bounded: bool,
 }
 
-/// The vertex surfaces of a system whose numbers don't matter, found from its rows solved for the pivots, where blocks have
-/// so many columns each; nothing where a coefficient or a number gets too large.
+/// The vertex surfaces of `system`, found from its rows solved for `pivots`; `None` if a coefficient or a number gets
+/// too large. `each` is the number of columns of a block.
 fn list_by_solving<C: Compatible>(
     alloc: Global,
     system: &System,
@@ -40,7 +40,7 @@ fn list_by_solving<C: Compatible>(
     }
 }
 
-/// The vertex surfaces, by elimination of the rows in a named order.
+/// The vertex surfaces of `system`, found by eliminating its rows in the order `order`.
 fn list_by_elimination<C: Compatible>(
     alloc: Global,
     system: &System,
@@ -59,7 +59,7 @@ fn list_by_elimination<C: Compatible>(
     eliminate(alloc, system, clashes, &picker, limit)
 }
 
-/// The list by the quick way where all numbers are bounded, or else in the order.
+/// The list from solved rows if all numbers are bounded, otherwise by elimination in the given order.
 fn quickest_list<C: Compatible>(
     alloc: Global,
     system: &System,
@@ -75,7 +75,7 @@ fn quickest_list<C: Compatible>(
     ensures ok { IfOk result (λ list. IsOnlyListing (enumeration_of system.now clashes.now.pairs terms.order.rule terms.limit) list.items) }
     ensures err { IfErr result (AreRefused (enumeration_of system.now clashes.now.pairs terms.order.rule terms.limit)) }
 {
-    // Where no number can pass the limit, it doesn't matter how the list was found.
+    // if no number can exceed the limit, it does not matter how the list was found
     if terms.is_bounded
         && let Some(known) = list_by_solving(alloc, system, clashes, each, pivots)?
     {
@@ -86,8 +86,9 @@ fn quickest_list<C: Compatible>(
     Ok(list)
 }
 
-/// All vertex surfaces of a system, strictly ascending, its rows taken in a named order; refused exactly where a number of a
-/// step passes the limit. The pivots are the columns that rows may be solved for, in blocks of so many columns each.
+/// All vertex surfaces of `system`, in strictly ascending order, with its rows processed in the order of `terms`. Fails
+/// with `LargeStep` at the first step at which a number exceeds the limit of `terms`. `pivots` are columns that rows
+/// may be solved for, and `each` is the number of columns of a block; both affect speed alone.
 pub fn vertex_list<C: Compatible>(
     alloc: Global,
     system: &System,

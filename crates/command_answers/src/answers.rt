@@ -1,4 +1,4 @@
-// Answers to what was read.
+//! The outcome of a command that reads a document.
 ghost use Rattle.std.specs.Prelude.{IfOk, MatchResult};
 ghost use Rattle.std.specs.Result.{ForOk};
 ghost use Rattle.command_answers.specs.Refusals.{IsFaultOutcome};
@@ -8,7 +8,7 @@ use no_memory::NoMemory;
 use signature_codec::InputFault;
 use std::alloc::Global;
 
-/// The outcome of a command that reads a document: its answer to the document's value, or the input's fault.
+/// The outcome of a command that reads a document: `answer` of the value in `read`, or the refusal of its error.
 pub fn answer_read<T, F: FnOnce(T) -> Result<Outcome, NoMemory>>(
     alloc: Global,
     read: Result<T, InputFault>,

@@ -1,4 +1,4 @@
-// The documents of the commands.
+//! Reads the documents of the commands.
 ghost use Rattle.std.specs.Prelude.{◌≤◌, length};
 ghost use Rattle.text_definitions.specs.Text.{max_text};
 ghost use Rattle.text_definitions.specs.Reading.{Moves, Reads, ReadsFrom};
@@ -18,21 +18,22 @@ pub struct TwoTables {
     pub second: Table,
 }
 
-/// A table, and vectors.
+/// A table and vectors.
 #[derive(Drop)]
 pub struct TableAndVectors {
     pub table: Table,
     pub vectors: Vec<Vec<u128>>,
 }
 
-/// A table, and one vector.
+/// A table and one vector.
 #[derive(Drop)]
 pub struct TableAndVector {
     pub table: Table,
     pub vector: Vec<u128>,
 }
 
-/// No further line may stand: its first word is one too many.
+/// Checks that no line is left. Fails with `ExtraWord` at the first word of the next line, or with `BadByte` at a byte
+/// that no word contains.
 pub fn end_document(lexer: &mut Lexer<'_>) -> Result<(), LexFault>
     ensures { Moves result lexer.new (no_line_at lexer.old) }
 {
@@ -42,7 +43,8 @@ pub fn end_document(lexer: &mut Lexer<'_>) -> Result<(), LexFault>
     lexer.end_line()
 }
 
-/// A table on the next lines, as rows or as a signature.
+/// Reads a table from the next lines, as rows or as a signature. Fails with the first error in the text, `MissingWord`
+/// if there is no line.
 #[tactic(auto, unfolding(text_document_definitions::specs::Documents::next_table_at))]
 pub fn read_table(alloc: Global, lexer: &mut Lexer<'_>) -> Result<Table, InputFault>
     ensures { ReadsFrom InputFault.NoMemory (λ table. table) result lexer.new (next_table_at lexer.old) }
@@ -51,7 +53,8 @@ pub fn read_table(alloc: Global, lexer: &mut Lexer<'_>) -> Result<Table, InputFa
     read_any(alloc, lexer)
 }
 
-/// The document of one table.
+/// Reads `bytes` as one table. Fails with the first error of the table; then with `ExtraWord` or `BadByte` if a line
+/// follows.
 #[tactic(auto, unfolding(text_document_definitions::specs::Documents::table_document))]
 pub fn read_table_document(alloc: Global, bytes: &[u8]) -> Result<Table, InputFault>
     requires { length bytes.now ≤ max_text }
@@ -63,7 +66,8 @@ pub fn read_table_document(alloc: Global, bytes: &[u8]) -> Result<Table, InputFa
     Ok(table)
 }
 
-/// The document of two tables.
+/// Reads `bytes` as two tables. Fails with the first error of the first table, then of the second; then with
+/// `ExtraWord` or `BadByte` if a line follows.
 #[tactic(auto, unfolding(text_document_definitions::specs::Documents::two_tables_document))]
 pub fn read_two_tables(alloc: Global, bytes: &[u8]) -> Result<TwoTables, InputFault>
     requires { length bytes.now ≤ max_text }
@@ -76,7 +80,8 @@ pub fn read_two_tables(alloc: Global, bytes: &[u8]) -> Result<TwoTables, InputFa
     Ok(TwoTables { first, second })
 }
 
-/// The document of a table and vectors.
+/// Reads `bytes` as a table and a vector on each further line. Fails with the first error of the table, then of the
+/// vectors.
 #[tactic(auto, unfolding(text_document_definitions::specs::Documents::table_and_lines))]
 pub fn read_table_and_vectors(alloc: Global, bytes: &[u8]) -> Result<TableAndVectors, InputFault>
     requires { length bytes.now ≤ max_text }
@@ -88,7 +93,8 @@ pub fn read_table_and_vectors(alloc: Global, bytes: &[u8]) -> Result<TableAndVec
     Ok(TableAndVectors { table, vectors })
 }
 
-/// The document of a table and one vector.
+/// Reads `bytes` as a table and one vector. Fails with the first error of the table, then of the vector; then with
+/// `ExtraWord` or `BadByte` if a line follows.
 #[tactic(auto, unfolding(text_document_definitions::specs::Documents::vector_document))]
 pub fn read_table_and_vector(alloc: Global, bytes: &[u8]) -> Result<TableAndVector, InputFault>
     requires { length bytes.now ≤ max_text }

@@ -1,4 +1,4 @@
-// Truth values, numbers and whole answers in lines.
+//! Writes truth values, numbers and whole answers in lines.
 ghost use Rattle.std.specs.Prelude.{◌≡◌, ◌++◌, IfOk, OnOk};
 ghost use Rattle.outcome_definitions.specs.Information as information;
 ghost use Rattle.text_definitions.specs.Written as written;
@@ -13,14 +13,14 @@ use outcome_definitions::Status;
 use std::alloc::Global;
 use text_io::{append, append_decimal};
 
-/// A truth value as a word.
+/// `yes` if `value` is true, otherwise `no`.
 pub fn yes_or_no(value: bool) -> &'static [u8]
     ensures { result.now ≡ written.yes_or_no value }
 {
     if value { b"yes" } else { b"no" }
 }
 
-/// A name and a truth value, as a line.
+/// Appends a line of `name` and `yes` or `no`.
 pub fn append_flag(text: &mut Vec<u8>, name: &[u8], value: bool) -> Result<(), NoMemory>
     ensures { OnOk result (text.new.items ≡ text.old.items ++ information.told name.now value) }
 {
@@ -30,7 +30,7 @@ pub fn append_flag(text: &mut Vec<u8>, name: &[u8], value: bool) -> Result<(), N
     Ok(())
 }
 
-/// A name and a number, as a line.
+/// Appends a line of `name` and the decimal `number`.
 pub fn append_number_line(
     alloc: Global,
     text: &mut Vec<u8>,
@@ -45,7 +45,7 @@ pub fn append_number_line(
     Ok(())
 }
 
-/// The outcome of an answer of one line.
+/// The outcome `text` as one line, with status 0.
 pub fn line_outcome(mut text: Vec<u8>) -> Result<Outcome, NoMemory>
     ensures { IfOk result (λ o. o ≡ done (line text.items)) }
 {
@@ -53,7 +53,7 @@ pub fn line_outcome(mut text: Vec<u8>) -> Result<Outcome, NoMemory>
     Ok(Outcome::with_text(Status::Done, text))
 }
 
-/// What was given to be checked is accepted.
+/// The outcome `accepted`, with status 0.
 #[tactic(auto, unfolding(outcome_definitions::specs::Lines::accepted_text))]
 pub fn accepted_outcome(alloc: Global) -> Result<Outcome, NoMemory>
     ensures { IfOk result (λ o. o ≡ accepted_outcome) }

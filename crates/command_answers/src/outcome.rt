@@ -1,4 +1,4 @@
-// What is to be written, and the exit status.
+//! Outcomes: what is to be written, and the exit status.
 ghost use Rattle.std.specs.Prelude.{◌≡◌};
 ghost use Rattle.outcome_definitions.specs.Outcomes.{usage_outcome, too_long_outcome, read_outcome};
 ghost use Rattle.outcome_definitions.specs.Canonical.{different_outcome};
@@ -7,7 +7,7 @@ ghost use Rattle.command_answers.specs.Texts.{fixed_bytes};
 use outcome_definitions::Status;
 use std::marker::Model;
 
-/// A text that needs no memory.
+/// A text that needs no allocation.
 #[derive(Clone, Copy)]
 pub enum Fixed {
     Usage,
@@ -17,7 +17,7 @@ pub enum Fixed {
 }
 
 impl Fixed {
-    /// Its bytes.
+    /// The bytes of the text.
     #[tactic(auto, unfolding(outcome_definitions::specs::Lines::usage_line, outcome_definitions::specs::Lines::read_line, outcome_definitions::specs::Lines::too_long_line, outcome_definitions::specs::Canonical::different_text))]
     fn bytes(self) -> &'static [u8]
         ensures { result.now ≡ fixed_bytes self }
@@ -38,7 +38,7 @@ pub enum Text {
     Built(Vec<u8>),
 }
 
-/// An exit status and what is to be written with it.
+/// An exit status, and the text to be written with it.
 #[derive(Drop)]
 pub struct Outcome {
     status: Status,
@@ -55,7 +55,7 @@ impl Model for Outcome {
 }
 
 impl Outcome {
-    /// A text that was built.
+    /// The outcome with status `status` and text `text`.
     pub fn with_text(status: Status, text: Vec<u8>) -> Outcome
         ensures { result ≡ record { status = status; text = text.items } }
     {
@@ -65,7 +65,7 @@ impl Outcome {
         }
     }
 
-    /// The words are not accepted.
+    /// The outcome for words that are not accepted.
     pub fn usage() -> Outcome
         ensures { result ≡ usage_outcome }
     {
@@ -75,7 +75,7 @@ impl Outcome {
         }
     }
 
-    /// The source failed.
+    /// The outcome if the source failed.
     pub fn read_fault() -> Outcome
         ensures { result ≡ read_outcome }
     {
@@ -85,7 +85,7 @@ impl Outcome {
         }
     }
 
-    /// The input is too long.
+    /// The outcome if the input is too long.
     pub fn too_long() -> Outcome
         ensures { result ≡ too_long_outcome }
     {
@@ -95,7 +95,7 @@ impl Outcome {
         }
     }
 
-    /// No relabelling carries the one table to the other.
+    /// The outcome `different`: the tables are not isomorphic.
     pub fn different() -> Outcome
         ensures { result ≡ different_outcome }
     {
@@ -112,7 +112,7 @@ impl Outcome {
         self.status
     }
 
-    /// The bytes that go to standard output.
+    /// The bytes for standard output.
     pub fn text(&self) -> &[u8]
         ensures { result.now ≡ self.now.text }
     {

@@ -1,4 +1,4 @@
-// The one line of each refusal.
+//! Writes the one line of each refusal.
 ghost use Rattle.std.specs.Prelude.{◌≡◌, ◌≢◌, ◌++◌, codes, decimal, IfOk, OnOk};
 ghost use Rattle.outcome_definitions.specs.Lines as lines;
 ghost use Rattle.outcome_definitions.specs.Canonical as canonical;
@@ -25,7 +25,7 @@ fn kind_word(kind: LexKind) -> &'static [u8]
     }
 }
 
-// The place and the kind of the first fault of an input's words.
+/// The line of the first error in the words of an input: its place and its kind.
 #[tactic(auto, unfolding(outcome_definitions::specs::Lines::lex_line))]
 fn lex_fault_line(alloc: Global, fault: LexFault) -> Result<Vec<u8>, NoMemory>
     ensures { IfOk result (λ text. text.items ≡ lines.lex_line fault) }
@@ -41,7 +41,7 @@ fn lex_fault_line(alloc: Global, fault: LexFault) -> Result<Vec<u8>, NoMemory>
     Ok(text)
 }
 
-// What is wrong at a face.
+/// The line of an error at face `face` of tetrahedron `tet`.
 fn face_fault_line(alloc: Global, kind: &[u8], tet: u32, face: u8) -> Result<Vec<u8>, NoMemory>
     ensures { IfOk result (λ text. text.items ≡ lines.face_line kind.now (record { tet = tet; face = face })) }
 {
@@ -56,7 +56,7 @@ fn face_fault_line(alloc: Global, kind: &[u8], tet: u32, face: u8) -> Result<Vec
     Ok(text)
 }
 
-// Why rows are no table.
+/// The line of the error that rows are no table.
 #[tactic(auto, unfolding(outcome_definitions::specs::Lines::table_line))]
 fn table_line(alloc: Global, fault: TableFault) -> Result<Vec<u8>, NoMemory>
     ensures { IfOk result (λ text. text.items ≡ lines.table_line fault) }
@@ -70,7 +70,7 @@ fn table_line(alloc: Global, fault: TableFault) -> Result<Vec<u8>, NoMemory>
     }
 }
 
-// A kind and a place in a signature.
+/// The line of an error at position `at` of a signature.
 fn place_fault_line(alloc: Global, kind: &[u8], at: usize) -> Result<Vec<u8>, NoMemory>
     ensures { IfOk result (λ text. text.items ≡ lines.place_line kind.now at) }
 {
@@ -91,7 +91,7 @@ fn fixed_line(alloc: Global, line: &[u8]) -> Result<Vec<u8>, NoMemory>
     Ok(text)
 }
 
-// Why a text is no signature.
+/// The line of the error that a text is no signature.
 #[tactic(auto, unfolding(outcome_definitions::specs::Lines::signature_line))]
 fn signature_line(alloc: Global, fault: SigFault) -> Result<Vec<u8>, NoMemory>
     ensures { IfOk result (λ text. text.items ≡ lines.signature_line fault) }
@@ -112,7 +112,7 @@ fn signature_line(alloc: Global, fault: SigFault) -> Result<Vec<u8>, NoMemory>
     }
 }
 
-// Why a text has no table in the form `tri`.
+/// The line of an error in a table in the form `tri`.
 fn text_line(alloc: Global, fault: TextFault) -> Result<Vec<u8>, NoMemory>
     ensures { IfOk result (λ text. text.items ≡ lines.text_line fault) }
 {
@@ -134,7 +134,7 @@ fn input_line(alloc: Global, fault: InputFault) -> Result<Vec<u8>, NoMemory>
     }
 }
 
-// Which table isn't connected, and its least tetrahedron that no chain joins to the first.
+/// The line of a disconnected table: its number, and its least tetrahedron not reached from tetrahedron 0.
 #[tactic(auto, unfolding(outcome_definitions::specs::Canonical::not_connected_line))]
 fn not_connected_line(alloc: Global, table: u32, tet: u32) -> Result<Vec<u8>, NoMemory>
     ensures { IfOk result (λ text. text.items ≡ canonical.not_connected_line table tet) }
@@ -148,7 +148,8 @@ fn not_connected_line(alloc: Global, table: u32, tet: u32) -> Result<Vec<u8>, No
     Ok(text)
 }
 
-/// The outcome where a table, which are counted from 0, isn't connected.
+/// The outcome if table `table`, counted from 0, is disconnected; `tet` is its least tetrahedron not reached from
+/// tetrahedron 0.
 pub fn not_connected_outcome(alloc: Global, table: u32, tet: u32) -> Result<Outcome, NoMemory>
     ensures { IfOk result (λ o. o ≡ canonical.not_connected_outcome table tet) }
 {
@@ -156,7 +157,7 @@ pub fn not_connected_outcome(alloc: Global, table: u32, tet: u32) -> Result<Outc
     Ok(Outcome::with_text(Status::Refused, text))
 }
 
-/// The outcome where an edge class is invalid.
+/// The outcome if edge class `class` is invalid.
 #[tactic(auto, unfolding(surface_vector_definitions::specs::Texts::invalid_edge_line))]
 pub fn invalid_edge_outcome(alloc: Global, class: u32) -> Result<Outcome, NoMemory>
     ensures { IfOk result (λ o. o ≡ record { status = Status.Refused; text = invalid_edge_line class }) }
@@ -168,7 +169,7 @@ pub fn invalid_edge_outcome(alloc: Global, class: u32) -> Result<Outcome, NoMemo
     Ok(Outcome::with_text(Status::Refused, text))
 }
 
-/// The line where the vector of this number, which counts from 0, is refused, up to why.
+/// The beginning of the line that refuses vector `vector`, counted from 0: all up to the reason.
 pub fn refused_vector(alloc: Global, vector: usize) -> Result<Vec<u8>, NoMemory>
     ensures { IfOk result (λ text. text.items ≡ codes "refused: vector " ++ decimal vector ++ codes " ") }
 {
@@ -179,7 +180,7 @@ pub fn refused_vector(alloc: Global, vector: usize) -> Result<Vec<u8>, NoMemory>
     Ok(text)
 }
 
-/// The outcome of an input's fault.
+/// The outcome of an input with the error `fault`.
 pub fn fault_outcome(alloc: Global, fault: InputFault) -> Result<Outcome, NoMemory>
     ensures { IfOk result (IsFaultOutcome fault) }
 {

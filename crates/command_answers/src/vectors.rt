@@ -1,4 +1,4 @@
-// Vectors from text.
+//! Reads vectors from text.
 ghost use Rattle.text_definitions.specs.Written.{limit};
 ghost use Rattle.cone_text_definitions.specs.VectorText.{vector_at};
 ghost use Rattle.text_document_definitions.specs.Documents.{each_line_from};
@@ -10,7 +10,8 @@ use gluing_table::TextFault;
 use std::alloc::Global;
 use text_io::{LIMIT, Lexer};
 
-/// The decimals to the end of the line.
+/// Reads the decimals up to the end of the line. Fails at the first byte of no word (`BadByte`), word that is no
+/// decimal (`BadWord`), or number above 2^127 - 1 (`NumberTooWide`).
 pub fn read_numbers(alloc: Global, lexer: &mut Lexer<'_>) -> Result<Vec<u128>, TextFault>
     ensures { ReadsFrom TextFault.NoMemory (λ v. v.items) result lexer.new (lexed (numbers_at limit lexer.old)) }
 {
@@ -22,7 +23,8 @@ pub fn read_numbers(alloc: Global, lexer: &mut Lexer<'_>) -> Result<Vec<u128>, T
     Ok(numbers)
 }
 
-/// The vector of the current line, of which no word was taken yet.
+/// Reads the current line, of which no word is read yet, as a vector. Fails as `read_numbers`, and with `BadWord` or
+/// `MissingWord` if the line does not begin with `vec`.
 #[tactic(auto, unfolding(cone_text_definitions::specs::VectorText::vector_at, text_definitions::specs::Reading::exactly_at))]
 pub fn read_vector(alloc: Global, lexer: &mut Lexer<'_>) -> Result<Vec<u128>, TextFault>
     ensures { ReadsFrom TextFault.NoMemory (λ v. v.items) result lexer.new (lexed (vector_at lexer.old)) }
@@ -34,7 +36,7 @@ pub fn read_vector(alloc: Global, lexer: &mut Lexer<'_>) -> Result<Vec<u128>, Te
     read_numbers(alloc, lexer)
 }
 
-/// The vectors of all lines that are left.
+/// Reads a vector from each line that is left. Fails at the first line on which `read_vector` does.
 pub fn read_vectors(alloc: Global, lexer: &mut Lexer<'_>) -> Result<Vec<Vec<u128>>, TextFault>
     ensures { ReadsFrom TextFault.NoMemory entries_of result lexer.new (lexed (each_line_from vector_at lexer.old.later lexer.old)) }
 {

@@ -1,4 +1,4 @@
-// The verdict on a vector as a line.
+//! Writes the verdict on a vector as a line.
 ghost use Rattle.std.specs.Prelude.{◌≡◌, ◌++◌, codes, decimal, OnOk};
 ghost use Rattle.text_definitions.specs.Written.{line};
 ghost use Rattle.surface_definitions.specs.Verdict.{verdict_text};
@@ -9,7 +9,7 @@ use std::alloc::Global;
 use surface_definitions::VectorFault;
 use text_io::{append, append_decimal};
 
-// A line of a clash.
+/// Appends the line of a clash.
 fn append_clash(alloc: Global, out: &mut Vec<u8>, first: u32, second: u32) -> Result<(), NoMemory>
     ensures { OnOk result (out.new.items ≡ out.old.items ++ line (codes "clash " ++ decimal first ++ codes " " ++ decimal second)) }
 {
@@ -28,7 +28,7 @@ fn append_solution(out: &mut Vec<u8>) -> Result<(), NoMemory>
     Ok(())
 }
 
-/// The line of what the check of a vector answered.
+/// Appends the line of the verdict `checked` on a vector: `solution`, or why it is none.
 #[tactic(auto, unfolding(surface_definitions::specs::Verdict::verdict_text))]
 pub fn append_checked(
     alloc: Global,

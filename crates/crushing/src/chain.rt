@@ -1,4 +1,4 @@
-//! Crush chains: a face of a tetrahedron that stays is followed through those that are taken out.
+//! Crush chains: a face of a retained tetrahedron is followed through the removed ones.
 
 ghost use Rattle.std.specs.Prelude.{◌≡◌, ◌<◌, ℕ, List, length, false, Option, IfSome};
 ghost use Rattle.std.specs.List.{position_or_len};
@@ -12,8 +12,8 @@ use gluing_table::{Face, Glue};
 use normal_discs::partner;
 
 impl Surface<'_> {
-    /// What a chain reaches behind a tetrahedron that is taken out: it comes from `start` by `glue`, and the quads there
-    /// are of this type.
+    /// The next gluing of the chain from `start`, which has reached by `glue` a removed tetrahedron whose quads have
+    /// type `kind`; `None` at a boundary face.
     fn pass(&self, start: Face, glue: Glue, kind: u8) -> Option<Glue>
         requires reached { glue.tet < length self.now.table.now }
         requires one_of_three { kind < 3 }
@@ -32,7 +32,8 @@ impl Surface<'_> {
         })
     }
 
-    /// The end of the chain from a face of a tetrahedron that stays: nothing where it is a boundary face.
+    /// The gluing at the end of the chain from `start`, a face of a retained tetrahedron, or `None` if the chain ends
+    /// at a boundary face.
     pub fn follow(&self, start: Face) -> Option<Glue>
         requires in_range { start.tet < length self.now.table.now }
         requires kept { is_removed self.now.entries.now start.tet ≡ false }

@@ -1,4 +1,4 @@
-//! The crushed table.
+//! Makes the crushed table.
 
 ghost use Rattle.std.specs.Prelude.{◌≡◌, ◌<◌, length, false, Option, option_map, IfOk};
 ghost use Rattle.table_definitions.specs.Table.{Gluing, IsTable};
@@ -14,7 +14,8 @@ use skeleton::Skeleton;
 use std::alloc::{AllocError, Global};
 
 impl Surface<'_> {
-    /// How many tetrahedra before each one stay: its number in the crushed table, where it stays.
+    /// For each tetrahedron the number of retained ones before it, which is its number in the crushed table if it is
+    /// retained.
     fn new_numbers(&self, alloc: Global) -> Result<Vec<u32>, AllocError>
         ensures { IfOk result (λ numbers. AreNewNumbers self.now.entries.now numbers.items (length self.now.table.now)) }
     {
@@ -31,7 +32,7 @@ impl Surface<'_> {
 }
 
 impl NumberedSurface<'_> {
-    /// What a face of a tetrahedron that stays is glued to in the crushed table.
+    /// The gluing in the crushed table of `face` of a retained tetrahedron.
     fn crushed_glue(&self, face: Face) -> Option<Glue>
         requires in_range { face.tet < length self.now.surface.table.now }
         requires kept { is_taken self.now.surface.entries.now face.tet ≡ false }
@@ -44,7 +45,7 @@ impl NumberedSurface<'_> {
         })
     }
 
-    /// The row of a tetrahedron that stays in the crushed table.
+    /// The row in the crushed table of `tet`, a retained tetrahedron.
     fn crushed_row(&self, tet: u32) -> Row
         requires in_range { tet < length self.now.surface.table.now }
         requires kept { is_taken self.now.surface.entries.now tet ≡ false }
@@ -73,10 +74,9 @@ impl NumberedSurface<'_> {
     }
 }
 
-/// The table crushed along a surface, which is a vector in standard coordinates: tetrahedra with quads are taken out,
-/// and the others close up in their order. Two faces that stay are glued where a chain through tetrahedra that are
-/// taken out leads from one to the other, and a face from which a chain leads to a boundary face becomes one. (Burton,
-/// on crushing; Jaco and Rubinstein, on 0-efficient triangulations.)
+/// Crushes `table` along the standard vector `x`: removes the tetrahedra with quads, and renumbers the others in order
+/// (Jaco and Rubinstein 2003; Burton). Two retained faces are glued if a chain through removed tetrahedra joins them,
+/// and a face whose chain ends at a boundary face becomes one.
 pub fn crush_table(alloc: Global, table: &Table, x: &[u128]) -> Result<Table, NoMemory>
     requires { length x.now ≡ columns Standard (length table.now) }
     ensures crushed { IfOk result (λ new. IsCrushed table.now x.now new) }
@@ -93,7 +93,7 @@ pub fn crush_table(alloc: Global, table: &Table, x: &[u128]) -> Result<Table, No
     Ok(crushed)
 }
 
-/// The same table, by the skeleton of the one that is crushed.
+/// As `crush_table`, for the table of `skeleton`.
 pub fn crush(alloc: Global, skeleton: &Skeleton, x: &[u128]) -> Result<Table, NoMemory>
     requires { length x.now ≡ columns Standard (length skeleton.now.rows) }
     ensures crushed { IfOk result (λ new. IsCrushed skeleton.now.rows x.now new) }

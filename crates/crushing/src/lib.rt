@@ -1,4 +1,4 @@
-//! Crushing a table along a normal surface: tetrahedra with quads are taken out, and faces are followed through them.
+//! Crushes a table along a normal surface, which removes the tetrahedra with quads and follows faces through them.
 #![tactic(auto)]
 
 mod chain;

@@ -1,4 +1,4 @@
-//! The quads of a tetrahedron, and what its faces become where it is taken out.
+//! The quads of a tetrahedron, and what its faces become if it is removed.
 
 ghost use Rattle.std.specs.Prelude.{◌≡◌, ◌<◌, length, true, false, IfNone, IfSome, if◌then◌else◌, ◌==◌};
 ghost use Rattle.table_definitions.specs.Lists.{in_place_of};
@@ -13,7 +13,7 @@ use perm_four::Perm4;
 use surface_definitions::Coords;
 
 impl Surface<'_> {
-    /// The type 0, 1 or 2 of the quads of a tetrahedron; nothing exactly where it has none.
+    /// The type of the quads of tetrahedron `tet`, 0, 1 or 2, or `None` if and only if it has none.
     pub fn quad_type(&self, tet: u32) -> Option<u8>
         requires { tet < length self.now.table.now }
         ensures kept { IfNone result (is_taken self.now.entries.now tet ≡ false) }
@@ -34,7 +34,7 @@ impl Surface<'_> {
         }
     }
 
-    /// Whether a tetrahedron has quads, and so is taken out.
+    /// Whether tetrahedron `tet` has quads, so that crushing removes it.
     pub fn is_removed(&self, tet: u32) -> bool
         requires { tet < length self.now.table.now }
         ensures { result ≡ is_taken self.now.entries.now tet }
@@ -43,7 +43,7 @@ impl Surface<'_> {
     }
 }
 
-/// Where the exchange of v and w takes a vertex.
+/// The image of `u` under the transposition of `v` and `w`.
 fn exchange_image(v: u8, w: u8, u: u8) -> u8
     ensures { result ≡ (if u == v then w else in_place_of w v u) }
 {
@@ -56,7 +56,7 @@ fn exchange_image(v: u8, w: u8, u: u8) -> u8
     }
 }
 
-/// The permutation that exchanges two vertices.
+/// The transposition of the vertices `v` and `w`.
 pub fn exchange(v: u8, w: u8) -> Perm4
     requires first { v < 4 }
     requires second { w < 4 }

@@ -1,11 +1,11 @@
-//! A surface in a table, and the numbers of the tetrahedra that stay.
+//! A surface in a table, and the numbers of the retained tetrahedra.
 
 ghost use Rattle.std.specs.Prelude.{◌≡◌, ◌*◌, length};
 ghost use Rattle.crushing.specs.Rows.{AreNewNumbers};
 
 use gluing_table::Table;
 
-/// A surface in a table: a vector in standard coordinates.
+/// A table with a vector in standard coordinates. Invariant: `entries` has seven entries for each tetrahedron.
 #[derive(Clone, Copy)]
 pub struct Surface<'a> {
     pub table: &'a Table,
@@ -13,7 +13,7 @@ pub struct Surface<'a> {
     pub ghost width: { length entries.now ≡ 7 * length table.now },
 }
 
-/// A surface with how many tetrahedra before each one stay: its number in the crushed table, where it stays.
+/// A surface, with the number of retained tetrahedra before each one.
 #[derive(Clone, Copy)]
 pub struct NumberedSurface<'a> {
     pub surface: Surface<'a>,

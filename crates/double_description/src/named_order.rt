@@ -1,11 +1,11 @@
-// Orders that name the next row.
+//! Orders that determine the next row.
 
 ghost use Rattle.std.specs.Prelude.{◌≢◌};
 ghost use Rattle.cone_definitions.specs.declared.Order.TheVariants.{Free};
 
 use cone_definitions::Order;
 
-/// An order that names the next row: by its rule rows aren't chosen freely.
+/// An order of rows that determines which one comes next. Invariant: `rule` is not `Free`.
 #[derive(Clone, Copy)]
 pub struct NamedOrder {
     pub rule: Order,
@@ -13,12 +13,12 @@ pub struct NamedOrder {
 }
 
 impl NamedOrder {
-    /// The least number first.
+    /// By row number.
     pub const GIVEN: NamedOrder = NamedOrder { rule: Order::Given };
 
-    /// The fewest coefficients first.
+    /// Rows with fewest coefficients first.
     pub const SHORT: NamedOrder = NamedOrder { rule: Order::Short };
 
-    /// The most leading zeros first.
+    /// Rows with most leading zeros first.
     pub const ZEROS: NamedOrder = NamedOrder { rule: Order::Zeros };
 }

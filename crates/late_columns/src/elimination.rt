@@ -1,4 +1,4 @@
-// The elimination of a row all of whose columns are seen.
+//! Eliminates a row all of whose columns have entered.
 
 ghost use Rattle.std.specs.Prelude.{◌∷◌, [], ◌++◌, List, IfOk, IfErr};
 ghost use Rattle.cone_definitions.specs.Rows.{Row};
@@ -12,7 +12,8 @@ use cone_arithmetic::Limit;
 use ray_steps::{Compatible, RayWithSupport, Step, StepFault, StepInput};
 use std::alloc::Global;
 
-/// The vertex surfaces of one row more, in any order, or what has a number past the greatest entry.
+/// The vertex surfaces of the rows so far together with `input.row`, in any order. Fails with `Large` at a ray or pair
+/// at which a number exceeds `MAX_ENTRY`.
 pub fn next_rays<C: Compatible>(
     alloc: Global,
     input: StepInput<C>,

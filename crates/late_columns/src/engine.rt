@@ -1,4 +1,4 @@
-// All steps, in the order of the rows.
+//! Runs all steps, in the order of the rows.
 
 ghost use Rattle.std.specs.Prelude.{◌≡◌, ℕ, List, IfOk, IfErr, IfSome, IfNone};
 ghost use Rattle.cone_arithmetic.specs.Sparse.{IsInRange};
@@ -22,7 +22,7 @@ use ray_steps::{
 };
 use std::alloc::Global;
 
-/// One row more, all of whose columns enter before.
+/// Processes `row`, all of whose columns enter before.
 fn eliminate_row<C: Compatible>(
     alloc: Global,
     clashes: &Clashes<C>,
@@ -50,7 +50,7 @@ fn eliminate_row<C: Compatible>(
     })
 }
 
-/// One row more that has a fresh column once its other columns have entered.
+/// Processes `row`, whose column `fresh` is free, after its other columns have entered.
 fn eliminate_with_fresh<C: Compatible>(
     alloc: Global,
     clashes: &Clashes<C>,
@@ -81,7 +81,7 @@ fn eliminate_with_fresh<C: Compatible>(
     })
 }
 
-/// One row more.
+/// Processes `row`, by a free column if it has one.
 fn next_late<C: Compatible>(
     alloc: Global,
     clashes: &Clashes<C>,
@@ -113,7 +113,7 @@ fn all_rows<C: Compatible>(
     let _pairs = clashes.pairs();
     let mut late = none_seen(alloc, clashes.columns())?;
     for number in 0..system.len() {
-        // the union of a pair has at most two columns more than rows were taken
+        // the union of an adjacent pair has at most two columns more than rows were processed
         let most = u64::from(number) + 2;
         late = next_late(alloc, clashes, system.row(number), late, most)?;
     }
@@ -122,7 +122,7 @@ fn all_rows<C: Compatible>(
     Ok(ray_list)
 }
 
-/// The rays, ascending.
+/// The rays in lexicographic order, without their supports.
 fn ascending(alloc: Global, mut ray_list: Vec<RayWithSupport>) -> Result<Vec<Ray>, NoMemory>
     ensures { IfOk result (λ rays. (columns : ℕ) (rows : List Row) (pairs : List Clash) → HasSurfaces columns rows pairs (rays_of ray_list.items) → IsSurfaceList columns rows pairs rays.items) }
 {
@@ -131,8 +131,8 @@ fn ascending(alloc: Global, mut ray_list: Vec<RayWithSupport>) -> Result<Vec<Ray
     Ok(rays)
 }
 
-/// All vertex surfaces of a system, ascending; nothing only where, some of the first rows being taken, a number of the next
-/// row's step passes the greatest entry.
+/// All vertex surfaces of `system` by the pairs of `clashes`, in lexicographic order, its rows processed by number.
+/// `None` only if a number of a step exceeds `MAX_ENTRY`.
 pub fn vertex_surfaces<C: Compatible>(
     alloc: Global,
     system: &System,

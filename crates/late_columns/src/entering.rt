@@ -1,4 +1,4 @@
-// Columns that enter: the unit vector of a column joins the rays when a row first has it.
+//! Columns that enter: a column has a ray, its unit vector, from the first row on that contains it.
 
 ghost use Rattle.std.specs.Prelude.{◌≡◌, ℕ, ◌<◌, true, [], List, length, slice_set, slice_index_or, IfOk, OnOk};
 ghost use Rattle.cone_arithmetic.specs.Sparse.{IsInRange};
@@ -11,14 +11,14 @@ use no_memory::NoMemory;
 use ray_steps::RayWithSupport;
 use std::alloc::Global;
 
-/// The rays of the rows so far that have none of the columns not seen yet, and which columns were seen.
+/// The rays of the rows so far that are 0 at each column that has not entered, and which columns have entered (`seen`).
 #[derive(Drop)]
 pub struct LateRays {
     pub ray_list: Vec<RayWithSupport>,
     pub seen: Vec<bool>,
 }
 
-/// No column is seen, and there is no ray.
+/// No ray, and `columns` columns that have not entered.
 pub fn none_seen(alloc: Global, columns: u32) -> Result<LateRays, NoMemory>
     ensures { IfOk result (λ late. (pairs : List Clash) → AreLate columns [] pairs late) }
 {
@@ -27,7 +27,7 @@ pub fn none_seen(alloc: Global, columns: u32) -> Result<LateRays, NoMemory>
     Ok(LateRays { ray_list, seen })
 }
 
-/// A column that isn't seen enters.
+/// Lets `column` enter, which has not entered before.
 fn enter(alloc: Global, columns: u32, column: u32, late: &mut LateRays) -> Result<(), NoMemory>
     requires columns { length late.old.seen.items ≡ columns }
     requires in_range { column < columns }
@@ -41,7 +41,7 @@ fn enter(alloc: Global, columns: u32, column: u32, late: &mut LateRays) -> Resul
     Ok(())
 }
 
-/// A column enters, unless it is seen.
+/// Lets `column` enter, unless it has entered before.
 fn enter_unseen(
     alloc: Global,
     columns: u32,
@@ -60,7 +60,7 @@ fn enter_unseen(
     Ok(())
 }
 
-/// A column enters, unless it is seen or is this one.
+/// Lets column `other` enter, unless it has entered before or is `column`.
 fn enter_other(
     alloc: Global,
     columns: u32,
@@ -82,7 +82,7 @@ fn enter_other(
     Ok(())
 }
 
-/// All columns of a row enter.
+/// Lets all columns of `row` enter.
 pub fn enter_row(
     alloc: Global,
     columns: u32,
@@ -100,7 +100,7 @@ pub fn enter_row(
     Ok(())
 }
 
-/// All columns of a row enter but one.
+/// Lets all columns of `row` enter, except `column`.
 pub fn enter_others(
     alloc: Global,
     columns: u32,
@@ -122,7 +122,7 @@ pub fn enter_others(
     Ok(())
 }
 
-/// All columns enter.
+/// Lets all columns enter that have not entered before.
 pub fn enter_all(alloc: Global, columns: u32, late: &mut LateRays) -> Result<(), NoMemory>
     requires columns { length late.old.seen.items ≡ columns }
     ensures entered { OnOk result (HaveEntered columns late.old late.new) }

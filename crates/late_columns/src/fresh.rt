@@ -1,4 +1,4 @@
-// Columns of rows that aren't seen, with the coefficient 1 or -1, and clashing with none.
+//! Free columns of a row: they have not entered, have the coefficient 1 or -1, and clash with no column.
 
 ghost use Rattle.std.specs.Prelude.{◌≡◌, ◌<◌, length, IsTrue, IfOk, IfSome};
 ghost use Rattle.cone_arithmetic.specs.Sparse.{IsInRange};
@@ -9,14 +9,14 @@ use cone_arithmetic::{MAX_ENTRY, PackedRay, PlusMinus, SparseRow};
 use no_memory::NoMemory;
 use std::alloc::Global;
 
-/// A fresh column, and whether its coefficient is -1, so that the row is to be turned.
+/// A free column of a row, and whether its coefficient is -1, so that the row has to be negated.
 #[derive(Clone, Copy)]
 pub struct Fresh {
     pub column: u32,
     pub is_turned: bool,
 }
 
-/// Whether a row is to be turned to have the coefficient 1 in a column; nothing where it has neither 1 nor -1.
+/// Whether `row` has the coefficient -1 (true) or 1 (false) in `column`; `None` if it has neither.
 fn turning(
     alloc: Global,
     columns: u32,
@@ -35,7 +35,7 @@ fn turning(
     }
 }
 
-/// Whether a column clashes with none.
+/// Whether `column` is in none of the pairs `clashes`.
 fn is_free(clashes: &[(u32, u32)], column: u32) -> bool
     ensures { IsTrue result → IsFree clashes.now column }
 {
@@ -47,7 +47,7 @@ fn is_free(clashes: &[(u32, u32)], column: u32) -> bool
     true
 }
 
-/// The first column of a row that isn't seen and clashes with none.
+/// The first column of `row` that has not entered and clashes with no column.
 fn first_free(clashes: &[(u32, u32)], row: &[(u32, i32)], seen: &[bool]) -> Option<u32>
     requires { IsInRange (length seen.now) row.now }
     ensures unseen { IfSome result (IsUnseen seen.now) }
@@ -61,7 +61,8 @@ fn first_free(clashes: &[(u32, u32)], row: &[(u32, i32)], seen: &[bool]) -> Opti
     None
 }
 
-/// A column of a row that will be fresh once the others are seen, where there is one.
+/// A column of `row` that has not entered, has the coefficient 1 or -1 and is in none of the pairs `clashes`. May
+/// return `None` although there is one, which affects speed alone.
 pub fn free_column(
     alloc: Global,
     columns: u32,

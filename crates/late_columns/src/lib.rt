@@ -1,4 +1,5 @@
-//! All vertex surfaces of a system of rows, where columns that no row has had yet have no ray.
+//! All vertex surfaces of a system by the double description method, with columns that enter at the first row that
+//! contains them.
 #![tactic(auto)]
 
 mod elimination;

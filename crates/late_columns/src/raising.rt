@@ -1,4 +1,5 @@
-// The step of a row with a fresh column: what the row leaves for the column mustn't be negative.
+//! The step of a row with a free column, whose entry is what the row leaves for it; rays for which that is negative are
+//! dropped.
 
 ghost use Rattle.std.specs.Prelude.{◌≡◌, ◌<◌, ◌≤◌, List, length, slice_set, IfOk, IfErr, OnOk};
 ghost use Rattle.std.specs.List.{All};
@@ -18,8 +19,8 @@ use ray_steps::{Compatible, RayWithSupport, Sign, Step, StepFault, StepInput};
 use std::alloc::Global;
 use support_bits::Support;
 
-/// The step of a row, or of the row with all its signs turned, or the first ray at which a part of the row passes the
-/// greatest entry.
+/// The step of the row, or of the negated row if `is_turned`. Fails with the first ray at which a part of the row
+/// exceeds `MAX_ENTRY`.
 fn oriented_step<'a, C: Compatible>(
     alloc: Global,
     input: StepInput<'a, C>,
@@ -37,7 +38,7 @@ fn oriented_step<'a, C: Compatible>(
     Ok(turned)
 }
 
-/// A ray with what is left for a column.
+/// The ray `kept` with entry `left` in `column`.
 fn raise_ray(
     alloc: Global,
     kept: RayWithSupport,
@@ -55,7 +56,7 @@ fn raise_ray(
     Ok(RayWithSupport { ray, support })
 }
 
-/// Appends a ray with what is left for a column, unless that is less than nothing.
+/// Appends the ray `kept` with the entry that the row leaves for `column`, unless that is negative.
 fn raise(
     alloc: Global,
     kept: RayWithSupport,
@@ -81,7 +82,7 @@ fn raise(
     }
 }
 
-/// Appends the rays with what is left for a column, but for those for which that is less than nothing.
+/// Appends each ray with the entry that the row leaves for `column`, except those for which that is negative.
 fn raise_all(
     alloc: Global,
     mut ray_list: Vec<RayWithSupport>,
@@ -101,7 +102,8 @@ fn raise_all(
     Ok(())
 }
 
-/// The vertex surfaces of one row more that has a fresh column, in any order, or what has a number past the greatest entry.
+/// The vertex surfaces of the rows so far together with `input.row`, whose column `fresh` is free, in any order. Fails
+/// with `Large` at a ray or pair at which a number exceeds `MAX_ENTRY`.
 pub fn raised_rays<C: Compatible>(
     alloc: Global,
     input: StepInput<C>,

@@ -1,4 +1,4 @@
-//! The row of an equation.
+//! Makes the row of an equation.
 
 ghost use Rattle.std.specs.Prelude.{◌≡◌, ℕ, ◌+◌, ◌<◌, ◌≤◌, ◌++◌, length, slice_index, option_to_list, IfOk, OnOk};
 ghost use Rattle.table_definitions.specs.Lists as lists;
@@ -10,7 +10,7 @@ use no_memory::NoMemory;
 use smallvec::SmallVec;
 use std::alloc::Global;
 
-/// The columns whose sums are equal, those of each side few.
+/// The two sides of an equation: the lists of columns whose sums are equal. Invariant: at most 1,000,000 columns each.
 #[derive(Clone, Copy)]
 pub struct Sides<'a> {
     pub left: &'a [u32],
@@ -19,7 +19,7 @@ pub struct Sides<'a> {
     pub ghost right_few: { length right.now ≤ 1000000 },
 }
 
-/// How often a column stands in a list.
+/// The number of occurrences of `column` in `columns`.
 fn times_in(columns: &[u32], column: u32) -> u32
     requires { length columns.now ≤ 1000000 }
     ensures value { result ≡ lists.times_in columns.now column }
@@ -34,7 +34,7 @@ fn times_in(columns: &[u32], column: u32) -> u32
     times
 }
 
-/// The least column of a list from `from` on; `end` where there is none before it.
+/// The least of `columns` that is at least `from`, or `end` if none is below `end`.
 fn next_column(columns: &[u32], from: u32, end: u32) -> u32
     requires { from ≤ end }
     ensures least { from ≤ result }
@@ -50,7 +50,7 @@ fn next_column(columns: &[u32], from: u32, end: u32) -> u32
     next
 }
 
-/// Appends the term of a column, where its coefficient isn't 0.
+/// Appends the term of `column`, unless its coefficient is 0.
 fn push_term(
     terms: &mut SmallVec<(u32, i32), 8>,
     sides: Sides<'_>,
@@ -66,7 +66,7 @@ fn push_term(
     Ok(())
 }
 
-/// The row of the equation between the sums over two lists of columns.
+/// The row of `columns` columns of the equation of `sides`: the sum of the left columns less that of the right ones.
 pub fn row_of(alloc: Global, columns: u32, sides: Sides<'_>) -> Result<SparseRow, NoMemory>
     ensures value { IfOk result (λ row. row ≡ equations.row_of columns (record { left = sides.entry.left.now; right = sides.entry.right.now })) }
     ensures in_range { IfOk result (IsInRange columns) }

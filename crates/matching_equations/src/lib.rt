@@ -1,4 +1,4 @@
-//! The equations of normal and octagonal surfaces of a gluing table.
+//! The equations of normal and octagonal surfaces of a gluing table, in standard, quad and octagon coordinates.
 #![tactic(auto)]
 
 mod equation;

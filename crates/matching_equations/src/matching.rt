@@ -14,7 +14,7 @@ use no_memory::NoMemory;
 use normal_discs::{DiscCoords, arc_columns, columns};
 use std::alloc::Global;
 
-/// A face of a table, and what it is glued to.
+/// A face of a table with its gluing. Invariant: both tetrahedra are below 1,000.
 #[derive(Drop)]
 struct GluedFace {
     face: Face,
@@ -23,7 +23,7 @@ struct GluedFace {
     ghost other_tet: { glue.tet < max_tets },
 }
 
-/// Appends the equation of the arcs round a vertex of a glued face.
+/// Appends the equation of the normal arcs around `vertex` in the glued face `pair`.
 fn push_equation(
     alloc: Global,
     coords: DiscCoords,
@@ -53,7 +53,7 @@ fn push_equation(
     Ok(())
 }
 
-/// Appends the equations of a glued face.
+/// Appends the three equations of the glued face `pair`.
 fn push_glued(
     alloc: Global,
     coords: DiscCoords,
@@ -75,7 +75,7 @@ fn push_glued(
     Ok(())
 }
 
-/// Appends the equations of a face, where it is glued and the lesser side.
+/// Appends the equations of `face`, if it is glued and the lesser one of the pair.
 fn push_face(
     alloc: Global,
     coords: DiscCoords,
@@ -97,7 +97,7 @@ fn push_face(
     Ok(())
 }
 
-/// Appends the equations of the faces of a tetrahedron.
+/// Appends the equations of the faces of tetrahedron `tet`.
 fn push_tet(
     alloc: Global,
     coords: DiscCoords,
@@ -117,8 +117,8 @@ fn push_tet(
     Ok(())
 }
 
-/// The matching equations of a table in standard or octagon coordinates: one for each glued pair of faces and each
-/// vertex of the lesser side, as many arcs round the vertex on the one side as on the other (Haken 1961).
+/// The matching equations of `table` in the coordinates `coords`: for each pair of glued faces and each vertex of the
+/// lesser one, both sides have the same number of normal arcs around the vertex (Haken 1961).
 pub fn matching_system(alloc: Global, coords: DiscCoords, table: &Table) -> Result<System, NoMemory>
     ensures columns { IfOk result (λ s. s.columns ≡ coordinates.columns coords.system (length table.now)) }
     ensures rows { IfOk result (λ s. s.rows ≡ matching_rows coords.system table.now) }

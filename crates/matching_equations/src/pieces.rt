@@ -1,4 +1,4 @@
-//! The column of a piece.
+//! The column of a disc type.
 
 ghost use Rattle.std.specs.Prelude.{◌≡◌, ◌+◌, ◌<◌, ◌≤◌, ◌↔◌, nat_lt, IsSome, IfSome, if◌then◌else◌};
 ghost use Rattle.table_definitions.specs.Table.{max_tets};
@@ -7,10 +7,10 @@ ghost use Rattle.surface_definitions.specs.Coordinates as coordinates;
 use normal_discs::{first_column, triangles_each};
 use surface_definitions::{Coords, Piece};
 
-// How many columns of a tetrahedron stand before its octagons.
+/// the number of columns of a tetrahedron before its octagons
 const BEFORE_OCTAGONS: u32 = 7;
 
-/// The place of one of so many pieces behind others, where the number is one of theirs.
+/// `before` + `number`, or `None` if `number` is not below `count`.
 fn place(number: u8, count: u8, before: u32) -> Option<u32>
     requires { before ≤ 7 }
     ensures { result ≡ (if nat_lt number count then Some (before + number) else None) }
@@ -22,7 +22,7 @@ fn place(number: u8, count: u8, before: u32) -> Option<u32>
     }
 }
 
-/// The place of a piece among the columns of its tetrahedron.
+/// The index of `piece` among the columns of its tetrahedron, or `None` if `coords` has no such disc type.
 fn local_column(coords: Coords, piece: Piece) -> Option<u32>
     ensures value { result ≡ coordinates.local_column coords piece }
     ensures found { IsSome result ↔ coordinates.HasPiece coords piece }
@@ -43,7 +43,7 @@ fn local_column(coords: Coords, piece: Piece) -> Option<u32>
     }
 }
 
-/// The column of a piece of a tetrahedron; nothing exactly where the coordinates have no such piece.
+/// The column of the disc type `piece` of tetrahedron `tet`, or `None` if and only if `coords` has no such disc type.
 pub fn column(coords: Coords, tet: u32, piece: Piece) -> Option<u32>
     requires { tet ≤ max_tets }
     ensures value { result ≡ coordinates.column_of coords tet piece }

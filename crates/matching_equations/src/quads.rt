@@ -17,7 +17,7 @@ use skeleton::{Corner, Skeleton};
 use std::alloc::Global;
 use surface_definitions::Coords;
 
-/// The column of the quad that keeps two vertices of a tetrahedron on one side.
+/// The column of the quads that have `vertex` and `other` on one side.
 fn quad_along(tet: u32, vertex: u8, other: u8) -> u32
     requires tet { tet ≤ max_tets }
     requires a_vertex { vertex < 4 }
@@ -28,7 +28,7 @@ fn quad_along(tet: u32, vertex: u8, other: u8) -> u32
     quad_column(Coords::Quad, tet, keeping(vertex, other))
 }
 
-/// Of each corner, the column of the quad that keeps a and c on one side.
+/// For each corner the column of the quads that have its vertices a and c on one side.
 fn first_columns(alloc: Global, corners: &[Corner]) -> Result<Vec<u32>, NoMemory>
     requires { AreCornersIn max_tets corners.now }
     ensures { IfOk result (λ columns. columns.items ≡ (quad_equation corners.now).left) }
@@ -40,7 +40,7 @@ fn first_columns(alloc: Global, corners: &[Corner]) -> Result<Vec<u32>, NoMemory
     Ok(columns)
 }
 
-/// Of each corner, the column of the quad that keeps a and d on one side.
+/// For each corner the column of the quads that have its vertices a and d on one side.
 fn second_columns(alloc: Global, corners: &[Corner]) -> Result<Vec<u32>, NoMemory>
     requires { AreCornersIn max_tets corners.now }
     ensures { IfOk result (λ columns. columns.items ≡ (quad_equation corners.now).right) }
@@ -52,7 +52,7 @@ fn second_columns(alloc: Global, corners: &[Corner]) -> Result<Vec<u32>, NoMemor
     Ok(columns)
 }
 
-/// Appends the row of the corners round an edge.
+/// Appends the equation of the corners around an edge.
 fn push_round(alloc: Global, corners: &[Corner], system: &mut System) -> Result<(), NoMemory>
     requires corners { AreCornersIn max_tets corners.now }
     requires few { length corners.now ≤ 1000000 }
@@ -71,7 +71,7 @@ fn push_round(alloc: Global, corners: &[Corner], system: &mut System) -> Result<
     Ok(())
 }
 
-/// Appends the row of an edge class, where it is inner.
+/// Appends the equation of edge class `class`, if it is internal.
 fn push_edge(
     alloc: Global,
     skeleton: &Skeleton,
@@ -92,8 +92,8 @@ fn push_edge(
     Ok(())
 }
 
-/// The equations of a table in quad coordinates: one for each inner edge class, the quads that rise along the edge at
-/// its corners as many as those that fall (Tollefson 1998).
+/// The equations of the table of `skeleton` in quad coordinates: around each internal edge class, as many quads rise
+/// along the edge as fall (Tollefson 1998).
 pub fn quad_system(alloc: Global, skeleton: &Skeleton) -> Result<System, NoMemory>
     ensures columns { IfOk result (λ s. s.columns ≡ coordinates.columns Coords.Quad (length skeleton.now.rows)) }
     ensures rows { IfOk result (λ s. AreQuadRows skeleton.now.rows skeleton.now.edges.classes skeleton.now.edges.count s.rows) }

@@ -1,4 +1,4 @@
-//! The equations in any coordinates, by the skeleton of a table or by the table alone.
+//! The equations of a table in any coordinates, from its skeleton or from the table alone.
 
 ghost use Rattle.std.specs.Prelude.{◌≡◌, length, IfOk};
 ghost use Rattle.surface_definitions.specs.Coordinates as coordinates;
@@ -14,7 +14,7 @@ use skeleton::Skeleton;
 use std::alloc::Global;
 use surface_definitions::Coords;
 
-/// The equations in quad coordinates, by the skeleton of a table: one for each inner edge class.
+/// The equations of the table of `skeleton` in quad coordinates, one for each internal edge class (Tollefson 1998).
 pub fn quad_equations(alloc: Global, skeleton: &Skeleton) -> Result<System, NoMemory>
     ensures columns { IfOk result (λ s. s.columns ≡ coordinates.columns Coords.Quad (length skeleton.now.rows)) }
     ensures equations { IfOk result (λ s. AreEquations Coords.Quad skeleton.now.rows s.rows) }
@@ -22,8 +22,8 @@ pub fn quad_equations(alloc: Global, skeleton: &Skeleton) -> Result<System, NoMe
     quad_system(alloc, skeleton)
 }
 
-/// The equations of a table, by its skeleton: in standard and octagon coordinates the matching equations, in quad
-/// coordinates one for each inner edge class (Haken 1961; Tollefson 1998).
+/// The equations of the table of `skeleton` in the coordinates `coords`: the matching equations in standard and octagon
+/// coordinates, and one equation for each internal edge class in quad coordinates (Haken 1961; Tollefson 1998).
 pub fn equations(alloc: Global, skeleton: &Skeleton, coords: Coords) -> Result<System, NoMemory>
     ensures columns { IfOk result (λ s. s.columns ≡ coordinates.columns coords (length skeleton.now.rows)) }
     ensures equations { IfOk result (λ s. AreEquations coords skeleton.now.rows s.rows) }
@@ -35,7 +35,7 @@ pub fn equations(alloc: Global, skeleton: &Skeleton, coords: Coords) -> Result<S
     }
 }
 
-/// The equations of a table in quad coordinates, which ask for its skeleton.
+/// The equations of `table` in quad coordinates; builds its skeleton.
 fn equations_round_edges(alloc: Global, table: &Table) -> Result<System, NoMemory>
     ensures columns { IfOk result (λ s. s.columns ≡ coordinates.columns Coords.Quad (length table.now)) }
     ensures equations { IfOk result (λ s. AreEquations Coords.Quad table.now s.rows) }
@@ -44,7 +44,7 @@ fn equations_round_edges(alloc: Global, table: &Table) -> Result<System, NoMemor
     quad_equations(alloc, &skeleton)
 }
 
-/// The same, where the skeleton isn't made yet; only quad coordinates ask for it.
+/// The equations of `table` in the coordinates `coords`; builds a skeleton only for quad coordinates.
 pub fn equations_of_table(alloc: Global, table: &Table, coords: Coords) -> Result<System, NoMemory>
     ensures columns { IfOk result (λ s. s.columns ≡ coordinates.columns coords (length table.now)) }
     ensures equations { IfOk result (λ s. AreEquations coords table.now s.rows) }

@@ -1,4 +1,4 @@
-//! Which pieces have columns, and which.
+//! The columns of disc types in each coordinate system.
 
 ghost use Rattle.std.specs.Prelude.{◌≡◌, ◌+◌, ◌*◌, ◌/◌, ◌%◌, ◌<◌, ◌≤◌};
 ghost use Rattle.table_definitions.specs.Table.{max_tets};
@@ -8,10 +8,10 @@ ghost use Rattle.surface_definitions.specs.Pieces.{type_in};
 use crate::disc_coords::DiscCoords;
 use surface_definitions::Coords;
 
-// How many columns of a tetrahedron stand before its octagons.
+/// the number of columns of a tetrahedron before its octagons
 const BEFORE_OCTAGONS: u32 = 7;
 
-/// The columns of one tetrahedron.
+/// The number of columns of one tetrahedron in the coordinates `coords`.
 pub fn columns_each(coords: Coords) -> u32
     ensures value { result ≡ coordinates.columns_each coords }
     ensures some { 1 ≤ result }
@@ -24,7 +24,7 @@ pub fn columns_each(coords: Coords) -> u32
     }
 }
 
-/// How many columns of a tetrahedron stand before its quads.
+/// The number of triangle columns of a tetrahedron in the coordinates `coords`, which come before its quads.
 pub fn triangles_each(coords: Coords) -> u32
     ensures value { result ≡ coordinates.triangles_each coords }
     ensures few { result ≤ 4 }
@@ -36,7 +36,7 @@ pub fn triangles_each(coords: Coords) -> u32
     }
 }
 
-/// The columns of so many tetrahedra.
+/// The number of columns of a vector for `tets` tetrahedra in the coordinates `coords`.
 pub fn columns(coords: Coords, tets: u32) -> u32
     requires { tets ≤ max_tets }
     ensures value { result ≡ coordinates.columns coords tets }
@@ -45,7 +45,7 @@ pub fn columns(coords: Coords, tets: u32) -> u32
     first_column(coords, tets)
 }
 
-/// The first column of a tetrahedron.
+/// The first column of tetrahedron `tet` in the coordinates `coords`.
 pub fn first_column(coords: Coords, tet: u32) -> u32
     requires { tet ≤ max_tets }
     ensures value { result ≡ coordinates.columns_each coords * tet }
@@ -54,21 +54,21 @@ pub fn first_column(coords: Coords, tet: u32) -> u32
     columns_each(coords) * tet
 }
 
-/// The tetrahedron of a column.
+/// The tetrahedron of `column` in the coordinates `coords`.
 pub fn tet_of(coords: Coords, column: u32) -> u32
     ensures { result ≡ column / coordinates.columns_each coords }
 {
     column / columns_each(coords)
 }
 
-/// The place of a column among those of its tetrahedron.
+/// The index of `column` among the columns of its tetrahedron in the coordinates `coords`.
 pub fn place_of(coords: Coords, column: u32) -> u32
     ensures { result ≡ column % coordinates.columns_each coords }
 {
     column % columns_each(coords)
 }
 
-/// The column of the triangles round a vertex.
+/// The column of the triangles around `vertex` of tetrahedron `tet`.
 pub fn triangle_column(coords: DiscCoords, tet: u32, vertex: u8) -> u32
     requires tet { tet ≤ max_tets }
     requires a_vertex { vertex < 4 }
@@ -77,7 +77,7 @@ pub fn triangle_column(coords: DiscCoords, tet: u32, vertex: u8) -> u32
     first_column(coords.system, tet) + u32::from(vertex)
 }
 
-/// The column of the quads of a type.
+/// The column of the quads of type `kind` of tetrahedron `tet`.
 pub fn quad_column(coords: Coords, tet: u32, kind: u8) -> u32
     requires tet { tet ≤ max_tets }
     requires a_type { kind < 3 }
@@ -86,7 +86,7 @@ pub fn quad_column(coords: Coords, tet: u32, kind: u8) -> u32
     first_column(coords, tet) + triangles_each(coords) + u32::from(kind)
 }
 
-/// The column of the octagons of a type.
+/// The column of the octagons of type `kind` of tetrahedron `tet` in octagon coordinates.
 pub fn octagon_column(tet: u32, kind: u8) -> u32
     requires tet { tet ≤ max_tets }
     requires a_type { kind < 3 }
@@ -95,21 +95,21 @@ pub fn octagon_column(tet: u32, kind: u8) -> u32
     first_column(Coords::Octagon, tet) + BEFORE_OCTAGONS + u32::from(kind)
 }
 
-/// Whether a column counts a quad or an octagon.
+/// Whether `column` counts quads or octagons.
 pub fn is_quad_or_octagon(coords: Coords, column: u32) -> bool
     ensures { result ≡ coordinates.is_quad_or_octagon coords column }
 {
     place_of(coords, column) >= triangles_each(coords)
 }
 
-/// Whether a column counts an octagon.
+/// Whether `column` counts octagons.
 pub fn is_octagon(coords: Coords, column: u32) -> bool
     ensures { result ≡ coordinates.is_octagon coords column }
 {
     place_of(coords, column) >= BEFORE_OCTAGONS
 }
 
-/// The type of the quads or octagons in a column.
+/// The type of the quads or octagons that `column` counts; `column` counts no triangles.
 pub fn type_of(coords: DiscCoords, column: u32) -> u8
     requires { 4 ≤ column % coordinates.columns_each coords.system }
     ensures value { result ≡ type_in coords.system column }

@@ -5,7 +5,7 @@ ghost use Rattle.surface_definitions.specs.Coordinates.{triangles_each};
 
 use surface_definitions::Coords;
 
-/// Coordinates with triangles: a vector in them counts all the discs of a surface.
+/// Coordinates with triangles: standard or octagon coordinates, in which a vector counts all discs of a surface.
 #[derive(Clone, Copy)]
 pub struct DiscCoords {
     pub system: Coords,
@@ -13,12 +13,12 @@ pub struct DiscCoords {
 }
 
 impl DiscCoords {
-    /// Triangles and quads.
+    /// Standard coordinates: triangles and quads.
     pub const STANDARD: DiscCoords = DiscCoords {
         system: Coords::Standard,
     };
 
-    /// Triangles, quads and octagons.
+    /// Octagon coordinates: triangles, quads and octagons.
     pub const OCTAGON: DiscCoords = DiscCoords {
         system: Coords::Octagon,
     };

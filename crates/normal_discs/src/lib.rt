@@ -1,5 +1,5 @@
-//! The normal discs of a tetrahedron: the columns of its triangles, quads and octagons, and those that meet a face
-//! round a vertex, or an edge.
+//! The normal discs of a tetrahedron, with the columns of its triangles, quads and octagons, and those that meet a face
+//! around a vertex, or an edge.
 #![tactic(auto)]
 
 mod coords;

@@ -1,4 +1,4 @@
-//! The columns of the discs that meet a face round a vertex, or an edge.
+//! The columns of the discs with an arc around a vertex in a face, or that meet an edge.
 
 ghost use Rattle.std.specs.Prelude.{◌≡◌, ◌≢◌, ◌<◌, ◌≤◌};
 ghost use Rattle.table_definitions.specs.Table.{max_tets};
@@ -11,7 +11,8 @@ use crate::types::{keeping, other_types};
 use arrayvec::ArrayVec;
 use surface_definitions::Coords;
 
-/// The columns of the octagons with an arc round a vertex in a face: two where octagons have columns, and else none.
+/// The columns of the octagons of tetrahedron `tet` with an arc around `vertex` in `face`: two in octagon coordinates,
+/// otherwise none. `vertex` is not `face`.
 pub fn octagon_arcs(coords: Coords, tet: u32, face: u8, vertex: u8) -> ArrayVec<u32, 2>
     requires tet { tet ≤ max_tets }
     requires a_vertex { vertex < 4 }
@@ -28,7 +29,8 @@ pub fn octagon_arcs(coords: Coords, tet: u32, face: u8, vertex: u8) -> ArrayVec<
     columns
 }
 
-/// The columns of the pieces with an arc round a vertex in a face: a triangle, a quad, and the octagons.
+/// The columns of the disc types of tetrahedron `tet` with an arc around `vertex` in `face`: one triangle, one quad,
+/// and the octagons. `vertex` is not `face`.
 pub fn arc_columns(coords: DiscCoords, tet: u32, face: u8, vertex: u8) -> ArrayVec<u32, 4>
     requires tet { tet ≤ max_tets }
     requires a_vertex { vertex < 4 }
@@ -46,8 +48,8 @@ pub fn arc_columns(coords: DiscCoords, tet: u32, face: u8, vertex: u8) -> ArrayV
     columns
 }
 
-/// The columns of the pieces that meet the edge between two vertices, as often as they do so: of the octagons
-/// where they have columns each once, and that which keeps the two on one side once more.
+/// The columns of the disc types of tetrahedron `tet` that meet its edge from `vertex` to `other`, once for each point
+/// of intersection: each octagon once, and the one that has both vertices on one side twice.
 pub fn edge_columns(coords: DiscCoords, tet: u32, vertex: u8, other: u8) -> ArrayVec<u32, 8>
     requires tet { tet ≤ max_tets }
     requires a_vertex { vertex < 4 }

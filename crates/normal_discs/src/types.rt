@@ -4,7 +4,7 @@ ghost use Rattle.std.specs.Prelude.{◌≡◌, ◌≢◌, ◌==◌, not, ◌<◌
 ghost use Rattle.surface_definitions.specs.Coordinates as coordinates;
 ghost use Rattle.surface_definitions.specs.Coordinates.{three};
 
-/// The type that keeps two vertices on one side.
+/// The type that has the vertices `vertex` and `other`, which differ, on one side.
 pub fn keeping(vertex: u8, other: u8) -> u8
     requires a_vertex { vertex < 4 }
     requires another { other < 4 }
@@ -15,7 +15,7 @@ pub fn keeping(vertex: u8, other: u8) -> u8
     (vertex ^ other) - 1
 }
 
-/// The vertex that a type keeps on the side of another.
+/// The other vertex on the side of `vertex` of a disc of type `kind`.
 pub fn partner(kind: u8, vertex: u8) -> u8
     requires a_type { kind < 3 }
     requires a_vertex { vertex < 4 }
@@ -26,7 +26,7 @@ pub fn partner(kind: u8, vertex: u8) -> u8
     vertex ^ (kind + 1)
 }
 
-/// The two other types, ascending.
+/// The two types other than `kind`, ascending.
 pub fn other_types(kind: u8) -> (u8, u8)
     requires { kind < 3 }
     ensures value { result.0 ∷ result.1 ∷ [] ≡ filter (λ k. not (k == kind)) three }

@@ -1,4 +1,4 @@
-// The sums of squares in each column.
+//! Sums of squares of the coefficients in each column.
 
 ghost use Rattle.std.specs.Prelude.{◌≡◌, ℕ, ◌+◌, ◌*◌, ◌^◌, ◌<◌, ◌≤◌, IsTrue, IsFalse, IfOk, IfSome, IfNone, length, slice_index};
 ghost use Rattle.cone_arithmetic.specs.Sparse.{IsInRange, IsSparse};
@@ -9,7 +9,7 @@ use cone_arithmetic::System;
 use no_memory::NoMemory;
 use std::alloc::Global;
 
-/// The square of a coefficient.
+/// The square of `coefficient`.
 fn square_of(coefficient: i32) -> u64
     ensures { result ≡ magnitude coefficient * magnitude coefficient }
 {
@@ -17,7 +17,7 @@ fn square_of(coefficient: i32) -> u64
     size * size
 }
 
-/// Adds the squares of a row's coefficients to its columns; false where a sum passes 2^64 - 1.
+/// Adds the squares of the coefficients of `row` to their columns; false if a sum exceeds 2^64 - 1.
 fn add_row(squares: &mut [u64], row: &[(u32, i32)]) -> bool
     requires in_range { IsInRange (length squares.old) row.now }
     requires sparse { IsSparse row.now }
@@ -34,7 +34,7 @@ fn add_row(squares: &mut [u64], row: &[(u32, i32)]) -> bool
     true
 }
 
-/// The sum of the squares in each column; nothing where one passes 2^64 - 1.
+/// The sum of the squares of the coefficients in each column of `system`; `None` if one exceeds 2^64 - 1.
 pub fn column_squares(alloc: Global, system: &System) -> Result<Option<Vec<u64>>, NoMemory>
     ensures some { IfOk result (λ found. IfSome found (λ squares. AreSquares system.now squares.items)) }
     ensures none { IfOk result (λ found. IfNone found (HasHeavyColumn system.now)) }

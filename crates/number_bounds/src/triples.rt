@@ -1,4 +1,4 @@
-// Whether the columns of a system bound all numbers by a limit where each three of them clash.
+//! A bound on all numbers of an elimination by the columns of a system in groups of three that clash.
 
 ghost use Rattle.std.specs.Prelude.{◌≡◌, ◌*◌, ◌/◌, ◌^◌, ◌<◌, ◌≤◌, IsTrue, IsFalse, IfOk, IfSome, IfNone, length};
 ghost use Rattle.cone_bound_laws.specs.Caps.{caps_product};
@@ -10,7 +10,7 @@ use cone_arithmetic::System;
 use no_memory::NoMemory;
 use std::alloc::Global;
 
-/// The greatest of the three sums of squares of a group, and 1 at least.
+/// The greatest of the three sums of squares of group `group`, and at least 1.
 fn cap_of(squares: &[u64], group: usize) -> u64
     requires { group < length squares.now / 3 }
     ensures { result ≡ triple_cap squares.now group }
@@ -21,7 +21,7 @@ fn cap_of(squares: &[u64], group: usize) -> u64
     first.max(second).max(third).max(1)
 }
 
-/// The product of the caps of all groups; nothing where it passes 2^128 - 1.
+/// The product of the caps of all groups; `None` if it exceeds 2^128 - 1.
 fn product_of_triples(squares: &[u64]) -> Option<u128>
     ensures some { IfSome result (λ product. product ≡ caps_product (triple_cap squares.now) (length squares.now / 3)) }
     ensures none { IfNone result (2 ^ 128 ≤ caps_product (triple_cap squares.now) (length squares.now / 3)) }
@@ -33,8 +33,8 @@ fn product_of_triples(squares: &[u64]) -> Option<u128>
     Some(product)
 }
 
-/// Whether the columns of a system, three to a group, bound all numbers by the limit where those of a group clash, whatever
-/// the order of its rows.
+/// As `columns_fit`, but takes of each three consecutive columns only the greatest sum of squares. The bound holds if
+/// the columns of each such group clash; the number of columns is a multiple of 3.
 pub fn triples_fit(alloc: Global, system: &System, limit: u128) -> Result<bool, NoMemory>
     requires { 3 * (system.now.columns / 3) ≡ system.now.columns }
     ensures bounded { IfOk result (λ fit. IsTrue fit → AreTriplesBounded system.now limit) }

@@ -1,4 +1,4 @@
-//! Whether a vector is an admissible solution.
+//! Checks whether a vector is an admissible solution.
 
 ghost use Rattle.std.specs.Prelude.{◌≡◌, ◌↔◌, ◌≤◌, IsOk};
 ghost use Rattle.table_definitions.specs.Table.{max_tets};
@@ -11,7 +11,7 @@ use crate::clashes::first_clash;
 use cone_arithmetic::{MAX_ENTRY, SolutionFault, System, is_solution};
 use surface_definitions::{Coords, VectorFault};
 
-/// Why a vector that is no solution isn't accepted.
+/// `fault` as an error of `check_vector`.
 fn fault_of(fault: SolutionFault) -> VectorFault
     ensures { result ≡ fault_of fault }
 {
@@ -21,8 +21,9 @@ fn fault_of(fault: SolutionFault) -> VectorFault
     }
 }
 
-/// Whether a vector is an admissible solution of a system: the first fault among its length, the rows, of which a
-/// part may pass the greatest entry or which may not be 0, and the clashing pairs.
+/// Checks that `x` is an admissible solution of `system` for `tets` tetrahedra. Fails with `Length` if `x` has not one
+/// entry for each column; then at the first row of which a part exceeds `MAX_ENTRY` (`Large`), or which is not 0 at `x`
+/// (`NotSolution`); then at the first clashing pair of nonzero entries (`Clash`).
 pub fn check_vector(
     coords: Coords,
     tets: u32,

@@ -1,4 +1,4 @@
-//! Which columns clash.
+//! The clashing pairs of columns.
 
 ghost use Rattle.std.specs.Prelude.{◌≡◌, ℕ, ◌+◌, ◌<◌, ◌≤◌, ◌++◌, false, find, length, OnOk, IfOk, option_map};
 ghost use Rattle.table_definitions.specs.Table.{max_tets};
@@ -12,7 +12,7 @@ use normal_discs::{columns, columns_each, is_octagon, is_quad_or_octagon, tet_of
 use std::alloc::Global;
 use surface_definitions::Coords;
 
-/// Whether two columns clash.
+/// Whether columns `first` and `second` clash: both count octagons, or both count quads or octagons of one tetrahedron.
 fn do_clash(coords: Coords, first: u32, second: u32) -> bool
     ensures { result ≡ coordinates.clash_test coords first second }
 {
@@ -24,8 +24,7 @@ fn do_clash(coords: Coords, first: u32, second: u32) -> bool
         && is_quad_or_octagon(coords, second)
 }
 
-/// The end of the columns that a column may clash with: of its tetrahedron for a triangle or a quad, and of all for
-/// an octagon.
+/// An end of the columns after `first` that it may clash with: those of its tetrahedron, or all columns for an octagon.
 fn partners_end(coords: Coords, tets: u32, first: u32) -> u32
     requires tets { tets ≤ max_tets }
     requires in_range { first < coordinates.columns coords tets }
@@ -41,7 +40,7 @@ fn partners_end(coords: Coords, tets: u32, first: u32) -> u32
     }
 }
 
-/// Appends the pairs of a column with the later ones that it clashes with.
+/// Appends the pairs of `first` with each later column that it clashes with.
 fn push_partners(
     coords: Coords,
     tets: u32,
@@ -60,7 +59,7 @@ fn push_partners(
     Ok(())
 }
 
-/// All clashing pairs of columns, the lesser column first, ascending.
+/// All clashing pairs of columns for `tets` tetrahedra, the lesser column first, in lexicographic order.
 pub fn clash_list(alloc: Global, coords: Coords, tets: u32) -> Result<Vec<(u32, u32)>, NoMemory>
     requires { tets ≤ max_tets }
     ensures pairs { IfOk result (λ clashes. clashes.items ≡ coordinates.clash_list coords tets) }
@@ -73,7 +72,7 @@ pub fn clash_list(alloc: Global, coords: Coords, tets: u32) -> Result<Vec<(u32, 
     Ok(clashes)
 }
 
-/// The least later column that isn't 0 and clashes with a column that isn't 0.
+/// The first nonzero column after `first` that clashes with it, or `None`, also if `x` is 0 at `first`.
 fn first_partner(coords: Coords, tets: u32, x: &[u128], first: u32) -> Option<u32>
     requires tets { tets ≤ max_tets }
     requires width { length x.now ≡ coordinates.columns coords tets }
@@ -91,8 +90,8 @@ fn first_partner(coords: Coords, tets: u32, x: &[u128], first: u32) -> Option<u3
     None
 }
 
-/// The least clashing pair that is nonzero in both places. Only the first octagon that isn't 0 is compared with the
-/// octagons of other tetrahedra: where it has no partner, there is no later octagon.
+/// The first clashing pair, in lexicographic order, whose two entries in `x` are nonzero. Reads the octagons of other
+/// tetrahedra only for the first nonzero octagon: if that clashes with none, there is no later one.
 pub fn first_clash(coords: Coords, tets: u32, x: &[u128]) -> Option<(u32, u32)>
     requires tets { tets ≤ max_tets }
     requires width { length x.now ≡ coordinates.columns coords tets }

@@ -1,4 +1,4 @@
-//! The quadrilateral condition: quads and octagons of one tetrahedron clash, and so do any two octagons.
+//! The quadrilateral condition, by which quads and octagons of one tetrahedron clash, and any two octagons do.
 #![tactic(auto)]
 
 mod check;

@@ -1,4 +1,4 @@
-//! The clash test of normal coordinates, beside the list of its pairs.
+//! The clash test of normal coordinates, with the list of the clashing pairs.
 
 ghost use Rattle.std.specs.Prelude.{◌≡◌, ◌≤◌, IfOk};
 ghost use Rattle.table_definitions.specs.Table.{max_tets};
@@ -13,7 +13,7 @@ use std::alloc::Global;
 use support_bits::Support;
 use surface_definitions::Coords;
 
-/// The masks of so many tetrahedra beside the list of their clashing pairs.
+/// The masks for a number of tetrahedra, with the list of their clashing pairs.
 #[derive(Drop)]
 pub struct MaskedClashes {
     masks: Masks,
@@ -25,7 +25,7 @@ pub struct MaskedClashes {
 }
 
 impl MaskedClashes {
-    /// The test of these coordinates.
+    /// The clash test for `tets` tetrahedra in the coordinates `coords`, which have `columns` columns.
     pub fn new(
         alloc: Global,
         coords: Coords,

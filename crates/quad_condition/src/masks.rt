@@ -1,4 +1,4 @@
-//! A test whether a union of supports holds a clashing pair, by words.
+//! Tests word by word whether a union of supports contains a clashing pair.
 
 ghost use Rattle.std.specs.Prelude.{◌≡◌, ℕ, ◌+◌, ◌<◌, ◌≤◌, ◌↔◌, Vec, length, IsTrue, IfOk, slice_index_or};
 ghost use Rattle.std.specs.declared.alloc.Global.{Global};
@@ -16,8 +16,8 @@ use std::marker::Model;
 use support_bits::{Support, set_bit};
 use surface_definitions::Coords;
 
-/// The clashing pairs of so many tetrahedra as masks of columns: for each distance from 1 on the columns whose quad or
-/// octagon has another one so far ahead in its tetrahedron, and the columns of octagons.
+/// The clashing pairs for `tets` tetrahedra as masks. `near` has for each distance from 1 on the columns of quads and
+/// octagons with another one at that distance ahead in their tetrahedron; `octagons` has the columns of octagons.
 #[derive(Drop)]
 pub struct Masks {
     coords: Coords,
@@ -38,7 +38,7 @@ impl Model for Masks {
     ghost invariant = { λ m. AreMasks m.coords m.tets m.near.items m.octagons.items };
 }
 
-/// Whether the place of a column in its tetrahedron is `least` or later and has so many places behind it.
+/// Whether `column` has an index of at least `least` in its tetrahedron, and more than `distance` columns from it on.
 fn is_marked(coords: Coords, least: u32, distance: u32, column: u32) -> bool
     requires { distance ≤ 10 }
     ensures { result ≡ marks.is_marked coords least distance column }
@@ -48,7 +48,7 @@ fn is_marked(coords: Coords, least: u32, distance: u32, column: u32) -> bool
     least <= place && place + distance < each
 }
 
-/// The words of the columns whose place in their tetrahedron is `least` or later and has so many places behind it.
+/// The mask of the columns that `is_marked` selects for `least` and `distance`.
 fn mask(
     alloc: Global,
     coords: Coords,
@@ -83,7 +83,7 @@ fn near_masks(alloc: Global, coords: Coords, tets: u32) -> Result<Vec<Vec<u64>>,
     Ok(near)
 }
 
-/// Whether a column of a mask and the one at its distance ahead are both of `a` or of `b`.
+/// Whether, for a mask, a column of it and the one at its distance ahead both are in the union of `a` and `b`.
 fn has_near(near: &[Vec<u64>], a: &[u64], b: &[u64]) -> bool
     requires few { length near.now ≤ 10 }
     requires first { (k : ℕ) (d : Vec ℕ Global) → k < length near.now → length (slice_index_or near.now k d).items ≡ length a.now }
@@ -99,7 +99,7 @@ fn has_near(near: &[Vec<u64>], a: &[u64], b: &[u64]) -> bool
 }
 
 impl Masks {
-    /// The masks of the columns of so many tetrahedra.
+    /// The masks for `tets` tetrahedra in the coordinates `coords`.
     pub fn new(alloc: Global, coords: Coords, tets: u32) -> Result<Masks, NoMemory>
         requires { tets ≤ max_tets }
         ensures { IfOk result (λ masks. masks ≡ record { coords = coords; tets = tets }) }
@@ -114,7 +114,7 @@ impl Masks {
         })
     }
 
-    /// Whether no clashing pair has both columns in the union of two supports.
+    /// Whether the union of `a` and `b` contains no clashing pair.
     pub fn allows(&self, a: &Support, b: &Support) -> bool
         requires first { length a.now ≡ coordinates.columns self.now.coords self.now.tets }
         requires second { length b.now ≡ coordinates.columns self.now.coords self.now.tets }

@@ -3,7 +3,7 @@
 ghost use Rattle.std.specs.Prelude.{◌≡◌, ◌+◌, ◌<◌, ◌≤◌, ◌↔◌, true, length, IsTrue};
 ghost use Rattle.quad_condition.specs.Bits.{word_of_either, word_ahead, HasPairAhead, HasTwo, HasTwoBits, HasFrom};
 
-/// The word of the columns of `a` or of `b`; none past the end.
+/// Word `k` of the union of `a` and `b`; 0 after the last word.
 fn either(a: &[u64], b: &[u64], k: usize) -> u64
     requires { length b.now ≡ length a.now }
     ensures { result ≡ word_of_either a.now b.now k }
@@ -11,7 +11,7 @@ fn either(a: &[u64], b: &[u64], k: usize) -> u64
     if k < a.len() { a[k] | b[k] } else { 0 }
 }
 
-/// The word of the columns so far ahead.
+/// The word of the columns `distance` ahead of those of the word `here`, which `next` follows.
 fn ahead(here: u64, next: u64, distance: u32) -> u64
     requires some { 1 ≤ distance }
     requires few { distance < 64 }
@@ -20,7 +20,7 @@ fn ahead(here: u64, next: u64, distance: u32) -> u64
     (here >> distance) | (next << (64 - distance))
 }
 
-/// Whether a column of the mask and the one so far ahead are both of `a` or of `b`.
+/// Whether a column of `mask` and the column `distance` ahead of it both are in the union of `a` and `b`.
 pub fn has_pair_ahead(mask: &[u64], a: &[u64], b: &[u64], distance: u32) -> bool
     requires first { length a.now ≡ length mask.now }
     requires second { length b.now ≡ length mask.now }
@@ -38,7 +38,7 @@ pub fn has_pair_ahead(mask: &[u64], a: &[u64], b: &[u64], distance: u32) -> bool
     false
 }
 
-/// Whether two bits of a word are set.
+/// Whether two bits of `word` are set; `word` is not 0.
 fn has_two_bits(word: u64) -> bool
     requires { 0 < word }
     ensures { IsTrue result ↔ HasTwoBits word }
@@ -47,7 +47,7 @@ fn has_two_bits(word: u64) -> bool
     word & !(1 << first) != 0
 }
 
-/// Whether a column of the mask from a word on is of `a` or of `b`.
+/// Whether a column of `mask`, from word `from` on, is in the union of `a` and `b`.
 fn has_from(mask: &[u64], a: &[u64], b: &[u64], from: usize) -> bool
     requires first { length a.now ≡ length mask.now }
     requires second { length b.now ≡ length mask.now }
@@ -61,7 +61,7 @@ fn has_from(mask: &[u64], a: &[u64], b: &[u64], from: usize) -> bool
     false
 }
 
-/// Whether two columns of the mask are of `a` or of `b`.
+/// Whether two columns of `mask` are in the union of `a` and `b`.
 pub fn has_two(mask: &[u64], a: &[u64], b: &[u64]) -> bool
     requires first { length a.now ≡ length mask.now }
     requires second { length b.now ≡ length mask.now }

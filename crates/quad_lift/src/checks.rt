@@ -1,4 +1,4 @@
-//! Whether heights and quads agree across each gluing.
+//! Checks whether heights and quads agree across each gluing.
 
 ghost use Rattle.std.specs.Prelude.{◌≡◌, ◌*◌, ◌<◌, false, length, IsTrue};
 ghost use Rattle.quad_lift.specs.Agreements.{Agrees, AgreesRound, IsLeastWrong};
@@ -6,7 +6,7 @@ ghost use Rattle.quad_lift.specs.Agreements.{Agrees, AgreesRound, IsLeastWrong};
 use crate::quad_vector::Heights;
 
 impl Heights<'_> {
-    /// Whether the height and the quads at a vertex add up to the same on both sides of a face.
+    /// Whether height plus quads at `vertex` are equal on both sides of `face`.
     fn agrees(&self, vertex: u32, face: u8) -> bool
         requires in_range { vertex < 4 * length self.now.vector.skeleton.now.rows }
         requires a_face { face < 4 }
@@ -22,7 +22,7 @@ impl Heights<'_> {
         }
     }
 
-    /// Whether they do so at all faces of a vertex.
+    /// Whether height plus quads at `vertex` are equal on both sides of each face.
     fn agrees_round(&self, vertex: u32) -> bool
         requires in_range { vertex < 4 * length self.now.vector.skeleton.now.rows }
         ensures agrees { IsTrue result → AgreesRound self.now.vector.skeleton.now self.now.vector.entries.now self.now.values.now vertex }
@@ -36,7 +36,8 @@ impl Heights<'_> {
         true
     }
 
-    /// The least class with a vertex at which they do not, or the number of classes.
+    /// The least vertex class with a vertex at which heights and quads do not agree across a face, or the number of
+    /// classes if there is none.
     pub fn least_wrong(&self) -> u32
         ensures { IsLeastWrong self.now.vector.skeleton.now self.now.vector.entries.now self.now.values.now result }
     {

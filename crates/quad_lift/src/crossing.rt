@@ -12,8 +12,8 @@ use gluing_table::Face;
 use normal_discs::{keeping, quad_column};
 use surface_definitions::Coords;
 
-/// A vertex and that across a face, and how many quads are met on either side: from the one to the other heights rise
-/// by `up` and fall by `down`.
+/// The vertex across a face, with index 4t + v, and the quads around both vertices there: the height across is the
+/// height here plus `up` less `down`.
 #[derive(Clone, Copy)]
 pub struct Crossing {
     pub other: u32,
@@ -22,7 +22,7 @@ pub struct Crossing {
 }
 
 impl QuadVector<'_> {
-    /// How many quads have an arc round v in the face.
+    /// The number of quads with an arc around `v` in `face`.
     fn quads_round(&self, face: Face, v: u8) -> u128
         requires in_range { face.tet < length self.now.skeleton.now.rows }
         requires a_vertex { v < 4 }
@@ -33,7 +33,8 @@ impl QuadVector<'_> {
         self.entries[quad_column(Coords::Quad, face.tet, kind) as usize]
     }
 
-    /// What is across a face at a vertex; nothing where the face isn't at the vertex, or is a boundary face.
+    /// The vertex to which `vertex` is glued across `face`, with the quads on both sides; `None` if `face` is opposite
+    /// the vertex or a boundary face.
     pub fn across(&self, vertex: u32, face: u8) -> Option<Crossing>
         requires in_range { vertex < 4 * length self.now.skeleton.now.rows }
         requires a_face { face < 4 }

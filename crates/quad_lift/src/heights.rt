@@ -1,5 +1,5 @@
-//! Heights of vertices: across each gluing the height and the quads there add up to the same. They are spread from one
-//! vertex of each class, where they begin so high that none falls below 0.
+//! Heights of vertices, for which height plus quads are equal on both sides of each gluing. They spread from one vertex
+//! of each class, whose height is so great that none falls below 0.
 
 ghost use Rattle.std.specs.Prelude.{◌≡◌, ℕ, ◌+◌, ◌*◌, ◌<◌, Bool, true, false, List, [], length, slice_index_or, IfOk, OnOk};
 ghost use Rattle.table_walk_laws.specs.Search.{IsMarked, IsClosed, IsSearch, IsTurn, work_left};
@@ -10,7 +10,7 @@ use crate::quad_vector::QuadVector;
 use std::alloc::{AllocError, Global};
 
 impl QuadVector<'_> {
-    /// Gives the vertex across a face its height, unless it has one.
+    /// Sets the height of the vertex across `face`, and appends it to `pending`, unless it is marked.
     fn cross(
         &self,
         marked: &mut [bool],
@@ -40,7 +40,7 @@ impl QuadVector<'_> {
         Ok(())
     }
 
-    /// Crosses the faces at a vertex.
+    /// As `cross`, for all faces at `vertex`.
     fn cross_all(
         &self,
         marked: &mut [bool],
@@ -60,7 +60,7 @@ impl QuadVector<'_> {
         Ok(())
     }
 
-    /// Spreads heights over the class of a vertex that has none.
+    /// Spreads heights over the class of `root`, which has none.
     fn spread(
         &self,
         alloc: Global,
@@ -88,7 +88,7 @@ impl QuadVector<'_> {
         Ok(())
     }
 
-    /// Heights of all vertices.
+    /// The heights of all vertices of the quad vector.
     pub fn heights(&self, alloc: Global) -> Result<Vec<u128>, AllocError>
         ensures { IfOk result (λ heights. AreAllSpread self.now.skeleton.now self.now.entries.now heights.items) }
     {

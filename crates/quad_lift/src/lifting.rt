@@ -22,7 +22,7 @@ use surface_definitions::Coords;
 use surface_vector_definitions::LiftFault;
 
 impl Heights<'_> {
-    /// An entry of the lift: a height above the least of its class, or quads.
+    /// The entry of the lift in `column`: a height less the least of its vertex class, or a number of quads.
     fn entry(&self, lows: &[u128], column: u32) -> u128
         requires lows { AreLeastHeights self.now.vector.skeleton.now self.now.values.now lows.now }
         requires in_range { column < 7 * length self.now.vector.skeleton.now.rows }
@@ -39,7 +39,7 @@ impl Heights<'_> {
         }
     }
 
-    /// All entries of the lift.
+    /// All entries of the lift; `lows` are the least heights of the vertex classes.
     fn entries(&self, alloc: Global, lows: &[u128]) -> Result<Vec<u128>, AllocError>
         requires { AreLeastHeights self.now.vector.skeleton.now self.now.values.now lows.now }
         ensures length { IfOk result (λ ys. length ys.items ≡ 7 * length self.now.vector.skeleton.now.rows) }
@@ -54,11 +54,9 @@ impl Heights<'_> {
     }
 }
 
-/// The lift of a vector in quad coordinates: the vector in standard coordinates with the same quads that solves the
-/// matching equations and has a 0 among the triangles of each vertex class. (Tollefson, on quad coordinates.)
-///
-/// `Large` where four times the sum of the entries passes 2^127 - 1; else `NoLift` with the least vertex class at which
-/// there is no lift.
+/// The lift of the quad vector `x`: the standard vector with its quads that solves the matching equations and has an
+/// entry 0 among the triangles of each vertex class (Tollefson 1998). Fails with `Large` if four times the sum of `x`
+/// exceeds 2^127 - 1; otherwise with `NoLift`, which names the least vertex class at which there is no lift.
 pub fn lift(alloc: Global, skeleton: &Skeleton, x: &[u128]) -> Result<Vec<u128>, Failure<LiftFault>>
     requires { length x.now ≡ coordinates.columns QuadCoords (length skeleton.now.rows) }
     ensures lifted { IfOk result (λ ys. IsLiftAnswer limit skeleton.now x.now (Ok ys.items)) }
@@ -88,7 +86,7 @@ pub fn lift(alloc: Global, skeleton: &Skeleton, x: &[u128]) -> Result<Vec<u128>,
     Ok(lifted)
 }
 
-/// The quads of a standard vector of so many tetrahedra.
+/// The quad entries of the standard vector `x` of `tets` tetrahedra.
 pub fn project(alloc: Global, tets: u32, x: &[u128]) -> Result<Vec<u128>, NoMemory>
     requires { length x.now ≡ coordinates.columns Standard tets }
     ensures { IfOk result (λ quads. quads.items ≡ projected tets x.now) }

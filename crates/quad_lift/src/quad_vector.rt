@@ -1,4 +1,4 @@
-//! Quad vectors over a skeleton, and heights over them.
+//! Quad vectors with their skeleton, and heights over them.
 
 ghost use Rattle.std.specs.Prelude.{◌≡◌, ◌*◌, ◌≤◌, length, sum};
 ghost use Rattle.text_definitions.specs.Written.{limit};
@@ -7,8 +7,8 @@ ghost use Rattle.quad_lift.specs.Spreads.{AreAllSpread};
 
 use skeleton::Skeleton;
 
-/// A vector in quad coordinates over a skeleton. Heights over it start at four times the sum of its entries, which is
-/// an entry.
+/// A vector in quad coordinates with its skeleton. Invariant: `start` is four times the sum of the entries, at most
+/// 2^127 - 1; heights begin with it.
 #[derive(Clone, Copy)]
 pub struct QuadVector<'a> {
     pub skeleton: &'a Skeleton,
@@ -20,7 +20,7 @@ pub struct QuadVector<'a> {
     pub ghost fits: { 4 * sum entries.now ≤ limit },
 }
 
-/// Heights of all vertices over a quad vector, spread over it.
+/// A quad vector with the heights of all vertices, spread over it.
 #[derive(Clone, Copy)]
 pub struct Heights<'a> {
     pub vector: QuadVector<'a>,

@@ -5,7 +5,7 @@ ghost use Rattle.text_definitions.specs.Written.{limit};
 
 use text_io::LIMIT;
 
-/// Four times the sum of the entries, where it is an entry.
+/// Four times the sum of `x`, or `None` if it exceeds 2^127 - 1.
 pub fn four_times(x: &[u128]) -> Option<u128>
     ensures sum { IfSome result (λ s. s ≡ 4 * sum x.now) }
     ensures fits { IfSome result (λ s. 4 * sum x.now ≤ limit) }

@@ -1,4 +1,4 @@
-// All rays of a cone, with no pairs of columns that clash.
+//! Lists all rays of a cone, without clashing columns.
 
 ghost use Rattle.std.specs.Prelude.{◌≤◌, IfOk, IfErr};
 ghost use Rattle.cone_definitions.specs.Listings.{without_pairs};
@@ -12,8 +12,8 @@ use number_bounds::columns_fit;
 use ray_steps::NoClash;
 use std::alloc::Global;
 
-/// All rays of the cone of a system, strictly ascending, its rows taken in a named order; refused exactly where a number of
-/// a step passes the limit.
+/// All primitive extreme rays of the cone of `system`, in strictly ascending order, with its rows processed in the
+/// order `order`. Fails with `LargeStep` at the first step at which a number exceeds `limit`.
 pub fn rays(
     alloc: Global,
     system: &System,

@@ -1,4 +1,4 @@
-//! The rays of a cone.
+//! All primitive extreme rays of a cone, with a limit on all numbers of their enumeration.
 #![tactic(auto)]
 
 mod enumeration;

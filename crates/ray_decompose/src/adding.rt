@@ -1,4 +1,4 @@
-// Whether given terms add up to a vector.
+//! Tests whether terms add up to a vector.
 
 ghost use Rattle.std.specs.Prelude.{◌≡◌, ◌<◌, ◌^◌, length, Some, None, IsOk, OnOk, IfErr, IsTrue, ◌↔◌};
 ghost use Rattle.std.specs.List.{All};
@@ -10,14 +10,14 @@ use crate::products::product_within;
 use cone_arithmetic::MAX_ENTRY;
 use sum_definitions::AddFault;
 
-/// A vector that was given, taken so many times.
+/// A term of a sum: the vector `entries`, taken `count` times.
 #[derive(Drop)]
 pub struct Given {
     pub count: u128,
     pub entries: Vec<u128>,
 }
 
-/// Whether the counts times the entries at a column add up to a number.
+/// Whether the terms add up to `sum` in `column`.
 fn are_equal(sum: u128, terms: &[Given], column: usize) -> bool
     requires { All (λ given. column < length given.entries.items) terms.now }
     ensures { IsTrue result ↔ (sum ≡ sum_at (terms_of terms.now) column) }
@@ -32,7 +32,7 @@ fn are_equal(sum: u128, terms: &[Given], column: usize) -> bool
     left == 0
 }
 
-/// What is wrong at a column, if anything.
+/// The error at `column`, if there is one.
 fn fault_at(x: &[u128], times: u128, terms: &[Given], column: usize) -> Option<AddFault>
     requires width { length x.now < 2 ^ 32 }
     requires in_range { column < length x.now }
@@ -50,8 +50,8 @@ fn fault_at(x: &[u128], times: u128, terms: &[Given], column: usize) -> Option<A
     }
 }
 
-/// Whether a vector, taken `times` times, is the sum of the terms. Refused where it is taken no times, or with the first column
-/// at which its entry, taken so many times, passes the greatest entry, or isn't the sum.
+/// Checks that `times` times `x` is the sum of `terms`. Fails with `ZeroTimes` if `times` is 0; then at the first
+/// column at which `times` times the entry of `x` exceeds 2^127 - 1 (`Large`), or is not the sum (`NotEqual`).
 pub fn add_up(x: &[u128], times: u128, terms: &[Given]) -> Result<(), AddFault>
     requires width { length x.now < 2 ^ 32 }
     requires terms { All (HasWidth (length x.now)) terms.now }

@@ -1,4 +1,4 @@
-// Columns of vectors: whether a support lies inside another, and the first entry that passes the limit.
+//! Inclusion of supports, and the first column at which a multiple exceeds a limit.
 
 ghost use Rattle.std.specs.Prelude.{◌≡◌, ◌*◌, ◌<◌, ◌^◌, ◌↔◌, IsTrue, IfSome, IfNone, length};
 ghost use Rattle.cone_definitions.specs.Vectors.{IsInside};
@@ -7,7 +7,7 @@ ghost use Rattle.ray_decompose.specs.Sums.{IsFirstLarge};
 
 use crate::products::product_within;
 
-/// Whether the support of a vector lies in that of another.
+/// Whether each nonzero column of `x` is nonzero in `other`, of equal length.
 pub fn is_inside(x: &[u128], other: &[u128]) -> bool
     requires { length x.now ≡ length other.now }
     ensures { IsTrue result ↔ IsInside x.now other.now }
@@ -20,7 +20,7 @@ pub fn is_inside(x: &[u128], other: &[u128]) -> bool
     true
 }
 
-/// Whether an entry, taken `first` times `second` times, passes the limit.
+/// Whether `first * second * entry` exceeds `limit`.
 fn passes(entry: u128, first: u128, second: u128, limit: u128) -> bool
     ensures { IsTrue result ↔ (limit < first * second * entry) }
 {
@@ -33,7 +33,7 @@ fn passes(entry: u128, first: u128, second: u128, limit: u128) -> bool
     }
 }
 
-/// The first column whose entry, taken `first` times `second` times, passes the limit.
+/// The first column of `x` at which `first * second` times the entry exceeds `limit`, or `None`.
 pub fn first_large(x: &[u128], first: u128, second: u128, limit: u128) -> Option<u32>
     requires { length x.now < 2 ^ 32 }
     ensures some { IfSome result (IsFirstLarge limit x.now (first * second)) }

@@ -1,4 +1,4 @@
-// A solution as a sum of listed rays.
+//! Writes a solution as a sum of listed rays.
 
 ghost use Rattle.std.specs.Prelude.{IfOk, IfErr};
 ghost use Rattle.no_memory.specs.Failures.{IfFault};
@@ -13,24 +13,26 @@ use no_memory::Failure;
 use std::alloc::Global;
 use sum_definitions::LargeTurn;
 
-/// A ray, taken so many times.
+/// A term of a sum: a ray, with the number of times that it is taken.
 pub type Term = sum_definitions::Term<Ray>;
 
-/// A solution, taken `times` times, as a sum of rays.
+/// A solution as a sum of rays: `times` times the solution is the sum of `terms`.
 #[derive(Drop)]
 pub struct Sum {
     pub times: u128,
     pub terms: Vec<Term>,
 }
 
-/// The first turn, and its first column, at which a number passes the limit, or want of memory.
+/// Why `decompose` fails: the first step at which a number exceeds the limit, with its first column, or memory runs
+/// out.
 pub type SumFault = Failure<LargeTurn>;
 
-/// A solution of a system as a sum of listed rays: turn by turn, the least ray inside what is left is taken out of it, as often
-/// as leaves nothing negative. A ray that isn't inside what is left never is again, so the list is read once.
+/// Writes the solution `x` of `system` as a sum of rays in `list`: each step takes the first ray whose support lies in
+/// that of the remainder, and subtracts the largest multiple that leaves no entry negative. Fails with `Large` at the
+/// first step, and its first column, at which the multiplied entry of `x` exceeds `limit`.
 ///
-/// The list ascends, and each primitive extreme solution inside `x` is in it. Refused with the first turn, and its first column,
-/// at which an entry of the solution, taken so many times, passes the limit.
+/// `list` is ascending and contains each primitive extreme solution whose support lies in that of `x`. It is read once,
+/// since a ray whose support is not in that of the remainder never is later.
 pub fn decompose(
     alloc: Global,
     system: &System,

@@ -1,4 +1,4 @@
-// The least fraction of the entries of two vectors, in lowest terms.
+//! The least fraction of the entries of two vectors, in lowest terms.
 
 ghost use Rattle.std.specs.Prelude.{◌≡◌, ◌≢◌, ℕ, ◌*◌, ◌+◌, ◌<◌, ◌≤◌, ◌↔◌, IfNone, IfSome, IsTrue, length, slice_index};
 ghost use Rattle.cone_definitions.specs.Vectors.{IsInside, IsNonzero};
@@ -8,15 +8,15 @@ ghost use Rattle.ray_decompose.specs.Fractions.{IsLeastColumn};
 use crate::columns::is_inside;
 use cone_arithmetic::gcd;
 
-/// A fraction of two whole numbers.
+/// A fraction of two natural numbers.
 #[derive(Clone, Copy)]
 pub struct Fraction {
     pub numerator: u128,
     pub denominator: u128,
 }
 
-/// Whether a / b is at most c / d: by their whole parts, and where these are equal by the reciprocals of what remains, as
-/// Euclid does it, so that no product is needed.
+/// Whether a / b is at most c / d. Compares the integer parts, and if they are equal the reciprocals of what remains,
+/// as Euclid's algorithm does, so that no product can overflow.
 fn is_at_most(a: u128, b: u128, c: u128, d: u128) -> bool
     requires first { 1 ≤ b }
     requires second { 1 ≤ d }
@@ -36,7 +36,7 @@ fn is_at_most(a: u128, b: u128, c: u128, d: u128) -> bool
     }
 }
 
-/// The first column of the support.
+/// The first nonzero column of `ray`, which is not 0.
 fn first_column(ray: &[u128]) -> usize
     requires { IsNonzero ray.now }
     ensures in_range { result < length ray.now }
@@ -51,7 +51,7 @@ fn first_column(ray: &[u128]) -> usize
     unreachable!()
 }
 
-/// The first column at which the fraction of an entry of `rest` by the entry of `ray` is least, of those where that isn't 0.
+/// The first column, among the nonzero ones of `ray`, at which the entry of `rest` divided by that of `ray` is least.
 fn least_column(rest: &[u128], ray: &[u128]) -> usize
     requires lengths { length rest.now ≡ length ray.now }
     requires nonzero { IsNonzero ray.now }
@@ -66,7 +66,8 @@ fn least_column(rest: &[u128], ray: &[u128]) -> usize
     least
 }
 
-/// The least of the fractions of an entry of `rest` by the entry of `ray`, in lowest terms.
+/// The least quotient of an entry of `rest` by the nonzero entry of `ray` in its column, in lowest terms. `ray` is not
+/// 0.
 pub fn least_fraction(rest: &[u128], ray: &[u128]) -> Fraction
     requires lengths { length rest.now ≡ length ray.now }
     requires nonzero { IsNonzero ray.now }
@@ -80,7 +81,7 @@ pub fn least_fraction(rest: &[u128], ray: &[u128]) -> Fraction
     }
 }
 
-/// The least of these fractions, where the support of `ray` lies in that of `rest`.
+/// As `least_fraction`, or `None` if the support of `ray` does not lie in that of `rest`.
 pub fn fraction_inside(rest: &[u128], ray: &[u128]) -> Option<Fraction>
     requires lengths { length rest.now ≡ length ray.now }
     requires nonzero { IsNonzero ray.now }

@@ -1,4 +1,4 @@
-//! A solution as a sum of listed rays, and the test of such a sum.
+//! Writes a solution as a sum of listed rays, and tests such a sum.
 #![tactic(auto)]
 
 mod adding;

@@ -1,8 +1,8 @@
-// Products within a limit.
+//! Products within a limit.
 
 ghost use Rattle.std.specs.Prelude.{◌≡◌, ◌*◌, ◌<◌, ◌≤◌, IfSome, IfNone, OnSome};
 
-/// The product, where it is within the limit.
+/// `a * b`, or `None` if it exceeds `limit`.
 pub fn product_within(a: u128, b: u128, limit: u128) -> Option<u128>
     ensures some { IfSome result (λ product. product ≡ a * b) }
     ensures within { OnSome result (a * b ≤ limit) }

@@ -1,4 +1,4 @@
-// A ray taken out of what is left.
+//! Subtracts a ray from the remainder.
 
 ghost use Rattle.std.specs.Prelude.{◌≡◌, ℕ, ◌*◌, ◌<◌, ◌≤◌, ◌^◌, [], ◌∷◌, ◌++◌, map, length, slice_index, OnOk};
 ghost use Rattle.std.specs.List.{All};
@@ -11,7 +11,7 @@ use cone_arithmetic::Ray;
 use no_memory::NoMemory;
 use std::alloc::Global;
 
-/// Takes each term so many times as often.
+/// Multiplies the count of each term by `times`.
 fn repeat(terms: &mut [Term], times: u128)
     requires { All (λ (term : Taken). times * term.count < 2 ^ 128) terms.old }
     ensures { terms.new ≡ map (repeated times) terms.old }
@@ -21,7 +21,7 @@ fn repeat(terms: &mut [Term], times: u128)
     }
 }
 
-/// Leaves of a vector, taken as often as the denominator says, what the ray doesn't have, taken as often as the numerator says.
+/// Replaces `rest` by the denominator times `rest` less the numerator times `ray`.
 fn take_out(rest: &mut [u128], fraction: Fraction, ray: &[u128])
     requires lengths { length ray.now ≡ length rest.old }
     requires fits { (column : ℕ) → fraction.denominator * slice_index rest.old column < 2 ^ 128 }
@@ -33,7 +33,8 @@ fn take_out(rest: &mut [u128], fraction: Fraction, ray: &[u128])
     }
 }
 
-/// Takes a ray out of what is left, and appends it to the terms. All else is taken as often as the denominator says.
+/// Replaces `rest` by the denominator of `fraction` times `rest` less the numerator times `ray`, multiplies the counts
+/// of `terms` by the denominator, and appends `ray` to them, taken numerator times.
 pub fn take_ray(
     alloc: Global,
     fraction: Fraction,

@@ -1,4 +1,4 @@
-// The step of an enumeration at which a number passes the limit.
+//! Writes the step of an enumeration at which a number exceeds the limit.
 ghost use Rattle.std.specs.Prelude.{◌≡◌, ◌++◌, ◌<◌, length, IfOk, OnOk};
 ghost use Rattle.outcome_definitions.specs.Enumerations.{large_outcome, kind_text};
 
@@ -10,7 +10,7 @@ use std::alloc::Global;
 use text_io::{append, append_decimal};
 use vector_text::write_entries;
 
-// A ray or a pair of rays.
+/// Appends a ray or a pair of rays.
 fn append_kind(alloc: Global, text: &mut Vec<u8>, kind: &LargeKind) -> Result<(), NoMemory>
     ensures { OnOk result (text.new.items ≡ text.old.items ++ kind_text kind.now) }
 {
@@ -28,7 +28,8 @@ fn append_kind(alloc: Global, text: &mut Vec<u8>, kind: &LargeKind) -> Result<()
     }
 }
 
-/// The step, counted from 0, its row's number, and the ray or the pair at which a number passes the limit.
+/// The outcome `large`, if a number exceeds the limit at a step: the step, counted from 0, the last row of `order`, and
+/// the ray or pair of rays in `kind`.
 pub fn large_outcome(alloc: Global, order: &[u32], kind: &LargeKind) -> Result<Outcome, NoMemory>
     requires { 0 < length order.now }
     ensures { IfOk result (λ o. o ≡ large_outcome order.now kind.now) }

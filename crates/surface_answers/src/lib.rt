@@ -1,4 +1,5 @@
-//! What the commands on surfaces share: the verdict on a vector, and the step at which an enumeration's number passes the limit.
+//! What the commands on surfaces share: the check of a vector, and the refusal if a number of an enumeration exceeds
+//! the limit.
 #![tactic(auto)]
 
 mod checks;

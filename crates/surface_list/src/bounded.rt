@@ -1,4 +1,4 @@
-// Whether the numbers of an enumeration are within a limit, by the number of tetrahedra or by the very equations.
+//! Decides beforehand whether all numbers of an enumeration of vertex surfaces are within a limit.
 
 ghost use Rattle.std.specs.Prelude.{◌≡◌, IsTrue, IsFalse, IfOk};
 ghost use Rattle.surface_definitions.specs.Coordinates as coordinates;
@@ -11,8 +11,8 @@ use no_memory::NoMemory;
 use number_bounds::triples_fit;
 use std::alloc::Global;
 
-/// Whether all numbers are within the limit: where the bound on so many tetrahedra is, or, in quad coordinates, what the
-/// sums of squares of the equations lead to.
+/// Whether no number of an enumeration of the vertex surfaces of `tets` tetrahedra can exceed `limit`, as far as the
+/// bound by `tets` shows it, or in quad coordinates the sums of squares of the equations `system`.
 pub fn are_numbers_bounded(
     alloc: Global,
     system: &System,

@@ -1,11 +1,11 @@
-//! Whether the numbers of an enumeration of a table's vertex surfaces are within a limit.
+//! The bound on the numbers of an enumeration by the number of tetrahedra.
 
 ghost use Rattle.std.specs.Prelude.{◌≡◌, ◌*◌, ◌^◌, ◌<◌, ◌≤◌, ◌↔◌, IsTrue, SomeIff};
 ghost use Rattle.surface_equation_laws.specs.Bounds as bounds;
 
 use matching_equations::Coords;
 
-/// What the bound multiplies the power of 16 by.
+/// The factor of 16^`tets` in the bound.
 fn factor(coords: Coords, tets: u32) -> u64
     ensures { result * 16 ^ tets ≡ bounds.number_bound coords tets }
 {
@@ -16,7 +16,7 @@ fn factor(coords: Coords, tets: u32) -> u64
     }
 }
 
-/// The bound on the numbers of so many tetrahedra, where it has 128 bits.
+/// The bound on the numbers of an enumeration for `tets` tetrahedra, or `None` if it does not fit in 128 bits.
 fn number_bound(coords: Coords, tets: u32) -> Option<u128>
     ensures { SomeIff result (bounds.number_bound coords tets < 2 ^ 128) (bounds.number_bound coords tets) }
 {
@@ -24,7 +24,7 @@ fn number_bound(coords: Coords, tets: u32) -> Option<u128>
     power.checked_mul(u128::from(factor(coords, tets)))
 }
 
-/// Whether the bound on the numbers of so many tetrahedra is within the limit.
+/// Whether the bound on the numbers of an enumeration for `tets` tetrahedra is at most `limit`.
 pub fn numbers_fit(coords: Coords, tets: u32, limit: u128) -> bool
     ensures { IsTrue result ↔ (bounds.number_bound coords tets ≤ limit) }
 {

@@ -1,4 +1,4 @@
-//! The vertex surfaces of a gluing table.
+//! All vertex normal surfaces of a gluing table, in standard, quad or octagon coordinates.
 #![tactic(auto)]
 
 mod bounded;

@@ -1,4 +1,4 @@
-//! All admissible vertex surfaces, by elimination of the equations.
+//! Lists all admissible vertex surfaces, by elimination of the equations.
 
 ghost use Rattle.std.specs.Prelude.{◌≡◌, ◌≤◌, length, IfOk, IfErr};
 ghost use Rattle.surface_definitions.specs.Coordinates as coordinates;
@@ -17,14 +17,14 @@ use normal_discs::{columns_each, is_quad_or_octagon};
 use quad_condition::MaskedClashes;
 use std::alloc::Global;
 
-/// Whether a column counts a triangle.
+/// Whether `column` counts triangles.
 fn is_triangle(coords: Coords, column: u32) -> bool
     ensures { result ≡ is_triangle coords column }
 {
     !is_quad_or_octagon(coords, column)
 }
 
-/// The triangle columns of a system, tetrahedron by tetrahedron.
+/// The triangle columns of `system`, by tetrahedron.
 fn triangles(alloc: Global, coords: Coords, system: &System) -> Result<Vec<u32>, NoMemory> {
     let mut pivots = Vec::new(alloc);
     for column in 0..system.columns() {
@@ -35,8 +35,9 @@ fn triangles(alloc: Global, coords: Coords, system: &System) -> Result<Vec<u32>,
     Ok(pivots)
 }
 
-/// The vertex surfaces of a table by its equations, strictly ascending, which are taken in a named order; refused exactly
-/// where a number of a step passes the limit (Haken 1961; Tollefson 1998; Burton 2010).
+/// The vertex surfaces of `table` by its equations `system` in the coordinates `coords`, in strictly ascending order,
+/// with the equations processed in the order `order` (Haken 1961; Tollefson 1998; Burton 2010). Fails with `LargeStep`
+/// at the first step at which a number exceeds `limit`.
 pub fn surfaces_by(
     alloc: Global,
     table: &Table,
@@ -63,7 +64,7 @@ pub fn surfaces_by(
     vertex_list(alloc, system, test, columns_each(coords), &pivots, terms)
 }
 
-/// The same, where the equations aren't made yet.
+/// As `surfaces_by`, but computes the equations of `table` itself.
 pub fn surfaces_of_table(
     alloc: Global,
     table: &Table,

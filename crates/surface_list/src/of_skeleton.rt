@@ -1,4 +1,4 @@
-//! The vertex surfaces of a table, by its skeleton.
+//! Lists the vertex surfaces of a table from its skeleton.
 
 ghost use Rattle.std.specs.Prelude.{◌≢◌, ◌≤◌, IfOk, IfErr};
 ghost use Rattle.surface_list.specs.Surfaces.{AreTableSurfaces, IsTableRefused};
@@ -10,8 +10,9 @@ use matching_equations::{Coords, equations};
 use skeleton::Skeleton;
 use std::alloc::Global;
 
-/// The vertex surfaces of a table, strictly ascending, by its equations taken in a named order; refused exactly where a
-/// number of a step passes the limit (Haken 1961; Tollefson 1998; Burton 2010).
+/// The vertex surfaces of the table of `skeleton` in the coordinates `coords`, in strictly ascending order, with its
+/// equations processed in the order `order`, which is not `Free` (Haken 1961; Tollefson 1998; Burton 2010). Fails with
+/// `LargeStep` at the first step at which a number exceeds `limit`.
 pub fn surfaces(
     alloc: Global,
     skeleton: &Skeleton,

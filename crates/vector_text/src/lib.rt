@@ -1,4 +1,4 @@
-//! Vectors and lists of rays as text.
+//! Writes vectors and lists of rays as text.
 #![tactic(auto)]
 
 mod text;

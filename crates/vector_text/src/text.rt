@@ -1,4 +1,4 @@
-// Vectors as text: a line `vec` with the entries for each.
+//! Vectors as text: a line for each, `vec` and its entries.
 
 ghost use Rattle.std.specs.Prelude.{◌≡◌, ◌<◌, ◌≤◌, ◌+◌, [], ◌∷◌, ◌++◌, decimal, drop, length, OnOk, OnErr, IfOk};
 ghost use Rattle.cone_text_definitions.specs.VectorText.{vector_text, entries_text, list_text};
@@ -9,7 +9,7 @@ use no_memory::NoMemory;
 use std::alloc::Global;
 use text_io::{append, append_decimal};
 
-/// Appends the digits of an entry after a space. Most entries are below 10, and their one digit is appended as it is.
+/// Appends a space and the digits of `entry`. Most entries are below 10, so that case comes first.
 fn push_entry(alloc: Global, text: &mut Vec<u8>, entry: u128) -> Result<(), NoMemory>
     ensures { OnOk result (text.new.items ≡ text.old.items ++ 32 ∷ decimal entry) }
 {
@@ -21,7 +21,7 @@ fn push_entry(alloc: Global, text: &mut Vec<u8>, entry: u128) -> Result<(), NoMe
     }
 }
 
-/// Appends entries one by one, each after a space.
+/// Appends the entries of `x` one by one, each after a space.
 fn push_each(alloc: Global, text: &mut Vec<u8>, x: &[u128]) -> Result<(), NoMemory>
     ensures { OnOk result (text.new.items ≡ text.old.items ++ entries_text x.now) }
 {
@@ -51,7 +51,8 @@ fn push_digits(text: &mut Vec<u8>, a: u8, b: u8, c: u8, d: u8) -> Result<(), NoM
     )
 }
 
-/// Appends the four entries from a column on, each after a space; at once where each has one digit, as most have.
+/// Appends the four entries of `x` from `column` on, each after a space; with one call if all have one digit, as most
+/// do.
 fn push_four(alloc: Global, text: &mut Vec<u8>, x: &[u128], column: usize) -> Result<(), NoMemory>
     requires { column + 4 ≤ length x.now }
     ensures { OnOk result (text.new.items ≡ text.old.items ++ entries_text (four_from x.now column)) }
@@ -69,7 +70,7 @@ fn push_four(alloc: Global, text: &mut Vec<u8>, x: &[u128], column: usize) -> Re
     push_entry(alloc, text, d)
 }
 
-/// Appends the entries, each after a space.
+/// Appends the entries of `x`, each after a space.
 fn push_entries(alloc: Global, text: &mut Vec<u8>, x: &[u128]) -> Result<(), NoMemory>
     ensures { OnOk result (text.new.items ≡ text.old.items ++ entries_text x.now) }
 {
@@ -81,7 +82,7 @@ fn push_entries(alloc: Global, text: &mut Vec<u8>, x: &[u128]) -> Result<(), NoM
     push_each(alloc, text, &x[column..])
 }
 
-/// Appends the entries, each after a space. Without memory nothing is appended.
+/// Appends the entries of `ray`, each after a space. If memory runs out `out` is unchanged.
 pub fn write_entries(alloc: Global, ray: &Ray, out: &mut Vec<u8>) -> Result<(), NoMemory>
     ensures ok { OnOk result (out.new.items ≡ out.old.items ++ entries_text ray.now) }
     ensures err { OnErr result (out.new.items ≡ out.old.items) }
@@ -91,7 +92,7 @@ pub fn write_entries(alloc: Global, ray: &Ray, out: &mut Vec<u8>) -> Result<(), 
     append(out, &text)
 }
 
-/// Appends the line of a vector.
+/// Appends the line of the vector `x`.
 fn push_line(alloc: Global, text: &mut Vec<u8>, x: &[u128]) -> Result<(), NoMemory>
     ensures { OnOk result (text.new.items ≡ text.old.items ++ vector_text x.now) }
 {
@@ -101,7 +102,7 @@ fn push_line(alloc: Global, text: &mut Vec<u8>, x: &[u128]) -> Result<(), NoMemo
     Ok(())
 }
 
-/// Appends the line `vec` with the entries of a vector. Without memory nothing is appended.
+/// Appends a line `vec` with the entries of `x`. If memory runs out `out` is unchanged.
 pub fn write_vector(alloc: Global, x: &[u128], out: &mut Vec<u8>) -> Result<(), NoMemory>
     ensures ok { OnOk result (out.new.items ≡ out.old.items ++ vector_text x.now) }
     ensures err { OnErr result (out.new.items ≡ out.old.items) }
@@ -111,7 +112,7 @@ pub fn write_vector(alloc: Global, x: &[u128], out: &mut Vec<u8>) -> Result<(), 
     append(out, &text)
 }
 
-/// How many bytes the lines of rays have at least.
+/// A lower bound on the number of bytes of the lines of `list`.
 fn least_bytes(list: &[Ray]) -> usize {
     match list.first() {
         Some(ray) => {
@@ -122,7 +123,7 @@ fn least_bytes(list: &[Ray]) -> usize {
     }
 }
 
-/// A text, and the lines of all rays behind it.
+/// A copy of `front`, followed by the lines of `list`.
 fn lines_behind(alloc: Global, front: &[u8], list: &[Ray]) -> Result<Vec<u8>, NoMemory>
     ensures { IfOk result (λ text. text.items ≡ front.now ++ list_text list.now) }
 {
@@ -134,12 +135,12 @@ fn lines_behind(alloc: Global, front: &[u8], list: &[Ray]) -> Result<Vec<u8>, No
     Ok(text)
 }
 
-/// Appends a line `vec` with the entries for each ray. Without memory nothing is appended.
+/// Appends a line `vec` with the entries of each ray of `list`. If memory runs out `out` is unchanged.
 pub fn write_list(alloc: Global, list: &[Ray], out: &mut Vec<u8>) -> Result<(), NoMemory>
     ensures ok { OnOk result (out.new.items ≡ out.old.items ++ list_text list.now) }
     ensures err { OnErr result (out.new.items ≡ out.old.items) }
 {
-    // The lines are far longer than what stands before them, so that is copied and not they.
+    // the lines are far longer than the text before them, so that text is copied
     *out = lines_behind(alloc, out, list)?;
     Ok(())
 }
