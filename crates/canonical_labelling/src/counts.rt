@@ -1,4 +1,4 @@
-//! Counts by which tables that are not isomorphic are told apart before any walk.
+//! Counts that differ only between tables that are not isomorphic, compared before any traversal.
 
 ghost use Rattle.std.specs.Prelude.{◌≡◌, ◌<◌, ◌*◌, length};
 ghost use Rattle.table_definitions.specs.Places as places;
@@ -19,7 +19,7 @@ fn is_boundary(table: &Table, place: u32) -> bool
     table.glue(face).is_none()
 }
 
-/// The number of boundary faces.
+/// The number of boundary faces of `table`.
 pub fn boundary_count(table: &Table) -> u32
     ensures { result ≡ counts.boundary_count table.now }
 {

@@ -1,4 +1,4 @@
-//! Starts of a table that need no walk, since automorphisms carry walked starts to them.
+//! Starts of a table whose traversal is not needed, since automorphisms carry traversed starts to them.
 
 ghost use Rattle.std.specs.Prelude.{◌≡◌, ◌<◌, ◌≤◌, ◌*◌, ◌++◌, ◌∷◌, [], true, false, replicate, length, slice_set, IfOk, OnOk};
 ghost use Rattle.std.specs.List.{slice_index_or};
@@ -33,7 +33,7 @@ pub fn no_orbits(alloc: Global, count: u32) -> Result<Orbits, AllocError>
     })
 }
 
-/// The number of the start to which `by` carries the start of `number`.
+/// The number of the start to which `by` carries the start with number `number`.
 fn carried_number(by: &Relabelling, number: u32) -> u32
     requires in_range { number < 24 * length by.now.images }
     requires few { length by.now.images ≤ max_tets }
@@ -45,7 +45,7 @@ fn carried_number(by: &Relabelling, number: u32) -> u32
     24 * by.image(start.tet) + u32::from(perm.index())
 }
 
-/// Marks the start of `number`.
+/// Marks the start with number `number`.
 fn mark(orbits: &mut Orbits, number: u32) -> Result<(), AllocError>
     requires orbits { AreOrbits orbits.old }
     requires in_range { number < length orbits.old.marked.items }
@@ -110,7 +110,7 @@ fn close(orbits: &mut Orbits, first: usize) -> Result<(), AllocError>
     Ok(())
 }
 
-/// Marks the start of `number` and the starts to which products of the automorphisms carry it.
+/// Marks the start with number `number` and the starts to which products of the automorphisms carry it.
 pub fn mark_orbit(orbits: &mut Orbits, number: u32) -> Result<(), AllocError>
     requires orbits { AreOrbits orbits.old }
     requires in_range { number < length orbits.old.marked.items }
@@ -124,7 +124,7 @@ pub fn mark_orbit(orbits: &mut Orbits, number: u32) -> Result<(), AllocError>
     close(orbits, first)
 }
 
-/// Adds an automorphism, and marks the starts to which products of the automorphisms carry the marked ones.
+/// Adds the automorphism `by`, and marks the starts to which products of the automorphisms carry the marked ones.
 pub fn add_automorphism(orbits: &mut Orbits, by: Relabelling) -> Result<(), AllocError>
     requires orbits { AreOrbits orbits.old }
     requires size { 24 * length by.images ≡ length orbits.old.marked.items }

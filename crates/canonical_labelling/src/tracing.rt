@@ -1,4 +1,4 @@
-//! Canonical traversals that are compared with a table while they are made, and end at the first face that differs.
+//! Compares canonical traversals with a table while they are made, and stops at the first face that differs.
 
 ghost use Rattle.std.specs.Prelude.{◌≡◌, ◌<◌, ◌≤◌, ◌+◌, ◌*◌, ◌/◌, ◌∷◌, [], true, ℕ, length, IfOk, OnOk};
 ghost use Rattle.table_definitions.specs.Permutation as permutations;
@@ -45,7 +45,8 @@ fn is_visited(trace: &Trace, tet: u32) -> bool
     trace.order[number].tet == tet
 }
 
-/// Whether the gluing `glue` of the tetrahedron of `from` is mapped to `wanted`, which reaches the tetrahedron of `there`.
+/// Whether the gluing `glue` of the tetrahedron of `from` is mapped to `wanted`, which reaches the tetrahedron of
+/// `there`.
 fn maps_to(from: Start, there: Start, glue: Glue, wanted: Glue) -> bool
     ensures { glue.tet ≡ there.tet → permutations.compose there.perm (permutations.compose glue.perm (permutations.inverse from.perm)) ≡ wanted.perm → result ≡ true }
 {
@@ -73,7 +74,8 @@ fn visit(trace: &mut Trace, from: Start, glue: Glue, wanted: Glue) -> Result<boo
     Ok(true)
 }
 
-/// Whether the gluing `glue` of the tetrahedron of `from` agrees with `wanted`. A gluing to the next tetrahedron visits it.
+/// Whether the gluing `glue` of the tetrahedron of `from` agrees with `wanted`. A gluing to the next tetrahedron visits
+/// it.
 fn agrees_glued(
     trace: &mut Trace,
     from: Start,

@@ -1,4 +1,4 @@
-// The command `bulk`: a table is made, its certificate is checked, and its surfaces are summed up.
+//! The command `bulk`: makes a table, checks its certificate, and counts its surfaces.
 ghost use Rattle.std.specs.Prelude.{◌-◌, ◌<◌, ◌≤◌, ◌^◌, length, IfOk};
 ghost use Rattle.command_definitions.specs.Requests.{most_moves};
 ghost use Rattle.move_definitions.specs.Certificates.{IsCertificate};
@@ -16,7 +16,7 @@ use std::alloc::Global;
 use surface_answers::large_outcome;
 use tri_build::Made;
 
-// Checks the certificate of a table that was made, which is one.
+/// Checks the certificate of `made`, which is one.
 fn accept(alloc: Global, made: &Made) -> Result<(), NoMemory>
     requires few { length made.now.certificate.items < 2 ^ 32 - 1 }
     requires certified { IsCertificate made.now.table made.now.certificate.items }
@@ -28,7 +28,7 @@ fn accept(alloc: Global, made: &Made) -> Result<(), NoMemory>
     }
 }
 
-// What is answered of a table that was made.
+/// The outcome for the table that was made.
 fn outcome_of_making(alloc: Global, numbers: Numbers, table: &Table) -> Result<Outcome, NoMemory>
     ensures { IfOk result (IsSummary numbers table.now) }
 {
@@ -45,8 +45,9 @@ fn outcome_of_making(alloc: Global, numbers: Numbers, table: &Table) -> Result<O
     }
 }
 
-/// The outcome of `bulk`: a table is made by up to so many moves from a seed, its certificate is accepted, and its vertex
-/// surfaces in standard coordinates are summed up; or a number passes the limit while they are listed.
+/// The outcome of `bulk`: a table is made from `seed` by up to `moves` moves, its certificate is checked, and its
+/// vertex surfaces in standard coordinates are counted. It is `large` if a number of their enumeration exceeds 2^127 -
+/// 1.
 pub fn bulk(alloc: Global, seed: u64, moves: u32) -> Result<Outcome, NoMemory>
     requires { moves ≤ most_moves }
     ensures { IfOk result (IsBulkAnswer seed moves) }

@@ -1,4 +1,4 @@
-// The command `check`: whether moves certify a table as a triangulated 3-sphere.
+//! The command `check`: whether moves certify that a table is a 3-sphere.
 ghost use Rattle.std.specs.Prelude.{◌<◌, ◌≤◌, ◌-◌, ◌^◌, length, IfOk};
 ghost use Rattle.text_definitions.specs.Text.{max_text};
 ghost use Rattle.text_document_definitions.specs.Documents.{moves_document};
@@ -14,7 +14,7 @@ use pachner_moves::Move;
 use sphere_certificate::check_owned;
 use std::alloc::Global;
 
-// The answer to a table and moves.
+/// The outcome for `table` and `moves`.
 fn answer(alloc: Global, table: Table, moves: &[Move]) -> Result<Outcome, NoMemory>
     requires few { length moves.now < 2 ^ 32 - 1 }
     ensures { IfOk result (IsCheckAnswer (table, moves.now)) }
@@ -26,7 +26,8 @@ fn answer(alloc: Global, table: Table, moves: &[Move]) -> Result<Outcome, NoMemo
     }
 }
 
-/// The outcome of `check` on an input that isn't too long.
+/// The outcome of `check` for the input `bytes`, a table and moves: `accepted` if the moves certify that the table is a
+/// 3-sphere, otherwise a refusal.
 pub fn check(alloc: Global, bytes: &[u8]) -> Result<Outcome, NoMemory>
     requires { length bytes.now ≤ max_text }
     ensures answer { IfOk result (IsReadOutcome (moves_document bytes.now) IsCheckAnswer) }

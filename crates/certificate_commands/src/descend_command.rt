@@ -1,4 +1,4 @@
-// The command `descend`: the moves of a table's descent, and the table at which it ends.
+//! The command `descend`: the simplifying moves of a table, and the table at which they end.
 ghost use Rattle.std.specs.Prelude.{◌≡◌, ◌≤◌, ◌++◌, length, decimal, Ok, IfOk, OnOk};
 ghost use Rattle.text_definitions.specs.Text.{max_text};
 ghost use Rattle.text_document_definitions.specs.Documents.{table_document};
@@ -16,14 +16,14 @@ use sphere_certificate::{Descent, descend as descend_from};
 use std::alloc::Global;
 use text_io::{append, append_decimal};
 
-// Whether the standard sphere was reached.
+/// The word for whether the standard sphere was reached.
 fn descent_word(reached: bool) -> &'static [u8]
     ensures { result.now ≡ certificates.descent_word reached }
 {
     if reached { b"reached " } else { b"stuck " }
 }
 
-// Whether the standard sphere was reached, and the number of moves.
+/// Appends the line of whether the standard sphere was reached, with the number of moves.
 fn append_head(
     alloc: Global,
     out: &mut Vec<u8>,
@@ -38,7 +38,7 @@ fn append_head(
     Ok(())
 }
 
-// What is answered of a descent.
+/// The text of a descent.
 #[tactic(auto, unfolding(outcome_definitions::specs::Certificates::moves_text))]
 fn descent_text(alloc: Global, descent: &Descent) -> Result<Vec<u8>, NoMemory>
     ensures { IfOk result (λ text. text.items ≡ certificates.descent_text (record { reached = descent.now.reached; moves = descent.now.moves.items; table = descent.now.table })) }
@@ -50,7 +50,7 @@ fn descent_text(alloc: Global, descent: &Descent) -> Result<Vec<u8>, NoMemory>
     Ok(text)
 }
 
-// The outcome of a descent.
+/// The outcome of a descent.
 fn outcome_of(alloc: Global, descent: &Descent) -> Result<Outcome, NoMemory>
     ensures { IfOk result (λ o. o ≡ certificates.descend_outcome (Ok (record { reached = descent.now.reached; moves = descent.now.moves.items; table = descent.now.table }))) }
 {
@@ -58,7 +58,7 @@ fn outcome_of(alloc: Global, descent: &Descent) -> Result<Outcome, NoMemory>
     Ok(Outcome::with_text(Status::Done, text))
 }
 
-// The answer to a table.
+/// The outcome for `table`.
 fn answer(alloc: Global, table: &Table) -> Result<Outcome, NoMemory>
     ensures { IfOk result (IsDescendAnswer table.now) }
 {
@@ -69,7 +69,8 @@ fn answer(alloc: Global, table: &Table) -> Result<Outcome, NoMemory>
     }
 }
 
-/// The outcome of `descend` on an input that isn't too long.
+/// The outcome of `descend` for the input `bytes`, a table: whether simplifying moves reach the standard sphere, the
+/// moves, and the last table; or a refusal.
 pub fn descend(alloc: Global, bytes: &[u8]) -> Result<Outcome, NoMemory>
     requires { length bytes.now ≤ max_text }
     ensures answer { IfOk result (IsReadOutcome (table_document bytes.now) IsDescendAnswer) }

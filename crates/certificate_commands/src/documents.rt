@@ -1,4 +1,4 @@
-// The document of a table and moves.
+//! Reads the document of a table and moves.
 ghost use Rattle.std.specs.Prelude.{◌≤◌, length};
 ghost use Rattle.text_definitions.specs.Text.{max_text};
 ghost use Rattle.text_document_definitions.specs.Documents.{moves_document};
@@ -12,14 +12,15 @@ use signature_codec::InputFault;
 use std::alloc::Global;
 use text_io::Lexer;
 
-/// A table, and moves.
+/// A table and moves.
 #[derive(Drop)]
 pub struct TableAndMoves {
     pub table: Table,
     pub moves: Vec<Move>,
 }
 
-/// The document of a table and moves.
+/// Reads `bytes` as a table and a move on each further line. Fails with the first error of the table, then of the
+/// moves.
 #[tactic(auto, unfolding(text_document_definitions::specs::Documents::table_and_lines))]
 pub fn read_table_and_moves(alloc: Global, bytes: &[u8]) -> Result<TableAndMoves, InputFault>
     requires { length bytes.now ≤ max_text }

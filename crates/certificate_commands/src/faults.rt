@@ -1,4 +1,4 @@
-// The one line of each refused check.
+//! Writes the one line for moves that are no certificate.
 ghost use Rattle.std.specs.Prelude.{◌≡◌, Err, IfOk};
 ghost use Rattle.certificate_definitions.specs.declared.CheckFault.TheVariants as check_faults;
 ghost use Rattle.outcome_definitions.specs.Certificates.{check_line, check_outcome};
@@ -13,7 +13,7 @@ use sphere_certificate::CheckFault;
 use std::alloc::Global;
 use text_io::{append, append_decimal};
 
-// The move that is refused first, and why.
+/// The outcome if move `step` is the first that is not possible, by `fault`.
 #[tactic(auto, unfolding(outcome_definitions::specs::Certificates::check_line))]
 fn illegal_outcome(alloc: Global, step: u32, fault: MoveFault) -> Result<Outcome, NoMemory>
     ensures { IfOk result (λ o. o ≡ check_outcome (Err (check_faults.Illegal step fault))) }
@@ -27,7 +27,7 @@ fn illegal_outcome(alloc: Global, step: u32, fault: MoveFault) -> Result<Outcome
     Ok(Outcome::with_text(Status::Refused, text))
 }
 
-// The signature of the last table, which isn't that of the standard sphere.
+/// The outcome if the last table has the signature `signature`, which is not that of the standard sphere.
 #[tactic(auto, unfolding(outcome_definitions::specs::Certificates::check_line))]
 fn not_standard_outcome(alloc: Global, signature: &[u8]) -> Result<Outcome, NoMemory>
     ensures { IfOk result (λ o. o ≡ check_outcome (Err (check_faults.NotStandard signature.now))) }
@@ -39,7 +39,7 @@ fn not_standard_outcome(alloc: Global, signature: &[u8]) -> Result<Outcome, NoMe
     Ok(Outcome::with_text(Status::Refused, text))
 }
 
-// The last table isn't connected.
+/// The outcome if the last table is disconnected.
 #[tactic(auto, unfolding(outcome_definitions::specs::Certificates::check_line))]
 fn loose_outcome(alloc: Global, tet: u32) -> Result<Outcome, NoMemory>
     ensures { IfOk result (λ o. o ≡ check_outcome (Err (check_faults.NotConnected tet))) }
@@ -47,7 +47,7 @@ fn loose_outcome(alloc: Global, tet: u32) -> Result<Outcome, NoMemory>
     not_connected_outcome(alloc, 0, tet)
 }
 
-/// The outcome where moves are no certificate.
+/// The outcome if moves are no certificate, by `fault`.
 pub fn refused_outcome(alloc: Global, fault: CheckFault) -> Result<Outcome, NoMemory>
     ensures { IfOk result (λ o. o ≡ check_outcome (Err (told fault))) }
 {

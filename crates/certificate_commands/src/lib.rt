@@ -1,5 +1,5 @@
-//! The commands `check`, `descend`, `make` and `bulk`: whether moves certify a table as a sphere, the moves of a table's
-//! descent, and spheres that are made, each with its certificate or the numbers of its list.
+//! The commands `check`, `descend`, `make` and `bulk`, which check certificates of 3-spheres, simplify tables, and make
+//! 3-spheres with their certificates.
 #![tactic(auto)]
 
 mod bulk_command;

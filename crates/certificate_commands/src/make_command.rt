@@ -1,4 +1,4 @@
-// The command `make`: a table that is made, and its certificate.
+//! The command `make`: makes a table with its certificate.
 ghost use Rattle.std.specs.Prelude.{◌≡◌, IfOk};
 ghost use Rattle.outcome_definitions.specs.Certificates.{moves_behind};
 ghost use Rattle.outcome_definitions.specs.Makings.{IsMakeAnswer};
@@ -11,7 +11,7 @@ use outcome_definitions::Status;
 use std::alloc::Global;
 use tri_build::Made;
 
-// The table, and the moves of its certificate.
+/// The text of a table and the moves of its certificate.
 #[tactic(auto, unfolding(outcome_definitions::specs::Certificates::moves_text))]
 fn text_of(alloc: Global, made: &Made) -> Result<Vec<u8>, NoMemory>
     ensures { IfOk result (λ text. text.items ≡ moves_behind made.now.table made.now.certificate.items) }
@@ -22,7 +22,7 @@ fn text_of(alloc: Global, made: &Made) -> Result<Vec<u8>, NoMemory>
     Ok(text)
 }
 
-/// The outcome of `make`: the table that is made by up to so many moves from a seed, and the moves of its certificate.
+/// The outcome of `make`: the table made from `seed` by up to `moves` moves, and the moves of its certificate.
 pub fn make(alloc: Global, seed: u64, moves: u32) -> Result<Outcome, NoMemory>
     ensures { IfOk result (IsMakeAnswer seed moves) }
 {

@@ -1,4 +1,4 @@
-// What is answered of a list of surfaces.
+//! Writes the counts of a list of surfaces.
 ghost use Rattle.std.specs.Prelude.{◌≡◌, ℕ, count_by, IfOk};
 ghost use Rattle.surface_definitions.specs.declared.Coords.TheVariants.{Standard};
 ghost use Rattle.surface_definitions.specs.Characteristic as characteristic;
@@ -14,7 +14,7 @@ use std::marker::Model;
 use surface_definitions::Coords;
 use surface_properties::is_linking;
 
-// The greater of a number and all of these entries.
+/// The greatest of `least` and `entries`.
 fn greater_of(least: u128, entries: &[u128]) -> u128
     ensures { IsGreatestOf least entries.now result }
 {
@@ -25,7 +25,7 @@ fn greater_of(least: u128, entries: &[u128]) -> u128
     greatest
 }
 
-/// The greatest entry of vectors, 0 where there are none.
+/// The greatest entry of the vectors in `list`, or 0 if there is none.
 pub fn greatest_entry(list: &[Ray]) -> u128
     ensures { IsGreatestEntry list.now result }
 {
@@ -36,7 +36,7 @@ pub fn greatest_entry(list: &[Ray]) -> u128
     greatest
 }
 
-/// The number of surfaces without quads.
+/// The number of surfaces in `list` without quads.
 pub fn linking_count(list: &[Ray]) -> u64
     ensures { result ≡ count_by (characteristic.is_linking Standard) list.now }
 {
@@ -49,7 +49,8 @@ pub fn linking_count(list: &[Ray]) -> u64
     count
 }
 
-/// The numbers of a table that was made: its seed, the moves of its certificate, and its tetrahedra.
+/// The numbers of a table that was made: its seed, the number of moves of its certificate, and its number of
+/// tetrahedra.
 #[derive(Clone, Copy)]
 pub struct Numbers {
     pub seed: u64,
@@ -67,7 +68,7 @@ impl Model for Numbers {
     ghost inverse = { λ n. record { seed = n.seed; moves = n.moves; tetrahedra = n.tetrahedra } };
 }
 
-// The numbers of a table that was made, and what is answered of its surfaces.
+/// The text of `bulk`: the numbers of the table, and the counts of its surfaces.
 fn summary_text(alloc: Global, numbers: Numbers, list: &[Ray]) -> Result<Vec<u8>, NoMemory>
     ensures { IfOk result (λ text. (greatest : ℕ) × IsGreatestEntry list.now greatest × (text.items ≡ summary_text numbers list.now greatest)) }
 {
@@ -93,7 +94,7 @@ fn summary_text(alloc: Global, numbers: Numbers, list: &[Ray]) -> Result<Vec<u8>
     Ok(text)
 }
 
-/// What is answered of a table that was made and of its surfaces.
+/// The outcome of `bulk` for a table with the numbers `numbers` and the vertex surfaces `list`.
 pub fn summary_outcome(alloc: Global, numbers: Numbers, list: &[Ray]) -> Result<Outcome, NoMemory>
     ensures { IfOk result (λ o. (greatest : ℕ) × IsGreatestEntry list.now greatest × (o ≡ summary_outcome numbers list.now greatest)) }
 {

@@ -16,7 +16,7 @@ use skeleton::Skeleton;
 use std::alloc::Global;
 use text_io::append;
 
-/// The cover as the answer.
+/// The outcome for a cover.
 fn outcome_of(alloc: Global, cover: &Cover) -> Result<Outcome, NoMemory>
     ensures { IfOk result (IsCoverAnswered cover.now) }
 {
@@ -25,7 +25,7 @@ fn outcome_of(alloc: Global, cover: &Cover) -> Result<Outcome, NoMemory>
     Ok(Outcome::with_text(Status::Done, text))
 }
 
-/// The cover would have too many tetrahedra.
+/// The outcome if the cover would have too many tetrahedra.
 #[tactic(auto, unfolding(outcome_definitions::specs::Covers::large_cover_line))]
 fn too_many(alloc: Global) -> Result<Outcome, NoMemory>
     ensures { IfOk result (λ o. o ≡ large_cover_outcome) }
@@ -35,7 +35,7 @@ fn too_many(alloc: Global) -> Result<Outcome, NoMemory>
     Ok(Outcome::with_text(Status::Refused, text))
 }
 
-/// The answer to a table, by its skeleton.
+/// The outcome for the table of `skeleton`.
 fn answer_by_skeleton(alloc: Global, skeleton: &Skeleton) -> Result<Outcome, NoMemory>
     ensures { IfOk result (IsCoverAnswer skeleton.now.rows) }
 {
@@ -46,7 +46,7 @@ fn answer_by_skeleton(alloc: Global, skeleton: &Skeleton) -> Result<Outcome, NoM
     }
 }
 
-/// The answer to a table.
+/// The outcome for `table`.
 fn answer(alloc: Global, table: &Table) -> Result<Outcome, NoMemory>
     ensures { IfOk result (IsCoverAnswer table.now) }
 {
@@ -54,7 +54,7 @@ fn answer(alloc: Global, table: &Table) -> Result<Outcome, NoMemory>
     answer_by_skeleton(alloc, &skeleton)
 }
 
-/// The outcome of `cover` on an input that isn't too long.
+/// The outcome of `cover` for the input `bytes`, a table: its orientable double cover, or a refusal.
 pub fn cover(alloc: Global, bytes: &[u8]) -> Result<Outcome, NoMemory>
     requires { length bytes.now ≤ max_text }
     ensures { IfOk result (IsReadOutcome (table_document bytes.now) IsCoverAnswer) }

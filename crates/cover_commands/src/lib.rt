@@ -1,4 +1,5 @@
-//! The commands `cover` and `pi1`: the orientable double cover of a table, and its generators and relators.
+//! The commands `cover` and `pi1`, for the orientable double cover of a table and the generators and relators of its
+//! group.
 #![tactic(auto)]
 
 mod cover_command;

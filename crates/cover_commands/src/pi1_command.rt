@@ -19,7 +19,7 @@ use outcome_definitions::Status;
 use skeleton::Skeleton;
 use std::alloc::Global;
 
-/// The presentation as the answer.
+/// The outcome for a presentation.
 fn outcome_of(alloc: Global, group: &Group) -> Result<Outcome, NoMemory>
     ensures { IfOk result (λ o. o ≡ done (presented.presentation_text group.now.presentation)) }
 {
@@ -27,7 +27,7 @@ fn outcome_of(alloc: Global, group: &Group) -> Result<Outcome, NoMemory>
     Ok(Outcome::with_text(Status::Done, text))
 }
 
-/// The answer to a table, by its skeleton.
+/// The outcome for the table of `skeleton`.
 fn answer_by(alloc: Global, skeleton: &Skeleton) -> Result<Outcome, NoMemory>
     requires { IsSkeleton skeleton.now }
     ensures { IfOk result (IsPresentationAnswer skeleton.now.rows) }
@@ -44,7 +44,7 @@ fn answer_by(alloc: Global, skeleton: &Skeleton) -> Result<Outcome, NoMemory>
     }
 }
 
-/// The outcome of `pi1` on an input that isn't too long.
+/// The outcome of `pi1` for the input `bytes`, a table: generators and relators of its group, or a refusal.
 pub fn pi1(alloc: Global, bytes: &[u8]) -> Result<Outcome, NoMemory>
     requires { length bytes.now ≤ max_text }
     ensures { IfOk result (IsReadOutcome (table_document bytes.now) IsPresentationAnswer) }

@@ -18,7 +18,7 @@ fn sign(inverse: bool) -> &'static [u8]
     if inverse { b" -" } else { b" " }
 }
 
-/// The line of the generator after these many others.
+/// Appends the line of the generator that `before` others precede.
 fn append_generator(
     alloc: Global,
     text: &mut Vec<u8>,
@@ -38,7 +38,7 @@ fn append_generator(
     Ok(())
 }
 
-/// The lines of the generators.
+/// Appends the lines of the generators.
 fn append_generators(alloc: Global, text: &mut Vec<u8>, group: &Group) -> Result<(), NoMemory>
     ensures { OnOk result (text.new.items ≡ text.old.items ++ classes_text (generator_text group.now.presentation) (length group.now.presentation.generators)) }
 {
@@ -55,7 +55,7 @@ fn append_generators(alloc: Global, text: &mut Vec<u8>, group: &Group) -> Result
     Ok(())
 }
 
-/// A letter.
+/// Appends a letter.
 fn append_letter(alloc: Global, text: &mut Vec<u8>, letter: Letter) -> Result<(), NoMemory>
     ensures { OnOk result (text.new.items ≡ text.old.items ++ letter_text letter) }
 {
@@ -64,7 +64,7 @@ fn append_letter(alloc: Global, text: &mut Vec<u8>, letter: Letter) -> Result<()
     Ok(())
 }
 
-/// The letters of a relator.
+/// Appends the letters of a relator.
 fn append_letters(alloc: Global, text: &mut Vec<u8>, letters: &[Letter]) -> Result<(), NoMemory>
     ensures { OnOk result (text.new.items ≡ text.old.items ++ flat_map letter_text letters.now) }
 {
@@ -74,7 +74,7 @@ fn append_letters(alloc: Global, text: &mut Vec<u8>, letters: &[Letter]) -> Resu
     Ok(())
 }
 
-/// The line of a relator.
+/// Appends the line of a relator.
 fn append_relator(
     alloc: Global,
     text: &mut Vec<u8>,
@@ -90,7 +90,7 @@ fn append_relator(
     Ok(())
 }
 
-/// The lines of the relators.
+/// Appends the lines of the relators.
 fn append_relators(alloc: Global, text: &mut Vec<u8>, group: &Group) -> Result<(), NoMemory>
     ensures { OnOk result (text.new.items ≡ text.old.items ++ classes_text (relator_text group.now.presentation) (length group.now.presentation.relators)) }
 {
@@ -100,7 +100,7 @@ fn append_relators(alloc: Global, text: &mut Vec<u8>, group: &Group) -> Result<(
     Ok(())
 }
 
-/// The text of `pi1`.
+/// The text of `pi1` for the presentation `group`.
 pub fn presentation_text(alloc: Global, group: &Group) -> Result<Vec<u8>, NoMemory>
     ensures { IfOk result (λ text. text.items ≡ presented.presentation_text group.now.presentation) }
 {

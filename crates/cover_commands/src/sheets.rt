@@ -12,7 +12,7 @@ use no_memory::NoMemory;
 use std::alloc::Global;
 use text_io::{append, append_decimal};
 
-/// The line of a tetrahedron of the cover.
+/// Appends the line of tetrahedron `tet` of the cover.
 fn append_sheet(alloc: Global, text: &mut Vec<u8>, cover: &Cover, tet: u32) -> Result<(), NoMemory>
     requires { tet < 2 * length cover.now }
     ensures { OnOk result (text.new.items ≡ text.old.items ++ sheet_line (length cover.now) tet) }
@@ -27,7 +27,7 @@ fn append_sheet(alloc: Global, text: &mut Vec<u8>, cover: &Cover, tet: u32) -> R
     Ok(())
 }
 
-/// The lines of the tetrahedra of the cover.
+/// Appends the lines of the tetrahedra of the cover.
 fn append_sheets(alloc: Global, text: &mut Vec<u8>, cover: &Cover) -> Result<(), NoMemory>
     ensures { OnOk result (text.new.items ≡ text.old.items ++ classes_text (sheet_line (length cover.now)) (2 * length cover.now)) }
 {
@@ -37,7 +37,7 @@ fn append_sheets(alloc: Global, text: &mut Vec<u8>, cover: &Cover) -> Result<(),
     Ok(())
 }
 
-/// The text of `cover`.
+/// The text of `cover` for `cover`, which is connected if `connected` is true.
 pub fn cover_text(alloc: Global, cover: &Cover, connected: bool) -> Result<Vec<u8>, NoMemory>
     ensures { IfOk result (λ text. text.items ≡ covers.cover_text cover.now connected) }
 {

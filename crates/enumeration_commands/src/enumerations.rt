@@ -1,4 +1,4 @@
-// The answers of the commands that list rays or surfaces.
+//! The outcomes of the commands that list rays or surfaces.
 ghost use Rattle.std.specs.Prelude.{◌≡◌, IfOk};
 ghost use Rattle.outcome_definitions.specs.Enumerations.{list_outcome};
 
@@ -10,7 +10,7 @@ use std::alloc::Global;
 use text_io::{append, append_decimal};
 use vector_text::write_list;
 
-/// The number of vectors, and a line for each.
+/// The outcome of a list: a line `#` with `name` and the number of vectors, and a line for each vector of `list`.
 pub fn list_outcome(alloc: Global, name: &[u8], list: &[Ray]) -> Result<Outcome, NoMemory>
     ensures { IfOk result (λ o. o ≡ list_outcome name.now list.now) }
 {

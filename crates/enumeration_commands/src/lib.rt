@@ -1,4 +1,5 @@
-//! The commands `verify`, `surfaces` and `rays`: what the equations of a table, or the rows of a cone, decide.
+//! The commands `verify`, `surfaces` and `rays`, which check and list solutions of the equations of a table or of the
+//! rows of a cone.
 #![tactic(auto)]
 
 mod enumerations;

@@ -1,4 +1,4 @@
-// The command `rays`: all primitive extreme rays of a cone.
+//! The command `rays`: all primitive extreme rays of a cone.
 ghost use Rattle.std.specs.Prelude.{◌≢◌, ◌≤◌, length, codes, IfOk};
 ghost use Rattle.text_definitions.specs.Text.{max_text};
 ghost use Rattle.cone_definitions.specs.Listings.{without_pairs};
@@ -19,7 +19,7 @@ use std::alloc::Global;
 use surface_answers::large_outcome;
 use text_io::Lexer;
 
-// The document of a cone.
+/// Reads `bytes` as one cone.
 #[tactic(auto, unfolding(text_document_definitions::specs::Documents::cone_document))]
 fn read_cone_document(alloc: Global, bytes: &[u8]) -> Result<System, ConeFault>
     requires { length bytes.now ≤ max_text }
@@ -32,7 +32,7 @@ fn read_cone_document(alloc: Global, bytes: &[u8]) -> Result<System, ConeFault>
     Ok(system)
 }
 
-// The answer to a cone.
+/// The outcome for a cone.
 fn answer(
     alloc: Global,
     system: &System,
@@ -50,7 +50,9 @@ fn answer(
     }
 }
 
-/// The outcome of `rays` on an input that isn't too long.
+/// The outcome of `rays` for the input `bytes`, a cone: all its primitive extreme rays, its rows processed in the order
+/// `order`; or a refusal, `large` if a number of a step exceeds `limit`. `order` is not `Free`, and `limit` is 1 to
+/// 2^127 - 1.
 pub fn rays(alloc: Global, order: Order, limit: u128, bytes: &[u8]) -> Result<Outcome, NoMemory>
     requires size { length bytes.now ≤ max_text }
     requires named { order ≢ Order.Free }

@@ -1,4 +1,4 @@
-// The command `surfaces`: all vertex surfaces of a table.
+//! The command `surfaces`: all vertex surfaces of a table.
 ghost use Rattle.std.specs.Prelude.{◌≢◌, ◌≤◌, length, IfOk};
 ghost use Rattle.text_definitions.specs.Text.{max_text};
 ghost use Rattle.text_document_definitions.specs.Documents.{table_document};
@@ -15,7 +15,7 @@ use no_memory::{Failure, NoMemory};
 use std::alloc::Global;
 use surface_answers::large_outcome;
 
-// The answer to a table.
+/// The outcome for a table.
 fn answer(
     alloc: Global,
     table: &Table,
@@ -34,7 +34,9 @@ fn answer(
     }
 }
 
-/// The outcome of `surfaces` on an input that isn't too long.
+/// The outcome of `surfaces` for the input `bytes`, a table: all its vertex surfaces in the coordinates `coords`, its
+/// equations processed in the order `order`; or a refusal, `large` if a number of a step exceeds `limit`. `order` is
+/// not `Free`, and `limit` is 1 to 2^127 - 1.
 pub fn surfaces(
     alloc: Global,
     coords: Coords,

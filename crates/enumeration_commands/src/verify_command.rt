@@ -1,4 +1,4 @@
-// The command `verify`: a verdict for each vector.
+//! The command `verify`: a verdict on each vector.
 ghost use Rattle.std.specs.Prelude.{◌≡◌, ◌≤◌, ◌++◌, length, map, IfOk, OnOk};
 ghost use Rattle.text_definitions.specs.Text.{max_text};
 ghost use Rattle.surface_definitions.specs.Coordinates as coordinates;
@@ -18,7 +18,7 @@ use outcome_definitions::Status;
 use quad_condition::check_vector;
 use std::alloc::Global;
 
-// The line of the verdict on a vector.
+/// Appends the line of the verdict on `vector`.
 fn append_verdict(
     alloc: Global,
     out: &mut Vec<u8>,
@@ -34,7 +34,7 @@ fn append_verdict(
     append_checked(alloc, out, checked)
 }
 
-// The lines of the verdicts on vectors.
+/// The lines of the verdicts on `vectors`.
 fn verdicts(
     alloc: Global,
     coords: Coords,
@@ -52,7 +52,7 @@ fn verdicts(
     Ok(text)
 }
 
-// The answer to a table and vectors.
+/// The outcome for a table and vectors.
 fn answer(
     alloc: Global,
     coords: Coords,
@@ -66,7 +66,8 @@ fn answer(
     Ok(Outcome::with_text(Status::Done, text))
 }
 
-/// The outcome of `verify` on an input that isn't too long.
+/// The outcome of `verify` for the input `bytes`, a table and vectors: for each vector whether it is an admissible
+/// solution in the coordinates `coords`, or what fails first; or a refusal.
 pub fn verify(alloc: Global, coords: Coords, bytes: &[u8]) -> Result<Outcome, NoMemory>
     requires { length bytes.now ≤ max_text }
     ensures { IfOk result (IsReadOutcome (vectors_document bytes.now) (IsVerdictsAnswer coords)) }

@@ -1,4 +1,4 @@
-// The document of a table and steps.
+//! Reads the document of a table and steps.
 ghost use Rattle.std.specs.Prelude.{◌≤◌, length};
 ghost use Rattle.text_definitions.specs.Text.{max_text};
 ghost use Rattle.text_document_definitions.specs.Documents.{steps_document};
@@ -13,14 +13,15 @@ use signature_codec::InputFault;
 use std::alloc::Global;
 use text_io::Lexer;
 
-/// A table, and steps.
+/// A table and steps.
 #[derive(Drop)]
 pub struct TableAndSteps {
     pub table: Table,
     pub steps: Vec<Step>,
 }
 
-/// The document of a table and steps.
+/// Reads `bytes` as a table and a step on each further line. Fails with the first error of the table, then of the
+/// steps.
 #[tactic(auto, unfolding(text_document_definitions::specs::Documents::table_and_lines))]
 pub fn read_table_and_steps(alloc: Global, bytes: &[u8]) -> Result<TableAndSteps, InputFault>
     requires { length bytes.now ≤ max_text }

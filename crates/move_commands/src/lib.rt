@@ -1,4 +1,4 @@
-//! The command `play`: a script of moves on a table.
+//! The command `play`, which runs a script of moves on a table.
 #![tactic(auto)]
 
 mod documents;

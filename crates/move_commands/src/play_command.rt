@@ -1,4 +1,4 @@
-// The command `play`: a line for each step of a script, and the table then.
+//! The command `play`: a line for each step of a script, and the table at its end.
 ghost use Rattle.std.specs.Prelude.{◌≤◌, length, IfOk};
 ghost use Rattle.text_definitions.specs.Text.{max_text};
 ghost use Rattle.text_document_definitions.specs.Documents.{steps_document};
@@ -15,7 +15,7 @@ use no_memory::NoMemory;
 use outcome_definitions::Status;
 use std::alloc::Global;
 
-// The answer to a table and steps.
+/// The outcome for a table and steps.
 fn answer(alloc: Global, table: Table, steps: &[Step]) -> Result<Outcome, NoMemory>
     ensures { IfOk result (IsScriptAnswer (table, all_steps steps.now)) }
 {
@@ -25,7 +25,8 @@ fn answer(alloc: Global, table: Table, steps: &[Step]) -> Result<Outcome, NoMemo
     Ok(Outcome::with_text(Status::Done, text))
 }
 
-/// The outcome of `play` on an input that isn't too long.
+/// The outcome of `play` for the input `bytes`, a table and steps: a line for each step, and the table at the end; or a
+/// refusal.
 pub fn play(alloc: Global, bytes: &[u8]) -> Result<Outcome, NoMemory>
     requires { length bytes.now ≤ max_text }
     ensures { IfOk result (IsReadOutcome (steps_document bytes.now) IsScriptAnswer) }

@@ -1,4 +1,4 @@
-// The answers to the steps of a script.
+//! Runs the steps of a script.
 ghost use Rattle.std.specs.Prelude.{◌≡◌, ◌++◌, codes, IfOk, OnOk};
 ghost use Rattle.move_definitions.specs.MoveText as text;
 ghost use Rattle.move_definitions.specs.Sessions.{move_fault_text};
@@ -19,7 +19,7 @@ fn append_word(out: &mut Vec<u8>, word: &[u8]) -> Result<(), NoMemory>
     Ok(())
 }
 
-// The line of a refused move.
+/// Appends the line of an illegal move.
 fn append_illegal(alloc: Global, out: &mut Vec<u8>, fault: MoveFault) -> Result<(), NoMemory>
     ensures { OnOk result (out.new.items ≡ out.old.items ++ line (codes "illegal " ++ move_fault_text fault)) }
 {
@@ -29,7 +29,7 @@ fn append_illegal(alloc: Global, out: &mut Vec<u8>, fault: MoveFault) -> Result<
     Ok(())
 }
 
-// Plays a move, and writes the line of the answer.
+/// Plays a move, and appends the line of its result.
 fn play_move(
     alloc: Global,
     out: &mut Vec<u8>,
@@ -45,7 +45,7 @@ fn play_move(
     }
 }
 
-// Takes the last move back, and writes the line of the answer.
+/// Takes the last move back, and appends the line of the result.
 fn undo_move(out: &mut Vec<u8>, session: &mut Session) -> Result<(), NoMemory>
     ensures { OnOk result (Steps session.old text.undo session.new out.old.items out.new.items) }
 {
@@ -56,7 +56,7 @@ fn undo_move(out: &mut Vec<u8>, session: &mut Session) -> Result<(), NoMemory>
     }
 }
 
-// Plays a move once more, and writes the line of the answer.
+/// Plays again the last move taken back, and appends the line of the result.
 fn redo_move(out: &mut Vec<u8>, session: &mut Session) -> Result<(), NoMemory>
     ensures { OnOk result (Steps session.old text.redo session.new out.old.items out.new.items) }
 {
@@ -67,7 +67,7 @@ fn redo_move(out: &mut Vec<u8>, session: &mut Session) -> Result<(), NoMemory>
     }
 }
 
-// Takes a step, and writes the line of the answer.
+/// Runs a step, and appends the line of its result.
 fn take_step(
     alloc: Global,
     out: &mut Vec<u8>,
@@ -83,7 +83,7 @@ fn take_step(
     }
 }
 
-/// The lines of the answers to steps.
+/// Runs `steps` on `session`, and returns the lines of their results.
 pub fn take_steps(alloc: Global, session: &mut Session, steps: &[Step]) -> Result<Vec<u8>, NoMemory>
     ensures { IfOk result (λ text. Plays session.old (all_steps steps.now) session.new text.items) }
 {

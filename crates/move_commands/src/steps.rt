@@ -1,4 +1,4 @@
-// Steps from text.
+//! Reads steps from text.
 ghost use Rattle.move_definitions.specs.MoveText.{step_at};
 ghost use Rattle.text_document_definitions.specs.Documents.{each_line_from};
 ghost use Rattle.text_definitions.specs.Reading.{ReadsFrom};
@@ -10,7 +10,7 @@ use move_undo::{Step, read_step};
 use std::alloc::Global;
 use text_io::Lexer;
 
-/// The steps of all lines that are left.
+/// Reads a step from each line that is left. Fails at the first line on which `read_step` does.
 pub fn read_steps(alloc: Global, lexer: &mut Lexer<'_>) -> Result<Vec<Step>, TextFault>
     ensures { ReadsFrom TextFault.NoMemory steps_of result lexer.new (lexed (each_line_from step_at lexer.old.later lexer.old)) }
 {

@@ -1,4 +1,4 @@
-// The command `addup`: whether terms that are given add up to their vectors.
+//! The command `addup`: whether terms add up to their vectors.
 ghost use Rattle.std.specs.Prelude.{◌≡◌, ◌≤◌, length, IfOk};
 ghost use Rattle.text_definitions.specs.Text.{max_text};
 ghost use Rattle.surface_definitions.specs.Coordinates as coordinates;
@@ -22,7 +22,7 @@ use ray_decompose::add_up;
 use std::alloc::Global;
 use surface_answers::check;
 
-// Whether a block's vector and its terms are admissible solutions, and the terms add up; or what is wrong first.
+/// Fails with what is wrong first: the block's vector or a term is no admissible solution, or the terms do not add up.
 fn check_block(
     coords: Coords,
     table: &Table,
@@ -47,7 +47,7 @@ fn check_block(
     }
 }
 
-// The first block that isn't accepted.
+/// Fails at the first block that is not accepted.
 fn check_blocks(
     coords: Coords,
     table: &Table,
@@ -66,7 +66,7 @@ fn check_blocks(
     Ok(())
 }
 
-// The answer to blocks, by the equations of their table.
+/// The outcome for blocks, by the equations of their table.
 fn answer_by(
     alloc: Global,
     coords: Coords,
@@ -84,7 +84,7 @@ fn answer_by(
     }
 }
 
-// The answer to a table and blocks.
+/// The outcome for a table and blocks.
 fn answer(
     alloc: Global,
     coords: Coords,
@@ -97,7 +97,8 @@ fn answer(
     answer_by(alloc, coords, table, &system, blocks)
 }
 
-/// The outcome of `addup` on an input that isn't too long.
+/// The outcome of `addup` for the input `bytes`, a table and blocks: `accepted` if in each block the vector and its
+/// terms are admissible solutions in the coordinates `coords` and the terms add up; otherwise a refusal.
 pub fn addup(alloc: Global, coords: Coords, bytes: &[u8]) -> Result<Outcome, NoMemory>
     requires { length bytes.now ≤ max_text }
     ensures answer { IfOk result (IsReadOutcome (blocks_document bytes.now) (IsAddupAnswer coords)) }

@@ -1,4 +1,4 @@
-// The document of a table and blocks of sums.
+//! Reads the document of a table and blocks of sums.
 ghost use Rattle.std.specs.Prelude.{◌≤◌, length};
 ghost use Rattle.text_definitions.specs.Text.{max_text};
 ghost use Rattle.text_definitions.specs.Reading.{Reads, ReadsFrom};
@@ -14,10 +14,10 @@ use signature_codec::InputFault;
 use std::alloc::Global;
 use text_io::{LIMIT, Lexer};
 
-/// The most terms of a block.
+/// The greatest number of terms of a block.
 const MOST_TERMS: u128 = 10000;
 
-/// A vector, how many times it is taken, and the terms that are to add up to it then.
+/// A block: the vector `vector`, taken `times` times, and the terms that are to add up to it.
 #[derive(Drop)]
 pub struct Block {
     pub vector: Vec<u128>,
@@ -25,21 +25,21 @@ pub struct Block {
     pub terms: Vec<Given>,
 }
 
-/// A table, and blocks.
+/// A table and blocks.
 #[derive(Drop)]
 pub struct TableAndBlocks {
     pub table: Table,
     pub blocks: Vec<Block>,
 }
 
-/// How many times a vector is taken, and the terms.
+/// The number of times that a vector is taken, and the terms.
 #[derive(Drop)]
 struct Times {
     times: u128,
     terms: Vec<Given>,
 }
 
-// A line `term K` with entries.
+/// Reads a line `term K` with entries.
 #[tactic(auto, unfolding(text_document_definitions::specs::Blocks::term_at, text_definitions::specs::Reading::exactly_at))]
 fn read_term(alloc: Global, lexer: &mut Lexer<'_>) -> Result<Given, TextFault>
     ensures { ReadsFrom TextFault.NoMemory term_of result lexer.new (lexed (term_at lexer.old)) }
@@ -54,7 +54,7 @@ fn read_term(alloc: Global, lexer: &mut Lexer<'_>) -> Result<Given, TextFault>
     Ok(Given { count, entries })
 }
 
-// So many terms.
+/// Reads the next `count` lines as terms.
 fn read_terms(alloc: Global, lexer: &mut Lexer<'_>, count: u32) -> Result<Vec<Given>, TextFault>
     ensures { ReadsFrom TextFault.NoMemory given_terms result lexer.new (lexed (terms_at count lexer.old)) }
 {
@@ -66,7 +66,7 @@ fn read_terms(alloc: Global, lexer: &mut Lexer<'_>, count: u32) -> Result<Vec<Gi
     Ok(terms)
 }
 
-// A line `times S T` and T terms.
+/// Reads a line `times S T` and T terms.
 #[tactic(auto, unfolding(text_document_definitions::specs::Blocks::times_at, text_definitions::specs::Reading::exactly_at))]
 fn read_times(alloc: Global, lexer: &mut Lexer<'_>) -> Result<Times, TextFault>
     ensures { ReadsFrom TextFault.NoMemory sum_of result lexer.new (lexed (times_at lexer.old)) }
@@ -83,7 +83,7 @@ fn read_times(alloc: Global, lexer: &mut Lexer<'_>) -> Result<Times, TextFault>
     Ok(Times { times, terms })
 }
 
-// The block whose first line was begun, of which no word was taken yet.
+/// Reads a block from the current line on, of which no word is read yet.
 #[tactic(auto, unfolding(text_document_definitions::specs::Blocks::block_at))]
 fn read_block(alloc: Global, lexer: &mut Lexer<'_>) -> Result<Block, TextFault>
     ensures { ReadsFrom TextFault.NoMemory block_of result lexer.new (lexed (block_at lexer.old)) }
@@ -97,7 +97,7 @@ fn read_block(alloc: Global, lexer: &mut Lexer<'_>) -> Result<Block, TextFault>
     })
 }
 
-// The blocks to the end of the input.
+/// Reads the blocks up to the end of the input.
 fn read_blocks(alloc: Global, lexer: &mut Lexer<'_>) -> Result<Vec<Block>, TextFault>
     ensures { ReadsFrom TextFault.NoMemory blocks_of result lexer.new (lexed (blocks_from lexer.old.later lexer.old)) }
 {
@@ -109,7 +109,8 @@ fn read_blocks(alloc: Global, lexer: &mut Lexer<'_>) -> Result<Vec<Block>, TextF
     Ok(blocks)
 }
 
-/// The document of a table and blocks.
+/// Reads `bytes` as a table and blocks: a line `vec`, a line `times S T`, and T lines `term`. Fails with the first
+/// error of the table, then of the blocks.
 #[tactic(auto, unfolding(text_document_definitions::specs::Blocks::blocks_document))]
 pub fn read_table_and_blocks(alloc: Global, bytes: &[u8]) -> Result<TableAndBlocks, InputFault>
     requires { length bytes.now ≤ max_text }

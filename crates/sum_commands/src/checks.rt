@@ -1,4 +1,4 @@
-// The checks of vectors and terms by the equations of their table.
+//! Checks vectors and terms by the equations of their table.
 ghost use Rattle.std.specs.Prelude.{◌≡◌, ◌<◌, length};
 ghost use Rattle.surface_definitions.specs.Coordinates as coordinates;
 ghost use Rattle.outcome_definitions.specs.Sums.{IsVerdict, IsTermVerdict};
@@ -12,14 +12,15 @@ use ray_decompose::Given;
 use surface_answers::check;
 use surface_definitions::{Coords, VectorFault};
 
-/// The first of a list at which something is wrong, by its number, which counts from 0.
+/// The first item of a list that is refused, by its index, and the error.
 #[derive(Clone, Copy)]
 pub struct FirstFault<F> {
     pub number: usize,
     pub fault: F,
 }
 
-/// The first of some vectors that is no admissible solution.
+/// Fails at the first of `vectors` that is no admissible solution of `system`, the equations of `table` in the
+/// coordinates `coords`, with its index and what is wrong first.
 pub fn check_vectors(
     coords: Coords,
     table: &Table,
@@ -38,7 +39,8 @@ pub fn check_vectors(
     Ok(())
 }
 
-/// The first of some terms whose vector is no admissible solution.
+/// Fails at the first of `terms` whose vector is no admissible solution of `system`, the equations of `table` in the
+/// coordinates `coords`, with its index and what is wrong first.
 pub fn check_terms(
     coords: Coords,
     table: &Table,

@@ -1,4 +1,4 @@
-// The command `decompose`: vectors as sums of the vertex surfaces of their table.
+//! The command `decompose`: vectors as sums of the vertex surfaces of their table.
 ghost use Rattle.std.specs.Prelude.{◌≡◌, ℕ, ◌≤◌, length, IfOk, slice_index};
 ghost use Rattle.text_definitions.specs.Text.{max_text};
 ghost use Rattle.cone_arithmetic.specs.declared.numbers.TheConstants.{MAX_ENTRY};
@@ -26,7 +26,7 @@ use std::alloc::Global;
 use surface_answers::large_outcome;
 use surface_list::surfaces_by;
 
-// The block of a vector, behind the others.
+/// Appends the block of the vector `x`.
 fn append_sum(
     alloc: Global,
     system: &System,
@@ -46,7 +46,7 @@ fn append_sum(
     Ok(())
 }
 
-// The table and the blocks of all vectors, or the first whose sum gets too large.
+/// The text of the table and the blocks of all vectors. Fails at the first vector whose sum exceeds the limit.
 fn sums(
     alloc: Global,
     table: &Table,
@@ -76,7 +76,7 @@ fn sums(
     Ok(text)
 }
 
-// The answer to a table and vectors that are admissible solutions, by the list of its vertex surfaces.
+/// The outcome for a table and admissible solutions, by the list of its vertex surfaces.
 fn outcome_of(
     alloc: Global,
     table: &Table,
@@ -101,7 +101,7 @@ fn outcome_of(
     }
 }
 
-// The answer to a table and vectors, by the equations of the table.
+/// The outcome for a table and vectors, by the equations of the table.
 fn answer_by(
     alloc: Global,
     coords: Coords,
@@ -131,7 +131,7 @@ fn answer_by(
     }
 }
 
-// The answer to a table and vectors.
+/// The outcome for a table and vectors.
 fn answer(
     alloc: Global,
     coords: Coords,
@@ -148,7 +148,9 @@ fn answer(
     answer_by(alloc, coords, limit, table, &system, vectors)
 }
 
-/// The outcome of `decompose` on an input that isn't too long.
+/// The outcome of `decompose` for the input `bytes`, a table and vectors: each vector as a sum of vertex surfaces in
+/// the coordinates `coords`; or a refusal, also if a vector is no admissible solution or a number exceeds `limit`,
+/// which is 1 to 2^127 - 1.
 pub fn decompose(
     alloc: Global,
     coords: Coords,

@@ -1,4 +1,4 @@
-//! The commands `decompose` and `addup`: vectors as sums of vertex surfaces, and the test of such sums.
+//! The commands `decompose` and `addup`, which write vectors as sums of vertex surfaces, and test such sums.
 #![tactic(auto)]
 
 mod addup_command;

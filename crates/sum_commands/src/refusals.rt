@@ -1,4 +1,4 @@
-// The line for a vector that is refused.
+//! Writes the line that refuses a vector.
 ghost use Rattle.std.specs.Prelude.{◌≡◌, ◌++◌, codes, decimal, IfOk, OnOk};
 ghost use Rattle.text_definitions.specs.Written.{line};
 ghost use Rattle.outcome_definitions.specs.Sums as sums;
@@ -11,7 +11,7 @@ use std::alloc::Global;
 use surface_definitions::VectorFault;
 use text_io::{append, append_decimal};
 
-// The term of this number is refused by the check.
+/// Appends that term `term` fails the check.
 fn append_term(
     alloc: Global,
     out: &mut Vec<u8>,
@@ -26,7 +26,7 @@ fn append_term(
     append_checked(alloc, out, Err(fault))
 }
 
-// The turn and the column at which a sum gets too large.
+/// Appends the step and the column at which a sum exceeds the limit.
 fn append_large_times(
     alloc: Global,
     out: &mut Vec<u8>,
@@ -50,7 +50,7 @@ fn append_zero_times(out: &mut Vec<u8>) -> Result<(), NoMemory>
     Ok(())
 }
 
-// Why terms don't add up.
+/// Appends why terms do not add up.
 fn append_no_sum(alloc: Global, out: &mut Vec<u8>, fault: AddFault) -> Result<(), NoMemory>
     ensures { OnOk result (out.new.items ≡ out.old.items ++ sums.sum_refusal_text (SumRefusal.NoSum fault)) }
 {
@@ -71,7 +71,7 @@ fn append_no_sum(alloc: Global, out: &mut Vec<u8>, fault: AddFault) -> Result<()
     }
 }
 
-// Why a vector is refused.
+/// Appends why a vector is refused.
 fn append_cause(alloc: Global, out: &mut Vec<u8>, refusal: SumRefusal) -> Result<(), NoMemory>
     ensures { OnOk result (out.new.items ≡ out.old.items ++ sums.sum_refusal_text refusal) }
 {
@@ -88,7 +88,7 @@ fn append_cause(alloc: Global, out: &mut Vec<u8>, refusal: SumRefusal) -> Result
     }
 }
 
-// A number of the check is too large, or the vector doesn't pass it.
+/// The status of a failed check: `Large` if a number exceeds the limit, otherwise `Refused`.
 fn unfit_status(fault: VectorFault) -> Status
     ensures { result ≡ sums.unfit_status fault }
 {
@@ -99,7 +99,7 @@ fn unfit_status(fault: VectorFault) -> Status
     }
 }
 
-// A number is too large, or the vector doesn't allow what is asked.
+/// The status of a refusal: `Large` if a number exceeds the limit, otherwise `Refused`.
 fn status_of(refusal: SumRefusal) -> Status
     ensures { result ≡ sums.sum_refusal_status refusal }
 {
@@ -113,7 +113,7 @@ fn status_of(refusal: SumRefusal) -> Status
     }
 }
 
-/// The outcome where the vector of this number, which counts from 0, is refused.
+/// The outcome if vector `vector`, counted from 0, is refused by `refusal`.
 #[tactic(auto, unfolding(outcome_definitions::specs::Sums::sum_refusal_line))]
 pub fn refusal_outcome(
     alloc: Global,

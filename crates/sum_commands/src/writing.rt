@@ -1,4 +1,4 @@
-// Sums as blocks of lines.
+//! Writes sums as blocks of lines.
 ghost use Rattle.std.specs.Prelude.{◌≡◌, ◌++◌, OnOk};
 ghost use Rattle.std.specs.List.{flat_map};
 ghost use Rattle.text_document_definitions.specs.Blocks as blocks;
@@ -9,7 +9,7 @@ use std::alloc::Global;
 use text_io::{append, append_decimal};
 use vector_text::{write_entries, write_vector};
 
-// A line `times S T`.
+/// Appends a line `times S T`.
 fn append_times(alloc: Global, out: &mut Vec<u8>, times: u128, count: usize) -> Result<(), NoMemory>
     ensures { OnOk result (out.new.items ≡ out.old.items ++ blocks.times_text times count) }
 {
@@ -21,7 +21,7 @@ fn append_times(alloc: Global, out: &mut Vec<u8>, times: u128, count: usize) -> 
     Ok(())
 }
 
-// A line `term K` with entries.
+/// Appends a line `term K` with entries.
 fn append_term(alloc: Global, out: &mut Vec<u8>, term: &Term) -> Result<(), NoMemory>
     ensures { OnOk result (out.new.items ≡ out.old.items ++ blocks.term_text term.now) }
 {
@@ -32,7 +32,7 @@ fn append_term(alloc: Global, out: &mut Vec<u8>, term: &Term) -> Result<(), NoMe
     Ok(())
 }
 
-// A line for each term.
+/// Appends a line for each term.
 fn append_terms(alloc: Global, out: &mut Vec<u8>, terms: &[Term]) -> Result<(), NoMemory>
     ensures { OnOk result (out.new.items ≡ out.old.items ++ flat_map blocks.term_text terms.now) }
 {
@@ -42,7 +42,7 @@ fn append_terms(alloc: Global, out: &mut Vec<u8>, terms: &[Term]) -> Result<(), 
     Ok(())
 }
 
-/// The block of a vector and its sum.
+/// Appends the block of the vector `x` and its sum `sum` to `out`.
 pub fn append_block(alloc: Global, out: &mut Vec<u8>, x: &[u128], sum: &Sum) -> Result<(), NoMemory>
     ensures { OnOk result (out.new.items ≡ out.old.items ++ blocks.block_text (record { vector = x.now; times = sum.now.times; terms = sum.now.terms.items })) }
 {

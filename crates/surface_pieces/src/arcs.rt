@@ -1,4 +1,4 @@
-//! The piece of an arc, and the arc of a piece.
+//! The disc of an arc, and the arc of a disc.
 
 ghost use Rattle.std.specs.Prelude.{◌≡◌, ◌+◌, ◌-◌, ◌<◌, length, IfSome, IfNone, if◌then◌else◌};
 ghost use Rattle.surface_definitions.specs.Pieces as pieces;
@@ -10,14 +10,14 @@ use crate::counts::Piece;
 use crate::surface::Surface;
 use normal_discs::{keeping, octagon_arcs, partner, quad_column, tet_of, triangle_column, type_of};
 
-/// The column of the arcs behind the triangles, and whether its pieces keep the vertex on the side of vertex 0.
+/// The column of the arcs after those of the triangles, and whether its discs have the vertex on the side of vertex 0.
 #[derive(Clone, Copy)]
 struct Further {
     column: u32,
     by_zero: bool,
 }
 
-/// The number of a place counted from the one end or from the other.
+/// The number of a position counted from one end or from the other.
 fn number_from_end(entry: u32, place: u32, by_zero: bool) -> u32
     ensures { result ≡ (if by_zero then place else entry - 1 - place) }
 {
@@ -29,7 +29,7 @@ fn number_from_end(entry: u32, place: u32, by_zero: bool) -> u32
 }
 
 impl<'a> Surface<'a> {
-    /// The number of triangles round the vertex of an arc.
+    /// The number of triangles around the vertex of `arc`.
     fn triangles(&self, arc: SurfaceArc) -> u32
         requires { arc.tet < length self.now.table.now }
         ensures { result ≡ pieces.triangles_round self.now.coords.system self.now.entries.now arc }
@@ -37,7 +37,7 @@ impl<'a> Surface<'a> {
         self.entries[triangle_column(self.coords, arc.tet, arc.vertex) as usize]
     }
 
-    /// What lies behind the triangles round the vertex of an arc.
+    /// The column of the arcs after those of the triangles around the vertex of `arc`.
     fn behind(&self, arc: SurfaceArc) -> Further
         requires { arc.tet < length self.now.table.now }
         ensures column { result.column ≡ pieces.further_column self.now.coords.system self.now.entries.now arc }
@@ -55,7 +55,7 @@ impl<'a> Surface<'a> {
         }
     }
 
-    /// The piece whose arc this is.
+    /// The normal disc that has `arc` on its boundary.
     pub fn piece_of(&self, arc: SurfaceArc) -> Piece
         requires { arc.tet < length self.now.table.now }
         ensures { result ≡ pieces.piece_of self.now.coords.system self.now.entries.now arc }
@@ -75,7 +75,7 @@ impl<'a> Surface<'a> {
         }
     }
 
-    /// Whether the piece of an arc looks at its vertex with its positive side.
+    /// Whether the disc of `arc` faces the vertex of the arc with its positive side.
     pub fn looks_positive(&self, arc: SurfaceArc) -> bool
         requires { arc.tet < length self.now.table.now }
         ensures { result ≡ pieces.looks_positive self.now.coords.system self.now.entries.now arc }
@@ -86,7 +86,7 @@ impl<'a> Surface<'a> {
         self.behind(arc).by_zero
     }
 
-    /// The arc of a piece round a vertex of a face, where it has one there.
+    /// The arc of the disc `piece` around a vertex of a face, or `None` if it has none there.
     pub fn arc_of(&self, piece: Piece, corner: Corner) -> Option<SurfaceArc>
         requires { IsPieceOf self.now.entries.now piece }
         ensures some { IfSome result (IsOnlyArcOf self.now.coords.system self.now.entries.now piece corner.face corner.vertex) }

@@ -5,7 +5,7 @@ ghost use Rattle.surface_laws.specs.PieceLaws.{first_nonzero};
 
 use std::marker::Model;
 
-/// A vertex of a face.
+/// A vertex of a face. Invariant: `vertex` is not the one opposite `face`.
 #[derive(Clone, Copy)]
 pub struct Corner {
     pub face: u8,
@@ -29,7 +29,8 @@ pub fn corner_at(slot: u32) -> Option<Corner>
     Some(Corner { face, vertex })
 }
 
-/// The arc round a vertex of a face of a tetrahedron at a place, counted from the side of the vertex.
+/// A normal arc: the one at position `place` around `vertex` in `face` of tetrahedron `tet`, counted from the vertex
+/// on.
 #[derive(Clone, Copy)]
 pub struct SurfaceArc {
     pub tet: u32,
@@ -51,7 +52,7 @@ impl Model for SurfaceArc {
     ghost invariant = { λ a. (a.face < 4) × (a.vertex < 4) × (a.vertex ≢ a.face) };
 }
 
-/// The first of these columns that isn't 0, or else another.
+/// The first of `columns` at which `x` is not 0, or `other` if there is none.
 #[tactic(auto, using(crate::proofs::FirstNonzero::nonzero_here, crate::proofs::FirstNonzero::zero_here))]
 pub fn first_nonzero_of(x: &[u32], columns: &[u32], other: u32) -> u32
     requires { All (λ c. c < length x.now) columns.now }

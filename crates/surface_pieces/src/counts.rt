@@ -1,4 +1,4 @@
-//! The entries of a vector, and what a piece is.
+//! The entries of a vector, and its normal discs.
 
 ghost use Rattle.std.specs.Prelude.{◌≡◌, ◌≤◌, sum, IfOk};
 ghost use Rattle.text_definitions.specs.Written.{limit};
@@ -7,7 +7,7 @@ ghost use Rattle.surface_vector_definitions.specs.Components.{most_pieces};
 use std::alloc::{AllocError, Global};
 use std::marker::Model;
 
-/// A piece: its column, and its number among the pieces of that column.
+/// A normal disc: its column, and its number among the discs of that column.
 #[derive(Clone, Copy)]
 pub struct Piece {
     pub column: u32,
@@ -24,7 +24,7 @@ impl Model for Piece {
     ghost inverse = { λ p. record { column = p.column; number = p.number } };
 }
 
-/// The sum of the entries.
+/// The sum of `x`.
 pub fn total(x: &[u128]) -> u128
     requires { sum x.now ≤ limit }
     ensures { result ≡ sum x.now }
@@ -36,7 +36,7 @@ pub fn total(x: &[u128]) -> u128
     total
 }
 
-/// The same entries as smaller numbers.
+/// The entries of `x` in 32 bits.
 pub fn entries_of(alloc: Global, x: &[u128]) -> Result<Vec<u32>, AllocError>
     requires { sum x.now ≤ most_pieces }
     ensures { IfOk result (λ entries. entries.items ≡ x.now) }

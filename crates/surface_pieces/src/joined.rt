@@ -1,8 +1,8 @@
-//! What a piece is joined to by one of its arcs.
+//! The neighbour of a disc across one of its arcs.
 
 use std::marker::Model;
 
-/// The piece across an arc, and which signs are kept there.
+/// The disc across an arc, and which signs are equal on both sides of it.
 #[derive(Clone, Copy)]
 pub struct Joined {
     pub piece: u32,
@@ -24,14 +24,14 @@ impl Model for Joined {
     ghost invariant = { λ j. j.piece ≤ most_pieces };
 }
 
-/// Signs that pieces may have: which of their sides is meant, or how they are oriented.
+/// The two kinds of signs of discs: for their sides, or for their orientations.
 #[derive(Clone, Copy)]
 pub enum SignKind {
     Sides,
     Orientation,
 }
 
-/// What numbers a search joins: those of pieces, or those of pieces with a sign.
+/// The numbers that a search connects: those of discs, or of discs with a sign.
 #[derive(Clone, Copy)]
 pub enum SearchKind {
     Pieces,

@@ -1,4 +1,4 @@
-//! The pieces of a normal surface, and the components that their meeting arcs join.
+//! The normal discs of a surface, and the connected components that they form across their common arcs.
 #![tactic(auto)]
 
 mod arcs;

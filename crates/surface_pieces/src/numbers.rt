@@ -1,4 +1,4 @@
-//! The pieces of a surface in their order.
+//! The normal discs of a surface in order.
 
 ghost use Rattle.std.specs.Prelude.{◌≡◌, ◌+◌, ◌++◌, map, IfOk, OnOk};
 ghost use Rattle.table_definitions.specs.Lists.{below};
@@ -10,7 +10,7 @@ use crate::counts::Piece;
 use crate::surface::{NumberedPieces, Surface};
 use std::alloc::{AllocError, Global};
 
-/// The pieces of one column behind those that are there.
+/// Appends the `entry` discs of `column`.
 fn append_column(listed: &mut Vec<Piece>, column: u32, entry: u32) -> Result<(), AllocError>
     ensures { OnOk result (listed.new.items ≡ listed.old.items ++ map (λ i. record { column = column; number = i }) (below entry)) }
 {
@@ -20,7 +20,7 @@ fn append_column(listed: &mut Vec<Piece>, column: u32, entry: u32) -> Result<(),
     Ok(())
 }
 
-/// How many pieces stand before each column.
+/// For each column the number of discs in the columns before it.
 pub fn starts_of(alloc: Global, surface: &Surface) -> Result<Vec<u32>, AllocError>
     ensures { IfOk result (λ starts. AreStarts surface.now.entries.now starts.items) }
 {
@@ -33,7 +33,7 @@ pub fn starts_of(alloc: Global, surface: &Surface) -> Result<Vec<u32>, AllocErro
     Ok(starts)
 }
 
-/// All pieces, ascending.
+/// All discs of `surface`, by column and number.
 pub fn all_pieces(alloc: Global, surface: &Surface) -> Result<Vec<Piece>, AllocError>
     ensures { IfOk result (λ listed. listed.items ≡ pieces.pieces_of surface.now.entries.now) }
 {
@@ -45,7 +45,7 @@ pub fn all_pieces(alloc: Global, surface: &Surface) -> Result<Vec<Piece>, AllocE
 }
 
 impl<'a> NumberedPieces<'a> {
-    /// The number of a piece among all.
+    /// The index of `piece` among all discs.
     pub fn number_of(&self, piece: Piece) -> u32
         requires { IsPieceOf self.now.surface.entries.now piece }
         ensures { result ≡ pieces.piece_number self.now.surface.entries.now piece }

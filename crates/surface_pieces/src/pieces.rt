@@ -23,8 +23,8 @@ use std::marker::Model;
 use surface_definitions::Coords;
 use surface_vector_definitions::ManyPieces;
 
-/// The components of a surface, numbered by their least pieces: the vector of each, whether it is two-sided, and
-/// whether it is orientable.
+/// The connected components of a surface, numbered by their first discs: the vector of each, whether it is two-sided,
+/// and whether it is orientable.
 #[derive(Drop)]
 pub struct Pieces {
     vectors: Vec<Vec<u128>>,
@@ -45,10 +45,10 @@ impl Model for Pieces {
     ghost invariant = { λ p. (length p.two_sided.items ≡ length p.vectors.items) × (length p.orientable.items ≡ length p.vectors.items) × (length p.vectors.items < 2 ^ 32) };
 }
 
-/// That a surface has more pieces than are looked at, or want of memory.
+/// Why `build` fails: the surface has more than 100,000 discs, or memory runs out.
 pub type PiecesFault = Failure<ManyPieces>;
 
-// More pieces aren't looked at.
+/// The greatest number of discs.
 const MOST_PIECES: u128 = 100_000;
 
 /// The components of a surface.
@@ -79,10 +79,9 @@ fn find_components(alloc: Global, surface: &Surface) -> Result<Pieces, AllocErro
 }
 
 impl Pieces {
-    /// The components of a surface: of an admissible solution in standard or octagon coordinates whose entries add up
-    /// to at most 2^127 - 1. (Haken.)
-    ///
-    /// `TooManyPieces` with the number of pieces where there are more than 100,000.
+    /// The connected components of the surface of `x` (Haken 1961), an admissible solution for the table of `skeleton`
+    /// in standard or octagon coordinates whose entries add up to at most 2^127 - 1. Fails with `TooManyPieces`, which
+    /// has the number of discs, if there are more than 100,000.
     pub fn build(
         alloc: Global,
         skeleton: &Skeleton,
@@ -116,7 +115,7 @@ impl Pieces {
         self.vectors.len() as u32
     }
 
-    /// The number of a component's pieces of each column.
+    /// The vector of component `component`: its number of discs in each column.
     pub fn vector(&self, component: u32) -> &[u128]
         requires { component < length self.now }
         ensures { result.now ≡ (slice_index_or self.now component no_component).vector }
@@ -124,7 +123,7 @@ impl Pieces {
         &self.vectors[component as usize]
     }
 
-    /// Whether a component is two-sided.
+    /// Whether component `component` is two-sided.
     pub fn two_sided(&self, component: u32) -> bool
         requires { component < length self.now }
         ensures { result ≡ (slice_index_or self.now component no_component).two_sided }
@@ -132,7 +131,7 @@ impl Pieces {
         self.two_sided[component as usize]
     }
 
-    /// Whether a component is orientable.
+    /// Whether component `component` is orientable.
     pub fn orientable(&self, component: u32) -> bool
         requires { component < length self.now }
         ensures { result ≡ (slice_index_or self.now component no_component).orientable }

@@ -1,4 +1,4 @@
-//! Rows of what is joined to each piece.
+//! The neighbours of each disc.
 
 ghost use Rattle.std.specs.Prelude.{IfOk};
 ghost use Rattle.surface_laws.specs.PieceLaws.{IsPieceOf};

@@ -1,4 +1,4 @@
-//! The rows of numbers that a search reads off from what the pieces are joined to.
+//! The rows of neighbours for the searches of components and of signs.
 
 ghost use Rattle.std.specs.Prelude.{◌≡◌, ◌+◌, ◌*◌, ◌/◌, ◌%◌, ◌<◌, ◌≤◌, length, IfOk};
 ghost use Rattle.surface_vector_definitions.specs.Components.{most_pieces};
@@ -13,7 +13,7 @@ use crate::surface::JoinedPieces;
 use finite_walks::{Numbering, classes};
 use std::alloc::{AllocError, Global};
 
-/// Whether a sign is kept.
+/// Whether the sign of kind `signs` is equal on both sides of an arc.
 fn keeps(signs: SignKind, joined: Joined) -> bool
     ensures { result ≡ readings.keeps signs joined }
 {
@@ -23,7 +23,7 @@ fn keeps(signs: SignKind, joined: Joined) -> bool
     }
 }
 
-/// The number for what is joined to this number: that of a piece, or of a piece with its sign.
+/// The number of the neighbour of `number`: of a disc, or of a disc with its sign.
 fn number_across(kind: SearchKind, number: u32, joined: Joined) -> u32
     ensures { result ≡ readings.read_across kind number joined }
 {
@@ -37,7 +37,7 @@ fn number_across(kind: SearchKind, number: u32, joined: Joined) -> u32
     }
 }
 
-/// The number for what may be joined to this number.
+/// As `number_across`, if there is a neighbour.
 fn number_at(kind: SearchKind, number: u32, joined: Option<Joined>) -> Option<u32>
     ensures { result ≡ readings.read_at kind number joined }
 {
@@ -56,7 +56,7 @@ fn row_of(joined: &[Option<Joined>; 16], kind: SearchKind, number: u32) -> [Opti
     row
 }
 
-/// The piece of a number.
+/// The disc of `number`.
 fn piece_in(kind: SearchKind, number: usize) -> usize
     ensures { result ≡ searches.piece_in kind number }
 {
@@ -67,7 +67,7 @@ fn piece_in(kind: SearchKind, number: usize) -> usize
 }
 
 impl<'a> JoinedPieces<'a> {
-    /// How many numbers there are.
+    /// The number of numbers in a search of kind `kind`.
     fn numbers(&self, kind: SearchKind) -> usize
         ensures value { result ≡ searches.numbers kind (length self.now.rows.now) }
         ensures few { result ≤ 2 * most_pieces }
@@ -92,7 +92,7 @@ impl<'a> JoinedPieces<'a> {
         Ok(rows)
     }
 
-    /// The classes of the numbers that are joined.
+    /// The classes of connected numbers in a search of kind `kind`.
     pub fn classes_of(&self, alloc: Global, kind: SearchKind) -> Result<Numbering, AllocError>
         requires { AreJoined self.now.surface.table.now self.now.surface.coords.system self.now.surface.entries.now self.now.rows.now }
         ensures { IfOk result (λ r. HasClasses kind self.now.surface.table.now self.now.surface.coords.system self.now.surface.entries.now r.classes.items r.count) }

@@ -1,4 +1,4 @@
-//! On which components signs exist.
+//! The components on which signs exist.
 
 ghost use Rattle.std.specs.Prelude.{◌≡◌, ◌*◌, ◌<◌, ◌↔◌, ℕ, true, false, length, slice_index, slice_set, if◌then◌else◌, IfOk};
 ghost use Rattle.std.specs.List.{slice_index_or};
@@ -11,7 +11,7 @@ use crate::surface::JoinedPieces;
 use finite_walks::Numbering;
 use std::alloc::{AllocError, Global};
 
-/// Marks a component as not free where one of its pieces is joined to itself with the other sign.
+/// Marks a component as one without signs if `same`: one of its discs is connected to itself with the other sign.
 fn mark(free: &mut [bool], component: u32, same: bool)
     requires { component < length free.old }
     ensures { free.new ≡ (if same then slice_set free.old component false else free.old) }
@@ -21,7 +21,7 @@ fn mark(free: &mut [bool], component: u32, same: bool)
     }
 }
 
-/// Whether no piece of each component is joined to itself with the other sign.
+/// For each component whether none of its discs is connected to itself with the other sign.
 fn free_components(
     alloc: Global,
     signed: &[u32],

@@ -1,4 +1,4 @@
-//! What lies across an arc of a piece.
+//! What is across an arc of a disc.
 
 ghost use Rattle.std.specs.Prelude.{◌≡◌, ◌<◌, ◌/◌, ◌%◌, IfSome, IfNone};
 ghost use Rattle.surface_definitions.specs.Pieces as pieces;
@@ -12,7 +12,7 @@ use crate::joined::Joined;
 use crate::surface::{NumberedPieces, Surface};
 use gluing_table::{Face, Glue};
 
-/// The arc that meets an arc across a gluing of its face.
+/// The arc to which `glue` maps `arc`.
 fn across(glue: Glue, arc: SurfaceArc) -> SurfaceArc
     ensures { result ≡ pieces.arc_across glue arc }
 {
@@ -24,7 +24,7 @@ fn across(glue: Glue, arc: SurfaceArc) -> SurfaceArc
     }
 }
 
-/// An arc of a piece, the arc that it meets, and whether the gluing there is odd.
+/// An arc of a disc, the arc to which it is glued, and whether the gluing is odd.
 #[derive(Clone, Copy)]
 pub struct Meeting {
     pub arc: SurfaceArc,
@@ -33,7 +33,7 @@ pub struct Meeting {
 }
 
 impl<'a> Surface<'a> {
-    /// The arc of a piece round a vertex of a face, where it meets another.
+    /// The arc of `piece` around a vertex of a face, if it has one there and the face is glued.
     fn meeting_at(&self, piece: Piece, corner: Corner) -> Option<Meeting>
         requires { IsPieceOf self.now.entries.now piece }
         ensures some { IfSome result (λ m. IsMeetingAt self.now.table.now self.now.coords.system self.now.entries.now piece corner.face corner.vertex m.arc m.other m.odd) }

@@ -1,4 +1,4 @@
-//! A surface in a table, and its pieces in their order.
+//! A surface in a table, with its discs in order.
 
 ghost use Rattle.std.specs.Prelude.{◌≡◌, ◌≤◌, length, sum};
 ghost use Rattle.table_definitions.specs.Table.{max_tets};
@@ -13,7 +13,7 @@ use crate::joined::Joined;
 use gluing_table::Table;
 use normal_discs::DiscCoords;
 
-/// A surface with few pieces in a table, by the entries of its vector.
+/// A surface in a table with at most 100,000 discs, by the entries of its vector.
 #[derive(Clone, Copy)]
 pub struct Surface<'a> {
     pub table: &'a Table,
@@ -25,7 +25,7 @@ pub struct Surface<'a> {
     pub ghost width: { length entries.now ≡ columns coords.system (length table.now) },
 }
 
-/// The pieces of a surface in their order, and how many stand before each column.
+/// The discs of a surface in order, and for each column the number of discs in the columns before it.
 #[derive(Clone, Copy)]
 pub struct NumberedPieces<'a> {
     pub surface: Surface<'a>,

@@ -7,7 +7,7 @@ ghost use Rattle.surface_pieces.specs.Vectors.{AreVectors};
 use crate::surface::NumberedPieces;
 use std::alloc::{AllocError, Global};
 
-/// So many vectors of zeros.
+/// `count` vectors of `columns` zeros.
 fn zeros(alloc: Global, count: u32, columns: usize) -> Result<Vec<Vec<u128>>, AllocError>
     ensures { IfOk result (λ vectors. all_entries vectors.items ≡ replicate count (replicate columns 0)) }
 {
@@ -18,7 +18,7 @@ fn zeros(alloc: Global, count: u32, columns: usize) -> Result<Vec<Vec<u128>>, Al
     Ok(vectors)
 }
 
-/// One piece more in a column.
+/// Adds a disc of `column` to `vector`.
 fn count_piece(vector: &mut [u128], column: u32)
     requires in_range { column < length vector.old }
     requires few { slice_index vector.old column < 2 ^ 64 }
@@ -27,7 +27,7 @@ fn count_piece(vector: &mut [u128], column: u32)
     vector[column as usize] += 1;
 }
 
-/// The number of each component's pieces in each column.
+/// For each of `count` components its number of discs in each column. `components` has the component of each disc.
 pub fn vectors_of(
     alloc: Global,
     pieces: &NumberedPieces,

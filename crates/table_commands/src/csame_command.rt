@@ -1,4 +1,4 @@
-//! The command `csame`: the relabelling that is answered of two tables, part by part.
+//! The command `csame`: an isomorphism of two tables, component by component.
 
 ghost use Rattle.std.specs.Prelude.{◌≤◌, length, IfOk};
 ghost use Rattle.text_definitions.specs.Text.{max_text};
@@ -13,7 +13,7 @@ use gluing_table::Table;
 use no_memory::NoMemory;
 use std::alloc::Global;
 
-/// The answer to two tables.
+/// The outcome for two tables.
 fn answer(alloc: Global, first: &Table, second: &Table) -> Result<Outcome, NoMemory>
     ensures { IfOk result (IsSamePartsAnswer (first.now, second.now)) }
 {
@@ -23,7 +23,8 @@ fn answer(alloc: Global, first: &Table, second: &Table) -> Result<Outcome, NoMem
     }
 }
 
-/// The outcome of `csame` on an input that isn't too long.
+/// The outcome of `csame` for the input `bytes`, two tables: an isomorphism, component by component, or `different`; or
+/// a refusal.
 pub fn csame(alloc: Global, bytes: &[u8]) -> Result<Outcome, NoMemory>
     requires { length bytes.now ≤ max_text }
     ensures answer { IfOk result (IsReadOutcome (two_tables_document bytes.now) IsSamePartsAnswer) }

@@ -11,7 +11,7 @@ use component_signature::component_signature;
 use no_memory::NoMemory;
 use std::alloc::Global;
 
-/// The outcome of `csig` on an input that isn't too long.
+/// The outcome of `csig` for the input `bytes`, a table: its component signature, or a refusal.
 pub fn csig(alloc: Global, bytes: &[u8]) -> Result<Outcome, NoMemory>
     requires { length bytes.now ≤ max_text }
     ensures answer { IfOk result (IsReadOutcome (table_document bytes.now) IsComponentSignatureAnswer) }

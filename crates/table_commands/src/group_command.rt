@@ -1,4 +1,4 @@
-// The command `group`: the classes of tables.
+//! The command `group`: the isomorphism classes of tables.
 ghost use Rattle.std.specs.Prelude.{◌≡◌, ◌≤◌, ◌++◌, List, length, slice_index, IfOk, OnOk};
 ghost use Rattle.text_definitions.specs.Text.{max_text};
 ghost use Rattle.table_definitions.specs.Table.{Row};
@@ -18,7 +18,7 @@ use signature_census::Census;
 use std::alloc::Global;
 use text_io::{append, append_decimal};
 
-// The class of a table.
+/// Appends the line with the class of table `table`.
 fn append_class(alloc: Global, text: &mut Vec<u8>, table: usize, class: u32) -> Result<(), NoMemory>
     ensures { OnOk result (text.new.items ≡ text.old.items ++ canonical.class_line table class) }
 {
@@ -30,7 +30,7 @@ fn append_class(alloc: Global, text: &mut Vec<u8>, table: usize, class: u32) -> 
     Ok(())
 }
 
-// The signature of a class.
+/// Appends the line with the signature of class `class`.
 fn append_signature(
     alloc: Global,
     text: &mut Vec<u8>,
@@ -47,7 +47,7 @@ fn append_signature(
     Ok(())
 }
 
-// The classes of all tables.
+/// Appends the classes of all tables.
 fn append_classes(alloc: Global, text: &mut Vec<u8>, classes: &[u32]) -> Result<(), NoMemory>
     ensures { OnOk result (text.new.items ≡ text.old.items ++ classes_text (λ k. canonical.class_line k (slice_index classes.now k)) (length classes.now)) }
 {
@@ -57,7 +57,7 @@ fn append_classes(alloc: Global, text: &mut Vec<u8>, classes: &[u32]) -> Result<
     Ok(())
 }
 
-// The signatures of all classes.
+/// Appends the signatures of all classes.
 fn append_signatures(alloc: Global, text: &mut Vec<u8>, census: &Census) -> Result<(), NoMemory>
     ensures { OnOk result (text.new.items ≡ text.old.items ++ classes_text (λ c. canonical.class_signature_line c (signature_in census.now c)) (length census.now)) }
 {
@@ -67,7 +67,7 @@ fn append_signatures(alloc: Global, text: &mut Vec<u8>, census: &Census) -> Resu
     Ok(())
 }
 
-// Classes and signatures as a text.
+/// The text of the classes and their signatures.
 fn census_text(alloc: Global, classes: &[u32], census: &Census) -> Result<Vec<u8>, NoMemory>
     ensures { IfOk result (λ text. text.items ≡ canonical.census_text classes.now census.now) }
 {
@@ -77,7 +77,7 @@ fn census_text(alloc: Global, classes: &[u32], census: &Census) -> Result<Vec<u8
     Ok(text)
 }
 
-// The outcome of a census.
+/// The outcome for classes and their census.
 fn outcome_of(alloc: Global, classes: &[u32], census: &Census) -> Result<Outcome, NoMemory>
     ensures { IfOk result (λ o. o ≡ done (canonical.census_text classes.now census.now)) }
 {
@@ -85,7 +85,7 @@ fn outcome_of(alloc: Global, classes: &[u32], census: &Census) -> Result<Outcome
     Ok(Outcome::with_text(Status::Done, text))
 }
 
-// The answer to tables of which this is known.
+/// The outcome for the tables that were read.
 fn answer(alloc: Global, groups: &Groups) -> Result<Outcome, NoMemory>
     ensures { IfOk result (λ o. (tables : List (List Row)) → AreGrouped tables groups.now → IsGroupAnswer tables o) }
 {
@@ -95,7 +95,8 @@ fn answer(alloc: Global, groups: &Groups) -> Result<Outcome, NoMemory>
     }
 }
 
-/// The outcome of `group` on an input that isn't too long.
+/// The outcome of `group` for the input `bytes`, any number of tables: the isomorphism class of each, and the signature
+/// of each class; or a refusal, also if a table is disconnected.
 pub fn group(alloc: Global, bytes: &[u8]) -> Result<Outcome, NoMemory>
     requires { length bytes.now ≤ max_text }
     ensures { IfOk result (IsReadOutcome (tables_document bytes.now) IsGroupAnswer) }

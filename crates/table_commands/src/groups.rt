@@ -1,4 +1,4 @@
-// Tables that are read and sorted into classes, and not kept.
+//! Reads tables and sorts them into classes, without storing them.
 ghost use Rattle.std.specs.Prelude.{◌≡◌, ◌<◌, ◌≤◌, ◌+◌, ◌++◌, ◌^◌, List, [], ◌∷◌, None, length, OnOk};
 ghost use Rattle.text_definitions.specs.Text.{max_text};
 ghost use Rattle.table_definitions.specs.Table as gluings;
@@ -13,14 +13,15 @@ use signature_codec::{InputFault, read_any};
 use std::alloc::Global;
 use text_io::Lexer;
 
-/// A table, counted from 0, and its least tetrahedron that no chain joins to the first.
+/// A disconnected table, counted from 0, with its least tetrahedron not reached from tetrahedron 0.
 #[derive(Clone, Copy)]
 pub struct NotConnected {
     pub table: u32,
     pub tet: u32,
 }
 
-/// What is known of the tables so far: their classes, or the first of them that isn't connected.
+/// The tables read so far: their census, the class of each, and the first that is disconnected (`found`), after which
+/// no class is computed.
 #[derive(Drop)]
 pub struct Groups {
     pub census: Census,
@@ -28,7 +29,7 @@ pub struct Groups {
     pub found: Option<NotConnected>,
 }
 
-// No tables.
+/// No tables.
 fn no_groups(alloc: Global) -> Groups
     ensures { AreGrouped [] result }
 {
@@ -39,7 +40,7 @@ fn no_groups(alloc: Global) -> Groups
     }
 }
 
-// One more table, where those before are connected.
+/// Adds a table after connected ones.
 fn classify(groups: &mut Groups, table: &Table) -> Result<(), NoMemory>
     requires few_classes { length groups.old.classes.items + 1 < 2 ^ 32 }
     requires few_signatures { length groups.old.census + 1 < 2 ^ 32 }
@@ -61,7 +62,7 @@ fn classify(groups: &mut Groups, table: &Table) -> Result<(), NoMemory>
     }
 }
 
-// One more table. Behind the first that isn't connected nothing more is to be known.
+/// Adds a table, unless an earlier one is disconnected.
 fn add(groups: &mut Groups, table: &Table) -> Result<(), NoMemory>
     requires few_classes { length groups.old.classes.items + 1 < 2 ^ 32 }
     requires few_signatures { length groups.old.census + 1 < 2 ^ 32 }
@@ -73,7 +74,7 @@ fn add(groups: &mut Groups, table: &Table) -> Result<(), NoMemory>
     }
 }
 
-// Reads a table from the line that was begun, and adds it.
+/// Reads a table from the current line on, and adds it.
 fn group_table(alloc: Global, lexer: &mut Lexer<'_>, groups: &mut Groups) -> Result<(), InputFault>
     requires few_classes { length groups.old.classes.items + 1 < 2 ^ 32 }
     requires few_signatures { length groups.old.census + 1 < 2 ^ 32 }
@@ -86,7 +87,7 @@ fn group_table(alloc: Global, lexer: &mut Lexer<'_>, groups: &mut Groups) -> Res
     }
 }
 
-// The tables to the end of the input.
+/// Reads the tables up to the end of the input.
 fn read_groups(alloc: Global, lexer: &mut Lexer<'_>) -> Result<Groups, InputFault>
     requires few { length lexer.old.later + 1 < 2 ^ 32 }
     ensures { GivesGroups result lexer.new (tables_from lexer.old.later lexer.old) }
@@ -98,7 +99,8 @@ fn read_groups(alloc: Global, lexer: &mut Lexer<'_>) -> Result<Groups, InputFaul
     Ok(groups)
 }
 
-/// The document of any number of tables.
+/// Reads `bytes` as any number of tables, and sorts them into classes. Fails with the first error of the first table
+/// that has one.
 #[tactic(auto, unfolding(text_document_definitions::specs::Documents::tables_document))]
 pub fn read_groups_document(alloc: Global, bytes: &[u8]) -> Result<Groups, InputFault>
     requires { length bytes.now ≤ max_text }

@@ -1,4 +1,4 @@
-// The command `info`: the skeleton of a table and the links of its vertices.
+//! The command `info`: the skeleton of a table and the links of its vertices.
 ghost use Rattle.std.specs.Prelude.{◌≡◌, ◌≤◌, ◌↔◌, length, IsTrue, IfOk};
 ghost use Rattle.text_definitions.specs.Text.{max_text};
 ghost use Rattle.skeleton_definitions.specs.Orientation.{IsOrientable};
@@ -16,7 +16,7 @@ use skeleton::Skeleton;
 use std::alloc::Global;
 use vertex_links::{Link, links};
 
-// Which edge classes are valid.
+/// For each edge class whether it is valid.
 fn valid_edges(alloc: Global, skeleton: &Skeleton) -> Result<Vec<bool>, NoMemory>
     ensures one_each { IfOk result (λ valid. length valid.items ≡ skeleton.now.edges.count) }
     ensures valid { IfOk result (λ valid. AreValid skeleton.now skeleton.now.edges.count valid.items) }
@@ -28,14 +28,14 @@ fn valid_edges(alloc: Global, skeleton: &Skeleton) -> Result<Vec<bool>, NoMemory
     Ok(valid)
 }
 
-// Whether there are signs that stay across odd gluings and change across even ones.
+/// Whether the table has an orientation.
 fn is_orientable(skeleton: &Skeleton) -> bool
     ensures { IsTrue result ↔ IsOrientable skeleton.now.rows }
 {
     skeleton.orientation().is_some()
 }
 
-// The answer, from what is known of the table.
+/// The outcome from what is known of the table.
 fn outcome_of(
     alloc: Global,
     skeleton: &Skeleton,
@@ -55,7 +55,7 @@ fn outcome_of(
     Ok(Outcome::with_text(Status::Done, text))
 }
 
-// The answer to a table, by its skeleton.
+/// The outcome for the table of `skeleton`.
 fn answer_by(alloc: Global, skeleton: &Skeleton) -> Result<Outcome, NoMemory>
     requires { IsSkeleton skeleton.now }
     ensures { IfOk result (IsInformationAnswer skeleton.now.rows) }
@@ -65,7 +65,7 @@ fn answer_by(alloc: Global, skeleton: &Skeleton) -> Result<Outcome, NoMemory>
     outcome_of(alloc, skeleton, &links, &valid)
 }
 
-// The answer to a table.
+/// The outcome for `table`.
 fn answer(alloc: Global, table: &Table) -> Result<Outcome, NoMemory>
     ensures { IfOk result (IsInformationAnswer table.now) }
 {
@@ -73,7 +73,8 @@ fn answer(alloc: Global, table: &Table) -> Result<Outcome, NoMemory>
     answer_by(alloc, &skeleton)
 }
 
-/// The outcome of `info` on an input that isn't too long.
+/// The outcome of `info` for the input `bytes`, a table: its counts, its vertex and edge classes and the vertex links;
+/// or a refusal.
 pub fn info(alloc: Global, bytes: &[u8]) -> Result<Outcome, NoMemory>
     requires { length bytes.now ≤ max_text }
     ensures { IfOk result (IsReadOutcome (table_document bytes.now) IsInformationAnswer) }

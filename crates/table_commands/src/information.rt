@@ -1,4 +1,4 @@
-// The text of `info`.
+//! The text of `info`.
 ghost use Rattle.std.specs.Prelude.{◌≡◌, ◌++◌, IfOk, OnOk, codes, length};
 ghost use Rattle.std.specs.Fmt.{signed_decimal};
 ghost use Rattle.text_definitions.specs.Written.{line};
@@ -30,7 +30,7 @@ fn kind_word(kind: LinkKind) -> &'static [u8]
     }
 }
 
-// The line of a vertex class.
+/// Appends the line of vertex class `class`.
 fn append_vertex(
     alloc: Global,
     text: &mut Vec<u8>,
@@ -54,7 +54,7 @@ fn append_vertex(
     Ok(())
 }
 
-// The line of an edge class.
+/// Appends the line of edge class `class`.
 fn append_edge(
     alloc: Global,
     text: &mut Vec<u8>,
@@ -77,7 +77,7 @@ fn append_edge(
     Ok(())
 }
 
-// The lines of the vertex classes.
+/// Appends the lines of the vertex classes.
 fn append_vertices(
     alloc: Global,
     text: &mut Vec<u8>,
@@ -99,7 +99,7 @@ fn append_vertices(
     Ok(())
 }
 
-// The lines of the edge classes.
+/// Appends the lines of the edge classes.
 fn append_edges(
     alloc: Global,
     text: &mut Vec<u8>,
@@ -128,7 +128,7 @@ fn tetrahedra(skeleton: &Skeleton) -> u32
     skeleton.table().len()
 }
 
-// The number of tetrahedra, and what holds of the whole table.
+/// Appends the number of tetrahedra, and whether the table is connected, orientable and closed.
 fn append_flags(
     alloc: Global,
     text: &mut Vec<u8>,
@@ -150,7 +150,7 @@ fn append_flags(
     Ok(())
 }
 
-// The numbers of classes, and the Euler characteristic.
+/// Appends the numbers of classes, and the Euler characteristic.
 fn append_counts(alloc: Global, text: &mut Vec<u8>, skeleton: &Skeleton) -> Result<(), NoMemory>
     ensures { OnOk result (text.new.items ≡ text.old.items ++ information.counts_text skeleton.now) }
 {
@@ -170,7 +170,7 @@ fn append_euler(alloc: Global, text: &mut Vec<u8>, euler: i64) -> Result<(), NoM
     Ok(())
 }
 
-// Vertices minus edges plus faces minus tetrahedra.
+/// The Euler characteristic: vertices less edges plus faces less tetrahedra.
 fn characteristic(skeleton: &Skeleton) -> i64
     ensures { result ≡ information.characteristic skeleton.now }
 {
@@ -179,7 +179,8 @@ fn characteristic(skeleton: &Skeleton) -> i64
     more - less
 }
 
-/// The text of `info`.
+/// The text of `info` for the table of `skeleton`, whose vertex links are `links`. `valid` says for each edge class
+/// whether it is valid; `connected` and `orientable` hold for the whole table.
 pub fn information_text(
     alloc: Global,
     skeleton: &Skeleton,

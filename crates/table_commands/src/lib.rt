@@ -1,4 +1,5 @@
-//! The commands `info`, `sig`, `csig`, `same`, `csame` and `group`: what the gluings of a table decide.
+//! The commands `info`, `sig`, `csig`, `same`, `csame` and `group`, which read off what the gluings of tables
+//! determine.
 #![tactic(auto)]
 
 mod csame_command;

@@ -1,4 +1,4 @@
-// The command `same`: the least relabelling that carries the one table to the other.
+//! The command `same`: the least isomorphism from one table to another.
 ghost use Rattle.std.specs.Prelude.{◌≡◌, ◌≤◌, ◌++◌, length, IfOk, OnOk};
 ghost use Rattle.text_definitions.specs.Text.{max_text};
 ghost use Rattle.table_definitions.specs.Relabelling.{stand_in};
@@ -17,7 +17,7 @@ use perm_four::Perm4;
 use std::alloc::Global;
 use text_io::{append, append_decimal};
 
-// The line of a tetrahedron: its number, its number in the second table, and where its vertices go.
+/// Appends the line of a tetrahedron: its number, its number in the second table, and the images of its vertices.
 fn append_image(
     alloc: Global,
     text: &mut Vec<u8>,
@@ -36,7 +36,7 @@ fn append_image(
     Ok(())
 }
 
-// The lines of all tetrahedra.
+/// Appends the lines of all tetrahedra.
 fn append_images(
     alloc: Global,
     text: &mut Vec<u8>,
@@ -52,7 +52,7 @@ fn append_images(
     Ok(())
 }
 
-// A relabelling as a text.
+/// The text of a relabelling.
 fn relabelling_text(alloc: Global, tets: u32, by: &Relabelling) -> Result<Vec<u8>, NoMemory>
     requires { tets ≡ length by.now.images }
     ensures { IfOk result (λ text. text.items ≡ canonical.relabelling_text by.now) }
@@ -63,7 +63,7 @@ fn relabelling_text(alloc: Global, tets: u32, by: &Relabelling) -> Result<Vec<u8
     Ok(text)
 }
 
-/// The outcome where a relabelling of so many tetrahedra is told.
+/// The outcome `same` with the relabelling `by` of `tets` tetrahedra.
 pub fn relabelling_outcome(alloc: Global, tets: u32, by: &Relabelling) -> Result<Outcome, NoMemory>
     requires { tets ≡ length by.now.images }
     ensures { IfOk result (λ o. o ≡ done (canonical.relabelling_text by.now)) }
@@ -72,7 +72,7 @@ pub fn relabelling_outcome(alloc: Global, tets: u32, by: &Relabelling) -> Result
     Ok(Outcome::with_text(Status::Done, text))
 }
 
-// The answer to two tables.
+/// The outcome for two tables.
 fn answer(alloc: Global, first: &Table, second: &Table) -> Result<Outcome, NoMemory>
     ensures { IfOk result (IsSameAnswer (first.now, second.now)) }
 {
@@ -85,7 +85,8 @@ fn answer(alloc: Global, first: &Table, second: &Table) -> Result<Outcome, NoMem
     }
 }
 
-/// The outcome of `same` on an input that isn't too long.
+/// The outcome of `same` for the input `bytes`, two tables: the least isomorphism from the first to the second, or
+/// `different`; or a refusal, also if a table is disconnected.
 pub fn same(alloc: Global, bytes: &[u8]) -> Result<Outcome, NoMemory>
     requires { length bytes.now ≤ max_text }
     ensures { IfOk result (IsReadOutcome (two_tables_document bytes.now) IsSameAnswer) }

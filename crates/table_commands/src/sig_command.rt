@@ -1,4 +1,4 @@
-// The command `sig`: the signature of a table.
+//! The command `sig`: the signature of a table.
 ghost use Rattle.std.specs.Prelude.{◌≤◌, length, IfOk};
 ghost use Rattle.text_definitions.specs.Text.{max_text};
 ghost use Rattle.text_document_definitions.specs.Documents.{table_document};
@@ -13,7 +13,7 @@ use gluing_table::Table;
 use no_memory::{Failure, NoMemory};
 use std::alloc::Global;
 
-// The answer to a table.
+/// The outcome for `table`.
 fn answer(alloc: Global, table: &Table) -> Result<Outcome, NoMemory>
     ensures { IfOk result (IsSignatureAnswer table.now) }
 {
@@ -24,7 +24,8 @@ fn answer(alloc: Global, table: &Table) -> Result<Outcome, NoMemory>
     }
 }
 
-/// The outcome of `sig` on an input that isn't too long.
+/// The outcome of `sig` for the input `bytes`, a table: its isomorphism signature, or a refusal, also if the table is
+/// disconnected.
 pub fn sig(alloc: Global, bytes: &[u8]) -> Result<Outcome, NoMemory>
     requires { length bytes.now ≤ max_text }
     ensures { IfOk result (IsReadOutcome (table_document bytes.now) IsSignatureAnswer) }

@@ -1,4 +1,5 @@
-//! The program: its words, its standard input and output, and its exit status.
+//! The program, which passes its words, its standard input and its standard output to the workbench and exits with the
+//! status.
 #![tactic(auto)]
 
 use std::process::ExitCode;
@@ -6,13 +7,13 @@ use std::{env, io};
 use text_io::{StdSink, StdSource, Words};
 use workbench::{exit_code, run};
 
-/// The exit status where memory ran out before the run.
+/// The exit status if memory runs out before the run.
 const NO_MEMORY: u8 = 8;
 
-/// The exit status where the system doesn't give the program's words.
+/// The exit status if the program's words cannot be read.
 const NO_WORDS: u8 = 9;
 
-// The words after the program's name, or the exit status where they can't be had.
+/// The words after the program's name, or the exit status if they cannot be read.
 fn words_of(rt: &HostRuntime) -> Result<Words, u8> {
     let arguments = env::args(rt).map_err(|fault| fault_code(&fault))?;
     let mut words = Words::new(rt.alloc());

@@ -1,4 +1,4 @@
-//! The workbench for callers in C: one call that does all that the program does, over memory that the caller lends.
+//! The workbench for callers in C, as one call that does all that the program does, in memory that the caller provides.
 #![tactic(auto)]
 
 mod words;
@@ -13,16 +13,16 @@ use std::alloc::Global;
 use words::outcome_between;
 use workbench::exit_code;
 
-/// The status where the answer is longer than the room for it.
+/// The status if the answer is longer than the room for it.
 const TOO_LITTLE_ROOM: u8 = 7;
 
-/// The status where memory ran out.
+/// The status if memory runs out.
 const NO_MEMORY: u8 = 8;
 
-/// The status where the words aren't UTF-8.
+/// The status if the words are not UTF-8.
 const NO_WORDS: u8 = 9;
 
-// Puts an outcome's text into the room where it fits, and says how long it is.
+/// Copies an outcome's text into `answer` if it fits, writes its length to `needed`, and returns the status.
 fn hand_out(outcome: &Outcome, answer: &mut [u8], needed: &mut usize) -> u8
     ensures { IsHandedOut outcome.now result answer.old answer.new needed.new }
 {
@@ -35,10 +35,10 @@ fn hand_out(outcome: &Outcome, answer: &mut [u8], needed: &mut usize) -> u8
     exit_code(outcome.status())
 }
 
-/// Answers words and an input as the program does. The words stand one behind the other, with a zero byte between each two.
-/// The answer goes to the front of the room `answer`, and its length to `needed`. The status is the program's: 0, 2, 3, 4 or
-/// 5. It is 7 where the answer is longer than the room, which then stays as it was, and `needed` says how much room it
-/// takes; 8 without memory; 9 where the words aren't UTF-8.
+/// Answers `words` and `input` as the program does. `words` has a zero byte between each two words. The answer is
+/// written to the front of `answer`, and its length to `needed`. Returns the program's status 0, 2, 3, 4 or 5;
+/// otherwise 7 if the answer is longer than `answer`, which is then unchanged, with the length that it needs in
+/// `needed`; 8 if memory runs out; 9 if `words` is not UTF-8.
 #[unsafe(no_mangle)]
 pub extern "C" fn trinorm_answer(
     alloc: Global,
@@ -49,17 +49,17 @@ pub extern "C" fn trinorm_answer(
 ) -> u8
     ensures statuses { IsCallStatus result }
 
-    // Below 6 the status is that of the outcome of the words and of the input, whose text stands in the first `needed` bytes.
+    // A status below 6 is that of the outcome for the words and the input, whose text is in the first `needed` bytes.
     ensures answered { result < 6 → IsCallAnswer (words_of words.now) input.now result (take needed.new answer.new) needed.new }
 
-    // At 7 that text is longer than the room, and `needed` bytes long.
+    // With status 7 that text is longer than the room, and `needed` is its length.
     ensures longer { result ≡ 7 → IsLonger (words_of words.now) input.now (length answer.old) needed.new }
 
-    // Words that aren't UTF-8 are told as such, and nothing else is. Without memory nothing is said.
+    // Status 9 is returned if and only if the words are not UTF-8. With status 8 or 9 `needed` is 0.
     ensures not_text { (result ≡ 9) ↔ (IsUtf8 words.now → ⊥) }
     ensures no_answer { 7 < result → needed.new ≡ 0 }
 
-    // What stands behind the answer stays, and all that stands in the room where there is no answer.
+    // The bytes after the answer are unchanged, and all bytes if there is no answer.
     ensures rest { drop needed.new answer.new ≡ drop needed.new answer.old }
     ensures untouched { 6 < result → answer.new ≡ answer.old }
 {

@@ -1,4 +1,4 @@
-// Words between zero bytes, and their outcome.
+//! Splits words at zero bytes, and computes their outcome.
 ghost use Rattle.std.specs.Prelude.{◌≡◌, ◌==◌, map, IfOk};
 ghost use Rattle.std.specs.List.{slice_split};
 ghost use Rattle.outcome_definitions.specs.Answers.{IsOutcome};
@@ -11,14 +11,14 @@ use std::alloc::{AllocError, Global};
 use text_io::Words;
 use workbench::outcome_of;
 
-// The words as parts of the text.
+/// The words as slices of the text.
 fn parts(alloc: Global, text: &str) -> Result<Vec<&str>, AllocError>
     ensures { IfOk result (λ v. map (λ x. x.now) v.items ≡ slice_split (λ b. b == 0) text.now) }
 {
     text.split('\0').collect(alloc)
 }
 
-// The words of a text that has a zero byte between each two.
+/// The words of `text`, which has a zero byte between each two.
 fn words_between(alloc: Global, text: &str) -> Result<Words, NoMemory>
     ensures { IfOk result (λ words. words ≡ words_of text.now) }
 {
@@ -30,8 +30,8 @@ fn words_between(alloc: Global, text: &str) -> Result<Words, NoMemory>
     Ok(words)
 }
 
-/// The outcome of words, with a zero byte between each two, and of an input. Its status is none of a failed source, of a
-/// failed sink or of want of memory; without memory there is no outcome.
+/// The outcome for the words of `text`, which has a zero byte between each two, and the input `input`. Its status is
+/// none for a failed source, a failed sink or memory. Fails with `NoMemory` if memory runs out.
 pub fn outcome_between(alloc: Global, text: &str, input: &[u8]) -> Result<Outcome, NoMemory>
     ensures outcome { IfOk result (λ o. IsOutcome (words_of text.now) input.now o) }
     ensures answered { IfOk result (λ o. IsAnswered o.status) }

@@ -1,4 +1,4 @@
-// The command `crush`: the table crushed along a normal surface.
+//! The command `crush`: the table crushed along a normal surface.
 ghost use Rattle.std.specs.Prelude.{◌≡◌, ◌≤◌, length, IfOk};
 ghost use Rattle.text_definitions.specs.Text.{max_text};
 ghost use Rattle.surface_definitions.specs.Coordinates.{columns};
@@ -20,7 +20,7 @@ use std::alloc::Global;
 use surface_answers::check;
 use surface_vector_definitions::Refusal;
 
-// The crushed table as the answer.
+/// The outcome for `table` and an admissible solution.
 fn outcome_of(alloc: Global, table: &Table, x: &[u128]) -> Result<Outcome, NoMemory>
     requires { length x.now ≡ columns Standard (length table.now) }
     ensures { IfOk result (TellsCrushed table.now x.now) }
@@ -31,7 +31,7 @@ fn outcome_of(alloc: Global, table: &Table, x: &[u128]) -> Result<Outcome, NoMem
     Ok(Outcome::with_text(Status::Done, text))
 }
 
-// The answer to a table and a vector, by the equations of the table.
+/// The outcome for a table and a vector, by the equations of the table.
 fn answer_by(alloc: Global, table: &Table, system: &System, x: &[u128]) -> Result<Outcome, NoMemory>
     requires columns { system.now.columns ≡ columns Standard (length table.now) }
     requires equations { AreEquations Standard table.now system.now.rows }
@@ -43,7 +43,7 @@ fn answer_by(alloc: Global, table: &Table, system: &System, x: &[u128]) -> Resul
     }
 }
 
-// The answer to a table and a vector.
+/// The outcome for a table and a vector.
 fn answer(alloc: Global, table: &Table, x: &[u128]) -> Result<Outcome, NoMemory>
     ensures { IfOk result (IsCrushAnswer (table.now, x.now)) }
 {
@@ -51,7 +51,8 @@ fn answer(alloc: Global, table: &Table, x: &[u128]) -> Result<Outcome, NoMemory>
     answer_by(alloc, table, &system, x)
 }
 
-/// The outcome of `crush` on an input that isn't too long.
+/// The outcome of `crush` for the input `bytes`, a table and a standard vector: the table crushed along it; or a
+/// refusal, also if the vector is no admissible solution.
 pub fn crush(alloc: Global, bytes: &[u8]) -> Result<Outcome, NoMemory>
     requires { length bytes.now ≤ max_text }
     ensures { IfOk result (IsReadOutcome (vector_document bytes.now) IsCrushAnswer) }

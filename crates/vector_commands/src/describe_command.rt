@@ -1,4 +1,4 @@
-// The command `describe`: what is counted of each vector, and its components.
+//! The command `describe`: the properties of each vector, and its components.
 ghost use Rattle.std.specs.Prelude.{◌≡◌, ◌≢◌, ◌≤◌, length, IfOk};
 ghost use Rattle.text_definitions.specs.Text.{max_text};
 ghost use Rattle.surface_definitions.specs.Coordinates.{columns};
@@ -29,14 +29,14 @@ use surface_pieces::{Pieces, TooManyPieces};
 use surface_properties::{Properties, PropertyFault, properties_of};
 use surface_vector_definitions::Refusal;
 
-/// What is answered of a vector.
+/// The properties of a vector, and the components of its surface.
 #[derive(Drop)]
 pub struct Description {
     properties: Properties,
     pieces: Pieces,
 }
 
-// What is answered of a vector that is an admissible solution.
+/// The description of the admissible solution `x`, or why it is refused.
 fn describe_solution(
     alloc: Global,
     skeleton: &Skeleton,
@@ -65,7 +65,7 @@ fn describe_solution(
     }
 }
 
-// What is answered of a vector, or why it is refused.
+/// The description of the vector `x`, or why it is refused.
 fn describe_vector(
     alloc: Global,
     skeleton: &Skeleton,
@@ -84,7 +84,7 @@ fn describe_vector(
     }
 }
 
-// The lines of a vector, behind the others.
+/// Appends the lines of the vector `x`.
 fn append_vector(
     alloc: Global,
     skeleton: &Skeleton,
@@ -111,7 +111,7 @@ fn append_vector(
     Ok(())
 }
 
-// The lines of all vectors, or the first vector that is refused.
+/// The lines of all vectors. Fails at the first vector that is refused.
 fn descriptions(
     alloc: Global,
     skeleton: &Skeleton,
@@ -137,7 +137,7 @@ fn descriptions(
     Ok(text)
 }
 
-// The answer to vectors, by the skeleton and the equations of a table.
+/// The outcome for vectors, by the skeleton and the equations of a table.
 fn describe_each(
     alloc: Global,
     skeleton: &Skeleton,
@@ -157,7 +157,7 @@ fn describe_each(
     }
 }
 
-// The answer to vectors, by the skeleton of a table whose edges are all valid.
+/// The outcome for vectors, by the skeleton of a table without invalid edges.
 fn describe_where_valid(
     alloc: Global,
     skeleton: &Skeleton,
@@ -171,7 +171,7 @@ fn describe_where_valid(
     describe_each(alloc, skeleton, &system, coords, vectors)
 }
 
-// The answer to vectors, by the skeleton of a table.
+/// The outcome for vectors, by the skeleton of a table.
 fn answer_by(
     alloc: Global,
     skeleton: &Skeleton,
@@ -187,7 +187,7 @@ fn answer_by(
     }
 }
 
-// The answer to a table and vectors.
+/// The outcome for a table and vectors.
 fn answer(
     alloc: Global,
     table: &Table,
@@ -200,7 +200,9 @@ fn answer(
     answer_by(alloc, &skeleton, coords, vectors)
 }
 
-/// The outcome of `describe` on an input that isn't too long, in standard or octagon coordinates.
+/// The outcome of `describe` for the input `bytes`, a table and vectors: the properties of each surface and of its
+/// components, in the coordinates `coords`, which are not quad coordinates; or a refusal, also if an edge is invalid or
+/// a vector is refused.
 pub fn describe(alloc: Global, coords: Coords, bytes: &[u8]) -> Result<Outcome, NoMemory>
     requires coords { coords ≢ Coords.Quad }
     requires few { length bytes.now ≤ max_text }

@@ -1,4 +1,4 @@
-// The lines of a vector that is described.
+//! Writes the description of a vector.
 ghost use Rattle.std.specs.Prelude.{◌≡◌, ◌<◌, ◌++◌, length, None, OnOk, Ok};
 ghost use Rattle.std.specs.Fmt.{signed_decimal};
 ghost use Rattle.std.specs.List.{flat_map, slice_index_or};
@@ -26,7 +26,7 @@ fn sides(two_sided: bool) -> &'static [u8]
     if two_sided { b"two" } else { b"one" }
 }
 
-// An Euler characteristic behind a word.
+/// Appends `word` and an Euler characteristic.
 fn append_euler(alloc: Global, out: &mut Vec<u8>, word: &[u8], euler: i128) -> Result<(), NoMemory>
     ensures { OnOk result (out.new.items ≡ out.old.items ++ word.now ++ signed_decimal euler) }
 {
@@ -36,7 +36,7 @@ fn append_euler(alloc: Global, out: &mut Vec<u8>, word: &[u8], euler: i128) -> R
     Ok(())
 }
 
-// The line of a vector's properties, with the number of its components.
+/// Appends the line of a vector's properties, with the number of its components.
 fn append_properties(
     alloc: Global,
     out: &mut Vec<u8>,
@@ -56,7 +56,7 @@ fn append_properties(
     Ok(())
 }
 
-// The Euler characteristic of a vector none of whose sums is large.
+/// The Euler characteristic of a vector all of whose sums are within the limit.
 fn characteristic(skeleton: &Skeleton, coords: DiscCoords, x: &[u128]) -> i128
     requires width { length x.now ≡ columns coords.system (length skeleton.now.rows) }
     requires small { first_large limit skeleton.now coords.system x.now ≡ None }
@@ -68,7 +68,7 @@ fn characteristic(skeleton: &Skeleton, coords: DiscCoords, x: &[u128]) -> i128
     }
 }
 
-// The line of a component.
+/// Appends the line of component `component`.
 fn append_component(
     alloc: Global,
     out: &mut Vec<u8>,
@@ -93,7 +93,7 @@ fn append_component(
     Ok(())
 }
 
-// The lines of all components.
+/// Appends the lines of all components.
 fn append_components(
     alloc: Global,
     out: &mut Vec<u8>,
@@ -110,7 +110,8 @@ fn append_components(
     Ok(())
 }
 
-/// Appends the lines of a vector that is described.
+/// Appends the description of the vector `x` to `out`: the vector, its properties, and a line for each component in
+/// `pieces`.
 #[tactic(auto, unfolding(surface_vector_definitions::specs::Texts::description_text))]
 pub fn append_description(
     alloc: Global,

@@ -1,4 +1,4 @@
-//! The commands `describe`, `crush` and `lift`: what one vector of a table gives.
+//! The commands `describe`, `crush` and `lift`, which compute with single vectors of a table.
 #![tactic(auto)]
 
 mod crush_command;

@@ -1,4 +1,4 @@
-// The command `lift`: the lift of each quad vector to standard coordinates.
+//! The command `lift`: the lift of each quad vector to standard coordinates.
 ghost use Rattle.std.specs.Prelude.{◌≡◌, ◌≤◌, length, IfOk};
 ghost use Rattle.text_definitions.specs.Text.{max_text};
 ghost use Rattle.cone_text_definitions.specs.VectorText.{vector_text};
@@ -28,7 +28,7 @@ use surface_answers::check;
 use surface_vector_definitions::{LiftFault, Refusal};
 use vector_text::write_vector;
 
-// The lift of a vector that is an admissible solution.
+/// The lift of the admissible solution `x`, or why it is refused.
 fn lift_solution(
     alloc: Global,
     skeleton: &Skeleton,
@@ -49,7 +49,7 @@ fn lift_solution(
     }
 }
 
-// The lift of a vector, or why it is refused.
+/// The lift of the vector `x`, or why it is refused.
 fn lift_vector(
     alloc: Global,
     skeleton: &Skeleton,
@@ -65,7 +65,7 @@ fn lift_vector(
     }
 }
 
-// The line of a vector's lift, behind the others.
+/// Appends the line of the lift of `x`.
 fn append_lift(
     alloc: Global,
     skeleton: &Skeleton,
@@ -81,7 +81,7 @@ fn append_lift(
     Ok(())
 }
 
-// The lines of all lifts, or the first vector that is refused.
+/// The lines of all lifts. Fails at the first vector that is refused.
 fn lifts(
     alloc: Global,
     skeleton: &Skeleton,
@@ -104,7 +104,7 @@ fn lifts(
     Ok(text)
 }
 
-// The answer to quad vectors, by the skeleton and the equations of a table.
+/// The outcome for quad vectors, by the skeleton and the equations of a table.
 fn answer_by(
     alloc: Global,
     skeleton: &Skeleton,
@@ -123,7 +123,7 @@ fn answer_by(
     }
 }
 
-// The answer to a table and quad vectors.
+/// The outcome for a table and quad vectors.
 fn answer(alloc: Global, table: &Table, vectors: &[Vec<u128>]) -> Result<Outcome, NoMemory>
     ensures { IfOk result (IsLiftsAnswer (table.now, all_entries vectors.now)) }
 {
@@ -132,7 +132,8 @@ fn answer(alloc: Global, table: &Table, vectors: &[Vec<u128>]) -> Result<Outcome
     answer_by(alloc, &skeleton, &system, vectors)
 }
 
-/// The outcome of `lift` on an input that isn't too long.
+/// The outcome of `lift` for the input `bytes`, a table and quad vectors: the standard vector of each; or a refusal,
+/// also if a vector is no admissible solution or has no lift.
 pub fn lift(alloc: Global, bytes: &[u8]) -> Result<Outcome, NoMemory>
     requires { length bytes.now ≤ max_text }
     ensures { IfOk result (IsReadOutcome (vectors_document bytes.now) IsLiftsAnswer) }

@@ -1,4 +1,4 @@
-// The line for a vector that is refused.
+//! Writes the line that refuses a vector.
 ghost use Rattle.std.specs.Prelude.{◌≡◌, ◌++◌, IfOk, OnOk};
 ghost use Rattle.text_definitions.specs.Written.{line};
 ghost use Rattle.outcome_definitions.specs.Vectors as vectors;
@@ -12,7 +12,7 @@ use surface_definitions::VectorFault;
 use surface_vector_definitions::{Refusal, SurfaceSum};
 use text_io::append;
 
-/// The first vector of a document that is refused, by its number from 0, and why.
+/// The first vector of a document that is refused, counted from 0, and why.
 #[derive(Clone, Copy)]
 pub struct FirstRefusal {
     pub vector: usize,
@@ -29,7 +29,7 @@ fn word_of_sum(sum: SurfaceSum) -> &'static [u8]
     }
 }
 
-// A line of two words.
+/// Appends a line of two words.
 fn append_words(out: &mut Vec<u8>, first: &[u8], second: &[u8]) -> Result<(), NoMemory>
     ensures { OnOk result (out.new.items ≡ out.old.items ++ line (first.now ++ second.now)) }
 {
@@ -39,7 +39,7 @@ fn append_words(out: &mut Vec<u8>, first: &[u8], second: &[u8]) -> Result<(), No
     Ok(())
 }
 
-// Why a vector is refused.
+/// Appends why a vector is refused.
 fn append_cause(alloc: Global, out: &mut Vec<u8>, refusal: Refusal) -> Result<(), NoMemory>
     ensures { OnOk result (out.new.items ≡ out.old.items ++ fault_text refusal) }
 {
@@ -57,7 +57,7 @@ fn append_cause(alloc: Global, out: &mut Vec<u8>, refusal: Refusal) -> Result<()
     }
 }
 
-// A number is too large, or the vector doesn't allow what is asked.
+/// The status of a refusal: `Large` if a number exceeds the limit, otherwise `Refused`.
 fn status_of(refusal: Refusal) -> Status
     ensures { result ≡ vectors.refusal_status refusal }
 {
@@ -71,7 +71,7 @@ fn status_of(refusal: Refusal) -> Status
     }
 }
 
-/// The outcome where the vector of this number, which counts from 0, is refused.
+/// The outcome if vector `vector`, counted from 0, is refused by `refusal`.
 #[tactic(auto, unfolding(surface_vector_definitions::specs::Texts::refusal_line))]
 pub fn refusal_outcome(alloc: Global, vector: usize, refusal: Refusal) -> Result<Outcome, NoMemory>
     ensures { IfOk result (λ o. o ≡ vectors.refusal_outcome vector refusal) }

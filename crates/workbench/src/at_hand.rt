@@ -1,4 +1,4 @@
-// What words and an input that is at hand are answered.
+//! The outcome for words and an input in memory.
 ghost use Rattle.std.specs.Prelude.{IfOk};
 ghost use Rattle.outcome_definitions.specs.Answers.{IsOutcome, IsRequestOutcome};
 ghost use Rattle.command_definitions.specs.Requests.{HoldsRange};
@@ -11,7 +11,7 @@ use no_memory::NoMemory;
 use std::alloc::Global;
 use text_io::Words;
 
-// The outcome of a command on an input that may be too long.
+/// The outcome of a command for an input that may be too long.
 fn answer_at_hand(alloc: Global, request: Request, input: &[u8]) -> Result<Outcome, NoMemory>
     requires { HoldsRange request }
     ensures outcome { IfOk result (λ o. IsRequestOutcome request input.now o) }
@@ -26,8 +26,8 @@ fn answer_at_hand(alloc: Global, request: Request, input: &[u8]) -> Result<Outco
     answer(alloc, request, input)
 }
 
-/// The outcome of words and of an input that is at hand, with the text that a run would write. Its status is none of a
-/// failed source, of a failed sink or of want of memory; without memory there is no outcome.
+/// The outcome for `words` and the input `input`, with the text that a run would write. Its status is none for a failed
+/// source, a failed sink or memory. Fails with `NoMemory` if memory runs out.
 pub fn outcome_of(alloc: Global, words: &Words, input: &[u8]) -> Result<Outcome, NoMemory>
     ensures outcome { IfOk result (λ o. IsOutcome words.now input.now o) }
     ensures answered { IfOk result (λ o. IsAnswered o.status) }

@@ -1,4 +1,4 @@
-// The one call that does all that the program does.
+//! The one call that does all that the program does.
 ghost use Rattle.std.specs.Prelude.{◌≡◌, ◌↔◌, ◌⊎◌, ◌-◌, ◌^◌, ◌<◌, ◌≤◌, ℕ, true, false, List, [], None, Some, Ok, length, IfOk, IfSome, OnErr, All};
 ghost use Rattle.text_io.specs.Causes.{Grows, Rose, IsEnded};
 ghost use Rattle.outcome_definitions.specs.Lines.{read_line, usage_line};
@@ -41,10 +41,10 @@ use table_commands::{csame, csig, group, info, same, sig};
 use text_io::{ReadEnd, Sink, Source, Words, read_all, write_all};
 use vector_commands::{crush, describe, lift};
 
-/// An input has at most so many bytes.
+/// The greatest number of bytes of an input.
 pub const MOST_BYTES: u64 = 1_048_576;
 
-/// The answer of a command to an input that isn't too long.
+/// The outcome of the command `request` for the input `bytes`, which has at most `MOST_BYTES` bytes.
 pub fn answer(alloc: Global, request: Request, bytes: &[u8]) -> Result<Outcome, NoMemory>
     requires size { length bytes.now ≤ most_bytes }
     requires in_range { HoldsRange request }
@@ -75,7 +75,7 @@ pub fn answer(alloc: Global, request: Request, bytes: &[u8]) -> Result<Outcome, 
     }
 }
 
-/// Whether the command reads its input.
+/// Whether the command `request` reads its input; `make` and `bulk` do not.
 pub fn reads_input(request: Request) -> bool
     ensures { result ≡ reads_input request }
 {
@@ -85,7 +85,7 @@ pub fn reads_input(request: Request) -> bool
     }
 }
 
-// The outcome of a command that reads, over a source.
+/// The outcome of a command that reads the source.
 #[tactic(auto, using(outcome_definitions::proofs::OwnStatus::answer_own))]
 fn respond_to_input<S: Source>(
     alloc: Global,
@@ -105,7 +105,7 @@ fn respond_to_input<S: Source>(
     }
 }
 
-// The outcome of a command over a source, which a command that reads nothing leaves as it was.
+/// The outcome of a command; one that reads no input leaves the source unchanged.
 fn respond<S: Source>(alloc: Global, request: Request, source: &mut S) -> Result<Outcome, NoMemory>
     requires { HoldsRange request }
     ensures response { IfOk result (IsResponse request (S.left source.old) (S.left source.new) (S.faults source.old) (S.faults source.new)) }
@@ -118,7 +118,7 @@ fn respond<S: Source>(alloc: Global, request: Request, source: &mut S) -> Result
     answer(alloc, request, &[])
 }
 
-// Writes an outcome.
+/// Writes an outcome, and returns the status.
 fn deliver<K: Sink>(outcome: &Outcome, sink: &mut K) -> Status
     ensures { IsDelivered outcome.now result (K.held sink.old) (K.held sink.new) (K.faults sink.old) (K.faults sink.new) }
 {
@@ -128,7 +128,7 @@ fn deliver<K: Sink>(outcome: &Outcome, sink: &mut K) -> Status
     }
 }
 
-// Reads the words, then the input, and writes the answer or the one line of a refusal.
+/// Reads the words, then the input, and writes the answer or the one line of a refusal.
 fn carry_out<S: Source, K: Sink>(
     alloc: Global,
     words: &Words,
@@ -148,50 +148,53 @@ fn carry_out<S: Source, K: Sink>(
     }
 }
 
-/// Does all that the program does: reads the words, then the input, and writes the answer or the one line of a refusal.
-/// The whole answer is built before the first write.
+/// Runs the program: reads `words` as a command, reads its input from `source`, writes the answer or the one line of a
+/// refusal to `sink`, and returns the status. The whole answer is built before the first write.
 pub fn run<S: Source, K: Sink>(alloc: Global, words: &Words, source: &mut S, sink: &mut K) -> Status
-    // Usage comes exactly where the words are not accepted. Then nothing is read.
+    // The status is `Usage` if and only if the words are not accepted, unless the sink fails or memory runs out; then
+    // nothing is read.
     ensures usage { accepted_request words.now ≡ None → Answers result Status.Usage × (source.new ≡ source.old) }
     ensures usage_alone { result ≡ Status.Usage → accepted_request words.now ≡ None }
     ensures usage_line { result ≡ Status.Usage → Grows (K.held sink.old) (K.held sink.new) usage_line }
 
-    // A read fault comes exactly where the source's count rose.
+    // The status is `ReadFault` only if the source's count grew, and if it grew the status is `ReadFault` or
+    // `WriteFault`.
     ensures read_fault { S.faults source.old < 2 ^ 64 - 1 → S.faults source.old < S.faults source.new → (result ≡ Status.ReadFault) ⊎ (result ≡ Status.WriteFault) }
     ensures read_fault_alone { result ≡ Status.ReadFault → Rose (S.faults source.old) (S.faults source.new) }
     ensures read_fault_line { result ≡ Status.ReadFault → Grows (K.held sink.old) (K.held sink.new) read_line }
 
-    // A write fault comes exactly where the sink's count rose. Then a prefix of what was to be written was appended: of the
-    // line of a failed read or of usage, of the outcome of a command that reads nothing, or of the input's outcome.
+    // The status is `WriteFault` if and only if the sink's count grew. Then a proper prefix of the text to be written
+    // was appended: the line of a failed read or of usage, or the text of the outcome.
     ensures write_fault { K.faults sink.old < 2 ^ 64 - 1 → ((result ≡ Status.WriteFault) ↔ (K.faults sink.old < K.faults sink.new)) }
     ensures prefix { result ≡ Status.WriteFault → (o : outcomes.Outcome)
         × IsToBeWritten words.now (S.left source.old) (S.faults source.old) (S.faults source.new) o × IsCutOff (K.held sink.old) (K.held sink.new) o.text }
 
-    // Without memory nothing was written, the source didn't fail, and it didn't give too much.
+    // If memory ran out nothing was written, the source did not fail, and it did not return more bytes than an input
+    // may have.
     ensures no_memory { result ≡ Status.NoMemory → sink.new ≡ sink.old }
     ensures no_memory_calm { result ≡ Status.NoMemory → IsCalm (S.faults source.old) (S.faults source.new) }
     ensures no_memory_within { result ≡ Status.NoMemory → IsWithin (S.left source.old) (S.left source.new) }
 
-    // Every other status is that of the outcome of the words and of the input, whose text was appended.
+    // Every other status is that of the outcome for the words and the input, whose text was appended.
     ensures outcome { IsAnswered result → IfSome (S.left source.old) (λ bytes. (o : outcomes.Outcome)
         × IsOutcome words.now bytes o × (result ≡ o.status) × Grows (K.held sink.old) (K.held sink.new) o.text) }
     ensures end { (request : Request) → accepted_request words.now ≡ Some request → reads_input request ≡ true → result ≡ Status.Done → IsEnded (S.left source.new) }
 
-    // A command that reads nothing leaves the source untouched, and its outcome is one of the words alone.
+    // A command that reads no input leaves the source unchanged, and its outcome depends on the words alone.
     ensures untouched { (request : Request) → accepted_request words.now ≡ Some request → reads_input request ≡ false → source.new ≡ source.old }
     ensures words_alone { (request : Request) → accepted_request words.now ≡ Some request → reads_input request ≡ false
         → IsAnswered result → (o : outcomes.Outcome) × IsAnswerTo request [] o × (result ≡ o.status) × Grows (K.held sink.old) (K.held sink.new) o.text }
 
-    // For every input that spells a gluing table, `surfaces` prints exactly the primitive integer vectors that lie on
-    // extreme rays of its solution cone, in the coordinates asked for, and meet the quadrilateral condition, each once,
-    // in lexicographic order.
+    // For every input that is a gluing table, `surfaces` prints exactly the primitive integer vectors on extreme rays
+    // of its solution cone, in the coordinates of the request, that satisfy the quadrilateral condition: each once, in
+    // lexicographic order.
     ensures surfaces { result ≡ Status.Done → (coords : Coords) → (order : Order) → (most : ℕ)
         → accepted_request words.now ≡ Some (Request.Surfaces coords order most)
         → IfSome (S.left source.old) (λ bytes. PrintsSurfaces coords bytes (K.held sink.old) (K.held sink.new)) }
 
-    // The same as one clause: where the words of `surfaces` are accepted and the input spells a table, that list was printed,
-    // or the first number of a step past the limit was named; the only other answers are a failed source, a failed sink and
-    // want of memory, each where its own clause says. So it is with `rays`.
+    // In one clause: if the words of `surfaces` are accepted and the input is a table, that list was printed, or the
+    // first number of a step that exceeds the limit was named; the only other outcomes are a failed source, a failed
+    // sink, and out of memory, each by its own clause. Likewise for `rays`.
     ensures all_surfaces { (coords : Coords) → (order : Order) → (most : ℕ) → accepted_request words.now ≡ Some (Request.Surfaces coords order most)
         → IfSome (S.left source.old) (λ bytes. (rows : List Row) → length bytes ≤ most_bytes → table_document bytes ≡ Ok rows
         → AnswersSurfaces coords order most rows result (K.held sink.old) (K.held sink.new)) }
@@ -199,21 +202,21 @@ pub fn run<S: Source, K: Sink>(alloc: Global, words: &Words, source: &mut S, sin
         → IfSome (S.left source.old) (λ bytes. (cone : ConeText) → length bytes ≤ most_bytes → worded (cone_document bytes) ≡ Ok cone
         → AnswersRays order most cone result (K.held sink.old) (K.held sink.new)) }
 
-    // With the default limit, and at most 31 tetrahedra in standard coordinates or 29 in quad and octagon coordinates, no
-    // number passes the limit, whatever the order of the equations: that list was printed, or the run was cut short.
+    // With the default limit, and at most 31 tetrahedra in standard coordinates or 29 in quad and octagon coordinates,
+    // no number exceeds the limit in any order of the equations: that list was printed, or the run was cut short.
     ensures few_surfaces { (coords : Coords) → (order : Order) → accepted_request words.now ≡ Some (Request.Surfaces coords order limit)
         → IfSome (S.left source.old) (λ bytes. (rows : List Row) → length bytes ≤ most_bytes → table_document bytes ≡ Ok rows
         → length rows ≤ most_tetrahedra coords → ListsSurfaces coords rows result (K.held sink.old) (K.held sink.new) ⊎ IsCutShort result) }
 
-    // `rays` prints exactly the primitive extreme rays of a cone, and `verify` a verdict for each vector.
+    // `rays` prints exactly the primitive extreme rays of a cone, and `verify` a verdict on each vector.
     ensures rays { result ≡ Status.Done → (order : Order) → (most : ℕ) → accepted_request words.now ≡ Some (Request.Rays order most)
         → IfSome (S.left source.old) (λ bytes. PrintsRays bytes (K.held sink.old) (K.held sink.new)) }
     ensures verify { result ≡ Status.Done → (coords : Coords) → accepted_request words.now ≡ Some (Request.Verify coords)
         → IfSome (S.left source.old) (λ bytes. PrintsVerdicts coords bytes (K.held sink.old) (K.held sink.new)) }
 
-    // Where the link of each vertex class is a sphere or a disc, `lift` writes the lifts of vectors that are admissible
-    // solutions of the quad equations with small sums: none is without a lift. `make` writes, and `bulk` checks, a certificate
-    // of exactly as many moves as are asked for, up to 333. `check` is done exactly where the moves are a certificate.
+    // If each vertex link is a sphere or a disc, `lift` writes the lift of every admissible solution of the quad
+    // equations with small sums. `make` writes, and `bulk` checks, a certificate of exactly as many moves as the
+    // request names, up to 333. `check` ends with `Done` if and only if the moves are a certificate.
     ensures lifts { accepted_request words.now ≡ Some Request.Lift
         → IfSome (S.left source.old) (λ bytes. (rows : List Row) → (vectors : List (List ℕ)) → (equations : List EquationRow) → length bytes ≤ most_bytes
         → vectors_document bytes ≡ Ok (rows, vectors) → HasSphereAndDiscVertices rows → AreEquations Coords.Quad rows equations
@@ -226,8 +229,9 @@ pub fn run<S: Source, K: Sink>(alloc: Global, words: &Words, source: &mut S, sin
         → IfSome (S.left source.old) (λ bytes. (rows : List Row) → (moves : List Move) → length bytes ≤ most_bytes
         → moves_document bytes ≡ Ok (rows, moves) → (result ≡ Status.Done) ↔ IsCertificate rows moves) }
 
-    // `same` and `csame` say that tables are the same exactly where a relabelling carries the one to the other, and `group` puts
-    // them into one class exactly there; `same` and `group` ask for connected tables, and the components match up where `csame` says so.
+    // `same` and `csame` report that tables are the same if and only if they are isomorphic, and `group` puts two
+    // tables into one class if and only if they are; `same` and `group` require connected tables, and for `csame` the
+    // components correspond.
     ensures same { accepted_request words.now ≡ Some Request.Same
         → WritesOf two_tables_document IsComparison (S.left source.old) result (K.held sink.old) (K.held sink.new) }
     ensures csame { accepted_request words.now ≡ Some Request.Csame
@@ -235,9 +239,10 @@ pub fn run<S: Source, K: Sink>(alloc: Global, words: &Words, source: &mut S, sin
     ensures group { accepted_request words.now ≡ Some Request.Group
         → WritesOf tables_document IsGrouping (S.left source.old) result (K.held sink.old) (K.held sink.new) }
 
-    // `decompose` tells fit vectors (admissible solutions of which no part of an equation is large) as sums of vertex surfaces, or the first
-    // that is none, or the first number past the limit; `addup` accepts sums of fit terms to fit vectors exactly where they are true.
-    // `cover` writes the orientation cover, and `play` the table to which moves lead.
+    // `decompose` writes fit vectors, which are admissible solutions of which no part of an equation is large, as sums
+    // of vertex surfaces; otherwise it names the first vector that is not fit, or the first number that exceeds the
+    // limit. `addup` accepts sums of fit terms to fit vectors if and only if they are true. `cover` writes the
+    // orientable double cover, and `play` the table to which the moves lead.
     ensures decompose { (coords : Coords) → (most : ℕ) → accepted_request words.now ≡ Some (Request.Decompose coords most)
         → WritesOf vectors_document (IsDecomposition coords most) (S.left source.old) result (K.held sink.old) (K.held sink.new) }
     ensures addup { (coords : Coords) → accepted_request words.now ≡ Some (Request.Addup coords)
@@ -247,7 +252,7 @@ pub fn run<S: Source, K: Sink>(alloc: Global, words: &Words, source: &mut S, sin
     ensures play { accepted_request words.now ≡ Some Request.Play
         → WritesOf steps_document IsPlayed (S.left source.old) result (K.held sink.old) (K.held sink.new) }
 
-    // Where neither count rose, the words and the input are answered, or memory ran out.
+    // If neither count grew, the outcome was written, or memory ran out.
     ensures answered { S.faults source.old < 2 ^ 64 - 1 → K.faults sink.old < 2 ^ 64 - 1 → S.faults source.new ≡ S.faults source.old
         → K.faults sink.new ≡ K.faults sink.old → IsAnswered result ⊎ (result ≡ Status.NoMemory) }
 {

@@ -1,4 +1,4 @@
-//! The top of the workbench: one call that does all that the program does.
+//! The top of the workbench, with one call that does all that the program does.
 #![tactic(auto)]
 
 mod at_hand;
@@ -13,7 +13,7 @@ pub use dispatch::run;
 pub use outcome_definitions::Status;
 pub use steady::run_steadily;
 
-/// The exit status of the program for the status of a run.
+/// The exit status of the program for `status`.
 pub fn exit_code(status: Status) -> u8
     ensures { result ≡ code_of status }
 {

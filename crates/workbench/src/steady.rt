@@ -1,4 +1,4 @@
-// A run that no source and no sink can disturb.
+//! A run whose source and sink cannot fail.
 ghost use Rattle.std.specs.Prelude.{◌≡◌, ◌≢◌, ◌⊎◌};
 ghost use Rattle.outcome_definitions.specs.Outcomes as outcomes;
 ghost use Rattle.outcome_definitions.specs.Answers.{IsOutcome};
@@ -9,8 +9,8 @@ use outcome_definitions::Status;
 use std::alloc::Global;
 use text_io::{NullSink, SteadySource, Words};
 
-/// A run over bytes that are at hand and a sink that takes all: it ends with the status of their outcome, or without memory,
-/// and neither with a read fault nor with a write fault.
+/// Runs `words` on the input `bytes`, with a sink that discards the answer. Returns the status of the outcome, or
+/// `NoMemory`; never `ReadFault` or `WriteFault`.
 pub fn run_steadily(alloc: Global, words: &Words, bytes: Vec<u8>) -> Status
     ensures outcome { IsAnswered result → (o : outcomes.Outcome) × IsOutcome words.now bytes.items o × (result ≡ o.status) }
     ensures answered { IsAnswered result ⊎ (result ≡ Status.NoMemory) }
